@@ -1,0 +1,4 @@
+pub mod Causes
+pub mod Disk
+pub mod DiskCauses
+pub mod Files

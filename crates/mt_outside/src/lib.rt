@@ -1,0 +1,12 @@
+//! The outside as the engine sees it: a source and a sink of bytes, a disk of folders, and a gate for tests.
+#![tactic(auto)]
+
+mod disk;
+mod gate;
+mod laws;
+mod streams;
+
+pub use disk::{Arm, Change, Dir, Disk, DiskError, Files, Stage, Stamped, Written};
+pub use gate::{Gate, Point, Who};
+pub use laws::{changes_add_their_own_moments, images_now, images_only_grow, syncs_settle};
+pub use streams::{ReadFault, Sink, Source, WriteFault};

@@ -1,0 +1,7 @@
+pub mod Columns
+pub mod Grids
+pub mod Leads
+pub mod OrderBy
+pub mod Orders
+pub mod Repeats
+pub mod Texts

@@ -1,0 +1,7 @@
+-- what is left of the columns decides
+use Rattle.std.proofs.Common.{◌≡◌, take, drop}
+use Rattle.mt_values.specs.Schemas.{first_repeat, same_name, double_column_at, column_fault}
+use Rattle.mt_values.proofs.schema.double_column.Given as goal
+
+abbrev pub invariant-loop-place : goal.invariant-loop-place
+invariant-loop-place l = first_repeat same_name double_column_at l.place (take l.place l.columns) (drop l.place l.columns) ≡ column_fault l.columns

@@ -1,0 +1,17 @@
+pub mod Annals
+pub mod Cells
+pub mod ColumnBytes
+pub mod Columns
+pub mod Files
+pub mod Grammar
+pub mod Grid
+pub mod Order
+pub mod Printing
+pub mod RootNames
+pub mod Rows
+pub mod Schemas
+pub mod Script
+pub mod Sorting
+pub mod Strings
+pub mod Tokens
+pub mod Values

@@ -1,0 +1,131 @@
+-- Where the statements of a script end, and which data they have (docs/grammar.md, "Scripts").
+use Rattle.std.specs.Prelude.{ℕ, suc, zero, ◌+◌, Bool, true, false, not, ◌&&◌, ◌||◌, ◌==◌, List, [], ◌∷◌, ◌++◌, length, drop, take_while, Option, Some, None, if◌then◌else◌, codes}
+use Rattle.std.specs.List.{list_all, prefix_len}
+use Rattle.std.specs.Option.{option_map}
+use Rattle.mt_values.specs.declared.statement.Statement.{Statement}
+use Rattle.mt_values.specs.declared.statement.Statement.TheVariants as statement
+use Rattle.mt_values.specs.declared.script.Place.{Place}
+use Rattle.mt_values.specs.declared.script.Place.TheVariants.{Outside, InString, BehindBackslash, InComment}
+use Rattle.mt_values.specs.Tokens.{is_space, begins_with, behind}
+use Rattle.mt_values.specs.Grammar.{statement_of, takes_data, same_bytes}
+
+-- a byte in front of a part of a text and what follows the part
+abbrev pub onto : ℕ → List ℕ × List ℕ → List ℕ × List ℕ
+onto b found = (b ∷ found.0, found.1)
+
+-- Where the next byte stands, behind this byte. A string goes from quote to quote, a backslash in it takes the next byte,
+-- and a comment goes from two dashes up to a line feed.
+abbrev pub place_behind : Place → ℕ → List ℕ → Place
+place_behind Outside b rest =
+    if b == 39 then InString
+    else if b == 45 && begins_with 45 rest then InComment
+    else Outside
+place_behind InString b rest =
+    if b == 39 then Outside
+    else if b == 92 then BehindBackslash
+    else InString
+place_behind BehindBackslash b rest = InString
+place_behind InComment b rest = if b == 10 then Outside else InComment
+
+-- a semicolon outside strings and comments ends a statement
+abbrev pub ends_at : Place → ℕ → Bool
+ends_at Outside b = b == 59
+ends_at place b = false
+
+-- the text up to the semicolon that ends it, and what follows that; none where the text has no end
+abbrev pub ended_from : Place → List ℕ → Option (List ℕ × List ℕ)
+ended_from place [] = None
+ended_from place (b ∷ bs) =
+    if ends_at place b then Some ([], bs)
+    else option_map (onto b) (ended_from (place_behind place b bs) bs)
+
+-- the byte takes the next one: it is a backslash that is not itself taken
+abbrev pub takes_next : Bool → ℕ → Bool
+takes_next taken b = not taken && b == 92
+
+-- a line of data up to its line feed, which no backslash takes, and what follows that; none where no line feed ends it
+abbrev pub line_from : Bool → List ℕ → Option (List ℕ × List ℕ)
+line_from taken [] = None
+line_from taken (b ∷ bs) =
+    if not taken && b == 10 then Some ([], bs)
+    else option_map (onto b) (line_from (takes_next taken b) bs)
+
+-- the line that ends data
+abbrev pub ends_data : List ℕ → Bool
+ends_data line = same_bytes line (codes "\\.")
+
+-- the lines of data, each with its line feed, whether the line that ends data came, and the script behind it
+pub record Data : Type 0 where
+  pub lines : List ℕ
+  pub ended : Bool
+  pub rest : List ℕ
+
+-- one more line in front of data
+abbrev pub with_line : List ℕ → Data → Data
+with_line line d = record { lines = line ++ 10 ∷ d.lines; ended = d.ended; rest = d.rest }
+
+-- the data that a text begins with, by its first line and what the rest gives
+abbrev pub data_behind : (List ℕ → Data) → List ℕ → Option (List ℕ × List ℕ) → Data
+data_behind more text None = if ends_data text then record { lines = []; ended = true; rest = [] } else record { lines = text; ended = false; rest = [] }
+data_behind more text (Some found) = if ends_data found.0 then record { lines = []; ended = true; rest = found.1 } else with_line found.0 (more found.1)
+
+-- the lines of a text up to the one that ends data, which may be the last without a line feed; at most so many of them
+abbrev pub data_within : ℕ → List ℕ → Data
+data_within zero text = record { lines = text; ended = false; rest = [] }
+data_within (suc n) text = data_behind (data_within n) text (line_from false text)
+
+-- a text has no more lines than bytes
+abbrev pub data_of : List ℕ → Data
+data_of text = data_within (length text + 1) text
+
+-- the rest of the line of an INSERT's semicolon
+abbrev pub is_line_byte : ℕ → Bool
+is_line_byte b = not (b == 10)
+
+abbrev pub line_rest : List ℕ → List ℕ
+line_rest text = take_while is_line_byte text
+
+-- the data begins behind that line's line feed
+abbrev pub behind_line : List ℕ → List ℕ
+behind_line text = drop (prefix_len is_line_byte text + 1) text
+
+-- A statement with its data. Behind an INSERT's semicolon only blanks may stand on its line.
+abbrev pub with_data : List ℕ → List ℕ → Data → Statement × List ℕ
+with_data text line d = (if list_all is_space line then statement_of text d.lines d.ended else statement.Faulty, d.rest)
+
+-- a statement that was read up to its semicolon, and the script behind its data
+abbrev pub complete : List ℕ × List ℕ → Statement × List ℕ
+complete found =
+    if takes_data found.0 then with_data found.0 (line_rest found.1) (data_of (behind_line found.1))
+    else (statement_of found.0 [] false, found.1)
+
+-- a text without an end is no statement, and nothing follows it
+abbrev pub complete_or_faulty : Option (List ℕ × List ℕ) → Statement × List ℕ
+complete_or_faulty None = (statement.Faulty, [])
+complete_or_faulty (Some found) = complete found
+
+-- between statements stand blanks, comments and semicolons
+abbrev pub is_between : ℕ → Bool
+is_between b = is_space b || b == 59
+
+-- the next statement of a script and the script behind it; none at the end of the script
+abbrev pub next_from : List ℕ → Option (Statement × List ℕ)
+next_from [] = None
+next_from (b ∷ bs) = Some (complete_or_faulty (ended_from Outside (b ∷ bs)))
+
+abbrev pub next_statement : List ℕ → Option (Statement × List ℕ)
+next_statement script = next_from (behind is_between false script)
+
+-- a statement in front of those that the rest of the script gives
+abbrev pub statement_and : (List ℕ → List Statement) → Option (Statement × List ℕ) → List Statement
+statement_and more None = []
+statement_and more (Some found) = found.0 ∷ more found.1
+
+-- at most so many statements of a script
+abbrev pub statements_within : ℕ → List ℕ → List Statement
+statements_within zero script = []
+statements_within (suc n) script = statement_and (statements_within n) (next_statement script)
+
+-- the statements of a script, in order; a script has no more of them than bytes
+abbrev pub statements_of : List ℕ → List Statement
+statements_of script = statements_within (length script + 1) script

@@ -1,0 +1,31 @@
+// The commands that a history is made of.
+use crate::{Block, Name, Partition, Schema};
+
+/// A table to be made.
+#[derive(Debug, Drop)]
+pub struct Create {
+    pub table: Name,
+    pub schema: Schema,
+}
+
+/// Rows of one partition to be added to a table.
+#[derive(Debug, Drop)]
+pub struct Insert {
+    pub table: Name,
+    pub partition: Partition,
+    pub block: Block,
+}
+
+/// A command that was accepted, or may be.
+#[derive(Debug, Drop)]
+pub enum Command {
+    Create(Create),
+    Insert(Insert),
+}
+
+/// A command of a session.
+#[derive(Debug, Drop)]
+pub struct Entry {
+    pub session: u64,
+    pub command: Command,
+}

@@ -1,0 +1,53 @@
+// Equal copies of what tables are made of.
+use crate::{ColType, Column, Create, Schema, Value};
+use mt_base::{NoMemory, Twin};
+use std::alloc::Global;
+
+impl Twin for Value {
+    fn twin(&self, alloc: Global) -> Result<Self, NoMemory> {
+        match self {
+            Value::UInt8(n) => Ok(Value::UInt8(*n)),
+            Value::UInt16(n) => Ok(Value::UInt16(*n)),
+            Value::UInt32(n) => Ok(Value::UInt32(*n)),
+            Value::UInt64(n) => Ok(Value::UInt64(*n)),
+            Value::Int8(n) => Ok(Value::Int8(*n)),
+            Value::Int16(n) => Ok(Value::Int16(*n)),
+            Value::Int32(n) => Ok(Value::Int32(*n)),
+            Value::Int64(n) => Ok(Value::Int64(*n)),
+            Value::Text(bytes) => Ok(Value::Text(bytes.twin(alloc)?)),
+        }
+    }
+}
+
+impl Twin for ColType {
+    fn twin(&self, _alloc: Global) -> Result<Self, NoMemory> {
+        Ok(*self)
+    }
+}
+
+impl Twin for Column {
+    fn twin(&self, alloc: Global) -> Result<Self, NoMemory> {
+        Ok(Column {
+            name: self.name.twin(alloc)?,
+            col_type: self.col_type,
+        })
+    }
+}
+
+impl Twin for Schema {
+    fn twin(&self, alloc: Global) -> Result<Self, NoMemory> {
+        Ok(Schema {
+            columns: self.columns.twin(alloc)?,
+            key: self.key.twin(alloc)?,
+        })
+    }
+}
+
+impl Twin for Create {
+    fn twin(&self, alloc: Global) -> Result<Self, NoMemory> {
+        Ok(Create {
+            table: self.table.twin(alloc)?,
+            schema: self.schema.twin(alloc)?,
+        })
+    }
+}

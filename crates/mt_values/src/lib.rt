@@ -1,0 +1,33 @@
+//! What tables are made of: values, blocks of rows, schemas, names, commands and statements,
+//! their order, and the definitions of the grammar and of the bytes that every crate above cites.
+#![tactic(auto)]
+
+mod annals;
+mod block;
+mod cell;
+mod column;
+mod command;
+mod copies;
+mod name;
+mod order;
+mod schema;
+mod script;
+mod sorting;
+mod statement;
+mod strings;
+mod token;
+mod value;
+
+pub use annals::{Annals, Noted};
+pub use block::Block;
+pub use cell::Cell;
+pub use column::ColumnData;
+pub use command::{Command, Create, Entry, Insert};
+pub use name::{FileId, Name, Partition};
+pub use order::{cmp_key, cmp_value, orders_are_exact, orders_are_total};
+pub use schema::{Column, Schema, SchemaFault};
+pub use script::Place;
+pub use sorting::all_places;
+pub use statement::{CreateText, InsertText, SelectText, Statement};
+pub use token::Token;
+pub use value::{Bytes, ColType, Row, Value};

@@ -1,0 +1,40 @@
+// Names of the root, the files behind them, and the partitions of a table.
+use mt_base::Seq;
+
+/// A name of a table, of a column or of the root, as its bytes.
+pub type Name = Seq<u8>;
+
+/// A file of a folder of the root.
+#[derive(Clone, Copy, Debug, PartialEq, Eq)]
+pub enum FileId {
+    /// The statement of a create or mutation entry.
+    Entry,
+    Manifest,
+    Marks,
+    Primary,
+    /// The file of the skip index with this number, from 0.
+    Skip(u32),
+    /// The file of the column with this number, from 0.
+    Column(u32),
+}
+
+/// A partition of a table.
+#[derive(Clone, Copy, Debug, PartialEq, Eq)]
+pub enum Partition {
+    /// The one partition of a table without PARTITION BY.
+    Whole,
+    /// The rows whose partition column has this value.
+    Number(u64),
+}
+
+impl FileId {
+    ghost use Rattle.std.specs.Prelude.{◌≡◌};
+    ghost use Rattle.mt_values.specs.Files.{same_file};
+
+    /// Whether both are one file.
+    pub fn is(self, other: FileId) -> bool
+        ensures { result ≡ same_file self other }
+    {
+        self == other
+    }
+}

@@ -1,0 +1,43 @@
+// The order of values, and of rows by the sorting key.
+ghost use Rattle.std.specs.Prelude.{◌≡◌, ◌<◌, ℕ, List, length, All, slice_get};
+ghost use Rattle.std.specs.Cmp.{IsTotalOrder};
+ghost use Rattle.mt_values.specs.declared.value.Value.{Value};
+ghost use Rattle.mt_values.specs.Order.{value_cmp, key_cmp, row_cmp, HasPlaces, IsExact};
+
+use crate::{Row, Schema, Value};
+use std::cmp::Ordering;
+
+/// The order of two values: numbers as numbers, texts by bytes.
+pub fn cmp_value(a: &Value, b: &Value) -> Ordering
+    ensures { result ≡ value_cmp a.now b.now }
+{
+    a.cmp(b)
+}
+
+/// The order of two rows by the sorting key.
+pub fn cmp_key(schema: &Schema, a: &Row, b: &Row) -> Ordering
+    requires first { HasPlaces schema.now.key a.now }
+    requires second { HasPlaces schema.now.key b.now }
+    ensures { result ≡ key_cmp schema.now.key a.now b.now }
+{
+    for place in schema.key.as_slice() {
+        let found = cmp_value(a.at(*place as usize), b.at(*place as usize));
+        if found.is_ne() {
+            return found;
+        }
+    }
+    Ordering::Equal
+}
+
+/// The orders of values, of rows by any places and of whole rows are total.
+pub fn orders_are_total()
+    ensures values { IsTotalOrder value_cmp }
+    ensures keys { (places : List ℕ) → IsTotalOrder (key_cmp places) }
+    ensures rows { IsTotalOrder row_cmp }
+{}
+
+/// Values that stand alike in the order are one value, and so are whole rows.
+pub fn orders_are_exact()
+    ensures values { IsExact value_cmp }
+    ensures rows { IsExact row_cmp }
+{}

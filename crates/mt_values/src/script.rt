@@ -1,0 +1,10 @@
+// Where a byte of a script stands.
+
+/// Where a byte of a statement's text stands.
+#[derive(Clone, Copy, Debug, PartialEq, Eq)]
+pub enum Place {
+    Outside,
+    InString,
+    BehindBackslash,
+    InComment,
+}
