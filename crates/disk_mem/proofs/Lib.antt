@@ -1,0 +1,5 @@
+pub mod FirstFile
+pub mod Images
+pub mod Names
+pub mod NotedAll
+pub mod PieceReads

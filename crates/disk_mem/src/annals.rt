@@ -1,0 +1,155 @@
+// Keepers of the accepted commands.
+ghost use Rattle.std.specs.Prelude.{◌≡◌, ◌+◌, ◌-◌, ◌^◌, min, [], map, length, None, option_copied};
+ghost use Rattle.disk_mem.specs.Annals.{noted_all};
+ghost use Rattle.disk_mem.specs.Counts.{next};
+
+use mt_base::NoMemory;
+use mt_values::{Annals, Entry};
+use std::alloc::Global;
+use std::marker::Model;
+
+/// Keeps and tells all.
+#[derive(Drop)]
+pub struct KeptAnnals {
+    list: Vec<Entry>,
+    marks: Vec<u64>,
+    begun: Option<Entry>,
+}
+
+impl Model for KeptAnnals {
+    ghost use Rattle.std.specs.Prelude.{◌≡◌, ◌-◌, min, length, vec_capacity};
+    ghost use Rattle.disk_mem.specs.Annals.{Kept, noted_all};
+
+    ghost Value = { Kept };
+
+    ghost view = { λ a. record { list = noted_all a.list.items a.marks.items; begun = a.begun; room = min (vec_capacity a.list - length a.list.items) (vec_capacity a.marks - length a.marks.items) } };
+
+    ghost invariant = { λ a. length a.list.items ≡ length a.marks.items };
+}
+
+impl KeptAnnals {
+    /// A keeper of no entry. Takes no memory.
+    pub fn new(alloc: Global) -> Self
+        ensures list { result.list ≡ [] }
+        ensures begun { result.begun ≡ None }
+    {
+        KeptAnnals {
+            list: Vec::new(alloc),
+            marks: Vec::new(alloc),
+            begun: None,
+        }
+    }
+
+    /// A keeper of these entries, each with the mark in the same place. Takes no memory.
+    pub fn of(list: Vec<Entry>, marks: Vec<u64>) -> Self
+        requires { length list.items ≡ length marks.items }
+        ensures list { result.list ≡ noted_all list.items marks.items }
+        ensures begun { result.begun ≡ None }
+    {
+        KeptAnnals {
+            list,
+            marks,
+            begun: None,
+        }
+    }
+
+    /// The entries, in the order in which they were noted.
+    pub fn list(&self) -> &[Entry]
+        ensures { result.now ≡ map (λ n. n.entry) self.now.list }
+    {
+        self.list.as_slice()
+    }
+
+    /// The mark of each entry.
+    pub fn marks(&self) -> &[u64]
+        ensures { result.now ≡ map (λ n. n.mark) self.now.list }
+    {
+        self.marks.as_slice()
+    }
+
+    /// The entry that is begun, if one is.
+    pub fn begun(&self) -> Option<&Entry>
+        ensures { option_copied result ≡ self.now.begun }
+    {
+        self.begun.as_ref()
+    }
+}
+
+impl Annals for KeptAnnals {
+    ghost use Rattle.std.specs.Prelude.{◌<◌, Some};
+
+    ghost told = { λ a. Some (record { list = a.list; begun = a.begun }) };
+
+    ghost has_room = { λ a. 0 < a.room };
+
+    fn reserve(&mut self, _alloc: Global) -> Result<(), NoMemory> {
+        self.list.reserve(1)?;
+        self.marks.reserve(1)?;
+        Ok(())
+    }
+
+    fn begin(&mut self, entry: Entry) {
+        self.begun = Some(entry);
+    }
+
+    fn note(&mut self, mark: u64) {
+        if let Some(entry) = self.begun.take() {
+            self.list.push_reserved(entry);
+            self.marks.push_reserved(mark);
+        }
+    }
+}
+
+/// Counts what is noted, keeps no entry and tells nothing.
+#[derive(Debug, Drop)]
+pub struct CountedAnnals {
+    count: u64,
+}
+
+impl Model for CountedAnnals {
+    ghost use Rattle.std.specs.Prelude.{ℕ};
+
+    ghost Value = { ℕ };
+
+    ghost view = { λ a. a.count };
+}
+
+impl CountedAnnals {
+    /// A keeper that has noted nothing.
+    pub fn new() -> Self
+        ensures { result ≡ 0 }
+    {
+        CountedAnnals { count: 0 }
+    }
+
+    /// How many entries were noted, as far as 64 bits count.
+    pub fn count(&self) -> u64
+        ensures { result ≡ self.now }
+    {
+        self.count
+    }
+}
+
+impl Annals for CountedAnnals {
+    ghost use Rattle.std.specs.Prelude.{None, ℕ};
+
+    ghost told = { λ _. None };
+
+    ghost has_room = { λ _. Unit {0} };
+
+    fn reserve(&mut self, _alloc: Global) -> Result<(), NoMemory>
+        ensures { self.new ≡ self.old }
+    {
+        Ok(())
+    }
+
+    fn begin(&mut self, _entry: Entry)
+        ensures { self.new ≡ self.old }
+    {}
+
+    fn note(&mut self, _mark: u64)
+        ensures { self.new ≡ next self.old }
+    {
+        self.count = self.count.saturating_add(1);
+    }
+}

@@ -1,0 +1,242 @@
+// The disk in memory.
+ghost use Rattle.std.specs.Prelude.{◌≡◌, ◌+◌, ◌-◌, ◌^◌, ◌<◌, ◌≤◌, ◌++◌, [], Some, None, IfOk, OnOk, OnErr, IsErr, IsErrOf, IsSome, is_some, map};
+ghost use Rattle.mt_outside.specs.Causes.{Rose};
+ghost use Rattle.mt_outside.specs.DiskCauses.{HasDiskCause};
+ghost use Rattle.mt_outside.specs.Disk.{AllBy, Image, names_of, files_at, with_change};
+ghost use Rattle.disk_mem.specs.Counts.{next};
+ghost use Rattle.disk_mem.specs.Images.{image_told};
+ghost use Rattle.disk_mem.specs.Disks.{FailsOrStops, SyncFails, takes};
+ghost use Rattle.disk_mem.specs.Plan.{fresh, next_arm, taken};
+
+use crate::arm::MemArm;
+use crate::folder::{MemDir, MemStage};
+use crate::plan::{CallKind, DiskCalls, Listed};
+use crate::root::Root;
+use mt_base::NoMemory;
+use mt_outside::{Arm, Change, Disk, DiskError, Stage};
+use mt_values::Name;
+use std::alloc::Global;
+use std::marker::Model;
+
+/// A disk in memory, which tells all. Contracts see what it tells, its mark and which of its calls fail.
+#[derive(Drop)]
+pub struct MemDisk {
+    alloc: Global,
+    root: Root,
+    calls: DiskCalls,
+}
+
+impl Model for MemDisk {
+    ghost use Rattle.disk_mem.specs.Disks.{DiskState};
+
+    ghost Value = { DiskState };
+
+    ghost view = { λ d. record { told = d.root.changes.items; clock = d.root.clock; plan = d.calls.plan; stop = d.calls.stop } };
+}
+
+impl MemDisk {
+    /// An empty disk, of which no call fails.
+    pub fn new(alloc: Global) -> Result<MemDisk, NoMemory>
+        ensures told { IfOk result (λ d. d.told ≡ []) }
+        ensures clock { IfOk result (λ d. d.clock ≡ 0) }
+        ensures plan { IfOk result (λ d. d.plan ≡ fresh None None []) }
+        ensures stop { IfOk result (λ d. d.stop ≡ None) }
+    {
+        Ok(MemDisk {
+            alloc,
+            root: Root::new(alloc),
+            calls: DiskCalls::none(alloc),
+        })
+    }
+
+    /// Whether a name is there.
+    pub fn holds(&self, name: &Name) -> bool
+        ensures { result ≡ is_some (files_at name.now (names_of self.now.told)) }
+    {
+        self.root.holds(name)
+    }
+
+    /// Lists calls that are to fail, from now on, beside those that were listed before. Arms and stages that were made before keep the list that they got.
+    ///
+    /// `NoMemory` where the growth was refused; the disk stays as it was.
+    pub fn fail(&mut self, calls: &[Listed]) -> Result<(), NoMemory>
+        ensures ok { OnOk result (self.new ≡ record self.old { plan = record self.old.plan { listed = self.old.plan.listed ++ calls.now } }) }
+        ensures err { OnErr result (self.new ≡ self.old) }
+    {
+        self.calls.plan.list(calls)
+    }
+
+    /// Stops the disk after so many further calls that can answer an error: each later one fails. Arms and stages go on.
+    pub fn stop_after(&mut self, k: u64)
+        ensures { self.new ≡ record self.old { stop = Some k } }
+    {
+        self.calls.stop = Some(k);
+    }
+
+    /// A disk as a crash now may leave it. The settled publishes and removes have happened; of the others bit i of the choice, for i below 63, says
+    /// whether the one with this number, from 0, has, and those from the 63rd on have. Where bit 63 is set, each file whose last append wasn't synced
+    /// has as many zero bytes as half its length, rounded down. All that happened is settled: the mark is one above, as far as 64 bits count.
+    /// No call of the new disk is listed, none was made, and no stop is set.
+    #[tactic(auto, using(crate::proofs::Images::image_leads))]
+    pub fn image(&self, choice: u64) -> Result<MemDisk, NoMemory>
+        ensures image { IfOk result (λ d. Image self.now.told self.now.clock (names_of d.told)) }
+        ensures told { IfOk result (λ d. d.told ≡ image_told choice self.now.clock self.now.told) }
+        ensures mark { IfOk result (λ d. d.clock ≡ next self.now.clock) }
+        ensures by_mark { IfOk result (λ d. AllBy d.clock d.told) }
+        ensures plan { IfOk result (λ d. d.plan ≡ fresh None None []) }
+        ensures stop { IfOk result (λ d. d.stop ≡ None) }
+    {
+        let alloc = self.alloc;
+        Ok(MemDisk {
+            alloc,
+            root: self.root.image(alloc, choice)?,
+            calls: DiskCalls::none(alloc),
+        })
+    }
+}
+
+impl Disk for MemDisk {
+    type Arm = MemArm;
+
+    ghost told = { λ d. Some d.told };
+
+    ghost clock = { λ d. d.clock };
+
+    ghost failed = { λ d. d.plan.failed };
+
+    fn start(&mut self, _path: &str) -> Result<(), DiskError>
+        ensures told { self.new.told ≡ self.old.told }
+        ensures clock { self.new.clock ≡ self.old.clock }
+        ensures cause { HasDiskCause self.old.plan.failed self.new.plan.failed result }
+        ensures exactly { FailsOrStops CallKind.Start self.old self.new result }
+    {
+        if self.calls.call(CallKind::Start, false) {
+            return Err(DiskError::Fault);
+        }
+        Ok(())
+    }
+
+    fn arm(&mut self, alloc: Global) -> Result<MemArm, DiskError>
+        ensures none_failed { IfOk result (λ a. a.failed ≡ 0) }
+        ensures told { self.new.told ≡ self.old.told }
+        ensures clock { self.new.clock ≡ self.old.clock }
+        ensures cause { HasDiskCause self.old.plan.failed self.new.plan.failed result }
+        ensures plan { IfOk result (λ a. a ≡ next_arm self.old.plan) }
+        ensures exactly { FailsOrStops CallKind.Arm self.old self.new result }
+    {
+        let plan = self.calls.plan.next_arm(alloc);
+        if self.calls.call(CallKind::Arm, false) {
+            return Err(DiskError::Fault);
+        }
+        match plan {
+            Ok(plan) => Ok(MemArm::new(plan)),
+            Err(NoMemory) => Err(DiskError::NoMemory),
+        }
+    }
+
+    fn take_back(&mut self, arm: MemArm)
+        ensures told { self.new.told ≡ self.old.told }
+        ensures clock { self.new.clock ≡ self.old.clock }
+        ensures taken { 0 < arm.failed → Rose self.old.plan.failed self.new.plan.failed }
+        ensures later { self.old.plan.failed ≤ self.new.plan.failed }
+        ensures exactly { self.new ≡ takes arm.failed self.old }
+    {
+        self.calls.plan.take(arm.faults());
+    }
+
+    fn list(&mut self, alloc: Global) -> Result<Vec<Name>, DiskError>
+        ensures names { IfOk result (λ v. v.items ≡ map (λ e. e.0) (names_of self.old.told)) }
+        ensures told { self.new.told ≡ self.old.told }
+        ensures clock { self.new.clock ≡ self.old.clock }
+        ensures cause { HasDiskCause self.old.plan.failed self.new.plan.failed result }
+        ensures exactly { FailsOrStops CallKind.List self.old self.new result }
+    {
+        if self.calls.call(CallKind::List, false) {
+            return Err(DiskError::Fault);
+        }
+        match self.root.list(alloc) {
+            Ok(names) => Ok(names),
+            Err(NoMemory) => Err(DiskError::NoMemory),
+        }
+    }
+
+    fn open(&mut self, _alloc: Global, name: &Name) -> Result<MemDir, DiskError>
+        requires { IsSome (files_at name.now (names_of self.old.told)) }
+        ensures files { IfOk result (λ d. Some d ≡ files_at name.now (names_of self.old.told)) }
+        ensures told { self.new.told ≡ self.old.told }
+        ensures clock { self.new.clock ≡ self.old.clock }
+        ensures cause { HasDiskCause self.old.plan.failed self.new.plan.failed result }
+        ensures exactly { FailsOrStops CallKind.Open self.old self.new result }
+    {
+        if self.calls.call(CallKind::Open, false) {
+            return Err(DiskError::Fault);
+        }
+        match self.root.folder(name) {
+            Ok(dir) => Ok(dir),
+            Err(NoMemory) => Err(DiskError::NoMemory),
+        }
+    }
+
+    /// After a fault the name is not there.
+    fn publish(&mut self, alloc: Global, stage: MemStage, name: &Name) -> Result<MemDir, DiskError>
+        requires { files_at name.now (names_of self.old.told) ≡ None }
+        ensures ok { OnOk result (self.new.told ≡ with_change self.old.clock (Change.Publish name.now stage.files) self.old.told) }
+        ensures dir { IfOk result (λ d. d ≡ stage.files) }
+        ensures err { OnErr result (self.new.told ≡ self.old.told) }
+        ensures clock { self.new.clock ≡ self.old.clock }
+        ensures taken { 0 < stage.plan.failed → Rose self.old.plan.failed self.new.plan.failed }
+        ensures cause { HasDiskCause self.old.plan.failed self.new.plan.failed result }
+        ensures exactly { FailsOrStops CallKind.Publish (takes stage.plan.failed self.old) self.new result }
+    {
+        self.calls.plan.take(stage.faults());
+        if self.calls.call(CallKind::Publish, false) {
+            return Err(DiskError::Fault);
+        }
+        match self.root.put(alloc, name, stage.into_files()) {
+            Ok(dir) => Ok(dir),
+            Err(NoMemory) => Err(DiskError::NoMemory),
+        }
+    }
+
+    /// After a fault the name is there.
+    fn remove(&mut self, name: &Name) -> Result<(), DiskError>
+        requires { IsSome (files_at name.now (names_of self.old.told)) }
+        ensures ok { OnOk result (self.new.told ≡ with_change self.old.clock (Change.Remove name.now) self.old.told) }
+        ensures err { OnErr result (self.new.told ≡ self.old.told) }
+        ensures clock { self.new.clock ≡ self.old.clock }
+        ensures takes_none { IsErrOf result DiskError.NoMemory → ⊥ }
+        ensures cause { HasDiskCause self.old.plan.failed self.new.plan.failed result }
+        ensures exactly { FailsOrStops CallKind.Remove self.old self.new result }
+    {
+        if self.calls.call(CallKind::Remove, false) {
+            return Err(DiskError::Fault);
+        }
+        self.root.cut(name);
+        Ok(())
+    }
+
+    fn sync_names(&mut self) -> Result<(), DiskError>
+        ensures told { self.new.told ≡ self.old.told }
+        ensures clock { OnOk result (self.new.clock ≡ self.old.clock + 1) }
+        ensures clock_err { OnErr result (self.new.clock ≡ self.old.clock) }
+        ensures last { self.old.clock ≡ 2 ^ 64 - 1 → IsErr result }
+        ensures takes_none { IsErrOf result DiskError.NoMemory → ⊥ }
+        ensures cause { HasDiskCause self.old.plan.failed self.new.plan.failed result }
+        ensures exactly { SyncFails self.old self.new result }
+    {
+        let at_end = self.root.clock == u64::MAX;
+        if self.calls.call(CallKind::SyncNames, at_end) {
+            return Err(DiskError::Fault);
+        }
+        self.root.clock += 1;
+        Ok(())
+    }
+
+    fn mark(&self) -> u64 {
+        self.root.clock
+    }
+
+    fn faults(&self) -> u64 {
+        self.calls.plan.failed
+    }
+}

@@ -1,0 +1,190 @@
+// What a crash may leave of a disk in memory.
+ghost use Rattle.std.specs.Prelude.{◌≡◌, ◌+◌, ◌/◌, ◌<◌, ◌≤◌, ◌++◌, ◌∷◌, [], None, IfOk, OnOk, length, map, replicate};
+ghost use Rattle.mt_outside.specs.Disk.{Image, changed, names_after, names_of, before_clock, at_clock};
+ghost use Rattle.disk_mem.specs.Counts.{next};
+ghost use Rattle.disk_mem.specs.Plan.{fresh};
+ghost use Rattle.disk_mem.specs.Images.{loses, has_happened, happened, lost_file, left_files, left_stamped, image_told};
+
+use crate::folder::MemDir;
+use crate::root::Root;
+use mt_base::{NoMemory, Seq, Twin};
+use mt_outside::{Change, Files, Stamped, Written};
+use mt_values::Name;
+use std::alloc::Global;
+use std::collections::BTreeMap;
+
+// Whether files whose last append wasn't synced lose their bytes.
+fn loses(choice: u64) -> bool
+    ensures { result ≡ loses choice }
+{
+    choice >> 63 & 1 == 1
+}
+
+// Whether the unsettled change with this number has happened.
+fn has_happened(choice: u64, number: usize) -> bool
+    ensures { result ≡ has_happened choice number }
+{
+    if number >= 63 {
+        return true;
+    }
+    choice >> number & 1 == 1
+}
+
+// A file after a crash that loses bytes.
+fn lost_file(alloc: Global, written: &Written) -> Result<Written, NoMemory>
+    ensures { IfOk result (λ w. w ≡ lost_file written.now) }
+{
+    let file = written.file;
+    if written.synced {
+        let bytes = written.bytes.twin(alloc)?;
+        return Ok(Written {
+            file,
+            bytes,
+            synced: true,
+        });
+    }
+    let half = written.bytes.len() / 2;
+    let bytes = Seq::of(vec![in alloc; 0; half]?);
+    Ok(Written {
+        file,
+        bytes,
+        synced: false,
+    })
+}
+
+// Files after a crash that loses bytes.
+fn lost_files(alloc: Global, files: &[Written]) -> Result<Files, NoMemory>
+    ensures { IfOk result (λ v. v ≡ map lost_file files.now) }
+{
+    let mut left = Seq::with_capacity(alloc, files.len())?;
+    for written in files {
+        left.push(lost_file(alloc, written)?)?;
+    }
+    Ok(left)
+}
+
+// A folder after a crash.
+fn left_folder(alloc: Global, dir: &MemDir, lose: bool) -> Result<MemDir, NoMemory>
+    ensures { IfOk result (λ d. d ≡ left_files lose dir.now) }
+{
+    if !lose {
+        return dir.hold();
+    }
+    MemDir::new(alloc, lost_files(alloc, dir.files())?)
+}
+
+// A change that happened, with its files after a crash.
+fn left_stamped(
+    alloc: Global,
+    stamped: &Stamped<MemDir>,
+    lose: bool,
+) -> Result<Stamped<MemDir>, NoMemory>
+    ensures { IfOk result (λ s. s ≡ left_stamped lose stamped.now) }
+{
+    let clock = stamped.clock;
+    match &stamped.change {
+        Change::Publish(name, dir) => {
+            let change = Change::Publish(name.twin(alloc)?, left_folder(alloc, dir, lose)?);
+            Ok(Stamped { clock, change })
+        }
+        Change::Remove(name) => {
+            let change = Change::Remove(name.twin(alloc)?);
+            Ok(Stamped { clock, change })
+        }
+    }
+}
+
+// The changes that were settled before the mark stood there.
+fn settled(
+    alloc: Global,
+    changes: &[Stamped<MemDir>],
+    clock: u64,
+    lose: bool,
+) -> Result<Vec<Stamped<MemDir>>, NoMemory>
+    ensures { IfOk result (λ v. v.items ≡ map (left_stamped lose) (before_clock clock changes.now)) }
+{
+    let mut left = Vec::new(alloc);
+    for stamped in changes {
+        if stamped.clock < clock {
+            left.push(left_stamped(alloc, stamped, lose)?)?;
+        }
+    }
+    Ok(left)
+}
+
+// Those of the changes at the mark that have happened.
+fn unsettled(
+    alloc: Global,
+    changes: &[Stamped<MemDir>],
+    clock: u64,
+    choice: u64,
+    lose: bool,
+) -> Result<Vec<Stamped<MemDir>>, NoMemory>
+    ensures { IfOk result (λ v. v.items ≡ map (left_stamped lose) (happened choice 0 (at_clock clock changes.now))) }
+{
+    let mut left = Vec::new(alloc);
+    let mut number = 0usize;
+    for stamped in changes {
+        if stamped.clock == clock {
+            if has_happened(choice, number) {
+                left.push(left_stamped(alloc, stamped, lose)?)?;
+            }
+            number += 1;
+        }
+    }
+    Ok(left)
+}
+
+// Makes a change.
+fn make(
+    alloc: Global,
+    names: &mut BTreeMap<Name, MemDir>,
+    change: &Change<MemDir>,
+) -> Result<(), NoMemory>
+    ensures { OnOk result (names.new.entries ≡ changed names.old.entries change.now) }
+{
+    match change {
+        Change::Publish(name, dir) => {
+            names.insert(name.twin(alloc)?, dir.hold()?)?;
+            Ok(())
+        }
+        Change::Remove(name) => {
+            let _ = names.remove(name);
+            Ok(())
+        }
+    }
+}
+
+// The names after these changes.
+#[tactic(auto, using(mt_outside::proofs::Changes::names_after_last))]
+fn names_by(alloc: Global, changes: &[Stamped<MemDir>]) -> Result<BTreeMap<Name, MemDir>, NoMemory>
+    ensures { IfOk result (λ m. m.entries ≡ names_after [] changes.now) }
+{
+    let mut names = BTreeMap::new(alloc);
+    for stamped in changes {
+        make(alloc, &mut names, &stamped.change)?;
+    }
+    Ok(names)
+}
+
+impl Root {
+    /// What a crash may leave, by the choice.
+    pub fn image(&self, alloc: Global, choice: u64) -> Result<Root, NoMemory>
+        ensures told { IfOk result (λ r. r.changes.items ≡ image_told choice self.now.clock self.now.changes.items) }
+        ensures clock { IfOk result (λ r. r.clock ≡ next self.now.clock) }
+        ensures later { IfOk result (λ r. self.now.clock ≤ r.clock) }
+    {
+        let lose = loses(choice);
+        let mut changes = settled(alloc, &self.changes, self.clock, lose)?;
+        let mut rest = unsettled(alloc, &self.changes, self.clock, choice, lose)?;
+        changes.append(&mut rest)?;
+        let names = names_by(alloc, &changes)?;
+        changes.reserve(names.len())?;
+        let clock = self.clock.saturating_add(1);
+        Ok(Root {
+            names,
+            changes,
+            clock,
+        })
+    }
+}

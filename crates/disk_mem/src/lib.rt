@@ -1,0 +1,22 @@
+//! The outside in memory: streams, a disk and keepers of accepted commands that tell all and fail only where they are told to.
+#![tactic(auto)]
+
+mod annals;
+mod arm;
+mod disk;
+mod folder;
+mod gate;
+mod image;
+mod plan;
+mod root;
+mod streams;
+#[cfg(test)]
+mod tests;
+
+pub use annals::{CountedAnnals, KeptAnnals};
+pub use arm::MemArm;
+pub use disk::MemDisk;
+pub use folder::{MemDir, MemStage};
+pub use gate::OpenGate;
+pub use plan::{CallKind, Listed};
+pub use streams::{MemSink, MemSource};

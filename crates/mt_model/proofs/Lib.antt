@@ -1,0 +1,15 @@
+pub mod Accepted
+pub mod Bounds
+pub mod Determined
+pub mod Digits
+pub mod Growing
+pub mod Histories
+pub mod Inserting
+pub mod Lists
+pub mod Places
+pub mod Reading
+pub mod Replies
+pub mod Resolving
+pub mod SameKeys
+pub mod Sorting
+pub mod Steps

@@ -1,0 +1,123 @@
+-- Data and lines, read piece by piece.
+use Rattle.std.proofs.Common.{◌≡◌, ◌≢◌, ℕ, ◌+◌, ◌*◌, ◌<◌, Bool, true, false, not, ◌&&◌, ◌==◌, cond, List, [], ◌∷◌, ◌++◌, Option, Some, None, length, refl, sym, ap, subst, ◌∙◌, append_assoc, arith, min, suc}
+use Rattle.std.specs.Option.{option_map, option_and_then}
+use Rattle.mt_values.specs.declared.value.ColType.{ColType}
+use Rattle.mt_values.specs.declared.value.Value.{Value}
+use Rattle.mt_values.specs.Values.{Row}
+use Rattle.mt_values.specs.Script.{onto, takes_next, line_from}
+use Rattle.mt_values.specs.Rows.{onto_first, fields_from, with_value, row_of_fields, value_of_field, with_row, row_of_line, rows_behind, rows_within, rows_of_data}
+use Rattle.mt_model.specs.Plain.{part_from}
+use Rattle.mt_model.proofs.Bounds.{ShorterThan, line_shorter, rows_same}
+
+-- bytes in front of a part
+abbrev pub behind_part : List ℕ → Option (List ℕ × List ℕ) → Option (List ℕ × List ℕ)
+behind_part front None = None
+behind_part front (Some found) = Some (front ++ found.0, found.1)
+
+pub behind_part_none : (o : Option (List ℕ × List ℕ)) → behind_part [] o ≡ o
+behind_part_none None = refl
+behind_part_none (Some found) = refl
+
+pub behind_part_more : (front : List ℕ) (b : ℕ) (o : Option (List ℕ × List ℕ)) → behind_part front (option_map (onto b) o) ≡ behind_part (front ++ b ∷ []) o
+behind_part_more front b None = refl
+behind_part_more front b (Some found) = ap (λ (z : List ℕ). Some (z, found.1)) (sym (append_assoc front (b ∷ []) found.0))
+
+-- a line is a part up to a line feed
+line_is : (taken : Bool) (text : List ℕ) → part_from 10 taken text ≡ line_from taken text
+line_is taken [] = refl
+line_is taken (b ∷ bs) = ap (λ (o : Option (List ℕ × List ℕ)). cond (not taken && b == 10) (Some ([], bs)) (option_map (onto b) o)) (line_is (takes_next taken b) bs)
+
+-- ---- rows
+
+abbrev pub behind_rows : List Row → Option (List Row) → Option (List Row)
+behind_rows front None = None
+behind_rows front (Some rows) = Some (front ++ rows)
+
+pub behind_rows_none : (o : Option (List Row)) → behind_rows [] o ≡ o
+behind_rows_none None = refl
+behind_rows_none (Some rows) = refl
+
+behind_rows_more : (front : List Row) (row : Row) (o : Option (List Row)) → behind_rows front (with_row o row) ≡ behind_rows (front ++ row ∷ []) o
+behind_rows_more front row None = refl
+behind_rows_more front row (Some rows) = ap Some (sym (append_assoc front (row ∷ []) rows))
+
+shorter_by : (n : ℕ) (o : Option (List ℕ × List ℕ)) (line rest : List ℕ) → o ≡ Some (line, rest) → ShorterThan n o → length rest < n
+shorter_by n o line rest is less = subst (λ (x : Option (List ℕ × List ℕ)). ShorterThan n x) is less
+
+-- the rows of data by its first line
+pub rows_by_line : (types : List ColType) (text line rest : List ℕ) → part_from 10 false text ≡ Some (line, rest) → rows_of_data types text ≡ option_and_then (with_row (rows_of_data types rest)) (row_of_line types line)
+rows_by_line types text line rest found =
+    let first : line_from false text ≡ Some (line, rest) = sym (line_is false text) ∙ found in
+    let shorter : length rest < length text = shorter_by (length text) (line_from false text) line rest first (line_shorter false text) in
+    rows_same (length text) (suc (length text)) types text (omega arith) (omega arith)
+    ∙ ap (rows_behind (rows_within (length text) types) types) first
+    ∙ ap (λ (o : Option (List Row)). option_and_then (with_row o) (row_of_line types line)) (rows_same (length text) (length rest) types rest (omega arith) (omega arith))
+
+pub rows_by_none : (types : List ColType) (text : List ℕ) → part_from 10 false text ≡ None → rows_of_data types text ≡ Some []
+rows_by_none types text none =
+    rows_same (length text) (suc (length text)) types text (omega arith) (omega arith)
+    ∙ ap (rows_behind (rows_within (length text) types) types) (sym (line_is false text) ∙ none)
+
+-- one line more is a row
+pub rows_more : (types : List ColType) (front : List Row) (text line rest : List ℕ) (row : Row) → part_from 10 false text ≡ Some (line, rest) → row_of_line types line ≡ Some row → behind_rows front (rows_of_data types text) ≡ behind_rows (front ++ row ∷ []) (rows_of_data types rest)
+rows_more types front text line rest row found is =
+    ap (behind_rows front) (rows_by_line types text line rest found ∙ ap (option_and_then (with_row (rows_of_data types rest))) is) ∙ behind_rows_more front row (rows_of_data types rest)
+
+-- one line is no row
+pub rows_stop : (types : List ColType) (front : List Row) (text line rest : List ℕ) → part_from 10 false text ≡ Some (line, rest) → row_of_line types line ≡ None → behind_rows front (rows_of_data types text) ≡ None
+rows_stop types front text line rest found is = ap (behind_rows front) (rows_by_line types text line rest found ∙ ap (option_and_then (with_row (rows_of_data types rest))) is)
+
+-- ---- fields
+
+fields_by : List ℕ → Option (List ℕ × List ℕ) → List (List ℕ)
+fields_by text None = text ∷ []
+fields_by text (Some found) = found.0 ∷ fields_from false found.1
+
+fields_are : (taken : Bool) (text : List ℕ) → fields_from taken text ≡ fields_by text (part_from 9 taken text)
+unfolding fields_by
+fields_are taken [] = refl
+fields_are taken (b ∷ bs) = by (not taken && b == 9) (part_from 9 (takes_next taken b) bs) (fields_are (takes_next taken b) bs)
+  where
+    by : (c : Bool) (o : Option (List ℕ × List ℕ)) → fields_from (takes_next taken b) bs ≡ fields_by bs o
+        → cond c ([] ∷ fields_from false bs) (onto_first b (fields_from (takes_next taken b) bs)) ≡ fields_by (b ∷ bs) (cond c (Some ([], bs)) (option_map (onto b) o))
+    by true o is = refl
+    by false None is = ap (onto_first b) is
+    by false (Some found) is = ap (onto_first b) is
+
+pub fields_more : (front : List (List ℕ)) (text field rest : List ℕ) → part_from 9 false text ≡ Some (field, rest) → front ++ fields_from false text ≡ (front ++ field ∷ []) ++ fields_from false rest
+unfolding fields_by
+fields_more front text field rest found = ap (λ (z : List (List ℕ)). front ++ z) (fields_are false text ∙ ap (fields_by text) found) ∙ sym (append_assoc front (field ∷ []) (fields_from false rest))
+
+pub fields_last : (front : List (List ℕ)) (text : List ℕ) → part_from 9 false text ≡ None → front ++ fields_from false text ≡ front ++ text ∷ []
+unfolding fields_by
+fields_last front text none = ap (λ (z : List (List ℕ)). front ++ z) (fields_are false text ∙ ap (fields_by text) none)
+
+-- ---- values
+
+abbrev pub behind_row : Row → Option Row → Option Row
+behind_row front None = None
+behind_row front (Some row) = Some (front ++ row)
+
+pub behind_row_none : (o : Option Row) → behind_row [] o ≡ o
+behind_row_none None = refl
+behind_row_none (Some row) = refl
+
+pub behind_row_more : (front : Row) (v : Value) (o : Option Row) → behind_row front (with_value o v) ≡ behind_row (front ++ v ∷ []) o
+behind_row_more front v None = refl
+behind_row_more front v (Some row) = ap Some (sym (append_assoc front (v ∷ []) row))
+
+no_value : (o : Option Value) → option_and_then (with_value None) o ≡ None
+no_value None = refl
+no_value (Some v) = refl
+
+-- as many fields as types
+pub uneven_fields : (types : List ColType) (fields : List (List ℕ)) → length types ≢ length fields → row_of_fields types fields ≡ None
+uneven_fields [] [] uneven = absurd (uneven refl)
+uneven_fields [] (f ∷ fs) uneven = refl
+uneven_fields (t ∷ ts) [] uneven = refl
+uneven_fields (t ∷ ts) (f ∷ fs) uneven =
+    ap (λ (o : Option Row). option_and_then (with_value o) (value_of_field t f)) (uneven_fields ts fs (λ even. uneven (ap suc even))) ∙ no_value (value_of_field t f)
+
+-- one digit more
+pub bounded_more : (n d : ℕ) → min (min n 256 * 10 + d) 256 ≡ min (n * 10 + d) 256
+bounded_more n d = omega arith

@@ -1,0 +1,5 @@
+use Rattle.mt_model.proofs.Histories.{live_grows}
+use Rattle.mt_model.proofs.laws.live_rows_only_grow.Goals as goal
+
+pub returns : goal.returns
+returns c = live_grows

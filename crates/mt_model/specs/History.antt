@@ -1,0 +1,83 @@
+-- The list of accepted commands, and what makes it legal (docs/definitions.md, "Histories").
+use Rattle.std.specs.Prelude.{◌≡◌, ℕ, ◌<◌, ◌≤◌, Bool, true, false, List, [], ◌∷◌, ◌++◌, length, All, Option, Some, None, ◌==◌, if◌then◌else◌, map, filter}
+use Rattle.mt_values.specs.declared.command.Entry.{Entry}
+use Rattle.mt_values.specs.declared.command.Command.{Command}
+use Rattle.mt_values.specs.declared.command.Command.TheVariants as command
+use Rattle.mt_values.specs.declared.command.Insert.{Insert}
+use Rattle.mt_values.specs.declared.name.Partition.TheVariants.{Whole}
+use Rattle.mt_values.specs.declared.schema.Schema.{Schema}
+use Rattle.mt_values.specs.declared.schema.Column.{Column}
+use Rattle.mt_values.specs.declared.value.ColType.{ColType}
+use Rattle.mt_values.specs.Grammar.{same_bytes}
+use Rattle.mt_values.specs.Schemas.{schema_fault}
+use Rattle.mt_values.specs.Grid.{AreRowsOf}
+
+-- the accepted commands of all tables, each with its session, in the order in which they were accepted
+abbrev pub History : Type 0
+History = List Entry
+
+-- the schema that a command gives a table
+abbrev pub schema_by : List ℕ → Command → Option Schema
+schema_by table (command.Create c) = if same_bytes c.table table then Some c.schema else None
+schema_by table (command.Insert i) = None
+
+abbrev pub first_of : {X : Type 0} → Option X → Option X → Option X
+first_of (Some x) other = Some x
+first_of None other = other
+
+-- the schema of a table, where there is the table
+abbrev pub schema_of : List ℕ → History → Option Schema
+schema_of table [] = None
+schema_of table (e ∷ es) = first_of (schema_by table e.command) (schema_of table es)
+
+abbrev pub is_create : Command → Bool
+is_create (command.Create c) = true
+is_create (command.Insert i) = false
+
+abbrev pub inserts_into : List ℕ → Command → Bool
+inserts_into table (command.Create c) = false
+inserts_into table (command.Insert i) = same_bytes i.table table
+
+-- how many tables were made
+abbrev pub creates : History → ℕ
+creates h = length (filter (λ (e : Entry). is_create e.command) h)
+
+-- how many INSERTs into a table were accepted
+abbrev pub inserts : List ℕ → History → ℕ
+inserts table h = length (filter (λ (e : Entry). inserts_into table e.command) h)
+
+-- the types of a table's columns, in order
+abbrev pub column_types : Schema → List ColType
+column_types schema = map (λ (c : Column). c.col_type) schema.columns
+
+-- a schema that a table may have: it breaks no rule of schemas, its key is made of its own columns, and it has at most 64 columns
+pub record IsTableSchema (schema : Schema) : Type 0 where
+  pub sound : schema_fault schema ≡ None
+  pub key : 0 < length schema.key
+  pub own : All (λ place. place < length schema.columns) schema.key
+  pub few : length schema.columns ≤ 64
+
+-- rows of one partition of a table: at least one, each with a value of each column's type
+pub record IsInsertInto (schema : Schema) (i : Insert) : Type 0 where
+  pub some : 0 < length i.block.rows
+  pub types : i.block.types ≡ column_types schema
+  pub rows : AreRowsOf (column_types schema) i.block.rows
+  pub partition : i.partition ≡ Whole
+
+-- a command that may come after a history
+abbrev pub IsAllowed : History → Command → Type 0
+IsAllowed h (command.Create c) = (schema_of c.table h ≡ None) × (creates h < 65536) × IsTableSchema c.schema
+IsAllowed h (command.Insert i) = (schema : Schema) × (schema_of i.table h ≡ Some schema) × IsInsertInto schema i
+
+-- each command may come after those before it
+abbrev pub IsLegalAfter : History → History → Type 0
+IsLegalAfter before [] = Unit {0}
+IsLegalAfter before (e ∷ es) = IsAllowed before e.command × IsLegalAfter (before ++ e ∷ []) es
+
+abbrev pub IsLegal : History → Type 0
+IsLegal h = IsLegalAfter [] h
+
+-- the commands of a session, in order
+abbrev pub own : ℕ → History → List Command
+own session [] = []
+own session (e ∷ es) = if e.session == session then e.command ∷ own session es else own session es

@@ -1,0 +1,49 @@
+-- What a run of a script may print (docs/definitions.md, "Runs").
+use Rattle.std.specs.Prelude.{◌++◌, ◌⊎◌, ◌≡◌, ℕ, List, length, drop, All, take, slice_get, Some}
+use Rattle.mt_values.specs.declared.command.Entry.{Entry}
+use Rattle.mt_values.specs.declared.statement.Statement.{Statement}
+use Rattle.mt_model.specs.History.{History}
+use Rattle.mt_model.specs.Session.{SessionRun, SessionReplies, AddsNothing, Unanswered}
+
+-- every entry past a place is session 0's: a script has no other session
+abbrev pub OwnEntries : History → ℕ → Type 0
+OwnEntries h base = All (λ (e : Entry). e.session ≡ 0) (drop base h)
+
+-- The statements ran and printed out. The entries past base are theirs, each once.
+pub record ScriptRun (script : List Statement) (h : History) (base : ℕ) (out : List ℕ) : Type 0 where
+  pub last : ℕ
+  pub run : SessionRun h 0 script base last out
+  pub nothing_else : AddsNothing h 0 last (length h)
+  pub sessions : OwnEntries h base
+
+-- The same, reply by reply.
+pub record ScriptReplies (script : List Statement) (h : History) (base : ℕ) (replies : List (List ℕ)) : Type 0 where
+  pub last : ℕ
+  pub run : SessionReplies h 0 script base last replies
+  pub nothing_else : AddsNothing h 0 last (length h)
+  pub sessions : OwnEntries h base
+
+-- The statements ran and printed out, and then one more statement ran that has no reply.
+pub record EndsUnanswered (script : List Statement) (last : Statement) (h : History) (base : ℕ) (out : List ℕ) : Type 0 where
+  pub place : ℕ
+  pub stop : ℕ
+  pub run : SessionRun h 0 script base place out
+  pub unanswered : Unanswered h 0 last place stop
+  pub nothing_else : AddsNothing h 0 stop (length h)
+  pub sessions : OwnEntries h base
+
+-- a front of a list
+abbrev pub IsFront : List ℕ → List ℕ → Type 0
+IsFront xs ys = (rest : List ℕ) × (xs ++ rest ≡ ys)
+
+-- The first statements ran, perhaps one more that has no reply, and a front of the replies was written.
+pub record CutRun (script : List Statement) (h : History) (base : ℕ) (written : List ℕ) : Type 0 where
+  pub count : ℕ
+  pub out : List ℕ
+  pub run : ScriptRun (take count script) h base out ⊎ ((last : Statement) × (slice_get script count ≡ Some last) × EndsUnanswered (take count script) last h base out)
+  pub front : IsFront written out
+
+-- The first statements ran, and all their replies were written.
+pub record FrontRun (script : List Statement) (h : History) (base : ℕ) (written : List ℕ) : Type 0 where
+  pub count : ℕ
+  pub run : ScriptRun (take count script) h base written
