@@ -1,0 +1,47 @@
+//! The program: it runs the script of standard input over an empty disk in memory, and prints the replies.
+#![tactic(auto)]
+
+use disk_mem::{CountedAnnals, MemDisk, OpenGate};
+use mt_program::{Status, StdSink, StdSource, run};
+use std::alloc::{AllocGlobal, Global};
+use std::env::{self, Env};
+use std::io::ErrorKind;
+use std::process::ExitCode;
+
+/// The words of the command line, or the status where they can't be had.
+fn words<R: Env + AllocGlobal>(rt: &R) -> Result<Vec<String>, Status> {
+    let args = match env::args(rt) {
+        Ok(args) => args,
+        Err(error) if error.kind() == ErrorKind::OutOfMemory => return Err(Status::NoMemory),
+        Err(_) => return Err(Status::NotWords),
+    };
+    match args.collect::<Vec<String>>(rt.alloc()) {
+        Ok(words) => Ok(words),
+        Err(_) => Err(Status::NoMemory),
+    }
+}
+
+fn main(rt: HostRuntime) -> ExitCode {
+    let alloc = rt.alloc();
+    let words = match words(&rt) {
+        Ok(words) => words,
+        Err(status) => return ExitCode::from(status.number()),
+    };
+    let Ok(disk) = MemDisk::new(alloc) else {
+        return ExitCode::from(Status::NoMemory.number());
+    };
+    let mut source = StdSource::new(rt.stdin());
+    let mut sink = StdSink::new(rt.stdout());
+    let annals = CountedAnnals::new();
+    let done = run(
+        &rt,
+        alloc,
+        &words,
+        &mut source,
+        &mut sink,
+        disk,
+        annals,
+        &mut OpenGate,
+    );
+    ExitCode::from(done.status)
+}

@@ -1,0 +1,206 @@
+-- One more statement of a script.
+use Rattle.std.proofs.Common.{◌≡◌, ℕ, ◌+◌, ◌-◌, ◌≤◌, Bool, true, false, ◌||◌, List, [], ◌∷◌, ◌++◌, length, map, take, drop, refl, sym, ap, ◌∙◌, subst, Option, Some, None, IfSome, ◌<◌, append_assoc, append-nil, arith}
+use Rattle.std.specs.List.{concat, list_any}
+use Rattle.std.specs.Option.{option_map}
+use Rattle.std.specs.Io.KnownBytes.{Appends}
+use Rattle.std.proofs.lemmas.List.{map-append, drop-drop, length-drop, drop_all}
+use Rattle.std.proofs.lemmas.List.Elements.{All-append, All-nil}
+use Rattle.mt_values.specs.declared.annals.Noted.{Noted}
+use Rattle.mt_values.specs.declared.statement.Statement.{Statement}
+use Rattle.mt_values.specs.Annals.{Told}
+use Rattle.mt_values.specs.Script.{statements_of, next_statement, statement_and}
+use Rattle.mt_outside.specs.Files.{Files}
+use Rattle.mt_model.specs.History.{History, IsLegal}
+use Rattle.mt_model.specs.Reply.{is_refusal}
+use Rattle.mt_model.specs.Session.{SessionReplies}
+use Rattle.mt_model.proofs.Replies.{replies_more, replies_append}
+use Rattle.mt_program.specs.declared.store.Store.{Store}
+use Rattle.mt_program.specs.Answers.{history, Accepts, SameList}
+use Rattle.mt_program.specs.declared.serving.Ending.TheVariants as ending
+use Rattle.mt_program.specs.declared.stops.Stop.{Stop}
+use Rattle.mt_program.specs.declared.stops.Stop.TheVariants as stop
+use Rattle.mt_program.specs.Serving.{Ran, Served, ServedAll, ServedInPart, ServedBy, ending_for}
+use Rattle.mt_program.specs.Store.{Stands}
+use Rattle.mt_program.specs.Streams.{AppendsFront}
+use Rattle.mt_program.proofs.Known.{appends_more, appends_none, sliced}
+use Rattle.mt_program.proofs.Statements.{statements_of_step}
+
+-- what was read at a place of the script
+abbrev pub Found : List ℕ → ℕ → Option (Statement × ℕ) → Type 0
+Found script at o =
+    next_statement (take (length script - at) (drop at script)) ≡ option_map (λ (f : Statement × ℕ). (f.0, drop f.1 (take (length script - at) (drop at script)))) o
+
+-- what was used of the script at a place
+abbrev pub Used : List ℕ → ℕ → Option (Statement × ℕ) → Type 0
+Used script at o = IfSome o (λ (f : Statement × ℕ). (0 < f.1) × (f.1 ≤ length (take (length script - at) (drop at script))))
+
+pub used_within : (script : List ℕ) (at used : ℕ) → at ≤ length script → used ≤ length (take (length script - at) (drop at script)) → at + used ≤ length script
+used_within script at used le fits =
+    let rest : length (take (length script - at) (drop at script)) ≡ length script - at = ap length (sliced script at) ∙ length-drop at script in
+    omega arith
+
+-- the statements that are left behind a place, one further
+pub one_statement : (script : List ℕ) (at used : ℕ) (st : Statement) → next_statement (take (length script - at) (drop at script)) ≡ Some (st, drop used (take (length script - at) (drop at script)))
+    → statements_of (drop at script) ≡ st ∷ statements_of (drop (at + used) script)
+one_statement script at used st found =
+    let rest = sliced script at in
+    let here : next_statement (drop at script) ≡ Some (st, drop used (drop at script)) = subst (λ (t : List ℕ). next_statement t ≡ Some (st, drop used t)) rest found in
+    statements_of_step (drop at script) ∙ (ap (statement_and statements_of) here ∙ ap (λ t. st ∷ statements_of t) (drop-drop used at script))
+
+-- none are left
+pub no_statement : (script : List ℕ) (at : ℕ) → next_statement (take (length script - at) (drop at script)) ≡ None → statements_of (drop at script) ≡ []
+no_statement script at none =
+    statements_of_step (drop at script) ∙ ap (statement_and statements_of) (ap next_statement (sym (sliced script at)) ∙ none)
+
+pub nothing_left : (script : List ℕ) (at : ℕ) → length script ≤ at → statements_of (drop at script) ≡ []
+nothing_left script at le = ap statements_of (drop_all at script le)
+
+concat-append : (xs ys : List (List ℕ)) → concat (xs ++ ys) ≡ concat xs ++ concat ys
+concat-append [] ys = refl
+concat-append (x ∷ xs) ys = ap (λ zs. x ++ zs) (concat-append xs ys) ∙ sym (append_assoc x (concat xs) (concat ys))
+
+pub concat_push : (xs : List (List ℕ)) (y : List ℕ) → concat (xs ++ y ∷ []) ≡ concat xs ++ y
+concat_push xs y = concat-append xs (y ∷ []) ∙ ap (λ zs. concat xs ++ zs) (append-nil y)
+
+any_push : {X : Type 0} (p : X → Bool) (xs : List X) (y : X) → list_any p (xs ++ y ∷ []) ≡ (list_any p xs || p y)
+any_push p [] y = or_none (p y)
+  where
+    or_none : (b : Bool) → (b || false) ≡ b
+    or_none true = refl
+    or_none false = refl
+any_push p (x ∷ xs) y = ap (λ b. p x || b) (any_push p xs y) ∙ or_assoc (p x) (list_any p xs) (p y)
+  where
+    or_assoc : (a b c : Bool) → (a || (b || c)) ≡ ((a || b) || c)
+    or_assoc true b c = refl
+    or_assoc false b c = refl
+
+-- one more statement that was answered
+module _ {F : Type 0} (files_of : F → Option Files) (kept : Told) (done : List Statement) (replies : List (List ℕ)) (st : Statement) (reply : List ℕ) (new : Store F) (told after : Option Told) where
+  pub ran_more : (r : Ran kept done replies told) → Accepts files_of r.now st reply new after → Ran kept (done ++ st ∷ []) (replies ++ reply ∷ []) after
+  ran_more r a =
+      let entries = λ (n : Noted). n.entry in
+      let grown : history a.now ≡ history r.now ++ map entries a.more = ap (map entries) a.list_is ∙ map-append entries r.now.list a.more in
+      let before : SessionReplies (history a.now) 0 done (length kept.list) (length r.now.list) replies =
+      subst (λ (h : History). SessionReplies h 0 done (length kept.list) (length r.now.list) replies) (sym grown) (replies_more (history r.now) (map entries a.more) 0 done (length kept.list) (length r.now.list) replies r.run) in
+      record {
+        now = a.now;
+        more = r.more ++ a.more;
+        told_is = a.told_is;
+        legal = a.stands.legal;
+        list_is = a.list_is ∙ (ap (λ ns. ns ++ a.more) r.list_is ∙ append_assoc kept.list r.more a.more);
+        sessions = All-append (λ (n : Noted). n.entry.session ≡ 0) r.more a.more r.sessions a.sessions;
+        run = replies_append (history a.now) 0 done st (length kept.list) (length r.now.list) (length a.now.list) replies reply before a.takes;
+      }
+
+-- a statement that had no reply
+pub ran_still : (kept : Told) (done : List Statement) (replies : List (List ℕ)) (told after : Option Told) → (r : Ran kept done replies told) → SameList (Some r.now) after → Ran kept done replies after
+ran_still kept done replies told None r same = absurd same
+ran_still kept done replies told (Some now) r same =
+    let h : history now ≡ history r.now = ap (map (λ (n : Noted). n.entry)) same in
+    record {
+      now = now;
+      more = r.more;
+      told_is = refl;
+      list_is = same ∙ r.list_is;
+      legal = subst IsLegal (sym h) r.legal;
+      sessions = r.sessions;
+      run = subst (λ (n : ℕ). SessionReplies (history now) 0 done (length kept.list) n replies) (sym (ap length same))
+          (subst (λ (x : History). SessionReplies x 0 done (length kept.list) (length r.now.list) replies) (sym h) r.run);
+    }
+
+module _ {F : Type 0} (files_of : F → Option Files) (kept : Told) (script : List ℕ) (at : ℕ) (refused : Bool) (old : Store F) (told : Option Told) (before now : Option (List ℕ)) (s : Served files_of kept script at refused old told before now) where
+  -- nothing is left
+  pub served_all : statements_of (drop at script) ≡ [] → ServedAll kept script refused told before now
+  served_all none =
+      let all : statements_of script ≡ s.done = s.split ∙ (ap (λ ss. s.done ++ ss) none ∙ append-nil s.done) in
+      record {
+        replies = s.replies;
+        ran = subst (λ (ss : List Statement). Ran kept ss s.replies told) (sym all) s.ran;
+        wrote = s.wrote;
+        refusals = s.refusals;
+      }
+
+  -- no reply was begun after the last
+  pub served_so_far : ServedInPart kept script told before now
+  served_so_far = record {
+    done = s.done;
+    rest = statements_of (drop at script);
+    replies = s.replies;
+    split = s.split;
+    ran = s.ran;
+    wrote = (concat s.replies, [], sym (append-nil (concat s.replies)), s.wrote);
+  }
+
+  -- the next statement had no reply
+  pub served_unanswered : (after : Option Told) → SameList (Some s.ran.now) after → ServedInPart kept script after before now
+  served_unanswered after same = record {
+    done = s.done;
+    rest = statements_of (drop at script);
+    replies = s.replies;
+    split = s.split;
+    ran = ran_still kept s.done s.replies told after s.ran same;
+    wrote = (concat s.replies, [], sym (append-nil (concat s.replies)), s.wrote);
+  }
+
+  module _ (used : ℕ) (st : Statement) (left : statements_of (drop at script) ≡ st ∷ statements_of (drop (at + used) script)) (new : Store F) (after : Option Told) (reply : List ℕ) (later : Option (List ℕ))
+      (a : Accepts files_of s.ran.now st reply new after) where
+    split_more : statements_of script ≡ (s.done ++ st ∷ []) ++ statements_of (drop (at + used) script)
+    split_more = s.split ∙ (ap (λ ss. s.done ++ ss) left ∙ sym (append_assoc s.done (st ∷ []) (statements_of (drop (at + used) script))))
+
+    -- its reply was written whole
+    pub served_more : Appends now later reply → Served files_of kept script (at + used) (refused || is_refusal reply) new after before later
+    unfolding ran_more
+    served_more wrote = record {
+      done = s.done ++ st ∷ [];
+      replies = s.replies ++ reply ∷ [];
+      split = split_more;
+      ran = ran_more files_of kept s.done s.replies st reply new told after s.ran a;
+      stands = a.stands;
+      wrote = subst (Appends before later) (sym (concat_push s.replies reply)) (appends_more before now later (concat s.replies) reply s.wrote wrote);
+      refusals = ap (λ b. b || is_refusal reply) s.refusals ∙ sym (any_push is_refusal s.replies reply);
+    }
+
+    -- a front of its reply was written
+    pub served_cut : AppendsFront now later reply → ServedInPart kept script after before later
+    served_cut w = record {
+      done = s.done ++ st ∷ [];
+      rest = statements_of (drop (at + used) script);
+      replies = s.replies ++ reply ∷ [];
+      split = split_more;
+      ran = ran_more files_of kept s.done s.replies st reply new told after s.ran a;
+      wrote = (concat s.replies ++ w.0, w.1, concat_push s.replies reply ∙ (ap (λ zs. concat s.replies ++ zs) w.2 ∙ sym (append_assoc (concat s.replies) w.0 w.1)), appends_more before now later (concat s.replies) w.0 s.wrote w.3);
+    }
+
+-- nothing was answered yet
+pub served_none : {F : Type 0} (files_of : F → Option Files) (kept : Told) (script : List ℕ) (store : Store F) (told : Option Told) (before : Option (List ℕ))
+    → told ≡ Some kept → Stands files_of (history kept) store → Served files_of kept script 0 false store told before before
+served_none files_of kept script store told before is stands = record {
+  done = [];
+  replies = [];
+  split = refl;
+  ran = record { now = kept; more = []; told_is = is; list_is = sym (append-nil kept.list); legal = stands.legal; sessions = All-nil (λ (n : Noted). n.entry.session ≡ 0); run = refl };
+  stands = stands;
+  wrote = appends_none before;
+  refusals = refl;
+}
+
+-- what is left of a run whose statement had no reply
+pub served_stop : (why : Stop) (kept : Told) (script : List ℕ) (told : Option Told) (before after : Option (List ℕ)) → ServedInPart kept script told before after → ServedBy (ending_for why) kept script told before after
+served_stop stop.NoMemory kept script told before after s = s
+served_stop stop.Fault kept script told before after s = s
+served_stop stop.Damaged kept script told before after s = s
+
+pub damaged_stop : (why : Stop) → ending_for why ≡ ending.Damaged → why ≡ stop.Damaged
+damaged_stop stop.NoMemory h = cc
+damaged_stop stop.Fault h = cc
+damaged_stop stop.Damaged h = refl
+
+pub fault_stop : (why : Stop) → ending_for why ≡ ending.DiskFault → why ≡ stop.Fault
+fault_stop stop.NoMemory h = cc
+fault_stop stop.Fault h = refl
+fault_stop stop.Damaged h = cc
+
+pub never_written : (why : Stop) → ending_for why ≡ ending.WriteFault → ⊥
+never_written stop.NoMemory h = cc
+never_written stop.Fault h = cc
+never_written stop.Damaged h = cc

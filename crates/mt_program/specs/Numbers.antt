@@ -1,0 +1,7 @@
+-- A number with one more decimal digit.
+use Rattle.std.specs.Prelude.{ℕ, ◌+◌, ◌-◌, ◌*◌, ◌&&◌, nat_le, Option, Some, None, if◌then◌else◌}
+use Rattle.std.specs.Char.{is_ascii_digit}
+
+-- none where the byte is no digit, or the number then passes a greatest one
+abbrev pub with_digit : ℕ → ℕ → ℕ → Option ℕ
+with_digit most n b = if is_ascii_digit b && nat_le (n * 10 + (b - 48)) most then Some (n * 10 + (b - 48)) else None

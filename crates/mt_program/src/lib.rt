@@ -1,0 +1,44 @@
+//! All that the program does: words, a script and a disk in, replies and a status out.
+#![tactic(auto)]
+
+mod column_bytes;
+mod column_files;
+mod commits;
+mod creates;
+mod grammar;
+mod inserts;
+mod leb128;
+mod names;
+mod parts;
+mod printing;
+mod real;
+mod rows;
+mod script;
+mod selects;
+mod serving;
+mod status;
+mod stops;
+mod store;
+mod streams;
+mod tokens;
+mod top;
+mod words;
+
+pub use commits::{commit, seal_file};
+pub use creates::{MOST_TABLES, create};
+pub use grammar::statement;
+pub use inserts::{MOST_PARTS, add_part, insert, types_of_columns};
+pub use names::{entry_name, insert_name};
+pub use parts::{read_parts, write_part};
+pub use printing::{faulty_reply, ok_reply, print_rows, refused_reply, rows_head};
+pub use real::{StdSink, StdSource};
+pub use rows::read_rows;
+pub use script::{line_end, next_statement};
+pub use selects::select;
+pub use serving::{Ending, answer, serve};
+pub use status::Status;
+pub use stops::Stop;
+pub use store::{Part, Store, Table};
+pub use streams::{ReadStop, read_all, write_all};
+pub use top::{Done, run};
+pub use words::is_command_line;

@@ -1,0 +1,242 @@
+// All that the program does.
+ghost use Rattle.std.specs.Prelude.{◌≡◌, ◌⊎◌, ◌↔◌, ◌≤◌, ◌<◌, ◌^◌, ◌∷◌, List, ℕ, [], Some, Option, true, false, is_some, length};
+ghost use Rattle.std.specs.Option.{ForSome};
+ghost use Rattle.mt_outside.specs.declared.disk.DiskError as failure;
+ghost use Rattle.mt_values.specs.Annals.{Told};
+ghost use Rattle.mt_outside.specs.Causes.{Rose};
+ghost use Rattle.mt_outside.specs.Disk as root;
+ghost use Rattle.mt_outside.specs.Files.{Files};
+ghost use Rattle.mt_program.specs.Answers.{OneRose};
+ghost use Rattle.mt_program.specs.Headline.{Headline, Leaves, NotOpened, WritesDamage, number_of, status_for, status_of_error, status_of_stop, settled};
+ghost use Rattle.mt_program.specs.Streams.{ConsumesMost};
+ghost use Rattle.mt_program.specs.Words.{is_command};
+
+use crate::printing::damaged_reply;
+use crate::serving::{Ending, serve};
+use crate::status::Status;
+use crate::store::Store;
+use crate::streams::{ReadStop, read_all, write_all};
+use crate::words::is_command_line;
+use mt_outside::{Arm, Disk, DiskError, Gate, Sink, Source};
+use mt_values::{Annals, Name};
+use std::alloc::Global;
+use std::sync::Wait;
+use std::thread::Threads;
+
+/// What the program hands back.
+#[derive(Drop)]
+pub struct Done<D, A> {
+    pub status: u8,
+    pub disk: D,
+    pub annals: A,
+}
+
+/// The status of a call on the disk that failed at opening.
+fn failed_opening(error: DiskError) -> Status
+    ensures { result ≡ status_of_error error }
+{
+    match error {
+        DiskError::Fault => Status::DiskFault,
+        DiskError::NoMemory => Status::NoMemory,
+    }
+}
+
+/// The status of a script that was not read.
+fn failed_reading(stop: ReadStop) -> Status
+    ensures { result ≡ status_of_stop stop }
+{
+    match stop {
+        ReadStop::NoMemory => Status::NoMemory,
+        ReadStop::Fault => Status::ReadFault,
+        ReadStop::TooLong => Status::TooLong,
+    }
+}
+
+/// The status of a script that was served.
+fn served_status(ending: Ending) -> Status
+    ensures { result ≡ status_for ending }
+{
+    match ending {
+        Ending::Done(false) => Status::Done,
+        Ending::Done(true) => Status::Refused,
+        Ending::NoMemory => Status::NoMemory,
+        Ending::DiskFault => Status::DiskFault,
+        Ending::Damaged => Status::Damaged,
+        Ending::WriteFault => Status::WriteFault,
+    }
+}
+
+/// The status at the end. A count of faults that has risen is shown where all statements were answered.
+fn last_status(ended: Status, risen: bool) -> Status
+    ensures { result ≡ settled risen ended }
+{
+    match ended {
+        Status::Done | Status::Refused if risen => Status::DiskFault,
+        _ => ended,
+    }
+}
+
+/// Reads the script and answers its statements, over a root without names.
+fn run_script<D: Disk, A: Annals, S: Source, K: Sink, G: Gate>(
+    alloc: Global,
+    source: &mut S,
+    sink: &mut K,
+    disk: &mut D,
+    arm: &mut D::Arm,
+    annals: &mut A,
+    gate: &mut G,
+) -> Status
+    requires { ForSome (D.told disk.old) (λ told. root.names_of told ≡ []) }
+    ensures leaves { (kept : Told) (script before : List ℕ) → A.told annals.old ≡ Some kept → kept.list ≡ [] → D.Arm.tells arm.old ≡ true
+        → S.left source.old ≡ Some script → K.written sink.old ≡ Some before → Leaves result script kept before (A.told annals.new) (K.written sink.new) }
+    ensures words { result ≡ Status.NotWords → ⊥ }
+    ensures read { result ≡ Status.ReadFault → Rose (S.failed source.old) (S.failed source.new) }
+    ensures write { result ≡ Status.WriteFault → Rose (K.failed sink.old) (K.failed sink.new) }
+    ensures disk { result ≡ Status.DiskFault → OneRose (D.failed disk.old) (D.failed disk.new) (D.Arm.failed arm.old) (D.Arm.failed arm.new) }
+    ensures long { result ≡ Status.TooLong → ConsumesMost (S.left source.old) (S.left source.new) }
+    ensures disk_later { D.failed disk.old ≤ D.failed disk.new }
+    ensures arm_later { D.Arm.failed arm.old ≤ D.Arm.failed arm.new }
+{
+    let text = match read_all(alloc, source) {
+        Ok(text) => text,
+        Err(stop) => return failed_reading(stop),
+    };
+    let mut store = Store::new(alloc);
+    served_status(serve(alloc, &mut store, disk, arm, annals, sink, gate, &text))
+}
+
+/// Writes the line that names what keeps the root from being opened.
+fn refuse_root<K: Sink>(alloc: Global, sink: &mut K, name: &Name) -> Status
+    ensures writes { WritesDamage result name.now (K.failed sink.old) (K.failed sink.new) (K.written sink.old) (K.written sink.new) }
+    ensures status { (result ≡ Status.Damaged) ⊎ (result ≡ Status.NoMemory) }
+{
+    let line = match damaged_reply(alloc, name.as_slice()) {
+        Ok(line) => line,
+        Err(_) => return Status::NoMemory,
+    };
+    match write_all(sink, &line) {
+        Ok(()) => Status::Damaged,
+        Err(_) => Status::Damaged,
+    }
+}
+
+/// Runs a script where the root has no name.
+fn run_listed<D: Disk, A: Annals, S: Source, K: Sink, G: Gate>(
+    alloc: Global,
+    source: &mut S,
+    sink: &mut K,
+    disk: &mut D,
+    arm: &mut D::Arm,
+    annals: &mut A,
+    gate: &mut G,
+) -> Status
+    ensures leaves { (kept : Told) (told : root.Told) (script before : List ℕ) → A.told annals.old ≡ Some kept → kept.list ≡ [] → D.told disk.old ≡ Some told → root.names_of told ≡ []
+        → D.Arm.tells arm.old ≡ true → S.left source.old ≡ Some script → K.written sink.old ≡ Some before → Leaves result script kept before (A.told annals.new) (K.written sink.new) }
+    ensures opening { (told : root.Told) (first : List ℕ × Files) (others : root.Names) → D.told disk.old ≡ Some told → root.names_of told ≡ first ∷ others
+        → WritesDamage result first.0 (K.failed sink.old) (K.failed sink.new) (K.written sink.old) (K.written sink.new)
+        × (D.told disk.new ≡ D.told disk.old) × (A.told annals.new ≡ A.told annals.old) }
+    ensures words { result ≡ Status.NotWords → ⊥ }
+    ensures read { result ≡ Status.ReadFault → Rose (S.failed source.old) (S.failed source.new) }
+    ensures write { result ≡ Status.WriteFault → Rose (K.failed sink.old) (K.failed sink.new) }
+    ensures disk { result ≡ Status.DiskFault → OneRose (D.failed disk.old) (D.failed disk.new) (D.Arm.failed arm.old) (D.Arm.failed arm.new) }
+    ensures long { result ≡ Status.TooLong → ConsumesMost (S.left source.old) (S.left source.new) }
+    ensures disk_later { D.failed disk.old ≤ D.failed disk.new }
+    ensures arm_later { D.Arm.failed arm.old ≤ D.Arm.failed arm.new }
+{
+    let names = match disk.list(alloc) {
+        Ok(names) => names,
+        Err(error) => return failed_opening(error),
+    };
+    if names.is_empty() {
+        run_script(alloc, source, sink, disk, arm, annals, gate)
+    } else {
+        refuse_root(alloc, sink, &names[0])
+    }
+}
+
+/// Opens the root and runs the script. The arm is given back in each case.
+fn run_opened<D: Disk, A: Annals, S: Source, K: Sink, G: Gate>(
+    alloc: Global,
+    path: &str,
+    source: &mut S,
+    sink: &mut K,
+    disk: &mut D,
+    annals: &mut A,
+    gate: &mut G,
+) -> Status
+    ensures leaves { (kept : Told) (told : root.Told) (script before : List ℕ) → A.told annals.old ≡ Some kept → kept.list ≡ [] → D.told disk.old ≡ Some told → root.names_of told ≡ []
+        → S.left source.old ≡ Some script → K.written sink.old ≡ Some before → Leaves result script kept before (A.told annals.new) (K.written sink.new) }
+    ensures opening { (told : root.Told) (first : List ℕ × Files) (others : root.Names) → D.told disk.old ≡ Some told → root.names_of told ≡ first ∷ others
+        → WritesDamage result first.0 (K.failed sink.old) (K.failed sink.new) (K.written sink.old) (K.written sink.new)
+        × (D.told disk.new ≡ D.told disk.old) × (A.told annals.new ≡ A.told annals.old) }
+    ensures words { result ≡ Status.NotWords → ⊥ }
+    ensures read { result ≡ Status.ReadFault → Rose (S.failed source.old) (S.failed source.new) }
+    ensures write { result ≡ Status.WriteFault → Rose (K.failed sink.old) (K.failed sink.new) }
+    ensures disk { result ≡ Status.DiskFault → Rose (D.failed disk.old) (D.failed disk.new) }
+    ensures long { result ≡ Status.TooLong → ConsumesMost (S.left source.old) (S.left source.new) }
+    ensures calm { (result ≡ Status.Done) ⊎ (result ≡ Status.Refused) → D.failed disk.new ≡ D.failed disk.old }
+    ensures later { D.failed disk.old ≤ D.failed disk.new }
+{
+    let failed = disk.faults();
+    if failed == u64::MAX {
+        return Status::DiskFault;
+    }
+    if let Err(error) = disk.start(path) {
+        return failed_opening(error);
+    }
+    let mut arm = match disk.arm(alloc) {
+        Ok(arm) => arm,
+        Err(error) => return failed_opening(error),
+    };
+    let ended = run_listed(alloc, source, sink, disk, &mut arm, annals, gate);
+    disk.take_back(arm);
+    last_status(ended, failed < disk.faults())
+}
+
+/// Runs a script over an empty root, and refuses a root that has a name.
+///
+/// The status is 0 where all statements were answered, 1 where one of them was refused, 2 where the words are no command line,
+/// 3 where the source failed, 4 where the sink failed, 5 where a call on the disk failed, 6 for want of memory,
+/// 7 where the root has a name or a column file is not of its format, and 8 where 2^40 bytes were read and no end was met.
+pub fn run<R: Threads + Wait + Sync, D: Disk, A: Annals, S: Source, K: Sink, G: Gate>(
+    _rt: &R,
+    alloc: Global,
+    words: &[String],
+    source: &mut S,
+    sink: &mut K,
+    disk: D,
+    annals: A,
+    gate: &mut G,
+) -> Done<D, A>
+    ensures headline { (kept : Told) (told : root.Told) (script before : List ℕ) → A.told annals ≡ Some kept → kept.list ≡ [] → D.told disk ≡ Some told → root.names_of told ≡ []
+        → S.left source.old ≡ Some script → K.written sink.old ≡ Some before → Headline result.status script kept before (A.told result.annals) (K.written sink.new) }
+    ensures opening { (told : root.Told) (first : List ℕ × Files) (others : root.Names) → D.told disk ≡ Some told → root.names_of told ≡ first ∷ others
+        → NotOpened result.status first.0 (K.failed sink.old) (K.failed sink.new) (K.written sink.old) (K.written sink.new)
+        × (D.told result.disk ≡ D.told disk) × (A.told result.annals ≡ A.told annals) }
+    ensures words { (result.status ≡ 2) ↔ (is_command words.now ≡ false) }
+    ensures untouched { result.status ≡ 2 → (source.new ≡ source.old) × (sink.new ≡ sink.old) × (result.disk ≡ disk) × (result.annals ≡ annals) }
+    ensures read { result.status ≡ 3 → Rose (S.failed source.old) (S.failed source.new) }
+    ensures write { result.status ≡ 4 → Rose (K.failed sink.old) (K.failed sink.new) }
+    ensures disk { result.status ≡ 5 → Rose (D.failed disk) (D.failed result.disk) }
+    ensures long { result.status ≡ 8 → ConsumesMost (S.left source.old) (S.left source.new) }
+    ensures calm { result.status ≤ 1 → D.failed result.disk ≡ D.failed disk }
+{
+    if !is_command_line(words) {
+        let status = Status::NotWords.number();
+        return Done {
+            status,
+            disk,
+            annals,
+        };
+    }
+    let mut disk = disk;
+    let mut annals = annals;
+    let path = &words[2];
+    let ended = run_opened(alloc, path, source, sink, &mut disk, &mut annals, gate);
+    let status = ended.number();
+    Done {
+        status,
+        disk,
+        annals,
+    }
+}

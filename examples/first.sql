@@ -1,0 +1,19 @@
+-- A table of two columns, sorted by the first of them.
+CREATE TABLE fruit (amount UInt8, name String)
+ENGINE = MergeTree
+ORDER BY amount;
+
+-- The data begins on the line behind the semicolon, and ends at the line \.
+INSERT INTO fruit;
+12	pear
+3	plum
+12	apple
+\.
+
+SELECT * FROM fruit;
+
+INSERT INTO fruit;
+3	plum
+\.
+
+SELECT * FROM fruit;
