@@ -1,0 +1,3 @@
+// Whole runs: their replies, their status, and what they leave where the outside fails.
+mod faults;
+mod replies;
