@@ -1,11 +1,14 @@
 pub mod Accepted
-pub mod Bounds
+pub mod Bare
 pub mod Determined
 pub mod Digits
+pub mod Equal
+pub mod Exchanged
 pub mod Growing
 pub mod Histories
 pub mod Inserting
 pub mod Lists
+pub mod OneWay
 pub mod Places
 pub mod Reading
 pub mod Replies

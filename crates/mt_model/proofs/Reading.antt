@@ -7,7 +7,7 @@ use Rattle.mt_values.specs.Values.{Row}
 use Rattle.mt_values.specs.Script.{onto, takes_next, line_from}
 use Rattle.mt_values.specs.Rows.{onto_first, fields_from, with_value, row_of_fields, value_of_field, with_row, row_of_line, rows_behind, rows_within, rows_of_data}
 use Rattle.mt_model.specs.Plain.{part_from}
-use Rattle.mt_model.proofs.Bounds.{ShorterThan, line_shorter, rows_same}
+use Rattle.mt_values.proofs.Bounds.{rows_of_data_step}
 
 -- bytes in front of a part
 abbrev pub behind_part : List ℕ → Option (List ℕ × List ℕ) → Option (List ℕ × List ℕ)
@@ -41,22 +41,15 @@ behind_rows_more : (front : List Row) (row : Row) (o : Option (List Row)) → be
 behind_rows_more front row None = refl
 behind_rows_more front row (Some rows) = ap Some (sym (append_assoc front (row ∷ []) rows))
 
-shorter_by : (n : ℕ) (o : Option (List ℕ × List ℕ)) (line rest : List ℕ) → o ≡ Some (line, rest) → ShorterThan n o → length rest < n
-shorter_by n o line rest is less = subst (λ (x : Option (List ℕ × List ℕ)). ShorterThan n x) is less
-
 -- the rows of data by its first line
 pub rows_by_line : (types : List ColType) (text line rest : List ℕ) → part_from 10 false text ≡ Some (line, rest) → rows_of_data types text ≡ option_and_then (with_row (rows_of_data types rest)) (row_of_line types line)
 rows_by_line types text line rest found =
     let first : line_from false text ≡ Some (line, rest) = sym (line_is false text) ∙ found in
-    let shorter : length rest < length text = shorter_by (length text) (line_from false text) line rest first (line_shorter false text) in
-    rows_same (length text) (suc (length text)) types text (omega arith) (omega arith)
-    ∙ ap (rows_behind (rows_within (length text) types) types) first
-    ∙ ap (λ (o : Option (List Row)). option_and_then (with_row o) (row_of_line types line)) (rows_same (length text) (length rest) types rest (omega arith) (omega arith))
+    rows_of_data_step types text ∙ ap (rows_behind (rows_of_data types) types) first
 
 pub rows_by_none : (types : List ColType) (text : List ℕ) → part_from 10 false text ≡ None → rows_of_data types text ≡ Some []
 rows_by_none types text none =
-    rows_same (length text) (suc (length text)) types text (omega arith) (omega arith)
-    ∙ ap (rows_behind (rows_within (length text) types) types) (sym (line_is false text) ∙ none)
+    rows_of_data_step types text ∙ ap (rows_behind (rows_of_data types) types) (sym (line_is false text) ∙ none)
 
 -- one line more is a row
 pub rows_more : (types : List ColType) (front : List Row) (text line rest : List ℕ) (row : Row) → part_from 10 false text ≡ Some (line, rest) → row_of_line types line ≡ Some row → behind_rows front (rows_of_data types text) ≡ behind_rows (front ++ row ∷ []) (rows_of_data types rest)

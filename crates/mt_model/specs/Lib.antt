@@ -4,5 +4,6 @@ pub mod Live
 pub mod Partial
 pub mod Plain
 pub mod Reply
+pub mod Same
 pub mod Script
 pub mod Session

@@ -1,4 +1,4 @@
--- What the plain program sorts by, and where it parts texts.
+-- What the plain program sorts by, where it parts texts, and what it accepts.
 use Rattle.std.specs.Prelude.{◌≡◌, ℕ, ◌+◌, ◌<◌, Bool, false, not, ◌&&◌, ◌==◌, List, [], ◌∷◌, ◌++◌, length, take, drop, All, Option, Some, None, if◌then◌else◌}
 use Rattle.std.specs.Option.{option_map, option_and_then}
 use Rattle.mt_values.specs.Script.{onto, takes_next}

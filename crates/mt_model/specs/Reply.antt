@@ -53,7 +53,7 @@ places_of columns (name ∷ names) = option_and_then (with_place (places_of colu
 abbrev pub sound_schema : Schema → Option Schema
 sound_schema schema = if is_none (schema_fault schema) && nat_lt 0 (length schema.key) && nat_le (length schema.columns) 64 then Some schema else None
 
--- the schema that a CREATE writes; none where a rule of schemas refuses it
+-- the schema that a CREATE writes; none where its key names no column, a rule of schemas is broken, or there are more than 64 columns
 abbrev pub schema_of_text : CreateText → Option Schema
 schema_of_text c = option_and_then (λ key. sound_schema (record { columns = c.columns; key = key })) (places_of c.columns c.key)
 
@@ -65,7 +65,7 @@ may_create table h = is_none (schema_of table h) && nat_lt (creates h) 64
 abbrev pub create_accepted : CreateText → History → Option Schema
 create_accepted c h = option_and_then (λ schema. if may_create c.table h then Some schema else None) (schema_of_text c)
 
--- fewer than 3000 parts: no merge takes any away
+-- an INSERT with rows needs a table with fewer than 3000 parts, of which no merge takes any away; one without rows makes no part
 abbrev pub has_room : List ℕ → List Row → History → Bool
 has_room table [] h = true
 has_room table (row ∷ rows) h = nat_lt (inserts table h) 3000

@@ -1,5 +1,6 @@
 -- What a run of a script may print (docs/definitions.md, "Runs").
-use Rattle.std.specs.Prelude.{◌++◌, ◌⊎◌, ◌≡◌, ℕ, List, length, drop, All, take, slice_get, Some}
+use Rattle.std.specs.Prelude.{◌++◌, ◌⊎◌, ◌≡◌, ◌∷◌, [], ℕ, List, length, drop, All, take, slice_get, Some}
+use Rattle.std.specs.List.{concat}
 use Rattle.mt_values.specs.declared.command.Entry.{Entry}
 use Rattle.mt_values.specs.declared.statement.Statement.{Statement}
 use Rattle.mt_model.specs.History.{History}
@@ -36,14 +37,24 @@ pub record EndsUnanswered (script : List Statement) (last : Statement) (h : Hist
 abbrev pub IsFront : List ℕ → List ℕ → Type 0
 IsFront xs ys = (rest : List ℕ) × (xs ++ rest ≡ ys)
 
--- The first statements ran, perhaps one more that has no reply, and a front of the replies was written.
-pub record CutRun (script : List Statement) (h : History) (base : ℕ) (written : List ℕ) : Type 0 where
-  pub count : ℕ
-  pub out : List ℕ
-  pub run : ScriptRun (take count script) h base out ⊎ ((last : Statement) × (slice_get script count ≡ Some last) × EndsUnanswered (take count script) last h base out)
-  pub front : IsFront written out
-
 -- The first statements ran, and all their replies were written.
 pub record FrontRun (script : List Statement) (h : History) (base : ℕ) (written : List ℕ) : Type 0 where
   pub count : ℕ
   pub run : ScriptRun (take count script) h base written
+
+-- The first statements ran, and all their replies were written; perhaps one more ran that has no reply.
+pub record CutRun (script : List Statement) (h : History) (base : ℕ) (written : List ℕ) : Type 0 where
+  pub count : ℕ
+  pub run : ScriptRun (take count script) h base written ⊎ ((last : Statement) × (slice_get script count ≡ Some last) × EndsUnanswered (take count script) last h base written)
+
+-- The first statements ran and one more. Their replies were written, and a front of its reply.
+pub record CutInReply (script : List Statement) (h : History) (base : ℕ) (written : List ℕ) : Type 0 where
+  pub count : ℕ
+  pub last : Statement
+  pub replies : List (List ℕ)
+  pub reply : List ℕ
+  pub part : List ℕ
+  pub there : slice_get script count ≡ Some last
+  pub run : ScriptReplies (take count script ++ last ∷ []) h base (replies ++ reply ∷ [])
+  pub front : IsFront part reply
+  pub written_is : written ≡ concat replies ++ part

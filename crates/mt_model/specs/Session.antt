@@ -13,13 +13,13 @@ use Rattle.mt_model.specs.History.{History, schema_of, own}
 use Rattle.mt_model.specs.Answer.{Answer}
 use Rattle.mt_model.specs.Reply.{ok_line, refused_line, faulty_line, rows_reply, create_accepted, insert_accepted}
 
--- from one place of the history to a later one the session accepted nothing
+-- from one place of the history to the same or a later one the session accepted nothing
 pub record AddsNothing (h : History) (session from to : ℕ) : Type 0 where
   pub later : from ≤ to
   pub there : to ≤ length h
   pub none : own session (take (to - from) (drop from h)) ≡ []
 
--- from one place to a later one the session accepted this one command, the last that stands there
+-- from one place to a later one the session accepted this one command, and its entry is the last of them
 pub record Adds (h : History) (session : ℕ) (c : Command) (from to : ℕ) : Type 0 where
   pub later : 0 < to
   pub before : AddsNothing h session from (to - 1)
@@ -30,13 +30,13 @@ abbrev pub IsInsertOf : List ℕ → List Row → Command → Type 0
 IsInsertOf table rows (command.Create c) = ⊥
 IsInsertOf table rows (command.Insert i) = (i.table ≡ table) × (i.partition ≡ Whole) × (i.block.rows ≡ rows)
 
--- a CREATE is accepted by the history before it, and has one entry, the last up to its place
+-- a CREATE is accepted by the entries before its own, and has one entry, the last up to its place
 pub record CreateTaken (h : History) (session : ℕ) (c : CreateText) (from to : ℕ) : Type 0 where
   pub schema : Schema
   pub accepted : create_accepted c (take (to - 1) h) ≡ Some schema
   pub adds : Adds h session (command.Create (record { table = c.table; schema = schema })) from to
 
--- an INSERT with rows is accepted by the history before it, and has one entry with these rows, the last up to its place
+-- an INSERT with rows is accepted by the entries before its own, and has one entry with these rows, the last up to its place
 pub record InsertTaken (h : History) (session : ℕ) (i : InsertText) (from to : ℕ) : Type 0 where
   pub row : Row
   pub rows : List Row
@@ -53,8 +53,8 @@ pub record Selects (h : History) (table : List ℕ) (to : ℕ) (reply : List ℕ
   pub answer : Answer (take to h) table schema lines
   pub reply_is : reply ≡ rows_reply lines to
 
--- Run from one place to a later one, a statement may have this reply. Tables are asked of the history up to its place,
--- for an accepted command up to its own entry.
+-- Run from one place to the same or a later one, a statement may have this reply. Tables are asked of the history up to its place,
+-- for an accepted command of the entries before its own.
 abbrev pub Takes : History → ℕ → Statement → ℕ → ℕ → List ℕ → Type 0
 Takes h session (statement.Create c) from to reply =
     ((reply ≡ ok_line to) × CreateTaken h session c from to)
@@ -75,7 +75,7 @@ Unanswered h session (statement.Create c) from to = CreateTaken h session c from
 Unanswered h session (statement.Insert i) from to = InsertTaken h session i from to ⊎ AddsNothing h session from to
 Unanswered h session st from to = AddsNothing h session from to
 
--- Run one after another from one place to a later one, the statements may print this.
+-- Run one after another from one place to the same or a later one, the statements may print this.
 abbrev pub SessionRun : History → ℕ → List Statement → ℕ → ℕ → List ℕ → Type 0
 SessionRun h session [] from to out = (from ≡ to) × (out ≡ [])
 SessionRun h session (s ∷ ss) from to out =

@@ -1,5 +1,5 @@
 // Laws of the definitions: what follows from them, whatever a program does. Each function has an empty body and the law as its contract.
-ghost use Rattle.std.specs.Prelude.{◌≡◌, ◌<◌, ◌≤◌, ◌++◌, ◌∷◌, [], ℕ, List, length};
+ghost use Rattle.std.specs.Prelude.{◌≡◌, ◌<◌, ◌≤◌, ◌++◌, ◌∷◌, [], ℕ, List, length, take};
 ghost use Rattle.std.specs.List.Sorted.{IsPermutation, IsSorted};
 ghost use Rattle.mt_values.specs.declared.value.ColType.{ColType};
 ghost use Rattle.mt_values.specs.declared.schema.Schema.{Schema};
@@ -15,6 +15,8 @@ ghost use Rattle.mt_model.specs.Live.{live, sorted, of_key};
 ghost use Rattle.mt_model.specs.Partial.{Partly};
 ghost use Rattle.mt_model.specs.Answer.{Answer, Prints};
 ghost use Rattle.mt_model.specs.Session.{SessionRun};
+ghost use Rattle.mt_model.specs.Script.{ScriptRun};
+ghost use Rattle.mt_model.specs.Same.{SameHistory};
 
 /// The first entries of a legal history are a legal history, and one more entry that may come next leaves it legal.
 pub fn legal_fronts()
@@ -59,6 +61,12 @@ pub fn places_never_fall()
 pub fn runs_stay_as_histories_grow()
     ensures { (h more : History) (session : ℕ) (statements : List Statement) (from to : ℕ) (out : List ℕ)
         → SessionRun h session statements from to out → SessionRun (h ++ more) session statements from to out }
+{}
+
+/// A script that runs behind a base has one run only: what it prints, and each command that is accepted, are determined.
+pub fn scripts_run_in_one_way()
+    ensures { (script : List Statement) (h g : History) (base : ℕ) (a b : List ℕ)
+        → take base h ≡ take base g → ScriptRun script h base a → ScriptRun script g base b → (a ≡ b) × SameHistory h g }
 {}
 
 /// The counts that bound the grammar's readers cut nothing off: each step takes at least one byte.

@@ -1,6 +1,7 @@
 // The plain program: what the definitions say, done the slow and plain way over small inputs.
 
 mod accepting;
+mod checking;
 mod fields;
 mod lines;
 mod live;
@@ -11,6 +12,7 @@ mod running;
 mod sorting;
 mod tables;
 
+pub use checking::allows;
 pub use lines::lines_of;
 pub use live::live_rows;
 pub use reading::read_rows;

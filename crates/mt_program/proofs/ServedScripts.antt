@@ -19,11 +19,11 @@ use Rattle.mt_program.specs.Answers.{history, Accepts, SameList}
 use Rattle.mt_program.specs.declared.serving.Ending.TheVariants as ending
 use Rattle.mt_program.specs.declared.stops.Stop.{Stop}
 use Rattle.mt_program.specs.declared.stops.Stop.TheVariants as stop
-use Rattle.mt_program.specs.Serving.{Ran, Served, ServedAll, ServedInPart, ServedBy, ending_for}
+use Rattle.mt_program.specs.Serving.{Ran, Served, ServedAll, ServedFront, ServedCut, ServedBy, ending_for}
 use Rattle.mt_program.specs.Store.{Stands}
 use Rattle.mt_program.specs.Streams.{AppendsFront}
 use Rattle.mt_program.proofs.Known.{appends_more, appends_none, sliced}
-use Rattle.mt_program.proofs.Statements.{statements_of_step}
+use Rattle.mt_values.proofs.Bounds.{statements_of_step}
 
 -- what was read at a place of the script
 abbrev pub Found : List ℕ → ℕ → Option (Statement × ℕ) → Type 0
@@ -121,25 +121,25 @@ module _ {F : Type 0} (files_of : F → Option Files) (kept : Told) (script : Li
       }
 
   -- no reply was begun after the last
-  pub served_so_far : ServedInPart kept script told before now
+  pub served_so_far : ServedFront kept script told before now
   served_so_far = record {
     done = s.done;
     rest = statements_of (drop at script);
     replies = s.replies;
     split = s.split;
     ran = s.ran;
-    wrote = (concat s.replies, [], sym (append-nil (concat s.replies)), s.wrote);
+    wrote = s.wrote;
   }
 
   -- the next statement had no reply
-  pub served_unanswered : (after : Option Told) → SameList (Some s.ran.now) after → ServedInPart kept script after before now
+  pub served_unanswered : (after : Option Told) → SameList (Some s.ran.now) after → ServedFront kept script after before now
   served_unanswered after same = record {
     done = s.done;
     rest = statements_of (drop at script);
     replies = s.replies;
     split = s.split;
     ran = ran_still kept s.done s.replies told after s.ran same;
-    wrote = (concat s.replies, [], sym (append-nil (concat s.replies)), s.wrote);
+    wrote = s.wrote;
   }
 
   module _ (used : ℕ) (st : Statement) (left : statements_of (drop at script) ≡ st ∷ statements_of (drop (at + used) script)) (new : Store F) (after : Option Told) (reply : List ℕ) (later : Option (List ℕ))
@@ -161,14 +161,18 @@ module _ {F : Type 0} (files_of : F → Option Files) (kept : Told) (script : Li
     }
 
     -- a front of its reply was written
-    pub served_cut : AppendsFront now later reply → ServedInPart kept script after before later
+    pub served_cut : AppendsFront now later reply → ServedCut kept script after before later
     served_cut w = record {
-      done = s.done ++ st ∷ [];
+      done = s.done;
+      last = st;
       rest = statements_of (drop (at + used) script);
-      replies = s.replies ++ reply ∷ [];
-      split = split_more;
+      replies = s.replies;
+      reply = reply;
+      part = w.0;
+      split = s.split ∙ ap (λ ss. s.done ++ ss) left;
       ran = ran_more files_of kept s.done s.replies st reply new told after s.ran a;
-      wrote = (concat s.replies ++ w.0, w.1, concat_push s.replies reply ∙ (ap (λ zs. concat s.replies ++ zs) w.2 ∙ sym (append_assoc (concat s.replies) w.0 w.1)), appends_more before now later (concat s.replies) w.0 s.wrote w.3);
+      front = (w.1, sym w.2);
+      wrote = appends_more before now later (concat s.replies) w.0 s.wrote w.3;
     }
 
 -- nothing was answered yet
@@ -185,7 +189,7 @@ served_none files_of kept script store told before is stands = record {
 }
 
 -- what is left of a run whose statement had no reply
-pub served_stop : (why : Stop) (kept : Told) (script : List ℕ) (told : Option Told) (before after : Option (List ℕ)) → ServedInPart kept script told before after → ServedBy (ending_for why) kept script told before after
+pub served_stop : (why : Stop) (kept : Told) (script : List ℕ) (told : Option Told) (before after : Option (List ℕ)) → ServedFront kept script told before after → ServedBy (ending_for why) kept script told before after
 served_stop stop.NoMemory kept script told before after s = s
 served_stop stop.Fault kept script told before after s = s
 served_stop stop.Damaged kept script told before after s = s

@@ -1,4 +1,4 @@
--- What the answer to a statement does to what is kept, to the root and to the store.
+-- What the answer to a statement does to what the keeper tells and to the store.
 use Rattle.std.specs.Prelude.{◌≡◌, ◌⊎◌, ℕ, List, ◌++◌, length, map, All, Option, Some, None, Result, MatchResult, Vec}
 use Rattle.std.specs.declared.alloc.Global.{Global}
 use Rattle.mt_values.specs.declared.annals.Noted.{Noted}

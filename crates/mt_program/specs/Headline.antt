@@ -1,5 +1,5 @@
 -- What a run promises (docs/definitions.md, "Runs").
-use Rattle.std.specs.Prelude.{◌≡◌, ◌⊎◌, ℕ, List, [], ◌∷◌, ◌++◌, length, codes, flat_map, Bool, true, false, Option, Some}
+use Rattle.std.specs.Prelude.{◌≡◌, ◌⊎◌, ℕ, List, [], ◌∷◌, ◌++◌, length, take, codes, flat_map, Bool, true, false, Option, Some}
 use Rattle.std.specs.List.{concat, list_any}
 use Rattle.std.specs.Io.KnownBytes.{Appends}
 use Rattle.mt_values.specs.declared.annals.Noted.{Noted}
@@ -8,17 +8,12 @@ use Rattle.mt_values.specs.Annals.{Told}
 use Rattle.mt_values.specs.Printing.{escaped}
 use Rattle.mt_values.specs.Script.{statements_of}
 use Rattle.mt_outside.specs.Causes.{Rose}
+use Rattle.mt_outside.specs.Disk as root
 use Rattle.mt_model.specs.History.{History, IsLegal}
 use Rattle.mt_model.specs.Reply.{is_refusal}
-use Rattle.mt_model.specs.Script.{ScriptRun, ScriptReplies, CutRun, FrontRun}
+use Rattle.mt_model.specs.Script.{ScriptRun, ScriptReplies, CutRun, CutInReply, FrontRun}
 use Rattle.mt_program.specs.Answers.{history}
 use Rattle.mt_program.specs.Streams.{AppendsFront}
-use Rattle.mt_outside.specs.declared.disk.DiskError.{DiskError}
-use Rattle.mt_outside.specs.declared.disk.DiskError.TheVariants as failure
-use Rattle.mt_program.specs.declared.serving.Ending.{Ending}
-use Rattle.mt_program.specs.declared.serving.Ending.TheVariants as ending
-use Rattle.mt_program.specs.declared.streams.ReadStop.{ReadStop}
-use Rattle.mt_program.specs.declared.streams.ReadStop.TheVariants as unread
 use Rattle.mt_program.specs.declared.status.Status.{Status}
 use Rattle.mt_program.specs.declared.status.Status.TheVariants as status
 
@@ -34,32 +29,6 @@ number_of status.NoMemory = 6
 number_of status.Damaged = 7
 number_of status.TooLong = 8
 
--- the status of a call on the disk that failed at opening
-abbrev pub status_of_error : DiskError → Status
-status_of_error failure.Fault = status.DiskFault
-status_of_error failure.NoMemory = status.NoMemory
-
--- the status of a script that was not read
-abbrev pub status_of_stop : ReadStop → Status
-status_of_stop unread.NoMemory = status.NoMemory
-status_of_stop unread.Fault = status.ReadFault
-status_of_stop unread.TooLong = status.TooLong
-
--- the status of a script that was served
-abbrev pub status_for : Ending → Status
-status_for (ending.Done false) = status.Done
-status_for (ending.Done true) = status.Refused
-status_for ending.NoMemory = status.NoMemory
-status_for ending.DiskFault = status.DiskFault
-status_for ending.Damaged = status.Damaged
-status_for ending.WriteFault = status.WriteFault
-
--- where all statements were answered, a count of faults that has risen is shown
-abbrev pub settled : Bool → Status → Status
-settled true status.Done = status.DiskFault
-settled true status.Refused = status.DiskFault
-settled risen ended = ended
-
 -- The statements ran, and all their replies were written. Whether one of them refused its statement.
 pub record WholeRun (refused : Bool) (script : List Statement) (h : History) (base : ℕ) (out : List ℕ) : Type 0 where
   pub replies : List (List ℕ)
@@ -68,20 +37,28 @@ pub record WholeRun (refused : Bool) (script : List Statement) (h : History) (ba
   pub out_is : out ≡ concat replies
   pub refusals : list_any is_refusal replies ≡ refused
 
--- what a run with this status left in the history, and what it wrote
-abbrev pub Ended : Status → List Statement → History → ℕ → List ℕ → Type 0
-Ended status.Done script h base out = WholeRun false script h base out
-Ended status.Refused script h base out = WholeRun true script h base out
-Ended status.NotWords script h base out = FrontRun [] h base out
-Ended status.ReadFault script h base out = FrontRun script h base out
-Ended status.WriteFault script h base out = CutRun script h base out
-Ended status.DiskFault script h base out = CutRun script h base out
-Ended status.NoMemory script h base out = CutRun script h base out
-Ended status.Damaged script h base out = ⊥
-Ended status.TooLong script h base out = FrontRun script h base out
+-- The first statements of a script were wholly read: whatever had followed what was read, they would be the same.
+abbrev pub AreWhollyRead : ℕ → List ℕ → Option (List ℕ) → Type 0
+AreWhollyRead count script left = (read rest more : List ℕ) → left ≡ Some rest → script ≡ read ++ rest → take count (statements_of (read ++ more)) ≡ take count (statements_of script)
 
--- The list that is told at the end begins with the list that was told, and the run that this status names was written behind what was written.
-pub record Leaves (ended : Status) (script : List ℕ) (kept : Told) (before : List ℕ) (told : Option Told) (written : Option (List ℕ)) : Type 0 where
+-- The first statements ran, which were wholly read, and all their replies were written.
+pub record ReadRun (left : Option (List ℕ)) (text : List ℕ) (script : List Statement) (h : History) (base : ℕ) (out : List ℕ) : Type 0 where
+  pub count : ℕ
+  pub run : ScriptRun (take count script) h base out
+  pub wholly : AreWhollyRead count text left
+
+-- The root is empty and the disk tells it, no command was accepted and the keeper tells that, the source tells the script, and the sink what was written.
+pub record Starts (disk : Option root.Told) (annals : Option Told) (source sink : Option (List ℕ)) (kept : Told) (script before : List ℕ) : Type 0 where
+  pub told : root.Told
+  pub disk_is : disk ≡ Some told
+  pub empty : root.names_of told ≡ []
+  pub annals_is : annals ≡ Some kept
+  pub none : kept.list ≡ []
+  pub source_is : source ≡ Some script
+  pub sink_is : sink ≡ Some before
+
+-- The list that is told at the end is legal and begins with the list that was told, and a run over it was written behind what was written.
+pub record Leaves (Run : List Statement → History → ℕ → List ℕ → Type 0) (kept : Told) (script before : List ℕ) (told : Option Told) (written : Option (List ℕ)) : Type 0 where
   pub now : Told
   pub more : List Noted
   pub out : List ℕ
@@ -89,13 +66,23 @@ pub record Leaves (ended : Status) (script : List ℕ) (kept : Told) (before : L
   pub begins : now.list ≡ kept.list ++ more
   pub legal : IsLegal (history now)
   pub written_is : written ≡ Some (before ++ out)
-  pub ran : Ended ended (statements_of script) (history now) (length kept.list) out
+  pub ran : Run (statements_of script) (history now) (length kept.list) out
 
--- what a run over an empty root leaves, by the number with which it ends
-pub record Headline (number : ℕ) (script : List ℕ) (kept : Told) (before : List ℕ) (told : Option Told) (written : Option (List ℕ)) : Type 0 where
-  pub ended : Status
-  pub number_is : number ≡ number_of ended
-  pub leaves : Leaves ended script kept before told written
+-- no statement ran
+abbrev pub NothingRan : List Statement → History → ℕ → List ℕ → Type 0
+NothingRan script = FrontRun []
+
+-- the run of each status
+abbrev pub RunBy : Status → List Statement → History → ℕ → List ℕ → Type 0
+RunBy status.Done = WholeRun false
+RunBy status.Refused = WholeRun true
+RunBy status.NotWords = NothingRan
+RunBy status.ReadFault = NothingRan
+RunBy status.WriteFault = CutInReply
+RunBy status.DiskFault = FrontRun
+RunBy status.NoMemory = CutRun
+RunBy status.Damaged = λ script h base out. ⊥
+RunBy status.TooLong = NothingRan
 
 -- the line that names what keeps a root from being opened
 abbrev pub damaged_line : List ℕ → List ℕ

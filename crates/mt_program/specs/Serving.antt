@@ -1,5 +1,5 @@
 -- What a script that was served leaves.
-use Rattle.std.specs.Prelude.{◌≡◌, ℕ, Bool, List, ◌++◌, length, drop, All, Option, Some}
+use Rattle.std.specs.Prelude.{◌≡◌, ℕ, Bool, List, [], ◌∷◌, ◌++◌, length, drop, All, Option, Some}
 use Rattle.std.specs.List.{concat, list_any}
 use Rattle.std.specs.Io.KnownBytes.{Appends}
 use Rattle.mt_values.specs.declared.annals.Noted.{Noted}
@@ -10,9 +10,9 @@ use Rattle.mt_outside.specs.Files.{Files}
 use Rattle.mt_model.specs.History.{IsLegal}
 use Rattle.mt_model.specs.Reply.{is_refusal}
 use Rattle.mt_model.specs.Session.{SessionReplies}
+use Rattle.mt_model.specs.Script.{IsFront}
 use Rattle.mt_program.specs.Answers.{history}
 use Rattle.mt_program.specs.Store.{Stands}
-use Rattle.mt_program.specs.Streams.{AppendsFront}
 use Rattle.mt_program.specs.declared.store.Store.{Store}
 use Rattle.mt_program.specs.declared.stops.Stop.{Stop}
 use Rattle.mt_program.specs.declared.stops.Stop.TheVariants as stop
@@ -52,18 +52,32 @@ pub record ServedAll (kept : Told) (script : List ℕ) (refused : Bool) (told : 
   pub wrote : Appends before after (concat replies)
   pub refusals : refused ≡ list_any is_refusal replies
 
--- The first statements ran, and a front of their replies was written. A statement that ended the run without a reply added nothing.
-pub record ServedInPart (kept : Told) (script : List ℕ) (told : Option Told) (before after : Option (List ℕ)) : Type 0 where
+-- The first statements ran, and their replies were written. A statement that ended the run without a reply added nothing.
+pub record ServedFront (kept : Told) (script : List ℕ) (told : Option Told) (before after : Option (List ℕ)) : Type 0 where
   pub done : List Statement
   pub rest : List Statement
   pub replies : List (List ℕ)
   pub split : statements_of script ≡ done ++ rest
   pub ran : Ran kept done replies told
-  pub wrote : AppendsFront before after (concat replies)
+  pub wrote : Appends before after (concat replies)
 
+-- The first statements ran and one more. Their replies were written, and a front of its reply.
+pub record ServedCut (kept : Told) (script : List ℕ) (told : Option Told) (before after : Option (List ℕ)) : Type 0 where
+  pub done : List Statement
+  pub last : Statement
+  pub rest : List Statement
+  pub replies : List (List ℕ)
+  pub reply : List ℕ
+  pub part : List ℕ
+  pub split : statements_of script ≡ done ++ last ∷ rest
+  pub ran : Ran kept (done ++ last ∷ []) (replies ++ reply ∷ []) told
+  pub front : IsFront part reply
+  pub wrote : Appends before after (concat replies ++ part)
+
+-- what a script that was served leaves, by how it ended
 abbrev pub ServedBy : Ending → Told → List ℕ → Option Told → Option (List ℕ) → Option (List ℕ) → Type 0
 ServedBy (ending.Done refused) kept script told before after = ServedAll kept script refused told before after
-ServedBy ending.NoMemory kept script told before after = ServedInPart kept script told before after
-ServedBy ending.DiskFault kept script told before after = ServedInPart kept script told before after
-ServedBy ending.Damaged kept script told before after = ServedInPart kept script told before after
-ServedBy ending.WriteFault kept script told before after = ServedInPart kept script told before after
+ServedBy ending.NoMemory kept script told before after = ServedFront kept script told before after
+ServedBy ending.DiskFault kept script told before after = ServedFront kept script told before after
+ServedBy ending.Damaged kept script told before after = ServedFront kept script told before after
+ServedBy ending.WriteFault kept script told before after = ServedCut kept script told before after

@@ -10,7 +10,7 @@ ghost use Rattle.mt_program.specs.Answers.{Answers, OneRose, history};
 
 use crate::commits::{commit, seal_file};
 use crate::names::entry_name;
-use crate::printing::{ok_reply, refused_reply};
+use crate::replies::{ok_reply, refused_reply};
 use crate::stops::Stop;
 use crate::store::{Store, Table};
 use mt_base::Twin;

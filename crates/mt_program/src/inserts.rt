@@ -14,14 +14,14 @@ ghost use Rattle.mt_program.specs.Inserts.{AddsPart, insert_of_block};
 use crate::commits::commit;
 use crate::names::insert_name;
 use crate::parts::write_part;
-use crate::printing::{ok_reply, refused_reply};
-use crate::rows::read_rows;
+use crate::replies::{ok_reply, refused_reply};
 use crate::stops::Stop;
 use crate::store::{Part, Store, Table};
 use mt_base::{NoMemory, Twin};
 use mt_outside::{Arm, Disk};
 use mt_values::{Annals, Block, ColType, Command, Entry, Insert, InsertText, Partition, Schema};
 use std::alloc::Global;
+use tsv_rows::read_rows;
 
 /// A table has no more parts than this, since nothing merges them.
 pub const MOST_PARTS: usize = 3000;

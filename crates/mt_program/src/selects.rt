@@ -9,13 +9,14 @@ ghost use Rattle.mt_program.specs.Answers.{history};
 ghost use Rattle.mt_program.specs.Selects.{Selected};
 
 use crate::parts::read_parts;
-use crate::printing::{print_rows, refused_reply, rows_head};
+use crate::replies::{refused_reply, rows_head};
 use crate::stops::Stop;
 use crate::store::Store;
 use mt_base::NoMemory;
 use mt_outside::{Arm, Gate, Point, Who};
 use mt_values::{SelectText, all_places};
 use std::alloc::Global;
+use tsv_rows::print_rows;
 
 /// The places 0, 1, 2, .. of so many columns.
 ///

@@ -10,14 +10,14 @@ ghost use Rattle.mt_program.specs.Serving.{ServedBy, ending_for};
 
 use crate::creates::create;
 use crate::inserts::insert;
-use crate::printing::{faulty_reply, refused_reply};
-use crate::script::next_statement;
+use crate::replies::{faulty_reply, refused_reply};
 use crate::selects::select;
 use crate::stops::Stop;
 use crate::store::Store;
 use crate::streams::write_all;
 use mt_outside::{Arm, Disk, Gate, Point, Sink, Who};
 use mt_values::{Annals, Statement};
+use sql_read::next_statement;
 use std::alloc::Global;
 
 /// How a script ended.

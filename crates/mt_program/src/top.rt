@@ -1,17 +1,19 @@
 // All that the program does.
-ghost use Rattle.std.specs.Prelude.{◌≡◌, ◌⊎◌, ◌↔◌, ◌≤◌, ◌<◌, ◌^◌, ◌∷◌, List, ℕ, [], Some, Option, true, false, is_some, length};
+ghost use Rattle.std.specs.Prelude.{◌≡◌, ◌⊎◌, ◌↔◌, ◌≤◌, ◌<◌, ◌^◌, ◌-◌, ◌∷◌, List, ℕ, [], Some, Option, true, false, is_some, length};
 ghost use Rattle.std.specs.Option.{ForSome};
 ghost use Rattle.mt_outside.specs.declared.disk.DiskError as failure;
 ghost use Rattle.mt_values.specs.Annals.{Told};
 ghost use Rattle.mt_outside.specs.Causes.{Rose};
 ghost use Rattle.mt_outside.specs.Disk as root;
 ghost use Rattle.mt_outside.specs.Files.{Files};
+ghost use Rattle.mt_model.specs.Script.{FrontRun, CutRun, CutInReply};
 ghost use Rattle.mt_program.specs.Answers.{OneRose};
-ghost use Rattle.mt_program.specs.Headline.{Headline, Leaves, NotOpened, WritesDamage, number_of, status_for, status_of_error, status_of_stop, settled};
+ghost use Rattle.mt_program.specs.Endings.{status_for, status_of_error, status_of_stop, settled};
+ghost use Rattle.mt_program.specs.Headline.{Starts, Leaves, WholeRun, ReadRun, RunBy, NotOpened, WritesDamage};
 ghost use Rattle.mt_program.specs.Streams.{ConsumesMost};
 ghost use Rattle.mt_program.specs.Words.{is_command};
 
-use crate::printing::damaged_reply;
+use crate::replies::damaged_reply;
 use crate::serving::{Ending, serve};
 use crate::status::Status;
 use crate::store::Store;
@@ -88,7 +90,9 @@ fn run_script<D: Disk, A: Annals, S: Source, K: Sink, G: Gate>(
 ) -> Status
     requires { ForSome (D.told disk.old) (λ told. root.names_of told ≡ []) }
     ensures leaves { (kept : Told) (script before : List ℕ) → A.told annals.old ≡ Some kept → kept.list ≡ [] → D.Arm.tells arm.old ≡ true
-        → S.left source.old ≡ Some script → K.written sink.old ≡ Some before → Leaves result script kept before (A.told annals.new) (K.written sink.new) }
+        → S.left source.old ≡ Some script → K.written sink.old ≡ Some before → Leaves (RunBy result) kept script before (A.told annals.new) (K.written sink.new) }
+    ensures sound { (kept : Told) → A.told annals.old ≡ Some kept → kept.list ≡ [] → D.Arm.tells arm.old ≡ true → result ≡ Status.Damaged → ⊥ }
+    ensures whole { (script : List ℕ) → S.left source.old ≡ Some script → (result ≡ Status.Done) ⊎ (result ≡ Status.Refused) → (length script < 2 ^ 40) × (S.left source.new ≡ Some []) }
     ensures words { result ≡ Status.NotWords → ⊥ }
     ensures read { result ≡ Status.ReadFault → Rose (S.failed source.old) (S.failed source.new) }
     ensures write { result ≡ Status.WriteFault → Rose (K.failed sink.old) (K.failed sink.new) }
@@ -131,10 +135,12 @@ fn run_listed<D: Disk, A: Annals, S: Source, K: Sink, G: Gate>(
     gate: &mut G,
 ) -> Status
     ensures leaves { (kept : Told) (told : root.Told) (script before : List ℕ) → A.told annals.old ≡ Some kept → kept.list ≡ [] → D.told disk.old ≡ Some told → root.names_of told ≡ []
-        → D.Arm.tells arm.old ≡ true → S.left source.old ≡ Some script → K.written sink.old ≡ Some before → Leaves result script kept before (A.told annals.new) (K.written sink.new) }
+        → D.Arm.tells arm.old ≡ true → S.left source.old ≡ Some script → K.written sink.old ≡ Some before → Leaves (RunBy result) kept script before (A.told annals.new) (K.written sink.new) }
     ensures opening { (told : root.Told) (first : List ℕ × Files) (others : root.Names) → D.told disk.old ≡ Some told → root.names_of told ≡ first ∷ others
         → WritesDamage result first.0 (K.failed sink.old) (K.failed sink.new) (K.written sink.old) (K.written sink.new)
         × (D.told disk.new ≡ D.told disk.old) × (A.told annals.new ≡ A.told annals.old) }
+    ensures sound { (kept : Told) (told : root.Told) → A.told annals.old ≡ Some kept → kept.list ≡ [] → D.told disk.old ≡ Some told → root.names_of told ≡ [] → D.Arm.tells arm.old ≡ true → result ≡ Status.Damaged → ⊥ }
+    ensures whole { (script : List ℕ) → S.left source.old ≡ Some script → (result ≡ Status.Done) ⊎ (result ≡ Status.Refused) → (length script < 2 ^ 40) × (S.left source.new ≡ Some []) }
     ensures words { result ≡ Status.NotWords → ⊥ }
     ensures read { result ≡ Status.ReadFault → Rose (S.failed source.old) (S.failed source.new) }
     ensures write { result ≡ Status.WriteFault → Rose (K.failed sink.old) (K.failed sink.new) }
@@ -165,10 +171,13 @@ fn run_opened<D: Disk, A: Annals, S: Source, K: Sink, G: Gate>(
     gate: &mut G,
 ) -> Status
     ensures leaves { (kept : Told) (told : root.Told) (script before : List ℕ) → A.told annals.old ≡ Some kept → kept.list ≡ [] → D.told disk.old ≡ Some told → root.names_of told ≡ []
-        → S.left source.old ≡ Some script → K.written sink.old ≡ Some before → Leaves result script kept before (A.told annals.new) (K.written sink.new) }
+        → S.left source.old ≡ Some script → K.written sink.old ≡ Some before → Leaves (RunBy result) kept script before (A.told annals.new) (K.written sink.new) }
     ensures opening { (told : root.Told) (first : List ℕ × Files) (others : root.Names) → D.told disk.old ≡ Some told → root.names_of told ≡ first ∷ others
         → WritesDamage result first.0 (K.failed sink.old) (K.failed sink.new) (K.written sink.old) (K.written sink.new)
         × (D.told disk.new ≡ D.told disk.old) × (A.told annals.new ≡ A.told annals.old) }
+    ensures sound { (kept : Told) (told : root.Told) → A.told annals.old ≡ Some kept → kept.list ≡ [] → D.told disk.old ≡ Some told → root.names_of told ≡ [] → result ≡ Status.Damaged → ⊥ }
+    ensures full { D.failed disk.old ≡ 2 ^ 64 - 1 → result ≡ Status.DiskFault }
+    ensures whole { (script : List ℕ) → S.left source.old ≡ Some script → (result ≡ Status.Done) ⊎ (result ≡ Status.Refused) → (length script < 2 ^ 40) × (S.left source.new ≡ Some []) }
     ensures words { result ≡ Status.NotWords → ⊥ }
     ensures read { result ≡ Status.ReadFault → Rose (S.failed source.old) (S.failed source.new) }
     ensures write { result ≡ Status.WriteFault → Rose (K.failed sink.old) (K.failed sink.new) }
@@ -208,17 +217,33 @@ pub fn run<R: Threads + Wait + Sync, D: Disk, A: Annals, S: Source, K: Sink, G: 
     annals: A,
     gate: &mut G,
 ) -> Done<D, A>
-    ensures headline { (kept : Told) (told : root.Told) (script before : List ℕ) → A.told annals ≡ Some kept → kept.list ≡ [] → D.told disk ≡ Some told → root.names_of told ≡ []
-        → S.left source.old ≡ Some script → K.written sink.old ≡ Some before → Headline result.status script kept before (A.told result.annals) (K.written sink.new) }
+    ensures all_answered { (kept : Told) (script before : List ℕ) → Starts (D.told disk) (A.told annals) (S.left source.old) (K.written sink.old) kept script before
+        → result.status ≡ 0 → Leaves (WholeRun false) kept script before (A.told result.annals) (K.written sink.new) }
+    ensures some_refused { (kept : Told) (script before : List ℕ) → Starts (D.told disk) (A.told annals) (S.left source.old) (K.written sink.old) kept script before
+        → result.status ≡ 1 → Leaves (WholeRun true) kept script before (A.told result.annals) (K.written sink.new) }
+    ensures source_failed { (kept : Told) (script before : List ℕ) → Starts (D.told disk) (A.told annals) (S.left source.old) (K.written sink.old) kept script before
+        → result.status ≡ 3 → Leaves (ReadRun (S.left source.new) script) kept script before (A.told result.annals) (K.written sink.new) }
+    ensures sink_failed { (kept : Told) (script before : List ℕ) → Starts (D.told disk) (A.told annals) (S.left source.old) (K.written sink.old) kept script before
+        → result.status ≡ 4 → Leaves CutInReply kept script before (A.told result.annals) (K.written sink.new) }
+    ensures disk_failed { (kept : Told) (script before : List ℕ) → Starts (D.told disk) (A.told annals) (S.left source.old) (K.written sink.old) kept script before
+        → result.status ≡ 5 → Leaves FrontRun kept script before (A.told result.annals) (K.written sink.new) }
+    ensures out_of_memory { (kept : Told) (script before : List ℕ) → Starts (D.told disk) (A.told annals) (S.left source.old) (K.written sink.old) kept script before
+        → result.status ≡ 6 → Leaves CutRun kept script before (A.told result.annals) (K.written sink.new) }
+    ensures too_long { (kept : Told) (script before : List ℕ) → Starts (D.told disk) (A.told annals) (S.left source.old) (K.written sink.old) kept script before
+        → result.status ≡ 8 → Leaves (ReadRun (S.left source.new) script) kept script before (A.told result.annals) (K.written sink.new) }
     ensures opening { (told : root.Told) (first : List ℕ × Files) (others : root.Names) → D.told disk ≡ Some told → root.names_of told ≡ first ∷ others
         → NotOpened result.status first.0 (K.failed sink.old) (K.failed sink.new) (K.written sink.old) (K.written sink.new)
         × (D.told result.disk ≡ D.told disk) × (A.told result.annals ≡ A.told annals) }
+    ensures sound { (kept : Told) (told : root.Told) → A.told annals ≡ Some kept → kept.list ≡ [] → D.told disk ≡ Some told → root.names_of told ≡ [] → result.status ≡ 7 → ⊥ }
+    ensures number { result.status ≤ 8 }
+    ensures full { D.failed disk ≡ 2 ^ 64 - 1 → (result.status ≡ 2) ⊎ (result.status ≡ 5) }
     ensures words { (result.status ≡ 2) ↔ (is_command words.now ≡ false) }
     ensures untouched { result.status ≡ 2 → (source.new ≡ source.old) × (sink.new ≡ sink.old) × (result.disk ≡ disk) × (result.annals ≡ annals) }
     ensures read { result.status ≡ 3 → Rose (S.failed source.old) (S.failed source.new) }
     ensures write { result.status ≡ 4 → Rose (K.failed sink.old) (K.failed sink.new) }
     ensures disk { result.status ≡ 5 → Rose (D.failed disk) (D.failed result.disk) }
     ensures long { result.status ≡ 8 → ConsumesMost (S.left source.old) (S.left source.new) }
+    ensures whole { (script : List ℕ) → S.left source.old ≡ Some script → result.status ≤ 1 → (length script < 2 ^ 40) × (S.left source.new ≡ Some []) }
     ensures calm { result.status ≤ 1 → D.failed result.disk ≡ D.failed disk }
 {
     if !is_command_line(words) {

@@ -1,3 +1,4 @@
+pub mod Bounds
 pub mod Columns
 pub mod Grids
 pub mod Leads

@@ -35,10 +35,11 @@ column_of_words name word =
     if is_reserved name then None
     else option_map (λ t. record { name = name; col_type = t }) (type_named word)
 
--- a column in front of a list of columns and what follows it
+-- a list of one column, and what follows it
 abbrev pub with_column : List Token → Column → Option (List Column × List Token)
 with_column rest c = Some (c ∷ [], rest)
 
+-- a column in front of a list of columns and what follows it
 abbrev pub put_column : Option (List Column × List Token) → Column → Option (List Column × List Token)
 put_column None c = None
 put_column (Some found) c = Some (c ∷ found.0, found.1)
@@ -56,13 +57,15 @@ key_of_clauses (Word e ∷ Equal ∷ Word m ∷ Word o ∷ Word b ∷ Word name 
     then Some name else None
 key_of_clauses ts = None
 
--- a statement whose names and length are within their bounds: 64 bytes a name, 1 MiB from the first token up to the semicolon
+-- a name has at most 64 bytes
 abbrev pub fits_name : List ℕ → Bool
 fits_name name = nat_le (length name) 64
 
+-- a statement has at most 1 MiB from its first token up to the semicolon
 abbrev pub fits_statement : List ℕ → Bool
 fits_statement text = nat_le (length text) 1048576
 
+-- a statement whose names and length are within their bounds, or one that is past them
 abbrev pub within : Bool → Statement → Statement
 within true s = s
 within false s = statement.Oversized

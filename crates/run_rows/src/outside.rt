@@ -9,7 +9,7 @@ use std::thread::Threads;
 
 /// How a run is given its script, and how its replies are taken.
 #[derive(Clone, Copy)]
-pub struct Streams<'a> {
+pub(crate) struct Streams<'a> {
     pub script: &'a [u8],
     /// Whether each read gives one byte, and each write takes one.
     pub by_bytes: bool,
@@ -19,7 +19,7 @@ pub struct Streams<'a> {
 }
 
 /// Streams that read and write whole pieces and do not fail.
-pub fn calm(script: &[u8]) -> Streams<'_> {
+pub(crate) fn calm(script: &[u8]) -> Streams<'_> {
     Streams {
         script,
         by_bytes: false,
@@ -30,7 +30,7 @@ pub fn calm(script: &[u8]) -> Streams<'_> {
 
 /// What a run leaves.
 #[derive(Drop)]
-pub struct Ended {
+pub(crate) struct Ended {
     pub status: u8,
     pub written: Vec<u8>,
     /// The accepted commands, each as it is shown for debugging.
@@ -40,21 +40,21 @@ pub struct Ended {
 
 impl Ended {
     /// Whether it wrote and accepted the same.
-    pub fn is_like(&self, other: &Ended) -> bool {
+    pub(crate) fn is_like(&self, other: &Ended) -> bool {
         self.status == other.status
             && self.written == other.written
             && self.history == other.history
     }
 
     /// Whether what it wrote and what it accepted are fronts of what another run did.
-    pub fn is_front_of(&self, other: &Ended) -> bool {
+    pub(crate) fn is_front_of(&self, other: &Ended) -> bool {
         other.written.as_slice().starts_with(&self.written)
             && other.history.as_slice().starts_with(&self.history)
     }
 }
 
 /// The words, as the command line has them.
-pub fn words(alloc: Global, texts: &[&str]) -> Result<Vec<String>, AllocError> {
+pub(crate) fn words(alloc: Global, texts: &[&str]) -> Result<Vec<String>, AllocError> {
     let mut words = Vec::new(alloc);
     for text in texts {
         words.push(format!(in alloc; "{text}")?)?;
@@ -63,7 +63,7 @@ pub fn words(alloc: Global, texts: &[&str]) -> Result<Vec<String>, AllocError> {
 }
 
 /// The commands, each as it is shown for debugging.
-pub fn shown(alloc: Global, entries: &[Entry]) -> Result<Vec<String>, AllocError> {
+pub(crate) fn shown(alloc: Global, entries: &[Entry]) -> Result<Vec<String>, AllocError> {
     let mut texts = Vec::new(alloc);
     for entry in entries {
         texts.push(format!(in alloc; "{entry:?}")?)?;
@@ -85,7 +85,7 @@ fn pieces(alloc: Global, streams: Streams<'_>) -> Result<Vec<Vec<u8>>, AllocErro
 }
 
 /// Runs these words.
-pub fn run_words<R: Threads + Wait + Sync>(
+pub(crate) fn run_words<R: Threads + Wait + Sync>(
     rt: &R,
     alloc: Global,
     words: &[String],
@@ -121,7 +121,7 @@ pub fn run_words<R: Threads + Wait + Sync>(
 }
 
 /// Runs over a disk.
-pub fn run_over<R: Threads + Wait + Sync>(
+pub(crate) fn run_over<R: Threads + Wait + Sync>(
     rt: &R,
     alloc: Global,
     streams: Streams<'_>,
@@ -132,7 +132,7 @@ pub fn run_over<R: Threads + Wait + Sync>(
 }
 
 /// Runs over an empty disk of which no call fails.
-pub fn run_streams<R: Threads + Wait + Sync>(
+pub(crate) fn run_streams<R: Threads + Wait + Sync>(
     rt: &R,
     alloc: Global,
     streams: Streams<'_>,

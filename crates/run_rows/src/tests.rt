@@ -1,3 +1,4 @@
 // Whole runs: their replies, their status, and what they leave where the outside fails.
+mod bounds;
 mod faults;
 mod replies;

@@ -45,7 +45,7 @@ fn add_rows(
 
 /// The rows of a block, in its order.
 #[tactic(auto, using(crate::proofs::Lists::take_got))]
-fn rows_of(alloc: Global, block: &Block) -> Result<Vec<Row>, NoMemory>
+pub fn rows_of(alloc: Global, block: &Block) -> Result<Vec<Row>, NoMemory>
     ensures { IfOk result (λ rows. rows.items ≡ block.now.rows) }
 {
     let mut rows = Vec::new(alloc);

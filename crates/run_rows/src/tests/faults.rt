@@ -83,16 +83,59 @@ fn each_fault_of_the_disk_ends_the_run(rt: HostRuntime) -> Result<(), Fail> {
     Ok(())
 }
 
+// The replies before the second command of `LONGER`, and before its third. None stand before its first.
+const BEFORE_SECOND: &[u8] = b"OK 1\n";
+
+const BEFORE_THIRD: &[u8] = b"OK 1\nOK 2\nROWS 1 PREFIX 2\n2\tb\nE00\n";
+
+// A command at which the run ends has no reply and is not accepted. All replies before it are written.
+#[test]
+fn a_command_that_fails_is_the_last(rt: HostRuntime) -> Result<(), Fail> {
+    let alloc = rt.alloc();
+    for (arm, stage, kind, made_in_each) in [
+        (None, None, CallKind::Publish, true),
+        (None, None, CallKind::SyncNames, true),
+        (Some(0), None, CallKind::Stage, true),
+        (Some(0), Some(0), CallKind::Append, false),
+        (Some(0), Some(0), CallKind::Sync, false),
+    ] {
+        for (place, written) in (0..3).zip([b"".as_slice(), BEFORE_SECOND, BEFORE_THIRD]) {
+            let place: u32 = place;
+            let mut disk = MemDisk::new(alloc)?;
+            disk.fail(&[Listed {
+                arm,
+                stage: stage.map(|_: u32| place),
+                kind,
+                number: if made_in_each { place } else { 0 },
+            }])?;
+            let ended = run_over(&rt, alloc, calm(LONGER.script), disk)?;
+            assert_eq!(rt; ended.status, DISK_FAULT);
+            assert_eq!(rt; ended.written.as_slice(), written);
+            assert_eq!(rt; ended.history.len(), place as usize);
+        }
+    }
+    Ok(())
+}
+
 // The disk starts, makes an arm and lists; each of the three commands is published and settled.
 #[test]
 fn a_disk_that_stops_ends_the_run(rt: HostRuntime) -> Result<(), Fail> {
     let alloc = rt.alloc();
     let full = run_streams(&rt, alloc, calm(LONGER.script))?;
-    for (calls, cut_off) in (0..10).map(|calls: u64| (calls, calls < 9)) {
-        let mut disk = MemDisk::new(alloc)?;
-        disk.stop_after(calls);
-        let ended = run_over(&rt, alloc, calm(LONGER.script), disk)?;
-        assert_eq!(rt; is_cut_off(&rt, &ended, &full), cut_off);
+    for (first, end, written, commands) in [
+        (0, 5, b"".as_slice(), 0),
+        (5, 7, BEFORE_SECOND, 1),
+        (7, 9, BEFORE_THIRD, 2),
+        (9, 10, LONGER.replies, 3),
+    ] {
+        for calls in first..end {
+            let mut disk = MemDisk::new(alloc)?;
+            disk.stop_after(calls);
+            let ended = run_over(&rt, alloc, calm(LONGER.script), disk)?;
+            assert_eq!(rt; is_cut_off(&rt, &ended, &full), calls < 9);
+            assert_eq!(rt; ended.written.as_slice(), written);
+            assert_eq!(rt; ended.history.len(), commands);
+        }
     }
     Ok(())
 }
@@ -166,6 +209,47 @@ fn a_fault_of_a_stream_ends_the_run(rt: HostRuntime) -> Result<(), Fail> {
     Ok(())
 }
 
+// A script of n bytes is read by n reads and by one more, which meets the end. A run whose source fails answers nothing.
+#[test]
+fn each_read_that_fails_ends_the_run(rt: HostRuntime) -> Result<(), Fail> {
+    let alloc = rt.alloc();
+    let reads = PLAIN.script.len() as u64 + 1;
+    for number in 0..reads {
+        let streams = Streams {
+            by_bytes: true,
+            failing_reads: &[number],
+            ..calm(PLAIN.script)
+        };
+        let ended = run_streams(&rt, alloc, streams)?;
+        assert_eq!(rt; ended.status, 3, "at {}", number);
+        assert!(rt; ended.written.is_empty());
+        assert!(rt; ended.history.is_empty());
+    }
+    Ok(())
+}
+
+// The bytes before the write that fails are written. The statement whose reply it is was the last that ran.
+#[test]
+fn each_write_that_fails_ends_the_run(rt: HostRuntime) -> Result<(), Fail> {
+    let alloc = rt.alloc();
+    let first_reply = b"OK 1\n".len();
+    for number in 0..PLAIN.replies.len() {
+        let streams = Streams {
+            by_bytes: true,
+            failing_writes: &[number as u64],
+            ..calm(PLAIN.script)
+        };
+        let ended = run_streams(&rt, alloc, streams)?;
+        assert_eq!(rt; ended.status, 4, "at {}", number);
+        assert_eq!(rt; ended.written.as_slice(), &PLAIN.replies[..number]);
+        assert_eq!(rt;
+            ended.history.len(),
+            if number < first_reply { 1 } else { 2 }
+        );
+    }
+    Ok(())
+}
+
 #[test]
 fn other_words_write_nothing(rt: HostRuntime) -> Result<(), Fail> {
     let alloc = rt.alloc();
@@ -177,6 +261,14 @@ fn other_words_write_nothing(rt: HostRuntime) -> Result<(), Fail> {
         &["mergetree", "-path", "d"],
         &["mergetree", "d", "--path"],
         &["mergetree", "--path=d"],
+        &["mergetree", "--Path", "d"],
+        &["mergetree", "--path", "d", "d"],
+        &["mergetree", "--path", "--path"],
+        &["mergetree", "--path", "d", "--path", "d"],
+        &["mergetree", "--path", "d", "--policy", "head"],
+        &["--path", "d"],
+        &["mergetree", "--help"],
+        &["mergetree", "--version"],
         &["mergetree", "--path", "d", "--mergers", "9"],
     ] {
         let words = words(alloc, texts)?;
@@ -185,6 +277,24 @@ fn other_words_write_nothing(rt: HostRuntime) -> Result<(), Fail> {
         assert_eq!(rt; ended.status, 2);
         assert!(rt; ended.written.is_empty());
         assert!(rt; ended.history.is_empty());
+    }
+    Ok(())
+}
+
+// The first word is the program's name, whatever it is, and the folder's name need not be a sensible one.
+#[test]
+fn words_that_are_a_command_line(rt: HostRuntime) -> Result<(), Fail> {
+    let alloc = rt.alloc();
+    for texts in [
+        ["x", "--path", "d"],
+        ["--path", "--path", "d-"],
+        ["", "--path", ""],
+    ] {
+        let words = words(alloc, &texts)?;
+        let disk = MemDisk::new(alloc)?;
+        let ended = run_words(&rt, alloc, &words, calm(PLAIN.script), disk)?;
+        assert_eq!(rt; ended.status, PLAIN.status);
+        assert_eq!(rt; ended.written.as_slice(), PLAIN.replies);
     }
     Ok(())
 }

@@ -1,9 +1,12 @@
 // What scripts print, however they are read and written, and that the plain program prints the same.
 use crate::outside::{Ended, Streams, calm, run_streams, shown};
-use crate::scripts::{FAULTY, KNOWN, PLAIN, REFUSED, REFUSED_BEHIND, SILENT, TABLE};
+use crate::scripts::{
+    CUT_OFF, CUT_OFF_BEHIND, FAULTY, KNOWN, LONG_NAME, LONGEST_NAME, PLAIN, REFUSED,
+    REFUSED_BEHIND, RESERVED, ROWS, SILENT, TABLE,
+};
 use mt_outside::Disk;
-use mt_program::next_statement;
 use mt_values::Statement;
+use sql_read::next_statement;
 use std::alloc::Global;
 use std::process::Abort;
 use std::sync::Wait;
@@ -71,6 +74,8 @@ fn texts_are_refused_or_faulty(rt: HostRuntime) -> Result<(), Fail> {
     for (scripts, replies, status) in [
         (REFUSED.as_slice(), b"E00\n".as_slice(), 1),
         (&FAULTY, b"E01 0\n", 1),
+        (&RESERVED, b"E01 0\n", 1),
+        (&CUT_OFF, b"E01 0\n", 1),
         (&SILENT, b"", 0),
     ] {
         for script in scripts {
@@ -81,13 +86,81 @@ fn texts_are_refused_or_faulty(rt: HostRuntime) -> Result<(), Fail> {
     Ok(())
 }
 
+// A SELECT behind what is refused shows that the script goes on there, and that no row was added.
 #[test]
 fn what_is_refused_adds_nothing(rt: HostRuntime) -> Result<(), Fail> {
     let alloc = rt.alloc();
-    for text in REFUSED_BEHIND {
-        let script = [TABLE, text].concat(alloc)?;
-        let ended = prints(&rt, alloc, &script, b"OK 1\nE00\n", 1)?;
-        assert_eq!(rt; ended.history.len(), 1);
+    for (texts, behind, replies) in [
+        (
+            REFUSED_BEHIND.as_slice(),
+            b"SELECT * FROM t;".as_slice(),
+            b"OK 1\nE00\nROWS 0 PREFIX 1\n".as_slice(),
+        ),
+        (
+            &FAULTY,
+            b"SELECT * FROM t;",
+            b"OK 1\nE01 0\nROWS 0 PREFIX 1\n",
+        ),
+        (
+            &RESERVED,
+            b"SELECT * FROM t;",
+            b"OK 1\nE01 0\nROWS 0 PREFIX 1\n",
+        ),
+        (&CUT_OFF_BEHIND, b"", b"OK 1\nE00\n"),
+        (&CUT_OFF, b"", b"OK 1\nE01 0\n"),
+    ] {
+        for text in texts {
+            let script = [TABLE, text, behind].concat(alloc)?;
+            let ended = prints(&rt, alloc, &script, replies, 1)?;
+            assert_eq!(rt; ended.history.len(), 1);
+        }
+    }
+    Ok(())
+}
+
+#[test]
+fn rows_are_printed_as_values(rt: HostRuntime) -> Result<(), Fail> {
+    let alloc = rt.alloc();
+    for (line, printed) in ROWS {
+        let script = [TABLE, b"INSERT INTO t;\n", line, b"\n\\.\nSELECT * FROM t;"].concat(alloc)?;
+        let replies = [b"OK 1\nOK 2\nROWS 1 PREFIX 2\n".as_slice(), printed, b"\n"].concat(alloc)?;
+        prints(&rt, alloc, &script, &replies, 0)?;
+    }
+    Ok(())
+}
+
+// A name that is too long is refused in a CREATE, an INSERT and a SELECT. A text that is no statement is so before.
+#[test]
+fn long_names_are_refused(rt: HostRuntime) -> Result<(), Fail> {
+    let alloc = rt.alloc();
+    let done = b"OK 1\nOK 2\nROWS 1 PREFIX 2\n1\ta\nE01 0\n".as_slice();
+    let refused = b"E00\nE00\nE00\nE01 0\n".as_slice();
+    for (table, column, key, replies) in [
+        (LONGEST_NAME, LONGEST_NAME, LONGEST_NAME, done),
+        (LONGEST_NAME, LONGEST_NAME, b"s", done),
+        (LONG_NAME, b"a", b"a", refused),
+        (b"t", LONG_NAME, b"s", refused),
+        (b"t", LONG_NAME, LONG_NAME, refused),
+        (b"t", LONGEST_NAME, LONG_NAME, refused),
+        (b"t", b"a", LONGEST_NAME, refused),
+    ] {
+        let script = [
+            b"CREATE TABLE ".as_slice(),
+            table,
+            b" (",
+            column,
+            b" UInt8, s String) ENGINE = MergeTree ORDER BY ",
+            key,
+            b";INSERT INTO ",
+            table,
+            b";\n1\ta\n\\.\nSELECT * FROM ",
+            table,
+            b";SELECT a FROM ",
+            table,
+            b";",
+        ]
+        .concat(alloc)?;
+        prints(&rt, alloc, &script, replies, 1)?;
     }
     Ok(())
 }

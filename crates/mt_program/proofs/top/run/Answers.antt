@@ -1,17 +1,60 @@
+use Rattle.std.proofs.Common.{◌∙◌, ◌≤◌, sym, subst}
+use Rattle.mt_program.specs.Headline.{NothingRan, ReadRun}
 use Rattle.mt_program.specs.declared.status.Status.TheVariants as status
-use Rattle.mt_program.proofs.Heading.{early_words}
+use Rattle.mt_program.proofs.Heading.{left_by, leaves_as, nothing_read, same_number, at_most_one_is}
 use Rattle.mt_program.proofs.top.run.Goals as goal
 
--- the words are no command line
-pub returns-then-not-is_command_line-clause-headline : goal.returns-then-not-is_command_line-clause-headline
-returns-then-not-is_command_line-clause-headline g c = λ kept root script before told none is empty left written. record {
-  ended = status.NotWords;
-  number_is = c.number-status.ensures;
-  leaves = early_words kept script before (g.A.Annals.told c.args.annals) (g.K.Sink.written c.args.sink.now) none told written;
-}
+pub returns-clause-all_answered : goal.returns-clause-all_answered
+returns-clause-all_answered g c = λ kept script before starts is.
+    left_by c.run_opened-ended.result status.Done kept script before (g.A.Annals.told c.run_opened-ended.new.annals) (g.K.Sink.written c.run_opened-ended.new.sink) (sym c.number-status-2.ensures ∙ is)
+    (c.run_opened-ended.ensures.leaves kept starts.told script before starts.annals_is starts.none starts.disk_is starts.empty starts.source_is starts.sink_is)
+
+pub returns-clause-some_refused : goal.returns-clause-some_refused
+returns-clause-some_refused g c = λ kept script before starts is.
+    left_by c.run_opened-ended.result status.Refused kept script before (g.A.Annals.told c.run_opened-ended.new.annals) (g.K.Sink.written c.run_opened-ended.new.sink) (sym c.number-status-2.ensures ∙ is)
+    (c.run_opened-ended.ensures.leaves kept starts.told script before starts.annals_is starts.none starts.disk_is starts.empty starts.source_is starts.sink_is)
+
+pub returns-clause-sink_failed : goal.returns-clause-sink_failed
+returns-clause-sink_failed g c = λ kept script before starts is.
+    left_by c.run_opened-ended.result status.WriteFault kept script before (g.A.Annals.told c.run_opened-ended.new.annals) (g.K.Sink.written c.run_opened-ended.new.sink) (sym c.number-status-2.ensures ∙ is)
+    (c.run_opened-ended.ensures.leaves kept starts.told script before starts.annals_is starts.none starts.disk_is starts.empty starts.source_is starts.sink_is)
+
+pub returns-clause-disk_failed : goal.returns-clause-disk_failed
+returns-clause-disk_failed g c = λ kept script before starts is.
+    left_by c.run_opened-ended.result status.DiskFault kept script before (g.A.Annals.told c.run_opened-ended.new.annals) (g.K.Sink.written c.run_opened-ended.new.sink) (sym c.number-status-2.ensures ∙ is)
+    (c.run_opened-ended.ensures.leaves kept starts.told script before starts.annals_is starts.none starts.disk_is starts.empty starts.source_is starts.sink_is)
+
+pub returns-clause-out_of_memory : goal.returns-clause-out_of_memory
+returns-clause-out_of_memory g c = λ kept script before starts is.
+    left_by c.run_opened-ended.result status.NoMemory kept script before (g.A.Annals.told c.run_opened-ended.new.annals) (g.K.Sink.written c.run_opened-ended.new.sink) (sym c.number-status-2.ensures ∙ is)
+    (c.run_opened-ended.ensures.leaves kept starts.told script before starts.annals_is starts.none starts.disk_is starts.empty starts.source_is starts.sink_is)
+
+pub returns-clause-source_failed : goal.returns-clause-source_failed
+returns-clause-source_failed g c = λ kept script before starts is.
+    let left = g.S.Source.left c.run_opened-ended.new.source in
+    leaves_as NothingRan (ReadRun left script) kept script before (g.A.Annals.told c.run_opened-ended.new.annals) (g.K.Sink.written c.run_opened-ended.new.sink)
+    (λ h out ran. nothing_read left script _ h _ out ran)
+    (left_by c.run_opened-ended.result status.ReadFault kept script before (g.A.Annals.told c.run_opened-ended.new.annals) (g.K.Sink.written c.run_opened-ended.new.sink) (sym c.number-status-2.ensures ∙ is)
+    (c.run_opened-ended.ensures.leaves kept starts.told script before starts.annals_is starts.none starts.disk_is starts.empty starts.source_is starts.sink_is))
+
+pub returns-clause-too_long : goal.returns-clause-too_long
+returns-clause-too_long g c = λ kept script before starts is.
+    let left = g.S.Source.left c.run_opened-ended.new.source in
+    leaves_as NothingRan (ReadRun left script) kept script before (g.A.Annals.told c.run_opened-ended.new.annals) (g.K.Sink.written c.run_opened-ended.new.sink)
+    (λ h out ran. nothing_read left script _ h _ out ran)
+    (left_by c.run_opened-ended.result status.TooLong kept script before (g.A.Annals.told c.run_opened-ended.new.annals) (g.K.Sink.written c.run_opened-ended.new.sink) (sym c.number-status-2.ensures ∙ is)
+    (c.run_opened-ended.ensures.leaves kept starts.told script before starts.annals_is starts.none starts.disk_is starts.empty starts.source_is starts.sink_is))
 
 -- the root has a name
 pub returns-clause-opening : goal.returns-clause-opening
 returns-clause-opening g c = λ root first others is names.
     let opened = c.run_opened-ended.ensures.opening root first others is names in
     (record { ended = c.run_opened-ended.result; number_is = c.number-status-2.ensures; writes = opened.0 }, opened.1, opened.2)
+
+pub returns-clause-sound : goal.returns-clause-sound
+returns-clause-sound g c = λ kept root told none is empty bad.
+    c.run_opened-ended.ensures.sound kept root told none is empty (same_number c.run_opened-ended.result status.Damaged (sym c.number-status-2.ensures ∙ bad))
+
+pub returns-clause-whole : goal.returns-clause-whole
+returns-clause-whole g c = λ script left low.
+    c.run_opened-ended.ensures.whole script left (at_most_one_is c.run_opened-ended.result (subst (λ n. n ≤ 1) c.number-status-2.ensures low))

@@ -1,7 +1,7 @@
 use Rattle.std.proofs.Common.{◌∙◌, sym, ap, subst, nat_lt}
 use Rattle.std.specs.Prelude.{is_some}
-use Rattle.mt_program.specs.Headline.{Leaves, WritesDamage}
-use Rattle.mt_program.proofs.Heading.{early_error, early_fault, leaves_settled, writes_settled}
+use Rattle.mt_program.specs.Headline.{Leaves, RunBy, WritesDamage}
+use Rattle.mt_program.proofs.Heading.{early_error, early_fault, leaves_settled, writes_settled, IsAnswered, answered_settled}
 use Rattle.mt_program.proofs.top.run_opened.Goals as goal
 
 -- the count of faults can't rise
@@ -12,20 +12,20 @@ returns-then-failed-clause-leaves g c = λ kept root script before told none is 
 -- the root was not started
 pub returns-in-Err-clause-leaves : goal.returns-in-Err-clause-leaves
 returns-in-Err-clause-leaves g c = λ kept root script before told none is empty left written.
-    subst (λ s. Leaves s script kept before (g.A.Annals.told c.args.annals.now) (g.K.Sink.written c.args.sink.now)) (sym c.failed_opening.ensures)
+    subst (λ s. Leaves (RunBy s) kept script before (g.A.Annals.told c.args.annals.now) (g.K.Sink.written c.args.sink.now)) (sym c.failed_opening.ensures)
     (early_error kept script before (g.A.Annals.told c.args.annals.now) (g.K.Sink.written c.args.sink.now) none told written c.in-Err.error)
 
 -- no arm was made
 pub returns-in-Err-arm-clause-leaves : goal.returns-in-Err-arm-clause-leaves
 returns-in-Err-arm-clause-leaves g c = λ kept root script before told none is empty left written.
-    subst (λ s. Leaves s script kept before (g.A.Annals.told c.args.annals.now) (g.K.Sink.written c.args.sink.now)) (sym c.failed_opening-in-Err-arm.ensures)
+    subst (λ s. Leaves (RunBy s) kept script before (g.A.Annals.told c.args.annals.now) (g.K.Sink.written c.args.sink.now)) (sym c.failed_opening-in-Err-arm.ensures)
     (early_error kept script before (g.A.Annals.told c.args.annals.now) (g.K.Sink.written c.args.sink.now) none told written c.in-Err-arm.error)
 
 pub returns-clause-leaves : goal.returns-clause-leaves
 returns-clause-leaves g c = λ kept root script before told none is empty left written.
     let here = c.in-Ok.ensures.told ∙ (c.start.ensures.told ∙ is) in
     let tells = c.in-Ok.ensures.tells ∙ ap is_some (c.start.ensures.told ∙ is) in
-    subst (λ s. Leaves s script kept before (g.A.Annals.told c.run_listed-ended.new.annals) (g.K.Sink.written c.run_listed-ended.new.sink)) (sym c.last_status.ensures)
+    subst (λ s. Leaves (RunBy s) kept script before (g.A.Annals.told c.run_listed-ended.new.annals) (g.K.Sink.written c.run_listed-ended.new.sink)) (sym c.last_status.ensures)
     (leaves_settled (nat_lt c.faults-failed.result c.faults.result) c.run_listed-ended.result script kept before (g.A.Annals.told c.run_listed-ended.new.annals) (g.K.Sink.written c.run_listed-ended.new.sink)
     (c.run_listed-ended.ensures.leaves kept root script before told none here empty tells left written))
 
@@ -38,3 +38,8 @@ returns-clause-opening g c = λ root first others is names.
       c.take_back.ensures.told ∙ (opened.1 ∙ (c.in-Ok.ensures.told ∙ c.start.ensures.told)),
       opened.2,
     )
+
+pub returns-clause-whole : goal.returns-clause-whole
+returns-clause-whole g c = λ script left done.
+    c.run_listed-ended.ensures.whole script left
+    (answered_settled (nat_lt c.faults-failed.result c.faults.result) c.run_listed-ended.result (subst IsAnswered c.last_status.ensures done))

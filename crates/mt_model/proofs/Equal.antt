@@ -1,0 +1,69 @@
+-- What `==` of values, rows and schemas says.
+use Rattle.std.proofs.Common.{◌≡◌, ℕ, Bool, true, false, Decides, List, ap, ap₂, nat_eq, refl, ◌&&◌, ◌∙◌}
+use Rattle.std.specs.Cmp.Lexicographic.{pointwise, pointwise_decides}
+use Rattle.std.proofs.lemmas.Bool.Decides.{Decides-eqb, Decides-int_eq, Decides-like, Decides-and, Decides-at}
+use Rattle.mt_values.specs.declared.value.ColType.{ColType}
+use Rattle.mt_values.specs.declared.value.ColType.TheVariants as type
+use Rattle.mt_values.specs.declared.command.Create.{Create}
+use Rattle.mt_values.specs.declared.schema.Column.{Column}
+use Rattle.mt_values.specs.declared.schema.Schema.{Schema}
+use Rattle.mt_values.specs.declared.value.Value.{Value}
+use Rattle.mt_values.specs.declared.value.Value.TheVariants.{UInt8, UInt16, UInt32, UInt64, Int8, Int16, Int32, Int64, Text}
+use Rattle.mt_values.specs.Values.{Row}
+use Rattle.mt_values.specs.contracts.value.ValuePartialEq.TheImpl as values
+use Rattle.mt_values.specs.contracts.value.ColTypePartialEq.TheImpl as types
+use Rattle.mt_values.specs.contracts.schema.ColumnPartialEq.TheImpl as columns
+use Rattle.mt_values.specs.contracts.schema.SchemaPartialEq.TheImpl as schemas
+
+-- two names
+pub texts_same : (a b : List ℕ) → Decides (pointwise nat_eq a b) (a ≡ b)
+texts_same a b = pointwise_decides Decides-eqb a b
+
+value_same : (x y : Value) → Decides (values.eq-value.it x y) (x ≡ y)
+value_same (UInt8 m) (UInt8 n) = Decides-like (nat_eq m n) (ap UInt8) (λ e. cc) (Decides-eqb m n)
+value_same (UInt16 m) (UInt16 n) = Decides-like (nat_eq m n) (ap UInt16) (λ e. cc) (Decides-eqb m n)
+value_same (UInt32 m) (UInt32 n) = Decides-like (nat_eq m n) (ap UInt32) (λ e. cc) (Decides-eqb m n)
+value_same (UInt64 m) (UInt64 n) = Decides-like (nat_eq m n) (ap UInt64) (λ e. cc) (Decides-eqb m n)
+value_same (Int8 m) (Int8 n) = Decides-like _ (ap Int8) (λ e. cc) (Decides-int_eq m n)
+value_same (Int16 m) (Int16 n) = Decides-like _ (ap Int16) (λ e. cc) (Decides-int_eq m n)
+value_same (Int32 m) (Int32 n) = Decides-like _ (ap Int32) (λ e. cc) (Decides-int_eq m n)
+value_same (Int64 m) (Int64 n) = Decides-like _ (ap Int64) (λ e. cc) (Decides-int_eq m n)
+value_same (Text m) (Text n) = Decides-like _ (ap Text) (λ e. cc) (texts_same m n)
+value_same x y = (λ e. cc, λ e. cc)
+
+row_same : (a b : Row) → Decides (pointwise values.eq-value.it a b) (a ≡ b)
+row_same a b = pointwise_decides value_same a b
+
+-- two lists of rows
+pub rows_same : (a b : List Row) → Decides (pointwise (pointwise values.eq-value.it) a b) (a ≡ b)
+rows_same a b = pointwise_decides row_same a b
+
+type_same : (x y : ColType) → Decides (types.eq-value.it x y) (x ≡ y)
+type_same type.UInt8 type.UInt8 = (λ e. refl, λ e. refl)
+type_same type.UInt16 type.UInt16 = (λ e. refl, λ e. refl)
+type_same type.UInt32 type.UInt32 = (λ e. refl, λ e. refl)
+type_same type.UInt64 type.UInt64 = (λ e. refl, λ e. refl)
+type_same type.Int8 type.Int8 = (λ e. refl, λ e. refl)
+type_same type.Int16 type.Int16 = (λ e. refl, λ e. refl)
+type_same type.Int32 type.Int32 = (λ e. refl, λ e. refl)
+type_same type.Int64 type.Int64 = (λ e. refl, λ e. refl)
+type_same type.Text type.Text = (λ e. refl, λ e. refl)
+type_same x y = (λ e. cc, λ e. cc)
+
+column_same : (x y : Column) → Decides (columns.eq-value.it x y) (x ≡ y)
+column_same x y = Decides-like (pointwise nat_eq x.name y.name && types.eq-value.it x.col_type y.col_type) (λ p. ap₂ (λ (n : List ℕ) (t : ColType). record { name = n; col_type = t }) p.0 p.1) (λ e. (ap (λ (c : Column). c.name) e, ap (λ (c : Column). c.col_type) e))
+    (Decides-and (pointwise nat_eq x.name y.name) (types.eq-value.it x.col_type y.col_type) (texts_same x.name y.name) (type_same x.col_type y.col_type))
+
+schema_same : (x y : Schema) → Decides (schemas.eq-value.it x y) (x ≡ y)
+schema_same x y = Decides-like (pointwise columns.eq-value.it x.columns y.columns && pointwise nat_eq x.key y.key) (λ p. ap₂ (λ (c : List Column) (k : List ℕ). record { columns = c; key = k }) p.0 p.1) (λ e. (ap (λ (c : Schema). c.columns) e, ap (λ (c : Schema). c.key) e))
+    (Decides-and (pointwise columns.eq-value.it x.columns y.columns) (pointwise nat_eq x.key y.key) (pointwise_decides column_same x.columns y.columns) (texts_same x.key y.key))
+
+-- two tables to be made, of one name or of two
+pub creates_alike : (x y : Create) (r : Bool) → pointwise nat_eq x.table y.table ≡ true → r ≡ schemas.eq-value.it x.schema y.schema → Decides r (x ≡ y)
+creates_alike x y r named is =
+    let table : x.table ≡ y.table = (texts_same x.table y.table).0 named in
+    Decides-at r (schemas.eq-value.it x.schema y.schema) is
+    (Decides-like (schemas.eq-value.it x.schema y.schema) (λ s. ap₂ (λ (t : List ℕ) (s : Schema). record { table = t; schema = s }) table s) (ap (λ (c : Create). c.schema)) (schema_same x.schema y.schema))
+
+pub creates_apart : (x y : Create) (r : Bool) → r ≡ pointwise nat_eq x.table y.table → r ≡ false → Decides r (x ≡ y)
+creates_apart x y r is other = (λ e. cc, λ e. is ∙ (texts_same x.table y.table).1 (ap (λ (c : Create). c.table) e))

@@ -1,0 +1,15 @@
+use Rattle.std.proofs.Common.{◌+◌, [], flat_map, take, get_or}
+use Rattle.mt_values.specs.Grid.{picked}
+use Rattle.mt_values.specs.Printing.{line}
+use Rattle.tsv_rows.proofs.Printed.{joined, lines_of_more}
+use Rattle.tsv_rows.proofs.printing.print_rows.Goals as goal
+
+pub loop-place-preserved : goal.loop-place-preserved
+loop-place-preserved c =
+    let rows = c.args.block.now.rows in
+    let order = c.args.order.now in
+    let index = c.loop-place.place-index in
+    let within = c.requires index 0 c.loop-place-test.true in
+    let place = get_or order index 0 in
+    joined c.args.out.now.items (flat_map line (picked rows (take index order))) (line (get_or rows place [])) c.loop-place.out.items c.print_row.new.out.items
+    (flat_map line (picked rows (take (index + 1) order))) c.loop-place.invariant c.in_ok-print_row.ensures (lines_of_more rows order index c.loop-place-test.true within)
