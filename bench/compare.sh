@@ -1,41 +1,46 @@
 #!/usr/bin/env bash
-# Measures the program and a twin in plain Rust on one script: one CREATE, INSERTs of 1000 rows, and one SELECT of them all.
-# The first word is the number of INSERTs, 200 if it is left out. It prints both times, fails where the replies differ, and asks for no speed.
+# Measures the program and a twin in plain Rust on one script: one CREATE, INSERTs, and one SELECT of all rows.
+# The first word is the number of rows, 100000 if it is left out; the second the rows of each INSERT, all if it is left out.
+# It prints time and peak memory of both, fails where the replies differ, and asks for no speed.
 set -euo pipefail
-inserts=${1:-200}
+rows=${1:-100000}
+each=${2:-$rows}
+most=1048576 # the rows that an INSERT may have
+if [ "$each" -lt 1 ] || [ "$each" -gt "$most" ]; then
+    echo "an INSERT has from 1 to $most rows" >&2
+    exit 2
+fi
 root=$(cd "$(dirname "$0")/.." && pwd -P)
 work=$(mktemp -d)
 trap 'rm -rf "$work"' EXIT
 
-awk -v inserts="$inserts" 'BEGIN {
+awk -v rows="$rows" -v each="$each" 'BEGIN {
     print "CREATE TABLE t (a UInt8, s String) ENGINE = MergeTree ORDER BY a;"
-    for (i = 0; i < inserts; i++) {
-        print "INSERT INTO t;"
-        for (j = 0; j < 1000; j++) {
-            seed = (seed * 1103 + 12345) % 1048576
-            printf "%d\trow %d\n", seed % 256, seed
-        }
-        print "\\."
+    for (i = 0; i < rows; i++) {
+        if (i % each == 0) print "INSERT INTO t;"
+        seed = (seed * 1109 + 12345) % 1048576
+        printf "%d\trow %d\n", seed % 256, seed
+        if (i % each == each - 1 || i == rows - 1) print "\\."
     }
     print "SELECT * FROM t;"
 }' >"$work/script"
 
-# Runs a program on the script, and prints how long it took.
+# Runs a program on the script by GNU time, and prints how long it took and the most memory that it held.
 measure() {
     local name=$1
     shift
-    local start end
-    start=$(date +%s%N)
-    "$@" <"$work/script" >"$work/$name.out"
-    end=$(date +%s%N)
-    printf '%s: %d ms\n' "$name" $(((end - start) / 1000000))
+    if ! env time -f '%e s, %M KiB' -o "$work/figures" "$@" <"$work/script" >"$work/$name.out"; then
+        echo "$name did not end with status 0, or there is no GNU time" >&2
+        exit 1
+    fi
+    printf '%s: %s\n' "$name" "$(cat "$work/figures")"
 }
 
 "$root/bin/mergetree" --path d </dev/null >/dev/null # builds the program, where needed
-printf '%d INSERTs of 1000 rows, %d bytes\n' "$inserts" "$(wc -c <"$work/script")"
+printf '%d rows, %d an INSERT, %d bytes\n' "$rows" "$each" "$(wc -c <"$work/script")"
 measure mergetree "$root/crates/mergetree/out/mergetree" --path d
 if command -v rustc >/dev/null; then
-    rustc --edition 2021 -C opt-level=3 -o "$work/twin" "$root/bench/twin.rs"
+    rustc --edition 2021 -O -o "$work/twin" "$root/bench/twin.rs"
     measure twin "$work/twin"
     cmp "$work/mergetree.out" "$work/twin.out"
 else

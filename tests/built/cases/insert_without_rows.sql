@@ -1,0 +1,4 @@
+CREATE TABLE t (a UInt8, s String) ENGINE = MergeTree ORDER BY a;
+INSERT INTO t;
+\.
+SELECT * FROM t;

@@ -1,0 +1,9 @@
+SELECT * FROM t;
+SELECT a FROM t;
+CREATE TABLE t (a UInt8, s String) ENGINE = MergeTree ORDER BY a;
+INSERT INTO t;
+1
+\.
+INSERT INTO t;
+1	a
+\.

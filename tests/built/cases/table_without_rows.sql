@@ -1,0 +1,2 @@
+CREATE TABLE t (a UInt8, s String) ENGINE = MergeTree ORDER BY a;
+SELECT * FROM t;
