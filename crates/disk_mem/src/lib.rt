@@ -10,8 +10,6 @@ mod image;
 mod plan;
 mod root;
 mod streams;
-#[cfg(test)]
-mod tests;
 
 pub use annals::{CountedAnnals, KeptAnnals};
 pub use arm::MemArm;

@@ -14,7 +14,7 @@ use Rattle.mt_values.specs.declared.value.Value.{Value}
 use Rattle.mt_values.specs.declared.value.Value.TheVariants as value
 use Rattle.mt_values.specs.declared.statement.CreateText.{CreateText}
 use Rattle.mt_values.specs.declared.statement.InsertText.{InsertText}
-use Rattle.mt_values.specs.Values.{Row, type_of, types_of}
+use Rattle.mt_values.specs.Values.{Row, type_of, types_of, AreValues}
 use Rattle.mt_values.specs.Grammar.{same_bytes}
 use Rattle.mt_values.specs.Grid.{Grid, AreRowsOf}
 use Rattle.mt_values.specs.Rows.{unsigned_up_to, plain_text, value_of_field, with_value, row_of_fields, fields_from, row_of_line, with_row, rows_behind, rows_within, rows_of_data, few_rows, inserted_rows}
@@ -25,14 +25,14 @@ use Rattle.mt_model.specs.Reply.{place_of, places_of, with_place, sound_schema, 
 use Rattle.mt_model.specs.Plain.{rows_of_types, IsAccepted}
 
 -- where there is something, it holds of it
-abbrev Sure : {A : Type 0} → (A → Type 0) → Option A → Type 0
+abbrev pub Sure : {A : Type 0} → (A → Type 0) → Option A → Type 0
 Sure P None = Unit {0}
 Sure P (Some x) = P x
 
-sure : {A : Type 0} (P : A → Type 0) (o : Option A) (x : A) → o ≡ Some x → Sure P o → P x
+pub sure : {A : Type 0} (P : A → Type 0) (o : Option A) (x : A) → o ≡ Some x → Sure P o → P x
 sure {A} P o x is h = subst (λ (z : Option A). Sure P z) is h
 
-sure_then : {A B : Type 0} (P : A → Type 0) (Q : B → Type 0) (f : A → Option B) (o : Option A) → Sure P o → ((x : A) → P x → Sure Q (f x)) → Sure Q (option_and_then f o)
+pub sure_then : {A B : Type 0} (P : A → Type 0) (Q : B → Type 0) (f : A → Option B) (o : Option A) → Sure P o → ((x : A) → P x → Sure Q (f x)) → Sure Q (option_and_then f o)
 sure_then P Q f None h k = tt
 sure_then P Q f (Some x) h k = k x h
 
@@ -93,7 +93,7 @@ inserted_typed : (types : List ColType) (lines : List ℕ) (ended : Bool) → Su
 inserted_typed types lines false = tt
 inserted_typed types lines true = sure_then (AreRowsOf types) (AreFewOf types) few_rows (rows_of_data types lines) (rows_typed (length lines) types lines) (λ rows typed. few_typed types rows typed)
 
-room_typed : (P : List Row → Type 0) (b : Bool) (rows : List Row) → P rows → Sure P (cond b (Some rows) None)
+pub room_typed : (P : List Row → Type 0) (b : Bool) (rows : List Row) → P rows → Sure P (cond b (Some rows) None)
 room_typed P true rows h = h
 room_typed P false rows h = tt
 
@@ -109,8 +109,8 @@ rows_are_few i h types rows is = let few = (sure (AreFewOf types) (rows_of_types
 -- ---- commands
 
 -- an INSERT with rows into a table of this schema is allowed
-pub insert_allowed : (h : History) (table : List ℕ) (schema : Schema) (block : Grid) → schema_of table h ≡ Some schema → 0 < length block.rows → block.types ≡ column_types schema → AreRowsOf (column_types schema) block.rows → IsAllowed h (command.Insert (record { table = table; partition = Whole; block = block }))
-insert_allowed h table schema block there some types typed = (schema, there, record { some = some; types = types; rows = typed; partition = refl })
+pub insert_allowed : (h : History) (table : List ℕ) (schema : Schema) (block : Grid) → schema_of table h ≡ Some schema → 0 < length block.rows → block.types ≡ column_types schema → AreRowsOf (column_types schema) block.rows → AreValues block.rows → IsAllowed h (command.Insert (record { table = table; partition = Whole; block = block }))
+insert_allowed h table schema block there some types typed values = (schema, there, record { some = some; types = types; rows = typed; values = values; partition = refl })
 
 place_below : (columns : List Column) (name : List ℕ) → Sure (λ (p : ℕ). p < length columns) (place_of columns name)
 place_below columns name = by (position_or_len (λ (c : Column). same_bytes c.name name) columns)

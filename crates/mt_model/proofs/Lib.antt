@@ -10,6 +10,7 @@ pub mod Inserting
 pub mod Lists
 pub mod OneWay
 pub mod Places
+pub mod Ranges
 pub mod Reading
 pub mod Replies
 pub mod Resolving

@@ -24,6 +24,7 @@ use Rattle.mt_model.specs.Plain.{Grows, IsAccepted}
 use Rattle.mt_model.proofs.Growing.{stays, adds_last, run_more, run_append}
 use Rattle.mt_model.proofs.Histories.{legal_push}
 use Rattle.mt_model.proofs.Accepted.{create_allowed, insert_allowed}
+use Rattle.mt_model.proofs.Ranges.{accepted_values}
 
 whole : (h : History) → take (length h) h ≡ h
 whole h = take_all (length h) h (omega arith)
@@ -90,7 +91,7 @@ pub insert_legal : (h : History) (i : InsertText) (block : Grid) → IsAccepted 
     → IsLegal (h ++ record { session = 0; command = command.Insert (record { table = i.table; partition = Whole; block = block }) } ∷ [])
 insert_legal h i block is some legal =
     legal_push h (record { session = 0; command = command.Insert (record { table = i.table; partition = Whole; block = block }) }) legal
-    (insert_allowed h i.table is.schema block is.there some is.types is.typed)
+    (insert_allowed h i.table is.schema block is.there some is.types is.typed (accepted_values i h block.rows is.rows))
 
 pub insert_none : (h : History) (i : InsertText) (block : Grid) → IsAccepted i h block → length block.rows ≡ 0 → Takes h 0 (statement.Insert i) (length h) (length h) (ok_line (length h))
 insert_none h i block is none = by block.rows refl

@@ -11,6 +11,7 @@ use Rattle.mt_values.specs.declared.value.ColType.{ColType}
 use Rattle.mt_values.specs.Grammar.{same_bytes}
 use Rattle.mt_values.specs.Schemas.{schema_fault}
 use Rattle.mt_values.specs.Grid.{AreRowsOf}
+use Rattle.mt_values.specs.Values.{AreValues}
 
 -- the accepted commands of all tables, each with its session, in the order in which they were accepted
 abbrev pub History : Type 0
@@ -42,7 +43,7 @@ inserts_into table (command.Insert i) = same_bytes i.table table
 abbrev pub creates : History → ℕ
 creates h = length (filter (λ (e : Entry). is_create e.command) h)
 
--- how many INSERTs into a table were accepted
+-- how many INSERTs with rows into a table were accepted: one without rows has no entry
 abbrev pub inserts : List ℕ → History → ℕ
 inserts table h = length (filter (λ (e : Entry). inserts_into table e.command) h)
 
@@ -57,11 +58,12 @@ pub record IsTableSchema (schema : Schema) : Type 0 where
   pub own : All (λ place. place < length schema.columns) schema.key
   pub few : length schema.columns ≤ 64
 
--- rows of one partition of a table: at least one, each with a value of each column's type
+-- rows of one partition of a table: at least one, each with a value of each column's type and within its range
 pub record IsInsertInto (schema : Schema) (i : Insert) : Type 0 where
   pub some : 0 < length i.block.rows
   pub types : i.block.types ≡ column_types schema
   pub rows : AreRowsOf (column_types schema) i.block.rows
+  pub values : AreValues i.block.rows
   pub partition : i.partition ≡ Whole
 
 -- a command that may come after a history

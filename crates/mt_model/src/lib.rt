@@ -1,8 +1,6 @@
 //! The definitions: histories, live rows, answers, replies, and runs of sessions and scripts.
 #![tactic(auto)]
 
-#[cfg(test)]
-mod examples;
 mod laws;
 mod plain;
 

@@ -17,7 +17,7 @@ use Rattle.mt_values.specs.Annals.{Told}
 use Rattle.mt_values.specs.Grammar.{same_bytes}
 use Rattle.mt_values.specs.Grid.{Grid, AreRowsOf}
 use Rattle.mt_values.specs.Rows.{inserted_rows}
-use Rattle.mt_values.specs.Values.{Row}
+use Rattle.mt_values.specs.Values.{Row, AreValues}
 use Rattle.mt_values.specs.RootNames.{create_name, part_name, fresh_part_name}
 use Rattle.mt_outside.specs.Files.{Files}
 use Rattle.mt_outside.specs.Disk.{Told as Root, names_of, files_at}
@@ -25,6 +25,7 @@ use Rattle.mt_model.specs.History.{History, schema_of, schema_by, first_of, colu
 use Rattle.mt_model.specs.Reply.{insert_accepted, rows_for, has_room, ok_line}
 use Rattle.mt_model.specs.Session.{Takes, InsertTaken, IsInsertOf}
 use Rattle.mt_model.proofs.Histories.{legal_push}
+use Rattle.mt_model.proofs.Ranges.{inserted_values}
 use Rattle.mt_program.specs.declared.store.Part.{Part}
 use Rattle.mt_program.specs.declared.store.Table.{Table}
 use Rattle.mt_program.specs.declared.store.Store.{Store}
@@ -178,9 +179,9 @@ module _ {F : Type 0} (files_of : F → Option Files) (h : History) (store : Sto
       }
 
   pub stands_insert : (new : Store F) → AddsPart files_of true block old table
-      → 0 < length block.rows → block.types ≡ column_types old.schema
+      → 0 < length block.rows → block.types ≡ column_types old.schema → AreValues block.rows
       → new.tables.items ≡ set store.tables.items i table → new.length ≡ store.length + 1 → Stands files_of (h ++ e ∷ []) new
-  stands_insert new adds some types tables len =
+  stands_insert new adds some types values tables len =
       let names = λ (t : Table F). t.name in
       let allowed : IsAllowed h e.command = subst (IsAllowed h) (sym is) (
         old.schema,
@@ -189,6 +190,7 @@ module _ {F : Type 0} (files_of : F → Option Files) (h : History) (store : Sto
           some = some;
           types = types;
           rows = subst (λ ts. AreRowsOf ts block.rows) types adds.typed;
+          values = values;
           partition = refl;
         },
       ) in
@@ -269,7 +271,7 @@ pub inserted_accepts : {F : Type 0} (files_of : F → Option Files) (text : Inse
 inserted_accepts {F = F} files_of text kept mark store new i old table block reply told s lt at named rows_are some types few adds tables len note ok =
     let h = history kept in
     let c = insert_of_block old.name block in
-    let stands = stands_insert files_of h store s i lt old table at block (entry_of c) refl new adds some types tables len in
+    let stands = stands_insert files_of h store s i lt old table at block (entry_of c) refl new adds some types (inserted_values (column_types old.schema) text.lines text.ended block.rows (sym rows_are)) tables len in
     let old_is : TableStands files_of h old = subst (TableStands files_of h) (sym at) (s.each i old lt) in
     let there : schema_of text.table h ≡ Some old.schema = ap (λ n. schema_of n h) (sym named) ∙ old_is.schema_is in
     let made : inserts text.table h ≡ length old.parts.items = ap (λ n. inserts n h) (sym named) ∙ parts_made files_of h old old_is in

@@ -72,7 +72,7 @@ pub record Leaves (Run : List Statement → History → ℕ → List ℕ → Typ
 abbrev pub NothingRan : List Statement → History → ℕ → List ℕ → Type 0
 NothingRan script = FrontRun []
 
--- the run of each status
+-- the run of each status, by the program's steps; of 3 and 8 `run` promises a read run
 abbrev pub RunBy : Status → List Statement → History → ℕ → List ℕ → Type 0
 RunBy status.Done = WholeRun false
 RunBy status.Refused = WholeRun true

@@ -178,6 +178,3 @@ fn fewest_bytes(col_type: ColType) -> usize
         ColType::UInt64 | ColType::Int64 => 8,
     }
 }
-
-#[cfg(test)]
-mod tests;

@@ -20,6 +20,7 @@ mod streams;
 mod top;
 mod words;
 
+pub use column_bytes::{DecodeStop, decode_onto, encode_column};
 pub use commits::{commit, seal_file};
 pub use creates::{MOST_TABLES, create};
 pub use inserts::{MOST_PARTS, add_part, insert, types_of_columns};

@@ -54,7 +54,7 @@ line_from taken (b ∷ bs) =
 abbrev pub ends_data : List ℕ → Bool
 ends_data line = same_bytes line (codes "\\.")
 
--- the lines of data, each with its line feed, whether the line that ends data came, and the script behind it
+-- The lines of data with their line feeds; the last has none where the script ends in it. Whether the line that ends data came, and the script behind it.
 pub record Data : Type 0 where
   pub lines : List ℕ
   pub ended : Bool

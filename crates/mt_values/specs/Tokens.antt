@@ -64,7 +64,7 @@ abbrev pub tokens_from : (List ℕ → Option (List Token)) → List ℕ → Opt
 tokens_from more [] = Some []
 tokens_from more (b ∷ bs) = token_and more (first_token (b ∷ bs))
 
--- at most so many tokens of a text, none where some of the text is no token
+-- the tokens of a text that has fewer of them than this, none where some of the text is no token
 abbrev pub tokens_within : ℕ → List ℕ → Option (List Token)
 tokens_within zero text = None
 tokens_within (suc n) text = tokens_from (tokens_within n) (behind is_space false text)

@@ -156,6 +156,3 @@ fn column_from_rows(
     }
     Ok(column)
 }
-
-#[cfg(test)]
-mod tests;

@@ -1,7 +1,8 @@
+// Blocks: what they keep, and the order of their rows.
 ghost use Rattle.std.specs.Prelude.{◌≡◌, IfOk, length};
 
-use crate::{Block, ColType, ColumnData, Schema, Value};
 use mt_base::{NoMemory, Seq};
+use mt_values::{Block, ColType, ColumnData, Schema, Value};
 use std::alloc::Global;
 use std::test::Fail;
 

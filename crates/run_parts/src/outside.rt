@@ -1,5 +1,5 @@
 // Each call that takes memory, where there is enough of it, and the calls that are told to fail.
-use crate::{
+use disk_mem::{
     CallKind, CountedAnnals, KeptAnnals, Listed, MemArm, MemDir, MemDisk, MemSink, MemSource,
     MemStage,
 };

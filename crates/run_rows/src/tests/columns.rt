@@ -1,5 +1,5 @@
-use crate::column_bytes::{DecodeStop, decode_onto, encode_column};
-use crate::stops::Stop;
+// Values as bytes of a column file, and back.
+use mt_program::{DecodeStop, Stop, decode_onto, encode_column};
 use mt_values::{Cell, ColType, ColumnData};
 use std::alloc::Global;
 use std::test::Fail;

@@ -1,6 +1,6 @@
 // Worked examples: scripts with what they print and the histories that they leave, and what differs from these by a little.
-use crate::{allows, run, step};
 use mt_base::{NoMemory, Seq};
+use mt_model::{allows, run, step};
 use mt_values::{
     ColType, Column, Command, Create, CreateText, Entry, InsertText, Name, Schema, SelectText,
     Statement,
