@@ -17,12 +17,13 @@ use Rattle.mt_values.specs.declared.statement.InsertText.{InsertText}
 use Rattle.mt_values.specs.Values.{Row, type_of, types_of, AreValues}
 use Rattle.mt_values.specs.Grammar.{same_bytes}
 use Rattle.mt_values.specs.Grid.{Grid, AreRowsOf}
-use Rattle.mt_values.specs.Rows.{unsigned_up_to, plain_text, value_of_field, with_value, row_of_fields, fields_from, row_of_line, with_row, rows_behind, rows_within, rows_of_data, few_rows, inserted_rows}
+use Rattle.mt_values.specs.Rows.{unsigned_up_to, plain_text, value_of_field, row_of_fields, fields_from, row_of_line, rows_behind, rows_within, rows_of_data, few_rows, inserted_rows}
 use Rattle.mt_values.specs.Schemas.{schema_fault}
 use Rattle.mt_values.specs.Script.{line_from}
 use Rattle.mt_model.specs.History.{History, schema_of, creates, column_types, IsAllowed, IsTableSchema}
-use Rattle.mt_model.specs.Reply.{place_of, places_of, with_place, sound_schema, schema_of_text, may_create, create_accepted, has_room, rows_for}
+use Rattle.mt_model.specs.Reply.{place_of, places_of, sound_schema, schema_of_text, may_create, create_accepted, has_room, rows_for}
 use Rattle.mt_model.specs.Plain.{rows_of_types, IsAccepted}
+use Rattle.mt_values.specs.Lists.{in_front}
 
 -- where there is something, it holds of it
 abbrev pub Sure : {A : Type 0} → (A → Type 0) → Option A → Type 0
@@ -51,7 +52,7 @@ value_typed type.UInt8 field = number_typed (unsigned_up_to 255 field)
 value_typed type.Text field = text_typed (plain_text field)
 value_typed t field = tt
 
-with_typed : (t : ColType) (ts : List ColType) (o : Option Row) (v : Value) → Sure (λ (r : Row). types_of r ≡ ts) o → type_of v ≡ t → Sure (λ (r : Row). types_of r ≡ t ∷ ts) (with_value o v)
+with_typed : (t : ColType) (ts : List ColType) (o : Option Row) (v : Value) → Sure (λ (r : Row). types_of r ≡ ts) o → type_of v ≡ t → Sure (λ (r : Row). types_of r ≡ t ∷ ts) (in_front o v)
 with_typed t ts None v h is = tt
 with_typed t ts (Some row) v h is = cc
 
@@ -60,17 +61,17 @@ row_typed [] [] = refl
 row_typed [] (f ∷ fs) = tt
 row_typed (t ∷ ts) [] = tt
 row_typed (t ∷ ts) (f ∷ fs) =
-    sure_then (λ (v : Value). type_of v ≡ t) (λ (r : Row). types_of r ≡ t ∷ ts) (with_value (row_of_fields ts fs)) (value_of_field t f) (value_typed t f)
+    sure_then (λ (v : Value). type_of v ≡ t) (λ (r : Row). types_of r ≡ t ∷ ts) (in_front (row_of_fields ts fs)) (value_of_field t f) (value_typed t f)
     (λ v is. with_typed t ts (row_of_fields ts fs) v (row_typed ts fs) is)
 
-with_rows_typed : (types : List ColType) (o : Option (List Row)) (row : Row) → Sure (AreRowsOf types) o → types_of row ≡ types → Sure (AreRowsOf types) (with_row o row)
+with_rows_typed : (types : List ColType) (o : Option (List Row)) (row : Row) → Sure (AreRowsOf types) o → types_of row ≡ types → Sure (AreRowsOf types) (in_front o row)
 with_rows_typed types None row h is = tt
 with_rows_typed types (Some rows) row h is = All-cons (λ (r : Row). types_of r ≡ types) row rows is h
 
 rows_typed_by : (types : List ColType) (f : List ℕ → Option (List Row)) (o : Option (List ℕ × List ℕ)) → ((text : List ℕ) → Sure (AreRowsOf types) (f text)) → Sure (AreRowsOf types) (rows_behind f types o)
 rows_typed_by types f None more = All-nil (λ (r : Row). types_of r ≡ types)
 rows_typed_by types f (Some found) more =
-    sure_then (λ (r : Row). types_of r ≡ types) (AreRowsOf types) (with_row (f found.1)) (row_of_line types found.0) (row_typed types (fields_from false found.0))
+    sure_then (λ (r : Row). types_of r ≡ types) (AreRowsOf types) (in_front (f found.1)) (row_of_line types found.0) (row_typed types (fields_from false found.0))
     (λ row is. with_rows_typed types (f found.1) row (more found.1) is)
 
 rows_typed : (n : ℕ) (types : List ColType) (text : List ℕ) → Sure (AreRowsOf types) (rows_within n types text)
@@ -122,14 +123,14 @@ place_below columns name = by (position_or_len (λ (c : Column). same_bytes c.na
         either true e = leb-true (suc n) (length columns) e
         either false e = tt
 
-with_below : (n : ℕ) (o : Option (List ℕ)) (p : ℕ) → Sure (All (λ q. q < n)) o → p < n → Sure (All (λ q. q < n)) (with_place o p)
+with_below : (n : ℕ) (o : Option (List ℕ)) (p : ℕ) → Sure (All (λ q. q < n)) o → p < n → Sure (All (λ q. q < n)) (in_front o p)
 with_below n None p h below = tt
 with_below n (Some ps) p h below = All-cons (λ q. q < n) p ps below h
 
 places_below : (columns : List Column) (key : List (List ℕ)) → Sure (All (λ q. q < length columns)) (places_of columns key)
 places_below columns [] = All-nil (λ q. q < length columns)
 places_below columns (name ∷ names) =
-    sure_then (λ (p : ℕ). p < length columns) (All (λ q. q < length columns)) (with_place (places_of columns names)) (place_of columns name) (place_below columns name)
+    sure_then (λ (p : ℕ). p < length columns) (All (λ q. q < length columns)) (in_front (places_of columns names)) (place_of columns name) (place_below columns name)
     (λ p below. with_below (length columns) (places_of columns names) p (places_below columns names) below)
 
 sound_is : (schema : Schema) → All (λ q. q < length schema.columns) schema.key → Sure IsTableSchema (sound_schema schema)

@@ -13,11 +13,12 @@ use Rattle.mt_values.specs.declared.value.Value.{Value}
 use Rattle.mt_values.specs.declared.value.Value.TheVariants as value
 use Rattle.mt_values.specs.declared.statement.InsertText.{InsertText}
 use Rattle.mt_values.specs.Values.{Row, IsValue, AreValues}
-use Rattle.mt_values.specs.Rows.{number_of, digits_up_to, unsigned_up_to, is_plain, plain_text, value_of_field, with_value, row_of_fields, fields_from, row_of_line, with_row, rows_behind, rows_within, rows_of_data, few_rows, inserted_rows}
+use Rattle.mt_values.specs.Rows.{number_of, digits_up_to, unsigned_up_to, is_plain, plain_text, value_of_field, row_of_fields, fields_from, row_of_line, rows_behind, rows_within, rows_of_data, few_rows, inserted_rows}
 use Rattle.mt_values.specs.Script.{line_from}
 use Rattle.mt_model.specs.History.{History, schema_of, column_types}
 use Rattle.mt_model.specs.Reply.{has_room, rows_for, insert_accepted}
 use Rattle.mt_model.proofs.Accepted.{Sure, sure, sure_then, room_typed}
+use Rattle.mt_values.specs.Lists.{in_front}
 
 and_first : (a b : Bool) → (a && b) ≡ true → a ≡ true
 and_first true b h = refl
@@ -74,7 +75,7 @@ value_fits type.UInt8 field = number_fits (unsigned_up_to 255 field) (unsigned_w
 value_fits type.Text field = text_fits field
 value_fits t field = tt
 
-with_fitting : (o : Option Row) (v : Value) → Sure (λ (r : Row). All IsValue r) o → IsValue v → Sure (λ (r : Row). All IsValue r) (with_value o v)
+with_fitting : (o : Option Row) (v : Value) → Sure (λ (r : Row). All IsValue r) o → IsValue v → Sure (λ (r : Row). All IsValue r) (in_front o v)
 with_fitting None v h is = tt
 with_fitting (Some row) v h is = All-cons IsValue v row is h
 
@@ -83,17 +84,17 @@ row_fits [] [] = All-nil IsValue
 row_fits [] (f ∷ fs) = tt
 row_fits (t ∷ ts) [] = tt
 row_fits (t ∷ ts) (f ∷ fs) =
-    sure_then IsValue (λ (r : Row). All IsValue r) (with_value (row_of_fields ts fs)) (value_of_field t f) (value_fits t f)
+    sure_then IsValue (λ (r : Row). All IsValue r) (in_front (row_of_fields ts fs)) (value_of_field t f) (value_fits t f)
     (λ v is. with_fitting (row_of_fields ts fs) v (row_fits ts fs) is)
 
-with_rows_fitting : (o : Option (List Row)) (row : Row) → Sure AreValues o → All IsValue row → Sure AreValues (with_row o row)
+with_rows_fitting : (o : Option (List Row)) (row : Row) → Sure AreValues o → All IsValue row → Sure AreValues (in_front o row)
 with_rows_fitting None row h is = tt
 with_rows_fitting (Some rows) row h is = All-cons (λ (r : Row). All IsValue r) row rows is h
 
 rows_fit_by : (types : List ColType) (f : List ℕ → Option (List Row)) (o : Option (List ℕ × List ℕ)) → ((text : List ℕ) → Sure AreValues (f text)) → Sure AreValues (rows_behind f types o)
 rows_fit_by types f None more = All-nil (λ (r : Row). All IsValue r)
 rows_fit_by types f (Some found) more =
-    sure_then (λ (r : Row). All IsValue r) AreValues (with_row (f found.1)) (row_of_line types found.0) (row_fits types (fields_from false found.0))
+    sure_then (λ (r : Row). All IsValue r) AreValues (in_front (f found.1)) (row_of_line types found.0) (row_fits types (fields_from false found.0))
     (λ row is. with_rows_fitting (f found.1) row (more found.1) is)
 
 rows_fit : (n : ℕ) (types : List ColType) (text : List ℕ) → Sure AreValues (rows_within n types text)

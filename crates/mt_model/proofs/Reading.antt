@@ -5,22 +5,12 @@ use Rattle.mt_values.specs.declared.value.ColType.{ColType}
 use Rattle.mt_values.specs.declared.value.Value.{Value}
 use Rattle.mt_values.specs.Values.{Row}
 use Rattle.mt_values.specs.Script.{onto, takes_next, line_from}
-use Rattle.mt_values.specs.Rows.{onto_first, fields_from, with_value, row_of_fields, value_of_field, with_row, row_of_line, rows_behind, rows_within, rows_of_data}
+use Rattle.mt_values.specs.Rows.{onto_first, fields_from, row_of_fields, value_of_field, row_of_line, rows_behind, rows_within, rows_of_data}
 use Rattle.mt_model.specs.Plain.{part_from}
 use Rattle.mt_values.proofs.Bounds.{rows_of_data_step}
-
--- bytes in front of a part
-abbrev pub behind_part : List ℕ → Option (List ℕ × List ℕ) → Option (List ℕ × List ℕ)
-behind_part front None = None
-behind_part front (Some found) = Some (front ++ found.0, found.1)
-
-pub behind_part_none : (o : Option (List ℕ × List ℕ)) → behind_part [] o ≡ o
-behind_part_none None = refl
-behind_part_none (Some found) = refl
-
-pub behind_part_more : (front : List ℕ) (b : ℕ) (o : Option (List ℕ × List ℕ)) → behind_part front (option_map (onto b) o) ≡ behind_part (front ++ b ∷ []) o
-behind_part_more front b None = refl
-behind_part_more front b (Some found) = ap (λ (z : List ℕ). Some (z, found.1)) (sym (append_assoc front (b ∷ []) found.0))
+use Rattle.mt_values.specs.Lists.{in_front}
+use Rattle.mt_values.proofs.Fronts.{fronted}
+pub use Rattle.mt_values.proofs.Fronts.{fronted_none, fronted_more, parted_none, parted_more}
 
 -- a line is a part up to a line feed
 line_is : (taken : Bool) (text : List ℕ) → part_from 10 taken text ≡ line_from taken text
@@ -29,20 +19,8 @@ line_is taken (b ∷ bs) = ap (λ (o : Option (List ℕ × List ℕ)). cond (not
 
 -- ---- rows
 
-abbrev pub behind_rows : List Row → Option (List Row) → Option (List Row)
-behind_rows front None = None
-behind_rows front (Some rows) = Some (front ++ rows)
-
-pub behind_rows_none : (o : Option (List Row)) → behind_rows [] o ≡ o
-behind_rows_none None = refl
-behind_rows_none (Some rows) = refl
-
-behind_rows_more : (front : List Row) (row : Row) (o : Option (List Row)) → behind_rows front (with_row o row) ≡ behind_rows (front ++ row ∷ []) o
-behind_rows_more front row None = refl
-behind_rows_more front row (Some rows) = ap Some (sym (append_assoc front (row ∷ []) rows))
-
 -- the rows of data by its first line
-pub rows_by_line : (types : List ColType) (text line rest : List ℕ) → part_from 10 false text ≡ Some (line, rest) → rows_of_data types text ≡ option_and_then (with_row (rows_of_data types rest)) (row_of_line types line)
+pub rows_by_line : (types : List ColType) (text line rest : List ℕ) → part_from 10 false text ≡ Some (line, rest) → rows_of_data types text ≡ option_and_then (in_front (rows_of_data types rest)) (row_of_line types line)
 rows_by_line types text line rest found =
     let first : line_from false text ≡ Some (line, rest) = sym (line_is false text) ∙ found in
     rows_of_data_step types text ∙ ap (rows_behind (rows_of_data types) types) first
@@ -52,13 +30,13 @@ rows_by_none types text none =
     rows_of_data_step types text ∙ ap (rows_behind (rows_of_data types) types) (sym (line_is false text) ∙ none)
 
 -- one line more is a row
-pub rows_more : (types : List ColType) (front : List Row) (text line rest : List ℕ) (row : Row) → part_from 10 false text ≡ Some (line, rest) → row_of_line types line ≡ Some row → behind_rows front (rows_of_data types text) ≡ behind_rows (front ++ row ∷ []) (rows_of_data types rest)
+pub rows_more : (types : List ColType) (front : List Row) (text line rest : List ℕ) (row : Row) → part_from 10 false text ≡ Some (line, rest) → row_of_line types line ≡ Some row → fronted front (rows_of_data types text) ≡ fronted (front ++ row ∷ []) (rows_of_data types rest)
 rows_more types front text line rest row found is =
-    ap (behind_rows front) (rows_by_line types text line rest found ∙ ap (option_and_then (with_row (rows_of_data types rest))) is) ∙ behind_rows_more front row (rows_of_data types rest)
+    ap (fronted front) (rows_by_line types text line rest found ∙ ap (option_and_then (in_front (rows_of_data types rest))) is) ∙ fronted_more front row (rows_of_data types rest)
 
 -- one line is no row
-pub rows_stop : (types : List ColType) (front : List Row) (text line rest : List ℕ) → part_from 10 false text ≡ Some (line, rest) → row_of_line types line ≡ None → behind_rows front (rows_of_data types text) ≡ None
-rows_stop types front text line rest found is = ap (behind_rows front) (rows_by_line types text line rest found ∙ ap (option_and_then (with_row (rows_of_data types rest))) is)
+pub rows_stop : (types : List ColType) (front : List Row) (text line rest : List ℕ) → part_from 10 false text ≡ Some (line, rest) → row_of_line types line ≡ None → fronted front (rows_of_data types text) ≡ None
+rows_stop types front text line rest found is = ap (fronted front) (rows_by_line types text line rest found ∙ ap (option_and_then (in_front (rows_of_data types rest))) is)
 
 -- ---- fields
 
@@ -87,19 +65,7 @@ fields_last front text none = ap (λ (z : List (List ℕ)). front ++ z) (fields_
 
 -- ---- values
 
-abbrev pub behind_row : Row → Option Row → Option Row
-behind_row front None = None
-behind_row front (Some row) = Some (front ++ row)
-
-pub behind_row_none : (o : Option Row) → behind_row [] o ≡ o
-behind_row_none None = refl
-behind_row_none (Some row) = refl
-
-pub behind_row_more : (front : Row) (v : Value) (o : Option Row) → behind_row front (with_value o v) ≡ behind_row (front ++ v ∷ []) o
-behind_row_more front v None = refl
-behind_row_more front v (Some row) = ap Some (sym (append_assoc front (v ∷ []) row))
-
-no_value : (o : Option Value) → option_and_then (with_value None) o ≡ None
+no_value : (o : Option Value) → option_and_then (in_front None) o ≡ None
 no_value None = refl
 no_value (Some v) = refl
 
@@ -109,7 +75,7 @@ uneven_fields [] [] uneven = absurd (uneven refl)
 uneven_fields [] (f ∷ fs) uneven = refl
 uneven_fields (t ∷ ts) [] uneven = refl
 uneven_fields (t ∷ ts) (f ∷ fs) uneven =
-    ap (λ (o : Option Row). option_and_then (with_value o) (value_of_field t f)) (uneven_fields ts fs (λ even. uneven (ap suc even))) ∙ no_value (value_of_field t f)
+    ap (λ (o : Option Row). option_and_then (in_front o) (value_of_field t f)) (uneven_fields ts fs (λ even. uneven (ap suc even))) ∙ no_value (value_of_field t f)
 
 -- one digit more
 pub bounded_more : (n d : ℕ) → min (min n 256 * 10 + d) 256 ≡ min (n * 10 + d) 256

@@ -5,20 +5,9 @@ use Rattle.std.specs.Option.{option_and_then}
 use Rattle.mt_values.specs.declared.schema.Schema.{Schema}
 use Rattle.mt_values.specs.declared.statement.CreateText.{CreateText}
 use Rattle.mt_values.specs.Schemas.{schema_fault}
-use Rattle.mt_model.specs.Reply.{places_of, with_place, sound_schema, schema_of_text}
-
--- places that were found, in front of those of the rest
-abbrev pub behind_places : List ℕ → Option (List ℕ) → Option (List ℕ)
-behind_places front None = None
-behind_places front (Some places) = Some (front ++ places)
-
-pub behind_none : (o : Option (List ℕ)) → behind_places [] o ≡ o
-behind_none None = refl
-behind_none (Some places) = refl
-
-pub behind_more : (front : List ℕ) (place : ℕ) (o : Option (List ℕ)) → behind_places front (with_place o place) ≡ behind_places (front ++ place ∷ []) o
-behind_more front place None = refl
-behind_more front place (Some places) = ap Some (sym (append_assoc front (place ∷ []) places))
+use Rattle.mt_model.specs.Reply.{places_of, sound_schema, schema_of_text}
+use Rattle.mt_values.specs.Lists.{in_front}
+pub use Rattle.mt_values.proofs.Fronts.{fronted_none, fronted_more}
 
 no_schema : (a b d : Bool) (schema : Schema) → d ≡ false → cond (a && b && d) (Some schema) None ≡ None
 no_schema true true true schema h = cc

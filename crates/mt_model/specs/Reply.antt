@@ -12,6 +12,7 @@ use Rattle.mt_values.specs.Grammar.{same_bytes}
 use Rattle.mt_values.specs.Rows.{inserted_rows}
 use Rattle.mt_values.specs.Schemas.{schema_fault}
 use Rattle.mt_model.specs.History.{History, schema_of, creates, inserts, column_types}
+use Rattle.mt_values.specs.Lists.{in_front}
 
 -- after an accepted command, and after an INSERT without rows: the length of the history
 abbrev pub ok_line : ℕ → List ℕ
@@ -40,14 +41,10 @@ rows_reply lines h = rows_line (length lines) h ++ concat lines
 abbrev pub place_of : List Column → List ℕ → Option ℕ
 place_of columns name = position (λ (c : Column). same_bytes c.name name) columns
 
-abbrev pub with_place : Option (List ℕ) → ℕ → Option (List ℕ)
-with_place None place = None
-with_place (Some places) place = Some (place ∷ places)
-
 -- the places of the columns that a key names; none where one is no column
 abbrev pub places_of : List Column → List (List ℕ) → Option (List ℕ)
 places_of columns [] = Some []
-places_of columns (name ∷ names) = option_and_then (with_place (places_of columns names)) (place_of columns name)
+places_of columns (name ∷ names) = option_and_then (in_front (places_of columns names)) (place_of columns name)
 
 -- a schema that breaks no rule, has a key, and has at most 64 columns
 abbrev pub sound_schema : Schema → Option Schema

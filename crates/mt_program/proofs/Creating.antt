@@ -19,7 +19,7 @@ use Rattle.mt_values.specs.Grammar.{same_bytes}
 use Rattle.mt_values.specs.Schemas.{schema_fault}
 use Rattle.mt_outside.specs.Files.{Files}
 use Rattle.mt_model.specs.History.{History, schema_of, schema_by, first_of, creates, IsTableSchema, IsAllowed, IsLegal, IsLegalAfter}
-use Rattle.mt_model.specs.Reply.{schema_of_text, sound_schema, places_of, place_of, with_place, may_create, create_accepted, ok_line}
+use Rattle.mt_model.specs.Reply.{schema_of_text, sound_schema, places_of, place_of, may_create, create_accepted, ok_line}
 use Rattle.mt_model.proofs.Histories.{legal_push}
 use Rattle.mt_program.specs.declared.store.Part.{Part}
 use Rattle.mt_program.specs.declared.store.Table.{Table}
@@ -30,6 +30,7 @@ use Rattle.mt_program.proofs.Histories.{there, schema_more, rows_more, names_mor
 use Rattle.mt_program.proofs.RootNames.{same_is, same_self}
 use Rattle.mt_program.proofs.Standing.{no_table, tables_made}
 use Rattle.mt_program.proofs.Accepting.{entry_of, after_note, accepts_command, length_history}
+use Rattle.mt_values.specs.Lists.{in_front}
 
 -- a table that is not there has no rows
 no_rows_after : (t : List ℕ) (before es : History) → IsLegalAfter before es → schema_of t (before ++ es) ≡ None → rows_into t es ≡ []
@@ -81,13 +82,13 @@ places_below : (columns : List Column) (names : List (List ℕ)) (places : List 
 places_below columns [] places h = let nil : [] ≡ places = cc in subst (All (λ p. p < length columns)) nil (All-nil (λ (p : ℕ). p < length columns))
 places_below columns (name ∷ names) places h = by_place (λ ps. places_below columns names ps) (place_of columns name) refl h
   where
-    by_rest : ((ps : List ℕ) → places_of columns names ≡ Some ps → All (λ q. q < length columns) ps) → (p : ℕ) → p < length columns → (o : Option (List ℕ)) → places_of columns names ≡ o → with_place o p ≡ Some places → All (λ q. q < length columns) places
+    by_rest : ((ps : List ℕ) → places_of columns names ≡ Some ps → All (λ q. q < length columns) ps) → (p : ℕ) → p < length columns → (o : Option (List ℕ)) → places_of columns names ≡ o → in_front o p ≡ Some places → All (λ q. q < length columns) places
     by_rest more p lt None is h = cc
     by_rest more p lt (Some ps) is h =
         let cons : p ∷ ps ≡ places = cc in
         subst (All (λ q. q < length columns)) cons (All-cons (λ (q : ℕ). q < length columns) p ps lt (more ps is))
 
-    by_place : ((ps : List ℕ) → places_of columns names ≡ Some ps → All (λ q. q < length columns) ps) → (o : Option ℕ) → place_of columns name ≡ o → option_and_then (with_place (places_of columns names)) o ≡ Some places → All (λ q. q < length columns) places
+    by_place : ((ps : List ℕ) → places_of columns names ≡ Some ps → All (λ q. q < length columns) ps) → (o : Option ℕ) → place_of columns name ≡ o → option_and_then (in_front (places_of columns names)) o ≡ Some places → All (λ q. q < length columns) places
     by_place more None is h = cc
     by_place more (Some p) is h = by_rest more p (place_below columns name p is) (places_of columns names) refl h
 

@@ -6,7 +6,7 @@ use Rattle.std.proofs.lemmas.List.Concat.{flat_map-append}
 use Rattle.mt_values.specs.declared.value.Value.{Value}
 use Rattle.mt_values.specs.declared.value.Value.TheVariants as value
 use Rattle.mt_values.specs.Grid.{Cells}
-use Rattle.mt_values.specs.Values.{type_of}
+use Rattle.mt_values.specs.Values.{type_of, FitsType}
 use Rattle.mt_values.specs.ColumnBytes.{column_bytes, value_bytes, groups_within, leb128}
 use Rattle.mt_values.proofs.Grids.{filter_map_more}
 use Rattle.std.specs.Prelude.{IsErrOf}
@@ -14,7 +14,7 @@ use Rattle.mt_program.specs.declared.column_bytes.DecodeStop.{DecodeStop}
 use Rattle.mt_program.specs.declared.column_bytes.DecodeStop.TheVariants as decode
 use Rattle.mt_program.specs.declared.stops.Stop.{Stop}
 use Rattle.mt_program.specs.declared.stops.Stop.TheVariants as stop
-use Rattle.mt_program.specs.Encoding.{IsEncodable, AreEncodable}
+use Rattle.mt_program.specs.Encoding.{AreEncodable}
 use Rattle.mt_program.specs.Stops.{DecodeStopOf}
 
 -- From a place on the bytes spell the values that are still to come.
@@ -40,9 +40,9 @@ written_more values order i v bytes new h is so_far e =
     ∙ sym (flat_map-append value_bytes before (v ∷ []))
     ∙ ap column_bytes (sym (picked_more values order i v h is))
 
-pub encodable_more : (values : List Value) (order : List ℕ) (i : ℕ) (v : Value) → i < length order → slice_get values (get_or order i 0) ≡ Some v → AreEncodable (filter_map (slice_get values) (take i order)) → IsEncodable v → AreEncodable (filter_map (slice_get values) (take (i + 1) order))
+pub encodable_more : (values : List Value) (order : List ℕ) (i : ℕ) (v : Value) → i < length order → slice_get values (get_or order i 0) ≡ Some v → AreEncodable (filter_map (slice_get values) (take i order)) → FitsType v → AreEncodable (filter_map (slice_get values) (take (i + 1) order))
 encodable_more values order i v h is so_far this =
-    subst AreEncodable (sym (picked_more values order i v h is)) (All-push IsEncodable (filter_map (slice_get values) (take i order)) v so_far this)
+    subst AreEncodable (sym (picked_more values order i v h is)) (All-push FitsType (filter_map (slice_get values) (take i order)) v so_far this)
 
 -- ---- one value more is read
 
@@ -77,7 +77,7 @@ pub record Next (bytes : List ℕ) (at : ℕ) (old : Cells) (values now : List V
   pub first : Value
   pub rest : List Value
   pub first_typed : type_of first ≡ old.col_type
-  pub first_encodable : IsEncodable first
+  pub first_encodable : FitsType first
   pub typed : All (λ v. type_of v ≡ old.col_type) rest
   pub encodable : AreEncodable rest
   pub left : take (length bytes - at) (drop at bytes) ≡ value_bytes first ++ column_bytes rest
@@ -95,9 +95,9 @@ next_value bytes at old values now h r = of_rest r.rest r.typed r.encodable r.le
       first = v;
       rest = rest;
       first_typed = All-head (λ v. type_of v ≡ old.col_type) v rest typed;
-      first_encodable = All-head IsEncodable v rest encodable;
+      first_encodable = All-head FitsType v rest encodable;
       typed = All-tail (λ v. type_of v ≡ old.col_type) v rest typed;
-      encodable = All-tail IsEncodable v rest encodable;
+      encodable = All-tail FitsType v rest encodable;
       left = take_all (length bytes - at) (drop at bytes) (omega (arith, length-drop at bytes)) ∙ left;
       whole = whole;
     }

@@ -14,7 +14,7 @@ use Rattle.mt_outside.specs.Files.{Files}
 use Rattle.mt_outside.specs.declared.disk.DiskError.{DiskError}
 use Rattle.mt_outside.specs.declared.disk.DiskError.TheVariants as failure
 use Rattle.mt_model.specs.History.{History, IsLegal}
-use Rattle.mt_model.specs.Script.{ScriptRun, ScriptReplies, CutRun, FrontRun, OwnEntries}
+use Rattle.mt_model.specs.Script.{ScriptRun, ScriptReplies, CutRun, CutInReply, FrontRun, OwnEntries}
 use Rattle.mt_model.specs.Session.{AddsNothing}
 use Rattle.mt_model.proofs.Replies.{script_replies_run}
 use Rattle.mt_program.specs.declared.store.Store.{Store}
@@ -112,16 +112,17 @@ module _ (kept : Told) (script before : List ℕ) (told : Option Told) (written 
   early_stop unread.TooLong = early status.TooLong none_ran
 
 module _ (kept : Told) (script before : List ℕ) (told : Option Told) (old new : Option (List ℕ)) (is : old ≡ Some before) where
-  whole : (refused : Bool) (ended : Status) → (s : ServedAll kept script refused told old new)
-      → RunBy ended (statements_of script) (history s.ran.now) (length kept.list) (concat s.replies) → Leaves (RunBy ended) kept script before told new
-  whole refused ended s ran = record {
-    now = s.ran.now;
-    more = s.ran.more;
-    out = concat s.replies;
-    told_is = s.ran.told_is;
-    begins = s.ran.list_is;
-    legal = s.ran.legal;
-    written_is = known_after before (concat s.replies) old new is s.wrote;
+  -- what ran is left, and what was written
+  left : (Run : List Statement → History → ℕ → List ℕ → Type 0) (done : List Statement) (replies : List (List ℕ)) (r : Ran kept done replies told) (out : List ℕ) → Appends old new out
+      → Run (statements_of script) (history r.now) (length kept.list) out → Leaves Run kept script before told new
+  left Run done replies r out wrote ran = record {
+    now = r.now;
+    more = r.more;
+    out = out;
+    told_is = r.told_is;
+    begins = r.list_is;
+    legal = r.legal;
+    written_is = known_after before out old new is wrote;
     ran = ran;
   }
 
@@ -136,19 +137,6 @@ module _ (kept : Told) (script before : List ℕ) (told : Option Told) (old new 
         refusals = sym s.refusals;
       }
 
-  front : (ended : Status) → (s : ServedFront kept script told old new)
-      → RunBy ended (statements_of script) (history s.ran.now) (length kept.list) (concat s.replies) → Leaves (RunBy ended) kept script before told new
-  front ended s ran = record {
-    now = s.ran.now;
-    more = s.ran.more;
-    out = concat s.replies;
-    told_is = s.ran.told_is;
-    begins = s.ran.list_is;
-    legal = s.ran.legal;
-    written_is = known_after before (concat s.replies) old new is s.wrote;
-    ran = ran;
-  }
-
   first_run : (s : ServedFront kept script told old new) → ScriptRun (take (length s.done) (statements_of script)) (history s.ran.now) (length kept.list) (concat s.replies)
   first_run s =
       let first : take (length s.done) (statements_of script) ≡ s.done = ap (take (length s.done)) s.split ∙ take-append_seam s.done s.rest in
@@ -161,37 +149,28 @@ module _ (kept : Told) (script before : List ℕ) (told : Option Told) (old new 
   cut_run : (s : ServedFront kept script told old new) → CutRun (statements_of script) (history s.ran.now) (length kept.list) (concat s.replies)
   cut_run s = record { count = length s.done; run = inl (first_run s) }
 
-  cut : (s : ServedCut kept script told old new) → Leaves (RunBy status.WriteFault) kept script before told new
-  cut s = record {
-    now = s.ran.now;
-    more = s.ran.more;
-    out = concat s.replies ++ s.part;
-    told_is = s.ran.told_is;
-    begins = s.ran.list_is;
-    legal = s.ran.legal;
-    written_is = known_after before (concat s.replies ++ s.part) old new is s.wrote;
-    ran = record {
-      count = length s.done;
-      last = s.last;
-      replies = s.replies;
-      reply = s.reply;
-      part = s.part;
-      there = subst (λ (ss : List Statement). slice_get ss (length s.done) ≡ Some s.last) (sym s.split) (get_seam s.done s.last s.rest);
-      run = subst (λ (ss : List Statement). ScriptReplies (ss ++ s.last ∷ []) (history s.ran.now) (length kept.list) (s.replies ++ s.reply ∷ []))
-          (sym (ap (take (length s.done)) s.split ∙ take-append_seam s.done (s.last ∷ s.rest)))
-          (replies_of kept (s.done ++ s.last ∷ []) (s.replies ++ s.reply ∷ []) told s.ran);
-      front = s.front;
-      written_is = refl;
-    };
+  cut_in_reply : (s : ServedCut kept script told old new) → CutInReply (statements_of script) (history s.ran.now) (length kept.list) (concat s.replies ++ s.part)
+  cut_in_reply s = record {
+    count = length s.done;
+    last = s.last;
+    replies = s.replies;
+    reply = s.reply;
+    part = s.part;
+    there = subst (λ (ss : List Statement). slice_get ss (length s.done) ≡ Some s.last) (sym s.split) (get_seam s.done s.last s.rest);
+    run = subst (λ (ss : List Statement). ScriptReplies (ss ++ s.last ∷ []) (history s.ran.now) (length kept.list) (s.replies ++ s.reply ∷ []))
+        (sym (ap (take (length s.done)) s.split ∙ take-append_seam s.done (s.last ∷ s.rest)))
+        (replies_of kept (s.done ++ s.last ∷ []) (s.replies ++ s.reply ∷ []) told s.ran);
+    front = s.front;
+    written_is = refl;
   }
 
   pub leaves_served : (e : Ending) → (e ≡ ending.Damaged → ⊥) → ServedBy e kept script told old new → Leaves (RunBy (status_for e)) kept script before told new
-  leaves_served (ending.Done false) sound s = whole false status.Done s (whole_run false s)
-  leaves_served (ending.Done true) sound s = whole true status.Refused s (whole_run true s)
-  leaves_served ending.NoMemory sound s = front status.NoMemory s (cut_run s)
-  leaves_served ending.DiskFault sound s = front status.DiskFault s (front_run s)
+  leaves_served (ending.Done false) sound s = left (WholeRun false) (statements_of script) s.replies s.ran (concat s.replies) s.wrote (whole_run false s)
+  leaves_served (ending.Done true) sound s = left (WholeRun true) (statements_of script) s.replies s.ran (concat s.replies) s.wrote (whole_run true s)
+  leaves_served ending.NoMemory sound s = left CutRun s.done s.replies s.ran (concat s.replies) s.wrote (cut_run s)
+  leaves_served ending.DiskFault sound s = left FrontRun s.done s.replies s.ran (concat s.replies) s.wrote (front_run s)
   leaves_served ending.Damaged sound s = absurd (sound refl)
-  leaves_served ending.WriteFault sound s = cut s
+  leaves_served ending.WriteFault sound s = left CutInReply (s.done ++ s.last ∷ []) (s.replies ++ s.reply ∷ []) s.ran (concat s.replies ++ s.part) s.wrote (cut_in_reply s)
 
 -- a run whose statements were all answered is a front run, too
 shown : (refused : Bool) (script : List ℕ) (kept : Told) (h : History) (out : List ℕ) → WholeRun refused (statements_of script) h (length kept.list) out → FrontRun (statements_of script) h (length kept.list) out

@@ -6,8 +6,8 @@ ghost use Rattle.mt_values.specs.declared.value.Value.{Value};
 ghost use Rattle.mt_values.specs.Cells.{value_of};
 ghost use Rattle.mt_values.specs.declared.value.Value.TheVariants as value;
 ghost use Rattle.mt_values.specs.ColumnBytes.{column_bytes, leb128, value_bytes};
-ghost use Rattle.mt_values.specs.Values.{type_of};
-ghost use Rattle.mt_program.specs.Encoding.{AreEncodable, IsEncodable, fewest_bytes};
+ghost use Rattle.mt_values.specs.Values.{FitsType, type_of};
+ghost use Rattle.mt_program.specs.Encoding.{AreEncodable, fewest_bytes};
 
 use crate::leb128::{push_leb128, read_leb128};
 use crate::stops::Stop;
@@ -67,7 +67,7 @@ pub fn encode_column(alloc: Global, column: &ColumnData, order: &[u32]) -> Resul
 /// `NoMemory` where a growth was refused; some of the bytes may have been added then.
 fn push_cell(bytes: &mut Vec<u8>, cell: Cell) -> Result<(), NoMemory>
     ensures bytes { OnOk result (bytes.new.items ≡ bytes.old.items ++ value_bytes (value_of cell.entry)) }
-    ensures encodable { IsEncodable (value_of cell.entry) }
+    ensures encodable { FitsType (value_of cell.entry) }
 {
     match cell {
         Cell::UInt8(n) => bytes.push(n)?,
@@ -118,7 +118,7 @@ pub fn decode_onto(column: &mut ColumnData, bytes: &[u8]) -> Result<(), DecodeSt
 ///
 /// `None` where the bytes end before it.
 fn first_cell(col_type: ColType, bytes: &[u8]) -> Option<(Cell<'_>, usize)>
-    ensures found { (v : Value) (rest : List ℕ) → type_of v ≡ col_type → IsEncodable v → bytes.now ≡ value_bytes v ++ rest
+    ensures found { (v : Value) (rest : List ℕ) → type_of v ≡ col_type → FitsType v → bytes.now ≡ value_bytes v ++ rest
         → IsSomeAnd result (λ p. (value_of p.0 ≡ v) × (p.1 ≡ length (value_bytes v))) }
     ensures typed { IfSome result (λ p. type_of (value_of p.0) ≡ col_type) }
     ensures size { IfSome result (λ p. (0 < p.1) × (p.1 ≤ length bytes.now)) }

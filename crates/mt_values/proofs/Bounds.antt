@@ -9,10 +9,11 @@ use Rattle.mt_values.specs.declared.script.Place.TheVariants.{Outside}
 use Rattle.mt_values.specs.declared.token.Token.{Token}
 use Rattle.mt_values.specs.declared.statement.Statement.{Statement}
 use Rattle.mt_values.specs.Values.{Row}
-use Rattle.mt_values.specs.Tokens.{behind, begins_with, is_space, starts_word, in_word, symbol_of, first_token, with_token, token_and, tokens_from, tokens_within, tokens_of}
+use Rattle.mt_values.specs.Tokens.{behind, begins_with, is_space, starts_word, in_word, symbol_of, first_token, token_and, tokens_from, tokens_within, tokens_of}
 use Rattle.mt_values.specs.Grammar.{takes_data}
 use Rattle.mt_values.specs.Script.{onto, place_behind, ends_at, ended_from, takes_next, line_from, ends_data, Data, with_line, data_behind, data_within, data_of, behind_line, is_line_byte, complete, complete_or_faulty, is_between, next_from, next_statement, statement_and, statements_within, statements_of}
-use Rattle.mt_values.specs.Rows.{with_row, row_of_line, rows_behind, rows_within, rows_of_data}
+use Rattle.mt_values.specs.Rows.{row_of_line, rows_behind, rows_within, rows_of_data}
+use Rattle.mt_values.specs.Lists.{in_front}
 
 -- what follows a part that was found is shorter than this
 abbrev pub ShorterThan : {A : Type 0} → ℕ → Option (A × List ℕ) → Type 0
@@ -77,7 +78,7 @@ token_shorter (b ∷ bs) = by (starts_word b) refl
 
 token_and_same : (f g : List ℕ → Option (List Token)) (k : ℕ) (o : Option (Token × List ℕ)) → ShorterThan k o → ((rest : List ℕ) → length rest < k → f rest ≡ g rest) → token_and f o ≡ token_and g o
 token_and_same f g k None less same = refl
-token_and_same f g k (Some found) less same = ap (with_token found.0) (same found.1 less)
+token_and_same f g k (Some found) less same = ap (λ (o : Option (List Token)). in_front o found.0) (same found.1 less)
 
 tokens_from_same : (f g : List ℕ → Option (List Token)) (text : List ℕ) → ((rest : List ℕ) → length rest < length text → f rest ≡ g rest) → tokens_from f text ≡ tokens_from g text
 tokens_from_same f g [] same = refl
@@ -166,7 +167,7 @@ statements_of_step script =
 
 rows_behind_same : (f g : List ℕ → Option (List Row)) (types : List ColType) (k : ℕ) (o : Option (List ℕ × List ℕ)) → ShorterThan k o → ((rest : List ℕ) → length rest < k → f rest ≡ g rest) → rows_behind f types o ≡ rows_behind g types o
 rows_behind_same f g types k None less same = refl
-rows_behind_same f g types k (Some found) less same = ap (λ (more : Option (List Row)). option_and_then (with_row more) (row_of_line types found.0)) (same found.1 less)
+rows_behind_same f g types k (Some found) less same = ap (λ (more : Option (List Row)). option_and_then (in_front more) (row_of_line types found.0)) (same found.1 less)
 
 rows_of_none : (m : ℕ) (types : List ColType) → rows_within m types [] ≡ Some []
 rows_of_none zero types = refl

@@ -1,5 +1,6 @@
--- The values of a typed vector are all of its type.
-use Rattle.std.proofs.Common.{◌≡◌, refl, List, All, map}
+-- The values of a column are all of its type.
+use Rattle.std.proofs.Common.{◌≡◌, ℕ, Some, refl, sym, ap, ◌∙◌, List, All, map, slice_get}
+use Rattle.std.proofs.lemmas.Option.{get_or_from_slice_get, slice_get_within}
 use Rattle.mt_values.specs.declared.value.ColType.{ColType}
 use Rattle.mt_values.specs.declared.value.Value.{Value}
 use Rattle.mt_values.specs.declared.value.Value.TheVariants as value
@@ -7,7 +8,7 @@ use Rattle.mt_values.specs.declared.column.Cells.{Cells as Vectors}
 use Rattle.mt_values.specs.declared.column.Cells.TheVariants as cells
 use Rattle.std.proofs.lemmas.List.Elements.{All-map}
 use Rattle.mt_values.specs.Columns.{cells_of}
-use Rattle.mt_values.specs.Grid.{AreOfType}
+use Rattle.mt_values.specs.Grid.{Cells, AreOfType}
 use Rattle.mt_values.specs.Values.{type_of}
 
 typed_map : {X : Type 0} (f : X → Value) (t : ColType) (e : (x : X) → type_of (f x) ≡ t) (xs : List X) → All (λ v. type_of v ≡ t) (map f xs)
@@ -23,3 +24,7 @@ AreOfType-cells_of (cells.Int16 v) = typed_map value.Int16 _ (λ x. refl) v.item
 AreOfType-cells_of (cells.Int32 v) = typed_map value.Int32 _ (λ x. refl) v.items
 AreOfType-cells_of (cells.Int64 v) = typed_map value.Int64 _ (λ x. refl) v.items
 AreOfType-cells_of (cells.Text s) = typed_map value.Text _ (λ x. refl) s
+
+-- a value of a column is of the column's type
+pub typed_at : (cells : Cells) (a : ℕ) (v : Value) → AreOfType cells → slice_get cells.values a ≡ Some v → type_of v ≡ cells.col_type
+typed_at cells a v typed e = ap type_of (sym (get_or_from_slice_get cells.values a v v e)) ∙ typed a v (slice_get_within cells.values a v e)

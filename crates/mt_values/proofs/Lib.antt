@@ -1,5 +1,6 @@
 pub mod Bounds
 pub mod Columns
+pub mod Fronts
 pub mod Grids
 pub mod Leads
 pub mod OrderBy

@@ -5,6 +5,7 @@ pub mod Columns
 pub mod Files
 pub mod Grammar
 pub mod Grid
+pub mod Lists
 pub mod Order
 pub mod Printing
 pub mod RootNames

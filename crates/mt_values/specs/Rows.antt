@@ -9,6 +9,7 @@ use Rattle.mt_values.specs.declared.value.Value.{Value}
 use Rattle.mt_values.specs.declared.value.Value.TheVariants as value
 use Rattle.mt_values.specs.Values.{Row}
 use Rattle.mt_values.specs.Script.{line_from, takes_next}
+use Rattle.mt_values.specs.Lists.{in_front}
 
 -- a byte in front of the first of some fields
 abbrev pub onto_first : ℕ → List (List ℕ) → List (List ℕ)
@@ -51,28 +52,19 @@ value_of_field type.UInt8 field = option_map value.UInt8 (unsigned_up_to 255 fie
 value_of_field type.Text field = option_map value.Text (plain_text field)
 value_of_field t field = None
 
--- a value in front of the others of a row
-abbrev pub with_value : Option Row → Value → Option Row
-with_value None v = None
-with_value (Some row) v = Some (v ∷ row)
-
 -- the row of fields, one for each type
 abbrev pub row_of_fields : List ColType → List (List ℕ) → Option Row
 row_of_fields [] [] = Some []
-row_of_fields (t ∷ ts) (f ∷ fs) = option_and_then (with_value (row_of_fields ts fs)) (value_of_field t f)
+row_of_fields (t ∷ ts) (f ∷ fs) = option_and_then (in_front (row_of_fields ts fs)) (value_of_field t f)
 row_of_fields types fields = None
 
 abbrev pub row_of_line : List ColType → List ℕ → Option Row
 row_of_line types line = row_of_fields types (fields_from false line)
 
-abbrev pub with_row : Option (List Row) → Row → Option (List Row)
-with_row None row = None
-with_row (Some rows) row = Some (row ∷ rows)
-
 -- the rows that data begins with, by its first line and what the rest gives
 abbrev pub rows_behind : (List ℕ → Option (List Row)) → List ColType → Option (List ℕ × List ℕ) → Option (List Row)
 rows_behind more types None = Some []
-rows_behind more types (Some found) = option_and_then (with_row (more found.1)) (row_of_line types found.0)
+rows_behind more types (Some found) = option_and_then (in_front (more found.1)) (row_of_line types found.0)
 
 -- At most so many rows of data. What no line feed ends is no row. None where a line is no row of the types.
 abbrev pub rows_within : ℕ → List ColType → List ℕ → Option (List Row)

@@ -6,6 +6,7 @@ use Rattle.std.specs.Cmp.Lexicographic.{pointwise}
 use Rattle.std.specs.Char.{is_ascii_alphabetic, is_ascii_alphanumeric, eq_ignore_ascii_case}
 use Rattle.mt_values.specs.declared.token.Token.{Token}
 use Rattle.mt_values.specs.declared.token.Token.TheVariants as token
+use Rattle.mt_values.specs.Lists.{in_front}
 
 -- space, tab, line feed or carriage return
 abbrev pub is_space : ℕ → Bool
@@ -50,15 +51,10 @@ first_token (b ∷ bs) =
     if starts_word b then Some (token.Word (take_while in_word (b ∷ bs)), drop (prefix_len in_word (b ∷ bs)) (b ∷ bs))
     else option_map (λ t. (t, bs)) (symbol_of b)
 
--- one more token in front of others, where there are those
-abbrev pub with_token : Token → Option (List Token) → Option (List Token)
-with_token t None = None
-with_token t (Some ts) = Some (t ∷ ts)
-
 -- a token in front of those that the rest of a text gives
 abbrev pub token_and : (List ℕ → Option (List Token)) → Option (Token × List ℕ) → Option (List Token)
 token_and more None = None
-token_and more (Some found) = with_token found.0 (more found.1)
+token_and more (Some found) = in_front (more found.1) found.0
 
 abbrev pub tokens_from : (List ℕ → Option (List Token)) → List ℕ → Option (List Token)
 tokens_from more [] = Some []

@@ -1,7 +1,6 @@
 -- Values and rows (docs/definitions.md, "Values").
-use Rattle.std.specs.Prelude.{ℕ, ◌<◌, ◌≤◌, ◌^◌, List, length, map, All}
+use Rattle.std.specs.Prelude.{ℕ, ◌<◌, ◌≤◌, ◌^◌, List, length, map, All, FitsSigned}
 use Rattle.std.specs.Int.{w8, w16, w32, w64}
-use Rattle.std.specs.Int.RustNames.{FitsSigned}
 use Rattle.mt_values.specs.declared.value.ColType.{ColType}
 use Rattle.mt_values.specs.declared.value.ColType.TheVariants as type
 use Rattle.mt_values.specs.declared.value.Value.{Value}
@@ -27,17 +26,22 @@ type_of (value.Text bytes) = type.Text
 abbrev pub types_of : Row → List ColType
 types_of row = map type_of row
 
--- a value that a column may hold: a number of its type's range, or at most 1 MiB of bytes
+-- a number is within its type's range; a text is any list
+abbrev pub FitsType : Value → Type 0
+FitsType (value.UInt8 n) = n < 2 ^ 8
+FitsType (value.UInt16 n) = n < 2 ^ 16
+FitsType (value.UInt32 n) = n < 2 ^ 32
+FitsType (value.UInt64 n) = n < 2 ^ 64
+FitsType (value.Int8 z) = FitsSigned w8 z
+FitsType (value.Int16 z) = FitsSigned w16 z
+FitsType (value.Int32 z) = FitsSigned w32 z
+FitsType (value.Int64 z) = FitsSigned w64 z
+FitsType (value.Text bytes) = Unit {0}
+
+-- a value that a column may hold: a number within its type's range, or at most 1 MiB of bytes
 abbrev pub IsValue : Value → Type 0
-IsValue (value.UInt8 n) = n < 2 ^ 8
-IsValue (value.UInt16 n) = n < 2 ^ 16
-IsValue (value.UInt32 n) = n < 2 ^ 32
-IsValue (value.UInt64 n) = n < 2 ^ 64
-IsValue (value.Int8 z) = FitsSigned w8 z
-IsValue (value.Int16 z) = FitsSigned w16 z
-IsValue (value.Int32 z) = FitsSigned w32 z
-IsValue (value.Int64 z) = FitsSigned w64 z
 IsValue (value.Text bytes) = All (λ b. b < 2 ^ 8) bytes × (length bytes ≤ 1048576)
+IsValue v = FitsType v
 
 -- every value of the rows is one that a column may hold
 abbrev pub AreValues : List Row → Type 0

@@ -5,21 +5,13 @@ use Rattle.std.proofs.lemmas.List.{take_more, drop_all}
 use Rattle.std.specs.Option.{option_map}
 use Rattle.mt_values.specs.declared.script.Place.{Place}
 use Rattle.mt_values.specs.Script.{onto, place_behind, ends_at, ended_from, takes_next, line_from}
-
--- a front of a text before the parts of what stands behind it
-abbrev pub parted : List ℕ → Option (List ℕ × List ℕ) → Option (List ℕ × List ℕ)
-parted front None = None
-parted front (Some p) = Some (front ++ p.0, p.1)
-
-parted_push : (front : List ℕ) (b : ℕ) (found : Option (List ℕ × List ℕ)) → parted (front ++ b ∷ []) found ≡ parted front (option_map (onto b) found)
-parted_push front b None = refl
-parted_push front b (Some p) = ap (λ (l : List ℕ). Some (l, p.1)) (append_assoc front (b ∷ []) p.0)
+use Rattle.mt_values.proofs.Fronts.{parted, parted_more}
 
 module _ (text : List ℕ) (i : ℕ) (d : ℕ) where
   -- the byte at this place ends no statement
   pub ended_more : (place : Place) → i < length text → ends_at place (get_or text i d) ≡ false →
       parted (take (i + 1) text) (ended_from (place_behind place (get_or text i d) (drop (i + 1) text)) (drop (i + 1) text)) ≡ parted (take i text) (ended_from place (drop i text))
-  ended_more place lt no_end = rw (take_more text i d lt, parted_push, add-one, drop-cons text i d lt, no_end) refl
+  ended_more place lt no_end = rw (take_more text i d lt, ← parted_more, add-one, drop-cons text i d lt, no_end) refl
 
   -- the byte at this place ends the statement
   pub ended_here : (place : Place) → i < length text → ends_at place (get_or text i d) ≡ true →
@@ -33,7 +25,7 @@ module _ (text : List ℕ) (i : ℕ) (d : ℕ) where
   -- the byte at this place ends no line
   pub line_more : (taken : Bool) → i < length text → (not taken && get_or text i d == 10) ≡ false →
       parted (take (i + 1) text) (line_from (takes_next taken (get_or text i d)) (drop (i + 1) text)) ≡ parted (take i text) (line_from taken (drop i text))
-  line_more taken lt no_end = rw (take_more text i d lt, parted_push, add-one, drop-cons text i d lt, no_end) refl
+  line_more taken lt no_end = rw (take_more text i d lt, ← parted_more, add-one, drop-cons text i d lt, no_end) refl
 
   -- the byte at this place ends the line
   pub line_here : (taken : Bool) → i < length text → (not taken && get_or text i d == 10) ≡ true →

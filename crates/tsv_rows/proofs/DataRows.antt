@@ -8,30 +8,19 @@ use Rattle.mt_values.specs.declared.value.ColType.{ColType}
 use Rattle.mt_values.specs.Grid.{Cells, rows_of}
 use Rattle.mt_values.specs.Values.{Row}
 use Rattle.mt_values.specs.Script.{line_from}
-use Rattle.mt_values.specs.Rows.{fields_from, with_row, row_of_fields, row_of_line, rows_behind, rows_of_data, few_rows}
+use Rattle.mt_values.specs.Rows.{fields_from, row_of_fields, row_of_line, rows_behind, rows_of_data, few_rows}
 use Rattle.mt_values.proofs.Grids.{AreEven, length-rows_of}
 use Rattle.mt_values.proofs.Bounds.{rows_of_data_step}
 use Rattle.tsv_rows.specs.Columns.{with_fields}
 use Rattle.tsv_rows.proofs.PushedRows.{with_row_last, with_fields_is, length-row_of_fields, types_in-with_row_last, AreEven-with_row_last, rows_of-with_row_last}
-
--- rows in front of those of other data
-abbrev pub rows_onto : List Row → Option (List Row) → Option (List Row)
-rows_onto front None = None
-rows_onto front (Some rows) = Some (front ++ rows)
-
-pub rows_onto_none : (found : Option (List Row)) → rows_onto [] found ≡ found
-rows_onto_none None = refl
-rows_onto_none (Some rows) = refl
-
-rows_onto_push : (front : List Row) (row : Row) (found : Option (List Row)) → rows_onto (front ++ row ∷ []) found ≡ rows_onto front (with_row found row)
-rows_onto_push front row None = refl
-rows_onto_push front row (Some rows) = ap Some (append_assoc front (row ∷ []) rows)
+use Rattle.mt_values.specs.Lists.{in_front}
+use Rattle.mt_values.proofs.Fronts.{fronted, fronted_none, fronted_more}
 
 -- Columns keep the rows of the lines before some text.
 pub record KeepLines (types : List ColType) (lines text : List ℕ) (columns : List Cells) (count : ℕ) : Type 0 where
   pub even : AreEven columns count
   pub typed : map (λ (c : Cells). c.col_type) columns ≡ types
-  pub rows : rows_onto (rows_of columns count) (rows_of_data types text) ≡ rows_of_data types lines
+  pub rows : fronted (rows_of columns count) (rows_of_data types text) ≡ rows_of_data types lines
 
 types_of_empty : (types : List ColType) → map (λ (c : Cells). c.col_type) (map (λ t. record { col_type = t; values = [] }) types) ≡ types
 types_of_empty [] = refl
@@ -43,7 +32,7 @@ no_lines types lines =
     record {
       even = All-map (λ (c : Cells). length c.values ≡ 0) (λ t. record { col_type = t; values = [] }) types (λ k d q. refl);
       typed = types_of_empty types;
-      rows = rows_onto_none (rows_of_data types lines);
+      rows = fronted_none (rows_of_data types lines);
     }
 
 few_fit : (rows : List Row) → length rows ≤ 1048576 → few_rows rows ≡ Some rows
@@ -51,7 +40,7 @@ few_fit rows few =
     let fits : leb (length rows) 1048576 ≡ true = grind (arith, nat_tests) in
     rw fits refl
 
-many : (front : List Row) (more : Option (List Row)) (row : Option Row) → 1048576 ≤ length front → option_and_then few_rows (rows_onto front (option_and_then (with_row more) row)) ≡ None
+many : (front : List Row) (more : Option (List Row)) (row : Option Row) → 1048576 ≤ length front → option_and_then few_rows (fronted front (option_and_then (in_front more) row)) ≡ None
 many front more None enough = refl
 many front None (Some row) enough = refl
 many front (Some rows) (Some row) enough =
@@ -69,17 +58,17 @@ module _ (types : List ColType) (lines text : List ℕ) (columns : List Cells) (
   lines_end last few =
       let front = rows_of columns count in
       let text_rows : rows_of_data types text ≡ Some [] = rows_of_data_step types text ∙ ap (rows_behind (rows_of_data types) types) (sym last) in
-      let whole : rows_of_data types lines ≡ Some front = sym kept.rows ∙ ap (rows_onto front) text_rows ∙ ap Some (append-nil front) in
+      let whole : rows_of_data types lines ≡ Some front = sym kept.rows ∙ ap (fronted front) text_rows ∙ ap Some (append-nil front) in
       sym (ap (option_and_then few_rows) whole ∙ few_fit front (omega (arith, length-rows_of columns count)))
 
 -- Another line of data.
 module _ (types : List ColType) (lines text : List ℕ) (columns : List Cells) (count : ℕ) (kept : KeepLines types lines text columns count) (line rest : List ℕ)
     (found : Some (line, rest) ≡ line_from false text) where
-  text_rows : rows_of_data types text ≡ option_and_then (with_row (rows_of_data types rest)) (row_of_line types line)
+  text_rows : rows_of_data types text ≡ option_and_then (in_front (rows_of_data types rest)) (row_of_line types line)
   text_rows = rows_of_data_step types text ∙ ap (rows_behind (rows_of_data types) types) (sym found)
 
-  lines_rows : rows_of_data types lines ≡ rows_onto (rows_of columns count) (option_and_then (with_row (rows_of_data types rest)) (row_of_line types line))
-  lines_rows = sym kept.rows ∙ ap (rows_onto (rows_of columns count)) text_rows
+  lines_rows : rows_of_data types lines ≡ fronted (rows_of columns count) (option_and_then (in_front (rows_of_data types rest)) (row_of_line types line))
+  lines_rows = sym kept.rows ∙ ap (fronted (rows_of columns count)) text_rows
 
   -- it is one too many
   pub lines_many : 1048576 ≤ count → None ≡ option_and_then few_rows (rows_of_data types lines)
@@ -94,7 +83,7 @@ module _ (types : List ColType) (lines text : List ℕ) (columns : List Cells) (
   lines_refused refused =
       let none = none_from (with_row_last columns) (row_of_fields (map (λ (c : Cells). c.col_type) columns) (fields_from false line)) (refused ∙ with_fields_is columns (fields_from false line)) in
       let front = rows_of columns count in
-      sym (ap (option_and_then few_rows) (lines_rows ∙ ap (λ (o : Option Row). rows_onto front (option_and_then (with_row (rows_of_data types rest)) o)) (row_is None none)))
+      sym (ap (option_and_then few_rows) (lines_rows ∙ ap (λ (o : Option Row). fronted front (option_and_then (in_front (rows_of_data types rest)) o)) (row_is None none)))
 
   -- its values stand behind those of the columns
   pub lines_more : (new : List Cells) → Some new ≡ with_fields columns (fields_from false line) → KeepLines types lines rest new (count + 1)
@@ -113,8 +102,8 @@ module _ (types : List ColType) (lines text : List ℕ) (columns : List Cells) (
             even = rw new_is (AreEven-with_row_last count columns row kept.even len);
             typed = rw new_is (types_in-with_row_last columns row len ∙ kept.typed);
             rows =
-                ap (λ (cs : List Cells). rows_onto (rows_of cs (count + 1)) (rows_of_data types rest)) new_is
-                ∙ ap (λ rs. rows_onto rs (rows_of_data types rest)) (rows_of-with_row_last count columns row kept.even len)
-                ∙ rows_onto_push front row (rows_of_data types rest)
-                ∙ sym (lines_rows ∙ ap (λ (o : Option Row). rows_onto front (option_and_then (with_row (rows_of_data types rest)) o)) (row_is (Some row) e));
+                ap (λ (cs : List Cells). fronted (rows_of cs (count + 1)) (rows_of_data types rest)) new_is
+                ∙ ap (λ rs. fronted rs (rows_of_data types rest)) (rows_of-with_row_last count columns row kept.even len)
+                ∙ sym (fronted_more front row (rows_of_data types rest))
+                ∙ sym (lines_rows ∙ ap (λ (o : Option Row). fronted front (option_and_then (in_front (rows_of_data types rest)) o)) (row_is (Some row) e));
           }

@@ -10,9 +10,10 @@ use Rattle.mt_values.specs.declared.value.ColType.{ColType}
 use Rattle.mt_values.specs.declared.value.Value.{Value}
 use Rattle.mt_values.specs.Grid.{Cells, row_at, rows_of}
 use Rattle.mt_values.specs.Values.{Row}
-use Rattle.mt_values.specs.Rows.{value_of_field, with_value, row_of_fields}
+use Rattle.mt_values.specs.Rows.{value_of_field, row_of_fields}
 use Rattle.mt_values.proofs.Grids.{AreEven, length-rows_of, slice_get-rows_of}
-use Rattle.tsv_rows.specs.Columns.{with_last, with_field, with_column, with_fields}
+use Rattle.tsv_rows.specs.Columns.{with_last, with_field, with_fields}
+use Rattle.mt_values.specs.Lists.{in_front}
 
 -- columns with the values of a row behind their others
 abbrev pub with_row_last : List Cells → Row → List Cells
@@ -25,7 +26,7 @@ types_in columns = map (λ (c : Cells). c.col_type) columns
 -- ---- the fields of a line are a row's values
 
 each_field : (c : Cells) (cs : List Cells) (v : Option Value) (row : Option Row) →
-    option_and_then (with_column (option_map (with_row_last cs) row)) (option_map (with_last c) v) ≡ option_map (with_row_last (c ∷ cs)) (option_and_then (with_value row) v)
+    option_and_then (in_front (option_map (with_row_last cs) row)) (option_map (with_last c) v) ≡ option_map (with_row_last (c ∷ cs)) (option_and_then (in_front row) v)
 each_field c cs None row = refl
 each_field c cs (Some v) None = refl
 each_field c cs (Some v) (Some row) = refl
@@ -36,10 +37,10 @@ with_fields_is [] [] = refl
 with_fields_is [] (f ∷ fs) = refl
 with_fields_is (c ∷ cs) [] = refl
 with_fields_is (c ∷ cs) (f ∷ fs) =
-    ap (λ (o : Option (List Cells)). option_and_then (with_column o) (with_field c f)) (with_fields_is cs fs)
+    ap (λ (o : Option (List Cells)). option_and_then (in_front o) (with_field c f)) (with_fields_is cs fs)
     ∙ each_field c cs (value_of_field c.col_type f) (row_of_fields (types_in cs) fs)
 
-one_longer : (n : ℕ) (v : Option Value) (row : Option Row) → IfSome row (λ r. length r ≡ n) → IfSome (option_and_then (with_value row) v) (λ r. length r ≡ suc n)
+one_longer : (n : ℕ) (v : Option Value) (row : Option Row) → IfSome row (λ r. length r ≡ n) → IfSome (option_and_then (in_front row) v) (λ r. length r ≡ suc n)
 one_longer n None row same = tt
 one_longer n (Some v) None same = tt
 one_longer n (Some v) (Some row) same = ap suc same

@@ -4,6 +4,7 @@ use Rattle.std.specs.Option.{option_map, option_and_then}
 use Rattle.mt_values.specs.Grid.{Cells}
 use Rattle.mt_values.specs.Rows.{fields_from, value_of_field}
 use Rattle.mt_values.specs.declared.value.Value.{Value}
+use Rattle.mt_values.specs.Lists.{in_front}
 
 -- a column with one more value
 abbrev pub with_last : Cells → Value → Cells
@@ -13,15 +14,10 @@ with_last column v = record { col_type = column.col_type; values = column.values
 abbrev pub with_field : Cells → List ℕ → Option Cells
 with_field column field = option_map (with_last column) (value_of_field column.col_type field)
 
--- a column in front of others
-abbrev pub with_column : Option (List Cells) → Cells → Option (List Cells)
-with_column None column = None
-with_column (Some columns) column = Some (column ∷ columns)
-
 -- columns with the values of fields behind their others, a field for each column
 abbrev pub with_fields : List Cells → List (List ℕ) → Option (List Cells)
 with_fields [] [] = Some []
-with_fields (c ∷ cs) (f ∷ fs) = option_and_then (with_column (with_fields cs fs)) (with_field c f)
+with_fields (c ∷ cs) (f ∷ fs) = option_and_then (in_front (with_fields cs fs)) (with_field c f)
 with_fields columns fields = None
 
 -- what was read, where the answer is that it fits

@@ -143,7 +143,7 @@ fn read_field(column: &mut ColumnData, field: &[u8]) -> Result<bool, NoMemory>
 
 // Adds the values of a line to the columns. Answers whether the line is a row of their types; where it is not,
 // some columns may have got a value.
-#[tactic(auto, using(crate::proofs::LineColumns::columns_onto_none, crate::proofs::LineColumns::column_more, crate::proofs::LineColumns::column_refused, crate::proofs::LineColumns::column_alone, crate::proofs::LineColumns::columns_end, crate::proofs::LineColumns::columns_over))]
+#[tactic(auto, using(crate::proofs::LineColumns::fronted_none, crate::proofs::LineColumns::column_more, crate::proofs::LineColumns::column_refused, crate::proofs::LineColumns::column_alone, crate::proofs::LineColumns::columns_end, crate::proofs::LineColumns::columns_over))]
 fn read_line(columns: &mut [ColumnData], line: &[u8]) -> Result<bool, NoMemory>
     ensures { IfOk result
         (λ fits. if_fits fits columns.new ≡ with_fields columns.old (fields_from false line.now)) }

@@ -45,7 +45,7 @@ fn few_rows(found: Option<Seq<Row>>) -> Option<Seq<Row>>
 }
 
 /// The rows of data, one for each line; none where a line is no row.
-#[tactic(auto, using(crate::proofs::Reading::behind_rows_none, crate::proofs::Reading::rows_more, crate::proofs::Reading::rows_stop, crate::proofs::Reading::rows_by_none))]
+#[tactic(auto, using(crate::proofs::Reading::fronted_none, crate::proofs::Reading::rows_more, crate::proofs::Reading::rows_stop, crate::proofs::Reading::rows_by_none))]
 fn rows_of_data(
     alloc: Global,
     types: &[ColType],
@@ -66,7 +66,7 @@ fn rows_of_data(
 }
 
 /// The place of the first byte of a kind that no backslash takes.
-#[tactic(auto, using(crate::proofs::Reading::behind_part_none, crate::proofs::Reading::behind_part_more))]
+#[tactic(auto, using(crate::proofs::Reading::parted_none, crate::proofs::Reading::parted_more))]
 fn first_stop(text: &[u8], stop: u8) -> Option<usize>
     ensures { EndsAt stop text.now result }
 {
@@ -127,7 +127,7 @@ fn fields_of(alloc: Global, line: &[u8]) -> Result<Seq<Bytes>, NoMemory>
 }
 
 /// The row of fields, one for each type.
-#[tactic(auto, using(crate::proofs::Reading::uneven_fields, crate::proofs::Reading::behind_row_none, crate::proofs::Reading::behind_row_more))]
+#[tactic(auto, using(crate::proofs::Reading::uneven_fields, crate::proofs::Reading::fronted_none, crate::proofs::Reading::fronted_more))]
 fn row_of_fields(
     alloc: Global,
     types: &[ColType],

@@ -38,7 +38,7 @@ fn sound_schema(schema: Schema) -> Option<Schema>
 }
 
 /// The places of the columns that a key names; none where one is no column.
-#[tactic(auto, using(crate::proofs::Resolving::behind_none, crate::proofs::Resolving::behind_more))]
+#[tactic(auto, using(crate::proofs::Resolving::fronted_none, crate::proofs::Resolving::fronted_more))]
 fn places_of(alloc: Global, columns: &[Column], key: &[Name]) -> Result<Option<Seq<u32>>, NoMemory>
     requires { length columns.now < 2 ^ 32 }
     ensures { IfOk result (λ places. places ≡ reply.places_of columns.now key.now) }

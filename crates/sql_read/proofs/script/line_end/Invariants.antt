@@ -1,6 +1,6 @@
 use Rattle.std.proofs.Common.{◌≡◌, take, drop, false}
 use Rattle.mt_values.specs.Script.{line_from}
-use Rattle.sql_read.proofs.TextParts.{parted}
+use Rattle.mt_values.proofs.Fronts.{parted}
 use Rattle.sql_read.proofs.script.line_end.Given as goal
 
 abbrev pub invariant-loop-at : goal.invariant-loop-at
