@@ -122,7 +122,7 @@ impl Block {
         if columns.is_empty() {
             return all_places(alloc, rows as u32);
         }
-        let mut pairs = led_places(alloc, self.column(columns[0] as usize))?;
+        let mut pairs = led_places(alloc, self, columns)?;
         pairs.sort_by(|a, b| cmp_pairs(self, columns, *a, *b))?;
         places_of(alloc, &pairs)
     }
