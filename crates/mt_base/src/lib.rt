@@ -1,10 +1,12 @@
-//! What every other crate stands on: a list that contracts see as a list, want of memory, and equal copies.
+//! What every other crate stands on: a list that contracts see as a list, want of memory, equal copies, and a partition.
 #![tactic(auto)]
 
 mod memory;
+mod partition;
 mod seq;
 mod twin;
 
 pub use memory::NoMemory;
+pub use partition::Partition;
 pub use seq::Seq;
 pub use twin::{Rows, Twin};

@@ -5,7 +5,7 @@ use Rattle.std.proofs.lemmas.List.Elements.{All-nil, All-cons}
 use Rattle.std.specs.List.{position_or_len}
 use Rattle.std.specs.Option.{option_map, option_and_then}
 use Rattle.mt_values.specs.declared.command.Command.TheVariants as command
-use Rattle.mt_values.specs.declared.name.Partition.TheVariants.{Whole}
+use Rattle.mt_base.specs.declared.partition.Partition.TheVariants.{Whole}
 use Rattle.mt_values.specs.declared.schema.Column.{Column}
 use Rattle.mt_values.specs.declared.schema.Schema.{Schema}
 use Rattle.mt_values.specs.declared.value.ColType.{ColType}

@@ -4,7 +4,7 @@ use Rattle.mt_values.specs.declared.command.Entry.{Entry}
 use Rattle.mt_values.specs.declared.command.Command.{Command}
 use Rattle.mt_values.specs.declared.command.Command.TheVariants as command
 use Rattle.mt_values.specs.declared.command.Insert.{Insert}
-use Rattle.mt_values.specs.declared.name.Partition.TheVariants.{Whole}
+use Rattle.mt_base.specs.declared.partition.Partition.TheVariants.{Whole}
 use Rattle.mt_values.specs.declared.schema.Schema.{Schema}
 use Rattle.mt_values.specs.declared.schema.Column.{Column}
 use Rattle.mt_values.specs.declared.value.ColType.{ColType}

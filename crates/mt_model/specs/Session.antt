@@ -2,7 +2,7 @@
 use Rattle.std.specs.Prelude.{◌≡◌, ◌⊎◌, ℕ, ◌-◌, ◌<◌, ◌≤◌, List, [], ◌∷◌, ◌++◌, length, take, drop, Some, None, slice_get}
 use Rattle.mt_values.specs.declared.command.Command.{Command}
 use Rattle.mt_values.specs.declared.command.Command.TheVariants as command
-use Rattle.mt_values.specs.declared.name.Partition.TheVariants.{Whole}
+use Rattle.mt_base.specs.declared.partition.Partition.TheVariants.{Whole}
 use Rattle.mt_values.specs.declared.schema.Schema.{Schema}
 use Rattle.mt_values.specs.declared.statement.Statement.{Statement}
 use Rattle.mt_values.specs.declared.statement.Statement.TheVariants as statement

@@ -1,5 +1,6 @@
 // The commands that a history is made of.
-use crate::{Block, Name, Partition, Schema};
+use crate::{Block, Name, Schema};
+use mt_base::Partition;
 
 /// A table to be made.
 #[derive(Debug, Drop)]

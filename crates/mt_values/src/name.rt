@@ -1,4 +1,4 @@
-// Names of the root, the files behind them, and the partitions of a table.
+// Names of the root, and the files behind them.
 use mt_base::Seq;
 
 /// A name of a table, of a column or of the root, as its bytes.
@@ -16,15 +16,6 @@ pub enum FileId {
     Skip(u32),
     /// The file of the column with this number, from 0.
     Column(u32),
-}
-
-/// A partition of a table.
-#[derive(Clone, Copy, Debug, PartialEq, Eq)]
-pub enum Partition {
-    /// The one partition of a table without PARTITION BY.
-    Whole,
-    /// The rows whose partition column has this value.
-    Number(u64),
 }
 
 impl FileId {
