@@ -4,9 +4,9 @@
 #[cfg(test)]
 mod blocks;
 #[cfg(test)]
-mod examples;
+mod crashes;
 #[cfg(test)]
-mod outside;
+mod examples;
 #[cfg(test)]
 mod printing;
 #[cfg(test)]
