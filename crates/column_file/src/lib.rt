@@ -1,0 +1,14 @@
+//! The values of a column as the bytes of its file, and back.
+#![tactic(auto)]
+
+mod cells;
+mod decoding;
+mod encoding;
+mod faults;
+mod laws;
+mod leb128;
+
+pub use decoding::{decode_column, decode_granule, decode_onto};
+pub use encoding::{ColumnBytes, encode_column};
+pub use faults::FormatFault;
+pub use laws::bytes_are_read_in_one_way;
