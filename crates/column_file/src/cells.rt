@@ -9,6 +9,7 @@ ghost use Rattle.column_file.specs.Faults.{NoneBegins};
 ghost use Rattle.column_file.specs.Spellings.{Begins, IsOfType, fewest_bytes};
 
 use crate::leb128::{push_leb128, read_leb128};
+use byteorder::{ByteOrder, LittleEndian};
 use mt_base::NoMemory;
 use mt_values::{Bytes, Cell, ColType};
 
@@ -21,15 +22,48 @@ pub fn push_cell(bytes: &mut Bytes, cell: Cell) -> Result<(), NoMemory>
 {
     match cell {
         Cell::UInt8(n) => bytes.push(n),
-        Cell::UInt16(n) => bytes.extend(&n.to_le_bytes()),
-        Cell::UInt32(n) => bytes.extend(&n.to_le_bytes()),
-        Cell::UInt64(n) => bytes.extend(&n.to_le_bytes()),
-        Cell::Int8(n) => bytes.extend(&n.to_le_bytes()),
-        Cell::Int16(n) => bytes.extend(&n.to_le_bytes()),
-        Cell::Int32(n) => bytes.extend(&n.to_le_bytes()),
-        Cell::Int64(n) => bytes.extend(&n.to_le_bytes()),
+        Cell::UInt16(n) => push_u16(bytes, n),
+        Cell::UInt32(n) => push_u32(bytes, n),
+        Cell::UInt64(n) => push_u64(bytes, n),
+        Cell::Int8(n) => bytes.push(n.cast_unsigned()),
+        Cell::Int16(n) => push_u16(bytes, n.cast_unsigned()),
+        Cell::Int32(n) => push_u32(bytes, n.cast_unsigned()),
+        Cell::Int64(n) => push_u64(bytes, n.cast_unsigned()),
         Cell::Text(text) => push_text(bytes, text),
     }
+}
+
+/// Adds the two bytes of a number, the lowest first.
+///
+/// `NoMemory` where the growth was refused; the bytes stay as they were.
+fn push_u16(bytes: &mut Bytes, number: u16) -> Result<(), NoMemory>
+    ensures { OnOk result (bytes.new ≡ bytes.old ++ to_le_bytes w16 number) }
+{
+    let mut spelled = [0; 2];
+    LittleEndian::write_u16(&mut spelled, number);
+    bytes.extend(&spelled)
+}
+
+/// Adds the four bytes of a number, the lowest first.
+///
+/// `NoMemory` where the growth was refused; the bytes stay as they were.
+fn push_u32(bytes: &mut Bytes, number: u32) -> Result<(), NoMemory>
+    ensures { OnOk result (bytes.new ≡ bytes.old ++ to_le_bytes w32 number) }
+{
+    let mut spelled = [0; 4];
+    LittleEndian::write_u32(&mut spelled, number);
+    bytes.extend(&spelled)
+}
+
+/// Adds the eight bytes of a number, the lowest first.
+///
+/// `NoMemory` where the growth was refused; the bytes stay as they were.
+fn push_u64(bytes: &mut Bytes, number: u64) -> Result<(), NoMemory>
+    ensures { OnOk result (bytes.new ≡ bytes.old ++ to_le_bytes w64 number) }
+{
+    let mut spelled = [0; 8];
+    LittleEndian::write_u64(&mut spelled, number);
+    bytes.extend(&spelled)
 }
 
 /// Adds the length of a text, and then the text.

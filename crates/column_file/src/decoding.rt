@@ -1,13 +1,15 @@
 // Bytes read back as values.
-ghost use Rattle.std.specs.Prelude.{◌≡◌, List, IfErr, IfOk, MatchResult, OnOk};
+ghost use Rattle.std.specs.Prelude.{◌≡◌, ◌<◌, ◌≤◌, List, IfErr, IfOk, MatchResult, OnOk, drop, length};
+ghost use Rattle.mt_values.specs.Cells.{value_of};
+ghost use Rattle.mt_values.specs.ColumnBytes.{value_bytes};
 ghost use Rattle.mt_values.specs.declared.value.Value.{Value};
-ghost use Rattle.column_file.specs.Faults.{Explains};
-ghost use Rattle.column_file.specs.Spellings.{GainsAll, GainsFront, IsSpelling, with_values};
+ghost use Rattle.column_file.specs.Faults.{Explains, NoneBegins};
+ghost use Rattle.column_file.specs.Spellings.{Begins, GainsAll, GainsFront, IsOfType, IsSpelling, with_values};
 
 use crate::cells::first_cell;
 use crate::faults::FormatFault;
 use mt_base::Seq;
-use mt_values::{ColType, ColumnData, Value};
+use mt_values::{Cell, ColType, ColumnData, Value};
 use std::alloc::Global;
 
 /// The column of the values that the bytes spell, `count` of them.
@@ -42,16 +44,11 @@ pub fn decode_onto(column: &mut ColumnData, bytes: &[u8], count: usize) -> Resul
     let col_type = column.col_type();
     let mut at = 0;
     for _value in 0..count {
-        let Some((cell, size)) = first_cell(col_type, &bytes[at..]) else {
-            return Err(FormatFault::Malformed { place: at as u64 });
-        };
+        let (cell, size) = cell_at(col_type, bytes, at)?;
         column.push_cell(cell)?;
         at += size;
     }
-    if at < bytes.len() {
-        return Err(FormatFault::Malformed { place: at as u64 });
-    }
-    Ok(())
+    end_at(bytes, at)
 }
 
 /// The values that the bytes spell, `count` of them, each by itself.
@@ -71,14 +68,35 @@ pub fn decode_granule(
     let mut values = Seq::with_capacity(alloc, count.min(bytes.len()))?;
     let mut at = 0;
     for _value in 0..count {
-        let Some((cell, size)) = first_cell(col_type, &bytes[at..]) else {
-            return Err(FormatFault::Malformed { place: at as u64 });
-        };
+        let (cell, size) = cell_at(col_type, bytes, at)?;
         values.push(cell.to_value(alloc)?)?;
         at += size;
     }
+    end_at(bytes, at)?;
+    Ok(values.into_vec())
+}
+
+/// The value that begins at a place of the bytes, and how many bytes spell it.
+///
+/// `Malformed` at the place where no value of the type begins there.
+fn cell_at(col_type: ColType, bytes: &[u8], at: usize) -> Result<(Cell<'_>, usize), FormatFault>
+    requires { at ≤ length bytes.now }
+    ensures {
+        MatchResult result (λ p. IsOfType col_type (value_of p.0) × Begins (value_bytes (value_of p.0)) p.1 (drop at bytes.now))
+        (λ e. (e ≡ FormatFault.Malformed at) × NoneBegins col_type (drop at bytes.now))
+    }
+{
+    first_cell(col_type, &bytes[at..]).ok_or(FormatFault::Malformed { place: at as u64 })
+}
+
+/// Nothing, where the bytes end at the place.
+///
+/// `Malformed` at the place where they go on.
+fn end_at(bytes: &[u8], at: usize) -> Result<(), FormatFault>
+    ensures { MatchResult result (λ _. length bytes.now ≤ at) (λ e. (e ≡ FormatFault.Malformed at) × (at < length bytes.now)) }
+{
     if at < bytes.len() {
         return Err(FormatFault::Malformed { place: at as u64 });
     }
-    Ok(values.into_vec())
+    Ok(())
 }

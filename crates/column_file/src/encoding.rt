@@ -60,8 +60,9 @@ fn encode_cells(
     let mut bytes = Seq::with_capacity(alloc, order.len())?;
     let mut marks = Seq::new(alloc);
     for granule in order.chunks(granularity as usize) {
-        marks.push(bytes.len() as u64)?;
+        let begun = bytes.len() as u64;
         push_cells(&mut bytes, cells, granule)?;
+        marks.push(begun)?;
     }
     marks.push(bytes.len() as u64)?;
     Ok(ColumnBytes { bytes, marks })

@@ -26,12 +26,12 @@ loop-granule-preserved c =
       size = steps.0 ∙ c.loop-granule.invariant.size;
       written = granule_more c.args.cells.now.values c.args.order.now c.args.granularity _ _ _ c.in-Some.granule.now _ _ _ c.loop-granule.invariant.written steps.1.0
           (steps.1.1 ∙ ap (λ n. min n (length (chunks_rest c.loop-granule.granule-iterator))) c.loop-granule.invariant.size) steps.1.2
-          c.in_ok-push_cells.ensures.bytes c.in_ok-push_cells.ensures.encodable (c.in_ok-push.ensures.ok ∙ ap (λ n. c.loop-granule.marks ++ n ∷ []) c.len.ensures);
+          c.in_ok-push_cells.ensures.bytes c.in_ok-push_cells.ensures.encodable (c.in_ok-push.ensures.ok ∙ ap (λ n. c.loop-granule.marks ++ n ∷ []) c.len-begun.ensures);
     }
 
 -- all granules are written at the end
 all : (c : goal.In_ok-push-2) → (c.loop-granule.bytes ≡ column_bytes (filter_map (slice_get c.args.cells.now.values) c.args.order.now)) × (c.push-2.new.self ≡ marks_of c.args.granularity (filter_map (slice_get c.args.cells.now.values) c.args.order.now)) × All FitsType (filter_map (slice_get c.args.cells.now.values) c.args.order.now)
-all c = written_all c.args.cells.now.values c.args.order.now c.args.granularity _ _ _ c.push-2.new.self c.loop-granule.invariant.written c.in-None.ensures.steps.1.0 c.requires.places c.requires.granularity (c.in_ok-push-2.ensures.ok ∙ ap (λ n. c.loop-granule.marks ++ n ∷ []) c.len-2.ensures)
+all c = written_all c.args.cells.now.values c.args.order.now c.args.granularity _ _ _ c.push-2.new.self c.loop-granule.invariant.written c.in-None.ensures.steps.1.0 c.requires.places c.requires.granularity (c.in_ok-push-2.ensures.ok ∙ ap (λ n. c.loop-granule.marks ++ n ∷ []) c.len.ensures)
 
 pub returns-clause-bytes : goal.returns-clause-bytes
 returns-clause-bytes c = (all c).0
