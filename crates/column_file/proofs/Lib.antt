@@ -1,5 +1,5 @@
 pub mod Groups
 pub mod OneWay
 pub mod Reading
-pub mod SingleValues
+pub mod TextParts
 pub mod Writing

@@ -1,5 +1,5 @@
 -- Bytes are read in one way: no two values of a type begin one text, so no two lists of values do.
-use Rattle.std.proofs.Common.{◌≡◌, ◌≢◌, ℕ, suc, ◌+◌, ◌-◌, ◌%◌, ◌^◌,  ◌<◌, ◌≤◌, ℤ, List, [], ◌∷◌, ◌++◌, ◌⊎◌, All, refl, sym, ap, ap₂, ◌∙◌, inl, inr, length, length-append, take, drop, append_assoc, append-nil, arith, FitsSigned}
+use Rattle.std.proofs.Common.{◌≡◌, ℕ, suc, ◌+◌, ◌%◌, ◌^◌, ◌<◌, ◌≤◌, ℤ, List, [], ◌∷◌, ◌++◌, ◌⊎◌, All, refl, sym, ap, ap₂, ◌∙◌, inl, inr, length, length-append, take, drop, append_assoc, append-nil, arith, FitsSigned}
 use Rattle.std.proofs.Math.Facts.{Fits-of_z}
 use Rattle.std.proofs.lemmas.Bool.{cases_lt}
 use Rattle.std.proofs.lemmas.Int.{to_z-of_z}
@@ -12,18 +12,18 @@ use Rattle.mt_values.specs.declared.value.ColType.{ColType}
 use Rattle.mt_values.specs.declared.value.Value.{Value}
 use Rattle.mt_values.specs.declared.value.Value.TheVariants.{UInt8, UInt16, UInt32, UInt64, Int8, Int16, Int32, Int64, Text}
 use Rattle.mt_values.specs.ColumnBytes.{column_bytes, value_bytes, leb128}
-use Rattle.mt_values.specs.Values.{FitsType, type_of}
-use Rattle.column_file.specs.Faults.{IsFirstFault, IsStuck, NoneBegins}
-use Rattle.column_file.specs.Spellings.{IsFront, IsOfType, IsSpelling}
-use Rattle.column_file.proofs.Groups.{groups_apart, groups_within-some}
+use Rattle.column_file.specs.Faults.{IsFirstFault, IsStuck}
+use Rattle.column_file.specs.Spellings.{IsOfType, IsSpelling}
+use Rattle.column_file.proofs.Groups.{groups_apart}
 
 -- ---- values
 
 -- lists of one length at the front of one list are one
 fronts_apart : (xs ys r s : List ℕ) → length xs ≡ length ys → xs ++ r ≡ ys ++ s → (xs ≡ ys) × (r ≡ s)
-fronts_apart xs ys r s n e =
-    (sym (take_at xs r (length ys) n) ∙ ap (take (length ys)) e ∙ take_at ys s (length ys) refl,
-    sym (drop_at xs r (length ys) n) ∙ ap (drop (length ys)) e ∙ drop_at ys s (length ys) refl)
+fronts_apart xs ys r s n e = (
+  sym (take_at xs r (length ys) n) ∙ ap (take (length ys)) e ∙ take_at ys s (length ys) refl,
+  sym (drop_at xs r (length ys) n) ∙ ap (drop (length ys)) e ∙ drop_at ys s (length ys) refl,
+)
 
 one_apart : (m n : ℕ) (r s : List ℕ) → m < 2 ^ 8 → n < 2 ^ 8 → to_le_bytes w8 m ++ r ≡ to_le_bytes w8 n ++ s → (m ≡ n) × (r ≡ s)
 one_apart m n r s p q e =
@@ -81,18 +81,6 @@ value_apart t x y r s p q e = absurd cc
 
 -- ---- lists of values
 
--- a value takes some bytes
-pub value_bytes-some : (v : Value) → 0 < length (value_bytes v)
-value_bytes-some (UInt8 n) = omega arith
-value_bytes-some (UInt16 n) = omega arith
-value_bytes-some (UInt32 n) = omega arith
-value_bytes-some (UInt64 n) = omega arith
-value_bytes-some (Int8 n) = omega arith
-value_bytes-some (Int16 n) = omega arith
-value_bytes-some (Int32 n) = omega arith
-value_bytes-some (Int64 n) = omega arith
-value_bytes-some (Text bytes) = omega (arith, length-append (leb128 (length bytes)) bytes, groups_within-some 9 (length bytes))
-
 -- of two lists at the front of one text the longer begins with the shorter
 pub record Longer (t : ColType) (xs ys : List Value) (r s : List ℕ) : Type 0 where
   pub more : List Value
@@ -105,7 +93,7 @@ lists_apart t [] ys r s p q few e = record { more = ys; typed = q; parted = refl
 lists_apart t (x ∷ xs) [] r s p q few e = absurd (omega arith)
 lists_apart t (x ∷ xs) (y ∷ ys) r s p q few e =
     let first = value_apart t x y (column_bytes xs ++ r) (column_bytes ys ++ s) (All-head (IsOfType t) x xs p) (All-head (IsOfType t) y ys q)
-        (sym (append_assoc (value_bytes x) (column_bytes xs) r) ∙ e ∙ append_assoc (value_bytes y) (column_bytes ys) s) in
+    (sym (append_assoc (value_bytes x) (column_bytes xs) r) ∙ e ∙ append_assoc (value_bytes y) (column_bytes ys) s) in
     let behind = lists_apart t xs ys r s (All-tail (IsOfType t) x xs p) (All-tail (IsOfType t) y ys q) (omega arith) first.1 in
     record { more = behind.more; typed = behind.typed; parted = ap₂ (λ v vs. v ∷ vs) (sym first.0) behind.parted; rest = behind.rest }
 
@@ -115,7 +103,7 @@ lists_apart t (x ∷ xs) (y ∷ ys) r s p q few e =
 pub one_spelling : (t : ColType) (count : ℕ) (bytes : List ℕ) (xs ys : List Value) → IsSpelling t count bytes xs → IsSpelling t count bytes ys → xs ≡ ys
 one_spelling t count bytes xs ys p q =
     let l = lists_apart t xs ys [] [] p.typed q.typed (omega (arith, p.count_is, q.count_is))
-        (append-nil (column_bytes xs) ∙ sym p.spelled ∙ q.spelled ∙ sym (append-nil (column_bytes ys))) in
+    (append-nil (column_bytes xs) ∙ sym p.spelled ∙ q.spelled ∙ sym (append-nil (column_bytes ys))) in
     let none : length l.more ≡ 0 = omega (arith, p.count_is, q.count_is, simp length-append at (ap length l.parted)) in
     sym (append-nil xs) ∙ ap (λ vs. xs ++ vs) (sym (nil_from_length l.more none)) ∙ sym l.parted
 

@@ -1,5 +1,5 @@
 -- A walk over bytes: the values that were read, and where it ends.
-use Rattle.std.proofs.Common.{◌≡◌, ℕ, ◌+◌, ◌-◌, ◌<◌, ◌≤◌, List, [], ◌∷◌, ◌++◌, All, refl, sym, ap, ◌∙◌, subst, inl, inr, length, length-append, length-drop, drop, append_assoc, append-nil, arith, Result, Ok, Err, IsErrAnd, IfErr, MatchResult, OnOk}
+use Rattle.std.proofs.Common.{◌≡◌, ℕ, ◌+◌, ◌<◌, ◌≤◌, List, [], ◌∷◌, ◌++◌, All, refl, sym, ap, ◌∙◌, subst, inl, inr, length, length-append, length-drop, drop, append_assoc, append-nil, arith, Result, Ok, Err, IsErrAnd, IfErr, MatchResult, OnOk}
 use Rattle.std.proofs.lemmas.List.{drop-drop, drop_all}
 use Rattle.std.proofs.lemmas.List.Concat.{flat_map-append}
 use Rattle.std.proofs.lemmas.List.Elements.{All-nil, All-push}
@@ -35,7 +35,7 @@ module _ {t : ColType} {bytes : List ℕ} {at : ℕ} {values : List Value} where
       let one : column_bytes (v ∷ []) ≡ value_bytes v = append-nil (value_bytes v) in
       let all : column_bytes (values ++ v ∷ []) ≡ column_bytes values ++ value_bytes v = flat_map-append value_bytes values (v ∷ []) ∙ ap (λ l. column_bytes values ++ l) one in
       let left : drop at bytes ≡ value_bytes v ++ drop (at + size) bytes =
-          b.parted ∙ ap (λ l. value_bytes v ++ l) (drop-drop size at bytes) in
+      b.parted ∙ ap (λ l. value_bytes v ++ l) (drop-drop size at bytes) in
       record {
         typed = All-push (IsOfType t) values v r.typed typed;
         begins = record {

@@ -1,5 +1,5 @@
 -- Values at places of a column written one behind the other, granule by granule.
-use Rattle.std.proofs.Common.{◌≡◌, ℕ, zero, suc, ◌+◌, ◌-◌, ◌*◌, ◌/◌, ◌%◌, ◌<◌, ◌≤◌, ◌⊎◌, inl, inr, min, List, [], ◌∷◌, ◌++◌, Option, Some, None, refl, sym, ap, ap₂, ◌∙◌, subst, length, length-append, length-drop, map, get_or, take, drop, slice_get, filter_map, All, arith, append-nil, append_assoc, take-append-drop, mul-le-mul_right, mul_comm, mul-zero, suc-mul, zero-add}
+use Rattle.std.proofs.Common.{◌≡◌, ℕ, zero, suc, ◌+◌, ◌*◌, ◌<◌, ◌≤◌, ◌⊎◌, inl, inr, min, List, [], ◌∷◌, ◌++◌, Some, refl, sym, ap, ap₂, ◌∙◌, subst, length, length-append, length-drop, map, get_or, take, drop, slice_get, filter_map, All, arith, append-nil, append_assoc, mul-le-mul_right, mul_comm, mul-zero, suc-mul, zero-add}
 use Rattle.std.specs.Int.{div_ceil}
 use Rattle.std.specs.List.{range_with_len, cons_option}
 use Rattle.std.proofs.Math.Seq.{take-add}
@@ -8,13 +8,16 @@ use Rattle.std.proofs.lemmas.Grind.{div_ceil_times}
 use Rattle.std.proofs.lemmas.List.{take_all, take_at, drop_at, drop_all, drop-drop, get_or_default, nil_from_length, length_push}
 use Rattle.std.proofs.lemmas.List.Concat.{flat_map-append}
 use Rattle.std.proofs.lemmas.List.Elements.{All-head, All-tail, All-push, All-append, All-drop, All-take, All-nil, filter_map-append}
-use Rattle.std.proofs.lemmas.List.FromFn.{map-range_with_len_more, length-range_with_len}
+use Rattle.std.proofs.lemmas.List.FromFn.{map-range_with_len_more}
 use Rattle.std.proofs.lemmas.Option.{slice_get-get_or}
+use Rattle.mt_values.specs.declared.value.ColType.{ColType}
 use Rattle.mt_values.specs.declared.value.Value.{Value}
 use Rattle.mt_values.specs.declared.value.Value.TheVariants as value
 use Rattle.mt_values.specs.ColumnBytes.{column_bytes, value_bytes}
-use Rattle.mt_values.specs.Values.{FitsType}
-use Rattle.mt_values.proofs.Grids.{filter_map_more}
+use Rattle.mt_values.specs.Grid.{AreRowsOf, column_of, picked}
+use Rattle.mt_values.specs.Values.{FitsType, Row}
+use Rattle.mt_values.proofs.Grids.{column_of-picked, filter_map_more}
+use Rattle.mt_values.proofs.OrderBy.{all_reach}
 use Rattle.column_file.specs.Granules.{granule_start, marks_of}
 
 -- the values at these places
@@ -36,9 +39,9 @@ written_more values places i v old bytes new h is so_far e =
     let before = values_at values (take i places) in
     e ∙ ap (λ bs. bs ++ value_bytes v) so_far ∙ append_assoc old (column_bytes before) (value_bytes v)
     ∙ ap (λ bs. old ++ bs) (
-        ap (λ bs. column_bytes before ++ bs) (sym (append-nil (value_bytes v)))
-        ∙ sym (flat_map-append value_bytes before (v ∷ []))
-        ∙ ap column_bytes (sym (picked_more values places i v h is)))
+    ap (λ bs. column_bytes before ++ bs) (sym (append-nil (value_bytes v)))
+    ∙ sym (flat_map-append value_bytes before (v ∷ []))
+    ∙ ap column_bytes (sym (picked_more values places i v h is)))
 
 pub encodable_more : (values : List Value) (places : List ℕ) (i : ℕ) (v : Value) → i < length places → slice_get values (get_or places i 0) ≡ Some v → All FitsType (values_at values (take i places)) → FitsType v → All FitsType (values_at values (take (i + 1) places))
 encodable_more values places i v h is so_far this =
@@ -70,6 +73,11 @@ take-values_at values (p ∷ places) (suc n) h =
     ap (take (suc n)) (values_at-cons values p places (within_head values p places h))
     ∙ ap (λ vs. get_or values p any_value ∷ vs) (take-values_at values places n (within_tail values p places h))
     ∙ sym (values_at-cons values p (take n places) (within_head values p places h))
+
+-- the values of a block's column at places of its rows are those of the rows there
+pub values_of_rows : (types : List ColType) (rows : List Row) (column : ℕ) (values : List Value) (order : List ℕ) → AreRowsOf types rows → column < length types → values ≡ column_of column rows → values_at values order ≡ column_of column (picked rows order)
+values_of_rows types rows column values order typed within is =
+    ap (λ vs. values_at vs order) is ∙ column_of-picked column rows order (all_reach types rows column typed within)
 
 -- ---- granules
 
@@ -118,10 +126,10 @@ granule_more values places granularity bytes marks rest granule left new more w 
     let these : drop (granularity * k) places ≡ granule ++ left = sym w.left ∙ parted in
     let parts = chunk_parts granularity granule left (size ∙ ap (λ l. min granularity (length l)) parted) in
     let taken : take (granularity * length more) places ≡ take (granularity * k) places ++ granule =
-        ap (λ n. take n places) next ∙ take-add (granularity * k) granularity places
-        ∙ ap (λ l. take (granularity * k) places ++ l) (ap (take granularity) these ∙ parts.0) in
+    ap (λ n. take n places) next ∙ take-add (granularity * k) granularity places
+    ∙ ap (λ l. take (granularity * k) places ++ l) (ap (take granularity) these ∙ parts.0) in
     let all : values_at values (take (granularity * length more) places) ≡ values_at values (take (granularity * k) places) ++ values_at values granule =
-        ap (values_at values) taken ∙ filter_map-append (slice_get values) (take (granularity * k) places) granule in
+    ap (values_at values) taken ∙ filter_map-append (slice_get values) (take (granularity * k) places) granule in
     record {
       left = sym parts.1 ∙ ap (drop granularity) (sym these) ∙ drop-drop granularity (granularity * k) places ∙ ap (λ n. drop n places) (sym next);
       bytes_are = e ∙ ap (λ l. l ++ column_bytes (values_at values granule)) w.bytes_are
@@ -166,12 +174,13 @@ written_all values places granularity bytes marks rest more w none within some m
     let few = length-values_at values places within in
     let ceil = div_ceil_times (length (values_at values places)) granularity some in
     let counted : k ≡ div_ceil (length (values_at values places)) granularity =
-        same_count (length (values_at values places)) granularity k (div_ceil (length (values_at values places)) granularity) (omega arith) (omega (arith, w.begun)) ceil.0 ceil.1 in
+    same_count (length (values_at values places)) granularity k (div_ceil (length (values_at values places)) granularity) (omega arith) (omega (arith, w.begun)) ceil.0 ceil.1 in
     let starts : start_of values places granularity ≡ granule_start granularity (values_at values places) =
-        λ i. λ granule. length (column_bytes (sym (take-values_at values places (granularity * granule) within) i)) in
-    (w.bytes_are ∙ ap (λ l. column_bytes (values_at values l)) all,
-    m ∙ ap₂ (λ l n. l ++ n ∷ []) w.marks_are (ap length w.bytes_are)
-    ∙ sym (map-range_with_len_more (start_of values places granularity) 0 k k (zero-add k))
-    ∙ ap (λ n. map (start_of values places granularity) (range_with_len 0 (n + 1))) counted
-    ∙ ap (λ f. map f (range_with_len 0 (div_ceil (length (values_at values places)) granularity + 1))) starts,
-    subst (λ l. All FitsType (values_at values l)) all w.encodable)
+    λ i. λ granule. length (column_bytes (sym (take-values_at values places (granularity * granule) within) i)) in (
+      w.bytes_are ∙ ap (λ l. column_bytes (values_at values l)) all,
+      m ∙ ap₂ (λ l n. l ++ n ∷ []) w.marks_are (ap length w.bytes_are)
+          ∙ sym (map-range_with_len_more (start_of values places granularity) 0 k k (zero-add k))
+          ∙ ap (λ n. map (start_of values places granularity) (range_with_len 0 (n + 1))) counted
+          ∙ ap (λ f. map f (range_with_len 0 (div_ceil (length (values_at values places)) granularity + 1))) starts,
+      subst (λ l. All FitsType (values_at values l)) all w.encodable,
+    )

@@ -81,10 +81,8 @@ pub fn decode_granule(
 /// `Malformed` at the place where no value of the type begins there.
 fn cell_at(col_type: ColType, bytes: &[u8], at: usize) -> Result<(Cell<'_>, usize), FormatFault>
     requires { at ≤ length bytes.now }
-    ensures {
-        MatchResult result (λ p. IsOfType col_type (value_of p.0) × Begins (value_bytes (value_of p.0)) p.1 (drop at bytes.now))
-        (λ e. (e ≡ FormatFault.Malformed at) × NoneBegins col_type (drop at bytes.now))
-    }
+    ensures { MatchResult result (λ p. IsOfType col_type (value_of p.0) × Begins (value_bytes (value_of p.0)) p.1 (drop at bytes.now))
+        (λ e. (e ≡ FormatFault.Malformed at) × NoneBegins col_type (drop at bytes.now)) }
 {
     first_cell(col_type, &bytes[at..]).ok_or(FormatFault::Malformed { place: at as u64 })
 }

@@ -1,6 +1,6 @@
 use Rattle.std.proofs.Common.{arith, ap, length, length-drop, refl}
 use Rattle.std.proofs.lemmas.List.{take_rest}
-use Rattle.column_file.proofs.SingleValues.{too_long, text_begins}
+use Rattle.column_file.proofs.TextParts.{too_long, text_begins}
 use Rattle.column_file.proofs.cells.first_text.Goals as goal
 
 pub returns-then-count-behind : goal.returns-then-count-behind

@@ -1,4 +1,4 @@
-use Rattle.std.proofs.Common.{◌≡◌, ◌≤◌, ◌+◌, ◌-◌, ◌*◌, ◌<◌, ◌/◌, arith, sym, ◌∙◌}
+use Rattle.std.proofs.Common.{◌≡◌, ◌+◌, ◌-◌, ◌/◌, arith, sym, ◌∙◌}
 use Rattle.column_file.proofs.Groups.{nothing_begins, goes_on, groups_apart}
 use Rattle.column_file.proofs.leb128.+read_groups.Goals as goal
 

@@ -1,5 +1,4 @@
-use Rattle.std.proofs.Common.{◌≡◌, ◌<◌, ◌^◌, ◌-◌, ◌*◌, subst, arith}
-use Rattle.column_file.proofs.Groups.{bits_left, spelled_more, spelled_low}
+use Rattle.column_file.proofs.Groups.{bits_left, spelled_more}
 use Rattle.column_file.proofs.leb128.push_leb128.Goals as goal
 
 pub loop-group-preserved : goal.loop-group-preserved
