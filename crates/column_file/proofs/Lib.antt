@@ -1,4 +1,5 @@
 pub mod Groups
+pub mod Marked
 pub mod OneWay
 pub mod Reading
 pub mod TextParts

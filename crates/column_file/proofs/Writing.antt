@@ -1,5 +1,5 @@
 -- Values at places of a column written one behind the other, granule by granule.
-use Rattle.std.proofs.Common.{◌≡◌, ℕ, zero, suc, ◌+◌, ◌*◌, ◌<◌, ◌≤◌, ◌⊎◌, inl, inr, min, List, [], ◌∷◌, ◌++◌, Some, refl, sym, ap, ap₂, ◌∙◌, subst, length, length-append, length-drop, map, get_or, take, drop, slice_get, filter_map, All, arith, append-nil, append_assoc, mul-le-mul_right, mul_comm, mul-zero, suc-mul, zero-add}
+use Rattle.std.proofs.Common.{Result, Ok, Err, IfOk, ◌≡◌, ℕ, zero, suc, ◌+◌, ◌*◌, ◌<◌, ◌≤◌, ◌⊎◌, inl, inr, min, List, [], ◌∷◌, ◌++◌, Some, refl, sym, ap, ap₂, ◌∙◌, subst, length, length-append, length-drop, map, get_or, take, drop, slice_get, filter_map, All, arith, append-nil, append_assoc, mul-le-mul_right, mul_comm, mul-zero, suc-mul, zero-add}
 use Rattle.std.specs.Int.{div_ceil}
 use Rattle.std.specs.List.{range_with_len, cons_option}
 use Rattle.std.proofs.Math.Seq.{take-add}
@@ -7,18 +7,20 @@ use Rattle.std.proofs.lemmas.Bool.{cases_lt}
 use Rattle.std.proofs.lemmas.Grind.{div_ceil_times}
 use Rattle.std.proofs.lemmas.List.{take_all, take_at, drop_at, drop_all, drop-drop, get_or_default, nil_from_length, length_push}
 use Rattle.std.proofs.lemmas.List.Concat.{flat_map-append}
-use Rattle.std.proofs.lemmas.List.Elements.{All-head, All-tail, All-push, All-append, All-drop, All-take, All-nil, filter_map-append}
+use Rattle.std.proofs.lemmas.List.Elements.{All-head, All-tail, All-push, All-append, All-cons, All-drop, All-take, All-nil, filter_map-append}
 use Rattle.std.proofs.lemmas.List.FromFn.{map-range_with_len_more}
 use Rattle.std.proofs.lemmas.Option.{slice_get-get_or}
 use Rattle.mt_values.specs.declared.value.ColType.{ColType}
 use Rattle.mt_values.specs.declared.value.Value.{Value}
 use Rattle.mt_values.specs.declared.value.Value.TheVariants as value
 use Rattle.mt_values.specs.ColumnBytes.{column_bytes, value_bytes}
-use Rattle.mt_values.specs.Grid.{AreRowsOf, column_of, picked}
-use Rattle.mt_values.specs.Values.{FitsType, Row}
+use Rattle.mt_values.specs.Grid.{AreOfType, AreRowsOf, Cells, column_of, picked}
+use Rattle.mt_values.specs.Values.{FitsType, Row, type_of}
 use Rattle.mt_values.proofs.Grids.{column_of-picked, filter_map_more}
 use Rattle.mt_values.proofs.OrderBy.{all_reach}
+use Rattle.column_file.specs.declared.encoding.ColumnBytes.{ColumnBytes}
 use Rattle.column_file.specs.Granules.{granule_start, marks_of}
+use Rattle.column_file.specs.Spellings.{IsSpelling}
 
 -- the values at these places
 abbrev pub values_at : List Value → List ℕ → List Value
@@ -74,10 +76,29 @@ take-values_at values (p ∷ places) (suc n) h =
     ∙ ap (λ vs. get_or values p any_value ∷ vs) (take-values_at values places n (within_tail values p places h))
     ∙ sym (values_at-cons values p (take n places) (within_head values p places h))
 
+All-values_at : (P : Value → Type 0) (values : List Value) (places : List ℕ) → All P values → AreWithin values places → All P (values_at values places)
+All-values_at P values [] all h = All-nil P
+All-values_at P values (p ∷ places) all h =
+    let within = within_head values p places h in
+    subst (All P) (sym (values_at-cons values p places within))
+    (All-cons P (get_or values p any_value) (values_at values places) (all p any_value within) (All-values_at P values places all (within_tail values p places h)))
+
 -- the values of a block's column at places of its rows are those of the rows there
 pub values_of_rows : (types : List ColType) (rows : List Row) (column : ℕ) (values : List Value) (order : List ℕ) → AreRowsOf types rows → column < length types → values ≡ column_of column rows → values_at values order ≡ column_of column (picked rows order)
 values_of_rows types rows column values order typed within is =
     ap (λ vs. values_at vs order) is ∙ column_of-picked column rows order (all_reach types rows column typed within)
+
+-- they are of the column's type, so their bytes spell them
+pub rows_spelled : {E : Type 0} (types : List ColType) (column : ℕ) (cells : Cells) (order : List ℕ) (these : List Value) (result : Result ColumnBytes E) → AreOfType cells → slice_get types column ≡ Some cells.col_type → AreWithin cells.values order → values_at cells.values order ≡ these → IfOk result (λ (r : ColumnBytes). r.bytes ≡ column_bytes these) → IfOk result (λ _. All FitsType these) → IfOk result (λ (r : ColumnBytes). (t : ColType) → slice_get types column ≡ Some t → IsSpelling t (length order) r.bytes these)
+rows_spelled types column cells order these (Ok r) typed is within same spelled fits = λ t there.
+    let type_is : cells.col_type ≡ t = cc in
+    let all = subst (All (λ v. type_of v ≡ cells.col_type)) same (All-values_at (λ v. type_of v ≡ cells.col_type) cells.values order typed within) in
+    record {
+      typed = λ k d below. (all k d below ∙ type_is, fits k d below);
+      count_is = ap length (sym same) ∙ length-values_at cells.values order within;
+      spelled = spelled;
+    }
+rows_spelled types column cells order these (Err e) typed is within same spelled fits = tt
 
 -- ---- granules
 

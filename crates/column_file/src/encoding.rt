@@ -1,10 +1,12 @@
 // The values of a column as bytes, and where each granule begins in them.
-ghost use Rattle.std.specs.Prelude.{◌≡◌, ◌<◌, ◌++◌, All, IfOk, OnOk, length, slice_get};
+ghost use Rattle.std.specs.Prelude.{◌≡◌, ◌<◌, ◌++◌, All, IfOk, OnOk, Some, length, slice_get};
 ghost use Rattle.std.specs.List.{filter_map};
 ghost use Rattle.mt_values.specs.ColumnBytes.{column_bytes};
 ghost use Rattle.mt_values.specs.Grid.{column_of, picked};
 ghost use Rattle.mt_values.specs.Values.{FitsType};
+ghost use Rattle.mt_values.specs.declared.value.ColType.{ColType};
 ghost use Rattle.column_file.specs.Granules.{marks_of};
+ghost use Rattle.column_file.specs.Spellings.{IsSpelling};
 
 use crate::cells::push_cell;
 use mt_base::{NoMemory, Seq};
@@ -35,6 +37,7 @@ pub fn encode_column(
     ensures bytes { IfOk result (λ c. c.bytes ≡ column_bytes (column_of column (picked block.now.rows order.now))) }
     ensures marks { IfOk result (λ c. c.marks ≡ marks_of granularity (column_of column (picked block.now.rows order.now))) }
     ensures encodable { IfOk result (λ _. All FitsType (column_of column (picked block.now.rows order.now))) }
+    ensures spelled { IfOk result (λ c. (t : ColType) → slice_get block.now.types column ≡ Some t → IsSpelling t (length order.now) c.bytes (column_of column (picked block.now.rows order.now))) }
 {
     let cells = block.column(column);
     // Reading the lengths shows that the column has a value for each row.

@@ -11,4 +11,4 @@ mod leb128;
 pub use decoding::{decode_column, decode_granule, decode_onto};
 pub use encoding::{ColumnBytes, encode_column};
 pub use faults::FormatFault;
-pub use laws::bytes_are_read_in_one_way;
+pub use laws::{bytes_are_read_in_one_way, granules_are_spelled};

@@ -1,4 +1,4 @@
-use Rattle.std.proofs.Common.{◌≡◌, All, IfOk, List, ap, length, subst, sym, ◌∙◌}
+use Rattle.std.proofs.Common.{◌≡◌, ◌<◌, All, IfOk, List, ap, length, subst, sym, ◌∙◌}
 use Rattle.mt_values.proofs.Grids.{length-column_of}
 use Rattle.mt_values.proofs.OrderBy.{all_reach}
 use Rattle.mt_values.specs.ColumnBytes.{column_bytes}
@@ -6,7 +6,7 @@ use Rattle.mt_values.specs.Values.{FitsType}
 use Rattle.mt_values.specs.declared.value.Value.{Value}
 use Rattle.column_file.specs.Granules.{marks_of}
 use Rattle.column_file.specs.declared.encoding.ColumnBytes.{ColumnBytes}
-use Rattle.column_file.proofs.Writing.{values_of_rows}
+use Rattle.column_file.proofs.Writing.{rows_spelled, values_of_rows}
 use Rattle.column_file.proofs.encoding.encode_column.Goals as goal
 
 pub prove_eq-unreachable-requires : goal.prove_eq-unreachable-requires
@@ -29,3 +29,10 @@ pub returns-clause-encodable : goal.returns-clause-encodable
 returns-clause-encodable c =
     let these = values_of_rows c.args.block.now.types c.args.block.now.rows c.args.column c.column-cells.result.now.values c.args.order.now c.len-2.ensures.typed c.requires.column c.column-cells.ensures.values in
     subst (λ (vs : List Value). IfOk c.encode_cells.result (λ _. All FitsType vs)) these c.encode_cells.ensures.encodable
+
+pub returns-clause-spelled : goal.returns-clause-spelled
+returns-clause-spelled c =
+    let these = values_of_rows c.args.block.now.types c.args.block.now.rows c.args.column c.column-cells.result.now.values c.args.order.now c.len-2.ensures.typed c.requires.column c.column-cells.ensures.values in
+    let count = sym c.len-2.ensures.count ∙ sym c.if-prove_eq.false ∙ c.len.ensures.count in
+    rows_spelled c.args.block.now.types c.args.column c.column-cells.result.now c.args.order.now _ c.encode_cells.result c.len.ensures.typed c.column-cells.ensures.col_type
+    (subst (λ n. All (λ place. place < n) c.args.order.now) count c.requires.places) these (returns-clause-bytes c) (returns-clause-encodable c)
