@@ -1,0 +1,84 @@
+-- A file that is written where it was not there.
+use Rattle.std.proofs.Common.{◌≡◌, ◌≢◌, ℕ, Bool, true, false, cond, ◌||◌, List, [], ◌∷◌, ◌++◌, Option, Some, None, refl, sym, ap, ◌∙◌}
+use Rattle.std.specs.Option.{option_map, ForSome}
+use Rattle.std.proofs.lemmas.List.{map_push}
+use Rattle.std.proofs.lemmas.Bool.{eq-eqb, eqb-true}
+use Rattle.mt_values.specs.declared.name.FileId.{FileId}
+use Rattle.mt_values.specs.declared.name.FileId.TheVariants as file
+use Rattle.mt_values.specs.Files.{same_file}
+use Rattle.mt_outside.specs.declared.disk.Written.{Written}
+use Rattle.mt_outside.specs.Files.{Files, appended, bytes_of}
+use Rattle.stage_dir.specs.Stages.{has_file, names_in, settled, written}
+
+-- a file is the same as itself
+pub same_file-self : (f : FileId) → same_file f f ≡ true
+same_file-self file.Entry = refl
+same_file-self file.Manifest = refl
+same_file-self file.Marks = refl
+same_file-self file.Primary = refl
+same_file-self (file.Skip n) = eq-eqb n n refl
+same_file-self (file.Column n) = eq-eqb n n refl
+
+-- and as no other
+same_file-true : (f g : FileId) → same_file f g ≡ true → f ≡ g
+same_file-true file.Entry file.Entry e = refl
+same_file-true file.Manifest file.Manifest e = refl
+same_file-true file.Marks file.Marks e = refl
+same_file-true file.Primary file.Primary e = refl
+same_file-true (file.Skip m) (file.Skip n) e = ap file.Skip (eqb-true m n e)
+same_file-true (file.Column m) (file.Column n) e = ap file.Column (eqb-true m n e)
+same_file-true f g e = cc
+
+same_file_differ : (f g : FileId) → f ≢ g → same_file f g ≡ false
+same_file_differ f g differ = by (same_file f g) refl
+  where
+    by : (b : Bool) → same_file f g ≡ b → b ≡ false
+    by true e = absurd (differ (same_file-true f g e))
+    by false e = refl
+
+pub neither : (a b : Bool) → (a || b) ≡ false → (a ≡ false) × (b ≡ false)
+neither true b none = cc
+neither false b none = (refl, none)
+
+-- it stands behind the others
+appended_new : (file : FileId) (bytes : List ℕ) (files : Files) → has_file file (names_in files) ≡ false → appended file bytes files ≡ files ++ written file bytes ∷ []
+appended_new file bytes [] new = refl
+appended_new file bytes (w ∷ ws) new =
+    let parts = neither (same_file w.file file) (has_file file (names_in ws)) new in
+    rw parts.0 (ap (λ (rest : Files). w ∷ rest) (appended_new file bytes ws parts.1))
+
+module _ (old new : Option Files) (names : List FileId) (file : FileId) (bytes : List ℕ) where
+  -- what is told once a file was written
+  pub told_written : new ≡ option_map (appended file bytes) old → ForSome old (λ files. names_in files ≡ names) → has_file file names ≡ false → new ≡ option_map (λ files. files ++ written file bytes ∷ []) old
+  told_written is intact free = is ∙ by old intact
+    where
+      by : (o : Option Files) → ForSome o (λ files. names_in files ≡ names) → option_map (appended file bytes) o ≡ option_map (λ files. files ++ written file bytes ∷ []) o
+      by None told = refl
+      by (Some files) told = ap Some (appended_new file bytes files (ap (has_file file) (told files refl) ∙ free))
+
+  -- it is the files that were written
+  pub intact_written : (after : List FileId) → after ≡ names ++ file ∷ [] → new ≡ option_map (λ files. files ++ written file bytes ∷ []) old → ForSome old (λ files. names_in files ≡ names) → ForSome new (λ files. names_in files ≡ after)
+  intact_written after after_is is intact = λ files told. by old intact files (sym is ∙ told) ∙ sym after_is
+    where
+      by : (o : Option Files) → ForSome o (λ files. names_in files ≡ names) → (files : Files) → option_map (λ files. files ++ written file bytes ∷ []) o ≡ Some files → names_in files ≡ names ++ file ∷ []
+      by None told files is = cc
+      by (Some before) told files is =
+          let same : before ++ written file bytes ∷ [] ≡ files = cc in
+          ap names_in (sym same) ∙ map_push (λ (w : Written). w.file) before (written file bytes) ∙ ap (λ fs. fs ++ file ∷ []) (told before refl)
+
+-- it has its bytes
+pub bytes_of_new : (files : Files) (file : FileId) (bytes : List ℕ) → has_file file (names_in files) ≡ false → bytes_of file (files ++ written file bytes ∷ []) ≡ bytes
+bytes_of_new [] file bytes new = rw (same_file-self file) refl
+bytes_of_new (w ∷ ws) file bytes new =
+    let parts = neither (same_file w.file file) (has_file file (names_in ws)) new in
+    rw parts.0 (bytes_of_new ws file bytes parts.1)
+
+-- and the others have theirs
+pub bytes_of_others : (files : Files) (file other : FileId) (bytes : List ℕ) → file ≢ other → bytes_of other (files ++ written file bytes ∷ []) ≡ bytes_of other files
+bytes_of_others [] file other bytes differ = rw (same_file_differ file other differ) refl
+bytes_of_others (w ∷ ws) file other bytes differ = ap (cond (same_file w.file other) w.bytes) (bytes_of_others ws file other bytes differ)
+
+-- a seal changes no bytes
+pub bytes_of-settled : (files : Files) (file : FileId) → bytes_of file (settled files) ≡ bytes_of file files
+bytes_of-settled [] file = refl
+bytes_of-settled (w ∷ ws) file = ap (cond (same_file w.file file) w.bytes) (bytes_of-settled ws file)

@@ -1,0 +1,4 @@
+pub mod Appends
+pub mod Images
+pub mod Lookups
+pub mod Settling

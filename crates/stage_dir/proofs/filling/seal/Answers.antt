@@ -1,0 +1,8 @@
+use Rattle.std.proofs.Common.{sym, subst}
+use Rattle.stage_dir.specs.Stages.{IsIntact}
+use Rattle.stage_dir.proofs.Settling.{told_sealed}
+use Rattle.stage_dir.proofs.filling.seal.Goals as goal
+
+pub invariant_of-result : goal.invariant_of-result
+invariant_of-result g c =
+    told_sealed (g.S.Stage.files c.stage.inside.stage) (g.S.Stage.files c.sync_files.new.stage) c.stage.inside.names (subst IsIntact (sym c.stage.view_is) c.requires) c.stage.invariant c.in-Ok.ensures.files

@@ -1,0 +1,19 @@
+use Rattle.std.proofs.Common.{◌≡◌, ◌++◌, ◌∷◌, [], List, ap, ◌∙◌}
+use Rattle.std.specs.Option.{option_map}
+use Rattle.mt_values.specs.declared.name.FileId.{FileId}
+use Rattle.mt_outside.specs.Files.{appended}
+use Rattle.stage_dir.specs.Stages.{Filling}
+use Rattle.stage_dir.proofs.Appends.{told_written, intact_written}
+use Rattle.stage_dir.proofs.filling.write_file.Goals as goal
+
+pub returns-clause-files : goal.returns-clause-files
+returns-clause-files g c =
+    let seen : g.S.Stage.files c.stage.inside.stage ≡ c.args.stage.now.files = ap (λ (f : Filling). f.files) c.stage.view_is in
+    told_written c.args.stage.now.files (g.S.Stage.files c.append.new.self) c.args.stage.now.names c.args.file c.args.bytes.now (c.in_ok-append.ensures.files ∙ ap (option_map (appended c.args.file c.args.bytes.now)) seen) c.requires.intact c.requires.new
+
+pub returns-clause-intact : goal.returns-clause-intact
+returns-clause-intact g c =
+    let seen : c.stage.inside.names ≡ c.args.stage.now.names = ap (λ (f : Filling). f.names) c.stage.view_is in
+    intact_written c.args.stage.now.files (g.S.Stage.files c.append.new.self) c.args.stage.now.names c.args.file c.args.bytes.now c.push.new.self
+    (c.in_ok-push.ensures.ok ∙ ap (λ (names : List FileId). names ++ c.args.file ∷ []) seen)
+    (returns-clause-files g c) c.requires.intact

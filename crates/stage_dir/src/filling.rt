@@ -1,0 +1,151 @@
+// A stage that is filled file by file, and then sealed.
+ghost use Rattle.std.specs.Prelude.{◌≡◌, ◌≤◌, ◌++◌, ◌∷◌, [], false, IfOk, IfErr, OnOk, OnErr};
+ghost use Rattle.std.specs.Option.{option_map, ForSome};
+ghost use Rattle.mt_outside.specs.DiskCauses.{HasDiskCause};
+ghost use Rattle.stage_dir.specs.Stages.{AreSealed, EachOnce, IsCauseOf, IsIntact, contents, has_file, names_in, settled, written};
+
+use mt_base::Seq;
+use mt_outside::{DiskError, Stage};
+use mt_values::FileId;
+use std::alloc::Global;
+use std::marker::Model;
+
+/// A stage that is being filled. Contracts see which files were written, what the stage tells of them, and how many of its calls have failed.
+#[derive(Drop)]
+pub struct Open<S: Stage> {
+    stage: S,
+    names: Seq<FileId>,
+}
+
+impl<S: Stage> Model for Open<S> {
+    ghost use Rattle.stage_dir.specs.Stages.{EachOnce, Filling};
+
+    ghost Value = { Filling };
+
+    ghost view = { λ o. record { names = o.names; files = S.files o.stage; failed = S.failed o.stage } };
+
+    ghost invariant = { λ o. EachOnce o.names };
+}
+
+/// A stage whose files are all written and synced.
+#[derive(Drop)]
+pub struct Sealed<S: Stage> {
+    stage: S,
+}
+
+impl<S: Stage> Model for Sealed<S> {
+    ghost use Rattle.std.specs.Option.{ForSome};
+    ghost use Rattle.stage_dir.specs.Stages.{AreSealed, Filled};
+
+    ghost Value = { Filled };
+
+    ghost view = { λ s. record { files = S.files s.stage; failed = S.failed s.stage } };
+
+    ghost invariant = { λ s. ForSome (S.files s.stage) AreSealed };
+}
+
+/// A stage that could not be sealed, and why. What is left of it is there to be given up.
+#[derive(Drop)]
+pub struct Unsealed<S: Stage> {
+    pub cause: DiskError,
+    pub rest: Open<S>,
+}
+
+impl<S: Stage> Open<S> {
+    /// A stage that has no file yet, to be filled. Takes no memory.
+    pub fn of(alloc: Global, stage: S) -> Self
+        requires { ForSome (S.files stage) (λ files. files ≡ []) }
+        ensures names { result.names ≡ [] }
+        ensures files { result.files ≡ S.files stage }
+        ensures failed { result.failed ≡ S.failed stage }
+        ensures intact { IsIntact result }
+    {
+        Open {
+            stage,
+            names: Seq::new(alloc),
+        }
+    }
+
+    /// Whether the file was written.
+    pub fn has(&self, file: FileId) -> bool
+        ensures { result ≡ has_file file self.now.names }
+    {
+        self.names.as_slice().iter().any(|name| name.is(file))
+    }
+
+    /// The stage, to be given up. Takes no memory.
+    pub fn into_stage(self) -> S
+        ensures files { S.files result ≡ self.files }
+        ensures failed { S.failed result ≡ self.failed }
+    {
+        let Open { stage, names: _ } = self;
+        stage
+    }
+}
+
+impl<S: Stage> Sealed<S> {
+    /// The stage, to be published or given up. Takes no memory.
+    pub fn into_stage(self) -> S
+        ensures files { S.files result ≡ self.files }
+        ensures failed { S.failed result ≡ self.failed }
+        ensures sealed { ForSome (S.files result) AreSealed }
+    {
+        let Sealed { stage } = self;
+        stage
+    }
+}
+
+/// Writes a file that was not written yet, with these bytes. Where there are none it is an empty file.
+///
+/// `Fault` only where the stage's count rose in this call, `NoMemory` where a growth was refused. After an error the stage can only be given up.
+pub fn write_file<S: Stage>(
+    stage: &mut Open<S>,
+    file: FileId,
+    bytes: &[u8],
+) -> Result<(), DiskError>
+    requires intact { IsIntact stage.old }
+    requires new { has_file file stage.old.names ≡ false }
+    ensures names { OnOk result (stage.new.names ≡ stage.old.names ++ file ∷ []) }
+    ensures files { OnOk result (stage.new.files ≡ option_map (λ files. files ++ written file bytes.now ∷ []) stage.old.files) }
+    ensures intact { OnOk result (IsIntact stage.new) }
+    ensures cause { HasDiskCause stage.old.failed stage.new.failed result }
+{
+    stage.names.push(file)?;
+    stage.stage.append(file, bytes)?;
+    Ok(())
+}
+
+// Syncs each of these files, which are those of the stage.
+fn sync_files<S: Stage>(stage: &mut S, names: &[FileId]) -> Result<(), DiskError>
+    requires told { ForSome (S.files stage.old) (λ files. names_in files ≡ names.now) }
+    requires once { EachOnce names.now }
+    ensures files { OnOk result (S.files stage.new ≡ option_map settled (S.files stage.old)) }
+    ensures kept { OnErr result (option_map contents (S.files stage.new) ≡ option_map contents (S.files stage.old)) }
+    ensures cause { HasDiskCause (S.failed stage.old) (S.failed stage.new) result }
+{
+    for name in names {
+        stage.sync(*name)?;
+    }
+    Ok(())
+}
+
+/// Syncs each file that was written, once.
+///
+/// Where it fails the stage is handed back with the same files, some of them synced: `Fault` only where its count rose in this call.
+pub fn seal<S: Stage>(stage: Open<S>) -> Result<Sealed<S>, Unsealed<S>>
+    requires { IsIntact stage }
+    ensures files { IfOk result (λ s. s.files ≡ option_map settled stage.files) }
+    ensures later { IfOk result (λ s. stage.failed ≤ s.failed) }
+    ensures names { IfErr result (λ u. u.rest.names ≡ stage.names) }
+    ensures kept { IfErr result (λ u. option_map contents u.rest.files ≡ option_map contents stage.files) }
+    ensures cause { IfErr result (λ u. IsCauseOf stage.failed u.rest.failed u.cause) }
+{
+    let Open { mut stage, names } = stage;
+    match sync_files(&mut stage, names.as_slice()) {
+        Ok(()) => Ok(Sealed { stage }),
+        Err(cause) => {
+            let rest = Open { stage, names };
+            Err(Unsealed { cause, rest })
+        }
+    }
+}
