@@ -12,8 +12,10 @@ INSERT INTO fruit;
 
 SELECT * FROM fruit;
 
-INSERT INTO fruit;
+-- The one format, tab-separated, may be named.
+INSERT INTO fruit FORMAT TSV;
 3	plum
 \.
 
-SELECT * FROM fruit;
+-- Rows are sorted by the columns that are selected, from left to right.
+SELECT name, amount FROM fruit;

@@ -2,15 +2,16 @@
 use mt_base::NoMemory;
 use thiserror::Error;
 
-/// Why bytes were not read as values of a type.
+/// Why bytes were not read as what they should spell, as the values of a column.
 #[derive(Clone, Copy, Debug, PartialEq, Eq, Error)]
 pub enum FormatFault {
     /// A growth was refused.
     #[error("out of memory")]
     NoMemory,
-    /// The bytes are no spelling of so many values of the type. From this place on, counted from 0,
-    /// they go on with no value of the type, or the last value ends there and they go on.
-    #[error("no value of the column at byte {place}")]
+    /// The bytes spell nothing of the kind, and this is the place of the first fault, counted from 0. In a
+    /// column's bytes it is where a value begins that they don't go on with, or where the last value ends and
+    /// they go on.
+    #[error("malformed at byte {place}")]
     Malformed { place: u64 },
 }
 

@@ -1,8 +1,9 @@
-//! The program: it runs the script of standard input over an empty disk in memory, and prints the replies.
+//! The program: it runs the script of standard input over the folder that the words name, and prints the replies to standard output.
 #![tactic(auto)]
 
-use disk_mem::{CountedAnnals, MemDisk, OpenGate};
-use mt_program::{Status, StdSink, StdSource, run};
+use disk_mem::CountedAnnals;
+use disk_real::{OpenGate, RealDisk, StdSink, StdSource};
+use mt_program::{Status, run};
 use std::alloc::{AllocGlobal, Global};
 use std::env::{self, Env};
 use std::io::ErrorKind;
@@ -27,9 +28,7 @@ fn main(rt: HostRuntime) -> ExitCode {
         Ok(words) => words,
         Err(status) => return ExitCode::from(status.number()),
     };
-    let Ok(disk) = MemDisk::new(alloc) else {
-        return ExitCode::from(Status::NoMemory.number());
-    };
+    let disk = RealDisk::new(rt, alloc);
     let mut source = StdSource::new(rt.stdin());
     let mut sink = StdSink::new(rt.stdout());
     let annals = CountedAnnals::new();

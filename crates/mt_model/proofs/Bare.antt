@@ -1,20 +1,17 @@
 -- Histories without the types of their blocks: two are the same where these are equal, and what a run asks of a history it may ask of these.
-use Rattle.std.proofs.Common.{◌≡◌, ℕ, Bool, true, false, cond, ◌==◌, List, [], ◌∷◌, Option, Some, None, nat_lt, length, map, filter, refl, sym, ap, ap₂, ◌∙◌, suc}
+use Rattle.std.proofs.Common.{◌≡◌, ℕ, Bool, true, false, cond, ◌==◌, List, [], ◌∷◌, length, map, filter, refl, sym, ap, ap₂, ◌∙◌, suc}
 use Rattle.std.proofs.lemmas.List.{length-map}
-use Rattle.std.specs.Option.{option_and_then}
 use Rattle.mt_values.specs.declared.command.Entry.{Entry}
 use Rattle.mt_values.specs.declared.command.Command.{Command}
 use Rattle.mt_values.specs.declared.command.Command.TheVariants as command
 use Rattle.mt_base.specs.declared.partition.Partition.{Partition}
 use Rattle.mt_base.specs.declared.partition.Partition.TheVariants.{Whole}
-use Rattle.mt_values.specs.declared.schema.Schema.{Schema}
-use Rattle.mt_values.specs.declared.statement.CreateText.{CreateText}
 use Rattle.mt_values.specs.declared.statement.InsertText.{InsertText}
+use Rattle.mt_values.specs.declared.statement.SelectText.{SelectText}
 use Rattle.mt_values.specs.Values.{Row}
-use Rattle.mt_values.specs.Rows.{inserted_rows}
-use Rattle.mt_model.specs.History.{History, schema_of, schema_by, first_of, is_create, inserts_into, creates, inserts, column_types, own}
+use Rattle.mt_model.specs.History.{History, schema_of, schema_by, first_of, is_create, inserts_into, creates, inserts, own}
 use Rattle.mt_model.specs.Live.{live, live_from, rows_after}
-use Rattle.mt_model.specs.Reply.{create_accepted, insert_accepted, schema_of_text, may_create, has_room, rows_for}
+use Rattle.mt_model.specs.Reply.{create_turn, rows_for, rows_of_insert, insert_turn, columns_for, columns_of_select}
 use Rattle.mt_model.specs.Same.{SameCommand, SameHistory}
 
 -- a command without the types of its block
@@ -106,29 +103,17 @@ bare_into table (command.Insert i) = refl
 bare_inserts : (table : List ℕ) (h : History) → inserts table (bare h) ≡ inserts table h
 bare_inserts table h = counted_alike (λ (e : Entry). inserts_into table e.command) (λ e. bare_into table e.command) h
 
-bare_may : (table : List ℕ) (h : History) → may_create table (bare h) ≡ may_create table h
-bare_may table h = rw (bare_schema table h) (rw (bare_creates h) refl)
+pub bare_create_turn : (table : List ℕ) (h : History) → create_turn table (bare h) ≡ create_turn table h
+bare_create_turn table h = rw (bare_schema table h) (rw (bare_creates h) refl)
 
-pub bare_create : (c : CreateText) (h : History) → create_accepted c (bare h) ≡ create_accepted c h
-bare_create c h = ap (λ b. option_and_then (λ schema. cond b (Some schema) None) (schema_of_text c)) (bare_may c.table h)
+pub bare_rows : (i : InsertText) (h : History) → rows_of_insert i (bare h) ≡ rows_of_insert i h
+bare_rows i h = ap (rows_for i) (bare_schema i.table h)
 
-bare_room : (table : List ℕ) (rows : List Row) (h : History) → has_room table rows (bare h) ≡ has_room table rows h
-bare_room table [] h = refl
-bare_room table (row ∷ rows) h = ap (λ n. nat_lt n 3000) (bare_inserts table h)
+pub bare_insert_turn : (table : List ℕ) (h : History) → insert_turn table (bare h) ≡ insert_turn table h
+bare_insert_turn table h = rw (bare_inserts table h) refl
 
-bare_rows_for : (i : InsertText) (h : History) (schema : Schema) → rows_for i (bare h) schema ≡ rows_for i h schema
-bare_rows_for i h schema = by (inserted_rows (column_types schema) i.lines i.ended)
-  where
-    by : (o : Option (List Row)) → option_and_then (λ rows. cond (has_room i.table rows (bare h)) (Some rows) None) o ≡ option_and_then (λ rows. cond (has_room i.table rows h) (Some rows) None) o
-    by None = refl
-    by (Some rows) = ap (λ b. cond b (Some rows) None) (bare_room i.table rows h)
-
-pub bare_insert : (i : InsertText) (h : History) → insert_accepted i (bare h) ≡ insert_accepted i h
-bare_insert i h = ap (option_and_then (rows_for i (bare h))) (bare_schema i.table h) ∙ by (schema_of i.table h)
-  where
-    by : (o : Option Schema) → option_and_then (rows_for i (bare h)) o ≡ option_and_then (rows_for i h) o
-    by None = refl
-    by (Some schema) = bare_rows_for i h schema
+pub bare_columns : (t : SelectText) (h : History) → columns_of_select t (bare h) ≡ columns_of_select t h
+bare_columns t h = ap (columns_for t) (bare_schema t.table h)
 
 bare_after : (table key : List ℕ) (rows : List Row) (c : Command) → rows_after table key rows (bare_command c) ≡ rows_after table key rows c
 bare_after table key rows (command.Create c) = refl

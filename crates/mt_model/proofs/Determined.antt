@@ -4,7 +4,7 @@ use Rattle.std.specs.List.Sorted.{IsPermutation}
 use Rattle.std.specs.Cmp.{IsTotalOrder}
 use Rattle.std.specs.FinMap.{slice_cmp-IsAntisymmetric}
 use Rattle.std.proofs.lemmas.Cmp.{on_total, lists_total}
-use Rattle.std.proofs.lemmas.List.Sorted.{IsPermutation-trans, IsPermutation-sym}
+use Rattle.std.proofs.lemmas.List.Sorted.{IsPermutation-trans, IsPermutation-sym, IsPermutation-map}
 use Rattle.mt_values.specs.declared.schema.Schema.{Schema}
 use Rattle.mt_values.specs.Values.{Row}
 use Rattle.mt_values.specs.Order.{key_of, key_cmp, row_cmp, IsExact}
@@ -37,9 +37,9 @@ prints_once rows other a b moved one two =
     one.lines_are ∙ ap (map line) (exact_sorted row_cmp row_total row_exact one.order two.order both one.rising two.rising) ∙ sym two.lines_are
 
 -- the answer is determined
-pub answers_once : (h : History) (table : List ℕ) (schema : Schema) (a b : List (List ℕ)) → Answer h table schema a → Answer h table schema b → a ≡ b
-answers_once h table schema a b one two =
+pub answers_once : (h : History) (table : List ℕ) (schema : Schema) (columns : List ℕ) (a b : List (List ℕ)) → Answer h table schema columns a → Answer h table schema columns b → a ≡ b
+answers_once h table schema columns a b one two =
     let rows = live table schema.key h in
-    prints_once one.rows two.rows a b
-    (IsPermutation-trans one.rows rows two.rows (IsPermutation-sym rows one.rows (partly_permutes schema.key rows one.rows one.partly)) (partly_permutes schema.key rows two.rows two.partly))
-    one.prints two.prints
+    let moved : IsPermutation one.rows two.rows =
+    IsPermutation-trans one.rows rows two.rows (IsPermutation-sym rows one.rows (partly_permutes schema.key rows one.rows one.partly)) (partly_permutes schema.key rows two.rows two.partly) in
+    prints_once (map (key_of columns) one.rows) (map (key_of columns) two.rows) a b (IsPermutation-map (key_of columns) one.rows two.rows moved) one.prints two.prints

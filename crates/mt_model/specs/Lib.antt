@@ -1,9 +1,11 @@
 pub mod Answer
 pub mod History
 pub mod Live
+pub mod Outside
 pub mod Partial
-pub mod Plain
+pub mod Refusals
 pub mod Reply
 pub mod Same
 pub mod Script
 pub mod Session
+pub mod Written

@@ -1,34 +1,30 @@
 -- The lines of replies, and when a statement is refused (docs/replies.md).
-use Rattle.std.specs.Prelude.{◌||◌, ℕ, Bool, true, ◌&&◌, List, [], ◌∷◌, ◌++◌, length, Option, Some, None, is_none, codes, nat_le, nat_lt, if◌then◌else◌}
+use Rattle.std.specs.Prelude.{ℕ, List, [], ◌∷◌, ◌++◌, length, Option, Some, None, Result, Ok, Err, is_some, nat_le, nat_lt, codes, if◌then◌else◌}
 use Rattle.std.specs.Fmt.{decimal}
-use Rattle.std.specs.Option.{option_and_then}
-use Rattle.std.specs.List.{position, concat}
+use Rattle.std.specs.List.{position, concat, range_with_len}
+use Rattle.mt_values.specs.declared.row_fault.DataFault.{DataFault}
 use Rattle.mt_values.specs.declared.schema.Column.{Column}
 use Rattle.mt_values.specs.declared.schema.Schema.{Schema}
 use Rattle.mt_values.specs.declared.statement.CreateText.{CreateText}
 use Rattle.mt_values.specs.declared.statement.InsertText.{InsertText}
+use Rattle.mt_values.specs.declared.statement.SelectText.{SelectText}
+use Rattle.mt_values.specs.declared.statement.Selected.{Selected}
+use Rattle.mt_values.specs.declared.statement.Selected.TheVariants as selected
 use Rattle.mt_values.specs.Values.{Row}
 use Rattle.mt_values.specs.Grammar.{same_bytes}
 use Rattle.mt_values.specs.Rows.{inserted_rows}
-use Rattle.mt_values.specs.Schemas.{schema_fault}
+use Rattle.mt_values.specs.Schemas.{first_repeat, same_name}
+use Rattle.mt_model.specs.declared.refusal.Bound.TheVariants as bound
+use Rattle.mt_model.specs.declared.refusal.Reason.TheVariants as reason
+use Rattle.mt_model.specs.declared.refusal.Refusal.{Refusal}
+use Rattle.mt_model.specs.declared.refusal.Refusal.TheVariants as refusal
+use Rattle.mt_model.specs.declared.refusal.Room.TheVariants as room
 use Rattle.mt_model.specs.History.{History, schema_of, creates, inserts, column_types}
-use Rattle.mt_values.specs.Lists.{in_front}
+use Rattle.mt_model.specs.Refusals.{refusal_of_data}
 
 -- after an accepted command, and after an INSERT without rows: the length of the history
 abbrev pub ok_line : ℕ → List ℕ
 ok_line h = codes "OK " ++ decimal h ++ 10 ∷ []
-
--- a statement of the grammar that is refused
-abbrev pub refused_line : List ℕ
-refused_line = codes "E00" ++ 10 ∷ []
-
--- no statement of the grammar
-abbrev pub faulty_line : List ℕ
-faulty_line = codes "E01 0" ++ 10 ∷ []
-
--- the reply says that a statement is refused, or is none of the grammar
-abbrev pub is_refusal : List ℕ → Bool
-is_refusal reply = same_bytes reply refused_line || same_bytes reply faulty_line
 
 -- the head of a SELECT's reply: the number of lines that follow, and the length of the history that they answer
 abbrev pub rows_line : ℕ → ℕ → List ℕ
@@ -37,39 +33,98 @@ rows_line n h = codes "ROWS " ++ decimal n ++ codes " PREFIX " ++ decimal h ++ 1
 abbrev pub rows_reply : List (List ℕ) → ℕ → List ℕ
 rows_reply lines h = rows_line (length lines) h ++ concat lines
 
--- the place of the column that a key names
+-- ---- columns by their names
+
+-- the place of the column of a name
 abbrev pub place_of : List Column → List ℕ → Option ℕ
 place_of columns name = position (λ (c : Column). same_bytes c.name name) columns
 
--- the places of the columns that a key names; none where one is no column
-abbrev pub places_of : List Column → List (List ℕ) → Option (List ℕ)
-places_of columns [] = Some []
-places_of columns (name ∷ names) = option_and_then (in_front (places_of columns names)) (place_of columns name)
+abbrev pub found_or : List ℕ → Option ℕ → Result ℕ Refusal
+found_or name None = Err (refusal.NoColumn name)
+found_or name (Some place) = Ok place
 
--- a schema that breaks no rule, has a key, and has at most 64 columns
-abbrev pub sound_schema : Schema → Option Schema
-sound_schema schema = if is_none (schema_fault schema) && nat_lt 0 (length schema.key) && nat_le (length schema.columns) 64 then Some schema else None
+abbrev pub place_onto : Result ℕ Refusal → Result (List ℕ) Refusal → Result (List ℕ) Refusal
+place_onto (Err r) rest = Err r
+place_onto (Ok place) (Err r) = Err r
+place_onto (Ok place) (Ok places) = Ok (place ∷ places)
 
--- the schema that a CREATE writes; none where its key names no column, a rule of schemas is broken, or there are more than 64 columns
-abbrev pub schema_of_text : CreateText → Option Schema
-schema_of_text c = option_and_then (λ key. sound_schema (record { columns = c.columns; key = key })) (places_of c.columns c.key)
+-- the places of the columns that are named; the first name that is no column's refuses
+abbrev pub places_of : List Column → List (List ℕ) → Result (List ℕ) Refusal
+places_of columns [] = Ok []
+places_of columns (name ∷ names) = place_onto (found_or name (place_of columns name)) (places_of columns names)
 
--- a table may be made: there is none of its name, and there are fewer than 64
-abbrev pub may_create : List ℕ → History → Bool
-may_create table h = is_none (schema_of table h) && nat_lt (creates h) 64
+-- ---- CREATE
 
--- the schema that a CREATE gives its table; none where it is refused
-abbrev pub create_accepted : CreateText → History → Option Schema
-create_accepted c h = option_and_then (λ schema. if may_create c.table h then Some schema else None) (schema_of_text c)
+abbrev pub double_column_at : ℕ → Column → Refusal
+double_column_at place column = refusal.Schema reason.DoubleColumn column.name
 
--- an INSERT with rows needs a table with fewer than 3000 parts, of which no merge takes any away; one without rows makes no part
-abbrev pub has_room : List ℕ → List Row → History → Bool
-has_room table [] h = true
-has_room table (row ∷ rows) h = nat_lt (inserts table h) 3000
+abbrev pub double_key_at : ℕ → List ℕ → Refusal
+double_key_at place name = refusal.Schema reason.DoubleKey name
 
--- the rows that an INSERT adds to a table of this schema; none where it is refused
-abbrev pub rows_for : InsertText → History → Schema → Option (List Row)
-rows_for i h schema = option_and_then (λ rows. if has_room i.table rows h then Some rows else None) (inserted_rows (column_types schema) i.lines i.ended)
+-- the first refusal of two
+abbrev pub first_refusal : Option Refusal → Option Refusal → Option Refusal
+first_refusal (Some r) other = Some r
+first_refusal None other = other
 
-abbrev pub insert_accepted : InsertText → History → Option (List Row)
-insert_accepted i h = option_and_then (rows_for i h) (schema_of i.table h)
+-- a name that stands twice: of the columns first, then of the key; the first repeated mention is told
+abbrev pub double_name : CreateText → Option Refusal
+double_name c = first_refusal (first_repeat same_name double_column_at 0 [] c.columns) (first_repeat same_bytes double_key_at 0 [] c.key)
+
+-- a table has at most 64 columns
+abbrev pub too_many_columns : CreateText → Option Refusal
+too_many_columns c = if nat_le (length c.columns) 64 then None else Some (refusal.Past bound.Columns)
+
+abbrev pub unless_refused : {X : Type 0} → Option Refusal → X → Result X Refusal
+unless_refused (Some r) x = Err r
+unless_refused None x = Ok x
+
+abbrev pub schema_with_key : CreateText → Result (List ℕ) Refusal → Result Schema Refusal
+schema_with_key c (Err r) = Err r
+schema_with_key c (Ok key) = unless_refused (first_refusal (double_name c) (too_many_columns c)) (record { columns = c.columns; key = key })
+
+-- the schema that a CREATE writes: its key names columns of its own, no name stands twice, and there are not too many columns
+abbrev pub schema_of_text : CreateText → Result Schema Refusal
+schema_of_text c = schema_with_key c (places_of c.columns c.key)
+
+-- at its turn: there is no table of its name, and there are fewer than 64
+abbrev pub create_turn : List ℕ → History → Option Refusal
+create_turn table h =
+    if is_some (schema_of table h) then Some (refusal.TableExists table)
+    else if nat_lt (creates h) 64 then None
+    else Some (refusal.Past bound.Tables)
+
+-- ---- INSERT
+
+abbrev pub rows_or_refused : Result (List Row) DataFault → Result (List Row) Refusal
+rows_or_refused (Ok rows) = Ok rows
+rows_or_refused (Err fault) = Err (refusal_of_data fault)
+
+abbrev pub rows_for : InsertText → Option Schema → Result (List Row) Refusal
+rows_for i None = Err (refusal.NoTable i.table)
+rows_for i (Some schema) = rows_or_refused (inserted_rows (column_types schema) i.lines i.ended)
+
+-- the rows that an INSERT adds, if its table is there and its data is their text
+abbrev pub rows_of_insert : InsertText → History → Result (List Row) Refusal
+rows_of_insert i h = rows_for i (schema_of i.table h)
+
+-- at the turn of its command: the table has fewer than 3000 parts, of which no merge takes any away, and a number is left for it
+abbrev pub insert_turn : List ℕ → History → Option Refusal
+insert_turn table h =
+    if nat_le 3000 (inserts table h) then Some (refusal.Full room.Parts 0)
+    else if nat_le 4294967295 (inserts table h) then Some (refusal.Full room.Numbers 0)
+    else None
+
+-- ---- SELECT
+
+-- the places of the selected columns
+abbrev pub selected_places : List Column → Selected → Result (List ℕ) Refusal
+selected_places columns selected.All = Ok (range_with_len 0 (length columns))
+selected_places columns (selected.Named names) = places_of columns names
+
+abbrev pub columns_for : SelectText → Option Schema → Result (List ℕ) Refusal
+columns_for s None = Err (refusal.NoTable s.table)
+columns_for s (Some schema) = selected_places schema.columns s.columns
+
+-- the places of the columns that a SELECT takes, if its table is there and has them
+abbrev pub columns_of_select : SelectText → History → Result (List ℕ) Refusal
+columns_of_select s h = columns_for s (schema_of s.table h)

@@ -1,9 +1,11 @@
 -- What a run of a script may print (docs/definitions.md, "Runs").
-use Rattle.std.specs.Prelude.{◌++◌, ◌⊎◌, ◌≡◌, ◌∷◌, [], ℕ, List, length, drop, All, take, slice_get, Some}
+use Rattle.std.specs.Prelude.{◌++◌, ◌⊎◌, ◌≡◌, ◌∷◌, [], ℕ, List, length, drop, All, take, slice_get, Some, Result}
 use Rattle.std.specs.List.{concat}
 use Rattle.mt_values.specs.declared.command.Entry.{Entry}
+use Rattle.mt_values.specs.declared.statement.Cause.{Cause}
 use Rattle.mt_values.specs.declared.statement.Statement.{Statement}
 use Rattle.mt_model.specs.History.{History}
+use Rattle.mt_model.specs.Outside.{Counts}
 use Rattle.mt_model.specs.Session.{SessionRun, SessionReplies, AddsNothing, Unanswered}
 
 -- every entry past a place is session 0's: a script has no other session
@@ -11,24 +13,24 @@ abbrev pub OwnEntries : History → ℕ → Type 0
 OwnEntries h base = All (λ (e : Entry). e.session ≡ 0) (drop base h)
 
 -- The statements ran and printed out. The entries past base are theirs, each once.
-pub record ScriptRun (script : List Statement) (h : History) (base : ℕ) (out : List ℕ) : Type 0 where
+pub record ScriptRun (n : Counts) (script : List (Result Statement Cause)) (h : History) (base : ℕ) (out : List ℕ) : Type 0 where
   pub last : ℕ
-  pub run : SessionRun h 0 script base last out
+  pub run : SessionRun n h 0 script base last out
   pub nothing_else : AddsNothing h 0 last (length h)
   pub sessions : OwnEntries h base
 
 -- The same, reply by reply.
-pub record ScriptReplies (script : List Statement) (h : History) (base : ℕ) (replies : List (List ℕ)) : Type 0 where
+pub record ScriptReplies (n : Counts) (script : List (Result Statement Cause)) (h : History) (base : ℕ) (replies : List (List ℕ)) : Type 0 where
   pub last : ℕ
-  pub run : SessionReplies h 0 script base last replies
+  pub run : SessionReplies n h 0 script base last replies
   pub nothing_else : AddsNothing h 0 last (length h)
   pub sessions : OwnEntries h base
 
 -- The statements ran and printed out, and then one more statement ran that has no reply.
-pub record EndsUnanswered (script : List Statement) (last : Statement) (h : History) (base : ℕ) (out : List ℕ) : Type 0 where
+pub record EndsUnanswered (n : Counts) (script : List (Result Statement Cause)) (last : Result Statement Cause) (h : History) (base : ℕ) (out : List ℕ) : Type 0 where
   pub place : ℕ
   pub stop : ℕ
-  pub run : SessionRun h 0 script base place out
+  pub run : SessionRun n h 0 script base place out
   pub unanswered : Unanswered h 0 last place stop
   pub nothing_else : AddsNothing h 0 stop (length h)
   pub sessions : OwnEntries h base
@@ -38,23 +40,23 @@ abbrev pub IsFront : List ℕ → List ℕ → Type 0
 IsFront xs ys = (rest : List ℕ) × (xs ++ rest ≡ ys)
 
 -- The first statements ran, and all their replies were written.
-pub record FrontRun (script : List Statement) (h : History) (base : ℕ) (written : List ℕ) : Type 0 where
+pub record FrontRun (n : Counts) (script : List (Result Statement Cause)) (h : History) (base : ℕ) (written : List ℕ) : Type 0 where
   pub count : ℕ
-  pub run : ScriptRun (take count script) h base written
+  pub run : ScriptRun n (take count script) h base written
 
 -- The first statements ran, and all their replies were written; perhaps one more ran that has no reply.
-pub record CutRun (script : List Statement) (h : History) (base : ℕ) (written : List ℕ) : Type 0 where
+pub record CutRun (n : Counts) (script : List (Result Statement Cause)) (h : History) (base : ℕ) (written : List ℕ) : Type 0 where
   pub count : ℕ
-  pub run : ScriptRun (take count script) h base written ⊎ ((last : Statement) × (slice_get script count ≡ Some last) × EndsUnanswered (take count script) last h base written)
+  pub run : ScriptRun n (take count script) h base written ⊎ ((last : Result Statement Cause) × (slice_get script count ≡ Some last) × EndsUnanswered n (take count script) last h base written)
 
 -- The first statements ran and one more. Their replies were written, and a front of its reply.
-pub record CutInReply (script : List Statement) (h : History) (base : ℕ) (written : List ℕ) : Type 0 where
+pub record CutInReply (n : Counts) (script : List (Result Statement Cause)) (h : History) (base : ℕ) (written : List ℕ) : Type 0 where
   pub count : ℕ
-  pub last : Statement
+  pub last : Result Statement Cause
   pub replies : List (List ℕ)
   pub reply : List ℕ
   pub part : List ℕ
   pub there : slice_get script count ≡ Some last
-  pub run : ScriptReplies (take count script ++ last ∷ []) h base (replies ++ reply ∷ [])
+  pub run : ScriptReplies n (take count script ++ last ∷ []) h base (replies ++ reply ∷ [])
   pub front : IsFront part reply
   pub written_is : written ≡ concat replies ++ part

@@ -1,22 +1,36 @@
 // Laws of the definitions: what follows from them, whatever a program does. Each function has an empty body and the law as its contract.
-ghost use Rattle.std.specs.Prelude.{◌≡◌, ◌<◌, ◌≤◌, ◌++◌, ◌∷◌, [], ℕ, List, length, take};
+ghost use Rattle.std.specs.Prelude.{◌≡◌, ◌⊎◌, ◌-◌, ◌^◌, ◌<◌, ◌≤◌, ◌++◌, ◌∷◌, [], ℕ, Bool, List, length, take, true, false, All, None, Ok, Result};
 ghost use Rattle.std.specs.List.Sorted.{IsPermutation, IsSorted};
 ghost use Rattle.mt_values.specs.declared.value.ColType.{ColType};
+ghost use Rattle.mt_values.specs.declared.schema.Column.{Column};
 ghost use Rattle.mt_values.specs.declared.schema.Schema.{Schema};
+ghost use Rattle.mt_values.specs.declared.command.Command.TheVariants as command;
 ghost use Rattle.mt_values.specs.declared.command.Entry.{Entry};
+ghost use Rattle.mt_values.specs.declared.statement.Cause.{Cause};
+ghost use Rattle.mt_values.specs.declared.statement.CreateText.{CreateText};
 ghost use Rattle.mt_values.specs.declared.statement.Statement.{Statement};
-ghost use Rattle.mt_values.specs.Values.{Row};
+ghost use Rattle.mt_values.specs.declared.token.Placed.{Placed};
+ghost use Rattle.mt_values.specs.declared.token.Symbol.TheVariants as symbol;
+ghost use Rattle.mt_values.specs.Values.{Row, AreValues};
+ghost use Rattle.mt_values.specs.Grid.{AreRowsOf};
 ghost use Rattle.mt_values.specs.Order.{key_cmp};
-ghost use Rattle.mt_values.specs.Tokens.{tokens_within};
-ghost use Rattle.mt_values.specs.Script.{data_within, statements_within};
-ghost use Rattle.mt_values.specs.Rows.{rows_within};
-ghost use Rattle.mt_model.specs.History.{History, IsLegal, IsAllowed};
+ghost use Rattle.mt_values.specs.Tokens.{string_within, tokens_within};
+ghost use Rattle.mt_values.specs.Readers.{Reader, listed_within};
+ghost use Rattle.mt_values.specs.Grammar.{column, is_symbol, one_name, the};
+ghost use Rattle.mt_values.specs.Script.{data_ended_within, data_within, statements_of, statements_within};
+ghost use Rattle.mt_values.specs.Rows.{inserted_rows, row_limit, rows_within, unescaped_within};
+ghost use Rattle.mt_model.specs.declared.refusal.Refusal.{Refusal};
+ghost use Rattle.mt_model.specs.History.{History, IsLegal, IsAllowed, IsTableSchema};
 ghost use Rattle.mt_model.specs.Live.{live, sorted, of_key};
 ghost use Rattle.mt_model.specs.Partial.{Partly};
 ghost use Rattle.mt_model.specs.Answer.{Answer, Prints};
-ghost use Rattle.mt_model.specs.Session.{SessionRun};
+ghost use Rattle.mt_model.specs.Outside.{Counts, HasRisen};
+ghost use Rattle.mt_model.specs.Refusals.{code, code_of, is_damage, is_refusal, refusal_line};
+ghost use Rattle.mt_model.specs.Reply.{create_turn, ok_line, rows_reply, schema_of_text};
+ghost use Rattle.mt_model.specs.Session.{AddsNothing, SessionRun, Takes};
 ghost use Rattle.mt_model.specs.Script.{ScriptRun};
 ghost use Rattle.mt_model.specs.Same.{SameHistory};
+ghost use Rattle.mt_model.specs.Written.{IsWritten};
 
 /// The first entries of a legal history are a legal history, and one more entry that may come next leaves it legal.
 pub fn legal_fronts()
@@ -48,31 +62,90 @@ pub fn partly_is_a_permutation()
 
 /// A SELECT at a place of a history has one answer only, whatever merges did.
 pub fn answers_are_determined()
-    ensures { (h : History) (table : List ℕ) (schema : Schema) (a b : List (List ℕ)) → Answer h table schema a → Answer h table schema b → a ≡ b }
+    ensures { (h : History) (table : List ℕ) (schema : Schema) (columns : List ℕ) (a b : List (List ℕ))
+        → Answer h table schema columns a → Answer h table schema columns b → a ≡ b }
+{}
+
+/// Each CREATE that a script has names a key. The schema that it writes is one that a table may have, and where its turn
+/// refuses nothing either, its command may come next.
+pub fn creates_are_allowed()
+    ensures written { (script : List ℕ) → All IsWritten (statements_of script) }
+    ensures schema { (c : CreateText) (schema : Schema) → 0 < length c.key → schema_of_text c ≡ Ok schema → IsTableSchema schema }
+    ensures next { (c : CreateText) (schema : Schema) (h : History) → 0 < length c.key → schema_of_text c ≡ Ok schema → create_turn c.table h ≡ None
+        → IsAllowed h (command.Create (record { table = c.table; schema = schema })) }
+{}
+
+/// The rows that data is read as have a value of each column's type, within the type's range where the data is bytes, and
+/// are not too many.
+pub fn rows_are_of_their_table()
+    ensures types { (types : List ColType) (lines : List ℕ) (ended : Bool) (rows : List Row) → inserted_rows types lines ended ≡ Ok rows → AreRowsOf types rows }
+    ensures values { (types : List ColType) (lines : List ℕ) (ended : Bool) (rows : List Row)
+        → All (λ b. b < 2 ^ 8) lines → inserted_rows types lines ended ≡ Ok rows → AreValues rows }
+    ensures few { (types : List ColType) (lines : List ℕ) (ended : Bool) (rows : List Row) → inserted_rows types lines ended ≡ Ok rows → length rows ≤ row_limit }
+{}
+
+/// The line of each refusal begins with its number, and no other reply has one.
+pub fn refusals_have_numbers()
+    ensures refusals { (r : Refusal) → code_of (refusal_line r) ≡ code r }
+    ensures accepted { (h : ℕ) → code_of (ok_line h) ≡ 0 }
+    ensures answers { (lines : List (List ℕ)) (h : ℕ) → code_of (rows_reply lines h) ≡ 0 }
+{}
+
+/// A refused statement adds nothing to the history.
+pub fn refused_statements_add_nothing()
+    ensures { (n : Counts) (h : History) (session : ℕ) (statement : Result Statement Cause) (from to : ℕ) (reply : List ℕ)
+        → Takes n h session statement from to reply → 0 < code_of reply → AddsNothing h session from to }
+{}
+
+/// A reply tells of a fault of the outside only where the disk's count rose. Where it did not, and stands below its type's
+/// end, a statement is accepted or refused for what the script says. No reply tells of damage.
+pub fn faults_are_of_the_outside()
+    ensures risen { (n : Counts) (h : History) (session : ℕ) (statement : Result Statement Cause) (from to : ℕ) (reply : List ℕ)
+        → Takes n h session statement from to reply → 14 < code_of reply → HasRisen n n.ended }
+    ensures still { (n : Counts) → n.ended ≡ n.opened → n.ended < 2 ^ 64 - 1 → HasRisen n n.ended → ⊥ }
+    ensures calm { (n : Counts) (h : History) (session : ℕ) (statement : Result Statement Cause) (from to : ℕ) (reply : List ℕ)
+        → n.ended ≡ n.opened → n.ended < 2 ^ 64 - 1 → Takes n h session statement from to reply → (code_of reply ≡ 0) ⊎ (is_refusal reply ≡ true) }
+    ensures undamaged { (n : Counts) (h : History) (session : ℕ) (statement : Result Statement Cause) (from to : ℕ) (reply : List ℕ)
+        → Takes n h session statement from to reply → is_damage reply ≡ false }
 {}
 
 /// The places of a session's statements never fall, and none is above the length of the history.
 pub fn places_never_fall()
-    ensures { (h : History) (session : ℕ) (statements : List Statement) (from to : ℕ) (out : List ℕ)
-        → SessionRun h session statements from to out → from ≤ length h → (from ≤ to) × (to ≤ length h) }
+    ensures { (n : Counts) (h : History) (session : ℕ) (statements : List (Result Statement Cause)) (from to : ℕ) (out : List ℕ)
+        → SessionRun n h session statements from to out → from ≤ length h → (from ≤ to) × (to ≤ length h) }
 {}
 
 /// What a session printed stays right as the history grows.
 pub fn runs_stay_as_histories_grow()
-    ensures { (h more : History) (session : ℕ) (statements : List Statement) (from to : ℕ) (out : List ℕ)
-        → SessionRun h session statements from to out → SessionRun (h ++ more) session statements from to out }
+    ensures { (n : Counts) (h more : History) (session : ℕ) (statements : List (Result Statement Cause)) (from to : ℕ) (out : List ℕ)
+        → SessionRun n h session statements from to out → SessionRun n (h ++ more) session statements from to out }
 {}
 
-/// A script that runs behind a base has one run only: what it prints, and each command that is accepted, are determined.
+/// What a session printed stays right as the disk's count of faults rises.
+pub fn runs_stay_as_counts_rise()
+    ensures { (n m : Counts) (h : History) (session : ℕ) (statements : List (Result Statement Cause)) (from to : ℕ) (out : List ℕ)
+        → n.opened ≡ m.opened → n.ended ≤ m.ended → SessionRun n h session statements from to out → SessionRun m h session statements from to out }
+{}
+
+/// A script that runs behind a base has one run only, where the disk's count did not rise and stands below its type's end:
+/// what it prints, and each command that is accepted, are determined.
 pub fn scripts_run_in_one_way()
-    ensures { (script : List Statement) (h g : History) (base : ℕ) (a b : List ℕ)
-        → take base h ≡ take base g → ScriptRun script h base a → ScriptRun script g base b → (a ≡ b) × SameHistory h g }
+    ensures { (n : Counts) (script : List (Result Statement Cause)) (h g : History) (base : ℕ) (a b : List ℕ)
+        → n.ended ≡ n.opened → n.ended < 2 ^ 64 - 1 → take base h ≡ take base g → ScriptRun n script h base a → ScriptRun n script g base b → (a ≡ b) × SameHistory h g }
 {}
 
-/// The counts that bound the grammar's readers cut nothing off: each step takes at least one byte.
+/// The counts that bound the grammar's readers cut nothing off: each step takes at least one byte, or one token.
 pub fn bounds_cut_nothing_off()
     ensures statements { (n m : ℕ) (script : List ℕ) → length script < n → length script < m → statements_within n script ≡ statements_within m script }
-    ensures tokens { (n m : ℕ) (text : List ℕ) → length text < n → length text < m → tokens_within n text ≡ tokens_within m text }
+    ensures tokens { (n m size : ℕ) (text : List ℕ) → length text < n → length text < m → tokens_within n size text ≡ tokens_within m size text }
+    ensures strings { (n m : ℕ) (text : List ℕ) → length text < n → length text < m → string_within n text ≡ string_within m text }
+    ensures names { (n m : ℕ) (next : List (List ℕ) → Reader Statement) (ts : List Placed) → length ts < n → length ts < m
+        → listed_within n (is_symbol symbol.Comma) (the symbol.Comma) one_name [] next ts ≡ listed_within m (is_symbol symbol.Comma) (the symbol.Comma) one_name [] next ts }
+    ensures columns { (n m : ℕ) (next : List Column → Reader Statement) (ts : List Placed) → length ts < n → length ts < m
+        → listed_within n (is_symbol symbol.Comma) (the symbol.Comma) column [] next ts ≡ listed_within m (is_symbol symbol.Comma) (the symbol.Comma) column [] next ts }
     ensures lines { (n m : ℕ) (text : List ℕ) → length text < n → length text < m → data_within n text ≡ data_within m text }
-    ensures rows { (n m : ℕ) (types : List ColType) (text : List ℕ) → length text ≤ n → length text ≤ m → rows_within n types text ≡ rows_within m types text }
+    ensures ends { (n m : ℕ) (text : List ℕ) → length text < n → length text < m → data_ended_within n text ≡ data_ended_within m text }
+    ensures rows { (n m : ℕ) (types : List ColType) (ended : Bool) (count : ℕ) (lines : List ℕ)
+        → length lines < n → length lines < m → rows_within n types ended count lines ≡ rows_within m types ended count lines }
+    ensures texts { (n m : ℕ) (text : List ℕ) → length text < n → length text < m → unescaped_within n text ≡ unescaped_within m text }
 {}

@@ -1,18 +1,23 @@
 -- From what a statement did to what its answer says.
-use Rattle.std.proofs.Common.{◌≡◌, ℕ, ◌+◌, List, [], ◌∷◌, ◌++◌, length, take, refl, sym, ap, ◌∙◌, subst, append-nil, arith, Option, Some, length-append}
+use Rattle.std.proofs.Common.{◌≡◌, ℕ, ◌+◌, List, [], ◌∷◌, ◌++◌, length, map, take, refl, sym, ap, ◌∙◌, subst, append-nil, arith, Option, None, Some, Result, Ok, Err, length-append}
+use Rattle.std.specs.Prelude.{OnOk}
+use Rattle.std.specs.Option.{option_map}
 use Rattle.std.proofs.lemmas.List.{length-map, take_at, take_all, map-append}
 use Rattle.std.proofs.lemmas.List.Elements.{All-cons, All-nil}
 use Rattle.mt_values.specs.declared.annals.Noted.{Noted}
 use Rattle.mt_values.specs.declared.command.Entry.{Entry}
 use Rattle.mt_values.specs.declared.command.Command.{Command}
+use Rattle.mt_values.specs.declared.statement.Cause.{Cause}
 use Rattle.mt_values.specs.declared.statement.Statement.{Statement}
 use Rattle.mt_values.specs.Annals.{Told, began, noted}
 use Rattle.mt_outside.specs.Files.{Files}
 use Rattle.mt_model.specs.History.{History}
+use Rattle.mt_model.specs.Outside.{Counts}
 use Rattle.mt_model.specs.Session.{Takes, AddsNothing, Adds}
 use Rattle.mt_model.proofs.Growing.{stays, adds_last}
 use Rattle.mt_program.specs.declared.store.Store.{Store}
-use Rattle.mt_program.specs.Answers.{history, Accepts}
+use Rattle.mt_program.specs.Answers.{history, Accepts, Foresees, SameList}
+use Rattle.mt_program.specs.Commits.{Notes}
 use Rattle.mt_program.specs.Store.{Stands}
 
 -- the history has as many entries as the keeper's list
@@ -27,18 +32,30 @@ whole_front t = take_all (length t.list) (history t) (omega (arith, length_histo
 pub added_nothing : (t : Told) → AddsNothing (history t) 0 (length t.list) (length t.list)
 added_nothing t = stays (history t) 0 (length t.list) (omega (arith, length_history t))
 
+-- what is told stays
+pub kept_same : (kept : Told) (told : Option Told) → told ≡ Some kept → SameList (Some kept) told
+kept_same kept told is = subst (SameList (Some kept)) (sym is) refl
+
+pub same_kept : (kept : Told) (old new : Option Told) → old ≡ Some kept → SameList old new → SameList (Some kept) new
+same_kept kept old new is same = subst (λ (o : Option Told). SameList o new) is same
+
 -- a statement that adds nothing
-pub accepts_nothing : {F : Type 0} (files_of : F → Option Files) (kept : Told) (st : Statement) (reply : List ℕ) (store : Store F) (told : Option Told)
-    → told ≡ Some kept → Stands files_of (history kept) store → Takes (history kept) 0 st (length kept.list) (length kept.list) reply → Accepts files_of kept st reply store told
-accepts_nothing files_of kept st reply store told is stands takes = record {
-  now = kept;
-  more = [];
-  told_is = is;
-  list_is = sym (append-nil kept.list);
-  sessions = All-nil (λ (n : Noted). n.entry.session ≡ 0);
-  stands = stands;
-  takes = takes;
-}
+pub accepts_nothing : {F : Type 0} (files_of : F → Option Files) (kept : Told) (st : Result Statement Cause) (opened disk arm : ℕ) (reply : List ℕ) (store : Store F) (told : Option Told)
+    → SameList (Some kept) told → Stands files_of (history kept) store
+    → ((n : Counts) → Foresees opened disk arm n → Takes n (history kept) 0 st (length kept.list) (length kept.list) reply) → Accepts files_of kept st opened disk arm reply store told
+accepts_nothing files_of kept st opened disk arm reply store None same stands takes = absurd same
+accepts_nothing files_of kept st opened disk arm reply store (Some now) same stands takes =
+    let h : history now ≡ history kept = ap (map (λ (n : Noted). n.entry)) same in
+    record {
+      now = now;
+      more = [];
+      told_is = refl;
+      list_is = same ∙ sym (append-nil kept.list);
+      sessions = All-nil (λ (n : Noted). n.entry.session ≡ 0);
+      stands = subst (λ (x : History). Stands files_of x store) (sym h) stands;
+      takes = λ n f. subst (λ (m : ℕ). Takes n (history now) 0 st (length kept.list) m reply) (sym (ap length same))
+          (subst (λ (x : History). Takes n x 0 st (length kept.list) (length kept.list) reply) (sym h) (takes n f));
+    }
 
 -- a command of the script's own session
 abbrev pub entry_of : Command → Entry
@@ -65,15 +82,20 @@ module _ (mark : ℕ) (c : Command) (kept : Told) where
       subst (λ (h : History). Adds h 0 c (length kept.list) (length kept.list + 1)) (sym history_after) here
 
   -- a statement that adds one command
-  pub accepts_command : {F : Type 0} (files_of : F → Option Files) (st : Statement) (reply : List ℕ) (store : Store F) (told : Option Told)
-      → told ≡ Some (after_note mark c kept) → Stands files_of (history kept ++ entry_of c ∷ []) store
-      → ((h : History) (n : ℕ) → take n h ≡ history kept → Adds h 0 c n (n + 1) → n ≡ length kept.list → Takes h 0 st n (n + 1) reply) → Accepts files_of kept st reply store told
-  accepts_command files_of st reply store told is stands takes = record {
+  pub accepts_command : {F : Type 0} (files_of : F → Option Files) (st : Result Statement Cause) (opened disk arm : ℕ) (reply : List ℕ) (store : Store F) (old told : Option Told)
+      → old ≡ Some kept → Notes mark c old told → Stands files_of (history kept ++ entry_of c ∷ []) store
+      → ((n : Counts) (h : History) (m : ℕ) → take m h ≡ history kept → Adds h 0 c m (m + 1) → m ≡ length kept.list → Takes n h 0 st m (m + 1) reply) → Accepts files_of kept st opened disk arm reply store told
+  accepts_command files_of st opened disk arm reply store old told is notes stands takes = record {
     now = after_note mark c kept;
     more = record { entry = entry_of c; mark = mark } ∷ [];
-    told_is = is;
+    told_is = notes ∙ ap (option_map (after_note mark c)) is;
     list_is = refl;
     sessions = All-cons (λ (n : Noted). n.entry.session ≡ 0) (record { entry = entry_of c; mark = mark }) [] refl (All-nil (λ (n : Noted). n.entry.session ≡ 0));
     stands = subst (λ (h : History). Stands files_of h store) (sym history_after) stands;
-    takes = subst (λ (n : ℕ). Takes (history (after_note mark c kept)) 0 st (length kept.list) n reply) (sym length_after) (takes (history (after_note mark c kept)) (length kept.list) front_after adds_after refl);
+    takes = λ n f. subst (λ (m : ℕ). Takes n (history (after_note mark c kept)) 0 st (length kept.list) m reply) (sym length_after) (takes n (history (after_note mark c kept)) (length kept.list) front_after adds_after refl);
   }
+
+-- what holds in any case holds of each answer
+pub on_ok : {A E : Type 0} (r : Result A E) (P : Type 0) → P → OnOk r P
+on_ok (Ok x) P h = h
+on_ok (Err e) P h = tt

@@ -1,35 +1,40 @@
 -- From a script that was served to what a run promises.
-use Rattle.std.proofs.Common.{◌≡◌, ◌⊎◌, ◌≤◌, inr, zero, suc, ◌==◌, if◌then◌else◌, ℕ, Bool, true, false, List, [], ◌∷◌, ◌++◌, slice_get, length, map, take, drop, refl, sym, ap, ◌∙◌, subst, Option, None, Some, append-nil, arith, inl}
-use Rattle.std.specs.List.{All, concat}
+use Rattle.std.proofs.Common.{◌≡◌, ◌⊎◌, ◌≤◌, inl, inr, zero, suc, ◌==◌, if◌then◌else◌, ℕ, Bool, true, false, cond, ◌||◌, List, [], ◌∷◌, ◌++◌, slice_get, length, map, take, drop, refl, sym, ap, ◌∙◌, subst, Option, None, Some, Result, Ok, Err, append-nil, arith}
+use Rattle.std.specs.Prelude.{IfErr, IsErrAnd, OnOk}
+use Rattle.std.specs.List.{All, concat, list_any}
 use Rattle.std.specs.Io.KnownBytes.{Appends, Consumes, IsAtEnd}
-use Rattle.std.proofs.lemmas.List.{map-append, take_all}
+use Rattle.std.proofs.lemmas.List.{map-append, take_all, drop_all}
 use Rattle.std.proofs.lemmas.List.Elements.{All-map, All-nil}
 use Rattle.std.proofs.Math.Seq.{drop-append_seam, take-append_seam}
 use Rattle.mt_values.specs.declared.annals.Noted.{Noted}
 use Rattle.mt_values.specs.declared.command.Entry.{Entry}
-use Rattle.mt_values.specs.declared.statement.Statement.{Statement}
 use Rattle.mt_values.specs.Annals.{Told}
 use Rattle.mt_values.specs.Script.{statements_of}
 use Rattle.mt_outside.specs.Files.{Files}
 use Rattle.mt_outside.specs.declared.disk.DiskError.{DiskError}
 use Rattle.mt_outside.specs.declared.disk.DiskError.TheVariants as failure
 use Rattle.mt_model.specs.History.{History, IsLegal}
+use Rattle.mt_model.specs.Outside.{Counts}
+use Rattle.mt_model.specs.Refusals.{is_damage}
 use Rattle.mt_model.specs.Script.{ScriptRun, ScriptReplies, CutRun, CutInReply, FrontRun, OwnEntries}
-use Rattle.mt_model.specs.Session.{AddsNothing}
+use Rattle.mt_model.specs.Session.{AddsNothing, SessionReplies}
+use Rattle.mt_model.proofs.Causes.{never_damaged}
 use Rattle.mt_model.proofs.Replies.{script_replies_run}
 use Rattle.mt_program.specs.declared.store.Store.{Store}
-use Rattle.mt_program.specs.declared.serving.Ending.{Ending}
-use Rattle.mt_program.specs.declared.serving.Ending.TheVariants as ending
 use Rattle.mt_program.specs.declared.streams.ReadStop.{ReadStop}
 use Rattle.mt_program.specs.declared.streams.ReadStop.TheVariants as unread
+use Rattle.mt_program.specs.declared.serving.Ending.{Ending}
+use Rattle.mt_program.specs.declared.serving.Ending.TheVariants as ending
+use Rattle.mt_program.specs.declared.serving.Tally.{Tally}
 use Rattle.mt_program.specs.declared.status.Status.{Status}
 use Rattle.mt_program.specs.declared.status.Status.TheVariants as status
-use Rattle.mt_program.specs.Answers.{history}
-use Rattle.mt_program.specs.Endings.{status_for, status_of_error, status_of_stop, settled}
-use Rattle.mt_program.specs.Headline.{Leaves, WholeRun, ReadRun, NothingRan, RunBy, WritesDamage, number_of}
-use Rattle.mt_program.specs.Serving.{Ran, ServedAll, ServedFront, ServedCut, ServedBy}
+use Rattle.mt_program.specs.Answers.{Foresees, history}
+use Rattle.mt_program.specs.Endings.{IsAnswered, IsEarly, LeftBy, MetNoDamage, settled, status_of, status_of_error, status_of_stop}
+use Rattle.mt_program.specs.Headline.{Leaves, WholeRun, WholeRunWith, ReadRun, RunWithFaults, NothingRan, RunBy, number_of}
+use Rattle.mt_program.specs.Serving.{Item, Ran, ServedAll, ServedFront, ServedCut, ServedBy}
 use Rattle.mt_program.specs.Store.{Stands, TableStands}
 use Rattle.mt_program.proofs.Accepting.{added_nothing, length_history}
+use Rattle.mt_program.proofs.Counting.{some_counts}
 
 get_seam : {X : Type 0} (xs : List X) (x : X) (ys : List X) → slice_get (xs ++ x ∷ ys) (length xs) ≡ Some x
 get_seam [] x ys = refl
@@ -46,74 +51,70 @@ all_read script text before (Some rest) is h end =
     let whole : script ≡ text ++ rest = subst (λ (o : Option (List ℕ)). Consumes o (Some rest) text) is h in
     sym (whole ∙ (ap (λ ys. text ++ ys) end ∙ append-nil text))
 
+-- the status of a script that was served, by what its replies told and whether the count rose
+abbrev of_flags : Bool → Bool → Bool → Status
+of_flags damaged risen refused = if damaged then status.Damaged else if risen then status.DiskFault else if refused then status.Refused else status.Done
+
 -- the entries behind what was told are session 0's
-own_entries : (kept : Told) (done : List Statement) (replies : List (List ℕ)) (told : Option Told) → (r : Ran kept done replies told) → OwnEntries (history r.now) (length kept.list)
-own_entries kept done replies told r =
+own_entries : (kept : Told) (opened disk arm : ℕ) (done : List Item) (replies : List (List ℕ)) (told : Option Told) → (r : Ran kept opened disk arm done replies told) → OwnEntries (history r.now) (length kept.list)
+own_entries kept opened disk arm done replies told r =
     let entries = λ (n : Noted). n.entry in
     let all : history r.now ≡ history kept ++ map entries r.more = ap (map entries) r.list_is ∙ map-append entries kept.list r.more in
     let behind : drop (length kept.list) (history r.now) ≡ map entries r.more =
     ap (drop (length kept.list)) all ∙ (ap (λ n. drop n (history kept ++ map entries r.more)) (sym (length_history kept)) ∙ drop-append_seam (history kept) (map entries r.more)) in
     subst (All (λ (e : Entry). e.session ≡ 0)) (sym behind) (All-map (λ (e : Entry). e.session ≡ 0) entries r.more r.sessions)
 
-replies_of : (kept : Told) (done : List Statement) (replies : List (List ℕ)) (told : Option Told) → (r : Ran kept done replies told) → ScriptReplies done (history r.now) (length kept.list) replies
-replies_of kept done replies told r = record {
+-- what ran, at counts that were foreseen
+replies_of : (n : Counts) (kept : Told) (opened disk arm : ℕ) (done : List Item) (replies : List (List ℕ)) (told : Option Told) → Foresees opened disk arm n → (r : Ran kept opened disk arm done replies told)
+    → ScriptReplies n done (history r.now) (length kept.list) replies
+replies_of n kept opened disk arm done replies told f r = record {
   last = length r.now.list;
-  run = r.run;
-  nothing_else = subst (λ (n : ℕ). AddsNothing (history r.now) 0 (length r.now.list) n) (sym (length_history r.now)) (added_nothing r.now);
-  sessions = own_entries kept done replies told r;
+  run = r.run n f;
+  nothing_else = subst (λ (m : ℕ). AddsNothing (history r.now) 0 (length r.now.list) m) (sym (length_history r.now)) (added_nothing r.now);
+  sessions = own_entries kept opened disk arm done replies told r;
 }
 
 -- no statement ran
-still : (kept : Told) → IsLegal (history kept) → Ran kept [] [] (Some kept)
-still kept legal = record { now = kept; more = []; told_is = refl; list_is = sym (append-nil kept.list); legal = legal; sessions = All-nil (λ (n : Noted). n.entry.session ≡ 0); run = refl }
+nothing_ran : (n : Counts) (kept : Told) → ScriptRun n [] (history kept) (length kept.list) []
+nothing_ran n kept = record {
+  last = length kept.list;
+  run = (refl, refl);
+  nothing_else = subst (λ (m : ℕ). AddsNothing (history kept) 0 (length kept.list) m) (sym (length_history kept)) (added_nothing kept);
+  sessions = subst (All (λ (e : Entry). e.session ≡ 0)) (sym (drop_all (length kept.list) (history kept) (omega (arith, length_history kept)))) (All-nil (λ (e : Entry). e.session ≡ 0));
+}
 
-nothing_ran : (kept : Told) → IsLegal (history kept) → ScriptRun [] (history kept) (length kept.list) []
-unfolding still
-nothing_ran kept legal = script_replies_run [] (history kept) (length kept.list) [] (replies_of kept [] [] (Some kept) (still kept legal))
-
-module _ (kept : Told) (script before : List ℕ) (told : Option Told) (written : Option (List ℕ)) (none : kept.list ≡ []) (told_is : told ≡ Some kept) (written_is : written ≡ Some before) where
-  legal : IsLegal (history kept)
-  legal = subst IsLegal (sym (ap (map (λ (n : Noted). n.entry)) none)) tt
-
-  early : (ended : Status) → RunBy ended (statements_of script) (history kept) (length kept.list) [] → Leaves (RunBy ended) kept script before told written
-  early ended ran = record {
+-- the run ended before a statement ran
+module _ (n : Counts) (kept : Told) (script before : List ℕ) (told : Option Told) (written : Option (List ℕ)) (none : kept.list ≡ []) (told_is : told ≡ Some kept) (written_is : written ≡ Some before) where
+  early : (Run : List Item → History → ℕ → List ℕ → Type 0) → Run (statements_of script) (history kept) (length kept.list) [] → Leaves Run kept script before told written
+  early Run ran = record {
     now = kept;
     more = [];
     out = [];
     told_is = told_is;
     begins = sym (append-nil kept.list);
-    legal = legal;
+    legal = subst IsLegal (sym (ap (map (λ (n : Noted). n.entry)) none)) tt;
     written_is = written_is ∙ ap Some (sym (append-nil before));
     ran = ran;
   }
 
-  none_ran : NothingRan (statements_of script) (history kept) (length kept.list) []
-  none_ran = record { count = 0; run = nothing_ran kept legal }
+  none_ran : NothingRan n (statements_of script) (history kept) (length kept.list) []
+  none_ran = record { count = 0; run = nothing_ran n kept }
 
-  no_run : FrontRun (statements_of script) (history kept) (length kept.list) []
-  no_run = record { count = 0; run = nothing_ran kept legal }
+  pub early_leaves : (ended : Status) → IsEarly ended → (ended ≡ status.Damaged → ⊥) → Leaves (RunBy ended n) kept script before told written
+  early_leaves status.ReadFault is sound = early (NothingRan n) none_ran
+  early_leaves status.TooLong is sound = early (NothingRan n) none_ran
+  early_leaves status.DiskFault is sound = early (RunWithFaults n) (inr none_ran)
+  early_leaves status.NoMemory is sound = early (CutRun n) (record { count = 0; run = inl (nothing_ran n kept) })
+  early_leaves status.Damaged is sound = absurd (sound refl)
+  early_leaves status.Done is sound = absurd is
+  early_leaves status.Refused is sound = absurd is
+  early_leaves status.NotWords is sound = absurd is
+  early_leaves status.WriteFault is sound = absurd is
 
-  cut_at_once : CutRun (statements_of script) (history kept) (length kept.list) []
-  cut_at_once = record { count = 0; run = inl (nothing_ran kept legal) }
-
-  pub early_words : Leaves (RunBy status.NotWords) kept script before told written
-  early_words = early status.NotWords none_ran
-
-  pub early_fault : Leaves (RunBy status.DiskFault) kept script before told written
-  early_fault = early status.DiskFault no_run
-
-  pub early_error : (error : DiskError) → Leaves (RunBy (status_of_error error)) kept script before told written
-  early_error failure.Fault = early status.DiskFault no_run
-  early_error failure.NoMemory = early status.NoMemory cut_at_once
-
-  pub early_stop : (why : ReadStop) → Leaves (RunBy (status_of_stop why)) kept script before told written
-  early_stop unread.NoMemory = early status.NoMemory cut_at_once
-  early_stop unread.Fault = early status.ReadFault none_ran
-  early_stop unread.TooLong = early status.TooLong none_ran
-
-module _ (kept : Told) (script before : List ℕ) (told : Option Told) (old new : Option (List ℕ)) (is : old ≡ Some before) where
+-- the script was served
+module _ (n : Counts) (kept : Told) (script before : List ℕ) (opened disk arm : ℕ) (f : Foresees opened disk arm n) (told : Option Told) (old new : Option (List ℕ)) (is : old ≡ Some before) where
   -- what ran is left, and what was written
-  left : (Run : List Statement → History → ℕ → List ℕ → Type 0) (done : List Statement) (replies : List (List ℕ)) (r : Ran kept done replies told) (out : List ℕ) → Appends old new out
+  left : (Run : List Item → History → ℕ → List ℕ → Type 0) (done : List Item) (replies : List (List ℕ)) (r : Ran kept opened disk arm done replies told) (out : List ℕ) → Appends old new out
       → Run (statements_of script) (history r.now) (length kept.list) out → Leaves Run kept script before told new
   left Run done replies r out wrote ran = record {
     now = r.now;
@@ -126,99 +127,171 @@ module _ (kept : Told) (script before : List ℕ) (told : Option Told) (old new 
     ran = ran;
   }
 
-  whole_run : (refused : Bool) → (s : ServedAll kept script refused told old new) → WholeRun refused (statements_of script) (history s.ran.now) (length kept.list) (concat s.replies)
-  whole_run refused s =
-      let each = replies_of kept (statements_of script) s.replies told s.ran in
+  whole_run : (tally : Tally) (refused : Bool) → tally.refused ≡ refused → tally.damaged ≡ false → (s : ServedAll kept script opened disk arm tally told old new)
+      → WholeRunWith refused n (statements_of script) (history s.ran.now) (length kept.list) (concat s.replies)
+  whole_run tally refused which sound s =
+      let each = replies_of n kept opened disk arm (statements_of script) s.replies told f s.ran in
       record {
         replies = s.replies;
         each = each;
-        run = script_replies_run (statements_of script) (history s.ran.now) (length kept.list) s.replies each;
+        run = script_replies_run n (statements_of script) (history s.ran.now) (length kept.list) s.replies each;
         out_is = refl;
-        refusals = sym s.refusals;
+        tells = record { refusals = sym which ∙ s.tells.refusals; damages = sym sound ∙ s.tells.damages };
       }
 
-  first_run : (s : ServedFront kept script told old new) → ScriptRun (take (length s.done) (statements_of script)) (history s.ran.now) (length kept.list) (concat s.replies)
+  first_run : (s : ServedFront kept script opened disk arm told old new) → ScriptRun n (take (length s.done) (statements_of script)) (history s.ran.now) (length kept.list) (concat s.replies)
   first_run s =
       let first : take (length s.done) (statements_of script) ≡ s.done = ap (take (length s.done)) s.split ∙ take-append_seam s.done s.rest in
-      subst (λ (ss : List Statement). ScriptRun ss (history s.ran.now) (length kept.list) (concat s.replies)) (sym first)
-      (script_replies_run s.done (history s.ran.now) (length kept.list) s.replies (replies_of kept s.done s.replies told s.ran))
+      subst (λ (ss : List Item). ScriptRun n ss (history s.ran.now) (length kept.list) (concat s.replies)) (sym first)
+      (script_replies_run n s.done (history s.ran.now) (length kept.list) s.replies (replies_of n kept opened disk arm s.done s.replies told f s.ran))
 
-  front_run : (s : ServedFront kept script told old new) → FrontRun (statements_of script) (history s.ran.now) (length kept.list) (concat s.replies)
-  front_run s = record { count = length s.done; run = first_run s }
-
-  cut_run : (s : ServedFront kept script told old new) → CutRun (statements_of script) (history s.ran.now) (length kept.list) (concat s.replies)
+  cut_run : (s : ServedFront kept script opened disk arm told old new) → CutRun n (statements_of script) (history s.ran.now) (length kept.list) (concat s.replies)
   cut_run s = record { count = length s.done; run = inl (first_run s) }
 
-  cut_in_reply : (s : ServedCut kept script told old new) → CutInReply (statements_of script) (history s.ran.now) (length kept.list) (concat s.replies ++ s.part)
+  cut_in_reply : (s : ServedCut kept script opened disk arm told old new) → CutInReply n (statements_of script) (history s.ran.now) (length kept.list) (concat s.replies ++ s.part)
   cut_in_reply s = record {
     count = length s.done;
     last = s.last;
     replies = s.replies;
     reply = s.reply;
     part = s.part;
-    there = subst (λ (ss : List Statement). slice_get ss (length s.done) ≡ Some s.last) (sym s.split) (get_seam s.done s.last s.rest);
-    run = subst (λ (ss : List Statement). ScriptReplies (ss ++ s.last ∷ []) (history s.ran.now) (length kept.list) (s.replies ++ s.reply ∷ []))
+    there = subst (λ (ss : List Item). slice_get ss (length s.done) ≡ Some s.last) (sym s.split) (get_seam s.done s.last s.rest);
+    run = subst (λ (ss : List Item). ScriptReplies n (ss ++ s.last ∷ []) (history s.ran.now) (length kept.list) (s.replies ++ s.reply ∷ []))
         (sym (ap (take (length s.done)) s.split ∙ take-append_seam s.done (s.last ∷ s.rest)))
-        (replies_of kept (s.done ++ s.last ∷ []) (s.replies ++ s.reply ∷ []) told s.ran);
+        (replies_of n kept opened disk arm (s.done ++ s.last ∷ []) (s.replies ++ s.reply ∷ []) told f s.ran);
     front = s.front;
     written_is = refl;
   }
 
-  pub leaves_served : (e : Ending) → (e ≡ ending.Damaged → ⊥) → ServedBy e kept script told old new → Leaves (RunBy (status_for e)) kept script before told new
-  leaves_served (ending.Done false) sound s = left (WholeRun false) (statements_of script) s.replies s.ran (concat s.replies) s.wrote (whole_run false s)
-  leaves_served (ending.Done true) sound s = left (WholeRun true) (statements_of script) s.replies s.ran (concat s.replies) s.wrote (whole_run true s)
-  leaves_served ending.NoMemory sound s = left CutRun s.done s.replies s.ran (concat s.replies) s.wrote (cut_run s)
-  leaves_served ending.DiskFault sound s = left FrontRun s.done s.replies s.ran (concat s.replies) s.wrote (front_run s)
-  leaves_served ending.Damaged sound s = absurd (sound refl)
-  leaves_served ending.WriteFault sound s = left CutInReply (s.done ++ s.last ∷ []) (s.replies ++ s.reply ∷ []) s.ran (concat s.replies ++ s.part) s.wrote (cut_in_reply s)
+  leaves_done : (tally : Tally) (risen : Bool) → tally.damaged ≡ false → ServedAll kept script opened disk arm tally told old new → Leaves (RunBy (settled tally risen) n) kept script before told new
+  leaves_done tally risen sound s =
+      subst (λ (d : Bool). Leaves (RunBy (of_flags d risen tally.refused) n) kept script before told new) (sym sound) (by risen tally.refused refl)
+    where
+      by : (risen refused : Bool) → tally.refused ≡ refused → Leaves (RunBy (of_flags false risen refused) n) kept script before told new
+      by true refused which = left (RunWithFaults n) (statements_of script) s.replies s.ran (concat s.replies) s.wrote (inl (refused, whole_run tally refused which sound s))
+      by false true which = left (WholeRunWith true n) (statements_of script) s.replies s.ran (concat s.replies) s.wrote (whole_run tally true which sound s)
+      by false false which = left (WholeRunWith false n) (statements_of script) s.replies s.ran (concat s.replies) s.wrote (whole_run tally false which sound s)
 
--- a run whose statements were all answered is a front run, too
-shown : (refused : Bool) (script : List ℕ) (kept : Told) (h : History) (out : List ℕ) → WholeRun refused (statements_of script) h (length kept.list) out → FrontRun (statements_of script) h (length kept.list) out
-shown refused script kept h out w = record {
-  count = length (statements_of script);
-  run = subst (λ (ss : List Statement). ScriptRun ss h (length kept.list) out) (sym (take_all (length (statements_of script)) (statements_of script) (omega arith))) w.run;
-}
+  pub leaves_all : (risen : Bool) (ended : Result Ending Status) → kept.list ≡ [] → MetNoDamage ended → IfErr ended IsEarly → LeftBy ended kept script opened disk arm told old new
+      → Leaves (RunBy (status_of risen ended) n) kept script before told new
+  leaves_all risen (Ok (ending.Done tally)) none sound first s = leaves_done tally risen sound s
+  leaves_all risen (Ok ending.NoMemory) none sound first s = left (CutRun n) s.done s.replies s.ran (concat s.replies) s.wrote (cut_run s)
+  leaves_all risen (Ok ending.WriteFault) none sound first s = left (CutInReply n) (s.done ++ s.last ∷ []) (s.replies ++ s.reply ∷ []) s.ran (concat s.replies ++ s.part) s.wrote (cut_in_reply s)
+  leaves_all risen (Err ended) none sound first s = early_leaves n kept script before told new none s.0 (s.1 ∙ is) ended first sound
 
--- a run of one kind is one of another
-pub leaves_as : (R Q : List Statement → History → ℕ → List ℕ → Type 0) (kept : Told) (script before : List ℕ) (told : Option Told) (written : Option (List ℕ))
-    → ((h : History) (out : List ℕ) → R (statements_of script) h (length kept.list) out → Q (statements_of script) h (length kept.list) out)
-    → Leaves R kept script before told written → Leaves Q kept script before told written
-leaves_as R Q kept script before told written turn l = record {
-  now = l.now;
-  more = l.more;
-  out = l.out;
-  told_is = l.told_is;
-  begins = l.begins;
-  legal = l.legal;
-  written_is = l.written_is;
-  ran = turn (history l.now) l.out l.ran;
-}
+-- ---- no damage is told over a root without names
 
-pub leaves_settled : (risen : Bool) (ended : Status) (script : List ℕ) (kept : Told) (before : List ℕ) (told : Option Told) (written : Option (List ℕ))
-    → Leaves (RunBy ended) kept script before told written → Leaves (RunBy (settled risen ended)) kept script before told written
-leaves_settled true status.Done script kept before told written l = leaves_as (WholeRun false) FrontRun kept script before told written (shown false script kept) l
-leaves_settled true status.Refused script kept before told written l = leaves_as (WholeRun true) FrontRun kept script before told written (shown true script kept) l
-leaves_settled true status.NotWords script kept before told written l = l
-leaves_settled true status.ReadFault script kept before told written l = l
-leaves_settled true status.WriteFault script kept before told written l = l
-leaves_settled true status.DiskFault script kept before told written l = l
-leaves_settled true status.NoMemory script kept before told written l = l
-leaves_settled true status.Damaged script kept before told written l = l
-leaves_settled true status.TooLong script kept before told written l = l
-leaves_settled false ended script kept before told written l = l
+undamaged : (n : Counts) (h : History) (ss : List Item) (from to : ℕ) (replies : List (List ℕ)) → SessionReplies n h 0 ss from to replies → list_any is_damage replies ≡ false
+undamaged n h [] from to [] r = refl
+undamaged n h [] from to (x ∷ xs) r = absurd r
+undamaged n h (s ∷ ss) from to [] r = absurd r
+undamaged n h (s ∷ ss) from to (x ∷ xs) r = ap (λ b. b || list_any is_damage xs) (never_damaged n h 0 s from r.0 x r.1) ∙ undamaged n h ss r.0 to xs r.2
 
-pub writes_settled : (risen : Bool) (ended : Status) (name : List ℕ) (failed failed_now : ℕ) (old new : Option (List ℕ))
-    → WritesDamage ended name failed failed_now old new → WritesDamage (settled risen ended) name failed failed_now old new
-writes_settled true status.Done name failed failed_now old new w = absurd w
-writes_settled true status.Refused name failed failed_now old new w = absurd w
-writes_settled true status.NotWords name failed failed_now old new w = w
-writes_settled true status.ReadFault name failed failed_now old new w = w
-writes_settled true status.WriteFault name failed failed_now old new w = w
-writes_settled true status.DiskFault name failed failed_now old new w = w
-writes_settled true status.NoMemory name failed failed_now old new w = w
-writes_settled true status.Damaged name failed failed_now old new w = w
-writes_settled true status.TooLong name failed failed_now old new w = w
-writes_settled false ended name failed failed_now old new w = w
+pub sound_served : (kept : Told) (script : List ℕ) (opened disk arm : ℕ) (told : Option Told) (before after : Option (List ℕ)) (e : Ending) → ServedBy e kept script opened disk arm told before after → MetNoDamage (Ok e)
+sound_served kept script opened disk arm told before after (ending.Done tally) s =
+    let n = some_counts opened disk arm in
+    s.tells.damages ∙ undamaged n.0 (history s.ran.now) (statements_of script) (length kept.list) (length s.ran.now.list) s.replies (s.ran.run n.0 n.1)
+sound_served kept script opened disk arm told before after ending.NoMemory s = tt
+sound_served kept script opened disk arm told before after ending.WriteFault s = tt
+
+-- ---- which end has which status
+
+-- a status that a script may have whose statements were all answered
+abbrev IsTallied : Status → Type 0
+IsTallied status.Done = Unit {0}
+IsTallied status.Refused = Unit {0}
+IsTallied status.DiskFault = Unit {0}
+IsTallied status.Damaged = Unit {0}
+IsTallied status.NotWords = ⊥
+IsTallied status.ReadFault = ⊥
+IsTallied status.WriteFault = ⊥
+IsTallied status.NoMemory = ⊥
+IsTallied status.TooLong = ⊥
+
+flags_tallied : (damaged risen refused : Bool) → IsTallied (of_flags damaged risen refused)
+flags_tallied true risen refused = tt
+flags_tallied false true refused = tt
+flags_tallied false false true = tt
+flags_tallied false false false = tt
+
+tallied_is : (tally : Tally) (risen : Bool) (s : Status) → settled tally risen ≡ s → IsTallied s
+tallied_is tally risen s e = subst IsTallied e (flags_tallied tally.damaged risen tally.refused)
+
+pub read_fault : (risen : Bool) (ended : Result Ending Status) → status_of risen ended ≡ status.ReadFault → ended ≡ Err status.ReadFault
+read_fault risen (Ok (ending.Done tally)) e = absurd (tallied_is tally risen status.ReadFault e)
+read_fault risen (Ok ending.NoMemory) e = cc
+read_fault risen (Ok ending.WriteFault) e = cc
+read_fault risen (Err s) e = ap Err e
+
+pub too_long : (risen : Bool) (ended : Result Ending Status) → status_of risen ended ≡ status.TooLong → ended ≡ Err status.TooLong
+too_long risen (Ok (ending.Done tally)) e = absurd (tallied_is tally risen status.TooLong e)
+too_long risen (Ok ending.NoMemory) e = cc
+too_long risen (Ok ending.WriteFault) e = cc
+too_long risen (Err s) e = ap Err e
+
+pub write_fault : (risen : Bool) (ended : Result Ending Status) → IfErr ended IsEarly → status_of risen ended ≡ status.WriteFault → ended ≡ Ok ending.WriteFault
+write_fault risen (Ok (ending.Done tally)) first e = absurd (tallied_is tally risen status.WriteFault e)
+write_fault risen (Ok ending.NoMemory) first e = cc
+write_fault risen (Ok ending.WriteFault) first e = refl
+write_fault risen (Err s) first e = absurd (subst IsEarly e first)
+
+pub not_words : (risen : Bool) (ended : Result Ending Status) → IfErr ended IsEarly → status_of risen ended ≡ status.NotWords → ⊥
+not_words risen (Ok (ending.Done tally)) first e = tallied_is tally risen status.NotWords e
+not_words risen (Ok ending.NoMemory) first e = cc
+not_words risen (Ok ending.WriteFault) first e = cc
+not_words risen (Err s) first e = subst IsEarly e first
+
+pub not_damaged : (risen : Bool) (ended : Result Ending Status) → MetNoDamage ended → status_of risen ended ≡ status.Damaged → ⊥
+not_damaged risen (Ok (ending.Done tally)) sound e = by risen tally.refused (ap (λ d. of_flags d risen tally.refused) (sym sound) ∙ e)
+  where
+    by : (risen refused : Bool) → of_flags false risen refused ≡ status.Damaged → ⊥
+    by true refused h = cc
+    by false true h = cc
+    by false false h = cc
+not_damaged risen (Ok ending.NoMemory) sound e = cc
+not_damaged risen (Ok ending.WriteFault) sound e = cc
+not_damaged risen (Err s) sound e = sound e
+
+pub disk_fault : (risen : Bool) (ended : Result Ending Status) → status_of risen ended ≡ status.DiskFault → (risen ≡ true) ⊎ (ended ≡ Err status.DiskFault)
+disk_fault risen (Ok (ending.Done tally)) e = inl (by tally.damaged risen tally.refused e)
+  where
+    by : (damaged risen refused : Bool) → of_flags damaged risen refused ≡ status.DiskFault → risen ≡ true
+    by true risen refused h = cc
+    by false true refused h = refl
+    by false false true h = cc
+    by false false false h = cc
+disk_fault risen (Ok ending.NoMemory) e = cc
+disk_fault risen (Ok ending.WriteFault) e = cc
+disk_fault risen (Err s) e = inr (ap Err e)
+
+-- no status by which a run ends before its script is served says that all was answered
+not_early : (s : Status) → IsEarly s → IsAnswered s → ⊥
+not_early s first (inl e) = subst IsEarly e first
+not_early s first (inr e) = subst IsEarly e first
+
+pub answered_calm : (risen : Bool) (ended : Result Ending Status) → IfErr ended IsEarly → IsAnswered (status_of risen ended) → risen ≡ false
+answered_calm risen (Ok (ending.Done tally)) first a = by tally.damaged risen tally.refused a
+  where
+    by : (damaged risen refused : Bool) → IsAnswered (of_flags damaged risen refused) → risen ≡ false
+    by true risen refused (inl h) = cc
+    by true risen refused (inr h) = cc
+    by false true refused (inl h) = cc
+    by false true refused (inr h) = cc
+    by false false refused h = refl
+answered_calm risen (Ok ending.NoMemory) first (inl e) = cc
+answered_calm risen (Ok ending.NoMemory) first (inr e) = cc
+answered_calm risen (Ok ending.WriteFault) first (inl e) = cc
+answered_calm risen (Ok ending.WriteFault) first (inr e) = cc
+answered_calm risen (Err s) first a = absurd (not_early s first a)
+
+-- what holds of each script that was served holds where all was answered
+pub answered_served : (P : Type 0) (risen : Bool) (ended : Result Ending Status) → OnOk ended P → IfErr ended IsEarly → IsAnswered (status_of risen ended) → P
+answered_served P risen (Ok e) h first a = h
+answered_served P risen (Err s) h first a = absurd (not_early s first a)
+
+pub ended_early : (P : Status → Type 0) (risen : Bool) (ended : Result Ending Status) → IsErrAnd ended P → P (status_of risen ended)
+ended_early P risen (Ok e) h = absurd h
+ended_early P risen (Err s) h = h
 
 -- the empty store is of a keeper that tells nothing
 pub empty_stands : {F : Type 0} (files_of : F → Option Files) (kept : Told) (store : Store F) → kept.list ≡ [] → store.tables.items ≡ [] → store.length ≡ 0 → Stands files_of (history kept) store
@@ -232,32 +305,22 @@ empty_stands files_of kept store none tables len =
       each = subst (All (TableStands files_of [])) (sym tables) (All-nil (TableStands files_of []));
     })
 
--- a damaged ending is the one that has the damaged status
-pub damaged_ending : (e : Ending) → status_for e ≡ status.Damaged → e ≡ ending.Damaged
-damaged_ending (ending.Done true) h = cc
-damaged_ending (ending.Done false) h = cc
-damaged_ending ending.NoMemory h = cc
-damaged_ending ending.DiskFault h = cc
-damaged_ending ending.Damaged h = refl
-damaged_ending ending.WriteFault h = cc
+-- a run of one kind is one of another
+pub leaves_as : (R Q : List Item → History → ℕ → List ℕ → Type 0) (kept : Told) (script before : List ℕ) (told : Option Told) (written : Option (List ℕ))
+    → ((h : History) (out : List ℕ) → R (statements_of script) h (length kept.list) out → Q (statements_of script) h (length kept.list) out)
+    → Leaves R kept script before told written → Leaves Q kept script before told written
+leaves_as R Q kept script before told written turn l = record {
+  now = l.now;
+  more = l.more;
+  out = l.out;
+  told_is = l.told_is;
+  begins = l.begins;
+  legal = l.legal;
+  written_is = l.written_is;
+  ran = turn (history l.now) l.out l.ran;
+}
 
--- all statements were answered
-abbrev pub IsAnswered : Status → Type 0
-IsAnswered s = (s ≡ status.Done) ⊎ (s ≡ status.Refused)
-
-pub answered_settled : (risen : Bool) (e : Status) → IsAnswered (settled risen e) → IsAnswered e
-answered_settled false e h = h
-answered_settled true status.Done h = inl refl
-answered_settled true status.Refused h = inr refl
-answered_settled true status.NotWords h = h
-answered_settled true status.ReadFault h = h
-answered_settled true status.WriteFault h = h
-answered_settled true status.DiskFault h = h
-answered_settled true status.NoMemory h = h
-answered_settled true status.Damaged h = h
-answered_settled true status.TooLong h = h
-
-abbrev no_statements : List Statement
+abbrev no_statements : List Item
 no_statements = []
 
 none_taken : (k : ℕ) → take k no_statements ≡ no_statements
@@ -265,10 +328,10 @@ none_taken zero = refl
 none_taken (suc k) = refl
 
 -- where no statement ran, those that ran were wholly read
-pub nothing_read : (left : Option (List ℕ)) (text : List ℕ) (script : List Statement) (h : History) (base : ℕ) (out : List ℕ) → NothingRan script h base out → ReadRun left text script h base out
-nothing_read left text script h base out n = record {
+pub nothing_read : (left : Option (List ℕ)) (text : List ℕ) (n : Counts) (script : List Item) (h : History) (base : ℕ) (out : List ℕ) → NothingRan n script h base out → ReadRun left text n script h base out
+nothing_read left text n script h base out r = record {
   count = 0;
-  run = subst (λ (ss : List Statement). ScriptRun ss h base out) (none_taken n.count) n.run;
+  run = subst (λ (ss : List Item). ScriptRun n ss h base out) (none_taken r.count) r.run;
   wholly = λ read rest more is split. refl;
 }
 
@@ -305,9 +368,9 @@ same_number e f same = inj (sym (numbered e) ∙ (ap status_at same ∙ numbered
     inj h = cc
 
 -- what was left by the status with this number
-pub left_by : (e f : Status) (kept : Told) (script before : List ℕ) (told : Option Told) (written : Option (List ℕ)) → number_of e ≡ number_of f
-    → Leaves (RunBy e) kept script before told written → Leaves (RunBy f) kept script before told written
-left_by e f kept script before told written same l = subst (λ s. Leaves (RunBy s) kept script before told written) (same_number e f same) l
+pub left_by : (n : Counts) (e f : Status) (kept : Told) (script before : List ℕ) (told : Option Told) (written : Option (List ℕ)) → number_of e ≡ number_of f
+    → Leaves (RunBy e n) kept script before told written → Leaves (RunBy f n) kept script before told written
+left_by n e f kept script before told written same l = subst (λ s. Leaves (RunBy s n) kept script before told written) (same_number e f same) l
 
 pub at_most_one_is : (e : Status) → number_of e ≤ 1 → IsAnswered e
 at_most_one_is status.Done h = inl refl
@@ -319,3 +382,28 @@ at_most_one_is status.DiskFault h = absurd (omega arith)
 at_most_one_is status.NoMemory h = absurd (omega arith)
 at_most_one_is status.Damaged h = absurd (omega arith)
 at_most_one_is status.TooLong h = absurd (omega arith)
+
+-- ---- how a run ends before its script is served
+
+pub stop_early : (why : ReadStop) → IsEarly (status_of_stop why)
+stop_early unread.NoMemory = tt
+stop_early unread.Fault = tt
+stop_early unread.TooLong = tt
+
+pub stop_undamaged : (why : ReadStop) → status_of_stop why ≡ status.Damaged → ⊥
+stop_undamaged unread.NoMemory h = cc
+stop_undamaged unread.Fault h = cc
+stop_undamaged unread.TooLong h = cc
+
+pub error_early : (error : DiskError) → IsEarly (status_of_error error)
+error_early failure.Fault = tt
+error_early failure.NoMemory = tt
+
+pub error_undamaged : (error : DiskError) → status_of_error error ≡ status.Damaged → ⊥
+error_undamaged failure.Fault h = cc
+error_undamaged failure.NoMemory h = cc
+
+-- a source that was read to its end has nothing left
+pub nothing_left : (script text : List ℕ) (before after : Option (List ℕ)) → before ≡ Some script → Consumes before after text → IsAtEnd after → after ≡ Some []
+nothing_left script text before None is h end = absurd (subst (λ (o : Option (List ℕ)). Consumes o None text) is h)
+nothing_left script text before (Some rest) is h end = ap Some end

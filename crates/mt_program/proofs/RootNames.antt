@@ -6,14 +6,16 @@ use Rattle.std.specs.BTreeMap.{is_at, insert_entry}
 use Rattle.std.specs.Ordering.{nat_cmp}
 use Rattle.std.specs.Fmt.{decimal}
 use Rattle.std.specs.Cmp.Lexicographic.{slice_cmp}
-use Rattle.std.proofs.lemmas.Bool.{eqb-true, eq-eqb}
 use Rattle.std.proofs.lemmas.List.{append_cancel_right, same_from_push, get_or_append_left, get_or_push}
 use Rattle.std.proofs.lemmas.List.Elements.{All-head, All-tail}
-use Rattle.std.proofs.lemmas.Fmt.{decimal_injective, decimal_by_steps}
+use Rattle.std.proofs.lemmas.Fmt.{decimal_injective, decimal_by_steps, decimal_digit}
 use Rattle.std.proofs.lemmas.Map.Made.{is_some-lookup}
 use Rattle.std.proofs.lemmas.Map.Lookups.{exact_bytes}
 use Rattle.mt_values.specs.Grammar.{same_bytes}
-use Rattle.mt_values.specs.RootNames.{create_name, part_name, fresh_part_name}
+use Rattle.mt_values.specs.RootNames.{create_name}
+use Rattle.part_name.specs.PartNames.{part_text}
+use Rattle.mt_program.specs.Names.{fresh_part, insert_name}
+use Rattle.mt_model.proofs.Tables.{itself_same}
 use Rattle.mt_model.proofs.Sorting.{equal_is}
 use Rattle.mt_outside.specs.Disk.{Told, Names, names_of, files_at, put, with_change}
 use Rattle.mt_outside.specs.declared.disk.Change.TheVariants.{Publish}
@@ -23,25 +25,6 @@ use Rattle.mt_outside.specs.Files.{Files}
 use Rattle.mt_program.specs.declared.store.Table.{Table}
 use Rattle.mt_program.specs.declared.store.Store.{Store}
 use Rattle.mt_program.specs.Store.{IsNameOf, NamesFit}
-
-both_true : (a b : Bool) → (a && b) ≡ true → (a ≡ true) × (b ≡ true)
-both_true true b h = (refl, h)
-both_true false b h = cc
-
--- bytes that pass for the same are the same
-pub same_is : (a b : List ℕ) → same_bytes a b ≡ true → a ≡ b
-same_is [] [] h = refl
-same_is [] (y ∷ ys) h = cc
-same_is (x ∷ xs) [] h = cc
-same_is (x ∷ xs) (y ∷ ys) h =
-    let parts = both_true _ (same_bytes xs ys) h in
-    let first : x ≡ y = eqb-true x y parts.0 in
-    let rest : xs ≡ ys = same_is xs ys parts.1 in
-    cc
-
-pub same_self : (a : List ℕ) → same_bytes a a ≡ true
-same_self [] = refl
-same_self (x ∷ xs) = rw (eq-eqb x x refl) (same_self xs)
 
 -- no element passes, so none is found
 pub none_passes : {X : Type 0} (p : X → Bool) (xs : List X) → All (λ x. p x ≡ false) xs → list_any p xs ≡ false
@@ -105,11 +88,14 @@ last_bar (c ∷ a) (d ∷ b) x y h k e =
 head_of : List ℕ → ℕ → List ℕ
 head_of t n = ((t ++ codes ".part_") ++ codes "all_") ++ decimal n
 
-part_name_is : (t : List ℕ) (n : ℕ) → part_name t (fresh_part_name n) ≡ (head_of t n ++ 95 ∷ decimal n) ++ codes "_0"
-unfolding head_of
-part_name_is t n = simp append_assoc
+text_is : (n : ℕ) → part_text (fresh_part n) ≡ codes "all_" ++ (decimal n ++ 95 ∷ (decimal n ++ codes "_0"))
+text_is n = ap (λ ds. codes "all" ++ 95 ∷ (decimal n ++ 95 ∷ (decimal n ++ 95 ∷ ds))) (decimal_digit 0 (omega arith))
 
-part_ends : (t : List ℕ) (n : ℕ) → part_name t (fresh_part_name n) ≡ ((head_of t n ++ 95 ∷ decimal n) ++ 95 ∷ []) ++ 48 ∷ []
+part_name_is : (t : List ℕ) (n : ℕ) → insert_name t n ≡ (head_of t n ++ 95 ∷ decimal n) ++ codes "_0"
+unfolding head_of
+part_name_is t n = ap (λ x. (t ++ codes ".part_") ++ x) (text_is n) ∙ simp append_assoc
+
+part_ends : (t : List ℕ) (n : ℕ) → insert_name t n ≡ ((head_of t n ++ 95 ∷ decimal n) ++ 95 ∷ []) ++ 48 ∷ []
 part_ends t n = part_name_is t n ∙ sym (append_assoc (head_of t n ++ 95 ∷ decimal n) (95 ∷ []) (48 ∷ []))
 
 create_ends : (t : List ℕ) → create_name t ≡ (t ++ codes ".creat") ++ 101 ∷ []
@@ -119,7 +105,7 @@ bytes_apart : (x y : ℕ) → x ≡ 101 → y ≡ 48 → x ≡ y → ⊥
 bytes_apart x y first second same = absurd (omega arith)
 
 -- an entry's name is no part's
-pub entry_is_no_part : (t u : List ℕ) (n : ℕ) → create_name t ≡ part_name u (fresh_part_name n) → ⊥
+pub entry_is_no_part : (t u : List ℕ) (n : ℕ) → create_name t ≡ insert_name u n → ⊥
 entry_is_no_part t u n e =
     let last = same_from_push (t ++ codes ".creat") ((head_of u n ++ 95 ∷ decimal n) ++ 95 ∷ []) 101 48 (sym (create_ends t) ∙ (e ∙ part_ends u n)) in
     bytes_apart 101 48 refl refl last.1
@@ -128,7 +114,7 @@ pub entries_differ : (t u : List ℕ) → create_name t ≡ create_name u → t 
 entries_differ t u e = append_cancel_right t u (codes ".create") e
 
 -- a part's name tells its table and its number
-pub parts_differ : (t u : List ℕ) (m n : ℕ) → m < 2 ^ 64 → n < 2 ^ 64 → part_name t (fresh_part_name m) ≡ part_name u (fresh_part_name n) → (t ≡ u) × (m ≡ n)
+pub parts_differ : (t u : List ℕ) (m n : ℕ) → m < 2 ^ 64 → n < 2 ^ 64 → insert_name t m ≡ insert_name u n → (t ≡ u) × (m ≡ n)
 unfolding head_of
 parts_differ t u m n small few e =
     let fronts : head_of t m ++ 95 ∷ decimal m ≡ head_of u n ++ 95 ∷ decimal n = append_cancel_right _ _ (codes "_0") (sym (part_name_is t m) ∙ (e ∙ part_name_is u n)) in
@@ -145,7 +131,7 @@ entry_is_free {F = F} store root t fit none = not_there store root (create_name 
     no_entry : (k : ℕ) (table : Table F) → k < length store.tables.items → get_or store.tables.items k table ≡ table → IsNameOf table (create_name t) → ⊥
     no_entry k table lt at (inl same) =
         let fails : same_bytes table.name t ≡ false = subst (λ (u : Table F). same_bytes u.name t ≡ false) at (none k table lt) in
-        let passes : same_bytes table.name t ≡ true = ap (λ n. same_bytes n t) (sym (entries_differ t table.name same)) ∙ same_self t in
+        let passes : same_bytes table.name t ≡ true = ap (λ n. same_bytes n t) (sym (entries_differ t table.name same)) ∙ itself_same t in
         let bad : true ≡ false = sym passes ∙ fails in
         cc
     no_entry k table lt at (inr part) = entry_is_no_part t table.name part.0 part.3

@@ -1,38 +1,41 @@
 -- One more statement of a script.
-use Rattle.std.proofs.Common.{◌≡◌, ℕ, ◌+◌, ◌-◌, ◌≤◌, Bool, true, false, ◌||◌, List, [], ◌∷◌, ◌++◌, length, map, take, drop, refl, sym, ap, ◌∙◌, subst, Option, Some, None, IfSome, ◌<◌, append_assoc, append-nil, arith}
+use Rattle.std.proofs.Common.{◌≡◌, ℕ, ◌+◌, ◌-◌, ◌≤◌, Bool, true, false, ◌||◌, List, [], ◌∷◌, ◌++◌, length, map, take, drop, refl, sym, ap, ◌∙◌, subst, Option, Some, None, Result, ◌<◌, append_assoc, append-nil, arith, All}
 use Rattle.std.specs.List.{concat, list_any}
-use Rattle.std.specs.Option.{option_map}
+use Rattle.std.specs.Option.{option_map, IfSome}
 use Rattle.std.specs.Io.KnownBytes.{Appends}
 use Rattle.std.proofs.lemmas.List.{map-append, drop-drop, length-drop, drop_all}
-use Rattle.std.proofs.lemmas.List.Elements.{All-append, All-nil}
+use Rattle.std.proofs.lemmas.List.Elements.{All-append, All-head, All-nil}
 use Rattle.mt_values.specs.declared.annals.Noted.{Noted}
+use Rattle.mt_values.specs.declared.statement.Cause.{Cause}
 use Rattle.mt_values.specs.declared.statement.Statement.{Statement}
 use Rattle.mt_values.specs.Annals.{Told}
 use Rattle.mt_values.specs.Script.{statements_of, next_statement, statement_and}
 use Rattle.mt_outside.specs.Files.{Files}
 use Rattle.mt_model.specs.History.{History, IsLegal}
-use Rattle.mt_model.specs.Reply.{is_refusal}
+use Rattle.mt_model.specs.Outside.{Counts}
+use Rattle.mt_model.specs.Refusals.{is_damage, is_refusal}
 use Rattle.mt_model.specs.Session.{SessionReplies}
+use Rattle.mt_model.specs.Written.{IsWritten}
+use Rattle.mt_model.proofs.Keys.{statements_are}
 use Rattle.mt_model.proofs.Replies.{replies_more, replies_append}
+use Rattle.mt_program.specs.declared.serving.Tally.{Tally}
 use Rattle.mt_program.specs.declared.store.Store.{Store}
-use Rattle.mt_program.specs.Answers.{history, Accepts, SameList}
-use Rattle.mt_program.specs.declared.serving.Ending.TheVariants as ending
-use Rattle.mt_program.specs.declared.stops.Stop.{Stop}
-use Rattle.mt_program.specs.declared.stops.Stop.TheVariants as stop
-use Rattle.mt_program.specs.Serving.{Ran, Served, ServedAll, ServedFront, ServedCut, ServedBy, ending_for}
+use Rattle.mt_program.specs.Answers.{history, Accepts, Foresees, SameList}
+use Rattle.mt_program.specs.Serving.{Item, Ran, Served, ServedAll, ServedFront, ServedCut, Tells, tallied}
 use Rattle.mt_program.specs.Store.{Stands}
 use Rattle.mt_program.specs.Streams.{AppendsFront}
+use Rattle.mt_program.proofs.Counting.{foresees_before}
 use Rattle.mt_program.proofs.Known.{appends_more, appends_none, sliced}
-use Rattle.mt_values.proofs.Bounds.{statements_of_step}
+use Rattle.mt_values.proofs.ScriptBounds.{statements_of_step}
 
 -- what was read at a place of the script
-abbrev pub Found : List ℕ → ℕ → Option (Statement × ℕ) → Type 0
+abbrev pub Found : List ℕ → ℕ → Option (Item × ℕ) → Type 0
 Found script at o =
-    next_statement (take (length script - at) (drop at script)) ≡ option_map (λ (f : Statement × ℕ). (f.0, drop f.1 (take (length script - at) (drop at script)))) o
+    next_statement (take (length script - at) (drop at script)) ≡ option_map (λ (f : Item × ℕ). (f.0, drop f.1 (take (length script - at) (drop at script)))) o
 
 -- what was used of the script at a place
-abbrev pub Used : List ℕ → ℕ → Option (Statement × ℕ) → Type 0
-Used script at o = IfSome o (λ (f : Statement × ℕ). (0 < f.1) × (f.1 ≤ length (take (length script - at) (drop at script))))
+abbrev pub Used : List ℕ → ℕ → Option (Item × ℕ) → Type 0
+Used script at o = IfSome o (λ (f : Item × ℕ). (0 < f.1) × (f.1 ≤ length (take (length script - at) (drop at script))))
 
 pub used_within : (script : List ℕ) (at used : ℕ) → at ≤ length script → used ≤ length (take (length script - at) (drop at script)) → at + used ≤ length script
 used_within script at used le fits =
@@ -40,12 +43,16 @@ used_within script at used le fits =
     omega arith
 
 -- the statements that are left behind a place, one further
-pub one_statement : (script : List ℕ) (at used : ℕ) (st : Statement) → next_statement (take (length script - at) (drop at script)) ≡ Some (st, drop used (take (length script - at) (drop at script)))
+pub one_statement : (script : List ℕ) (at used : ℕ) (st : Item) → next_statement (take (length script - at) (drop at script)) ≡ Some (st, drop used (take (length script - at) (drop at script)))
     → statements_of (drop at script) ≡ st ∷ statements_of (drop (at + used) script)
 one_statement script at used st found =
     let rest = sliced script at in
     let here : next_statement (drop at script) ≡ Some (st, drop used (drop at script)) = subst (λ (t : List ℕ). next_statement t ≡ Some (st, drop used t)) rest found in
     statements_of_step (drop at script) ∙ (ap (statement_and statements_of) here ∙ ap (λ t. st ∷ statements_of t) (drop-drop used at script))
+
+-- it names a key where it is a CREATE
+pub is_written : (script : List ℕ) (st : Item) (more : List Item) → statements_of script ≡ st ∷ more → IsWritten st
+is_written script st more is = All-head IsWritten st more (subst (λ (ss : List Item). All IsWritten ss) is (statements_are script))
 
 -- none are left
 pub no_statement : (script : List ℕ) (at : ℕ) → next_statement (take (length script - at) (drop at script)) ≡ None → statements_of (drop at script) ≡ []
@@ -74,14 +81,26 @@ any_push p (x ∷ xs) y = ap (λ b. p x || b) (any_push p xs y) ∙ or_assoc (p 
     or_assoc true b c = refl
     or_assoc false b c = refl
 
+-- what was foreseen of a later state
+pub ran_before : (kept : Told) (opened disk arm later more : ℕ) (done : List Item) (replies : List (List ℕ)) (told : Option Told) → disk ≤ later → arm ≤ more
+    → Ran kept opened disk arm done replies told → Ran kept opened later more done replies told
+ran_before kept opened disk arm later more done replies told le less r = record {
+  now = r.now;
+  more = r.more;
+  told_is = r.told_is;
+  list_is = r.list_is;
+  legal = r.legal;
+  sessions = r.sessions;
+  run = λ n f. r.run n (foresees_before opened disk later arm more n le less f);
+}
+
 -- one more statement that was answered
-module _ {F : Type 0} (files_of : F → Option Files) (kept : Told) (done : List Statement) (replies : List (List ℕ)) (st : Statement) (reply : List ℕ) (new : Store F) (told after : Option Told) where
-  pub ran_more : (r : Ran kept done replies told) → Accepts files_of r.now st reply new after → Ran kept (done ++ st ∷ []) (replies ++ reply ∷ []) after
-  ran_more r a =
+module _ {F : Type 0} (files_of : F → Option Files) (kept : Told) (opened disk arm later higher : ℕ) (done : List Item) (replies : List (List ℕ)) (st : Item) (reply : List ℕ) (new : Store F) (told after : Option Told) where
+  pub ran_more : disk ≤ later → arm ≤ higher → (r : Ran kept opened disk arm done replies told) → Accepts files_of r.now st opened later higher reply new after
+      → Ran kept opened later higher (done ++ st ∷ []) (replies ++ reply ∷ []) after
+  ran_more le less r a =
       let entries = λ (n : Noted). n.entry in
       let grown : history a.now ≡ history r.now ++ map entries a.more = ap (map entries) a.list_is ∙ map-append entries r.now.list a.more in
-      let before : SessionReplies (history a.now) 0 done (length kept.list) (length r.now.list) replies =
-      subst (λ (h : History). SessionReplies h 0 done (length kept.list) (length r.now.list) replies) (sym grown) (replies_more (history r.now) (map entries a.more) 0 done (length kept.list) (length r.now.list) replies r.run) in
       record {
         now = a.now;
         more = r.more ++ a.more;
@@ -89,13 +108,18 @@ module _ {F : Type 0} (files_of : F → Option Files) (kept : Told) (done : List
         legal = a.stands.legal;
         list_is = a.list_is ∙ (ap (λ ns. ns ++ a.more) r.list_is ∙ append_assoc kept.list r.more a.more);
         sessions = All-append (λ (n : Noted). n.entry.session ≡ 0) r.more a.more r.sessions a.sessions;
-        run = replies_append (history a.now) 0 done st (length kept.list) (length r.now.list) (length a.now.list) replies reply before a.takes;
+        run = λ n f.
+            let ran = r.run n (foresees_before opened disk later arm higher n le less f) in
+            let before : SessionReplies n (history a.now) 0 done (length kept.list) (length r.now.list) replies =
+            subst (λ (h : History). SessionReplies n h 0 done (length kept.list) (length r.now.list) replies) (sym grown) (replies_more n (history r.now) (map entries a.more) 0 done (length kept.list) (length r.now.list) replies ran) in
+            replies_append n (history a.now) 0 done st (length kept.list) (length r.now.list) (length a.now.list) replies reply before (a.takes n f);
       }
 
 -- a statement that had no reply
-pub ran_still : (kept : Told) (done : List Statement) (replies : List (List ℕ)) (told after : Option Told) → (r : Ran kept done replies told) → SameList (Some r.now) after → Ran kept done replies after
-ran_still kept done replies told None r same = absurd same
-ran_still kept done replies told (Some now) r same =
+pub ran_still : (kept : Told) (opened disk arm later more : ℕ) (done : List Item) (replies : List (List ℕ)) (told after : Option Told) → disk ≤ later → arm ≤ more
+    → (r : Ran kept opened disk arm done replies told) → SameList (Some r.now) after → Ran kept opened later more done replies after
+ran_still kept opened disk arm later more done replies told None le less r same = absurd same
+ran_still kept opened disk arm later more done replies told (Some now) le less r same =
     let h : history now ≡ history r.now = ap (map (λ (n : Noted). n.entry)) same in
     record {
       now = now;
@@ -104,24 +128,32 @@ ran_still kept done replies told (Some now) r same =
       list_is = same ∙ r.list_is;
       legal = subst IsLegal (sym h) r.legal;
       sessions = r.sessions;
-      run = subst (λ (n : ℕ). SessionReplies (history now) 0 done (length kept.list) n replies) (sym (ap length same))
-          (subst (λ (x : History). SessionReplies x 0 done (length kept.list) (length r.now.list) replies) (sym h) r.run);
+      run = λ n f. subst (λ (m : ℕ). SessionReplies n (history now) 0 done (length kept.list) m replies) (sym (ap length same))
+          (subst (λ (x : History). SessionReplies n x 0 done (length kept.list) (length r.now.list) replies) (sym h) (r.run n (foresees_before opened disk later arm more n le less f)));
     }
 
-module _ {F : Type 0} (files_of : F → Option Files) (kept : Told) (script : List ℕ) (at : ℕ) (refused : Bool) (old : Store F) (told : Option Told) (before now : Option (List ℕ)) (s : Served files_of kept script at refused old told before now) where
+-- what is told of the replies, with one more
+pub tells_more : (t : Tally) (replies : List (List ℕ)) (reply : List ℕ) → Tells t replies → Tells (tallied t reply) (replies ++ reply ∷ [])
+tells_more t replies reply tells = record {
+  refusals = ap (λ b. b || is_refusal reply) tells.refusals ∙ sym (any_push is_refusal replies reply);
+  damages = ap (λ b. b || is_damage reply) tells.damages ∙ sym (any_push is_damage replies reply);
+}
+
+module _ {F : Type 0} (files_of : F → Option Files) (kept : Told) (script : List ℕ) (opened disk arm at : ℕ) (tally : Tally) (old : Store F) (told : Option Told) (before now : Option (List ℕ))
+    (s : Served files_of kept script opened disk arm at tally old told before now) where
   -- nothing is left
-  pub served_all : statements_of (drop at script) ≡ [] → ServedAll kept script refused told before now
+  pub served_all : statements_of (drop at script) ≡ [] → ServedAll kept script opened disk arm tally told before now
   served_all none =
       let all : statements_of script ≡ s.done = s.split ∙ (ap (λ ss. s.done ++ ss) none ∙ append-nil s.done) in
       record {
         replies = s.replies;
-        ran = subst (λ (ss : List Statement). Ran kept ss s.replies told) (sym all) s.ran;
+        ran = subst (λ (ss : List Item). Ran kept opened disk arm ss s.replies told) (sym all) s.ran;
         wrote = s.wrote;
-        refusals = s.refusals;
+        tells = s.tells;
       }
 
   -- no reply was begun after the last
-  pub served_so_far : ServedFront kept script told before now
+  pub served_so_far : ServedFront kept script opened disk arm told before now
   served_so_far = record {
     done = s.done;
     rest = statements_of (drop at script);
@@ -131,80 +163,60 @@ module _ {F : Type 0} (files_of : F → Option Files) (kept : Told) (script : Li
     wrote = s.wrote;
   }
 
-  -- the next statement had no reply
-  pub served_unanswered : (after : Option Told) → SameList (Some s.ran.now) after → ServedFront kept script after before now
-  served_unanswered after same = record {
-    done = s.done;
-    rest = statements_of (drop at script);
-    replies = s.replies;
-    split = s.split;
-    ran = ran_still kept s.done s.replies told after s.ran same;
-    wrote = s.wrote;
-  }
-
-  module _ (used : ℕ) (st : Statement) (left : statements_of (drop at script) ≡ st ∷ statements_of (drop (at + used) script)) (new : Store F) (after : Option Told) (reply : List ℕ) (later : Option (List ℕ))
-      (a : Accepts files_of s.ran.now st reply new after) where
-    split_more : statements_of script ≡ (s.done ++ st ∷ []) ++ statements_of (drop (at + used) script)
-    split_more = s.split ∙ (ap (λ ss. s.done ++ ss) left ∙ sym (append_assoc s.done (st ∷ []) (statements_of (drop (at + used) script))))
-
-    -- its reply was written whole
-    pub served_more : Appends now later reply → Served files_of kept script (at + used) (refused || is_refusal reply) new after before later
-    unfolding ran_more
-    served_more wrote = record {
-      done = s.done ++ st ∷ [];
-      replies = s.replies ++ reply ∷ [];
-      split = split_more;
-      ran = ran_more files_of kept s.done s.replies st reply new told after s.ran a;
-      stands = a.stands;
-      wrote = subst (Appends before later) (sym (concat_push s.replies reply)) (appends_more before now later (concat s.replies) reply s.wrote wrote);
-      refusals = ap (λ b. b || is_refusal reply) s.refusals ∙ sym (any_push is_refusal s.replies reply);
-    }
-
-    -- a front of its reply was written
-    pub served_cut : AppendsFront now later reply → ServedCut kept script after before later
-    served_cut w = record {
+  module _ (later more : ℕ) (le : disk ≤ later) (less : arm ≤ more) where
+    -- the next statement had no reply
+    pub served_unanswered : (after : Option Told) → SameList (Some s.ran.now) after → ServedFront kept script opened later more after before now
+    served_unanswered after same = record {
       done = s.done;
-      last = st;
-      rest = statements_of (drop (at + used) script);
+      rest = statements_of (drop at script);
       replies = s.replies;
-      reply = reply;
-      part = w.0;
-      split = s.split ∙ ap (λ ss. s.done ++ ss) left;
-      ran = ran_more files_of kept s.done s.replies st reply new told after s.ran a;
-      front = (w.1, sym w.2);
-      wrote = appends_more before now later (concat s.replies) w.0 s.wrote w.3;
+      split = s.split;
+      ran = ran_still kept opened disk arm later more s.done s.replies told after le less s.ran same;
+      wrote = s.wrote;
     }
+
+    module _ (used : ℕ) (st : Item) (left : statements_of (drop at script) ≡ st ∷ statements_of (drop (at + used) script)) (new : Store F) (after : Option Told) (reply : List ℕ) (written : Option (List ℕ))
+        (a : Accepts files_of s.ran.now st opened later more reply new after) where
+      split_more : statements_of script ≡ (s.done ++ st ∷ []) ++ statements_of (drop (at + used) script)
+      split_more = s.split ∙ (ap (λ ss. s.done ++ ss) left ∙ sym (append_assoc s.done (st ∷ []) (statements_of (drop (at + used) script))))
+
+      -- its reply was written whole
+      pub served_more : Appends now written reply → Served files_of kept script opened later more (at + used) (tallied tally reply) new after before written
+      unfolding ran_more
+      served_more wrote = record {
+        done = s.done ++ st ∷ [];
+        replies = s.replies ++ reply ∷ [];
+        split = split_more;
+        ran = ran_more files_of kept opened disk arm later more s.done s.replies st reply new told after le less s.ran a;
+        stands = a.stands;
+        wrote = subst (Appends before written) (sym (concat_push s.replies reply)) (appends_more before now written (concat s.replies) reply s.wrote wrote);
+        tells = tells_more tally s.replies reply s.tells;
+      }
+
+      -- a front of its reply was written
+      pub served_cut : AppendsFront now written reply → ServedCut kept script opened later more after before written
+      served_cut w = record {
+        done = s.done;
+        last = st;
+        rest = statements_of (drop (at + used) script);
+        replies = s.replies;
+        reply = reply;
+        part = w.0;
+        split = s.split ∙ ap (λ ss. s.done ++ ss) left;
+        ran = ran_more files_of kept opened disk arm later more s.done s.replies st reply new told after le less s.ran a;
+        front = (w.1, sym w.2);
+        wrote = appends_more before now written (concat s.replies) w.0 s.wrote w.3;
+      }
 
 -- nothing was answered yet
-pub served_none : {F : Type 0} (files_of : F → Option Files) (kept : Told) (script : List ℕ) (store : Store F) (told : Option Told) (before : Option (List ℕ))
-    → told ≡ Some kept → Stands files_of (history kept) store → Served files_of kept script 0 false store told before before
-served_none files_of kept script store told before is stands = record {
+pub served_none : {F : Type 0} (files_of : F → Option Files) (kept : Told) (script : List ℕ) (opened disk arm : ℕ) (tally : Tally) (store : Store F) (told : Option Told) (before : Option (List ℕ))
+    → told ≡ Some kept → tally.refused ≡ false → tally.damaged ≡ false → Stands files_of (history kept) store → Served files_of kept script opened disk arm 0 tally store told before before
+served_none files_of kept script opened disk arm tally store told before is refused damaged stands = record {
   done = [];
   replies = [];
   split = refl;
-  ran = record { now = kept; more = []; told_is = is; list_is = sym (append-nil kept.list); legal = stands.legal; sessions = All-nil (λ (n : Noted). n.entry.session ≡ 0); run = refl };
+  ran = record { now = kept; more = []; told_is = is; list_is = sym (append-nil kept.list); legal = stands.legal; sessions = All-nil (λ (n : Noted). n.entry.session ≡ 0); run = λ n f. refl };
   stands = stands;
   wrote = appends_none before;
-  refusals = refl;
+  tells = record { refusals = refused; damages = damaged };
 }
-
--- what is left of a run whose statement had no reply
-pub served_stop : (why : Stop) (kept : Told) (script : List ℕ) (told : Option Told) (before after : Option (List ℕ)) → ServedFront kept script told before after → ServedBy (ending_for why) kept script told before after
-served_stop stop.NoMemory kept script told before after s = s
-served_stop stop.Fault kept script told before after s = s
-served_stop stop.Damaged kept script told before after s = s
-
-pub damaged_stop : (why : Stop) → ending_for why ≡ ending.Damaged → why ≡ stop.Damaged
-damaged_stop stop.NoMemory h = cc
-damaged_stop stop.Fault h = cc
-damaged_stop stop.Damaged h = refl
-
-pub fault_stop : (why : Stop) → ending_for why ≡ ending.DiskFault → why ≡ stop.Fault
-fault_stop stop.NoMemory h = cc
-fault_stop stop.Fault h = refl
-fault_stop stop.Damaged h = cc
-
-pub never_written : (why : Stop) → ending_for why ≡ ending.WriteFault → ⊥
-never_written stop.NoMemory h = cc
-never_written stop.Fault h = cc
-never_written stop.Damaged h = cc

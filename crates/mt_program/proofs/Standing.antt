@@ -1,7 +1,6 @@
 -- What the store tells of the history that it stands for.
 use Rattle.std.proofs.Common.{◌≡◌, ℕ, ◌<◌, Bool, true, false, List, [], ◌∷◌, length, get_or, refl, sym, ap, ◌∙◌, subst, arith, All, map, Option, Some, None, is_some, IfSome, IfNone}
 use Rattle.std.specs.List.{list_any, HoldsAt, AllZip}
-use Rattle.std.specs.Option.{option_and_then}
 use Rattle.std.proofs.lemmas.List.{length-map, get_or_default}
 use Rattle.mt_values.specs.declared.schema.Schema.{Schema}
 use Rattle.mt_values.specs.Grammar.{same_bytes}
@@ -11,7 +10,8 @@ use Rattle.mt_program.specs.declared.store.Table.{Table}
 use Rattle.mt_program.specs.declared.store.Store.{Store}
 use Rattle.mt_program.specs.Store.{Stands, TableStands, table_names}
 use Rattle.mt_program.proofs.Histories.{there, creates_are}
-use Rattle.mt_program.proofs.RootNames.{same_is, none_passes}
+use Rattle.mt_model.proofs.Tables.{same_is}
+use Rattle.mt_program.proofs.RootNames.{none_passes}
 
 list_any-map : {X Y : Type 0} (p : Y → Bool) (f : X → Y) (xs : List X) → list_any p (map f xs) ≡ list_any (λ x. p (f x)) xs
 list_any-map p f [] = refl

@@ -1,11 +1,14 @@
 -- The status of a run, by what ended it.
-use Rattle.std.specs.Prelude.{Bool, true, false}
+use Rattle.std.specs.Prelude.{◌≡◌, ◌⊎◌, ℕ, Bool, false, List, Option, Some, Result, Ok, Err, if◌then◌else◌}
+use Rattle.mt_values.specs.Annals.{Told}
 use Rattle.mt_outside.specs.declared.disk.DiskError.{DiskError}
 use Rattle.mt_outside.specs.declared.disk.DiskError.TheVariants as failure
 use Rattle.mt_program.specs.declared.serving.Ending.{Ending}
 use Rattle.mt_program.specs.declared.serving.Ending.TheVariants as ending
+use Rattle.mt_program.specs.declared.serving.Tally.{Tally}
 use Rattle.mt_program.specs.declared.streams.ReadStop.{ReadStop}
 use Rattle.mt_program.specs.declared.streams.ReadStop.TheVariants as unread
+use Rattle.mt_program.specs.Serving.{ServedBy}
 use Rattle.mt_program.specs.declared.status.Status.{Status}
 use Rattle.mt_program.specs.declared.status.Status.TheVariants as status
 
@@ -20,17 +23,44 @@ status_of_stop unread.NoMemory = status.NoMemory
 status_of_stop unread.Fault = status.ReadFault
 status_of_stop unread.TooLong = status.TooLong
 
--- the status of a script that was served
-abbrev pub status_for : Ending → Status
-status_for (ending.Done false) = status.Done
-status_for (ending.Done true) = status.Refused
-status_for ending.NoMemory = status.NoMemory
-status_for ending.DiskFault = status.DiskFault
-status_for ending.Damaged = status.Damaged
-status_for ending.WriteFault = status.WriteFault
+-- the status of a script that was served; where all statements were answered damage comes first, then a count of faults that has risen
+abbrev pub settled : Tally → Bool → Status
+settled t risen = if t.damaged then status.Damaged else if risen then status.DiskFault else if t.refused then status.Refused else status.Done
 
--- where all statements were answered, a count of faults that has risen is shown
-abbrev pub settled : Bool → Status → Status
-settled true status.Done = status.DiskFault
-settled true status.Refused = status.DiskFault
-settled risen ended = ended
+abbrev pub status_for : Bool → Ending → Status
+status_for risen (ending.Done tally) = settled tally risen
+status_for risen ending.NoMemory = status.NoMemory
+status_for risen ending.WriteFault = status.WriteFault
+
+-- the status of a run that served its script, or ended before
+abbrev pub status_of : Bool → Result Ending Status → Status
+status_of risen (Ok ending) = status_for risen ending
+status_of risen (Err early) = early
+
+-- all statements were answered, and no fault is shown
+abbrev pub IsAnswered : Status → Type 0
+IsAnswered s = (s ≡ status.Done) ⊎ (s ≡ status.Refused)
+
+-- a status by which a run may end before its script is served
+abbrev pub IsEarly : Status → Type 0
+IsEarly status.ReadFault = Unit {0}
+IsEarly status.DiskFault = Unit {0}
+IsEarly status.NoMemory = Unit {0}
+IsEarly status.TooLong = Unit {0}
+IsEarly status.Damaged = Unit {0}
+IsEarly status.Done = ⊥
+IsEarly status.Refused = ⊥
+IsEarly status.NotWords = ⊥
+IsEarly status.WriteFault = ⊥
+
+-- over a root without names, nothing damaged was met
+abbrev pub MetNoDamage : Result Ending Status → Type 0
+MetNoDamage (Ok (ending.Done tally)) = tally.damaged ≡ false
+MetNoDamage (Ok ending.NoMemory) = Unit {0}
+MetNoDamage (Ok ending.WriteFault) = Unit {0}
+MetNoDamage (Err early) = early ≡ status.Damaged → ⊥
+
+-- What is left of a script that was served. Where the run ended before, no more was told or written.
+abbrev pub LeftBy : Result Ending Status → Told → List ℕ → ℕ → ℕ → ℕ → Option Told → Option (List ℕ) → Option (List ℕ) → Type 0
+LeftBy (Ok ending) kept script opened disk arm told before after = ServedBy ending kept script opened disk arm told before after
+LeftBy (Err early) kept script opened disk arm told before after = (told ≡ Some kept) × (after ≡ before)

@@ -1,19 +1,20 @@
 -- What a run promises (docs/definitions.md, "Runs").
 use Rattle.std.specs.Prelude.{◌≡◌, ◌⊎◌, ℕ, List, [], ◌∷◌, ◌++◌, length, take, codes, flat_map, Bool, true, false, Option, Some}
-use Rattle.std.specs.List.{concat, list_any}
+use Rattle.std.specs.List.{concat}
 use Rattle.std.specs.Io.KnownBytes.{Appends}
 use Rattle.mt_values.specs.declared.annals.Noted.{Noted}
-use Rattle.mt_values.specs.declared.statement.Statement.{Statement}
 use Rattle.mt_values.specs.Annals.{Told}
 use Rattle.mt_values.specs.Printing.{escaped}
 use Rattle.mt_values.specs.Script.{statements_of}
 use Rattle.mt_outside.specs.Causes.{Rose}
 use Rattle.mt_outside.specs.Disk as root
 use Rattle.mt_model.specs.History.{History, IsLegal}
-use Rattle.mt_model.specs.Reply.{is_refusal}
+use Rattle.mt_model.specs.Outside.{Counts}
 use Rattle.mt_model.specs.Script.{ScriptRun, ScriptReplies, CutRun, CutInReply, FrontRun}
 use Rattle.mt_program.specs.Answers.{history}
+use Rattle.mt_program.specs.Serving.{Item, Tells}
 use Rattle.mt_program.specs.Streams.{AppendsFront}
+use Rattle.mt_program.specs.declared.serving.Tally.{Tally}
 use Rattle.mt_program.specs.declared.status.Status.{Status}
 use Rattle.mt_program.specs.declared.status.Status.TheVariants as status
 
@@ -29,22 +30,34 @@ number_of status.NoMemory = 6
 number_of status.Damaged = 7
 number_of status.TooLong = 8
 
--- The statements ran, and all their replies were written. Whether one of them refused its statement.
-pub record WholeRun (refused : Bool) (script : List Statement) (h : History) (base : ℕ) (out : List ℕ) : Type 0 where
+-- The statements ran, and all their replies were written. What the replies said.
+pub record WholeRun (tally : Tally) (n : Counts) (script : List Item) (h : History) (base : ℕ) (out : List ℕ) : Type 0 where
   pub replies : List (List ℕ)
-  pub each : ScriptReplies script h base replies
-  pub run : ScriptRun script h base out
+  pub each : ScriptReplies n script h base replies
+  pub run : ScriptRun n script h base out
   pub out_is : out ≡ concat replies
-  pub refusals : list_any is_refusal replies ≡ refused
+  pub tells : Tells tally replies
+
+-- the same, where none of the replies tells of damage
+abbrev pub WholeRunWith : Bool → Counts → List Item → History → ℕ → List ℕ → Type 0
+WholeRunWith refused = WholeRun (record { refused = refused; damaged = false })
+
+-- no statement ran
+abbrev pub NothingRan : Counts → List Item → History → ℕ → List ℕ → Type 0
+NothingRan n script = FrontRun n []
+
+-- The disk's count rose: all statements ran, and all their replies were written, or the root was not opened and none ran.
+abbrev pub RunWithFaults : Counts → List Item → History → ℕ → List ℕ → Type 0
+RunWithFaults n script h base out = ((refused : Bool) × WholeRunWith refused n script h base out) ⊎ NothingRan n script h base out
 
 -- The first statements of a script were wholly read: whatever had followed what was read, they would be the same.
 abbrev pub AreWhollyRead : ℕ → List ℕ → Option (List ℕ) → Type 0
 AreWhollyRead count script left = (read rest more : List ℕ) → left ≡ Some rest → script ≡ read ++ rest → take count (statements_of (read ++ more)) ≡ take count (statements_of script)
 
 -- The first statements ran, which were wholly read, and all their replies were written.
-pub record ReadRun (left : Option (List ℕ)) (text : List ℕ) (script : List Statement) (h : History) (base : ℕ) (out : List ℕ) : Type 0 where
+pub record ReadRun (left : Option (List ℕ)) (text : List ℕ) (n : Counts) (script : List Item) (h : History) (base : ℕ) (out : List ℕ) : Type 0 where
   pub count : ℕ
-  pub run : ScriptRun (take count script) h base out
+  pub run : ScriptRun n (take count script) h base out
   pub wholly : AreWhollyRead count text left
 
 -- The root is empty and the disk tells it, no command was accepted and the keeper tells that, the source tells the script, and the sink what was written.
@@ -58,7 +71,7 @@ pub record Starts (disk : Option root.Told) (annals : Option Told) (source sink 
   pub sink_is : sink ≡ Some before
 
 -- The list that is told at the end is legal and begins with the list that was told, and a run over it was written behind what was written.
-pub record Leaves (Run : List Statement → History → ℕ → List ℕ → Type 0) (kept : Told) (script before : List ℕ) (told : Option Told) (written : Option (List ℕ)) : Type 0 where
+pub record Leaves (Run : List Item → History → ℕ → List ℕ → Type 0) (kept : Told) (script before : List ℕ) (told : Option Told) (written : Option (List ℕ)) : Type 0 where
   pub now : Told
   pub more : List Noted
   pub out : List ℕ
@@ -68,20 +81,16 @@ pub record Leaves (Run : List Statement → History → ℕ → List ℕ → Typ
   pub written_is : written ≡ Some (before ++ out)
   pub ran : Run (statements_of script) (history now) (length kept.list) out
 
--- no statement ran
-abbrev pub NothingRan : List Statement → History → ℕ → List ℕ → Type 0
-NothingRan script = FrontRun []
-
 -- the run of each status, by the program's steps; of 3 and 8 `run` promises a read run
-abbrev pub RunBy : Status → List Statement → History → ℕ → List ℕ → Type 0
-RunBy status.Done = WholeRun false
-RunBy status.Refused = WholeRun true
+abbrev pub RunBy : Status → Counts → List Item → History → ℕ → List ℕ → Type 0
+RunBy status.Done = WholeRunWith false
+RunBy status.Refused = WholeRunWith true
 RunBy status.NotWords = NothingRan
 RunBy status.ReadFault = NothingRan
 RunBy status.WriteFault = CutInReply
-RunBy status.DiskFault = FrontRun
+RunBy status.DiskFault = RunWithFaults
 RunBy status.NoMemory = CutRun
-RunBy status.Damaged = λ script h base out. ⊥
+RunBy status.Damaged = λ n script h base out. ⊥
 RunBy status.TooLong = NothingRan
 
 -- the line that names what keeps a root from being opened

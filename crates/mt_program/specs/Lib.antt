@@ -1,14 +1,12 @@
 pub mod Answers
 pub mod Commits
-pub mod Counted
-pub mod Encoding
 pub mod Endings
 pub mod Headline
-pub mod Inserts
-pub mod Parts
+pub mod Names
 pub mod Selects
 pub mod Serving
 pub mod Stops
 pub mod Store
 pub mod Streams
+pub mod Tables
 pub mod Words

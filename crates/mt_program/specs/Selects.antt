@@ -1,11 +1,57 @@
--- What a SELECT answers.
-use Rattle.std.specs.Prelude.{ℕ, List, length}
+-- What a SELECT answers, and what it reads of a table's parts.
+use Rattle.std.specs.Prelude.{◌≡◌, ◌<◌, ℕ, List, ◌++◌, length, map, slice_get, filter_map, flat_map, Ok, All, Option}
+use Rattle.std.specs.List.{AllZip, range_with_len, sum_by}
+use Rattle.mt_values.specs.declared.schema.Schema.{Schema}
+use Rattle.mt_values.specs.declared.value.ColType.{ColType}
+use Rattle.mt_values.specs.declared.value.Value.{Value}
 use Rattle.mt_values.specs.declared.statement.SelectText.{SelectText}
 use Rattle.mt_values.specs.declared.statement.Statement.TheVariants as statement
 use Rattle.mt_values.specs.Annals.{Told}
+use Rattle.mt_values.specs.Grid.{AreRowsOf, Cells, Grid, IsOrderBy, column_of, picked}
+use Rattle.mt_values.specs.Order.{key_of}
+use Rattle.mt_values.specs.Printing.{line}
+use Rattle.mt_values.specs.Values.{Row}
+use Rattle.mt_outside.specs.Files.{Files}
+use Rattle.mt_model.specs.History.{column_types}
+use Rattle.mt_model.specs.Outside.{Counts}
+use Rattle.mt_model.specs.Reply.{rows_line}
 use Rattle.mt_model.specs.Session.{Takes}
-use Rattle.mt_program.specs.Answers.{history}
+use Rattle.part_reader.specs.declared.reading.Part.{Part}
+use Rattle.part_reader.specs.Parts.{PartHolds}
+use Rattle.mt_program.specs.Answers.{Foresees, history}
 
--- the reply is one that the SELECT may have at the end of the history
-abbrev pub Selected : Told → SelectText → List ℕ → Type 0
-Selected kept text reply = Takes (history kept) 0 (statement.Select text) (length kept.list) (length kept.list) reply
+-- the reply is one that the SELECT may have at the end of the history, whatever the counts come to
+abbrev pub Selected : Told → SelectText → ℕ → ℕ → List ℕ → Type 0
+Selected kept text arm opened reply =
+    (n : Counts) (disk : ℕ) → Foresees opened disk arm n → Takes n (history kept) 0 (Ok (statement.Select text)) (length kept.list) (length kept.list) reply
+
+-- each place is a column's
+abbrev pub ArePlacesOf : Schema → List ℕ → Type 0
+ArePlacesOf schema places = All (λ place. place < length schema.columns) places
+
+-- the columns have the types of the table's columns at these places
+abbrev pub HaveTypes : Schema → List ℕ → List Cells → Type 0
+HaveTypes schema places columns = map (λ (c : Cells). c.col_type) columns ≡ filter_map (slice_get (column_types schema)) places
+
+-- the values that rows have at these places, place by place
+abbrev pub values_at : List Row → List ℕ → List (List Value)
+values_at rows places = map (λ place. column_of place rows) places
+
+-- rows of parts, one part after another
+abbrev pub joined : List (List Row) → List Row
+joined parts = flat_map (λ (part : List Row). part) parts
+
+-- how many rows parts have, by what is kept of them
+abbrev pub rows_kept : {F : Type 0} → List (Part F) → ℕ
+rows_kept {F} parts = sum_by (λ (part : Part F). part.loaded.manifest.rows) parts
+
+-- each part of a list holds the rows at its place
+abbrev pub PartsHold : {F : Type 0} → (F → Option Files) → Schema → List (Part F) → List (List Row) → Type 0
+PartsHold files_of schema parts rows = AllZip (PartHolds files_of schema) parts rows
+
+-- the lines of the rows of a block, sorted by their columns from left to right, behind their number and the length of the history
+pub record Printed (block : Grid) (place : ℕ) (reply : List ℕ) : Type 0 where
+  pub order : List ℕ
+  pub by : IsOrderBy (range_with_len 0 (length block.types)) block.rows order
+  pub typed : AreRowsOf block.types block.rows
+  pub reply_is : reply ≡ rows_line (length block.rows) place ++ flat_map (λ row. line (key_of (range_with_len 0 (length block.types)) row)) (picked block.rows order)

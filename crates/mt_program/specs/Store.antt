@@ -2,18 +2,20 @@
 use Rattle.std.specs.Prelude.{◌≡◌, ◌⊎◌, ℕ, ◌<◌, ◌≤◌, ◌^◌, Bool, true, false, List, [], ◌∷◌, ◌++◌, length, map, slice_index_or, All, Any, Option, Some}
 use Rattle.std.specs.List.{AllZip}
 use Rattle.std.specs.Map.{keys_of}
+use Rattle.std.specs.Option.{ForSome}
 use Rattle.mt_values.specs.declared.command.Command.{Command}
 use Rattle.mt_values.specs.declared.command.Command.TheVariants as command
 use Rattle.mt_values.specs.declared.schema.Schema.{Schema}
 use Rattle.mt_values.specs.Values.{Row}
 use Rattle.mt_values.specs.Grammar.{same_bytes}
 use Rattle.mt_values.specs.Grid.{IsOrderBy, picked}
-use Rattle.mt_values.specs.RootNames.{create_name, part_name, fresh_part_name}
+use Rattle.mt_values.specs.RootNames.{create_name}
 use Rattle.mt_outside.specs.Files.{Files}
 use Rattle.mt_outside.specs.Disk.{Told, names_of}
 use Rattle.mt_model.specs.History.{History, schema_of, IsLegal}
-use Rattle.mt_program.specs.Parts.{PartHolds}
-use Rattle.mt_program.specs.declared.store.Part.{Part}
+use Rattle.part_reader.specs.declared.reading.Part.{Part}
+use Rattle.part_reader.specs.Parts.{PartHolds}
+use Rattle.mt_program.specs.Names.{insert_name}
 use Rattle.mt_program.specs.declared.store.Table.{Table}
 use Rattle.mt_program.specs.declared.store.Store.{Store}
 
@@ -57,11 +59,15 @@ Differ names = (i j : ℕ) (d : List ℕ) → i < length names → j < length na
 
 -- a name that the store has given: a table's entry, or the part of one of the INSERTs into the table
 abbrev pub IsNameOf : {F : Type 0} → Table F → List ℕ → Type 0
-IsNameOf table name = (name ≡ create_name table.name) ⊎ ((n : ℕ) × (n < 2 ^ 64) × (n ≤ length table.parts.items) × (name ≡ part_name table.name (fresh_part_name n)))
+IsNameOf table name = (name ≡ create_name table.name) ⊎ ((n : ℕ) × (n < 2 ^ 64) × (n ≤ length table.parts.items) × (name ≡ insert_name table.name n))
 
 -- every name of the root is one that the store has given
 abbrev pub NamesFit : {F : Type 0} → Store F → Told → Type 0
 NamesFit store root = All (λ name. Any (λ table. IsNameOf table name) store.tables.items) (keys_of (names_of root))
+
+-- the same, as long as the disk's count of faults is the one at opening; a command whose commit failed may have left its name
+abbrev pub NamesFitUnlessRisen : {F : Type 0} → ℕ → Option Told → Store F → Type 0
+NamesFitUnlessRisen disk told store = disk ≡ store.opened → ForSome told (NamesFit store)
 
 -- The tables and parts that the store keeps stand for a history.
 pub record Stands {F : Type 0} (files_of : F → Option Files) (h : History) (store : Store F) : Type 0 where
@@ -75,7 +81,9 @@ pub record Stands {F : Type 0} (files_of : F → Option Files) (h : History) (st
 abbrev pub OwnKey : Schema → Type 0
 OwnKey schema = All (λ place. place < length schema.columns) schema.key
 
--- what the store keeps of its tables, whatever history they are of: each key is made of the table's columns, and no two tables have one name
+-- what the store keeps of its tables, whatever history they are of: each key is made of the table's columns, which are not too many,
+-- and no two tables have one name
 pub record IsSound {F : Type 0} (store : Store F) : Type 0 where
   pub keys : All (λ (t : Table F). OwnKey t.schema) store.tables.items
+  pub few : All (λ (t : Table F). length t.schema.columns ≤ 64) store.tables.items
   pub differ : Differ (map (λ (t : Table F). t.name) store.tables.items)

@@ -1,63 +1,166 @@
 // Running a SELECT.
-ghost use Rattle.std.specs.Prelude.{◌≡◌, ◌≤◌, Some, true, IfOk, IsErrOf};
-ghost use Rattle.std.specs.List.{range_with_len};
-ghost use Rattle.mt_values.specs.declared.statement.Statement.TheVariants as statement;
+ghost use Rattle.std.specs.Prelude.{◌≡◌, ◌+◌, ◌-◌, ◌≤◌, ◌<◌, ◌^◌, [], List, ℕ, Ok, Some, All, IfErr, IfOk, IfSome, OnOk, length, map};
+ghost use Rattle.mt_values.specs.declared.schema.Schema.{Schema};
 ghost use Rattle.mt_values.specs.Annals.{Told};
+ghost use Rattle.mt_values.specs.Grid.{Cells, grid_of};
+ghost use Rattle.mt_values.specs.Values.{Row};
 ghost use Rattle.mt_outside.specs.Causes.{Rose};
-ghost use Rattle.mt_program.specs.Store.{Stands};
+ghost use Rattle.mt_model.specs.Refusals.{refusal_line};
+ghost use Rattle.part_name.specs.PartNames.{part_text};
+ghost use Rattle.part_reader.specs.Faults.{IsNoDamage};
 ghost use Rattle.mt_program.specs.Answers.{history};
-ghost use Rattle.mt_program.specs.Selects.{Selected};
+ghost use Rattle.mt_program.specs.Names.{file_name, fresh_part};
+ghost use Rattle.mt_program.specs.Selects.{ArePlacesOf, HaveTypes, PartsHold, Printed, Selected, joined, rows_kept, values_at};
+ghost use Rattle.mt_program.specs.Store.{IsSound, Stands};
 
-use crate::parts::read_parts;
-use crate::replies::{refused_reply, rows_head};
-use crate::stops::Stop;
+use crate::names::{file_name, part_text};
+use crate::stopped::{CommitStop, stop_line};
 use crate::store::Store;
-use mt_base::NoMemory;
+use mt_base::{NoMemory, Seq, Twin};
+use mt_model::{Refusal, refusal_line, rows_line, selected_columns};
 use mt_outside::{Arm, Gate, Point, Who};
-use mt_values::{SelectText, all_places};
+use mt_values::{Block, ColumnData, FileId, Schema, SelectText, all_places};
+use part_reader::{Part, PartFault, read_columns};
 use std::alloc::Global;
-use tsv_rows::print_rows;
+use tsv_rows::write_rows;
 
-/// The places 0, 1, 2, .. of so many columns.
-///
-/// `NoMemory` also where a u32 does not count them.
-fn column_places(alloc: Global, count: usize) -> Result<Vec<u32>, NoMemory>
-    ensures { IfOk result (λ v. v.items ≡ range_with_len 0 count) }
+/// Columns of the types that a table has at these places, without values.
+fn empty_columns(
+    alloc: Global,
+    schema: &Schema,
+    places: &[u32],
+) -> Result<Vec<ColumnData>, NoMemory>
+    requires { ArePlacesOf schema.now places.now }
+    ensures types { IfOk result (λ columns. HaveTypes schema.now places.now columns.items) }
+    ensures empty { IfOk result (λ columns. map (λ (c : Cells). c.values) columns.items ≡ values_at [] places.now) }
 {
-    match u32::try_from(count) {
-        Ok(count) => all_places(alloc, count),
-        Err(_) => Err(NoMemory),
+    let mut columns = Vec::with_capacity(alloc, places.len())?;
+    for place in places {
+        let column = schema.columns.at(*place as usize);
+        columns.push(ColumnData::new(alloc, column.col_type))?;
     }
+    Ok(columns)
 }
 
-/// The rows of a table, sorted by its columns from left to right, unless there is no such table.
+/// How many rows parts have together; none where a place of 32 bits can't count them.
+fn count_rows<F>(parts: &[Part<F>]) -> Option<usize>
+    ensures rows { IfSome result (λ rows. rows ≡ rows_kept parts.now) }
+    ensures few { IfSome result (λ rows. rows < 2 ^ 32) }
+{
+    let mut rows: u64 = 0;
+    for part in parts {
+        rows = rows.checked_add(part.loaded.manifest.rows)?;
+    }
+    if rows > u32::MAX as u64 {
+        return None;
+    }
+    Some(rows as usize)
+}
+
+/// The reply to a SELECT that met damage in a file of the part with this number, from 1.
+fn damaged(alloc: Global, text: &SelectText, part: u32, file: FileId) -> Result<Vec<u8>, NoMemory>
+    ensures { IfOk result (λ reply. reply.items ≡ refusal_line (Refusal.Damaged text.now.table (part_text (fresh_part part)) (file_name file))) }
+{
+    let table = text.table.twin(alloc)?;
+    let part = Seq::of(part_text(alloc, part)?);
+    let file = file_name(alloc, file)?;
+    let why = Refusal::Damaged { table, part, file };
+    refusal_line(alloc, &why)
+}
+
+/// Adds the values that parts of a table have in the columns at these places, part by part.
 ///
-/// `Damaged` where a column file is not of its format: never where the parts tell that they hold the history's rows.
+/// Where a part was not read, the number of the part, from 1, and why.
+fn read_parts<R: Arm>(
+    alloc: Global,
+    arm: &mut R,
+    parts: &[Part<R::Dir>],
+    places: &[u32],
+    columns: &mut [ColumnData],
+) -> Result<(), (u32, PartFault)>
+    requires { length columns.old ≡ length places.now }
+    ensures values { (schema : Schema) (rows : List (List Row)) → PartsHold R.Dir.files schema parts.now rows → ArePlacesOf schema places.now
+        → HaveTypes schema places.now columns.old → map (λ (c : Cells). c.values) columns.old ≡ values_at [] places.now
+        → OnOk result (map (λ (c : Cells). c.values) columns.new ≡ values_at (joined rows) places.now) }
+    ensures even { All (λ (c : Cells). length c.values ≡ 0) columns.old → OnOk result (All (λ (c : Cells). length c.values ≡ rows_kept parts.now) columns.new) }
+    ensures many { OnOk result (length columns.new ≡ length columns.old) }
+    ensures sound { (schema : Schema) (rows : List (List Row)) → PartsHold R.Dir.files schema parts.now rows → ArePlacesOf schema places.now
+        → HaveTypes schema places.now columns.old → IfErr result (λ e. IsNoDamage e.1) }
+    ensures tells { R.tells arm.new ≡ R.tells arm.old }
+    ensures later { R.failed arm.old ≤ R.failed arm.new }
+    ensures fault { IfErr result (λ e. e.1 ≡ PartFault.Fault → Rose (R.failed arm.old) (R.failed arm.new)) }
+{
+    let mut number: u32 = 0;
+    for part in parts {
+        number = number.saturating_add(1);
+        match read_columns(alloc, arm, part, places, columns) {
+            Ok(()) => {}
+            Err(fault) => return Err((number, fault)),
+        }
+    }
+    Ok(())
+}
+
+/// The reply with the rows of these columns, so many, sorted by them from left to right. `place` is the length of the history.
+fn print(
+    alloc: Global,
+    place: usize,
+    columns: Vec<ColumnData>,
+    rows: usize,
+) -> Result<Vec<u8>, NoMemory>
+    requires few { rows < 2 ^ 32 }
+    requires even { All (λ (c : Cells). length c.values ≡ rows) columns.items }
+    ensures { IfOk result (λ reply. Printed (grid_of columns.items rows) place reply.items) }
+{
+    let block = Block::of_columns(columns, rows);
+    let Ok(width) = u32::try_from(block.width()) else {
+        return Err(NoMemory);
+    };
+    let all = all_places(alloc, width)?;
+    let order = block.order_by(alloc, &all)?;
+    let mut reply = rows_line(alloc, block.len(), place as u64)?;
+    write_rows(&block, &order, &all, &mut reply)?;
+    Ok(reply)
+}
+
+/// The rows of a table, of the selected columns, sorted by these from left to right, unless the SELECT is refused.
+///
+/// `NoMemory` where a growth was refused.
 pub fn select<R: Arm, G: Gate>(
     alloc: Global,
     store: &Store<R::Dir>,
     arm: &mut R,
     gate: &mut G,
     text: &SelectText,
-) -> Result<Vec<u8>, Stop>
-    ensures answers { (kept : Told) → Stands R.Dir.files (history kept) store.now → IfOk result (λ reply. Selected kept text.now reply.items) }
-    ensures sound { (kept : Told) → Stands R.Dir.files (history kept) store.now → IsErrOf result Stop.Damaged → ⊥ }
+) -> Result<Vec<u8>, NoMemory>
+    requires { IsSound store.now }
+    ensures answers { (kept : Told) → Stands R.Dir.files (history kept) store.now → IfOk result (λ reply. Selected kept text.now (R.failed arm.new) store.now.opened reply.items) }
     ensures tells { R.tells arm.new ≡ R.tells arm.old }
     ensures later { R.failed arm.old ≤ R.failed arm.new }
-    ensures fault { IsErrOf result Stop.Fault → Rose (R.failed arm.old) (R.failed arm.new) }
 {
     let Some(place) = store.find(&text.table) else {
-        return Ok(refused_reply(alloc)?);
+        let name = text.table.twin(alloc)?;
+        let why = Refusal::NoTable(name);
+        return Ok(refusal_line(alloc, &why)?);
     };
     let table = &store.tables[place];
-    gate.pass(Who::Session(0), Point::ScanStart);
-    let block = match read_parts(alloc, arm, &table.schema, &table.parts) {
-        Ok(block) => block,
-        Err(stop) => return Err(stop),
+    let selected = selected_columns(alloc, table.schema.columns.as_slice(), &text.columns)?;
+    let places = match selected {
+        Ok(places) => places,
+        Err(refusal) => return Ok(refusal_line(alloc, &refusal)?),
     };
-    let columns = column_places(alloc, block.width())?;
-    let order = block.order_by(alloc, &columns)?;
-    let mut reply = rows_head(alloc, block.len(), store.length)?;
-    print_rows(&mut reply, &block, &order)?;
-    Ok(reply)
+    let Some(rows) = count_rows(&table.parts) else {
+        return Err(NoMemory);
+    };
+    gate.pass(Who::Session(0), Point::ScanStart);
+    let mut columns = empty_columns(alloc, &table.schema, places.as_slice())?;
+    match read_parts(alloc, arm, &table.parts, places.as_slice(), &mut columns) {
+        Ok(()) => {}
+        Err((_, PartFault::NoMemory)) => return Err(NoMemory),
+        Err((_, PartFault::Fault)) => return Ok(stop_line(alloc, CommitStop::Failed)?),
+        Err((part, PartFault::Damaged { file, .. })) => {
+            return Ok(damaged(alloc, text, part, file)?);
+        }
+    }
+    Ok(print(alloc, store.length, columns, rows)?)
 }

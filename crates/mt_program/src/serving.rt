@@ -1,67 +1,92 @@
 // Answering the statements of a script, one after another.
-ghost use Rattle.std.specs.Prelude.{◌≡◌, ◌⊎◌, ◌||◌, ◌≤◌, Some, true, IsErrOf, OnOk, List, ℕ};
-ghost use Rattle.std.specs.Option.{ForSome};
+ghost use Rattle.std.specs.Prelude.{◌≡◌, ◌<◌, ◌≤◌, ◌-◌, ◌^◌, Some, true, false, IfOk, IfSome, OnOk, drop, length};
+ghost use Rattle.std.specs.Option.{option_map};
 ghost use Rattle.mt_values.specs.Annals.{Told};
+ghost use Rattle.mt_values.specs.Script.{next_statement};
 ghost use Rattle.mt_outside.specs.Causes.{Rose};
-ghost use Rattle.mt_model.specs.Reply.{is_refusal};
-ghost use Rattle.mt_program.specs.Store.{Stands, NamesFit, IsSound};
-ghost use Rattle.mt_program.specs.Answers.{Answers, OneRose, history};
-ghost use Rattle.mt_program.specs.Serving.{ServedBy, ending_for};
+ghost use Rattle.mt_model.specs.Written.{IsWritten};
+ghost use Rattle.mt_program.specs.Store.{Stands, NamesFitUnlessRisen, IsSound};
+ghost use Rattle.mt_program.specs.Answers.{Answers, history};
+ghost use Rattle.mt_program.specs.Serving.{ServedBy, tallied};
 
 use crate::creates::create;
 use crate::inserts::insert;
-use crate::replies::{faulty_reply, refused_reply};
+use crate::refusals::reply_code;
 use crate::selects::select;
-use crate::stops::Stop;
 use crate::store::Store;
 use crate::streams::write_all;
+use mt_base::NoMemory;
+use mt_model::{Refusal, refusal_line};
 use mt_outside::{Arm, Disk, Gate, Point, Sink, Who};
-use mt_values::{Annals, Statement};
-use sql_read::next_statement;
+use mt_values::{Annals, Cause, Statement};
+use sql_read::{Next, next_statement};
 use std::alloc::Global;
+
+/// What the replies so far said.
+#[derive(Clone, Copy, Debug, PartialEq, Eq)]
+pub struct Tally {
+    /// A statement was refused for what the script says.
+    pub refused: bool,
+    /// Bytes of a part were damaged.
+    pub damaged: bool,
+}
 
 /// How a script ended.
 #[derive(Clone, Copy, Debug, PartialEq, Eq)]
 pub enum Ending {
-    /// All statements were answered. Whether one of them was refused.
-    Done(bool),
+    /// All statements were answered. What the replies said.
+    Done(Tally),
     NoMemory,
-    /// The disk, the arm or a stage failed.
-    DiskFault,
-    /// A column file is not of its format.
-    Damaged,
     /// The sink failed.
     WriteFault,
 }
 
-/// Whether a reply refuses its statement.
-pub fn refuses(reply: &[u8]) -> bool
-    ensures { result ≡ is_refusal reply.now }
-{
-    reply == b"E00\n".as_slice() || reply == b"E01 0\n".as_slice()
-}
+impl Tally {
+    /// No reply yet.
+    pub fn none() -> Tally
+        ensures refused { result.refused ≡ false }
+        ensures damaged { result.damaged ≡ false }
+    {
+        Tally {
+            refused: false,
+            damaged: false,
+        }
+    }
 
-/// Whether a statement was refused, or this one is.
-fn one_refused(refused: bool, reply: &[u8]) -> bool
-    ensures { result ≡ (refused || is_refusal reply.now) }
-{
-    refused || refuses(reply)
-}
-
-/// How a run ends whose statement had no reply.
-pub fn ending_of(stop: Stop) -> Ending
-    ensures { result ≡ ending_for stop }
-{
-    match stop {
-        Stop::NoMemory => Ending::NoMemory,
-        Stop::Fault => Ending::DiskFault,
-        Stop::Damaged => Ending::Damaged,
+    /// With one more reply.
+    pub fn with(self, reply: &[u8]) -> Tally
+        ensures { result ≡ tallied self reply.now }
+    {
+        let code = reply_code(reply);
+        Tally {
+            refused: self.refused || (1 <= code && code <= 14) || code == 18,
+            damaged: self.damaged || code == 19,
+        }
     }
 }
 
-/// Answers a statement.
+/// The next statement of a whole script, or why its text is refused, and the bytes that it takes; none at the script's end.
 ///
-/// After an error the store is as it was and the keeper tells the same list.
+/// `NoMemory` where the statement found no room.
+fn read_next(
+    alloc: Global,
+    script: &[u8],
+) -> Result<Option<(Result<Statement, Cause>, usize)>, NoMemory>
+    ensures found { IfOk result (λ found. next_statement script.now ≡ option_map (λ f. (f.0, drop f.1 script.now)) found) }
+    ensures used { IfOk result (λ found. IfSome found (λ f. (0 < f.1) × (f.1 ≤ length script.now))) }
+{
+    match next_statement(alloc, script, true) {
+        Next::Found(statement, used) => Ok(Some((Ok(statement), used))),
+        Next::Refused(cause, used) => Ok(Some((Err(cause), used))),
+        Next::End => Ok(None),
+        Next::NeedMore => Err(NoMemory),
+        Next::NoMemory => Err(NoMemory),
+    }
+}
+
+/// Answers a statement, or the text that is none.
+///
+/// `NoMemory` where a growth was refused; the store is as it was and the keeper tells the same list.
 pub fn answer<D: Disk, A: Annals, G: Gate>(
     alloc: Global,
     store: &mut Store<<D::Arm as Arm>::Dir>,
@@ -69,26 +94,26 @@ pub fn answer<D: Disk, A: Annals, G: Gate>(
     arm: &mut D::Arm,
     annals: &mut A,
     gate: &mut G,
-    statement: Statement,
-) -> Result<Vec<u8>, Stop>
-    requires names { ForSome (D.told disk.old) (NamesFit store.old) }
+    statement: Result<Statement, Cause>,
+) -> Result<Vec<u8>, NoMemory>
+    requires names { NamesFitUnlessRisen (D.failed disk.old) (D.told disk.old) store.old }
     requires store { IsSound store.old }
-    ensures answers { (kept : Told) → A.told annals.old ≡ Some kept → D.Arm.tells arm.old ≡ true → Stands D.Arm.Dir.files (history kept) store.old
-        → Answers D.Arm.Dir.files kept statement result store.new (A.told annals.new) }
-    ensures sound { (kept : Told) → A.told annals.old ≡ Some kept → D.Arm.tells arm.old ≡ true → Stands D.Arm.Dir.files (history kept) store.old → IsErrOf result Stop.Damaged → ⊥ }
-    ensures names { OnOk result (ForSome (D.told disk.new) (NamesFit store.new)) }
+    requires opened { store.old.opened ≤ D.failed disk.old }
+    requires below { store.old.opened < 2 ^ 64 - 1 }
+    ensures answers { (kept : Told) → A.told annals.old ≡ Some kept → D.Arm.tells arm.old ≡ true → IsWritten statement → Stands D.Arm.Dir.files (history kept) store.old
+        → Answers D.Arm.Dir.files kept statement store.old.opened (D.failed disk.new) (D.Arm.failed arm.new) result store.new (A.told annals.new) }
+    ensures names { OnOk result (NamesFitUnlessRisen (D.failed disk.new) (D.told disk.new) store.new) }
     ensures store { OnOk result (IsSound store.new) }
+    ensures opened { store.new.opened ≡ store.old.opened }
     ensures tells { D.Arm.tells arm.new ≡ D.Arm.tells arm.old }
     ensures disk_later { D.failed disk.old ≤ D.failed disk.new }
     ensures arm_later { D.Arm.failed arm.old ≤ D.Arm.failed arm.new }
-    ensures fault { IsErrOf result Stop.Fault → OneRose (D.failed disk.old) (D.failed disk.new) (D.Arm.failed arm.old) (D.Arm.failed arm.new) }
 {
     match statement {
-        Statement::Create(text) => create(alloc, store, disk, arm, annals, &text),
-        Statement::Insert(text) => insert(alloc, store, disk, arm, annals, &text),
-        Statement::Select(text) => select(alloc, store, arm, gate, &text),
-        Statement::Faulty => Ok(faulty_reply(alloc)?),
-        Statement::Oversized => Ok(refused_reply(alloc)?),
+        Ok(Statement::Create(text)) => create(alloc, store, disk, arm, annals, &text),
+        Ok(Statement::Insert(text)) => insert(alloc, store, disk, arm, annals, &text),
+        Ok(Statement::Select(text)) => select(alloc, store, arm, gate, &text),
+        Err(cause) => Ok(refusal_line(alloc, &Refusal::of_cause(cause))?),
     }
 }
 
@@ -103,37 +128,37 @@ pub fn serve<D: Disk, A: Annals, K: Sink, G: Gate>(
     gate: &mut G,
     script: &[u8],
 ) -> Ending
-    requires names { ForSome (D.told disk.old) (NamesFit store.old) }
+    requires names { NamesFitUnlessRisen (D.failed disk.old) (D.told disk.old) store.old }
     requires store { IsSound store.old }
+    requires opened { store.old.opened ≤ D.failed disk.old }
+    requires below { store.old.opened < 2 ^ 64 - 1 }
     ensures run { (kept : Told) → A.told annals.old ≡ Some kept → D.Arm.tells arm.old ≡ true → Stands D.Arm.Dir.files (history kept) store.old
-        → ServedBy result kept script.now (A.told annals.new) (K.written sink.old) (K.written sink.new) }
-    ensures sound { (kept : Told) → A.told annals.old ≡ Some kept → D.Arm.tells arm.old ≡ true → Stands D.Arm.Dir.files (history kept) store.old → result ≡ Ending.Damaged → ⊥ }
+        → ServedBy result kept script.now store.old.opened (D.failed disk.new) (D.Arm.failed arm.new) (A.told annals.new) (K.written sink.old) (K.written sink.new) }
     ensures disk_later { D.failed disk.old ≤ D.failed disk.new }
     ensures arm_later { D.Arm.failed arm.old ≤ D.Arm.failed arm.new }
-    ensures disk_fault { result ≡ Ending.DiskFault → OneRose (D.failed disk.old) (D.failed disk.new) (D.Arm.failed arm.old) (D.Arm.failed arm.new) }
     ensures sink_later { K.failed sink.old ≤ K.failed sink.new }
     ensures write_fault { result ≡ Ending.WriteFault → Rose (K.failed sink.old) (K.failed sink.new) }
 {
     let mut at = 0;
-    let mut refused = false;
+    let mut tally = Tally::none();
     'statements: while at < script.len() {
-        let (statement, used) = match next_statement(alloc, &script[at..]) {
+        let (statement, used) = match read_next(alloc, &script[at..]) {
             Ok(Some(found)) => found,
-            Ok(None) => return Ending::Done(refused),
+            Ok(None) => return Ending::Done(tally),
             Err(_) => return Ending::NoMemory,
         };
         gate.pass(Who::Session(0), Point::StatementStart);
         let reply = match answer(alloc, store, disk, arm, annals, gate, statement) {
             Ok(reply) => reply,
-            Err(stop) => return ending_of(stop),
+            Err(_) => return Ending::NoMemory,
         };
         gate.pass(Who::Session(0), Point::Answered);
         match write_all(sink, &reply) {
             Ok(()) => {}
             Err(_) => return Ending::WriteFault,
         }
-        refused = one_refused(refused, &reply);
+        tally = tally.with(&reply);
         at += used;
     }
-    Ending::Done(refused)
+    Ending::Done(tally)
 }

@@ -2,7 +2,7 @@
 ghost use Rattle.std.specs.Prelude.{◌≡◌, Bool};
 ghost use Rattle.mt_program.specs.Headline.{number_of};
 
-/// How a run ends. The first that is met decides.
+/// How a run ends: by what ends it early, or else, at the script's end, by damage before a disk's fault before a refusal.
 #[derive(Clone, Copy, Debug, PartialEq, Eq)]
 pub enum Status {
     /// All statements were answered, none was refused.
@@ -15,10 +15,10 @@ pub enum Status {
     ReadFault,
     /// The sink failed.
     WriteFault,
-    /// A call on the disk failed.
+    /// The disk's count of faults rose, or stood at its type's end before.
     DiskFault,
     NoMemory,
-    /// The root has a name, or a column file is not of its format.
+    /// The root has a name, or a file of a part is damaged.
     Damaged,
     /// 2^40 bytes were read, and no end was met.
     TooLong,

@@ -4,16 +4,10 @@ ghost use Rattle.std.specs.List.{HoldsAt};
 ghost use Rattle.mt_values.specs.Grammar.{same_bytes};
 
 use mt_values::{Name, Schema};
+use part_reader::Part;
 use std::alloc::Global;
 
-/// A part of a table: a folder of column files, and its number of rows. `F` stands for the folder.
-#[derive(Drop)]
-pub struct Part<F> {
-    pub dir: F,
-    pub rows: usize,
-}
-
-/// A table, with its parts in the order in which they were inserted.
+/// A table, with its parts in the order in which they were inserted. `F` stands for a folder.
 #[derive(Drop)]
 pub struct Table<F> {
     pub name: Name,
@@ -21,22 +15,26 @@ pub struct Table<F> {
     pub parts: Vec<Part<F>>,
 }
 
-/// The tables in the order in which they were made, and the number of accepted commands.
+/// The tables in the order in which they were made, the number of accepted commands, and the disk's count of faults
+/// when the root was opened.
 #[derive(Drop)]
 pub struct Store<F> {
     pub tables: Vec<Table<F>>,
-    pub length: u64,
+    pub length: usize,
+    pub opened: u64,
 }
 
 impl<F> Store<F> {
     /// The store of an empty root.
-    pub fn new(alloc: Global) -> Self
+    pub fn new(alloc: Global, opened: u64) -> Self
         ensures tables { result.tables.items ≡ [] }
         ensures length { result.length ≡ 0 }
+        ensures opened { result.opened ≡ opened }
     {
         Store {
             tables: Vec::new(alloc),
             length: 0,
+            opened,
         }
     }
 

@@ -1,19 +1,17 @@
 // All that the program does.
-ghost use Rattle.std.specs.Prelude.{◌≡◌, ◌⊎◌, ◌↔◌, ◌≤◌, ◌<◌, ◌^◌, ◌-◌, ◌∷◌, List, ℕ, [], Some, Option, true, false, is_some, length};
+ghost use Rattle.std.specs.Prelude.{◌≡◌, ◌⊎◌, ◌↔◌, ◌≤◌, ◌<◌, ◌^◌, ◌-◌, ◌∷◌, List, ℕ, [], Ok, Some, true, false, IfErr, IsErrAnd, IsErrOf, OnOk, length};
 ghost use Rattle.std.specs.Option.{ForSome};
-ghost use Rattle.mt_outside.specs.declared.disk.DiskError as failure;
 ghost use Rattle.mt_values.specs.Annals.{Told};
 ghost use Rattle.mt_outside.specs.Causes.{Rose};
 ghost use Rattle.mt_outside.specs.Disk as root;
 ghost use Rattle.mt_outside.specs.Files.{Files};
-ghost use Rattle.mt_model.specs.Script.{FrontRun, CutRun, CutInReply};
-ghost use Rattle.mt_program.specs.Answers.{OneRose};
-ghost use Rattle.mt_program.specs.Endings.{status_for, status_of_error, status_of_stop, settled};
-ghost use Rattle.mt_program.specs.Headline.{Starts, Leaves, WholeRun, ReadRun, RunBy, NotOpened, WritesDamage};
+ghost use Rattle.mt_model.specs.Script.{CutRun, CutInReply};
+ghost use Rattle.mt_program.specs.Endings.{IsAnswered, IsEarly, LeftBy, MetNoDamage, status_of, status_of_error, status_of_stop};
+ghost use Rattle.mt_program.specs.Headline.{Starts, Leaves, WholeRunWith, ReadRun, RunBy, RunWithFaults, NotOpened, WritesDamage};
 ghost use Rattle.mt_program.specs.Streams.{ConsumesMost};
 ghost use Rattle.mt_program.specs.Words.{is_command};
 
-use crate::replies::damaged_reply;
+use crate::refusals::damaged_root;
 use crate::serving::{Ending, serve};
 use crate::status::Status;
 use crate::store::Store;
@@ -54,59 +52,57 @@ fn failed_reading(stop: ReadStop) -> Status
     }
 }
 
-/// The status of a script that was served.
-fn served_status(ending: Ending) -> Status
-    ensures { result ≡ status_for ending }
-{
-    match ending {
-        Ending::Done(false) => Status::Done,
-        Ending::Done(true) => Status::Refused,
-        Ending::NoMemory => Status::NoMemory,
-        Ending::DiskFault => Status::DiskFault,
-        Ending::Damaged => Status::Damaged,
-        Ending::WriteFault => Status::WriteFault,
-    }
-}
-
-/// The status at the end. A count of faults that has risen is shown where all statements were answered.
-fn last_status(ended: Status, risen: bool) -> Status
-    ensures { result ≡ settled risen ended }
+/// The status at the end, by how the script was served. A disk's count of faults that has risen is shown where all statements
+/// were answered and none of them met damage.
+fn status_at_end(ended: Result<Ending, Status>, risen: bool) -> Status
+    ensures { result ≡ status_of risen ended }
 {
     match ended {
-        Status::Done | Status::Refused if risen => Status::DiskFault,
-        _ => ended,
+        Ok(Ending::Done(tally)) if tally.damaged => Status::Damaged,
+        Ok(Ending::Done(_)) if risen => Status::DiskFault,
+        Ok(Ending::Done(tally)) if tally.refused => Status::Refused,
+        Ok(Ending::Done(_)) => Status::Done,
+        Ok(Ending::NoMemory) => Status::NoMemory,
+        Ok(Ending::WriteFault) => Status::WriteFault,
+        Err(status) => status,
     }
 }
 
-/// Reads the script and answers its statements, over a root without names.
+/// Reads the script and answers its statements, over a root without names. `opened` is the disk's count when the root was opened.
+///
+/// The status of a script that was not read.
 fn run_script<D: Disk, A: Annals, S: Source, K: Sink, G: Gate>(
     alloc: Global,
+    opened: u64,
     source: &mut S,
     sink: &mut K,
     disk: &mut D,
     arm: &mut D::Arm,
     annals: &mut A,
     gate: &mut G,
-) -> Status
-    requires { ForSome (D.told disk.old) (λ told. root.names_of told ≡ []) }
-    ensures leaves { (kept : Told) (script before : List ℕ) → A.told annals.old ≡ Some kept → kept.list ≡ [] → D.Arm.tells arm.old ≡ true
-        → S.left source.old ≡ Some script → K.written sink.old ≡ Some before → Leaves (RunBy result) kept script before (A.told annals.new) (K.written sink.new) }
-    ensures sound { (kept : Told) → A.told annals.old ≡ Some kept → kept.list ≡ [] → D.Arm.tells arm.old ≡ true → result ≡ Status.Damaged → ⊥ }
-    ensures whole { (script : List ℕ) → S.left source.old ≡ Some script → (result ≡ Status.Done) ⊎ (result ≡ Status.Refused) → (length script < 2 ^ 40) × (S.left source.new ≡ Some []) }
-    ensures words { result ≡ Status.NotWords → ⊥ }
-    ensures read { result ≡ Status.ReadFault → Rose (S.failed source.old) (S.failed source.new) }
-    ensures write { result ≡ Status.WriteFault → Rose (K.failed sink.old) (K.failed sink.new) }
-    ensures disk { result ≡ Status.DiskFault → OneRose (D.failed disk.old) (D.failed disk.new) (D.Arm.failed arm.old) (D.Arm.failed arm.new) }
-    ensures long { result ≡ Status.TooLong → ConsumesMost (S.left source.old) (S.left source.new) }
+) -> Result<Ending, Status>
+    requires empty { ForSome (D.told disk.old) (λ told. root.names_of told ≡ []) }
+    requires opened { opened ≤ D.failed disk.old }
+    requires below { opened < 2 ^ 64 - 1 }
+    ensures leaves { (kept : Told) (script : List ℕ) → A.told annals.old ≡ Some kept → kept.list ≡ [] → D.Arm.tells arm.old ≡ true → S.left source.old ≡ Some script
+        → LeftBy result kept script opened (D.failed disk.new) (D.Arm.failed arm.new) (A.told annals.new) (K.written sink.old) (K.written sink.new) }
+    ensures sound { (kept : Told) → A.told annals.old ≡ Some kept → kept.list ≡ [] → D.Arm.tells arm.old ≡ true → MetNoDamage result }
+    ensures whole { (script : List ℕ) → S.left source.old ≡ Some script → OnOk result ((length script < 2 ^ 40) × (S.left source.new ≡ Some [])) }
+    ensures early { IfErr result IsEarly }
+    ensures read { IsErrOf result Status.ReadFault → Rose (S.failed source.old) (S.failed source.new) }
+    ensures disk { IsErrOf result Status.DiskFault → Rose (D.failed disk.old) (D.failed disk.new) }
+    ensures long { IsErrOf result Status.TooLong → ConsumesMost (S.left source.old) (S.left source.new) }
+    ensures write { result ≡ Ok Ending.WriteFault → Rose (K.failed sink.old) (K.failed sink.new) }
     ensures disk_later { D.failed disk.old ≤ D.failed disk.new }
     ensures arm_later { D.Arm.failed arm.old ≤ D.Arm.failed arm.new }
 {
     let text = match read_all(alloc, source) {
         Ok(text) => text,
-        Err(stop) => return failed_reading(stop),
+        Err(stop) => return Err(failed_reading(stop)),
     };
-    let mut store = Store::new(alloc);
-    served_status(serve(alloc, &mut store, disk, arm, annals, sink, gate, &text))
+    let mut store = Store::new(alloc, opened);
+    let ending = serve(alloc, &mut store, disk, arm, annals, sink, gate, &text);
+    Ok(ending)
 }
 
 /// Writes the line that names what keeps the root from being opened.
@@ -114,7 +110,7 @@ fn refuse_root<K: Sink>(alloc: Global, sink: &mut K, name: &Name) -> Status
     ensures writes { WritesDamage result name.now (K.failed sink.old) (K.failed sink.new) (K.written sink.old) (K.written sink.new) }
     ensures status { (result ≡ Status.Damaged) ⊎ (result ≡ Status.NoMemory) }
 {
-    let line = match damaged_reply(alloc, name.as_slice()) {
+    let line = match damaged_root(alloc, name.as_slice()) {
         Ok(line) => line,
         Err(_) => return Status::NoMemory,
     };
@@ -124,40 +120,45 @@ fn refuse_root<K: Sink>(alloc: Global, sink: &mut K, name: &Name) -> Status
     }
 }
 
-/// Runs a script where the root has no name.
+/// Runs a script where the root has no name. `opened` is the disk's count when the root was opened.
+///
+/// The status of a script that was not read, of a root that was not listed, and of one that has a name.
 fn run_listed<D: Disk, A: Annals, S: Source, K: Sink, G: Gate>(
     alloc: Global,
+    opened: u64,
     source: &mut S,
     sink: &mut K,
     disk: &mut D,
     arm: &mut D::Arm,
     annals: &mut A,
     gate: &mut G,
-) -> Status
-    ensures leaves { (kept : Told) (told : root.Told) (script before : List ℕ) → A.told annals.old ≡ Some kept → kept.list ≡ [] → D.told disk.old ≡ Some told → root.names_of told ≡ []
-        → D.Arm.tells arm.old ≡ true → S.left source.old ≡ Some script → K.written sink.old ≡ Some before → Leaves (RunBy result) kept script before (A.told annals.new) (K.written sink.new) }
+) -> Result<Ending, Status>
+    requires opened { opened ≤ D.failed disk.old }
+    requires below { opened < 2 ^ 64 - 1 }
+    ensures leaves { (kept : Told) (told : root.Told) (script : List ℕ) → A.told annals.old ≡ Some kept → kept.list ≡ [] → D.told disk.old ≡ Some told → root.names_of told ≡ []
+        → D.Arm.tells arm.old ≡ true → S.left source.old ≡ Some script
+        → LeftBy result kept script opened (D.failed disk.new) (D.Arm.failed arm.new) (A.told annals.new) (K.written sink.old) (K.written sink.new) }
     ensures opening { (told : root.Told) (first : List ℕ × Files) (others : root.Names) → D.told disk.old ≡ Some told → root.names_of told ≡ first ∷ others
-        → WritesDamage result first.0 (K.failed sink.old) (K.failed sink.new) (K.written sink.old) (K.written sink.new)
+        → IsErrAnd result (λ ended. WritesDamage ended first.0 (K.failed sink.old) (K.failed sink.new) (K.written sink.old) (K.written sink.new))
         × (D.told disk.new ≡ D.told disk.old) × (A.told annals.new ≡ A.told annals.old) }
-    ensures sound { (kept : Told) (told : root.Told) → A.told annals.old ≡ Some kept → kept.list ≡ [] → D.told disk.old ≡ Some told → root.names_of told ≡ [] → D.Arm.tells arm.old ≡ true → result ≡ Status.Damaged → ⊥ }
-    ensures whole { (script : List ℕ) → S.left source.old ≡ Some script → (result ≡ Status.Done) ⊎ (result ≡ Status.Refused) → (length script < 2 ^ 40) × (S.left source.new ≡ Some []) }
-    ensures words { result ≡ Status.NotWords → ⊥ }
-    ensures read { result ≡ Status.ReadFault → Rose (S.failed source.old) (S.failed source.new) }
-    ensures write { result ≡ Status.WriteFault → Rose (K.failed sink.old) (K.failed sink.new) }
-    ensures disk { result ≡ Status.DiskFault → OneRose (D.failed disk.old) (D.failed disk.new) (D.Arm.failed arm.old) (D.Arm.failed arm.new) }
-    ensures long { result ≡ Status.TooLong → ConsumesMost (S.left source.old) (S.left source.new) }
+    ensures sound { (kept : Told) (told : root.Told) → A.told annals.old ≡ Some kept → kept.list ≡ [] → D.told disk.old ≡ Some told → root.names_of told ≡ [] → D.Arm.tells arm.old ≡ true → MetNoDamage result }
+    ensures whole { (script : List ℕ) → S.left source.old ≡ Some script → OnOk result ((length script < 2 ^ 40) × (S.left source.new ≡ Some [])) }
+    ensures early { IfErr result IsEarly }
+    ensures read { IsErrOf result Status.ReadFault → Rose (S.failed source.old) (S.failed source.new) }
+    ensures disk { IsErrOf result Status.DiskFault → Rose (D.failed disk.old) (D.failed disk.new) }
+    ensures long { IsErrOf result Status.TooLong → ConsumesMost (S.left source.old) (S.left source.new) }
+    ensures write { result ≡ Ok Ending.WriteFault → Rose (K.failed sink.old) (K.failed sink.new) }
     ensures disk_later { D.failed disk.old ≤ D.failed disk.new }
     ensures arm_later { D.Arm.failed arm.old ≤ D.Arm.failed arm.new }
 {
     let names = match disk.list(alloc) {
         Ok(names) => names,
-        Err(error) => return failed_opening(error),
+        Err(error) => return Err(failed_opening(error)),
     };
-    if names.is_empty() {
-        run_script(alloc, source, sink, disk, arm, annals, gate)
-    } else {
-        refuse_root(alloc, sink, &names[0])
+    if !names.is_empty() {
+        return Err(refuse_root(alloc, sink, &names[0]));
     }
+    run_script(alloc, opened, source, sink, disk, arm, annals, gate)
 }
 
 /// Opens the root and runs the script. The arm is given back in each case.
@@ -171,23 +172,24 @@ fn run_opened<D: Disk, A: Annals, S: Source, K: Sink, G: Gate>(
     gate: &mut G,
 ) -> Status
     ensures leaves { (kept : Told) (told : root.Told) (script before : List ℕ) → A.told annals.old ≡ Some kept → kept.list ≡ [] → D.told disk.old ≡ Some told → root.names_of told ≡ []
-        → S.left source.old ≡ Some script → K.written sink.old ≡ Some before → Leaves (RunBy result) kept script before (A.told annals.new) (K.written sink.new) }
+        → S.left source.old ≡ Some script → K.written sink.old ≡ Some before
+        → Leaves (RunBy result (record { opened = D.failed disk.old; ended = D.failed disk.new })) kept script before (A.told annals.new) (K.written sink.new) }
     ensures opening { (told : root.Told) (first : List ℕ × Files) (others : root.Names) → D.told disk.old ≡ Some told → root.names_of told ≡ first ∷ others
         → WritesDamage result first.0 (K.failed sink.old) (K.failed sink.new) (K.written sink.old) (K.written sink.new)
         × (D.told disk.new ≡ D.told disk.old) × (A.told annals.new ≡ A.told annals.old) }
     ensures sound { (kept : Told) (told : root.Told) → A.told annals.old ≡ Some kept → kept.list ≡ [] → D.told disk.old ≡ Some told → root.names_of told ≡ [] → result ≡ Status.Damaged → ⊥ }
     ensures full { D.failed disk.old ≡ 2 ^ 64 - 1 → result ≡ Status.DiskFault }
-    ensures whole { (script : List ℕ) → S.left source.old ≡ Some script → (result ≡ Status.Done) ⊎ (result ≡ Status.Refused) → (length script < 2 ^ 40) × (S.left source.new ≡ Some []) }
+    ensures whole { (script : List ℕ) → S.left source.old ≡ Some script → IsAnswered result → (length script < 2 ^ 40) × (S.left source.new ≡ Some []) }
     ensures words { result ≡ Status.NotWords → ⊥ }
     ensures read { result ≡ Status.ReadFault → Rose (S.failed source.old) (S.failed source.new) }
     ensures write { result ≡ Status.WriteFault → Rose (K.failed sink.old) (K.failed sink.new) }
     ensures disk { result ≡ Status.DiskFault → Rose (D.failed disk.old) (D.failed disk.new) }
     ensures long { result ≡ Status.TooLong → ConsumesMost (S.left source.old) (S.left source.new) }
-    ensures calm { (result ≡ Status.Done) ⊎ (result ≡ Status.Refused) → D.failed disk.new ≡ D.failed disk.old }
+    ensures calm { IsAnswered result → D.failed disk.new ≡ D.failed disk.old }
     ensures later { D.failed disk.old ≤ D.failed disk.new }
 {
-    let failed = disk.faults();
-    if failed == u64::MAX {
+    let opened = disk.faults();
+    if opened == u64::MAX {
         return Status::DiskFault;
     }
     if let Err(error) = disk.start(path) {
@@ -197,16 +199,16 @@ fn run_opened<D: Disk, A: Annals, S: Source, K: Sink, G: Gate>(
         Ok(arm) => arm,
         Err(error) => return failed_opening(error),
     };
-    let ended = run_listed(alloc, source, sink, disk, &mut arm, annals, gate);
+    let ended = run_listed(alloc, opened, source, sink, disk, &mut arm, annals, gate);
     disk.take_back(arm);
-    last_status(ended, failed < disk.faults())
+    status_at_end(ended, opened < disk.faults())
 }
 
 /// Runs a script over an empty root, and refuses a root that has a name.
 ///
-/// The status is 0 where all statements were answered, 1 where one of them was refused, 2 where the words are no command line,
-/// 3 where the source failed, 4 where the sink failed, 5 where a call on the disk failed, 6 for want of memory,
-/// 7 where the root has a name or a column file is not of its format, and 8 where 2^40 bytes were read and no end was met.
+/// The status is 0 where all statements were answered, 1 where one of them was refused for what the script says, 2 where the words
+/// are no command line, 3 where the source failed, 4 where the sink failed, 5 where the disk's count of faults rose, 6 for want of
+/// memory, 7 where the root has a name or a part's file is damaged, and 8 where 2^40 bytes were read and no end was met.
 pub fn run<R: Threads + Wait + Sync, D: Disk, A: Annals, S: Source, K: Sink, G: Gate>(
     _rt: &R,
     alloc: Global,
@@ -218,19 +220,19 @@ pub fn run<R: Threads + Wait + Sync, D: Disk, A: Annals, S: Source, K: Sink, G: 
     gate: &mut G,
 ) -> Done<D, A>
     ensures all_answered { (kept : Told) (script before : List ℕ) → Starts (D.told disk) (A.told annals) (S.left source.old) (K.written sink.old) kept script before
-        → result.status ≡ 0 → Leaves (WholeRun false) kept script before (A.told result.annals) (K.written sink.new) }
+        → result.status ≡ 0 → Leaves (WholeRunWith false (record { opened = D.failed disk; ended = D.failed result.disk })) kept script before (A.told result.annals) (K.written sink.new) }
     ensures some_refused { (kept : Told) (script before : List ℕ) → Starts (D.told disk) (A.told annals) (S.left source.old) (K.written sink.old) kept script before
-        → result.status ≡ 1 → Leaves (WholeRun true) kept script before (A.told result.annals) (K.written sink.new) }
+        → result.status ≡ 1 → Leaves (WholeRunWith true (record { opened = D.failed disk; ended = D.failed result.disk })) kept script before (A.told result.annals) (K.written sink.new) }
     ensures source_failed { (kept : Told) (script before : List ℕ) → Starts (D.told disk) (A.told annals) (S.left source.old) (K.written sink.old) kept script before
-        → result.status ≡ 3 → Leaves (ReadRun (S.left source.new) script) kept script before (A.told result.annals) (K.written sink.new) }
+        → result.status ≡ 3 → Leaves (ReadRun (S.left source.new) script (record { opened = D.failed disk; ended = D.failed result.disk })) kept script before (A.told result.annals) (K.written sink.new) }
     ensures sink_failed { (kept : Told) (script before : List ℕ) → Starts (D.told disk) (A.told annals) (S.left source.old) (K.written sink.old) kept script before
-        → result.status ≡ 4 → Leaves CutInReply kept script before (A.told result.annals) (K.written sink.new) }
+        → result.status ≡ 4 → Leaves (CutInReply (record { opened = D.failed disk; ended = D.failed result.disk })) kept script before (A.told result.annals) (K.written sink.new) }
     ensures disk_failed { (kept : Told) (script before : List ℕ) → Starts (D.told disk) (A.told annals) (S.left source.old) (K.written sink.old) kept script before
-        → result.status ≡ 5 → Leaves FrontRun kept script before (A.told result.annals) (K.written sink.new) }
+        → result.status ≡ 5 → Leaves (RunWithFaults (record { opened = D.failed disk; ended = D.failed result.disk })) kept script before (A.told result.annals) (K.written sink.new) }
     ensures out_of_memory { (kept : Told) (script before : List ℕ) → Starts (D.told disk) (A.told annals) (S.left source.old) (K.written sink.old) kept script before
-        → result.status ≡ 6 → Leaves CutRun kept script before (A.told result.annals) (K.written sink.new) }
+        → result.status ≡ 6 → Leaves (CutRun (record { opened = D.failed disk; ended = D.failed result.disk })) kept script before (A.told result.annals) (K.written sink.new) }
     ensures too_long { (kept : Told) (script before : List ℕ) → Starts (D.told disk) (A.told annals) (S.left source.old) (K.written sink.old) kept script before
-        → result.status ≡ 8 → Leaves (ReadRun (S.left source.new) script) kept script before (A.told result.annals) (K.written sink.new) }
+        → result.status ≡ 8 → Leaves (ReadRun (S.left source.new) script (record { opened = D.failed disk; ended = D.failed result.disk })) kept script before (A.told result.annals) (K.written sink.new) }
     ensures opening { (told : root.Told) (first : List ℕ × Files) (others : root.Names) → D.told disk ≡ Some told → root.names_of told ≡ first ∷ others
         → NotOpened result.status first.0 (K.failed sink.old) (K.failed sink.new) (K.written sink.old) (K.written sink.new)
         × (D.told result.disk ≡ D.told disk) × (A.told result.annals ≡ A.told annals) }

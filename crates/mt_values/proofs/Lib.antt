@@ -6,4 +6,8 @@ pub mod Leads
 pub mod OrderBy
 pub mod Orders
 pub mod Repeats
+pub mod RowBounds
+pub mod RowValues
+pub mod ScriptBounds
 pub mod Texts
+pub mod TokenBounds

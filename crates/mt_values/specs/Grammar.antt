@@ -1,16 +1,24 @@
--- The statements of the grammar, over their tokens (docs/grammar.md, "Statements").
-use Rattle.std.specs.Prelude.{ℕ, Bool, true, false, not, ◌&&◌, ◌||◌, ◌==◌, nat_le, List, [], ◌∷◌, length, Option, Some, None, if◌then◌else◌, codes}
-use Rattle.std.specs.Option.{option_map, option_and_then}
-use Rattle.std.specs.List.{list_all}
+-- The statements of the grammar, production by production (docs/grammar.md, "Statements").
+use Rattle.std.specs.Prelude.{ℕ, Bool, true, false, ◌&&◌, ◌||◌, ◌==◌, nat_le, nat_lt, List, [], ◌∷◌, ◌++◌, length, Result, Ok, Err, if◌then◌else◌, codes}
 use Rattle.std.specs.Cmp.Lexicographic.{pointwise}
 use Rattle.mt_values.specs.declared.value.ColType.{ColType}
 use Rattle.mt_values.specs.declared.value.ColType.TheVariants as type
 use Rattle.mt_values.specs.declared.schema.Column.{Column}
+use Rattle.mt_values.specs.declared.token.Placed.{Placed}
+use Rattle.mt_values.specs.declared.token.Symbol.{Symbol}
+use Rattle.mt_values.specs.declared.token.Symbol.TheVariants as symbol
 use Rattle.mt_values.specs.declared.token.Token.{Token}
-use Rattle.mt_values.specs.declared.token.Token.TheVariants.{Word, Open, Close, Comma, Equal, Star}
+use Rattle.mt_values.specs.declared.token.Token.TheVariants as token
+use Rattle.mt_values.specs.declared.statement.Cause.{Cause}
+use Rattle.mt_values.specs.declared.statement.Cause.TheVariants as cause
+use Rattle.mt_values.specs.declared.statement.Selected.{Selected}
+use Rattle.mt_values.specs.declared.statement.Selected.TheVariants as selected
+use Rattle.mt_values.specs.declared.statement.Slip.{Slip}
+use Rattle.mt_values.specs.declared.statement.Slip.TheVariants as slip
 use Rattle.mt_values.specs.declared.statement.Statement.{Statement}
 use Rattle.mt_values.specs.declared.statement.Statement.TheVariants as statement
-use Rattle.mt_values.specs.Tokens.{tokens_of, is_keyword, first_token}
+use Rattle.mt_values.specs.Tokens.{is_keyword, tokens_of}
+use Rattle.mt_values.specs.Readers.{Reader, Reading, Test, Part, done, expect, choose, listed}
 
 -- equal bytes
 abbrev pub same_bytes : List ℕ → List ℕ → Bool
@@ -22,103 +30,214 @@ is_reserved word =
     is_keyword (codes "AND") word || is_keyword (codes "OR") word || is_keyword (codes "NOT") word || is_keyword (codes "IN") word
     || is_keyword (codes "FROM") word || is_keyword (codes "FINAL") word || is_keyword (codes "WHERE") word || is_keyword (codes "INDEX") word
 
--- a type as it is written
-abbrev pub type_named : List ℕ → Option ColType
-type_named word =
-    if same_bytes word (codes "UInt8") then Some type.UInt8
-    else if same_bytes word (codes "String") then Some type.Text
-    else None
-
--- one column of the list of columns: its name and its type
-abbrev pub column_of_words : List ℕ → List ℕ → Option Column
-column_of_words name word =
-    if is_reserved name then None
-    else option_map (λ t. record { name = name; col_type = t }) (type_named word)
-
--- a list of one column, and what follows it
-abbrev pub with_column : List Token → Column → Option (List Column × List Token)
-with_column rest c = Some (c ∷ [], rest)
-
--- a column in front of a list of columns and what follows it
-abbrev pub put_column : Option (List Column × List Token) → Column → Option (List Column × List Token)
-put_column None c = None
-put_column (Some found) c = Some (c ∷ found.0, found.1)
-
--- columns = name type { "," name type } ")", and the tokens that follow them
-abbrev pub columns_of : List Token → Option (List Column × List Token)
-columns_of (Word name ∷ Word word ∷ Comma ∷ ts) = option_and_then (put_column (columns_of ts)) (column_of_words name word)
-columns_of (Word name ∷ Word word ∷ Close ∷ ts) = option_and_then (with_column ts) (column_of_words name word)
-columns_of ts = None
-
--- clauses = ENGINE "=" MergeTree ORDER BY name: the name
-abbrev pub key_of_clauses : List Token → Option (List ℕ)
-key_of_clauses (Word e ∷ Equal ∷ Word m ∷ Word o ∷ Word b ∷ Word name ∷ []) =
-    if is_keyword (codes "ENGINE") e && same_bytes m (codes "MergeTree") && is_keyword (codes "ORDER") o && is_keyword (codes "BY") b && not (is_reserved name)
-    then Some name else None
-key_of_clauses ts = None
-
 -- a name has at most 64 bytes
 abbrev pub fits_name : List ℕ → Bool
 fits_name name = nat_le (length name) 64
 
 -- a statement has at most 1 MiB from its first token up to the semicolon
-abbrev pub fits_statement : List ℕ → Bool
-fits_statement text = nat_le (length text) 1048576
+abbrev pub statement_limit : ℕ
+statement_limit = 1048576
 
--- a statement whose names and length are within their bounds, or one that is past them
-abbrev pub within : Bool → Statement → Statement
-within true s = s
-within false s = statement.Oversized
+-- ---- single tokens
 
-abbrev pub created : List ℕ → List ℕ → List Column → List ℕ → Statement
-created text table columns key =
-    within (fits_statement text && fits_name table && list_all (λ (c : Column). fits_name c.name) columns && fits_name key)
-    (statement.Create (record { text = text; table = table; columns = columns; key = key ∷ [] }))
+-- a word that passes a test
+abbrev pub is_word : (List ℕ → Bool) → Token → Bool
+is_word test (token.Word w) = test w
+is_word test (token.Number n) = false
+is_word test (token.Text t) = false
+is_word test (token.Symbol s) = false
+is_word test token.Stray = false
 
--- create = CREATE TABLE name "(" columns clauses
-abbrev pub create_of : List ℕ → List Token → Option Statement
-create_of text (Word c ∷ Word t ∷ Word table ∷ Open ∷ ts) =
-    if is_keyword (codes "CREATE") c && is_keyword (codes "TABLE") t && not (is_reserved table)
-    then option_and_then (λ found. option_map (created text table found.0) (key_of_clauses found.1)) (columns_of ts)
-    else None
-create_of text ts = None
+-- both are one symbol
+abbrev pub same_symbol : Symbol → Symbol → Bool
+same_symbol symbol.Open symbol.Open = true
+same_symbol symbol.Close symbol.Close = true
+same_symbol symbol.Comma symbol.Comma = true
+same_symbol symbol.Equal symbol.Equal = true
+same_symbol symbol.NotEqual symbol.NotEqual = true
+same_symbol symbol.Less symbol.Less = true
+same_symbol symbol.LessOrEqual symbol.LessOrEqual = true
+same_symbol symbol.Greater symbol.Greater = true
+same_symbol symbol.GreaterOrEqual symbol.GreaterOrEqual = true
+same_symbol symbol.Star symbol.Star = true
+same_symbol symbol.Plus symbol.Plus = true
+same_symbol symbol.Minus symbol.Minus = true
+same_symbol symbol.Semicolon symbol.Semicolon = true
+same_symbol s t = false
 
--- insert = INSERT INTO name, with its data
-abbrev pub insert_of : List ℕ → List ℕ → Bool → List Token → Option Statement
-insert_of text lines ended (Word i ∷ Word o ∷ Word table ∷ []) =
-    if is_keyword (codes "INSERT") i && is_keyword (codes "INTO") o && not (is_reserved table)
-    then Some (within (fits_statement text && fits_name table) (statement.Insert (record { table = table; lines = lines; ended = ended })))
-    else None
-insert_of text lines ended ts = None
+abbrev pub is_symbol : Symbol → Token → Bool
+is_symbol s (token.Word w) = false
+is_symbol s (token.Number n) = false
+is_symbol s (token.Text t) = false
+is_symbol s (token.Symbol t) = same_symbol s t
+is_symbol s token.Stray = false
 
--- select = SELECT "*" FROM name
-abbrev pub select_of : List ℕ → List Token → Option Statement
-select_of text (Word s ∷ Star ∷ Word f ∷ Word table ∷ []) =
-    if is_keyword (codes "SELECT") s && is_keyword (codes "FROM") f && not (is_reserved table)
-    then Some (within (fits_statement text && fits_name table) (statement.Select (record { table = table })))
-    else None
-select_of text ts = None
+-- a token that passes, or a faulty one
+abbrev pub passing : Bool → Result (Unit {0}) Slip
+passing true = Ok tt
+passing false = Err slip.Wrong
 
-abbrev pub or_else : {X : Type 0} → Option X → Option X → Option X
-or_else None other = other
-or_else (Some x) other = Some x
+-- a keyword, in any case of its letters
+abbrev pub keyword : List ℕ → Test (Unit {0})
+keyword k t = passing (is_word (is_keyword k) t)
 
-abbrev pub or_faulty : Option Statement → Statement
-or_faulty None = statement.Faulty
-or_faulty (Some s) = s
+-- a word as it is written
+abbrev pub exactly : List ℕ → Test (Unit {0})
+exactly w t = passing (is_word (same_bytes w) t)
 
--- the statement that these tokens are, with its text and data
-abbrev pub statement_of_tokens : List ℕ → List ℕ → Bool → List Token → Option Statement
-statement_of_tokens text lines ended ts = or_else (create_of text ts) (or_else (insert_of text lines ended ts) (select_of text ts))
+abbrev pub the : Symbol → Test (Unit {0})
+the s t = passing (is_symbol s t)
 
--- the statement that a text is, from its first token up to its semicolon, with its data; faulty where it is none of the grammar
-abbrev pub statement_of : List ℕ → List ℕ → Bool → Statement
-statement_of text lines ended = or_faulty (option_and_then (statement_of_tokens text lines ended) (tokens_of text))
+abbrev pub name_of : List ℕ → Result (List ℕ) Slip
+name_of word =
+    if is_reserved word then Err slip.Wrong
+    else if fits_name word then Ok word
+    else Err slip.LongName
+
+-- a name: a word that is not reserved, and not too long
+abbrev pub name : Test (List ℕ)
+name (token.Word w) = name_of w
+name (token.Number n) = Err slip.Wrong
+name (token.Text t) = Err slip.Wrong
+name (token.Symbol s) = Err slip.Wrong
+name token.Stray = Err slip.Wrong
+
+-- a type as it is written
+abbrev pub type_named : List ℕ → Result ColType Slip
+type_named word =
+    if same_bytes word (codes "UInt8") then Ok type.UInt8
+    else if same_bytes word (codes "UInt16") then Ok type.UInt16
+    else if same_bytes word (codes "UInt32") then Ok type.UInt32
+    else if same_bytes word (codes "UInt64") then Ok type.UInt64
+    else if same_bytes word (codes "Int8") then Ok type.Int8
+    else if same_bytes word (codes "Int16") then Ok type.Int16
+    else if same_bytes word (codes "Int32") then Ok type.Int32
+    else if same_bytes word (codes "Int64") then Ok type.Int64
+    else if same_bytes word (codes "String") then Ok type.Text
+    else Err slip.Wrong
+
+abbrev pub plain : Test ColType
+plain (token.Word w) = type_named w
+plain (token.Number n) = Err slip.Wrong
+plain (token.Text t) = Err slip.Wrong
+plain (token.Symbol s) = Err slip.Wrong
+plain token.Stray = Err slip.Wrong
+
+-- ---- parts of statements
+
+-- x { "," x }
+abbrev pub list_of : {S X : Type 0} → Part S X → Part S (List X)
+list_of item = listed (is_symbol symbol.Comma) (the symbol.Comma) item
+
+abbrev pub one_name : {S : Type 0} → Part S (List ℕ)
+one_name next = expect name next
+
+-- element = name plain
+abbrev pub column : {S : Type 0} → Part S Column
+column next = expect name (λ n. expect plain (λ t. next (record { name = n; col_type = t })))
+
+-- engine = MergeTree [ "(" ")" ]
+abbrev pub engine : {S : Type 0} → Reader S → Reader S
+engine next =
+    expect (exactly (codes "MergeTree")) (λ _.
+    choose (is_symbol symbol.Open) (expect (the symbol.Open) (λ _. expect (the symbol.Close) (λ _. next))) next)
+
+-- key = name | "(" name { "," name } ")"
+abbrev pub key : {S : Type 0} → Part S (List (List ℕ))
+key next =
+    choose (is_symbol symbol.Open)
+    (expect (the symbol.Open) (λ _. list_of one_name (λ names. expect (the symbol.Close) (λ _. next names))))
+    (expect name (λ n. next (n ∷ [])))
+
+-- clauses = ORDER BY key
+abbrev pub clauses : {S : Type 0} → Part S (List (List ℕ))
+clauses next = expect (keyword (codes "ORDER")) (λ _. expect (keyword (codes "BY")) (λ _. key next))
+
+-- the semicolon that ends a statement
+abbrev pub ends : {S : Type 0} → S → Reader S
+ends s = expect (the symbol.Semicolon) (λ _. done s)
+
+-- format = TabSeparated | TSV
+abbrev pub is_format : List ℕ → Bool
+is_format w = same_bytes w (codes "TabSeparated") || same_bytes w (codes "TSV")
+
+abbrev pub format : Test (Unit {0})
+format t = passing (is_word is_format t)
+
+-- selected = "*" | name { "," name }
+abbrev pub selection : {S : Type 0} → Part S Selected
+selection next =
+    choose (is_symbol symbol.Star)
+    (expect (the symbol.Star) (λ _. next selected.All))
+    (list_of one_name (λ names. next (selected.Named names)))
+
+-- ---- statements, each with the semicolon that ends it
+
+-- create = CREATE TABLE name "(" element { "," element } ")" ENGINE "=" engine clauses
+abbrev pub create : List ℕ → Reader Statement
+create text =
+    expect (keyword (codes "CREATE")) (λ _. expect (keyword (codes "TABLE")) (λ _. expect name (λ table.
+    expect (the symbol.Open) (λ _. list_of column (λ columns. expect (the symbol.Close) (λ _.
+    expect (keyword (codes "ENGINE")) (λ _. expect (the symbol.Equal) (λ _. engine (clauses (λ names.
+    ends (statement.Create (record { text = text; table = table; columns = columns; key = names }))))))))))))
+
+-- insert = INSERT INTO name [ FORMAT format ]
+abbrev pub insert : List ℕ → Bool → Reader Statement
+insert lines ended =
+    expect (keyword (codes "INSERT")) (λ _. expect (keyword (codes "INTO")) (λ _. expect name (λ table.
+    choose (is_word (is_keyword (codes "FORMAT")))
+    (expect (keyword (codes "FORMAT")) (λ _. expect format (λ _. ends (statement.Insert (record { table = table; lines = lines; ended = ended })))))
+    (ends (statement.Insert (record { table = table; lines = lines; ended = ended }))))))
+
+-- select = SELECT selected FROM name
+abbrev pub select : Reader Statement
+select =
+    expect (keyword (codes "SELECT")) (λ _. selection (λ columns. expect (keyword (codes "FROM")) (λ _. expect name (λ table.
+    ends (statement.Select (record { columns = columns; table = table }))))))
+
+-- a statement of this text, with its data
+abbrev pub statement_reader : List ℕ → List ℕ → Bool → Reader Statement
+statement_reader text lines ended =
+    choose (is_word (is_keyword (codes "CREATE"))) (create text)
+    (choose (is_word (is_keyword (codes "INSERT"))) (insert lines ended) select)
+
+-- ---- texts
+
+-- the tokens of a statement's text, and the semicolon that ends it, where one does
+abbrev pub tokens_and_end : List ℕ → Bool → List Placed
+tokens_and_end text true = tokens_of text ++ record { at = length text; token = token.Symbol symbol.Semicolon } ∷ []
+tokens_and_end text false = tokens_of text
+
+-- the place of the first of these tokens, or else the end of a text of this size
+abbrev pub place_of_first : ℕ → List Placed → ℕ
+place_of_first size [] = size
+place_of_first size (p ∷ ps) = p.at
+
+abbrev pub cause_at : Slip → ℕ → Cause
+cause_at slip.Wrong place = cause.Grammar place
+cause_at slip.LongName place = cause.LongName
+
+-- the bound on a statement's length stands before the fault; where both stand at one place, a fault of the grammar comes first
+abbrev pub is_behind_limit : Slip → ℕ → Bool
+is_behind_limit slip.Wrong place = nat_lt statement_limit place
+is_behind_limit slip.LongName place = nat_le statement_limit place
+
+abbrev pub refused_at : ℕ → Slip → ℕ → Cause
+refused_at size s place = if nat_lt statement_limit size && is_behind_limit s place then cause.LongStatement else cause_at s place
+
+-- the statement that a text of this size is; what it is refused for is what comes first in it
+abbrev pub statement_read : ℕ → Reading Statement → Result Statement Cause
+statement_read size (Ok s) = if nat_lt statement_limit size then Err cause.LongStatement else Ok s
+statement_read size (Err fault) = Err (refused_at size fault.0 (place_of_first size fault.1))
+
+-- the statement that a text is, from its first token up to the semicolon that ends it, where one does, with its data
+abbrev pub statement_of : List ℕ → Bool → List ℕ → Bool → Result Statement Cause
+statement_of text terminated lines ended = statement_read (length text) (statement_reader text lines ended (tokens_and_end text terminated))
 
 -- data follows a statement whose first token is INSERT, whatever else is wrong with it
-abbrev pub is_insert_word : Option (Token × List ℕ) → Bool
-is_insert_word (Some (Word w, rest)) = is_keyword (codes "INSERT") w
-is_insert_word found = false
+abbrev pub begins_insert : List Placed → Bool
+begins_insert [] = false
+begins_insert (p ∷ ps) = is_word (is_keyword (codes "INSERT")) p.token
 
 abbrev pub takes_data : List ℕ → Bool
-takes_data text = is_insert_word (first_token text)
+takes_data text = begins_insert (tokens_of text)

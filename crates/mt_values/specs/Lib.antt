@@ -2,12 +2,15 @@ pub mod Annals
 pub mod Cells
 pub mod ColumnBytes
 pub mod Columns
+pub mod Escapes
 pub mod Files
 pub mod Grammar
 pub mod Grid
 pub mod Lists
+pub mod Manifests
 pub mod Order
 pub mod Printing
+pub mod Readers
 pub mod RootNames
 pub mod Rows
 pub mod Schemas

@@ -1,5 +1,6 @@
 -- The text of rows and numbers (ClickHouse, formats: TabSeparated; docs/replies.md).
-use Rattle.std.specs.Prelude.{ℕ, ◌==◌, List, [], ◌∷◌, ◌++◌, flat_map, if◌then◌else◌}
+use Rattle.std.specs.Prelude.{ℕ, ◌==◌, List, [], ◌∷◌, ◌++◌, flat_map, slice_get, if◌then◌else◌}
+use Rattle.std.specs.List.{filter_map}
 use Rattle.std.specs.Fmt.{decimal, signed_decimal}
 use Rattle.mt_values.specs.declared.value.Value.{Value}
 use Rattle.mt_values.specs.declared.value.Value.TheVariants as value
@@ -39,3 +40,7 @@ fields (v ∷ w ∷ vs) = field v ++ 9 ∷ fields (w ∷ vs)
 -- a row as a line
 abbrev pub line : Row → List ℕ
 line row = fields row ++ 10 ∷ []
+
+-- the values of a row at chosen columns, in the order of the choice; a column may be chosen twice
+abbrev pub selected : List ℕ → Row → Row
+selected columns row = filter_map (slice_get row) columns

@@ -1,5 +1,5 @@
 -- The rows of an INSERT's data (ClickHouse, formats: TabSeparated; docs/grammar.md, "Data").
-use Rattle.std.specs.Prelude.{ℕ, suc, zero, ◌+◌, ◌-◌, ◌*◌, Bool, false, not, ◌&&◌, ◌==◌, nat_le, List, [], ◌∷◌, length, fold, Option, Some, None, if◌then◌else◌}
+use Rattle.std.specs.Prelude.{ℕ, suc, zero, ℤ, pos, negsuc, ◌+◌, ◌-◌, ◌*◌, ◌^◌, Bool, false, not, ◌&&◌, ◌==◌, nat_le, List, [], ◌∷◌, length, fold, Option, Some, None, Result, Ok, Err, if◌then◌else◌}
 use Rattle.std.specs.List.{list_all}
 use Rattle.std.specs.Option.{option_map, option_and_then}
 use Rattle.std.specs.Char.{is_ascii_digit}
@@ -7,9 +7,18 @@ use Rattle.mt_values.specs.declared.value.ColType.{ColType}
 use Rattle.mt_values.specs.declared.value.ColType.TheVariants as type
 use Rattle.mt_values.specs.declared.value.Value.{Value}
 use Rattle.mt_values.specs.declared.value.Value.TheVariants as value
+use Rattle.mt_values.specs.declared.row_fault.DataFault.{DataFault}
+use Rattle.mt_values.specs.declared.row_fault.DataFault.TheVariants as data_fault
+use Rattle.mt_values.specs.declared.row_fault.FieldFault.{FieldFault}
+use Rattle.mt_values.specs.declared.row_fault.FieldFault.TheVariants as field_fault
+use Rattle.mt_values.specs.declared.row_fault.RowFault.{RowFault}
+use Rattle.mt_values.specs.declared.row_fault.RowFault.TheVariants as row_fault
 use Rattle.mt_values.specs.Values.{Row}
-use Rattle.mt_values.specs.Script.{line_from, takes_next}
+use Rattle.mt_values.specs.Escapes.{escape_of}
 use Rattle.mt_values.specs.Lists.{in_front}
+use Rattle.mt_values.specs.Script.{line_from, takes_next}
+
+-- ---- fields
 
 -- a byte in front of the first of some fields
 abbrev pub onto_first : ℕ → List (List ℕ) → List (List ℕ)
@@ -22,6 +31,8 @@ fields_from taken [] = [] ∷ []
 fields_from taken (b ∷ bs) =
     if not taken && b == 9 then [] ∷ fields_from false bs
     else onto_first b (fields_from (takes_next taken b) bs)
+
+-- ---- numbers
 
 -- the number that decimal digits say
 abbrev pub number_of : List ℕ → ℕ
@@ -38,47 +49,112 @@ abbrev pub unsigned_up_to : ℕ → List ℕ → Option ℕ
 unsigned_up_to most [] = None
 unsigned_up_to most (b ∷ bs) = if b == 43 then digits_up_to most bs else digits_up_to most (b ∷ bs)
 
--- a byte that stands for itself: from a space to a tilde, but no quote and no backslash
-abbrev pub is_plain : ℕ → Bool
-is_plain b = nat_le 32 b && nat_le b 126 && not (b == 39) && not (b == 92)
+-- a number with a minus in front
+abbrev pub minus : ℕ → ℤ
+minus zero = pos zero
+minus (suc n) = negsuc n
 
--- a text of at most 1 MiB of plain bytes
-abbrev pub plain_text : List ℕ → Option (List ℕ)
-plain_text bytes = if list_all is_plain bytes && nat_le (length bytes) 1048576 then Some bytes else None
+-- a signed number whose least is the negative of this one and whose greatest is one less: an optional plus or minus, then digits
+abbrev pub signed_below : ℕ → List ℕ → Option ℤ
+signed_below end [] = None
+signed_below end (b ∷ bs) =
+    if b == 45 then option_map minus (digits_up_to end bs)
+    else option_map pos (unsigned_up_to (end - 1) (b ∷ bs))
 
--- the value of a field of a column's type; none where the field is not of it
-abbrev pub value_of_field : ColType → List ℕ → Option Value
-value_of_field type.UInt8 field = option_map value.UInt8 (unsigned_up_to 255 field)
-value_of_field type.Text field = option_map value.Text (plain_text field)
-value_of_field t field = None
+-- ---- texts
 
--- the row of fields, one for each type
-abbrev pub row_of_fields : List ColType → List (List ℕ) → Option Row
-row_of_fields [] [] = Some []
-row_of_fields (t ∷ ts) (f ∷ fs) = option_and_then (in_front (row_of_fields ts fs)) (value_of_field t f)
-row_of_fields types fields = None
+-- a byte in front of what the rest of a text says
+abbrev pub unescaped_behind : (List ℕ → Option (List ℕ)) → ℕ × List ℕ → Option (List ℕ)
+unescaped_behind more found = in_front (more found.1) found.0
 
-abbrev pub row_of_line : List ColType → List ℕ → Option Row
-row_of_line types line = row_of_fields types (fields_from false line)
+-- what a text of fewer bytes than this says, each escape for the byte that it stands for; none where an escape is faulty
+abbrev pub unescaped_within : ℕ → List ℕ → Option (List ℕ)
+unescaped_within zero text = None
+unescaped_within (suc n) [] = Some []
+unescaped_within (suc n) (b ∷ bs) =
+    if b == 92 then option_and_then (unescaped_behind (unescaped_within n)) (escape_of bs)
+    else in_front (unescaped_within n bs) b
 
--- the rows that data begins with, by its first line and what the rest gives
-abbrev pub rows_behind : (List ℕ → Option (List Row)) → List ColType → Option (List ℕ × List ℕ) → Option (List Row)
-rows_behind more types None = Some []
-rows_behind more types (Some found) = option_and_then (in_front (more found.1)) (row_of_line types found.0)
+abbrev pub unescaped : List ℕ → Option (List ℕ)
+unescaped text = unescaped_within (length text + 1) text
 
--- At most so many rows of data. What no line feed ends is no row. None where a line is no row of the types.
-abbrev pub rows_within : ℕ → List ColType → List ℕ → Option (List Row)
-rows_within zero types lines = Some []
-rows_within (suc n) types lines = rows_behind (rows_within n types) types (line_from false lines)
+-- a String has at most 1 MiB
+abbrev pub text_limit : ℕ
+text_limit = 1048576
 
--- the rows of data, which has no more of them than bytes
-abbrev pub rows_of_data : List ColType → List ℕ → Option (List Row)
-rows_of_data types lines = rows_within (length lines) types lines
+-- ---- values
+
+abbrev pub or_not_of_type : {X : Type 0} → (X → Value) → Option X → Result Value FieldFault
+or_not_of_type value None = Err field_fault.NotOfType
+or_not_of_type value (Some x) = Ok (value x)
+
+abbrev pub text_of : Option (List ℕ) → Result Value FieldFault
+text_of None = Err field_fault.NotOfType
+text_of (Some bytes) = if nat_le (length bytes) text_limit then Ok (value.Text bytes) else Err field_fault.TooLong
+
+-- the value of a field of a column's type, or why it is none
+abbrev pub value_of_field : ColType → List ℕ → Result Value FieldFault
+value_of_field type.UInt8 field = or_not_of_type value.UInt8 (unsigned_up_to (2 ^ 8 - 1) field)
+value_of_field type.UInt16 field = or_not_of_type value.UInt16 (unsigned_up_to (2 ^ 16 - 1) field)
+value_of_field type.UInt32 field = or_not_of_type value.UInt32 (unsigned_up_to (2 ^ 32 - 1) field)
+value_of_field type.UInt64 field = or_not_of_type value.UInt64 (unsigned_up_to (2 ^ 64 - 1) field)
+value_of_field type.Int8 field = or_not_of_type value.Int8 (signed_below (2 ^ 7) field)
+value_of_field type.Int16 field = or_not_of_type value.Int16 (signed_below (2 ^ 15) field)
+value_of_field type.Int32 field = or_not_of_type value.Int32 (signed_below (2 ^ 31) field)
+value_of_field type.Int64 field = or_not_of_type value.Int64 (signed_below (2 ^ 63) field)
+value_of_field type.Text field = text_of (unescaped field)
+
+-- ---- rows
+
+-- the fault of a line's field at a place, from 1
+abbrev pub fault_of_field : ℕ → ℕ → FieldFault → RowFault
+fault_of_field line place field_fault.NotOfType = row_fault.Field line place
+fault_of_field line place field_fault.TooLong = row_fault.Value
+
+abbrev pub value_onto : Result Value RowFault → Result Row RowFault → Result Row RowFault
+value_onto (Err fault) rest = Err fault
+value_onto (Ok v) (Err fault) = Err fault
+value_onto (Ok v) (Ok vs) = Ok (v ∷ vs)
+
+abbrev pub at_field : ℕ → ℕ → Result Value FieldFault → Result Value RowFault
+at_field line place (Ok v) = Ok v
+at_field line place (Err fault) = Err (fault_of_field line place fault)
+
+-- the row of as many fields as there are types, from a place on; the first faulty field from the left decides
+abbrev pub row_of_fields : ℕ → ℕ → List ColType → List (List ℕ) → Result Row RowFault
+row_of_fields line place [] fields = Ok []
+row_of_fields line place (t ∷ ts) [] = Ok []
+row_of_fields line place (t ∷ ts) (f ∷ fs) = value_onto (at_field line place (value_of_field t f)) (row_of_fields line (place + 1) ts fs)
+
+-- the row that a line is, or why it is none
+abbrev pub row_of_line : List ColType → ℕ → List ℕ → Result Row RowFault
+row_of_line types line text =
+    if length (fields_from false text) == length types then row_of_fields line 1 types (fields_from false text)
+    else Err (row_fault.Fields line (length (fields_from false text)) (length types))
+
+-- ---- data
 
 -- an INSERT has at most 1,048,576 rows
-abbrev pub few_rows : List Row → Option (List Row)
-few_rows rows = if nat_le (length rows) 1048576 then Some rows else None
+abbrev pub row_limit : ℕ
+row_limit = 1048576
 
--- the rows that an INSERT adds: its data came to its end, each line is a row, and there are not too many
-abbrev pub inserted_rows : List ColType → List ℕ → Bool → Option (List Row)
-inserted_rows types lines ended = if ended then option_and_then few_rows (rows_of_data types lines) else None
+abbrev pub row_onto : Result Row RowFault → Result (List Row) DataFault → Result (List Row) DataFault
+row_onto (Err fault) rest = Err (data_fault.Row fault)
+row_onto (Ok row) (Err fault) = Err fault
+row_onto (Ok row) (Ok rows) = Ok (row ∷ rows)
+
+-- the rows that data goes on with behind so many, by its first line and what the rest gives
+abbrev pub rows_behind : (ℕ → List ℕ → Result (List Row) DataFault) → List ColType → Bool → ℕ → Option (List ℕ × List ℕ) → Result (List Row) DataFault
+rows_behind more types ended count None = if ended then Ok [] else Err (data_fault.Unended count)
+rows_behind more types ended count (Some found) =
+    if nat_le row_limit count then Err data_fault.TooMany
+    else row_onto (row_of_line types (count + 1) found.0) (more (count + 1) found.1)
+
+-- At most so many rows of data, behind so many. What no line feed ends is no row. The first faulty line decides.
+abbrev pub rows_within : ℕ → List ColType → Bool → ℕ → List ℕ → Result (List Row) DataFault
+rows_within zero types ended count lines = Ok []
+rows_within (suc n) types ended count lines = rows_behind (rows_within n types ended) types ended count (line_from false lines)
+
+-- the rows that an INSERT adds, or why its data is refused; the flag says that the line came which ends data
+abbrev pub inserted_rows : List ColType → List ℕ → Bool → Result (List Row) DataFault
+inserted_rows types lines ended = rows_within (length lines + 1) types ended 0 lines

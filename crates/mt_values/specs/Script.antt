@@ -1,15 +1,15 @@
 -- Where the statements of a script end, and which data they have (docs/grammar.md, "Scripts").
-use Rattle.std.specs.Prelude.{ℕ, suc, zero, ◌+◌, Bool, true, false, not, ◌&&◌, ◌||◌, ◌==◌, List, [], ◌∷◌, ◌++◌, length, drop, take_while, Option, Some, None, if◌then◌else◌, codes}
+use Rattle.std.specs.Prelude.{ℕ, suc, zero, ◌+◌, Bool, true, false, not, ◌&&◌, ◌||◌, ◌==◌, List, [], ◌∷◌, ◌++◌, length, drop, take_while, Option, Some, None, Result, Ok, Err, if◌then◌else◌, codes}
 use Rattle.std.specs.List.{list_all, prefix_len}
 use Rattle.std.specs.Option.{option_map}
+use Rattle.mt_values.specs.declared.statement.Cause.{Cause}
+use Rattle.mt_values.specs.declared.statement.Cause.TheVariants as cause
 use Rattle.mt_values.specs.declared.statement.Statement.{Statement}
-use Rattle.mt_values.specs.declared.statement.Statement.TheVariants as statement
 use Rattle.mt_values.specs.declared.script.Place.{Place}
 use Rattle.mt_values.specs.declared.script.Place.TheVariants.{Outside, InString, BehindBackslash, InComment}
 use Rattle.mt_values.specs.Tokens.{is_space, begins_with, behind}
 use Rattle.mt_values.specs.Grammar.{statement_of, takes_data, same_bytes}
 
--- a byte in front of a part of a text and what follows the part
 abbrev pub onto : ℕ → List ℕ × List ℕ → List ℕ × List ℕ
 onto b found = (b ∷ found.0, found.1)
 
@@ -89,43 +89,80 @@ line_rest text = take_while is_line_byte text
 abbrev pub behind_line : List ℕ → List ℕ
 behind_line text = drop (prefix_len is_line_byte text + 1) text
 
--- A statement with its data. Behind an INSERT's semicolon only blanks may stand on its line.
-abbrev pub with_data : List ℕ → List ℕ → Data → Statement × List ℕ
-with_data text line d = (if list_all is_space line then statement_of text d.lines d.ended else statement.Faulty, d.rest)
+-- A text behind which a byte stands, at this place, that may not. What is faulty before it comes first.
+abbrev pub refused_behind : ℕ → Result Statement Cause → Result Statement Cause
+refused_behind place (Ok s) = Err (cause.Grammar place)
+refused_behind place (Err c) = Err c
 
--- a statement that was read up to its semicolon, and the script behind its data
-abbrev pub complete : List ℕ × List ℕ → Statement × List ℕ
+-- An INSERT of this text with its data. Behind its semicolon only blanks may stand on this rest of its line.
+abbrev pub with_line_rest : List ℕ → List ℕ → Data → Result Statement Cause
+with_line_rest text line d =
+    if list_all is_space line then statement_of text true d.lines d.ended
+    else refused_behind (length text + 1 + prefix_len is_space line) (statement_of text true d.lines d.ended)
+
+-- what a script begins with: a statement, or why its text is refused; and the script behind it and its data
+abbrev pub Step : Type 0
+Step = Result Statement Cause × List ℕ
+
+abbrev pub with_data : List ℕ → List ℕ → Data → Step
+with_data text line d = (with_line_rest text line d, d.rest)
+
+-- a text up to the semicolon that ends it, and what follows that
+abbrev pub complete : List ℕ × List ℕ → Step
 complete found =
     if takes_data found.0 then with_data found.0 (line_rest found.1) (data_of (behind_line found.1))
-    else (statement_of found.0 [] false, found.1)
+    else (statement_of found.0 true [] false, found.1)
 
--- a text without an end is no statement, and nothing follows it
-abbrev pub complete_or_faulty : Option (List ℕ × List ℕ) → Statement × List ℕ
-complete_or_faulty None = (statement.Faulty, [])
-complete_or_faulty (Some found) = complete found
+-- a text that no semicolon ends is refused, and nothing follows it
+abbrev pub complete_or_cut : List ℕ → Option (List ℕ × List ℕ) → Step
+complete_or_cut text None = (statement_of text false [] false, [])
+complete_or_cut text (Some found) = complete found
 
 -- between statements stand blanks, comments and semicolons
 abbrev pub is_between : ℕ → Bool
 is_between b = is_space b || b == 59
 
 -- the next statement of a script and the script behind it; none at the end of the script
-abbrev pub next_from : List ℕ → Option (Statement × List ℕ)
+abbrev pub next_from : List ℕ → Option Step
 next_from [] = None
-next_from (b ∷ bs) = Some (complete_or_faulty (ended_from Outside (b ∷ bs)))
+next_from (b ∷ bs) = Some (complete_or_cut (b ∷ bs) (ended_from Outside (b ∷ bs)))
 
-abbrev pub next_statement : List ℕ → Option (Statement × List ℕ)
+abbrev pub next_statement : List ℕ → Option Step
 next_statement script = next_from (behind is_between false script)
 
 -- a statement in front of those that the rest of the script gives
-abbrev pub statement_and : (List ℕ → List Statement) → Option (Statement × List ℕ) → List Statement
+abbrev pub statement_and : (List ℕ → List (Result Statement Cause)) → Option Step → List (Result Statement Cause)
 statement_and more None = []
 statement_and more (Some found) = found.0 ∷ more found.1
 
 -- at most so many statements of a script
-abbrev pub statements_within : ℕ → List ℕ → List Statement
+abbrev pub statements_within : ℕ → List ℕ → List (Result Statement Cause)
 statements_within zero script = []
 statements_within (suc n) script = statement_and (statements_within n) (next_statement script)
 
 -- the statements of a script, in order; a script has no more of them than bytes
-abbrev pub statements_of : List ℕ → List Statement
+abbrev pub statements_of : List ℕ → List (Result Statement Cause)
 statements_of script = statements_within (length script + 1) script
+
+-- ---- a script of which more bytes may come
+
+-- some line of the text, with its line feed, is the one that ends data
+abbrev pub data_ended_behind : (List ℕ → Bool) → Option (List ℕ × List ℕ) → Bool
+data_ended_behind more None = false
+data_ended_behind more (Some found) = ends_data found.0 || more found.1
+
+abbrev pub data_ended_within : ℕ → List ℕ → Bool
+data_ended_within zero text = false
+data_ended_within (suc n) text = data_ended_behind (data_ended_within n) (line_from false text)
+
+abbrev pub data_ended : List ℕ → Bool
+data_ended text = data_ended_within (length text + 1) text
+
+-- a text up to its semicolon is a whole statement, but for an INSERT, whose line and data must have come to their ends too
+abbrev pub is_whole : Option (List ℕ × List ℕ) → Bool
+is_whole None = false
+is_whole (Some found) = not (takes_data found.0) || (not (list_all is_line_byte found.1) && data_ended (behind_line found.1))
+
+-- some byte of a script so far ends its first statement, whatever comes behind
+abbrev pub has_whole : List ℕ → Bool
+has_whole script = is_whole (ended_from Outside (behind is_between false script))

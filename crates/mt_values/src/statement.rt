@@ -8,10 +8,27 @@ pub enum Statement {
     Create(CreateText),
     Insert(InsertText),
     Select(SelectText),
-    /// No statement of the grammar.
-    Faulty,
-    /// A statement of the grammar that is longer than a statement may be, or names something by too long a name.
-    Oversized,
+}
+
+/// Why a text is refused as it is read.
+#[derive(Clone, Copy, Debug, PartialEq, Eq)]
+pub enum Cause {
+    /// It is no statement of the grammar. With the token at this place no statement goes on, or the byte there begins no
+    /// token, or the input ends there. Bytes are counted from 0 at the statement's first.
+    Grammar(usize),
+    /// It is longer than a statement may be.
+    LongStatement,
+    /// A name in it is longer than a name may be.
+    LongName,
+}
+
+/// Why a token can't stand where it does.
+#[derive(Clone, Copy, Debug, PartialEq, Eq)]
+pub enum Slip {
+    /// No statement of the grammar goes on with it.
+    Wrong,
+    /// It is a name, and longer than a name may be.
+    LongName,
 }
 
 /// A CREATE TABLE. Its names are as they were written.
@@ -35,8 +52,17 @@ pub struct InsertText {
     pub ended: bool,
 }
 
-/// A SELECT of all columns.
+/// The columns that a SELECT names.
+#[derive(Debug, Drop)]
+pub enum Selected {
+    /// `*`
+    All,
+    Named(Seq<Name>),
+}
+
+/// A SELECT. Its names are as they were written.
 #[derive(Debug, Drop)]
 pub struct SelectText {
+    pub columns: Selected,
     pub table: Name,
 }

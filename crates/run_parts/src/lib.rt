@@ -4,12 +4,16 @@
 #[cfg(test)]
 mod blocks;
 #[cfg(test)]
+mod columns;
+#[cfg(test)]
 mod crashes;
 #[cfg(test)]
-mod examples;
+mod digests;
 #[cfg(test)]
-mod printing;
+mod examples;
 #[cfg(test)]
 mod rows;
 #[cfg(test)]
 mod statements;
+#[cfg(test)]
+mod variants;

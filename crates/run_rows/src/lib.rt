@@ -4,6 +4,8 @@
 #[cfg(test)]
 mod outside;
 #[cfg(test)]
+mod refused;
+#[cfg(test)]
 mod scripts;
 #[cfg(test)]
 mod tests;

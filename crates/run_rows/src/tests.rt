@@ -1,5 +1,5 @@
-// Whole runs: their replies, their status, and what they leave where the outside fails; and the bytes of column files.
+// Whole runs: their replies, their status, and what they leave where the outside fails.
 mod bounds;
-mod columns;
+mod changes;
 mod faults;
 mod replies;

@@ -3,8 +3,8 @@ use Rattle.std.proofs.Common.{◌≡◌, ℕ, ◌+◌, ◌<◌, ◌≤◌, Bool,
 use Rattle.std.proofs.lemmas.List.{take_at, drop_at, take-append-drop}
 use Rattle.std.proofs.lemmas.Bool.Decides.{nat_tests}
 use Rattle.std.specs.Option.{option_map, IfSome}
-use Rattle.mt_values.proofs.Bounds.{data_of_step}
-use Rattle.mt_values.specs.Script.{onto, takes_next, line_from, ends_data, Data, with_line, data_behind, data_of}
+use Rattle.mt_values.proofs.ScriptBounds.{data_of_step, data_ended_step}
+use Rattle.mt_values.specs.Script.{onto, takes_next, line_from, ends_data, Data, with_line, data_behind, data_of, data_ended_behind, data_ended}
 
 parts_behind : (ends : Bool) (b : ℕ) (bs : List ℕ) (found : Option (List ℕ × List ℕ)) → (ends ≡ true → b ≡ 10) → IfSome found (λ p. bs ≡ p.0 ++ 10 ∷ p.1) →
     IfSome (if ends then Some ([], bs) else option_map (onto b) found) (λ (p : List ℕ × List ℕ). b ∷ bs ≡ p.0 ++ 10 ∷ p.1)
@@ -78,3 +78,17 @@ module _ (text : List ℕ) (at len next : ℕ) (within : at ≤ length text) (in
       ap (with_lines (take at text)) kept
       ∙ (ap (λ (l : List ℕ). record { lines = l; ended = true; rest = behind }) (append-nil (take at text))
       ∙ ap (λ (r : List ℕ). record { lines = take at text; ended = true; rest = r }) (sym drop-next))
+
+  -- so the data has ended where the rest of it has
+  pub ended_more : ends_data (take len (drop at text)) ≡ false → data_ended (drop next text) ≡ data_ended (drop at text)
+  unfolding line behind
+  ended_more more =
+      let step : data_ended_behind data_ended (line_from false (drop at text)) ≡ data_ended behind = rw (found, more) refl in
+      ap data_ended drop-next ∙ sym (data_ended_step (drop at text) ∙ step)
+
+  -- so the data has ended
+  pub ended_here : ends_data (take len (drop at text)) ≡ true → true ≡ data_ended (drop at text)
+  unfolding line behind
+  ended_here end =
+      let step : data_ended_behind data_ended (line_from false (drop at text)) ≡ true = rw (found, end) refl in
+      sym (data_ended_step (drop at text) ∙ step)

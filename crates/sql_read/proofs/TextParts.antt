@@ -1,10 +1,9 @@
 -- A text parted at the byte that ends its first part, found byte by byte.
-use Rattle.std.proofs.Common.{◌≡◌, ℕ, ◌+◌, ◌<◌, ◌≤◌, Bool, true, false, not, ◌&&◌, ◌==◌, List, [], ◌∷◌, ◌++◌, length, get_or, take, drop, Option, Some, None, refl, add-one, ap, append_assoc, append-nil}
+use Rattle.std.proofs.Common.{◌≡◌, ℕ, ◌+◌, ◌<◌, ◌≤◌, Bool, true, false, not, ◌&&◌, ◌==◌, List, length, get_or, take, drop, Some, None, refl, add-one, append-nil}
 use Rattle.std.proofs.Math.Seq.{drop-cons}
 use Rattle.std.proofs.lemmas.List.{take_more, drop_all}
-use Rattle.std.specs.Option.{option_map}
 use Rattle.mt_values.specs.declared.script.Place.{Place}
-use Rattle.mt_values.specs.Script.{onto, place_behind, ends_at, ended_from, takes_next, line_from}
+use Rattle.mt_values.specs.Script.{place_behind, ends_at, ended_from, takes_next, line_from}
 use Rattle.mt_values.proofs.Fronts.{parted, parted_more}
 
 module _ (text : List ℕ) (i : ℕ) (d : ℕ) where

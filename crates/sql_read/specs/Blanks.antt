@@ -2,8 +2,8 @@
 use Rattle.std.specs.Prelude.{ℕ, Bool, true, false, not, ◌&&◌, ◌==◌, List, [], ◌∷◌, Option, Some, None, if◌then◌else◌}
 use Rattle.mt_values.specs.Tokens.{is_space, begins_with}
 use Rattle.mt_values.specs.Script.{is_between}
-use Rattle.sql_read.specs.declared.tokens.Skipped.{Skipped}
-use Rattle.sql_read.specs.declared.tokens.Skipped.TheVariants.{Blanks, Between}
+use Rattle.sql_read.specs.declared.blanks.Skipped.{Skipped}
+use Rattle.sql_read.specs.declared.blanks.Skipped.TheVariants.{Blanks, Between}
 
 -- a byte that is skipped, outside comments
 abbrev pub is_skipped : Skipped → ℕ → Bool

@@ -1,3 +1,7 @@
 pub mod Blanks
+pub mod FirstTokens
+pub mod Parts
+pub mod Places
+pub mod Reads
 pub mod Scripts
-pub mod Tokens
+pub mod Strings

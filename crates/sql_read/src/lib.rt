@@ -1,9 +1,15 @@
 //! From the bytes of a script to its statements, with their data.
 #![tactic(auto)]
 
+mod blanks;
+mod cursor;
+mod escapes;
 mod grammar;
+mod laws;
+mod productions;
 mod script;
 mod tokens;
 
 pub use grammar::statement;
-pub use script::{line_end, next_statement, takes_next};
+pub use laws::{faults_are_first, whole_statements_stay};
+pub use script::{Next, line_end, next_statement, takes_next};

@@ -1,17 +1,35 @@
 // The statements of a script, with their data.
-ghost use Rattle.std.specs.Prelude.{◌≡◌, ◌<◌, ◌≤◌, ◌+◌, length, take, drop, IfOk, IfSome, false, not, ◌&&◌, ◌==◌};
+ghost use Rattle.std.specs.Prelude.{◌≡◌, ◌<◌, ◌≤◌, ◌+◌, ◌^◌, ◌==◌, ◌&&◌, ◌↔◌, ℕ, Bool, List, length, take, drop, IfOk, IfSome, false, not};
 ghost use Rattle.std.specs.Option.{option_map};
-ghost use Rattle.std.specs.List.{prefix_len, list_all};
+ghost use Rattle.std.specs.List.{list_all, prefix_len};
 ghost use Rattle.mt_values.specs.Tokens.{is_space};
 ghost use Rattle.mt_values.specs.Grammar.{takes_data};
-ghost use Rattle.mt_values.specs.Script.{complete, complete_or_faulty, data_of, ended_from, ends_at, ends_data, is_line_byte, line_from, next_statement, place_behind, takes_next};
-ghost use Rattle.sql_read.specs.Scripts.{data_in, parts_at};
+ghost use Rattle.mt_values.specs.Script.{behind_line, complete_or_cut, data_ended, data_of, ended_from, ends_at, ends_data, has_whole, is_line_byte, is_whole, line_from, line_rest, place_behind, takes_next, with_line_rest};
+ghost use Rattle.sql_read.specs.Scripts.{IsNext, data_in, parts_at, section_said};
 
-use crate::grammar::{is_keyword, statement};
-use crate::tokens::{Skipped, begins_with, is_space, skipped_len, starts_word, word_len};
+use crate::blanks::{Skipped, begins_with, behind, is_space, skipped_len};
+use crate::cursor::is_keyword;
+use crate::grammar::statement;
+use crate::tokens::{starts_word, word_len};
 use mt_base::NoMemory;
-use mt_values::{Place, Statement};
+use mt_values::{Cause, Place, Statement};
 use std::alloc::Global;
+
+/// What a script begins with.
+#[derive(Debug, Drop)]
+pub enum Next {
+    /// A statement, and how many bytes of the script it takes, with what stands before it and with its data.
+    Found(Statement, usize),
+    /// More bytes of the script must come first: those so far end no statement.
+    NeedMore,
+    /// No statement: the script ends.
+    End,
+    /// A text that is refused, why it is, and how many bytes of the script it takes, with what stands before it and with
+    /// its data.
+    Refused(Cause, usize),
+    /// The statement found no room.
+    NoMemory,
+}
 
 /// How much of a text is data.
 #[derive(Clone, Copy, Debug, PartialEq, Eq)]
@@ -20,8 +38,29 @@ struct Extent {
     lines: usize,
     /// Whether the line that ends data came.
     ended: bool,
+    /// Whether it came with its line feed.
+    closed: bool,
     /// The bytes up to the script behind the data.
     used: usize,
+}
+
+/// The part of a script that its first statement takes.
+#[derive(Clone, Copy, Debug)]
+struct Section<'a> {
+    /// The statement's text.
+    text: &'a [u8],
+    /// Whether a semicolon ends it.
+    terminated: bool,
+    /// What stands behind the semicolon of an INSERT on its line.
+    line: &'a [u8],
+    /// The lines of its data.
+    lines: &'a [u8],
+    /// Whether the line that ends data came.
+    ended: bool,
+    /// The bytes of the script up to what follows all of this.
+    used: usize,
+    /// Whether it is the same whatever comes behind the script.
+    whole: bool,
 }
 
 // Where the next byte stands, behind this byte.
@@ -97,11 +136,13 @@ pub fn line_end(text: &[u8]) -> Option<usize>
 }
 
 // Whether data follows a statement's text: its first token is INSERT.
+#[tactic(auto, using(crate::proofs::FirstWords::takes_data_none, crate::proofs::FirstWords::takes_data_first))]
 fn takes_data(text: &[u8]) -> bool
     ensures { result ≡ takes_data text.now }
 {
-    match text {
-        [byte, ..] => starts_word(*byte) && is_keyword(b"INSERT", &text[..word_len(text)]),
+    let first = behind(Skipped::Blanks, text);
+    match first {
+        [byte, ..] => starts_word(*byte) && is_keyword(b"INSERT", &first[..word_len(first)]),
         [] => false,
     }
 }
@@ -116,6 +157,7 @@ fn ends_data(line: &[u8]) -> bool
 // The data that a text begins with. One pass over its bytes; takes no memory.
 fn data_extent(text: &[u8]) -> Extent
     ensures data { data_in text.now result ≡ data_of text.now }
+    ensures closed { result.closed ≡ data_ended text.now }
     ensures within { result.lines ≤ length text.now }
     ensures used { result.used ≤ length text.now }
 {
@@ -125,6 +167,7 @@ fn data_extent(text: &[u8]) -> Extent
             return Extent {
                 lines,
                 ended: true,
+                closed: true,
                 used: lines + len + 1,
             };
         }
@@ -134,12 +177,14 @@ fn data_extent(text: &[u8]) -> Extent
         return Extent {
             lines,
             ended: true,
+            closed: false,
             used: text.len(),
         };
     }
     Extent {
         lines: text.len(),
         ended: false,
+        closed: false,
         used: text.len(),
     }
 }
@@ -152,6 +197,14 @@ fn line_len(text: &[u8]) -> usize
     text.iter().take_while(|byte| **byte != b'\n').count()
 }
 
+// How many blanks a line begins with.
+fn spaces_len(line: &[u8]) -> usize
+    ensures value { result ≡ prefix_len is_space line.now }
+    ensures within { result ≤ length line.now }
+{
+    line.iter().take_while(|byte| is_space(**byte)).count()
+}
+
 // Whether only blanks stand on the line.
 fn are_blank(line: &[u8]) -> bool
     ensures { result ≡ list_all is_space line.now }
@@ -159,56 +212,108 @@ fn are_blank(line: &[u8]) -> bool
     line.iter().all(|byte| is_space(*byte))
 }
 
-// A statement whose text and semicolon were read, and how many bytes behind the semicolon are its data.
-fn completed(alloc: Global, text: &[u8], behind: &[u8]) -> Result<(Statement, usize), NoMemory>
-    ensures found { IfOk result
-        (λ found. (found.0, drop found.1 behind.now) ≡ complete (text.now, behind.now)) }
-    ensures within { IfOk result (λ found. found.1 ≤ length behind.now) }
+// The part of a script that an INSERT of this text takes, with its data, and with this many bytes before what stands
+// behind its semicolon.
+fn inserted<'a>(text: &'a [u8], before: usize, behind: &'a [u8]) -> Section<'a>
+    requires fits { before + length behind.now < 2 ^ 64 }
+    ensures said { section_said result
+        ≡ with_line_rest text.now (line_rest behind.now) (data_of (behind_line behind.now)) }
+    ensures rest { (script : List ℕ) → drop before script ≡ behind.now
+        → drop result.used script ≡ (data_of (behind_line behind.now)).rest }
+    ensures used { (before ≤ result.used) × (result.used ≤ before + length behind.now) }
+    ensures whole { result.whole
+        ≡ (not (list_all is_line_byte behind.now) && data_ended (behind_line behind.now)) }
 {
-    if !takes_data(text) {
-        return Ok((statement(alloc, text, &[], false)?, 0));
-    }
-    let line = line_len(behind);
-    let start = (line + 1).min(behind.len());
+    let len = line_len(behind);
+    let start = (len + 1).min(behind.len());
     let data = data_extent(&behind[start..]);
-    let used = start + data.used;
-    if !are_blank(&behind[..line]) {
-        return Ok((Statement::Faulty, used));
+    Section {
+        text,
+        terminated: true,
+        line: &behind[..len],
+        lines: &behind[start..start + data.lines],
+        ended: data.ended,
+        used: before + start + data.used,
+        whole: len < behind.len() && data.closed,
     }
-    let lines = &behind[start..start + data.lines];
-    Ok((statement(alloc, text, lines, data.ended)?, used))
 }
 
-// The statement that a text begins with at its first byte, and how many bytes it takes.
-fn first_statement(alloc: Global, text: &[u8]) -> Result<(Statement, usize), NoMemory>
-    ensures found { IfOk result
-        (λ found. (found.0, drop found.1 text.now)
-        ≡ complete_or_faulty (ended_from Place.Outside text.now)) }
-    ensures within { IfOk result (λ found. found.1 ≤ length text.now) }
-    ensures some { IfOk result (λ found. 0 < length text.now → 0 < found.1) }
+// The part of a script that the statement takes which it begins with. Takes no memory.
+fn first_section(script: &[u8]) -> Section<'_>
+    ensures said { (section_said result, drop result.used script.now)
+        ≡ complete_or_cut script.now (ended_from Place.Outside script.now) }
+    ensures used { (0 < length script.now → 0 < result.used) × (result.used ≤ length script.now) }
+    ensures whole { result.whole ≡ is_whole (ended_from Place.Outside script.now) }
 {
-    let Some(end) = statement_end(text) else {
-        return Ok((Statement::Faulty, text.len()));
+    let Some(end) = statement_end(script) else {
+        return Section {
+            text: script,
+            terminated: false,
+            line: &[],
+            lines: &[],
+            ended: false,
+            used: script.len(),
+            whole: false,
+        };
     };
-    let (statement, data) = completed(alloc, &text[..end], &text[end + 1..])?;
-    Ok((statement, end + 1 + data))
+    let text = &script[..end];
+    if takes_data(text) {
+        return inserted(text, end + 1, &script[end + 1..]);
+    }
+    Section {
+        text,
+        terminated: true,
+        line: &[],
+        lines: &[],
+        ended: false,
+        used: end + 1,
+        whole: true,
+    }
 }
 
-/// The next statement of a script, and how many bytes of the script it takes with what stands before it and with its data.
-/// None at the end of the script.
+// The statement that a part of a script is, or why it is refused.
+fn read_section(alloc: Global, section: &Section) -> Result<Result<Statement, Cause>, NoMemory>
+    ensures { IfOk result (λ found. found ≡ section_said section.now) }
+{
+    let found = statement(
+        alloc,
+        section.text,
+        section.terminated,
+        section.lines,
+        section.ended,
+    )?;
+    if are_blank(section.line) {
+        return Ok(found);
+    }
+    match found {
+        Ok(_) => {
+            let place = section.text.len() + 1 + spaces_len(section.line);
+            Ok(Err(Cause::Grammar(place)))
+        }
+        Err(cause) => Ok(Err(cause)),
+    }
+}
+
+/// The next statement of a script, of which no more bytes come (`ended`), or some may come. `NeedMore` comes only where
+/// some may, and where the bytes so far end no statement; what is found instead is the same whatever comes.
 ///
-/// `NoMemory` where the statement found no room.
-pub fn next_statement(alloc: Global, script: &[u8]) -> Result<Option<(Statement, usize)>, NoMemory>
-    ensures found { IfOk result
-        (λ found. next_statement script.now
-        ≡ option_map (λ f. (f.0, drop f.1 script.now)) found) }
-    ensures used { IfOk result (λ found. IfSome found (λ f. (0 < f.1) × (f.1 ≤ length script.now))) }
+/// One pass over the bytes of the statement and of its data. The data's lines are copied once.
+pub fn next_statement(alloc: Global, script: &[u8], ended: bool) -> Next
+    ensures found { IsNext script.now ended result }
+    ensures waits { (result ≡ Next.NeedMore) ↔ ((ended ≡ false) × (has_whole script.now ≡ false)) }
 {
     let skipped = skipped_len(Skipped::Between, script);
     let text = &script[skipped..];
     if text.is_empty() {
-        return Ok(None);
+        return if ended { Next::End } else { Next::NeedMore };
     }
-    let (statement, used) = first_statement(alloc, text)?;
-    Ok(Some((statement, skipped + used)))
+    let section = first_section(text);
+    if !ended && !section.whole {
+        return Next::NeedMore;
+    }
+    match read_section(alloc, &section) {
+        Ok(Ok(statement)) => Next::Found(statement, skipped + section.used),
+        Ok(Err(cause)) => Next::Refused(cause, skipped + section.used),
+        Err(_) => Next::NoMemory,
+    }
 }

@@ -1,91 +1,16 @@
 // The tokens of a statement.
-ghost use Rattle.std.specs.Prelude.{◌≡◌, ◌≤◌, false, IfOk, drop, length};
+ghost use Rattle.std.specs.Prelude.{◌≡◌, ◌≤◌, ◌∷◌, ◌++◌, [], Bool, IfOk, length};
+ghost use Rattle.std.specs.Char.{is_ascii_digit};
 ghost use Rattle.std.specs.List.{prefix_len};
-ghost use Rattle.std.specs.Option.{option_map};
-ghost use Rattle.mt_values.specs.Tokens.{behind, begins_with, in_word, is_space, starts_word, symbol_of, first_token, tokens_of};
-ghost use Rattle.sql_read.specs.Blanks.{is_skipped, comment_behind};
-ghost use Rattle.sql_read.specs.Tokens.{shown};
+ghost use Rattle.mt_values.specs.Grammar.{tokens_and_end};
+ghost use Rattle.mt_values.specs.Tokens.{byte_symbol, in_word, number_token, pair_symbol, starts_word, symbol_token, tokens_of, word_begins};
+ghost use Rattle.sql_read.specs.FirstTokens.{first_token, token_shown};
 
+use crate::blanks::{Skipped, behind};
+use crate::escapes::string;
 use mt_base::{NoMemory, Seq};
-use mt_values::Token;
+use mt_values::{Placed, Symbol, Token};
 use std::alloc::Global;
-
-/// What may be skipped beside comments.
-#[derive(Clone, Copy, Debug, PartialEq, Eq)]
-pub enum Skipped {
-    /// Space, tab, line feed and carriage return.
-    Blanks,
-    /// Those and semicolons.
-    Between,
-}
-
-/// Space, tab, line feed or carriage return.
-pub fn is_space(byte: u8) -> bool
-    ensures { result ≡ is_space byte }
-{
-    matches!(byte, b' ' | b'\t' | b'\n' | b'\r')
-}
-
-// Whether the byte is skipped outside comments.
-fn is_skipped(skipped: Skipped, byte: u8) -> bool
-    ensures { result ≡ is_skipped skipped byte }
-{
-    match skipped {
-        Skipped::Blanks => is_space(byte),
-        Skipped::Between => is_space(byte) || byte == b';',
-    }
-}
-
-/// Whether this byte stands first in a text.
-pub fn begins_with(byte: u8, text: &[u8]) -> bool
-    ensures { result ≡ begins_with byte text.now }
-{
-    match text {
-        [first, ..] => *first == byte,
-        [] => false,
-    }
-}
-
-// Whether a comment goes on behind the first byte of a text, where that byte is skipped.
-fn comment_behind(skipped: Skipped, comment: bool, text: &[u8]) -> Option<bool>
-    ensures { result ≡ comment_behind (is_skipped skipped) comment text.now }
-{
-    let [byte, more @ ..] = text else {
-        return None;
-    };
-    if comment {
-        return Some(*byte != b'\n');
-    }
-    if is_skipped(skipped, *byte) {
-        return Some(false);
-    }
-    if *byte == b'-' && begins_with(b'-', more) {
-        return Some(true);
-    }
-    None
-}
-
-/// How many bytes of a text are skipped at its front: blanks and comments, which go from two dashes up to a line feed.
-#[tactic(auto, using(crate::proofs::Blanks::goes_on, crate::proofs::Blanks::stops))]
-pub fn skipped_len(skipped: Skipped, text: &[u8]) -> usize
-    ensures rest { drop result text.now ≡ behind (is_skipped skipped) false text.now }
-    ensures within { result ≤ length text.now }
-{
-    let mut comment = false;
-    let mut at = 0;
-    'skip: while let Some(inside) = comment_behind(skipped, comment, &text[at..]) {
-        comment = inside;
-        at += 1;
-    }
-    at
-}
-
-/// The text behind the blanks and comments that it begins with.
-pub fn behind(skipped: Skipped, text: &[u8]) -> &[u8]
-    ensures { result.now ≡ behind (is_skipped skipped) false text.now }
-{
-    &text[skipped_len(skipped, text)..]
-}
 
 /// Whether a word begins with this byte.
 pub fn starts_word(byte: u8) -> bool
@@ -109,54 +34,141 @@ pub fn word_len(text: &[u8]) -> usize
     text.iter().take_while(|byte| in_word(**byte)).count()
 }
 
-// The token of one byte.
-fn symbol_of(byte: u8) -> Option<Token>
-    ensures { result ≡ symbol_of byte }
+// How many digits a text begins with.
+fn digits_len(text: &[u8]) -> usize
+    ensures value { result ≡ prefix_len is_ascii_digit text.now }
+    ensures within { result ≤ length text.now }
 {
-    match byte {
-        b'(' => Some(Token::Open),
-        b')' => Some(Token::Close),
-        b',' => Some(Token::Comma),
-        b'=' => Some(Token::Equal),
-        b'*' => Some(Token::Star),
+    text.iter().take_while(|byte| byte.is_ascii_digit()).count()
+}
+
+// Whether a text begins with a word.
+fn word_begins(text: &[u8]) -> bool
+    ensures { result ≡ word_begins text.now }
+{
+    match text {
+        [byte, ..] => starts_word(*byte),
+        [] => false,
+    }
+}
+
+// The token of a run of digits, and what follows it.
+fn number<'a>(alloc: Global, digits: &[u8], rest: &'a [u8]) -> Result<(Token, &'a [u8]), NoMemory>
+    ensures { IfOk result (λ found. token_shown found ≡ number_token digits.now rest.now) }
+{
+    if word_begins(rest) {
+        return Ok((Token::Stray, rest));
+    }
+    let digits = Seq::from_slice(alloc, digits)?;
+    Ok((Token::Number(digits), rest))
+}
+
+// The symbol that two bytes are.
+fn pair_symbol(first: u8, second: u8) -> Option<Symbol>
+    ensures { result ≡ pair_symbol first second }
+{
+    match (first, second) {
+        (b'!', b'=') => Some(Symbol::NotEqual),
+        (b'<', b'>') => Some(Symbol::NotEqual),
+        (b'<', b'=') => Some(Symbol::LessOrEqual),
+        (b'>', b'=') => Some(Symbol::GreaterOrEqual),
         _ => None,
     }
 }
 
-/// The token that a text begins with, and the text behind it; none where the text begins with no token.
-///
-/// `NoMemory` where the word's bytes found no room.
-pub fn next_token(alloc: Global, text: &[u8]) -> Result<Option<(Token, &[u8])>, NoMemory>
-    ensures { IfOk result (λ found. shown found ≡ first_token text.now) }
+// The symbol that one byte is.
+fn byte_symbol(byte: u8) -> Option<Symbol>
+    ensures { result ≡ byte_symbol byte }
+{
+    match byte {
+        b'(' => Some(Symbol::Open),
+        b')' => Some(Symbol::Close),
+        b',' => Some(Symbol::Comma),
+        b'=' => Some(Symbol::Equal),
+        b'<' => Some(Symbol::Less),
+        b'>' => Some(Symbol::Greater),
+        b'*' => Some(Symbol::Star),
+        b'+' => Some(Symbol::Plus),
+        b'-' => Some(Symbol::Minus),
+        b';' => Some(Symbol::Semicolon),
+        _ => None,
+    }
+}
+
+// The symbol that begins with this byte, and what follows it: of two bytes where there is one, else of one.
+fn symbol(byte: u8, more: &[u8]) -> (Token, &[u8])
+    ensures { token_shown result ≡ symbol_token byte more.now }
+{
+    if let [second, rest @ ..] = more {
+        if let Some(symbol) = pair_symbol(byte, *second) {
+            return (Token::Symbol(symbol), rest);
+        }
+    }
+    match byte_symbol(byte) {
+        Some(symbol) => (Token::Symbol(symbol), more),
+        None => (Token::Stray, more),
+    }
+}
+
+// The token that a text begins with, and what follows it. Of a text without bytes it is a stray one.
+fn first_token(alloc: Global, text: &[u8]) -> Result<(Token, &[u8]), NoMemory>
+    ensures { IfOk result (λ found. token_shown found ≡ first_token text.now) }
 {
     let [byte, more @ ..] = text else {
-        return Ok(None);
+        return Ok((Token::Stray, text));
     };
     if starts_word(*byte) {
         let len = word_len(text);
         let word = Seq::from_slice(alloc, &text[..len])?;
-        return Ok(Some((Token::Word(word), &text[len..])));
+        return Ok((Token::Word(word), &text[len..]));
     }
-    match symbol_of(*byte) {
-        Some(token) => Ok(Some((token, more))),
-        None => Ok(None),
+    if byte.is_ascii_digit() {
+        let len = digits_len(text);
+        return number(alloc, &text[..len], &text[len..]);
     }
+    if *byte == b'\'' {
+        return match string(alloc, more)? {
+            Some((said, rest)) => Ok((Token::Text(said), rest)),
+            None => Ok((Token::Stray, &[])),
+        };
+    }
+    Ok(symbol(*byte, more))
 }
 
-/// The tokens of a text; none where some of it is no token.
+/// The tokens of a text, each with its place, up to the first byte that begins none, which is the stray one. One pass.
 ///
 /// `NoMemory` where the tokens found no room.
-pub fn tokens(alloc: Global, text: &[u8]) -> Result<Option<Vec<Token>>, NoMemory>
-    ensures { IfOk result (λ found. option_map (λ v. v.items) found ≡ tokens_of text.now) }
+pub fn tokens(alloc: Global, text: &[u8]) -> Result<Vec<Placed>, NoMemory>
+    ensures { IfOk result (λ found. found.items ≡ tokens_of text.now) }
 {
     let mut found = Vec::new(alloc);
     let mut rest = behind(Skipped::Blanks, text);
     'tokens: while !rest.is_empty() {
-        let Some((token, more)) = next_token(alloc, rest)? else {
-            return Ok(None);
-        };
-        found.push(token)?;
+        let at = text.len() - rest.len();
+        let (token, more) = first_token(alloc, rest)?;
+        if let Token::Stray = token {
+            found.push(Placed { at, token })?;
+            return Ok(found);
+        }
+        found.push(Placed { at, token })?;
         rest = behind(Skipped::Blanks, more);
     }
-    Ok(Some(found))
+    Ok(found)
+}
+
+/// The tokens of a statement's text, and the semicolon that ends it, where one does.
+///
+/// `NoMemory` where the tokens found no room.
+pub fn tokens_and_end(alloc: Global, text: &[u8], terminated: bool) -> Result<Vec<Placed>, NoMemory>
+    ensures { IfOk result (λ found. found.items ≡ tokens_and_end text.now terminated) }
+{
+    let mut found = tokens(alloc, text)?;
+    if !terminated {
+        return Ok(found);
+    }
+    found.push(Placed {
+        at: text.len(),
+        token: Token::Symbol(Symbol::Semicolon),
+    })?;
+    Ok(found)
 }

@@ -1,6 +1,9 @@
 pub mod DataRows
 pub mod Digits
-pub mod FieldParts
 pub mod LineColumns
+pub mod LineRows
+pub mod Marking
 pub mod Printed
 pub mod PushedRows
+pub mod ReadAgain
+pub mod Unescaping

@@ -1,12 +1,15 @@
 -- The text of values and rows, piece by piece.
-use Rattle.std.proofs.Common.{◌≡◌, ℕ, zero, suc, ◌+◌, ◌-◌, ◌<◌, ◌≤◌, List, [], ◌∷◌, ◌++◌, Some, sym, ap, ap₂, ◌∙◌, length, get_or, take, drop, slice_get, arith, append_assoc, append-nil, flat_map, length-drop}
+use Rattle.std.proofs.Common.{◌≡◌, ℕ, zero, suc, ◌+◌, ◌-◌, ◌<◌, ◌≤◌, List, [], ◌∷◌, ◌++◌, All, refl, sym, ap, ap₂, ◌∙◌, length, get_or, take, drop, slice_get, arith, append_assoc, append-nil, flat_map, length-drop}
 use Rattle.std.proofs.lemmas.List.{take_more, get_or-drop, get_or_default}
 use Rattle.std.proofs.lemmas.List.Concat.{flat_map-append}
-use Rattle.std.proofs.lemmas.Option.{slice_get-get_or, same_Some}
+use Rattle.std.proofs.lemmas.List.Elements.{All-head, All-tail}
+use Rattle.std.specs.List.{cons_option}
+use Rattle.std.proofs.lemmas.Option.{slice_get-get_or}
 use Rattle.mt_values.specs.declared.value.Value.{Value}
+use Rattle.mt_values.specs.declared.value.Value.TheVariants as value
 use Rattle.mt_values.specs.Grid.{picked}
 use Rattle.mt_values.specs.Values.{Row}
-use Rattle.mt_values.specs.Printing.{escaped, field, fields, line}
+use Rattle.mt_values.specs.Printing.{escaped, field, fields, line, selected}
 use Rattle.mt_values.proofs.Grids.{filter_map_more}
 use Rattle.tsv_rows.specs.Printing.{tab_before}
 
@@ -37,24 +40,47 @@ module _ (text before out : List ℕ) (start at : ℕ) (within : start ≤ at) (
       ∙ ap₂ (λ a b. a ++ b) printed plain ∙ append_assoc before (flat_map escaped (take at text)) (escaped (get_or text at 0))
       ∙ ap (λ bs. before ++ bs) (sym one_more)
 
--- one field more
-pub fields_more : (row : Row) (i : ℕ) (v : Value) → slice_get row i ≡ Some v → fields (take (suc i) row) ≡ fields (take i row) ++ tab_before i ++ field v
-fields_more [] i v is = cc
-fields_more (x ∷ xs) zero v is = ap field (same_Some x v is)
-fields_more (x ∷ []) (suc i) v is = cc
-fields_more (x ∷ y ∷ ys) (suc zero) v is = rw (same_Some y v is) (sym (append_assoc (field x) (9 ∷ []) (field v)))
-fields_more (x ∷ y ∷ ys) (suc (suc i)) v is =
-    let rest : List ℕ = 9 ∷ fields (y ∷ take i ys) in
-    ap (λ bs. field x ++ 9 ∷ bs) (fields_more (y ∷ ys) (suc i) v is)
-    ∙ ap (λ bs. field x ++ bs) (append_assoc rest (9 ∷ []) (field v))
-    ∙ sym (append_assoc (field x) rest (9 ∷ field v))
-    ∙ sym (append_assoc (field x ++ rest) (9 ∷ []) (field v))
+-- ---- rows
 
--- one line more
-pub lines_of_more : (rows : List Row) (order : List ℕ) (i : ℕ) → i < length order → get_or order i 0 < length rows →
-    flat_map line (picked rows (take (i + 1) order)) ≡ flat_map line (picked rows (take i order)) ++ line (get_or rows (get_or order i 0) [])
-lines_of_more rows order i below within =
+fields_push_by : (v w : Value) (vs : Row) (new : Value) → fields (w ∷ vs ++ new ∷ []) ≡ fields (w ∷ vs) ++ 9 ∷ field new →
+    fields (v ∷ w ∷ vs ++ new ∷ []) ≡ fields (v ∷ w ∷ vs) ++ 9 ∷ field new
+fields_push_by v w vs new rest = ap (λ bs. field v ++ 9 ∷ bs) rest ∙ sym (append_assoc (field v) (9 ∷ fields (w ∷ vs)) (9 ∷ field new))
+
+behind_some : (v : Value) (vs : Row) (new : Value) → fields (v ∷ vs ++ new ∷ []) ≡ fields (v ∷ vs) ++ 9 ∷ field new
+behind_some v [] new = refl
+behind_some v (w ∷ vs) new = fields_push_by v w vs new (behind_some w vs new)
+
+-- one field more
+pub fields_push : (row : Row) (i : ℕ) (v : Value) → length row ≡ i → fields (row ++ v ∷ []) ≡ (fields row ++ tab_before i) ++ field v
+fields_push [] zero v count = refl
+fields_push [] (suc i) v count = absurd (omega arith)
+fields_push (w ∷ ws) zero v count = absurd (omega arith)
+fields_push (w ∷ ws) (suc i) v count = behind_some w ws v ∙ sym (append_assoc (fields (w ∷ ws)) (9 ∷ []) (field v))
+
+-- what was printed of a row, and the tab and the field of one value more
+pub printed_push : (before out mid new : List ℕ) (row : Row) (i : ℕ) (v : Value) → length row ≡ i → out ≡ before ++ fields row → mid ≡ out ++ tab_before i → new ≡ mid ++ field v →
+    new ≡ before ++ fields (row ++ v ∷ [])
+printed_push before out mid new row i v count printed tab value =
+    let begun = joined before (fields row) (tab_before i) out mid (fields row ++ tab_before i) printed tab refl in
+    joined before (fields row ++ tab_before i) (field v) mid new (fields (row ++ v ∷ [])) begun value (fields_push row i v count)
+
+-- the values at columns that the row has
+pub length-selected : (columns : List ℕ) (row : Row) → All (λ column. column < length row) columns → length (selected columns row) ≡ length columns
+length-selected [] row within = refl
+length-selected (column ∷ columns) row within =
+    ap (λ o. length (cons_option o (selected columns row))) (slice_get-get_or row column any_value (All-head (λ (c : ℕ). c < length row) column columns within))
+    ∙ ap suc (length-selected columns row (All-tail (λ (c : ℕ). c < length row) column columns within))
+  where
+    any_value : Value
+    any_value = value.UInt8 0
+
+-- the line of one row more
+pub lines_of_more : (columns : List ℕ) (rows : List Row) (order : List ℕ) (i : ℕ) → i < length order → get_or order i 0 < length rows →
+    flat_map (λ row. line (selected columns row)) (picked rows (take (i + 1) order))
+    ≡ flat_map (λ row. line (selected columns row)) (picked rows (take i order)) ++ line (selected columns (get_or rows (get_or order i 0) []))
+lines_of_more columns rows order i below within =
     let row = get_or rows (get_or order i 0) [] in
-    ap (flat_map line) (filter_map_more (slice_get rows) order i (get_or order i 0) row below (get_or_default order i 0 (get_or order i 0) below) (slice_get-get_or rows (get_or order i 0) [] within))
-    ∙ flat_map-append line (picked rows (take i order)) (row ∷ [])
-    ∙ ap (λ bs. flat_map line (picked rows (take i order)) ++ bs) (append-nil (line row))
+    let print : Row → List ℕ = λ r. line (selected columns r) in
+    ap (flat_map print) (filter_map_more (slice_get rows) order i (get_or order i 0) row below (get_or_default order i 0 (get_or order i 0) below) (slice_get-get_or rows (get_or order i 0) [] within))
+    ∙ flat_map-append print (picked rows (take i order)) (row ∷ [])
+    ∙ ap (λ bs. flat_map print (picked rows (take i order)) ++ bs) (append-nil (print row))

@@ -1,58 +1,14 @@
 -- Columns that got one value each: their rows are those that they had, and one row more.
-use Rattle.std.proofs.Common.{◌≡◌, ℕ, zero, suc, ◌+◌, ◌<◌, List, [], ◌∷◌, ◌++◌, Option, Some, None, refl, sym, ap, ap₂, ◌∙◌, length, map, slice_get, get_or, arith}
+use Rattle.std.proofs.Common.{◌≡◌, ℕ, zero, suc, ◌+◌, ◌<◌, List, [], ◌∷◌, ◌++◌, Some, refl, sym, ap, ap₂, ◌∙◌, length, slice_get, get_or, arith}
 use Rattle.std.specs.List.{cons_option}
-use Rattle.std.specs.Option.{option_map, option_and_then, IfSome}
 use Rattle.std.proofs.lemmas.List.{length_push}
 use Rattle.std.proofs.lemmas.List.FromFn.{map-range_with_len_more, fill_by_all}
 use Rattle.std.proofs.lemmas.List.Elements.{All-nil, All-cons, All-head, All-tail}
 use Rattle.std.proofs.lemmas.Option.{get_or_from_slice_get}
-use Rattle.mt_values.specs.declared.value.ColType.{ColType}
-use Rattle.mt_values.specs.declared.value.Value.{Value}
 use Rattle.mt_values.specs.Grid.{Cells, row_at, rows_of}
 use Rattle.mt_values.specs.Values.{Row}
-use Rattle.mt_values.specs.Rows.{value_of_field, row_of_fields}
 use Rattle.mt_values.proofs.Grids.{AreEven, length-rows_of, slice_get-rows_of}
-use Rattle.tsv_rows.specs.Columns.{with_last, with_field, with_fields}
-use Rattle.mt_values.specs.Lists.{in_front}
-
--- columns with the values of a row behind their others
-abbrev pub with_row_last : List Cells → Row → List Cells
-with_row_last (c ∷ cs) (v ∷ vs) = with_last c v ∷ with_row_last cs vs
-with_row_last columns row = []
-
-abbrev types_in : List Cells → List ColType
-types_in columns = map (λ (c : Cells). c.col_type) columns
-
--- ---- the fields of a line are a row's values
-
-each_field : (c : Cells) (cs : List Cells) (v : Option Value) (row : Option Row) →
-    option_and_then (in_front (option_map (with_row_last cs) row)) (option_map (with_last c) v) ≡ option_map (with_row_last (c ∷ cs)) (option_and_then (in_front row) v)
-each_field c cs None row = refl
-each_field c cs (Some v) None = refl
-each_field c cs (Some v) (Some row) = refl
-
--- the columns get the values of the row that the fields are
-pub with_fields_is : (columns : List Cells) (fields : List (List ℕ)) → with_fields columns fields ≡ option_map (with_row_last columns) (row_of_fields (types_in columns) fields)
-with_fields_is [] [] = refl
-with_fields_is [] (f ∷ fs) = refl
-with_fields_is (c ∷ cs) [] = refl
-with_fields_is (c ∷ cs) (f ∷ fs) =
-    ap (λ (o : Option (List Cells)). option_and_then (in_front o) (with_field c f)) (with_fields_is cs fs)
-    ∙ each_field c cs (value_of_field c.col_type f) (row_of_fields (types_in cs) fs)
-
-one_longer : (n : ℕ) (v : Option Value) (row : Option Row) → IfSome row (λ r. length r ≡ n) → IfSome (option_and_then (in_front row) v) (λ r. length r ≡ suc n)
-one_longer n None row same = tt
-one_longer n (Some v) None same = tt
-one_longer n (Some v) (Some row) same = ap suc same
-
--- the row has a value for each type
-pub length-row_of_fields : (types : List ColType) (fields : List (List ℕ)) → IfSome (row_of_fields types fields) (λ row. length row ≡ length types)
-length-row_of_fields [] [] = refl
-length-row_of_fields [] (f ∷ fs) = tt
-length-row_of_fields (t ∷ ts) [] = tt
-length-row_of_fields (t ∷ ts) (f ∷ fs) = one_longer (length ts) (value_of_field t f) (row_of_fields ts fs) (length-row_of_fields ts fs)
-
--- ---- columns with one value more
+use Rattle.tsv_rows.specs.Columns.{types_in, with_last, with_row_last}
 
 pub types_in-with_row_last : (columns : List Cells) (row : Row) → length row ≡ length columns → types_in (with_row_last columns row) ≡ types_in columns
 types_in-with_row_last [] row len = refl

@@ -1,30 +1,40 @@
 -- Columns that values are read into.
-use Rattle.std.specs.Prelude.{ℕ, Bool, false, List, [], ◌∷◌, ◌++◌, Option, Some, None, if◌then◌else◌}
-use Rattle.std.specs.Option.{option_map, option_and_then}
+use Rattle.std.specs.Prelude.{ℕ, List, [], ◌∷◌, ◌++◌, map, Result, Ok, Err}
 use Rattle.mt_values.specs.Grid.{Cells}
-use Rattle.mt_values.specs.Rows.{fields_from, value_of_field}
+use Rattle.mt_values.specs.Rows.{value_of_field}
+use Rattle.mt_values.specs.Values.{Row}
+use Rattle.mt_values.specs.declared.row_fault.FieldFault.{FieldFault}
+use Rattle.mt_values.specs.declared.row_fault.RowFault.{RowFault}
+use Rattle.mt_values.specs.declared.value.ColType.{ColType}
 use Rattle.mt_values.specs.declared.value.Value.{Value}
-use Rattle.mt_values.specs.Lists.{in_front}
+
+-- the types of columns
+abbrev pub types_in : List Cells → List ColType
+types_in columns = map (λ (c : Cells). c.col_type) columns
 
 -- a column with one more value
 abbrev pub with_last : Cells → Value → Cells
 with_last column v = record { col_type = column.col_type; values = column.values ++ v ∷ [] }
 
--- a column with the value of a field behind its others; none where the field is not of the column's type
-abbrev pub with_field : Cells → List ℕ → Option Cells
-with_field column field = option_map (with_last column) (value_of_field column.col_type field)
+-- columns with the values of a row behind their others
+abbrev pub with_row_last : List Cells → Row → List Cells
+with_row_last (c ∷ cs) (v ∷ vs) = with_last c v ∷ with_row_last cs vs
+with_row_last columns row = []
 
--- columns with the values of fields behind their others, a field for each column
-abbrev pub with_fields : List Cells → List (List ℕ) → Option (List Cells)
-with_fields [] [] = Some []
-with_fields (c ∷ cs) (f ∷ fs) = option_and_then (in_front (with_fields cs fs)) (with_field c f)
-with_fields columns fields = None
+abbrev pub with_value : Cells → Result Value FieldFault → Result Cells FieldFault
+with_value column (Ok v) = Ok (with_last column v)
+with_value column (Err fault) = Err fault
 
--- what was read, where the answer is that it fits
-abbrev pub if_fits : {A : Type 0} → Bool → A → Option A
-if_fits fits a = if fits then Some a else None
+-- a column with the value of a field behind its others, or the field's fault
+abbrev pub with_field : Cells → List ℕ → Result Cells FieldFault
+with_field column field = with_value column (value_of_field column.col_type field)
 
--- the fields of what is left of a line
-abbrev pub fields_left : Option (List ℕ) → List (List ℕ)
-fields_left None = []
-fields_left (Some text) = fields_from false text
+-- columns with the values of a row that was read, or why there is none
+abbrev pub with_row : List Cells → Result Row RowFault → Result (List Cells) RowFault
+with_row columns (Ok row) = Ok (with_row_last columns row)
+with_row columns (Err fault) = Err fault
+
+-- what was read into, where there was no fault
+abbrev pub when_read : {A F : Type 0} → Result (Unit {0}) F → A → Result A F
+when_read (Ok done) a = Ok a
+when_read (Err fault) a = Err fault

@@ -1,13 +1,13 @@
-// Rows of a block as lines of text.
+// Rows as lines of text: those of a block, and single ones.
 ghost use Rattle.std.specs.Prelude.{◌≡◌, ◌<◌, ◌++◌, ◌∷◌, [], OnOk, All, length, flat_map, slice_index_or};
 ghost use Rattle.mt_values.specs.Cells.{value_of};
 ghost use Rattle.mt_values.specs.Grid.{picked};
-ghost use Rattle.mt_values.specs.Printing.{escaped, field, line};
+ghost use Rattle.mt_values.specs.Printing.{escaped, field, line, selected};
 ghost use Rattle.tsv_rows.specs.Printing.{escape_or_byte, tab_before};
 
 use itoa::Buffer;
 use mt_base::NoMemory;
-use mt_values::{Block, Cell};
+use mt_values::{Block, Cell, Value};
 
 // The letter that stands for a byte behind a backslash; none where the byte stands for itself.
 fn escape_of(byte: u8) -> Option<u8>
@@ -29,7 +29,7 @@ fn escape_of(byte: u8) -> Option<u8>
 /// Adds a text, each byte as it is printed. Runs of bytes that stand for themselves are copied whole.
 ///
 /// `NoMemory` where a growth was refused; a part of the text may have been added then.
-pub fn print_text(out: &mut Vec<u8>, text: &[u8]) -> Result<(), NoMemory>
+pub fn write_text(text: &[u8], out: &mut Vec<u8>) -> Result<(), NoMemory>
     ensures { OnOk result (out.new.items ≡ out.old.items ++ flat_map escaped text.now) }
 {
     let mut start = 0;
@@ -46,7 +46,7 @@ pub fn print_text(out: &mut Vec<u8>, text: &[u8]) -> Result<(), NoMemory>
 }
 
 // Adds a value as a field.
-fn print_cell(out: &mut Vec<u8>, buffer: &mut Buffer, cell: Cell) -> Result<(), NoMemory>
+fn write_cell(cell: Cell, buffer: &mut Buffer, out: &mut Vec<u8>) -> Result<(), NoMemory>
     ensures { OnOk result (out.new.items ≡ out.old.items ++ field (value_of cell.entry)) }
 {
     match cell {
@@ -58,13 +58,13 @@ fn print_cell(out: &mut Vec<u8>, buffer: &mut Buffer, cell: Cell) -> Result<(), 
         Cell::Int16(n) => out.extend_from_slice(buffer.format(n).as_bytes())?,
         Cell::Int32(n) => out.extend_from_slice(buffer.format(n).as_bytes())?,
         Cell::Int64(n) => out.extend_from_slice(buffer.format(n).as_bytes())?,
-        Cell::Text(text) => return print_text(out, text),
+        Cell::Text(text) => return write_text(text, out),
     }
     Ok(())
 }
 
 // Adds the tab that stands before each field but the first.
-fn print_tab(out: &mut Vec<u8>, index: usize) -> Result<(), NoMemory>
+fn write_tab(index: usize, out: &mut Vec<u8>) -> Result<(), NoMemory>
     ensures { OnOk result (out.new.items ≡ out.old.items ++ tab_before index) }
 {
     if index > 0 {
@@ -73,35 +73,61 @@ fn print_tab(out: &mut Vec<u8>, index: usize) -> Result<(), NoMemory>
     Ok(())
 }
 
-// Adds the line of the row at a place.
-fn print_row(
-    out: &mut Vec<u8>,
-    buffer: &mut Buffer,
-    block: &Block,
-    place: usize,
-) -> Result<(), NoMemory>
-    requires { place < length block.now.rows }
-    ensures { OnOk result (out.new.items ≡ out.old.items ++ line (slice_index_or block.now.rows place [])) }
+/// Adds the line of these values, with its line feed.
+///
+/// `NoMemory` where a growth was refused; a part of the line may have been added then.
+pub fn write_row(values: &[Value], out: &mut Vec<u8>) -> Result<(), NoMemory>
+    ensures { OnOk result (out.new.items ≡ out.old.items ++ line values.now) }
 {
-    prove!(place < block.len());
-    for index in 0..block.width() {
-        print_tab(out, index)?;
-        print_cell(out, buffer, block.column(index).at(place))?;
+    let mut buffer = Buffer::new();
+    for (index, value) in values.iter().enumerate() {
+        write_tab(index, out)?;
+        write_cell(Cell::of(value), &mut buffer, out)?;
     }
     out.push(b'\n')?;
     Ok(())
 }
 
-/// Adds the lines of the block's rows, in this order.
+/// Adds the line of the block's row at a place, counted from 0: of the values at chosen columns, in the order of the
+/// choice. A column may be chosen twice.
+///
+/// `NoMemory` where a growth was refused; a part of the line may have been added then.
+pub fn write_row_at(
+    block: &Block,
+    place: usize,
+    columns: &[u32],
+    out: &mut Vec<u8>,
+) -> Result<(), NoMemory>
+    requires within { place < length block.now.rows }
+    requires chosen { All (λ column. column < length block.now.types) columns.now }
+    ensures { OnOk result (out.new.items ≡ out.old.items ++ line (selected columns.now (slice_index_or block.now.rows place []))) }
+{
+    prove!(place < block.len());
+    let mut buffer = Buffer::new();
+    for (index, column) in columns.iter().enumerate() {
+        write_tab(index, out)?;
+        write_cell(block.column(*column as usize).at(place), &mut buffer, out)?;
+    }
+    out.push(b'\n')?;
+    Ok(())
+}
+
+/// Adds the lines of the block's rows at these places, in this order: of each row the values at chosen columns, in
+/// the order of the choice.
 ///
 /// `NoMemory` where a growth was refused; a part of the lines may have been added then.
-pub fn print_rows(out: &mut Vec<u8>, block: &Block, order: &[u32]) -> Result<(), NoMemory>
-    requires { All (λ place. place < length block.now.rows) order.now }
-    ensures { OnOk result (out.new.items ≡ out.old.items ++ flat_map line (picked block.now.rows order.now)) }
+pub fn write_rows(
+    block: &Block,
+    order: &[u32],
+    columns: &[u32],
+    out: &mut Vec<u8>,
+) -> Result<(), NoMemory>
+    requires within { All (λ place. place < length block.now.rows) order.now }
+    requires chosen { All (λ column. column < length block.now.types) columns.now }
+    ensures { OnOk result (out.new.items ≡ out.old.items ++ flat_map (λ row. line (selected columns.now row)) (picked block.now.rows order.now)) }
 {
-    let mut buffer = Buffer::new();
     for place in order {
-        print_row(out, &mut buffer, block, *place as usize)?;
+        write_row_at(block, *place as usize, columns, out)?;
     }
     Ok(())
 }

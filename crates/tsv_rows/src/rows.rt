@@ -1,165 +1,131 @@
-// From the lines of an INSERT's data to a block.
-ghost use Rattle.std.specs.Prelude.{◌≡◌, ◌≤◌, ◌<◌, ◌∷◌, [], ◌&&◌, ◌==◌, IfOk, IfSome, map, length, not, nat_le, option_copied, take, drop, false};
-ghost use Rattle.std.specs.List.{list_all};
-ghost use Rattle.std.specs.Option.{option_and_then, option_map};
-ghost use Rattle.mt_values.specs.Cells.{value_of};
+// From lines to rows: one row, and the lines of an INSERT's data as a block.
+ghost use Rattle.std.specs.Prelude.{◌≡◌, ◌≢◌, [], All, IfErr, IfOk, Ok, Err, length, map, false};
 ghost use Rattle.mt_values.specs.Grid.{Grid};
-ghost use Rattle.mt_values.specs.Rows.{digits_up_to, few_rows, fields_from, inserted_rows, is_plain, rows_of_data, unsigned_up_to, value_of_field};
-ghost use Rattle.mt_values.specs.Script.{takes_next};
-ghost use Rattle.mt_values.specs.Values.{type_of};
-ghost use Rattle.tsv_rows.specs.Columns.{fields_left, if_fits, with_field, with_fields};
-ghost use Rattle.tsv_rows.specs.Numbers.{with_digit};
+ghost use Rattle.mt_values.specs.Rows.{fault_of_field, inserted_rows, row_of_line};
+ghost use Rattle.mt_values.specs.Values.{AreValues, IsValue};
+ghost use Rattle.mt_values.specs.declared.row_fault.RowFault.TheVariants as row_fault;
+ghost use Rattle.mt_values.specs.declared.schema.Column.{Column};
+ghost use Rattle.tsv_rows.specs.Columns.{types_in, when_read, with_field, with_row};
+ghost use Rattle.tsv_rows.specs.Fields.{EndFields};
+ghost use Rattle.tsv_rows.specs.Stops.{Refuses, fault_of_count};
 
-use mt_base::NoMemory;
-use mt_values::{Block, Cell, ColType, ColumnData};
-use sql_read::{line_end, takes_next};
+use crate::fields::{cell_of_field, field_at, mark_fields};
+use mt_base::{NoMemory, Seq};
+use mt_values::{Block, ColType, ColumnData, DataFault, FieldFault, Row, RowFault, Schema};
 use std::alloc::Global;
 
 /// An INSERT has no more rows than this.
 const MOST_ROWS: usize = 1_048_576;
 
-/// A text has no more bytes than this.
-const LONGEST_TEXT: usize = 1_048_576;
+/// Why reading an INSERT's data gave no rows.
+#[derive(Clone, Copy, Debug, PartialEq, Eq)]
+pub enum ReadStop {
+    /// A growth was refused.
+    NoMemory,
+    /// The data is not the rows of an INSERT.
+    Refused(DataFault),
+}
 
-// The number with one more digit; none where the byte is no digit, or where that passes the greatest number.
-fn with_digit(most: u64, number: u64, byte: u8) -> Option<u64>
-    ensures { result ≡ with_digit most number byte }
+impl From<NoMemory> for ReadStop {
+    ghost use Rattle.std.specs.Prelude.{◌≡◌};
+    ghost use Rattle.tsv_rows.specs.declared.rows.ReadStop.TheVariants as read_stop;
+
+    ghost from_gives = { λ _ stop. stop ≡ read_stop.NoMemory };
+
+    fn from(_: NoMemory) -> Self {
+        ReadStop::NoMemory
+    }
+}
+
+// The fault of a line that has another number of fields than there are columns.
+fn fault_of_count(line: usize, found: usize, wanted: usize) -> Option<RowFault>
+    ensures { result ≡ fault_of_count line found wanted }
 {
-    if !byte.is_ascii_digit() {
+    if found == wanted {
         return None;
     }
-    let tenfold = number.checked_mul(10)?;
-    let longer = tenfold.checked_add(u64::from(byte - b'0'))?;
-    if longer > most {
-        return None;
-    }
-    Some(longer)
+    Some(RowFault::Fields {
+        line,
+        found,
+        wanted,
+    })
 }
 
-// The number that decimal digits say, up to a greatest one; none where a byte is no digit or there is none.
-#[tactic(auto, using(crate::proofs::Digits::digits_more, crate::proofs::Digits::digits_none))]
-fn digits_up_to(most: u64, digits: &[u8]) -> Option<u64>
-    ensures value { result ≡ digits_up_to most digits.now }
-    ensures within { IfSome result (λ n. n ≤ most) }
+// The fault of a line's field at a place, from 1.
+fn fault_of_field(line: usize, place: usize, fault: FieldFault) -> RowFault
+    ensures { result ≡ fault_of_field line place fault }
 {
-    if digits.is_empty() {
-        return None;
-    }
-    let mut number: u64 = 0;
-    for digit in digits {
-        let Some(longer) = with_digit(most, number, *digit) else {
-            return None;
-        };
-        number = longer;
-    }
-    Some(number)
-}
-
-// An unsigned number up to a greatest one: decimal digits, with an optional plus in front.
-fn unsigned_up_to(most: u64, field: &[u8]) -> Option<u64>
-    ensures value { result ≡ unsigned_up_to most field.now }
-    ensures within { IfSome result (λ n. n ≤ most) }
-{
-    match field {
-        [b'+', digits @ ..] => digits_up_to(most, digits),
-        _ => digits_up_to(most, field),
+    match fault {
+        FieldFault::NotOfType => RowFault::Field { line, field: place },
+        FieldFault::TooLong => RowFault::Value,
     }
 }
 
-// Whether the byte stands for itself in a text.
-fn is_plain(byte: u8) -> bool
-    ensures { result ≡ is_plain byte }
+/// The row that a line is, or why it is none. The line stands without its line feed, and counts from 1.
+///
+/// `RowFault::NoMemory` where a growth was refused. Else the fault is that of the number of fields, or of the first
+/// faulty field from the left.
+pub fn read_row(alloc: Global, schema: &Schema, text: &[u8], line: usize) -> Result<Row, RowFault>
+    ensures row { IfOk result (λ row. row_of_line (map (λ (c : Column). c.col_type) schema.now.columns) line text.now ≡ Ok row) }
+    ensures fault { IfErr result (λ fault. fault ≢ RowFault.NoMemory → row_of_line (map (λ (c : Column). c.col_type) schema.now.columns) line text.now ≡ Err fault) }
+    ensures values { IfOk result (All IsValue) }
 {
-    32 <= byte && byte <= 126 && byte != b'\'' && byte != b'\\'
-}
-
-// Whether each byte stands for itself in a text.
-fn are_plain(text: &[u8]) -> bool
-    ensures { result ≡ list_all is_plain text.now }
-{
-    text.iter().all(|byte| is_plain(*byte))
-}
-
-// Whether the bytes are a text of plain bytes, not too long.
-fn is_plain_text(text: &[u8]) -> bool
-    ensures { result ≡ (list_all is_plain text.now && nat_le (length text.now) LONGEST_TEXT) }
-{
-    are_plain(text) && text.len() <= LONGEST_TEXT
-}
-
-// The value of a field of a column's type; none where the field is not of it.
-fn cell_of_field(col_type: ColType, field: &[u8]) -> Option<Cell<'_>>
-    ensures value { option_map value_of result ≡ value_of_field col_type field.now }
-    ensures typed { IfSome result (λ cell. type_of (value_of cell) ≡ col_type) }
-{
-    match col_type {
-        ColType::UInt8 => match unsigned_up_to(255, field) {
-            Some(number) => Some(Cell::UInt8(number as u8)),
-            None => None,
-        },
-        ColType::Text => {
-            if is_plain_text(field) {
-                Some(Cell::Text(field))
-            } else {
-                None
-            }
+    let columns = schema.columns.as_slice();
+    let mut ends = Vec::new(alloc);
+    mark_fields(text, false, &mut ends)?;
+    if let Some(fault) = fault_of_count(line, ends.len(), columns.len()) {
+        return Err(fault);
+    }
+    let mut said = Vec::new(alloc);
+    let mut row = Seq::with_capacity(alloc, columns.len())?;
+    for (place, column) in columns.iter().enumerate() {
+        let field = field_at(text, &ends, place);
+        match cell_of_field(column.col_type, field, &mut said)? {
+            Ok(cell) => row.push(cell.to_value(alloc)?)?,
+            Err(fault) => return Err(fault_of_field(line, place + 1, fault)),
         }
-        _ => None,
     }
+    Ok(row)
 }
 
-// Whether the byte is a tab that no backslash takes.
-fn ends_field(taken: bool, byte: u8) -> bool
-    ensures { result ≡ (not taken && byte == 9) }
+// Adds the value of a field to a column. Where the field has a fault, the column stays as it was.
+#[tactic(auto, using(crate::proofs::LineColumns::typed_cell))]
+fn read_field(
+    column: &mut ColumnData,
+    field: &[u8],
+    said: &mut Vec<u8>,
+) -> Result<Result<(), FieldFault>, NoMemory>
+    ensures { IfOk result (λ read. when_read read column.new ≡ with_field column.old field.now) }
 {
-    !taken && byte == b'\t'
-}
-
-// The field that a line begins with, and what stands behind its tab; none where it is the last field.
-#[tactic(auto, using(crate::proofs::FieldParts::field_more, crate::proofs::FieldParts::field_here, crate::proofs::FieldParts::field_none))]
-fn first_field(line: &[u8]) -> (&[u8], Option<&[u8]>)
-    ensures { result.0.now ∷ fields_left (option_copied result.1) ≡ fields_from false line.now }
-{
-    let mut taken = false;
-    for (at, byte) in line.iter().enumerate() {
-        if ends_field(taken, *byte) {
-            return (&line[..at], Some(&line[at + 1..]));
+    match cell_of_field(column.col_type(), field, said)? {
+        Ok(cell) => {
+            column.push_cell(cell)?;
+            Ok(Ok(()))
         }
-        taken = takes_next(taken, *byte);
+        Err(fault) => Ok(Err(fault)),
     }
-    (line, None)
 }
 
-// Adds the value of a field to a column. Answers whether the field is of the column's type.
-fn read_field(column: &mut ColumnData, field: &[u8]) -> Result<bool, NoMemory>
-    ensures { IfOk result (λ fits. if_fits fits column.new ≡ with_field column.old field.now) }
+// Adds the values of a line's fields to the columns. Where the line has a fault, some columns may have got a value.
+fn read_line(
+    columns: &mut [ColumnData],
+    text: &[u8],
+    ends: &[usize],
+    line: usize,
+    said: &mut Vec<u8>,
+) -> Result<Result<(), RowFault>, NoMemory>
+    requires { EndFields text.now ends.now }
+    ensures { IfOk result (λ read. when_read read columns.new ≡ with_row columns.old (row_of_line (types_in columns.old) line text.now)) }
 {
-    let Some(cell) = cell_of_field(column.col_type(), field) else {
-        return Ok(false);
-    };
-    column.push_cell(cell)?;
-    Ok(true)
-}
-
-// Adds the values of a line to the columns. Answers whether the line is a row of their types; where it is not,
-// some columns may have got a value.
-#[tactic(auto, using(crate::proofs::LineColumns::fronted_none, crate::proofs::LineColumns::column_more, crate::proofs::LineColumns::column_refused, crate::proofs::LineColumns::column_alone, crate::proofs::LineColumns::columns_end, crate::proofs::LineColumns::columns_over))]
-fn read_line(columns: &mut [ColumnData], line: &[u8]) -> Result<bool, NoMemory>
-    ensures { IfOk result
-        (λ fits. if_fits fits columns.new ≡ with_fields columns.old (fields_from false line.now)) }
-{
-    let mut rest = Some(line);
-    for column in columns.iter_mut() {
-        let Some(text) = rest else {
-            return Ok(false);
-        };
-        let (field, behind) = first_field(text);
-        if !read_field(column, field)? {
-            return Ok(false);
+    if let Some(fault) = fault_of_count(line, ends.len(), columns.len()) {
+        return Ok(Err(fault));
+    }
+    for (place, column) in columns.iter_mut().enumerate() {
+        if let Err(fault) = read_field(column, field_at(text, ends, place), said)? {
+            return Ok(Err(fault_of_field(line, place + 1, fault)));
         }
-        rest = behind;
     }
-    Ok(rest.is_none())
+    Ok(Ok(()))
 }
 
 // Columns of these types, without values.
@@ -175,42 +141,39 @@ fn empty_columns(alloc: Global, types: &[ColType]) -> Result<Vec<ColumnData>, No
     )
 }
 
-// The rows of lines of data; none where a line is no row of these types, or where there are too many.
-fn read_lines(alloc: Global, types: &[ColType], lines: &[u8]) -> Result<Option<Block>, NoMemory>
-    ensures rows { IfOk result (λ b. option_map (λ (g : Grid). g.rows) b ≡ option_and_then few_rows (rows_of_data types.now lines.now)) }
-    ensures types { IfOk result (λ b. IfSome b (λ g. g.types ≡ types.now)) }
-{
-    let mut columns = empty_columns(alloc, types)?;
-    let mut count = 0;
-    let mut at = 0;
-    'lines: while let Some(len) = line_end(&lines[at..]) {
-        if count >= MOST_ROWS {
-            return Ok(None);
-        }
-        if !read_line(&mut columns, &lines[at..at + len])? {
-            return Ok(None);
-        }
-        count += 1;
-        at += len + 1;
-    }
-    Ok(Some(Block::of_columns(columns, count)))
-}
-
-/// The rows of an INSERT's data, read straight into columns; none where a line is no row of these types,
-/// where the data has no end, and where there are too many rows.
+/// The rows of an INSERT's data, read straight into columns, or why the data is refused. `ended` says that the line
+/// came which ends data. The first faulty line decides, and of its faults that of the number of its fields comes first.
 ///
-/// `NoMemory` where there was none for the columns.
+/// `ReadStop::NoMemory` where a growth was refused.
 pub fn read_rows(
     alloc: Global,
     types: &[ColType],
     lines: &[u8],
     ended: bool,
-) -> Result<Option<Block>, NoMemory>
-    ensures rows { IfOk result (λ b. option_map (λ (g : Grid). g.rows) b ≡ inserted_rows types.now lines.now ended) }
-    ensures types { IfOk result (λ b. IfSome b (λ g. g.types ≡ types.now)) }
+) -> Result<Block, ReadStop>
+    ensures rows { IfOk result (λ b. inserted_rows types.now lines.now ended ≡ Ok b.rows) }
+    ensures types { IfOk result (λ b. b.types ≡ types.now) }
+    ensures values { IfOk result (λ b. AreValues b.rows) }
+    ensures refused { IfErr result (Refuses (inserted_rows types.now lines.now ended)) }
 {
-    if !ended {
-        return Ok(None);
+    let mut columns = empty_columns(alloc, types)?;
+    let mut ends = Vec::new(alloc);
+    let mut said = Vec::new(alloc);
+    let mut count = 0;
+    let mut at = 0;
+    'lines: while let Some(len) = mark_fields(&lines[at..], true, &mut ends)? {
+        if count >= MOST_ROWS {
+            return Err(ReadStop::Refused(DataFault::TooMany));
+        }
+        let text = &lines[at..at + len];
+        if let Err(fault) = read_line(&mut columns, text, &ends, count + 1, &mut said)? {
+            return Err(ReadStop::Refused(DataFault::Row(fault)));
+        }
+        count += 1;
+        at += len + 1;
     }
-    read_lines(alloc, types, lines)
+    if !ended {
+        return Err(ReadStop::Refused(DataFault::Unended { rows: count }));
+    }
+    Ok(Block::of_columns(columns, count))
 }

@@ -68,28 +68,88 @@ fn prints<R: Threads + Wait + Sync + Abort>(
     Ok(())
 }
 
+// A table that is there is told before the bound.
 #[test]
 fn a_root_has_at_most_64_tables(rt: HostRuntime) -> Result<(), Fail> {
     let alloc = rt.alloc();
     let back = " (a UInt8) ENGINE = MergeTree ORDER BY a;";
-    let script = numbered(alloc, "CREATE TABLE t", 1, 66, back)?;
+    let tables = numbered(alloc, "CREATE TABLE t", 1, 66, back)?;
+    let again = numbered(alloc, "CREATE TABLE t", 64, 65, back)?;
+    let script = [tables.as_slice(), &again].concat(alloc)?;
     let accepted = numbered(alloc, "OK ", 1, 65, "\n")?;
-    let replies = [accepted.as_slice(), b"E00\n"].concat(alloc)?;
+    let replies = [accepted.as_slice(), b"E12 tables 64\nE03 t64\n"].concat(alloc)?;
     prints(&rt, alloc, script, &replies, 1)
 }
 
+// A CREATE of so many columns and one more, behind the one of the table t.
+fn wide(alloc: Global, table: &[u8], others: u32, last: &[u8]) -> Result<Vec<u8>, AllocError> {
+    let columns = numbered(alloc, "c", 0, others, " UInt8, ")?;
+    [TABLE, b"CREATE TABLE ", table, b" (", &columns, last].concat(alloc)
+}
+
+// A reply behind that to the first command.
+fn behind_ok(alloc: Global, reply: &[u8]) -> Result<Vec<u8>, AllocError> {
+    [b"OK 1\n".as_slice(), reply].concat(alloc)
+}
+
+// What is wrong with names is told before the bound, and that before a table that is there.
 #[test]
 fn a_table_has_at_most_64_columns(rt: HostRuntime) -> Result<(), Fail> {
     let alloc = rt.alloc();
-    for (others, reply, status) in [(63, b"OK 1\n".as_slice(), 0), (64, b"E00\n", 1)] {
-        let columns = numbered(alloc, "c", 0, others, " UInt8, ")?;
-        let script = [
-            b"CREATE TABLE t (".as_slice(),
-            &columns,
+    for (table, others, last, reply, status) in [
+        (
+            b"u".as_slice(),
+            63,
+            b"k String) ENGINE = MergeTree ORDER BY k;".as_slice(),
+            b"OK 2\n".as_slice(),
+            0,
+        ),
+        (
+            b"t",
+            63,
             b"k String) ENGINE = MergeTree ORDER BY k;",
-        ]
-        .concat(alloc)?;
-        prints(&rt, alloc, script, reply, status)?;
+            b"E03 t\n",
+            1,
+        ),
+        (
+            b"u",
+            64,
+            b"k String) ENGINE = MergeTree ORDER BY k;",
+            b"E12 columns 64\n",
+            1,
+        ),
+        (
+            b"t",
+            64,
+            b"k String) ENGINE = MergeTree ORDER BY k;",
+            b"E12 columns 64\n",
+            1,
+        ),
+        (
+            b"t",
+            64,
+            b"c7 String) ENGINE = MergeTree ORDER BY c7;",
+            b"E05 double_column c7\n",
+            1,
+        ),
+        (
+            b"t",
+            64,
+            b"k String) ENGINE = MergeTree ORDER BY (k, k);",
+            b"E05 double_key k\n",
+            1,
+        ),
+        (
+            b"t",
+            64,
+            b"c7 String) ENGINE = MergeTree ORDER BY (c7, j);",
+            b"E04 j\n",
+            1,
+        ),
+    ] {
+        let script = wide(alloc, table, others, last)?;
+        let replies = behind_ok(alloc, reply)?;
+        prints(&rt, alloc, script, &replies, status)?;
     }
     Ok(())
 }
@@ -101,16 +161,18 @@ fn filled(alloc: Global, byte: u8, end: &[u8], length: usize) -> Result<Vec<u8>,
     [CREATE, &filling, end, b";"].concat(alloc)
 }
 
-// Blanks and comments within count. A long text that is no statement is answered as one.
+// Blanks and comments within count. What is faulty up to the bound comes first.
 #[test]
 fn a_statement_has_at_most_a_mebibyte(rt: HostRuntime) -> Result<(), Fail> {
     let alloc = rt.alloc();
     for (byte, end, length, reply, status) in [
         (b' ', b"a".as_slice(), MIB, b"OK 1\n".as_slice(), 0),
         (b'-', b"\na", MIB, b"OK 1\n", 0),
-        (b' ', b"a", MIB + 1, b"E00\n", 1),
-        (b'-', b"\na", MIB + 1, b"E00\n", 1),
-        (b'k', b" a", MIB + 1, b"E01 0\n", 1),
+        (b' ', b"a", MIB + 1, b"E12 statement 1048576\n", 1),
+        (b'-', b"\na", MIB + 1, b"E12 statement 1048576\n", 1),
+        (b' ', b"a b", MIB + 1, b"E01 1048576\n", 1),
+        (b' ', b"a b", MIB + 2, b"E12 statement 1048576\n", 1),
+        (b'k', b" a", MIB + 1, b"E12 name 64\n", 1),
     ] {
         let script = filled(alloc, byte, end, length)?;
         prints(&rt, alloc, script, reply, status)?;
@@ -139,7 +201,13 @@ fn a_long_insert_adds_nothing(rt: HostRuntime) -> Result<(), Fail> {
         b"t;\n1\ta\n\\.\nSELECT * FROM t;",
     ]
     .concat(alloc)?;
-    prints(&rt, alloc, script, b"OK 1\nE00\nROWS 0 PREFIX 1\n", 1)
+    prints(
+        &rt,
+        alloc,
+        script,
+        b"OK 1\nE12 statement 1048576\nROWS 0 PREFIX 1\n",
+        1,
+    )
 }
 
 #[test]
@@ -150,7 +218,13 @@ fn a_string_has_at_most_a_mebibyte(rt: HostRuntime) -> Result<(), Fail> {
     let replies = [b"OK 1\nOK 2\nROWS 1 PREFIX 2\n".as_slice(), &text, b"\n"].concat(alloc)?;
     prints(&rt, alloc, script, &replies, 0)?;
     let longer = [TEXTS, b"x", &text, TEXTS_END].concat(alloc)?;
-    prints(&rt, alloc, longer, b"OK 1\nE00\nROWS 0 PREFIX 1\n", 1)
+    prints(
+        &rt,
+        alloc,
+        longer,
+        b"OK 1\nE12 value 1048576\nROWS 0 PREFIX 1\n",
+        1,
+    )
 }
 
 // An INSERT without rows leaves no part, and is answered all the same.
@@ -166,6 +240,30 @@ fn a_table_takes_3000_inserts_with_rows(rt: HostRuntime) -> Result<(), Fail> {
     ]
     .concat(alloc)?;
     let accepted = numbered(alloc, "OK ", 1, 3002, "\n")?;
-    let replies = [accepted.as_slice(), b"E00\nOK 3001\n"].concat(alloc)?;
+    let replies = [accepted.as_slice(), b"E12 parts 3000 0\nOK 3001\n"].concat(alloc)?;
     prints(&rt, alloc, script, &replies, 1)
+}
+
+// An INSERT of these lines into a new table, and what comes behind them.
+fn inserted(alloc: Global, lines: &[u8], end: &[u8]) -> Result<Vec<u8>, AllocError> {
+    let create =
+        b"CREATE TABLE w (a UInt8) ENGINE = MergeTree ORDER BY a;INSERT INTO w;\n".as_slice();
+    [create, lines, end].concat(alloc)
+}
+
+// The row past the bound refuses the INSERT, whatever it is.
+#[test]
+fn an_insert_has_at_most_1048576_rows(rt: HostRuntime) -> Result<(), Fail> {
+    let alloc = rt.alloc();
+    let rows = b"7\n".as_slice().repeat(alloc, MIB)?;
+    let whole = inserted(alloc, &rows, b"\\.\n")?;
+    prints(&rt, alloc, whole, b"OK 1\nOK 2\n", 0)?;
+    let longer = inserted(alloc, &rows, b"x\n\\.\nSELECT * FROM w;")?;
+    prints(
+        &rt,
+        alloc,
+        longer,
+        b"OK 1\nE12 rows 1048576\nROWS 0 PREFIX 1\n",
+        1,
+    )
 }

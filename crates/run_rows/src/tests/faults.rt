@@ -1,6 +1,6 @@
 // What runs leave where the outside fails, where the root has names, and where the words are no command line.
-use crate::outside::{Ended, Streams, calm, run_over, run_streams, run_words, words};
-use crate::scripts::{LONGER, PLAIN};
+use crate::outside::{Streams, calm, run_over, run_streams, run_words, words};
+use crate::scripts::PLAIN;
 use disk_mem::{CallKind, Listed, MemDisk};
 use mt_base::Seq;
 use mt_outside::{Arm, Disk};
@@ -13,127 +13,90 @@ use std::thread::Threads;
 /// The status of a run that a fault of the disk ended.
 const DISK_FAULT: u8 = 5;
 
-/// No object makes so many calls of a kind here, nor the disk so many of all kinds.
-const MOST_CALLS: u32 = 64;
+// Two INSERTs with a SELECT behind each, and a statement that is refused.
+const LONGER: &[u8] =
+    b"CREATE TABLE t (a UInt8, s String) ENGINE = MergeTree ORDER BY a;INSERT INTO t;\n2\tb\n\\.\nSELECT * FROM t;INSERT INTO t;\n2\n\\.\nINSERT INTO t;\n1\ta\n\\.\nSELECT * FROM t;";
 
-// Whether the run stands as one that a fault of the disk ended. Otherwise it is to be like the full run.
-fn is_cut_off<R: Abort>(rt: &R, ended: &Ended, full: &Ended) -> bool {
-    if ended.status == DISK_FAULT {
-        assert!(rt; ended.is_front_of(full));
-        return true;
-    }
-    assert!(rt; ended.is_like(full));
-    false
-}
+// What it prints where nothing fails, where its CREATE fails so or so, and where one of its INSERTs does.
+const CALM: &[u8] =
+    b"OK 1\nOK 2\nROWS 1 PREFIX 2\n2\tb\nE07 1 1 2\nOK 3\nROWS 2 PREFIX 3\n1\ta\n2\tb\n";
 
-// How many calls a run makes of the listed one's object and kind: it is run with each of them failing.
-fn calls<R: Threads + Wait + Sync + Abort>(
-    rt: &R,
-    alloc: Global,
-    full: &Ended,
-    listed: Listed,
-) -> Result<u32, Fail> {
-    for number in 0..MOST_CALLS {
-        let mut disk = MemDisk::new(alloc)?;
-        disk.fail(&[Listed { number, ..listed }])?;
-        let ended = run_over(rt, alloc, calm(LONGER.script), disk)?;
-        if !is_cut_off(rt, &ended, full) {
-            return Ok(number);
-        }
-    }
-    Ok(MOST_CALLS)
-}
+const CREATE_UNSETTLED: &[u8] = b"E16 0\nE02 t\nE02 t\nE02 t\nE02 t\nE02 t\n";
 
+const CREATE_FAILED: &[u8] = b"E15\nE02 t\nE02 t\nE02 t\nE02 t\nE02 t\n";
+
+const FIRST_UNSETTLED: &[u8] =
+    b"OK 1\nE16 0\nROWS 0 PREFIX 1\nE07 1 1 2\nE17 0 1 0\nROWS 0 PREFIX 1\n";
+
+const FIRST_FAILED: &[u8] = b"OK 1\nE15\nROWS 0 PREFIX 1\nE07 1 1 2\nOK 2\nROWS 1 PREFIX 2\n1\ta\n";
+
+const SECOND_UNSETTLED: &[u8] =
+    b"OK 1\nOK 2\nROWS 1 PREFIX 2\n2\tb\nE07 1 1 2\nE16 0\nROWS 1 PREFIX 2\n2\tb\n";
+
+const SECOND_FAILED: &[u8] =
+    b"OK 1\nOK 2\nROWS 1 PREFIX 2\n2\tb\nE07 1 1 2\nE15\nROWS 1 PREFIX 2\n2\tb\n";
+
+const SELECT_FAILED: &[u8] = b"OK 1\nOK 2\nE15\nE07 1 1 2\nOK 3\nROWS 2 PREFIX 3\n1\ta\n2\tb\n";
+
+// A call that fails is answered, and the run goes on to the script's end.
 #[test]
-fn each_fault_of_the_disk_ends_the_run(rt: HostRuntime) -> Result<(), Fail> {
+fn faults_of_the_disk_are_answered(rt: HostRuntime) -> Result<(), Fail> {
     let alloc = rt.alloc();
-    let full = run_streams(&rt, alloc, calm(LONGER.script))?;
-    for (arm, stage, kind, least) in [
-        (None, None, CallKind::Start, 1),
-        (None, None, CallKind::Arm, 1),
-        (None, None, CallKind::List, 1),
-        (None, None, CallKind::Open, 0),
-        (None, None, CallKind::Publish, 3),
-        (None, None, CallKind::Remove, 0),
-        (None, None, CallKind::SyncNames, 3),
-        (Some(0), None, CallKind::Stage, 3),
-        (Some(0), None, CallKind::Read, 4),
-        (Some(0), Some(0), CallKind::Append, 1),
-        (Some(0), Some(0), CallKind::Sync, 1),
-        (Some(0), Some(1), CallKind::Append, 2),
-        (Some(0), Some(1), CallKind::Sync, 2),
-        (Some(0), Some(2), CallKind::Append, 2),
-        (Some(0), Some(2), CallKind::Sync, 2),
-        (Some(0), Some(3), CallKind::Append, 0),
+    for (arm, stage, kind, number, written, commands) in [
+        (None, None, CallKind::Start, 0, b"".as_slice(), 0),
+        (None, None, CallKind::Arm, 0, b"", 0),
+        (None, None, CallKind::List, 0, b"", 0),
+        (None, None, CallKind::Publish, 0, CREATE_UNSETTLED, 0),
+        (None, None, CallKind::Publish, 1, FIRST_UNSETTLED, 1),
+        (None, None, CallKind::Publish, 2, SECOND_UNSETTLED, 2),
+        (None, None, CallKind::SyncNames, 0, CREATE_UNSETTLED, 0),
+        (None, None, CallKind::SyncNames, 1, FIRST_UNSETTLED, 1),
+        (None, None, CallKind::SyncNames, 2, SECOND_UNSETTLED, 2),
+        (Some(0), None, CallKind::Stage, 0, CREATE_FAILED, 0),
+        (Some(0), None, CallKind::Stage, 1, FIRST_FAILED, 2),
+        (Some(0), None, CallKind::Stage, 2, SECOND_FAILED, 2),
+        (Some(0), None, CallKind::Read, 0, SELECT_FAILED, 3),
+        (Some(0), Some(0), CallKind::Append, 0, CREATE_FAILED, 0),
+        (Some(0), Some(0), CallKind::Sync, 0, CREATE_FAILED, 0),
+        (Some(0), Some(1), CallKind::Append, 0, FIRST_FAILED, 2),
+        (Some(0), Some(1), CallKind::Append, 2, FIRST_FAILED, 2),
+        (Some(0), Some(1), CallKind::Sync, 0, FIRST_FAILED, 2),
+        (Some(0), Some(1), CallKind::Sync, 2, FIRST_FAILED, 2),
+        (Some(0), Some(2), CallKind::Append, 1, SECOND_FAILED, 2),
+        (Some(0), Some(2), CallKind::Sync, 1, SECOND_FAILED, 2),
     ] {
-        let listed = Listed {
+        let mut disk = MemDisk::new(alloc)?;
+        disk.fail(&[Listed {
             arm,
             stage,
             kind,
-            number: 0,
-        };
-        let made = calls(&rt, alloc, &full, listed)?;
-        assert!(rt;
-            least <= made && made < MOST_CALLS,
-            "{:?} is called {} times",
-            kind,
-            made
-        );
-    }
-    Ok(())
-}
-
-// The replies before the second command of `LONGER`, and before its third. None stand before its first.
-const BEFORE_SECOND: &[u8] = b"OK 1\n";
-
-const BEFORE_THIRD: &[u8] = b"OK 1\nOK 2\nROWS 1 PREFIX 2\n2\tb\nE00\n";
-
-// A command at which the run ends has no reply and is not accepted. All replies before it are written.
-#[test]
-fn a_command_that_fails_is_the_last(rt: HostRuntime) -> Result<(), Fail> {
-    let alloc = rt.alloc();
-    for (arm, stage, kind, made_in_each) in [
-        (None, None, CallKind::Publish, true),
-        (None, None, CallKind::SyncNames, true),
-        (Some(0), None, CallKind::Stage, true),
-        (Some(0), Some(0), CallKind::Append, false),
-        (Some(0), Some(0), CallKind::Sync, false),
-    ] {
-        for (place, written) in (0..3).zip([b"".as_slice(), BEFORE_SECOND, BEFORE_THIRD]) {
-            let place: u32 = place;
-            let mut disk = MemDisk::new(alloc)?;
-            disk.fail(&[Listed {
-                arm,
-                stage: stage.map(|_: u32| place),
-                kind,
-                number: if made_in_each { place } else { 0 },
-            }])?;
-            let ended = run_over(&rt, alloc, calm(LONGER.script), disk)?;
-            assert_eq!(rt; ended.status, DISK_FAULT);
-            assert_eq!(rt; ended.written.as_slice(), written);
-            assert_eq!(rt; ended.history.len(), place as usize);
-        }
+            number,
+        }])?;
+        let ended = run_over(&rt, alloc, calm(LONGER), disk)?;
+        assert_eq!(rt; ended.written.as_slice(), written, "{:?} {}", kind, number);
+        assert_eq!(rt; ended.status, DISK_FAULT);
+        assert_eq!(rt; ended.history.len(), commands);
     }
     Ok(())
 }
 
 // The disk starts, makes an arm and lists; each of the three commands is published and settled.
 #[test]
-fn a_disk_that_stops_ends_the_run(rt: HostRuntime) -> Result<(), Fail> {
+fn a_disk_that_stops_is_answered(rt: HostRuntime) -> Result<(), Fail> {
     let alloc = rt.alloc();
-    let full = run_streams(&rt, alloc, calm(LONGER.script))?;
-    for (first, end, written, commands) in [
-        (0, 5, b"".as_slice(), 0),
-        (5, 7, BEFORE_SECOND, 1),
-        (7, 9, BEFORE_THIRD, 2),
-        (9, 10, LONGER.replies, 3),
+    for (first, end, written, status, commands) in [
+        (0, 3, b"".as_slice(), DISK_FAULT, 0),
+        (3, 5, CREATE_UNSETTLED, DISK_FAULT, 0),
+        (5, 7, FIRST_UNSETTLED, DISK_FAULT, 1),
+        (7, 9, SECOND_UNSETTLED, DISK_FAULT, 2),
+        (9, 10, CALM, 1, 3),
     ] {
         for calls in first..end {
             let mut disk = MemDisk::new(alloc)?;
             disk.stop_after(calls);
-            let ended = run_over(&rt, alloc, calm(LONGER.script), disk)?;
-            assert_eq!(rt; is_cut_off(&rt, &ended, &full), calls < 9);
-            assert_eq!(rt; ended.written.as_slice(), written);
+            let ended = run_over(&rt, alloc, calm(LONGER), disk)?;
+            assert_eq!(rt; ended.written.as_slice(), written, "{}", calls);
+            assert_eq!(rt; ended.status, status);
             assert_eq!(rt; ended.history.len(), commands);
         }
     }
@@ -157,7 +120,7 @@ fn disk_with<R: Abort>(rt: &R, alloc: Global, names: &[&[u8]]) -> Result<MemDisk
 #[test]
 fn a_root_with_names_is_not_opened(rt: HostRuntime) -> Result<(), Fail> {
     let alloc = rt.alloc();
-    let whole = calm(PLAIN.script);
+    let whole = calm(PLAIN.0);
     let by_bytes = Streams {
         by_bytes: true,
         failing_writes: &[2],
@@ -194,12 +157,12 @@ fn a_fault_of_a_stream_ends_the_run(rt: HostRuntime) -> Result<(), Fail> {
         (&[1], &[], 3, b"", 0),
         (&[], &[0], 4, b"", 1),
         (&[], &[1], 4, b"OK 1\n", 2),
-        (&[2], &[3], 0, PLAIN.replies, 2),
+        (&[2], &[3], 0, PLAIN.1, 2),
     ] {
         let streams = Streams {
             failing_reads: reads,
             failing_writes: writes,
-            ..calm(PLAIN.script)
+            ..calm(PLAIN.0)
         };
         let ended = run_streams(&rt, alloc, streams)?;
         assert_eq!(rt; ended.status, status);
@@ -213,12 +176,12 @@ fn a_fault_of_a_stream_ends_the_run(rt: HostRuntime) -> Result<(), Fail> {
 #[test]
 fn each_read_that_fails_ends_the_run(rt: HostRuntime) -> Result<(), Fail> {
     let alloc = rt.alloc();
-    let reads = PLAIN.script.len() as u64 + 1;
+    let reads = PLAIN.0.len() as u64 + 1;
     for number in 0..reads {
         let streams = Streams {
             by_bytes: true,
             failing_reads: &[number],
-            ..calm(PLAIN.script)
+            ..calm(PLAIN.0)
         };
         let ended = run_streams(&rt, alloc, streams)?;
         assert_eq!(rt; ended.status, 3, "at {}", number);
@@ -233,15 +196,15 @@ fn each_read_that_fails_ends_the_run(rt: HostRuntime) -> Result<(), Fail> {
 fn each_write_that_fails_ends_the_run(rt: HostRuntime) -> Result<(), Fail> {
     let alloc = rt.alloc();
     let first_reply = b"OK 1\n".len();
-    for number in 0..PLAIN.replies.len() {
+    for number in 0..PLAIN.1.len() {
         let streams = Streams {
             by_bytes: true,
             failing_writes: &[number as u64],
-            ..calm(PLAIN.script)
+            ..calm(PLAIN.0)
         };
         let ended = run_streams(&rt, alloc, streams)?;
         assert_eq!(rt; ended.status, 4, "at {}", number);
-        assert_eq!(rt; ended.written.as_slice(), &PLAIN.replies[..number]);
+        assert_eq!(rt; ended.written.as_slice(), &PLAIN.1[..number]);
         assert_eq!(rt;
             ended.history.len(),
             if number < first_reply { 1 } else { 2 }
@@ -273,7 +236,7 @@ fn other_words_write_nothing(rt: HostRuntime) -> Result<(), Fail> {
     ] {
         let words = words(alloc, texts)?;
         let disk = MemDisk::new(alloc)?;
-        let ended = run_words(&rt, alloc, &words, calm(PLAIN.script), disk)?;
+        let ended = run_words(&rt, alloc, &words, calm(PLAIN.0), disk)?;
         assert_eq!(rt; ended.status, 2);
         assert!(rt; ended.written.is_empty());
         assert!(rt; ended.history.is_empty());
@@ -292,9 +255,9 @@ fn words_that_are_a_command_line(rt: HostRuntime) -> Result<(), Fail> {
     ] {
         let words = words(alloc, &texts)?;
         let disk = MemDisk::new(alloc)?;
-        let ended = run_words(&rt, alloc, &words, calm(PLAIN.script), disk)?;
-        assert_eq!(rt; ended.status, PLAIN.status);
-        assert_eq!(rt; ended.written.as_slice(), PLAIN.replies);
+        let ended = run_words(&rt, alloc, &words, calm(PLAIN.0), disk)?;
+        assert_eq!(rt; ended.status, 0);
+        assert_eq!(rt; ended.written.as_slice(), PLAIN.1);
     }
     Ok(())
 }

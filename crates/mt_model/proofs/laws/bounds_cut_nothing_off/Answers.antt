@@ -1,5 +1,20 @@
-use Rattle.mt_values.proofs.Bounds.{statements_same, tokens_same, data_same, rows_same}
+use Rattle.mt_values.specs.declared.token.Symbol.TheVariants as symbol
+use Rattle.mt_values.specs.Grammar.{is_symbol, the}
+use Rattle.mt_values.proofs.TokenBounds.{tokens_same}
+use Rattle.mt_values.proofs.ScriptBounds.{statements_same, data_same, data_ended_same}
+use Rattle.mt_values.proofs.RowBounds.{rows_same}
+use Rattle.mt_model.proofs.TextBounds.{strings_same, texts_same, names_same, columns_same}
 use Rattle.mt_model.proofs.laws.bounds_cut_nothing_off.Goals as goal
 
 pub returns : goal.returns
-returns c = record { statements = statements_same; tokens = tokens_same; lines = data_same; rows = rows_same }
+returns c = record {
+  statements = statements_same;
+  tokens = tokens_same;
+  strings = strings_same;
+  names = λ n m next ts. names_same n m (is_symbol symbol.Comma) (the symbol.Comma) next ts;
+  columns = λ n m next ts. columns_same n m (is_symbol symbol.Comma) (the symbol.Comma) next ts;
+  lines = data_same;
+  ends = data_ended_same;
+  rows = rows_same;
+  texts = texts_same;
+}

@@ -1,75 +1,101 @@
-use Rattle.std.proofs.Common.{◌≡◌, ℕ, Some, List, [], ◌∷◌, ◌++◌, sym, ap, ◌∙◌, subst, inr, arith}
-use Rattle.mt_values.specs.declared.command.Command.TheVariants as command
+use Rattle.std.proofs.Common.{◌≡◌, ◌≤◌, ◌<◌, Some, None, Ok, Err, is_some, refl, sym, ap, ◌∙◌, subst, arith}
+use Rattle.std.specs.Option.{IfSome}
 use Rattle.mt_values.specs.declared.statement.Statement.TheVariants as statement
-use Rattle.mt_model.specs.Reply.{create_accepted, ok_line}
+use Rattle.mt_values.specs.RootNames.{create_name}
+use Rattle.mt_model.specs.declared.refusal.Refusal.TheVariants as refusal
+use Rattle.mt_model.specs.Refusals.{refusal_line}
+use Rattle.mt_model.specs.Reply.{ok_line}
 use Rattle.mt_program.specs.Answers.{history}
-use Rattle.mt_program.proofs.Accepting.{accepts_nothing, whole_front, added_nothing}
-use Rattle.std.specs.Option.{option_map}
-use Rattle.std.specs.BTreeMap.{insert_entry}
-use Rattle.std.specs.Ordering.{nat_cmp}
-use Rattle.std.specs.Cmp.Lexicographic.{slice_cmp}
-use Rattle.mt_values.specs.declared.command.Entry.{Entry}
-use Rattle.mt_values.specs.Annals.{began, noted}
-use Rattle.mt_outside.specs.Disk.{names_of, files_at}
-use Rattle.mt_program.proofs.Creating.{bad_schema, taken_name, many_tables, created_accepts, text_is_sound}
-use Rattle.mt_program.proofs.Inserting.{sound_more}
-use Rattle.mt_program.specs.Store.{OwnKey}
-use Rattle.mt_program.proofs.RootNames.{entry_is_free, put_told, made_fits}
-use Rattle.mt_program.proofs.Standing.{found_schema, tables_made, none_found}
+use Rattle.mt_program.proofs.Accepting.{accepts_nothing, kept_same, same_kept}
+use Rattle.mt_program.proofs.Counting.{was_stopped}
+use Rattle.mt_program.proofs.Creating.{created_accepts}
+use Rattle.mt_program.proofs.Inserting.{stands_same}
+use Rattle.mt_program.proofs.PartNames.{same_tables_fit, stop_fits}
+use Rattle.mt_program.proofs.Refusing.{create_refused, create_full, create_unsettled}
+use Rattle.mt_program.proofs.RootNames.{entry_is_free, made_fits, put_told}
+use Rattle.mt_program.proofs.Sounding.{sound_more, written_key, written_narrow}
+use Rattle.mt_program.proofs.Standing.{no_table}
+use Rattle.mt_program.proofs.Stopping.{create_stopped}
 use Rattle.mt_program.proofs.creates.create.Goals as goal
 
-pub returns-in_default-clause-answers : goal.returns-in_default-clause-answers
-returns-in_default-clause-answers g c = λ kept is stands.
-    accepts_nothing g.D.Arm.Dir.Dir.files kept (statement.Create c.args.text.now) _ c.args.store.now (g.A.Annals.told c.args.annals.now) is stands
-    (inr (c.in_ok-refused_reply.ensures, added_nothing kept, ap (create_accepted c.args.text.now) (whole_front kept) ∙ bad_schema c.args.text.now (history kept) (sym c.in_ok-schema.ensures ∙ c.in_default.is)))
+-- what it says is refused
+pub returns-in-Err-clause-answers : goal.returns-in-Err-clause-answers
+returns-in-Err-clause-answers g c = λ kept is some stands.
+    accepts_nothing g.D.Arm.Dir.Dir.files kept (Ok (statement.Create c.args.text.now)) c.args.store.now.opened (g.D.Disk.failed c.args.disk.now) (g.D.Arm.Arm.failed c.args.arm.now) _ c.args.store.now (g.A.Annals.told c.args.annals.now)
+    (kept_same kept (g.A.Annals.told c.args.annals.now) is) stands
+    (λ n f. create_refused n kept _ c.args.text.now c.in-Err.refusal (sym c.in_ok-resolved.ensures ∙ c.in-Err.is) c.in_ok-refusal_line-in-Err.ensures)
 
-pub returns-then-is_some-clause-answers : goal.returns-then-is_some-clause-answers
-returns-then-is_some-clause-answers g c = λ kept is stands.
-    let there = found_schema g.D.Arm.Dir.Dir.files (history kept) c.args.store.now stands c.args.text.now.table c.find.result (sym c.is_some.ensures ∙ c.if-is_some.true) c.find.ensures.there c.find.ensures.named in
-    accepts_nothing g.D.Arm.Dir.Dir.files kept (statement.Create c.args.text.now) _ c.args.store.now (g.A.Annals.told c.args.annals.now) is stands
-    (inr (c.in_ok-refused_reply-2.ensures, added_nothing kept, ap (create_accepted c.args.text.now) (whole_front kept) ∙ taken_name c.args.text.now (history kept) there.0 there.1))
+-- its turn is refused
+pub returns-in-Some-clause-answers : goal.returns-in-Some-clause-answers
+returns-in-Some-clause-answers g c = λ kept is some stands.
+    accepts_nothing g.D.Arm.Dir.Dir.files kept (Ok (statement.Create c.args.text.now)) c.args.store.now.opened (g.D.Disk.failed c.args.disk.now) (g.D.Arm.Arm.failed c.args.arm.now) _ c.args.store.now (g.A.Annals.told c.args.annals.now)
+    (kept_same kept (g.A.Annals.told c.args.annals.now) is) stands
+    (λ n f. create_full n kept _ c.args.text.now c.in-Ok.schema (sym c.in_ok-resolved.ensures ∙ c.in-Ok.is) c.in-Some.refusal
+    (sym (c.in_ok-refused.ensures.turn g.D.Arm.Dir.Dir.files (history kept) stands) ∙ c.in-Some.is) c.in_ok-refusal_line.ensures)
 
-pub returns-then-len-ge-MOST_TABLES-clause-answers : goal.returns-then-len-ge-MOST_TABLES-clause-answers
-returns-then-len-ge-MOST_TABLES-clause-answers g c = λ kept is stands.
-    let made = tables_made g.D.Arm.Dir.Dir.files (history kept) c.args.store.now stands in
-    accepts_nothing g.D.Arm.Dir.Dir.files kept (statement.Create c.args.text.now) _ c.args.store.now (g.A.Annals.told c.args.annals.now) is stands
-    (inr (c.in_ok-refused_reply-3.ensures, added_nothing kept, ap (create_accepted c.args.text.now) (whole_front kept) ∙ many_tables c.args.text.now (history kept) (omega (arith, c.len.ensures))))
+-- the store was stopped for writing
+pub returns-in-Some-stop-clause-answers : goal.returns-in-Some-stop-clause-answers
+returns-in-Some-stop-clause-answers g c = λ kept is some stands.
+    let opened = c.args.store.now.opened in
+    let now = c.faults.result in
+    let risen = subst (λ o. IfSome o (λ line. opened < now)) c.in-Some-stop.is c.in_ok-stop.ensures.risen in
+    let says = subst (λ o. IfSome o (λ line. line.items ≡ refusal_line (refusal.Stopped opened now 0))) c.in-Some-stop.is c.in_ok-stop.ensures.line in
+    let high : now ≤ g.D.Disk.failed c.args.disk.now = omega (arith, c.faults.ensures) in
+    accepts_nothing g.D.Arm.Dir.Dir.files kept (Ok (statement.Create c.args.text.now)) opened (g.D.Disk.failed c.args.disk.now) (g.D.Arm.Arm.failed c.args.arm.now) _ c.args.store.now (g.A.Annals.told c.args.annals.now)
+    (kept_same kept (g.A.Annals.told c.args.annals.now) is) stands
+    (λ n f. create_unsettled n kept _ c.args.text.now c.in-Ok.schema (sym c.in_ok-resolved.ensures ∙ c.in-Ok.is) (sym (c.in_ok-refused.ensures.turn g.D.Arm.Dir.Dir.files (history kept) stands) ∙ c.in_default.is)
+    (was_stopped opened (g.D.Disk.failed c.args.disk.now) (g.D.Arm.Arm.failed c.args.arm.now) now _ n risen high says f))
 
-pub commit-requires-clause-free : goal.commit-requires-clause-free
-commit-requires-clause-free g c κs within = λ root is.
-    let none = none_found c.find.result _ (sym c.is_some.ensures ∙ c.if-is_some.false) c.find.ensures.none in
-    ap (λ n. files_at n (names_of root)) c.in_ok-root_name.ensures ∙ entry_is_free c.args.store.now root c.args.text.now.table (c.requires.names root is) none
+pub make_table-requires-after_bounds : goal.make_table-requires-after_bounds
+make_table-requires-after_bounds g c κs within = λ root is.
+    let calm = c.in_ok-stop.ensures.goes_on (ap is_some c.in_default-stop.is) in
+    let low = c.requires.opened in
+    let same : g.D.Disk.failed c.args.disk.now ≡ c.args.store.now.opened = omega (arith, c.faults.ensures) in
+    entry_is_free c.args.store.now root c.args.text.now.table (c.requires.names same root is) (c.in_ok-refused.ensures.free (ap is_some c.in_default.is))
 
+-- the command was not committed
+pub returns-in-Err-make_table-clause-answers : goal.returns-in-Err-make_table-clause-answers
+returns-in-Err-make_table-clause-answers g c = λ kept is some stands.
+    let files = g.D.Arm.Dir.Dir.files in
+    let opened = c.args.store.now.opened in
+    let disk = g.D.Disk.failed c.make_table.new.disk in
+    let arm = g.D.Arm.Arm.failed c.make_table.new.arm in
+    let ended = c.in-Err-make_table in
+    accepts_nothing files kept (Ok (statement.Create c.args.text.now)) opened disk arm _ _ (g.A.Annals.told c.make_table.new.annals)
+    (same_kept kept (g.A.Annals.told c.args.annals.now) (g.A.Annals.told c.make_table.new.annals) is ended.ensures.annals_err)
+    (stands_same files (history kept) c.args.store.now _ stands ended.ensures.same refl)
+    (λ n f. create_stopped opened disk arm (g.D.Disk.failed c.args.disk.now) (g.D.Arm.Arm.failed c.args.arm.now) kept _ n f c.requires.opened c.args.text.now c.in-Ok.schema (sym c.in_ok-resolved.ensures ∙ c.in-Ok.is)
+    (sym (c.in_ok-refused.ensures.turn files (history kept) stands) ∙ c.in_default.is) ended.stop c.in_ok-stop_line-in-Err-make_table.ensures (λ e. ended.ensures.failed (ap Err e)) (λ e. ended.ensures.unsettled (ap Err e)))
+
+pub returns-in-Err-make_table-clause-names : goal.returns-in-Err-make_table-clause-names
+returns-in-Err-make_table-clause-names g c =
+    let ended = c.in-Err-make_table in
+    stop_fits c.args.store.now (record { tables = c.make_table.new.tables; length = c.args.store.now.length; opened = c.args.store.now.opened }) (g.D.Disk.failed c.args.disk.now) (g.D.Disk.failed c.make_table.new.disk) (g.D.Disk.told c.args.disk.now) (g.D.Disk.told c.make_table.new.disk) ended.stop _
+    c.in_ok-stop_line-in-Err-make_table.ensures c.requires.names c.requires.opened c.requires.below ended.ensures.disk_later refl (λ e. ended.ensures.unpublished (ap Err e)) (λ e. ended.ensures.unsettled (ap Err e))
+    (λ root fit. same_tables_fit c.args.store.now (record { tables = c.make_table.new.tables; length = c.args.store.now.length; opened = c.args.store.now.opened }) root ended.ensures.same fit)
+
+-- the table was made
 pub returns-clause-answers : goal.returns-clause-answers
-returns-clause-answers g c = λ kept is stands.
-    let told = g.A.Annals.told in
-    let mark = g.D.Disk.clock c.commit.new.disk in
-    let none = none_found c.find.result _ (sym c.is_some.ensures ∙ c.if-is_some.false) c.find.ensures.none in
-    let e : List ℕ → Entry = λ name. record { session = 0; command = command.Create (record { table = name; schema = c.in-Some.schema }) } in
-    let began_as : told c.reserve-2.new.self ≡ Some kept = c.in_ok-reserve-2.ensures.told ∙ is in
-    let note : told c.commit.new.annals ≡ Some (noted mark (began (e c.in_ok-table_name.table_name) kept)) =
-    c.in_ok-commit.ensures.annals ∙ ap (option_map (λ t. noted mark (began (e c.in_ok-table_name.table_name) t))) began_as in
-    created_accepts g.D.Arm.Dir.Dir.files c.args.text.now c.in-Some.schema kept mark
-    (record { name = c.in_ok-name.name; schema = c.in_ok-twin.field-0; parts = c.new.result }) c.args.store.now
-    (record { tables = c.push_reserved.new.self; length = c.in-Some-checked_add.place }) c.in_ok-reply.reply.items (told c.commit.new.annals) stands
-    (sym c.in_ok-schema.ensures ∙ c.in-Some.is) none (omega (arith, c.len.ensures))
-    (note ∙ ap (λ n. Some (noted mark (began (e n) kept))) c.in_ok-table_name.ensures)
-    c.in_ok-name.ensures c.in_ok-twin.ensures c.new.ensures.items
-    (c.push_reserved.ensures.items ∙ ap (λ ts. ts ++ record { name = c.in_ok-name.name; schema = c.in_ok-twin.field-0; parts = c.new.result } ∷ []) c.in_ok-reserve.ensures.items)
-    c.in-Some-checked_add.ensures.1 (c.in_ok-reply.ensures ∙ ap ok_line c.in-Some-checked_add.ensures.1)
+returns-clause-answers g c = λ kept is some stands.
+    let files = g.D.Arm.Dir.Dir.files in
+    let none = no_table files (history kept) c.args.store.now stands c.args.text.now.table (c.in_ok-refused.ensures.free (ap is_some c.in_default.is)) in
+    created_accepts files c.args.text.now c.in-Ok.schema kept (g.D.Disk.clock c.make_table.new.disk) c.args.store.now.opened (g.D.Disk.failed c.make_table.new.disk) (g.D.Arm.Arm.failed c.make_table.new.arm)
+    c.args.store.now (record { tables = c.make_table.new.tables; length = c.in-Some-checked_add.length; opened = c.args.store.now.opened }) c.in_ok-reply.reply.items (g.A.Annals.told c.args.annals.now) (g.A.Annals.told c.make_table.new.annals)
+    stands (sym c.in_ok-resolved.ensures ∙ c.in-Ok.is) some none (sym (c.in_ok-refused.ensures.turn files (history kept) stands) ∙ c.in_default.is)
+    is c.in-Ok-make_table.ensures.annals c.in-Ok-make_table.ensures.adds c.in-Some-checked_add.ensures.1 (c.in_ok-reply.ensures ∙ ap ok_line c.in-Some-checked_add.ensures.1)
 
 pub returns-clause-names : goal.returns-clause-names
-returns-clause-names g c = λ x is.
-    let put = put_told (g.D.Disk.clock c.args.disk.now) c.in_ok-root_name.root_name (g.D.Arm.Stage.Stage.files c.in_ok-stage.stage) (g.D.Disk.told c.args.disk.now) x (sym c.in_ok-commit.ensures.disk ∙ is) in
-    let fit = c.requires.names put.0 put.2 in
-    made_fits c.args.store.now (record { tables = c.push_reserved.new.self; length = c.in-Some-checked_add.place }) (record { name = c.in_ok-name.name; schema = c.in_ok-twin.field-0; parts = c.new.result }) put.0 x c.args.text.now.table put.1 fit
-    (put.3 ∙ ap (λ n. insert_entry (slice_cmp nat_cmp) (names_of put.0) n put.1) c.in_ok-root_name.ensures)
-    (c.push_reserved.ensures.items ∙ ap (λ ts. ts ++ record { name = c.in_ok-name.name; schema = c.in_ok-twin.field-0; parts = c.new.result } ∷ []) c.in_ok-reserve.ensures.items) c.in_ok-name.ensures
+returns-clause-names g c = λ same x is.
+    let root = c.in-Ok-make_table.ensures.root in
+    let adds = c.in-Ok-make_table.ensures.adds in
+    let put = put_told (g.D.Disk.clock c.args.disk.now) (create_name c.args.text.now.table) root.0 (g.D.Disk.told c.args.disk.now) x (sym root.2 ∙ is) in
+    let low = c.requires.opened in
+    let later = c.in-Ok-make_table.ensures.disk_later in
+    let calm : g.D.Disk.failed c.args.disk.now ≡ c.args.store.now.opened = omega arith in
+    made_fits c.args.store.now (record { tables = c.make_table.new.tables; length = c.in-Some-checked_add.length; opened = c.args.store.now.opened }) adds.table put.0 x c.args.text.now.table put.1 (c.requires.names calm put.0 put.2) put.3 adds.tables adds.name_is
 
 pub returns-clause-store : goal.returns-clause-store
 returns-clause-store g c =
-    let text = sym c.in_ok-schema.ensures ∙ c.in-Some.is in
-    let none = none_found c.find.result _ (sym c.is_some.ensures ∙ c.if-is_some.false) c.find.ensures.none in
-    sound_more c.args.store.now (record { tables = c.push_reserved.new.self; length = c.in-Some-checked_add.place }) (record { name = c.in_ok-name.name; schema = c.in_ok-twin.field-0; parts = c.new.result })
-    c.args.text.now.table c.requires.store (subst OwnKey (sym c.in_ok-twin.ensures) (text_is_sound c.args.text.now c.in-Some.schema text).own) c.in_ok-name.ensures none
-    (c.push_reserved.ensures.items ∙ ap (λ ts. ts ++ record { name = c.in_ok-name.name; schema = c.in_ok-twin.field-0; parts = c.new.result } ∷ []) c.in_ok-reserve.ensures.items)
+    let text = sym c.in_ok-resolved.ensures ∙ c.in-Ok.is in
+    sound_more c.args.store.now (record { tables = c.make_table.new.tables; length = c.in-Some-checked_add.length; opened = c.args.store.now.opened }) c.args.text.now.table c.in-Ok.schema c.requires.store
+    (written_key c.args.text.now c.in-Ok.schema text) (written_narrow c.args.text.now c.in-Ok.schema text) (c.in_ok-refused.ensures.free (ap is_some c.in_default.is)) c.in-Ok-make_table.ensures.adds

@@ -1,64 +1,107 @@
-use Rattle.std.proofs.Common.{◌≡◌, ◌++◌, ℕ, ◌<◌, List, length, sym, ap, ◌∙◌, subst, inl, inr, arith, All, Err}
-use Rattle.std.specs.List.{range_with_len, flat_map}
-use Rattle.mt_values.specs.declared.value.ColType.{ColType}
-use Rattle.mt_values.specs.Grid.{IsOrderBy, AreRowsOf, picked}
-use Rattle.mt_values.specs.Printing.{line}
-use Rattle.mt_values.proofs.Grids.{places_below, All-range}
-use Rattle.mt_model.specs.History.{schema_of, column_types}
-use Rattle.mt_model.specs.Reply.{rows_line}
+use Rattle.std.proofs.Common.{◌≡◌, ◌∙◌, ℕ, List, [], length, map, sym, ap, subst, inl, All, filter_map, slice_get}
+use Rattle.mt_values.specs.declared.schema.Column.{Column}
+use Rattle.mt_values.specs.declared.schema.Schema.{Schema}
+use Rattle.mt_values.specs.Grid.{Cells, grid_of, rows_of}
+use Rattle.mt_model.specs.declared.refusal.Refusal.TheVariants as refusal
+use Rattle.mt_model.specs.History.{column_types}
 use Rattle.mt_model.specs.Live.{live}
-use Rattle.mt_program.specs.declared.store.Part.{Part}
-use Rattle.mt_program.specs.declared.stops.Stop.TheVariants as stop
-use Rattle.mt_program.specs.Parts.{PartsHold}
+use Rattle.mt_model.specs.Refusals.{refusal_line}
+use Rattle.mt_model.specs.Reply.{selected_places}
+use Rattle.part_reader.specs.Faults.{IsNoDamage}
 use Rattle.mt_program.specs.Answers.{history}
-use Rattle.mt_program.proofs.Accepting.{whole_front, added_nothing, length_history}
-use Rattle.mt_program.proofs.Selecting.{parts_hold, live_rows, selects}
-use Rattle.mt_program.proofs.Standing.{no_table, table_stands, table_schema, table_named}
+use Rattle.mt_program.specs.Selects.{ArePlacesOf, PartsHold, Printed, joined, rows_kept, values_at}
+use Rattle.mt_program.proofs.Accepting.{added_nothing, length_history, whole_front}
+use Rattle.mt_program.proofs.Counting.{stage_failed}
+use Rattle.mt_program.proofs.Refusing.{select_failed, select_refused}
+use Rattle.mt_program.proofs.Selecting.{columns_are, empty_even, joined_typed, lent_back, live_rows, no_columns, parts_hold, projected, rows_counted, selected_below, selects, typed_have_all}
+use Rattle.mt_program.proofs.Standing.{no_table, table_named, table_schema, table_stands}
 use Rattle.mt_program.proofs.selects.select.Goals as goal
 
+-- there is no such table
 pub returns-in_default-clause-answers : goal.returns-in_default-clause-answers
-returns-in_default-clause-answers g c = λ kept stands.
+returns-in_default-clause-answers g c = λ kept stands n disk f.
     let none = no_table g.R.Dir.Dir.files (history kept) c.args.store.now stands c.args.text.now.table c.in_default.ensures.none in
-    inr (c.in_ok-refused_reply.ensures, added_nothing kept, ap (schema_of c.args.text.now.table) (whole_front kept) ∙ none)
+    select_refused n kept _ c.args.text.now (refusal.NoTable c.args.text.now.table) (no_columns c.args.text.now (history kept) none)
+    (c.in_ok-refusal_line.ensures ∙ ap (λ m. refusal_line (refusal.NoTable m)) c.in_ok-name.ensures)
 
-pub returns-in-Err-clause-sound : goal.returns-in-Err-clause-sound
-returns-in-Err-clause-sound g c = λ kept stands bad.
+-- a name that is no column's
+pub returns-in-Err-clause-answers : goal.returns-in-Err-clause-answers
+returns-in-Err-clause-answers g c = λ kept stands n disk f.
     let table = c.index-table.result.now in
-    let held = table_stands g.R.Dir.Dir.files (history kept) c.args.store.now stands c.in-Some.place table c.in-Some.ensures.there c.index-table.ensures c.args.text.now.table c.in-Some.ensures.named in
-    let rows = parts_hold g.R.Dir.Dir.files table.schema table.parts.items _ held.parts in
-    c.in-Err.ensures.sound rows.0 (subst (λ (ps : List (Part _)). PartsHold g.R.Dir.Dir.files table.schema ps rows.0) (sym c.deref.ensures.value) rows.1)
-    (let same : c.in-Err.stop ≡ stop.Damaged = cc in ap Err same)
+    let there = table_schema g.R.Dir.Dir.files (history kept) c.args.store.now stands c.in-Some.place table c.in-Some.ensures.there c.index-table.ensures c.args.text.now.table c.in-Some.ensures.named in
+    let chosen = ap (λ (cs : List Column). selected_places cs c.args.text.now.columns) (sym c.as_slice.ensures) ∙ (sym c.in_ok-selected.ensures ∙ c.in-Err.is) in
+    select_refused n kept _ c.args.text.now c.in-Err.refusal (columns_are c.args.text.now (history kept) table.schema there ∙ chosen) c.in_ok-refusal_line-in-Err.ensures
 
-pub order_by-requires : goal.order_by-requires
-order_by-requires g c =
-    let is = c.deref-2.ensures.value ∙ c.in_ok-columns.ensures in
-    subst (All (λ place. place < length c.in-Ok.block.types)) (sym is) (All-range (λ place. place < length c.in-Ok.block.types) c.width.result (λ k lt. omega (arith, c.width.ensures)))
+pub empty_columns-requires : goal.empty_columns-requires
+empty_columns-requires g c =
+    let table = c.index-table.result.now in
+    let chosen = ap (λ (cs : List Column). selected_places cs c.args.text.now.columns) (sym c.as_slice.ensures) ∙ (sym c.in_ok-selected.ensures ∙ c.in-Ok.is) in
+    subst (ArePlacesOf table.schema) (sym c.as_slice-2.ensures) (selected_below table.schema c.args.text.now.columns c.in-Ok.places chosen)
 
-pub print_rows-requires : goal.print_rows-requires
-print_rows-requires g c =
-    subst (All (λ place. place < length c.in-Ok.block.rows)) (sym c.deref-3.ensures.value) (places_below _ c.in-Ok.block.rows c.in_ok-order.order.items c.in_ok-order.ensures)
+-- the arm failed
+pub returns-in-Err-default-Fault-clause-answers : goal.returns-in-Err-default-Fault-clause-answers
+returns-in-Err-default-Fault-clause-answers g c = λ kept stands n disk f.
+    let table = c.index-table.result.now in
+    let there = table_schema g.R.Dir.Dir.files (history kept) c.args.store.now stands c.in-Some.place table c.in-Some.ensures.there c.index-table.ensures c.args.text.now.table c.in-Some.ensures.named in
+    let chosen = ap (λ (cs : List Column). selected_places cs c.args.text.now.columns) (sym c.as_slice.ensures) ∙ (sym c.in_ok-selected.ensures ∙ c.in-Ok.is) in
+    let rose = c.in-Err-default-Fault.ensures.fault c.in-Err-default-Fault.field-0-1-is in
+    select_failed n kept _ c.args.text.now c.in-Ok.places (columns_are c.args.text.now (history kept) table.schema there ∙ chosen)
+    (stage_failed c.args.store.now.opened disk (g.R.Arm.failed c.read_parts.new.arm) (g.R.Arm.failed c.args.arm.now) _ n rose c.in_ok-stop_line-in-Err-default-Fault.ensures f)
+
+-- a part is not damaged
+pub returns-in-Err-default-Damaged-clause-answers : goal.returns-in-Err-default-Damaged-clause-answers
+returns-in-Err-default-Damaged-clause-answers g c = λ kept stands n disk f.
+    let files = g.R.Dir.Dir.files in
+    let table = c.index-table.result.now in
+    let held = table_stands files (history kept) c.args.store.now stands c.in-Some.place table c.in-Some.ensures.there c.index-table.ensures c.args.text.now.table c.in-Some.ensures.named in
+    let rows = parts_hold files table.schema table.parts.items _ held.parts in
+    let chosen = ap (λ (cs : List Column). selected_places cs c.args.text.now.columns) (sym c.as_slice.ensures) ∙ (sym c.in_ok-selected.ensures ∙ c.in-Ok.is) in
+    let within = selected_below table.schema c.args.text.now.columns c.in-Ok.places chosen in
+    let types = ap (map (λ (x : Cells). x.col_type)) c.deref_mut.ensures.value ∙ (c.in_ok-columns.ensures.types ∙ ap (λ ps. filter_map (slice_get (column_types table.schema)) ps) (c.as_slice-2.ensures ∙ sym c.as_slice-3.ensures)) in
+    let sound = c.in-Err-default-Damaged.ensures.sound table.schema rows.0 (subst (λ ps. PartsHold files table.schema ps rows.0) (sym c.deref-2.ensures.value) rows.1)
+    (subst (ArePlacesOf table.schema) (sym c.as_slice-3.ensures) within) types in
+    absurd (subst IsNoDamage c.in-Err-default-Damaged.field-0-1-is sound)
+
+pub print-requires-clause-even : goal.print-requires-clause-even
+print-requires-clause-even g c =
+    let new = c.read_parts.new.columns in
+    let items = c.in_ok-columns.columns.items in
+    let back = lent_back items new c.in_ok-columns.columns.len (c.in-Ok-read_parts.ensures.many ∙ ap length c.deref_mut.ensures.value) (ap length (sym c.deref_mut.ensures.value) ∙ c.deref_mut.ensures.len) in
+    let none = subst (All (λ (x : Cells). length x.values ≡ 0)) (sym c.deref_mut.ensures.value) (empty_even c.as_slice-2.result.now items c.in_ok-columns.ensures.empty) in
+    let even = c.in-Ok-read_parts.ensures.even none in
+    let count = c.in-Some-count_rows.ensures.rows ∙ ap rows_kept (c.deref.ensures.value ∙ sym c.deref-2.ensures.value) in
+    subst (All (λ (x : Cells). length x.values ≡ c.in-Some-count_rows.rows)) (sym back) (subst (λ m. All (λ (x : Cells). length x.values ≡ m) new) (sym count) even)
 
 pub returns-clause-answers : goal.returns-clause-answers
-returns-clause-answers g c = λ kept stands.
+returns-clause-answers g c = λ kept stands n disk f.
+    let files = g.R.Dir.Dir.files in
+    let store = c.args.store.now in
+    let text = c.args.text.now in
     let table = c.index-table.result.now in
-    let there = c.in-Some.ensures.there in
-    let named = c.in-Some.ensures.named in
-    let held = table_stands g.R.Dir.Dir.files (history kept) c.args.store.now stands c.in-Some.place table there c.index-table.ensures c.args.text.now.table named in
-    let schema = table_schema g.R.Dir.Dir.files (history kept) c.args.store.now stands c.in-Some.place table there c.index-table.ensures c.args.text.now.table named in
-    let name = table_named g.R.Dir.Dir.files (history kept) c.args.store.now stands c.in-Some.place table there c.index-table.ensures c.args.text.now.table named in
-    let rows = parts_hold g.R.Dir.Dir.files table.schema table.parts.items _ held.parts in
-    let read = c.in-Ok.ensures.rows rows.0 (subst (λ (ps : List (Part _)). PartsHold g.R.Dir.Dir.files table.schema ps rows.0) (sym c.deref.ensures.value) rows.1) in
-    let live_is = read ∙ (rows.2 ∙ (sym (live_rows table.name table.schema.key (history kept)) ∙ ap (λ n. live n table.schema.key (history kept)) name)) in
-    let types = c.in-Ok.ensures.types in
-    let columns = c.deref-2.ensures.value ∙ (c.in_ok-columns.ensures ∙ ap (range_with_len 0) (c.width.ensures ∙ ap length types)) in
-    let by : IsOrderBy (range_with_len 0 (length (column_types table.schema))) c.in-Ok.block.rows c.in_ok-order.order.items =
-    subst (λ (cs : List ℕ). IsOrderBy cs c.in-Ok.block.rows c.in_ok-order.order.items) columns c.in_ok-order.ensures in
-    let typed : AreRowsOf (column_types table.schema) c.in-Ok.block.rows = subst (λ (ts : List ColType). AreRowsOf ts c.in-Ok.block.rows) types c.len.ensures.typed in
-    let place : c.args.store.now.length ≡ length kept.list = stands.length_is ∙ length_history kept in
+    let held = table_stands files (history kept) store stands c.in-Some.place table c.in-Some.ensures.there c.index-table.ensures text.table c.in-Some.ensures.named in
+    let there = table_schema files (history kept) store stands c.in-Some.place table c.in-Some.ensures.there c.index-table.ensures text.table c.in-Some.ensures.named in
+    let name = table_named files (history kept) store stands c.in-Some.place table c.in-Some.ensures.there c.index-table.ensures text.table c.in-Some.ensures.named in
+    let rows = parts_hold files table.schema table.parts.items _ held.parts in
+    let chosen = ap (λ (cs : List Column). selected_places cs text.columns) (sym c.as_slice.ensures) ∙ (sym c.in_ok-selected.ensures ∙ c.in-Ok.is) in
+    let within = selected_below table.schema text.columns c.in-Ok.places chosen in
+    let lent = c.deref_mut.ensures.value in
+    let items = c.in_ok-columns.columns.items in
+    let new = c.read_parts.new.columns in
+    let same_places = c.as_slice-2.ensures ∙ sym c.as_slice-3.ensures in
+    let types = ap (map (λ (x : Cells). x.col_type)) lent ∙ (c.in_ok-columns.ensures.types ∙ ap (λ ps. filter_map (slice_get (column_types table.schema)) ps) same_places) in
+    let empty = ap (map (λ (x : Cells). x.values)) lent ∙ (c.in_ok-columns.ensures.empty ∙ ap (values_at []) same_places) in
+    let values : map (λ (x : Cells). x.values) new ≡ values_at (joined rows.0) c.in-Ok.places =
+    c.in-Ok-read_parts.ensures.values table.schema rows.0 (subst (λ ps. PartsHold files table.schema ps rows.0) (sym c.deref-2.ensures.value) rows.1) (subst (ArePlacesOf table.schema) (sym c.as_slice-3.ensures) within) types empty
+    ∙ ap (values_at (joined rows.0)) c.as_slice-3.ensures in
+    let back = lent_back items new c.in_ok-columns.columns.len (c.in-Ok-read_parts.ensures.many ∙ ap length lent) (ap length (sym lent) ∙ c.deref_mut.ensures.len) in
+    let count : c.in-Some-count_rows.rows ≡ length (joined rows.0) = c.in-Some-count_rows.ensures.rows ∙ (ap rows_kept c.deref.ensures.value ∙ rows_counted files table.schema table.parts.items rows.0 rows.1) in
+    let typed = joined_typed files table.schema table.parts.items rows.0 rows.1 in
+    let rows_are = ap (rows_of new) count ∙ projected new c.in-Ok.places (joined rows.0) values (typed_have_all table.schema c.in-Ok.places (joined rows.0) within typed) in
+    let live_is = rows.2 ∙ (sym (live_rows table.name table.schema.key (history kept)) ∙ ap (λ m. live m table.schema.key (history kept)) name) in
+    let place : store.length ≡ length kept.list = stands.length_is ∙ length_history kept in
+    let printed = subst (λ (cs : List Cells). Printed (grid_of cs c.in-Some-count_rows.rows) store.length c.in_ok-print.field-0.items) back c.in_ok-print.ensures in
+    let here = subst (λ (m : ℕ). Printed (grid_of new c.in-Some-count_rows.rows) m c.in_ok-print.field-0.items) place printed in
     inl (
-      selects (history kept) c.args.text.now.table table.schema c.in-Ok.block.rows c.in_ok-order.order.items (length kept.list) c.print_rows.new.out.items (whole_front kept) schema live_is typed by
-          (c.in_ok-print_rows.ensures
-          ∙ (ap (λ bs. bs ++ flat_map line (picked c.in-Ok.block.rows c.deref-3.result.now)) (c.in_ok-reply.ensures ∙ (ap (λ n. rows_line n c.args.store.now.length) c.len.ensures.count ∙ ap (rows_line (length c.in-Ok.block.rows)) place))
-          ∙ ap (λ o. rows_line (length c.in-Ok.block.rows) (length kept.list) ++ flat_map line (picked c.in-Ok.block.rows o)) c.deref-3.ensures.value)),
+      selects (history kept) text table.schema c.in-Ok.places (joined rows.0) (grid_of new c.in-Some-count_rows.rows) (length kept.list) c.in_ok-print.field-0.items (whole_front kept) there chosen live_is rows_are here,
       added_nothing kept,
     )

@@ -1,72 +1,89 @@
-use Rattle.std.proofs.Common.{◌≡◌, ◌∙◌, refl, sym, ap, subst, arith, Err, ◌+◌}
-use Rattle.mt_program.proofs.ServedScripts.{served_none, served_all, served_so_far, served_unanswered, served_more, served_cut, no_statement, nothing_left, one_statement, served_stop, damaged_stop, Found, Used, used_within}
-use Rattle.mt_program.specs.declared.stops.Stop.TheVariants as stop
-use Rattle.mt_program.specs.Serving.{Served, ServedBy}
+use Rattle.std.proofs.Common.{◌≡◌, ◌∙◌, refl, sym, ap, subst, arith, ◌+◌, drop}
+use Rattle.mt_values.specs.Script.{statements_of}
+use Rattle.mt_program.proofs.ServedScripts.{served_none, served_all, served_so_far, served_unanswered, served_more, served_cut, no_statement, nothing_left, one_statement, is_written, Found, Used, used_within}
+use Rattle.mt_program.specs.Answers.{Accepts}
+use Rattle.mt_program.specs.Serving.{Served}
 use Rattle.mt_program.proofs.serving.serve.Goals as goal
 
 pub statements-init : goal.statements-init
 statements-init g c = record {
   names = c.requires.names;
   sound = c.requires.store;
+  opened = refl;
   tells = refl;
-  served = λ kept is tells stands. served_none g.D.Arm.Dir.Dir.files kept c.args.script.now c.args.store.now (g.A.Annals.told c.args.annals.now) (g.K.Sink.written c.args.sink.now) is stands;
+  served = λ kept is tells stands. served_none g.D.Arm.Dir.Dir.files kept c.args.script.now c.args.store.now.opened (g.D.Disk.failed c.args.disk.now) (g.D.Arm.Arm.failed c.args.arm.now) c.none-tally.result c.args.store.now
+      (g.A.Annals.told c.args.annals.now) (g.K.Sink.written c.args.sink.now) is c.none-tally.ensures.refused c.none-tally.ensures.damaged stands;
   within = omega arith;
   disk_later = omega arith;
   arm_later = omega arith;
   sink_later = omega arith;
 }
 
+pub answer-requires-clause-opened : goal.answer-requires-clause-opened
+answer-requires-clause-opened g c κs within = let same = c.statements.invariant.opened in let low = c.requires.opened in let later = c.statements.invariant.disk_later in omega arith
+
+pub answer-requires-clause-below : goal.answer-requires-clause-below
+answer-requires-clause-below g c κs within = let same = c.statements.invariant.opened in let below = c.requires.below in omega arith
+
 pub returns-in-Ok-None-clause-run : goal.returns-in-Ok-None-clause-run
 returns-in-Ok-None-clause-run g c = λ kept is tells stands.
     let s = c.statements.invariant.served kept is tells stands in
     let none = subst (λ o. Found c.args.script.now c.statements.at o) c.in-Ok-None.field-0-is c.in-Ok-None.ensures.found in
-    served_all g.D.Arm.Dir.Dir.files kept c.args.script.now c.statements.at c.statements.refused c.statements.store (g.A.Annals.told c.statements.annals) (g.K.Sink.written c.args.sink.now) (g.K.Sink.written c.statements.sink) s
-    (no_statement c.args.script.now c.statements.at none)
+    served_all g.D.Arm.Dir.Dir.files kept c.args.script.now c.args.store.now.opened (g.D.Disk.failed c.statements.disk) (g.D.Arm.Arm.failed c.statements.arm) c.statements.at c.statements.tally c.statements.store (g.A.Annals.told c.statements.annals)
+    (g.K.Sink.written c.args.sink.now) (g.K.Sink.written c.statements.sink) s (no_statement c.args.script.now c.statements.at none)
 
 pub returns-in-Err-clause-run : goal.returns-in-Err-clause-run
 returns-in-Err-clause-run g c = λ kept is tells stands.
     let s = c.statements.invariant.served kept is tells stands in
-    served_so_far g.D.Arm.Dir.Dir.files kept c.args.script.now c.statements.at c.statements.refused c.statements.store (g.A.Annals.told c.statements.annals) (g.K.Sink.written c.args.sink.now) (g.K.Sink.written c.statements.sink) s
+    served_so_far g.D.Arm.Dir.Dir.files kept c.args.script.now c.args.store.now.opened (g.D.Disk.failed c.statements.disk) (g.D.Arm.Arm.failed c.statements.arm) c.statements.at c.statements.tally c.statements.store (g.A.Annals.told c.statements.annals)
+    (g.K.Sink.written c.args.sink.now) (g.K.Sink.written c.statements.sink) s
 
 pub returns-in-Err-answer-clause-run : goal.returns-in-Err-answer-clause-run
 returns-in-Err-answer-clause-run g c = λ kept is tells stands.
-    let files = g.D.Arm.Dir.Dir.files in
     let s = c.statements.invariant.served kept is tells stands in
-    let same = c.in-Err-answer.ensures.answers s.ran.now s.ran.told_is (c.statements.invariant.tells ∙ tells) s.stands in
-    let part = served_unanswered files kept c.args.script.now c.statements.at c.statements.refused c.statements.store (g.A.Annals.told c.statements.annals) (g.K.Sink.written c.args.sink.now) (g.K.Sink.written c.statements.sink) s (g.A.Annals.told c.answer.new.annals) same in
-    subst (λ e. ServedBy e kept c.args.script.now (g.A.Annals.told c.answer.new.annals) (g.K.Sink.written c.args.sink.now) (g.K.Sink.written c.statements.sink)) (sym c.ending_of.ensures)
-    (served_stop c.in-Err-answer.stop kept c.args.script.now (g.A.Annals.told c.answer.new.annals) (g.K.Sink.written c.args.sink.now) (g.K.Sink.written c.statements.sink) part)
-
-pub returns-in-Err-answer-clause-sound : goal.returns-in-Err-answer-clause-sound
-returns-in-Err-answer-clause-sound g c = λ kept is tells stands bad.
-    let s = c.statements.invariant.served kept is tells stands in
-    let why : c.in-Err-answer.stop ≡ stop.Damaged = damaged_stop c.in-Err-answer.stop (sym c.ending_of.ensures ∙ bad) in
-    c.in-Err-answer.ensures.sound s.ran.now s.ran.told_is (c.statements.invariant.tells ∙ tells) s.stands (ap Err why)
+    let found = subst (λ o. Found c.args.script.now c.statements.at o) c.in-Ok-Some.field-0-is c.in-Ok-Some.ensures.found in
+    let left = one_statement c.args.script.now c.statements.at c.in-Ok-Some.found.1 c.in-Ok-Some.found.0 found in
+    let written = is_written (drop c.statements.at c.args.script.now) c.in-Ok-Some.found.0 (statements_of (drop (c.statements.at + c.in-Ok-Some.found.1) c.args.script.now)) left in
+    let same = c.in-Err-answer.ensures.answers s.ran.now s.ran.told_is (c.statements.invariant.tells ∙ tells) written s.stands in
+    served_unanswered g.D.Arm.Dir.Dir.files kept c.args.script.now c.args.store.now.opened (g.D.Disk.failed c.statements.disk) (g.D.Arm.Arm.failed c.statements.arm) c.statements.at c.statements.tally c.statements.store (g.A.Annals.told c.statements.annals)
+    (g.K.Sink.written c.args.sink.now) (g.K.Sink.written c.statements.sink) s (g.D.Disk.failed c.answer.new.disk) (g.D.Arm.Arm.failed c.answer.new.arm) c.in-Err-answer.ensures.disk_later c.in-Err-answer.ensures.arm_later (g.A.Annals.told c.answer.new.annals) same
 
 pub returns-in-Err-write_all-clause-run : goal.returns-in-Err-write_all-clause-run
 returns-in-Err-write_all-clause-run g c = λ kept is tells stands.
     let files = g.D.Arm.Dir.Dir.files in
     let s = c.statements.invariant.served kept is tells stands in
-    let a = c.in-Ok.ensures.answers s.ran.now s.ran.told_is (c.statements.invariant.tells ∙ tells) s.stands in
     let found = subst (λ o. Found c.args.script.now c.statements.at o) c.in-Ok-Some.field-0-is c.in-Ok-Some.ensures.found in
-    served_cut files kept c.args.script.now c.statements.at c.statements.refused c.statements.store (g.A.Annals.told c.statements.annals) (g.K.Sink.written c.args.sink.now) (g.K.Sink.written c.statements.sink) s
-    c.in-Ok-Some.found.1 c.in-Ok-Some.found.0 (one_statement c.args.script.now c.statements.at c.in-Ok-Some.found.1 c.in-Ok-Some.found.0 found) c.answer.new.store (g.A.Annals.told c.answer.new.annals) c.in-Ok.reply.items (g.K.Sink.written c.write_all.new.sink) a (rw c.deref.ensures.value at c.in-Err-write_all.ensures.front)
+    let left = one_statement c.args.script.now c.statements.at c.in-Ok-Some.found.1 c.in-Ok-Some.found.0 found in
+    let written = is_written (drop c.statements.at c.args.script.now) c.in-Ok-Some.found.0 (statements_of (drop (c.statements.at + c.in-Ok-Some.found.1) c.args.script.now)) left in
+    let disk = g.D.Disk.failed c.answer.new.disk in
+    let arm = g.D.Arm.Arm.failed c.answer.new.arm in
+    let a = subst (λ o. Accepts files s.ran.now c.in-Ok-Some.found.0 o disk arm c.in-Ok.reply.items c.answer.new.store (g.A.Annals.told c.answer.new.annals)) c.statements.invariant.opened
+    (c.in-Ok.ensures.answers s.ran.now s.ran.told_is (c.statements.invariant.tells ∙ tells) written s.stands) in
+    served_cut files kept c.args.script.now c.args.store.now.opened (g.D.Disk.failed c.statements.disk) (g.D.Arm.Arm.failed c.statements.arm) c.statements.at c.statements.tally c.statements.store (g.A.Annals.told c.statements.annals)
+    (g.K.Sink.written c.args.sink.now) (g.K.Sink.written c.statements.sink) s disk arm c.in-Ok.ensures.disk_later c.in-Ok.ensures.arm_later
+    c.in-Ok-Some.found.1 c.in-Ok-Some.found.0 left c.answer.new.store (g.A.Annals.told c.answer.new.annals) c.in-Ok.reply.items (g.K.Sink.written c.write_all.new.sink) a (rw c.deref.ensures.value at c.in-Err-write_all.ensures.front)
 
 pub statements-preserved : goal.statements-preserved
 statements-preserved g c = record {
   names = c.in-Ok.ensures.names;
   sound = c.in-Ok.ensures.store;
+  opened = c.in-Ok.ensures.opened ∙ c.statements.invariant.opened;
   tells = c.in-Ok.ensures.tells ∙ c.statements.invariant.tells;
   served = λ kept is tells stands.
       let files = g.D.Arm.Dir.Dir.files in
       let s = c.statements.invariant.served kept is tells stands in
-      let a = c.in-Ok.ensures.answers s.ran.now s.ran.told_is (c.statements.invariant.tells ∙ tells) s.stands in
       let found = subst (λ o. Found c.args.script.now c.statements.at o) c.in-Ok-Some.field-0-is c.in-Ok-Some.ensures.found in
-      let more = served_more files kept c.args.script.now c.statements.at c.statements.refused c.statements.store (g.A.Annals.told c.statements.annals) (g.K.Sink.written c.args.sink.now) (g.K.Sink.written c.statements.sink) s
-      c.in-Ok-Some.found.1 c.in-Ok-Some.found.0 (one_statement c.args.script.now c.statements.at c.in-Ok-Some.found.1 c.in-Ok-Some.found.0 found) c.answer.new.store (g.A.Annals.told c.answer.new.annals) c.in-Ok.reply.items (g.K.Sink.written c.write_all.new.sink) a
-      (rw c.deref.ensures.value at c.in-Ok-write_all.ensures.all) in
-      subst (λ b. Served files kept c.args.script.now (c.statements.at + c.in-Ok-Some.found.1) b c.answer.new.store (g.A.Annals.told c.answer.new.annals) (g.K.Sink.written c.args.sink.now) (g.K.Sink.written c.write_all.new.sink))
-      (sym (rw c.deref-in-statements.ensures.value at c.one_refused-refused.ensures)) more;
+      let left = one_statement c.args.script.now c.statements.at c.in-Ok-Some.found.1 c.in-Ok-Some.found.0 found in
+      let written = is_written (drop c.statements.at c.args.script.now) c.in-Ok-Some.found.0 (statements_of (drop (c.statements.at + c.in-Ok-Some.found.1) c.args.script.now)) left in
+      let disk = g.D.Disk.failed c.answer.new.disk in
+      let arm = g.D.Arm.Arm.failed c.answer.new.arm in
+      let a = subst (λ o. Accepts files s.ran.now c.in-Ok-Some.found.0 o disk arm c.in-Ok.reply.items c.answer.new.store (g.A.Annals.told c.answer.new.annals)) c.statements.invariant.opened
+      (c.in-Ok.ensures.answers s.ran.now s.ran.told_is (c.statements.invariant.tells ∙ tells) written s.stands) in
+      let more = served_more files kept c.args.script.now c.args.store.now.opened (g.D.Disk.failed c.statements.disk) (g.D.Arm.Arm.failed c.statements.arm) c.statements.at c.statements.tally c.statements.store (g.A.Annals.told c.statements.annals)
+      (g.K.Sink.written c.args.sink.now) (g.K.Sink.written c.statements.sink) s disk arm c.in-Ok.ensures.disk_later c.in-Ok.ensures.arm_later
+      c.in-Ok-Some.found.1 c.in-Ok-Some.found.0 left c.answer.new.store (g.A.Annals.told c.answer.new.annals) c.in-Ok.reply.items (g.K.Sink.written c.write_all.new.sink) a (rw c.deref.ensures.value at c.in-Ok-write_all.ensures.all) in
+      subst (λ t. Served files kept c.args.script.now c.args.store.now.opened disk arm (c.statements.at + c.in-Ok-Some.found.1) t c.answer.new.store (g.A.Annals.told c.answer.new.annals) (g.K.Sink.written c.args.sink.now) (g.K.Sink.written c.write_all.new.sink))
+      (sym (rw c.deref-in-statements.ensures.value at c.with-tally.ensures)) more;
   within = used_within c.args.script.now c.statements.at c.in-Ok-Some.found.1 c.statements.invariant.within (subst (λ o. Used c.args.script.now c.statements.at o) c.in-Ok-Some.field-0-is c.in-Ok-Some.ensures.used).1;
   disk_later = omega arith;
   arm_later = omega arith;
@@ -76,5 +93,5 @@ statements-preserved g c = record {
 pub returns-clause-run : goal.returns-clause-run
 returns-clause-run g c = λ kept is tells stands.
     let s = c.statements.invariant.served kept is tells stands in
-    served_all g.D.Arm.Dir.Dir.files kept c.args.script.now c.statements.at c.statements.refused c.statements.store (g.A.Annals.told c.statements.annals) (g.K.Sink.written c.args.sink.now) (g.K.Sink.written c.statements.sink) s
-    (nothing_left c.args.script.now c.statements.at (omega arith))
+    served_all g.D.Arm.Dir.Dir.files kept c.args.script.now c.args.store.now.opened (g.D.Disk.failed c.statements.disk) (g.D.Arm.Arm.failed c.statements.arm) c.statements.at c.statements.tally c.statements.store (g.A.Annals.told c.statements.annals)
+    (g.K.Sink.written c.args.sink.now) (g.K.Sink.written c.statements.sink) s (nothing_left c.args.script.now c.statements.at (omega arith))

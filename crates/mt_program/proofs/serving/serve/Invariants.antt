@@ -1,10 +1,9 @@
 -- the statements up to the place were answered
 use Rattle.std.proofs.Common.{◌≡◌, ◌≤◌, ◌-◌, Some, true, length}
-use Rattle.std.specs.Option.{ForSome}
 use Rattle.mt_values.specs.Annals.{Told}
 use Rattle.mt_program.specs.Answers.{history}
 use Rattle.mt_program.specs.Serving.{Served}
-use Rattle.mt_program.specs.Store.{Stands, NamesFit, IsSound}
+use Rattle.mt_program.specs.Store.{Stands, NamesFitUnlessRisen, IsSound}
 use Rattle.mt_program.proofs.serving.serve.Given as goal
 
 abbrev pub invariant-statements : goal.invariant-statements
@@ -12,15 +11,18 @@ invariant-statements g l =
     let files = g.D.Arm.Dir.Dir.files in
     let told = g.A.Annals.told in
     let written = g.K.Sink.written in
+    let faults = g.D.Disk.failed in
+    let arm_faults = g.D.Arm.Arm.failed in
     record {
-      names : ForSome (g.D.Disk.told l.disk) (NamesFit l.store);
+      names : NamesFitUnlessRisen (faults l.disk) (g.D.Disk.told l.disk) l.store;
       sound : IsSound l.store;
+      opened : l.store.opened ≡ l.initial.store.opened;
       tells : g.D.Arm.Arm.tells l.arm ≡ g.D.Arm.Arm.tells l.initial.arm;
       served : (kept : Told) → told l.initial.annals ≡ Some kept → g.D.Arm.Arm.tells l.initial.arm ≡ true → Stands files (history kept) l.initial.store
-          → Served files kept l.script l.at l.refused l.store (told l.annals) (written l.initial.sink) (written l.sink);
+          → Served files kept l.script l.initial.store.opened (faults l.disk) (arm_faults l.arm) l.at l.tally l.store (told l.annals) (written l.initial.sink) (written l.sink);
       within : l.at ≤ length l.script;
-      disk_later : g.D.Disk.failed l.initial.disk ≤ g.D.Disk.failed l.disk;
-      arm_later : g.D.Arm.Arm.failed l.initial.arm ≤ g.D.Arm.Arm.failed l.arm;
+      disk_later : faults l.initial.disk ≤ faults l.disk;
+      arm_later : arm_faults l.initial.arm ≤ arm_faults l.arm;
       sink_later : g.K.Sink.failed l.initial.sink ≤ g.K.Sink.failed l.sink;
     }
 

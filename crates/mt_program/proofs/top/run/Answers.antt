@@ -6,43 +6,43 @@ use Rattle.mt_program.proofs.top.run.Goals as goal
 
 pub returns-clause-all_answered : goal.returns-clause-all_answered
 returns-clause-all_answered g c = λ kept script before starts is.
-    left_by c.run_opened-ended.result status.Done kept script before (g.A.Annals.told c.run_opened-ended.new.annals) (g.K.Sink.written c.run_opened-ended.new.sink) (sym c.number-status-2.ensures ∙ is)
+    left_by (record { opened = g.D.Disk.failed c.args.disk; ended = g.D.Disk.failed c.run_opened-ended.new.disk }) c.run_opened-ended.result status.Done kept script before (g.A.Annals.told c.run_opened-ended.new.annals) (g.K.Sink.written c.run_opened-ended.new.sink) (sym c.number-status-2.ensures ∙ is)
     (c.run_opened-ended.ensures.leaves kept starts.told script before starts.annals_is starts.none starts.disk_is starts.empty starts.source_is starts.sink_is)
 
 pub returns-clause-some_refused : goal.returns-clause-some_refused
 returns-clause-some_refused g c = λ kept script before starts is.
-    left_by c.run_opened-ended.result status.Refused kept script before (g.A.Annals.told c.run_opened-ended.new.annals) (g.K.Sink.written c.run_opened-ended.new.sink) (sym c.number-status-2.ensures ∙ is)
+    left_by (record { opened = g.D.Disk.failed c.args.disk; ended = g.D.Disk.failed c.run_opened-ended.new.disk }) c.run_opened-ended.result status.Refused kept script before (g.A.Annals.told c.run_opened-ended.new.annals) (g.K.Sink.written c.run_opened-ended.new.sink) (sym c.number-status-2.ensures ∙ is)
     (c.run_opened-ended.ensures.leaves kept starts.told script before starts.annals_is starts.none starts.disk_is starts.empty starts.source_is starts.sink_is)
 
 pub returns-clause-sink_failed : goal.returns-clause-sink_failed
 returns-clause-sink_failed g c = λ kept script before starts is.
-    left_by c.run_opened-ended.result status.WriteFault kept script before (g.A.Annals.told c.run_opened-ended.new.annals) (g.K.Sink.written c.run_opened-ended.new.sink) (sym c.number-status-2.ensures ∙ is)
+    left_by (record { opened = g.D.Disk.failed c.args.disk; ended = g.D.Disk.failed c.run_opened-ended.new.disk }) c.run_opened-ended.result status.WriteFault kept script before (g.A.Annals.told c.run_opened-ended.new.annals) (g.K.Sink.written c.run_opened-ended.new.sink) (sym c.number-status-2.ensures ∙ is)
     (c.run_opened-ended.ensures.leaves kept starts.told script before starts.annals_is starts.none starts.disk_is starts.empty starts.source_is starts.sink_is)
 
 pub returns-clause-disk_failed : goal.returns-clause-disk_failed
 returns-clause-disk_failed g c = λ kept script before starts is.
-    left_by c.run_opened-ended.result status.DiskFault kept script before (g.A.Annals.told c.run_opened-ended.new.annals) (g.K.Sink.written c.run_opened-ended.new.sink) (sym c.number-status-2.ensures ∙ is)
+    left_by (record { opened = g.D.Disk.failed c.args.disk; ended = g.D.Disk.failed c.run_opened-ended.new.disk }) c.run_opened-ended.result status.DiskFault kept script before (g.A.Annals.told c.run_opened-ended.new.annals) (g.K.Sink.written c.run_opened-ended.new.sink) (sym c.number-status-2.ensures ∙ is)
     (c.run_opened-ended.ensures.leaves kept starts.told script before starts.annals_is starts.none starts.disk_is starts.empty starts.source_is starts.sink_is)
 
 pub returns-clause-out_of_memory : goal.returns-clause-out_of_memory
 returns-clause-out_of_memory g c = λ kept script before starts is.
-    left_by c.run_opened-ended.result status.NoMemory kept script before (g.A.Annals.told c.run_opened-ended.new.annals) (g.K.Sink.written c.run_opened-ended.new.sink) (sym c.number-status-2.ensures ∙ is)
+    left_by (record { opened = g.D.Disk.failed c.args.disk; ended = g.D.Disk.failed c.run_opened-ended.new.disk }) c.run_opened-ended.result status.NoMemory kept script before (g.A.Annals.told c.run_opened-ended.new.annals) (g.K.Sink.written c.run_opened-ended.new.sink) (sym c.number-status-2.ensures ∙ is)
     (c.run_opened-ended.ensures.leaves kept starts.told script before starts.annals_is starts.none starts.disk_is starts.empty starts.source_is starts.sink_is)
 
 pub returns-clause-source_failed : goal.returns-clause-source_failed
 returns-clause-source_failed g c = λ kept script before starts is.
     let left = g.S.Source.left c.run_opened-ended.new.source in
-    leaves_as NothingRan (ReadRun left script) kept script before (g.A.Annals.told c.run_opened-ended.new.annals) (g.K.Sink.written c.run_opened-ended.new.sink)
-    (λ h out ran. nothing_read left script _ h _ out ran)
-    (left_by c.run_opened-ended.result status.ReadFault kept script before (g.A.Annals.told c.run_opened-ended.new.annals) (g.K.Sink.written c.run_opened-ended.new.sink) (sym c.number-status-2.ensures ∙ is)
+    leaves_as (NothingRan (record { opened = g.D.Disk.failed c.args.disk; ended = g.D.Disk.failed c.run_opened-ended.new.disk })) (ReadRun left script (record { opened = g.D.Disk.failed c.args.disk; ended = g.D.Disk.failed c.run_opened-ended.new.disk })) kept script before (g.A.Annals.told c.run_opened-ended.new.annals) (g.K.Sink.written c.run_opened-ended.new.sink)
+    (λ h out ran. nothing_read left script _ _ h _ out ran)
+    (left_by (record { opened = g.D.Disk.failed c.args.disk; ended = g.D.Disk.failed c.run_opened-ended.new.disk }) c.run_opened-ended.result status.ReadFault kept script before (g.A.Annals.told c.run_opened-ended.new.annals) (g.K.Sink.written c.run_opened-ended.new.sink) (sym c.number-status-2.ensures ∙ is)
     (c.run_opened-ended.ensures.leaves kept starts.told script before starts.annals_is starts.none starts.disk_is starts.empty starts.source_is starts.sink_is))
 
 pub returns-clause-too_long : goal.returns-clause-too_long
 returns-clause-too_long g c = λ kept script before starts is.
     let left = g.S.Source.left c.run_opened-ended.new.source in
-    leaves_as NothingRan (ReadRun left script) kept script before (g.A.Annals.told c.run_opened-ended.new.annals) (g.K.Sink.written c.run_opened-ended.new.sink)
-    (λ h out ran. nothing_read left script _ h _ out ran)
-    (left_by c.run_opened-ended.result status.TooLong kept script before (g.A.Annals.told c.run_opened-ended.new.annals) (g.K.Sink.written c.run_opened-ended.new.sink) (sym c.number-status-2.ensures ∙ is)
+    leaves_as (NothingRan (record { opened = g.D.Disk.failed c.args.disk; ended = g.D.Disk.failed c.run_opened-ended.new.disk })) (ReadRun left script (record { opened = g.D.Disk.failed c.args.disk; ended = g.D.Disk.failed c.run_opened-ended.new.disk })) kept script before (g.A.Annals.told c.run_opened-ended.new.annals) (g.K.Sink.written c.run_opened-ended.new.sink)
+    (λ h out ran. nothing_read left script _ _ h _ out ran)
+    (left_by (record { opened = g.D.Disk.failed c.args.disk; ended = g.D.Disk.failed c.run_opened-ended.new.disk }) c.run_opened-ended.result status.TooLong kept script before (g.A.Annals.told c.run_opened-ended.new.annals) (g.K.Sink.written c.run_opened-ended.new.sink) (sym c.number-status-2.ensures ∙ is)
     (c.run_opened-ended.ensures.leaves kept starts.told script before starts.annals_is starts.none starts.disk_is starts.empty starts.source_is starts.sink_is))
 
 -- the root has a name

@@ -1,27 +1,42 @@
-use Rattle.std.proofs.Common.{◌∙◌, sym, subst, List, ℕ}
-use Rattle.mt_program.specs.Headline.{Leaves, RunBy}
+use Rattle.std.proofs.Common.{◌∙◌, ◌<◌, ◌^◌, sym, ap, subst, List, ℕ, length}
+use Rattle.mt_program.specs.Endings.{IsEarly}
 use Rattle.mt_program.specs.Serving.{ServedBy}
-use Rattle.mt_program.proofs.Heading.{early_stop, leaves_served, all_read, empty_stands, damaged_ending}
+use Rattle.mt_program.specs.declared.status.Status.TheVariants as status
+use Rattle.mt_program.proofs.Heading.{all_read, empty_stands, nothing_left, sound_served, stop_early, stop_undamaged}
 use Rattle.mt_program.proofs.top.run_script.Goals as goal
 
 -- the script was not read
-pub returns-in-Err-clause-leaves : goal.returns-in-Err-clause-leaves
-returns-in-Err-clause-leaves g c = λ kept script before told none tells left written.
-    subst (λ s. Leaves (RunBy s) kept script before (g.A.Annals.told c.args.annals.now) (g.K.Sink.written c.args.sink.now)) (sym c.failed_reading.ensures)
-    (early_stop kept script before (g.A.Annals.told c.args.annals.now) (g.K.Sink.written c.args.sink.now) none told written c.in-Err.stop)
+pub returns-in-Err-clause-early : goal.returns-in-Err-clause-early
+returns-in-Err-clause-early g c = subst IsEarly (sym c.failed_reading.ensures) (stop_early c.in-Err.stop)
+
+pub returns-in-Err-clause-sound : goal.returns-in-Err-clause-sound
+returns-in-Err-clause-sound g c = λ kept told none tells bad. stop_undamaged c.in-Err.stop (sym c.failed_reading.ensures ∙ bad)
 
 -- it was served
 pub returns-clause-leaves : goal.returns-clause-leaves
-returns-clause-leaves g c = λ kept script before told none tells left written.
+returns-clause-leaves g c = λ kept script told none tells left.
     let stands = empty_stands g.D.Arm.Dir.Dir.files kept c.new-store.result none c.new-store.ensures.tables c.new-store.ensures.length in
     let text = all_read script c.in-Ok.text.items (g.S.Source.left c.args.source.now) (g.S.Source.left c.read_all.new.source) left c.in-Ok.ensures.all.0 c.in-Ok.ensures.all.1 in
-    let served = c.serve.ensures.run kept told tells stands in
-    let sound = c.serve.ensures.sound kept told tells stands in
-    subst (λ s. Leaves (RunBy s) kept script before (g.A.Annals.told c.serve.new.annals) (g.K.Sink.written c.serve.new.sink)) (sym c.served_status.ensures)
-    (leaves_served kept script before (g.A.Annals.told c.serve.new.annals) (g.K.Sink.written c.args.sink.now) (g.K.Sink.written c.serve.new.sink) written c.serve.result sound
-    (subst (λ (ys : List ℕ). ServedBy c.serve.result kept ys (g.A.Annals.told c.serve.new.annals) (g.K.Sink.written c.args.sink.now) (g.K.Sink.written c.serve.new.sink)) (c.deref.ensures.value ∙ text) served))
+    let served = c.serve-ending.ensures.run kept told tells stands in
+    let disk = g.D.Disk.failed c.serve-ending.new.disk in
+    let arm = g.D.Arm.Arm.failed c.serve-ending.new.arm in
+    let now = g.A.Annals.told c.serve-ending.new.annals in
+    let before = g.K.Sink.written c.args.sink.now in
+    let after = g.K.Sink.written c.serve-ending.new.sink in
+    subst (λ (o : ℕ). ServedBy c.serve-ending.result kept script o disk arm now before after) c.new-store.ensures.opened
+    (subst (λ (ys : List ℕ). ServedBy c.serve-ending.result kept ys c.new-store.result.opened disk arm now before after) (c.deref.ensures.value ∙ text) served)
 
 pub returns-clause-sound : goal.returns-clause-sound
-returns-clause-sound g c = λ kept told none tells bad.
-    c.serve.ensures.sound kept told tells (empty_stands g.D.Arm.Dir.Dir.files kept c.new-store.result none c.new-store.ensures.tables c.new-store.ensures.length)
-    (damaged_ending c.serve.result (sym c.served_status.ensures ∙ bad))
+returns-clause-sound g c = λ kept told none tells.
+    sound_served kept c.deref.result.now c.new-store.result.opened (g.D.Disk.failed c.serve-ending.new.disk) (g.D.Arm.Arm.failed c.serve-ending.new.arm) (g.A.Annals.told c.serve-ending.new.annals) (g.K.Sink.written c.args.sink.now)
+    (g.K.Sink.written c.serve-ending.new.sink) c.serve-ending.result
+    (c.serve-ending.ensures.run kept told tells (empty_stands g.D.Arm.Dir.Dir.files kept c.new-store.result none c.new-store.ensures.tables c.new-store.ensures.length))
+
+pub returns-clause-whole : goal.returns-clause-whole
+returns-clause-whole g c = λ script left.
+    let all = c.in-Ok.ensures.all in
+    let before = g.S.Source.left c.args.source.now in
+    let after = g.S.Source.left c.read_all.new.source in (
+      subst (λ (ys : List ℕ). length ys < 2 ^ 40) (all_read script c.in-Ok.text.items before after left all.0 all.1) c.in-Ok.ensures.short,
+      nothing_left script c.in-Ok.text.items before after left all.0 all.1,
+    )

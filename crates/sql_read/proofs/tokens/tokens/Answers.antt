@@ -1,17 +1,21 @@
-use Rattle.std.proofs.Common.{◌∙◌, sym, ap}
-use Rattle.sql_read.specs.Tokens.{shown}
-use Rattle.sql_read.proofs.Reading.{tokens_start, tokens_more}
+use Rattle.std.proofs.Common.{◌∙◌, sym, false, length, arith}
+use Rattle.mt_values.specs.Tokens.{is_space}
+use Rattle.mt_values.proofs.Bounds.{behind_short}
+use Rattle.sql_read.proofs.TokenSteps.{tokens_start, tokens_more, token_shorter, some_bytes}
 use Rattle.sql_read.proofs.tokens.tokens.Goals as goal
 
 pub tokens-init : goal.tokens-init
-tokens-init c = rw (c.new-found.ensures.items, c.behind-rest.ensures) (tokens_start c.args.text.now)
+tokens-init c =
+    rw (c.new-found.ensures.items, c.behind-rest.ensures) (tokens_start c.args.text.now, behind_short is_space false c.args.text.now)
 
 pub tokens-smaller : goal.tokens-smaller
 tokens-smaller c =
-    let more = tokens_more c.tokens.found.items c.in-Some.token c.tokens.rest.now c.in-Some.more.now (sym c.in_ok-token.ensures ∙ ap shown c.in-Some.is) in
-    rw c.behind-rest-in-tokens.ensures more.1
+    let some = some_bytes c.tokens.rest.now (sym c.is_empty.ensures ∙ c.tokens-test.true) in
+    rw c.behind-rest-in-tokens.ensures (token_shorter c.tokens.found.items (length c.args.text.now) c.in_ok-token.token c.tokens.rest.now c.in_ok-token.more.now some c.in_ok-token.ensures)
 
 pub tokens-preserved : goal.tokens-preserved
 tokens-preserved c =
-    let more = tokens_more c.tokens.found.items c.in-Some.token c.tokens.rest.now c.in-Some.more.now (sym c.in_ok-token.ensures ∙ ap shown c.in-Some.is) in
-    rw (c.in_ok-push.ensures.items, c.behind-rest-in-tokens.ensures) (more.0 ∙ c.tokens.invariant)
+    let some = some_bytes c.tokens.rest.now (sym c.is_empty.ensures ∙ c.tokens-test.true) in
+    let less = token_shorter c.tokens.found.items (length c.args.text.now) c.in_ok-token.token c.tokens.rest.now c.in_ok-token.more.now some c.in_ok-token.ensures in
+    let more = tokens_more c.tokens.found.items (length c.args.text.now) c.in_ok-token.token c.tokens.rest.now c.in_ok-token.more.now some c.in_ok-token.ensures c.in_default.not-Stray in
+    rw (c.in_ok-push-2.ensures.items, c.behind-rest-in-tokens.ensures) (more ∙ c.tokens.invariant.0, omega arith)

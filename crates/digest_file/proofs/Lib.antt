@@ -1,0 +1,5 @@
+pub mod Entries
+pub mod FirstFaults
+pub mod Frames
+pub mod Manifests
+pub mod Pieces

@@ -1,0 +1,28 @@
+-- What the files of a folder and the folders of a root are called on a real disk (docs/formats.md, "Files" and "Names").
+use Rattle.std.specs.Prelude.{ℕ, List, ◌++◌, Bool, false, ◌||◌, ◌&&◌, ◌==◌, nat_le, not, Option, None, Some, slice_get, codes, decimal}
+use Rattle.std.specs.List.{list_all}
+use Rattle.mt_values.specs.declared.name.FileId.{FileId}
+use Rattle.mt_values.specs.declared.name.FileId.TheVariants as file
+
+-- the name of a file in its folder
+abbrev pub file_name : FileId → List ℕ
+file_name file.Entry = codes "entry.bin"
+file_name file.Manifest = codes "manifest.bin"
+file_name file.Marks = codes "marks.bin"
+file_name file.Primary = codes "primary.bin"
+file_name (file.Skip number) = codes "s" ++ decimal number ++ codes ".bin"
+file_name (file.Column number) = codes "c" ++ decimal number ++ codes ".bin"
+
+-- a letter, a digit, an underscore or a dot
+abbrev pub is_name_byte : ℕ → Bool
+is_name_byte b =
+    (nat_le 65 b && nat_le b 90) || (nat_le 97 b && nat_le b 122) || (nat_le 48 b && nat_le b 57) || (b == 95) || (b == 46)
+
+-- no dot
+abbrev pub is_first_byte : Option ℕ → Bool
+is_first_byte None = false
+is_first_byte (Some b) = not (b == 46)
+
+-- a name that a folder of the root may have: such bytes, and there is a first one, which is no dot
+abbrev pub is_root_name : List ℕ → Bool
+is_root_name name = is_first_byte (slice_get name 0) && list_all is_name_byte name

@@ -1,0 +1,153 @@
+// What reads folders of a real disk and makes stages.
+ghost use Rattle.std.specs.Prelude.{◌≡◌, ◌≤◌, ℕ, IfOk, length};
+
+use crate::counts::{Faults, draw};
+use crate::folder::{RealDir, RealStage, file_path};
+use crate::system::{System, is_folder, open_to_read, read_at};
+use mt_base::NoMemory;
+use mt_outside::{Arm, DiskError, Stage};
+use mt_values::FileId;
+use std::alloc::Global;
+use std::fs::File;
+use std::marker::Model;
+
+// A file that is open to be read, with its path and the number of its folder.
+#[derive(Drop)]
+struct Opened {
+    folder: u64,
+    path: String,
+    handle: File,
+}
+
+/// An arm of a real disk. Contracts see how many of its calls have failed.
+///
+/// It keeps the file open that it read last.
+#[derive(Drop)]
+pub struct RealArm<R> {
+    rt: R,
+    alloc: Global,
+    root: String,
+    number: u64,
+    /// The number of its next stage.
+    stages: u64,
+    kept: Option<Opened>,
+    faults: Faults,
+}
+
+impl<R> Model for RealArm<R> {
+    ghost Value = { ℕ };
+
+    ghost view = { λ a. a.faults.count };
+}
+
+impl<R: System> RealArm<R> {
+    /// An arm of which no call was made.
+    pub(crate) fn new(rt: R, alloc: Global, root: String, number: u64) -> RealArm<R>
+        ensures { result ≡ 0 }
+    {
+        RealArm {
+            rt,
+            alloc,
+            root,
+            number,
+            stages: 0,
+            kept: None,
+            faults: Faults::none(),
+        }
+    }
+
+    // Makes the folder `.stage_<arm>_<stage>` of the root.
+    fn make_stage(&mut self, alloc: Global) -> Result<RealStage<R>, DiskError>
+        ensures same { self.new ≡ self.old }
+        ensures none_failed { IfOk result (λ s. s ≡ 0) }
+    {
+        let stage = draw(&mut self.stages)?;
+        let path = stage_path(alloc, &self.root, self.number, stage)?;
+        let Ok(rt) = self.rt.clone() else {
+            return Err(DiskError::NoMemory);
+        };
+        RealStage::new(rt, alloc, path)
+    }
+
+    // The file that is kept where it is this one, or else the file opened anew. None where it is not there.
+    fn file(&mut self, dir: &RealDir, file: FileId) -> Result<Option<Opened>, DiskError>
+        ensures { self.new ≡ self.old }
+    {
+        let path = file_path(self.alloc, dir.path(), file)?;
+        if let Some(opened) = self.kept.take() {
+            if opened.folder == dir.number() && opened.path == path {
+                return Ok(Some(opened));
+            }
+        }
+        match open_to_read(&self.rt, &path)? {
+            Some(handle) => Ok(Some(Opened {
+                folder: dir.number(),
+                path,
+                handle,
+            })),
+            None if is_folder(&self.rt, dir.path()) => Ok(None),
+            None => Err(DiskError::Fault),
+        }
+    }
+
+    // Reads the bytes of a file from a place on. A folder that is gone is a fault.
+    fn read_file(
+        &mut self,
+        dir: &RealDir,
+        file: FileId,
+        at: u64,
+        buf: &mut [u8],
+    ) -> Result<usize, DiskError>
+        ensures same { self.new ≡ self.old }
+        ensures bound { IfOk result (λ n. n ≤ length buf.new) }
+    {
+        let Some(opened) = self.file(dir, file)? else {
+            return Ok(0);
+        };
+        let count = read_at(&opened.handle, at, buf)?;
+        self.kept = Some(opened);
+        Ok(count)
+    }
+}
+
+fn stage_path(alloc: Global, root: &str, arm: u64, stage: u64) -> Result<String, NoMemory> {
+    Ok(format!(in alloc; "{root}/.stage_{arm}_{stage}")?)
+}
+
+impl<R: System + Send> Arm for RealArm<R> {
+    type Stage = RealStage<R>;
+
+    type Dir = RealDir;
+
+    ghost use Rattle.std.specs.Prelude.{false};
+
+    ghost tells = { λ _. false };
+
+    ghost failed = { λ a. a };
+
+    fn stage(&mut self, alloc: Global) -> Result<RealStage<R>, DiskError> {
+        let made = self.make_stage(alloc);
+        self.faults.note(made)
+    }
+
+    fn abandon(&mut self, stage: RealStage<R>) {
+        self.faults.take(stage.faults());
+        let removed = stage.remove();
+        let _ = self.faults.note(removed);
+    }
+
+    fn read(
+        &mut self,
+        dir: &RealDir,
+        file: FileId,
+        at: u64,
+        buf: &mut [u8],
+    ) -> Result<usize, DiskError> {
+        let count = self.read_file(dir, file, at, buf);
+        self.faults.note(count)
+    }
+
+    fn faults(&self) -> u64 {
+        self.faults.count
+    }
+}

@@ -1,0 +1,69 @@
+// Counts of failed calls, and numbers that are drawn.
+ghost use Rattle.std.specs.Prelude.{◌≡◌, ◌+◌, ◌<◌, ◌≤◌, IfOk, OnErr};
+ghost use Rattle.mt_outside.specs.Causes.{Rose};
+ghost use Rattle.mt_outside.specs.DiskCauses.{HasDiskCause};
+ghost use Rattle.disk_real.specs.Counts.{next, counted};
+
+use mt_outside::DiskError;
+
+/// A count of failed calls, as far as 64 bits count.
+#[derive(Drop)]
+pub(crate) struct Faults {
+    pub count: u64,
+}
+
+impl Faults {
+    /// No call has failed.
+    pub fn none() -> Faults
+        ensures { result.count ≡ 0 }
+    {
+        Faults { count: 0 }
+    }
+
+    /// One more call has failed.
+    pub fn raise(&mut self)
+        ensures count { self.new.count ≡ next self.old.count }
+        ensures rose { Rose self.old.count self.new.count }
+        ensures later { self.old.count ≤ self.new.count }
+    {
+        self.count = self.count.saturating_add(1);
+    }
+
+    /// Passes on how a call ended. Where it is a fault, one more call has failed.
+    pub fn note<T>(&mut self, outcome: Result<T, DiskError>) -> Result<T, DiskError>
+        ensures same { result ≡ outcome }
+        ensures count { self.new.count ≡ counted outcome self.old.count }
+        ensures cause { HasDiskCause self.old.count self.new.count result }
+    {
+        if let Err(DiskError::Fault) = &outcome {
+            self.raise();
+        }
+        outcome
+    }
+
+    /// Takes over the count of an object that is given up: where calls of it had failed, one more has failed here.
+    pub fn take(&mut self, failed: u64)
+        ensures taken { 0 < failed → Rose self.old.count self.new.count }
+        ensures later { self.old.count ≤ self.new.count }
+    {
+        if failed > 0 {
+            self.raise();
+        }
+    }
+}
+
+/// Draws the next number of a kind. None is left at the last value of 64 bits, which is a fault.
+pub(crate) fn draw(next: &mut u64) -> Result<u64, DiskError>
+    ensures drawn { IfOk result (λ number. number ≡ next.old) }
+    ensures later { IfOk result (λ number. next.new ≡ number + 1) }
+    ensures err { OnErr result (next.new ≡ next.old) }
+{
+    let number = *next;
+    match number.checked_add(1) {
+        Some(later) => {
+            *next = later;
+            Ok(number)
+        }
+        None => Err(DiskError::Fault),
+    }
+}

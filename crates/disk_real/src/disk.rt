@@ -1,0 +1,231 @@
+// A folder of the system as a disk.
+ghost use Rattle.std.specs.Prelude.{◌≡◌, IfOk};
+
+use crate::arm::RealArm;
+use crate::counts::{Faults, draw};
+use crate::folder::{RealDir, RealStage};
+use crate::names::{path_in, root_name};
+use crate::system::{
+    System, is_folder, names_in, remove_folder, rename, settle_folder, sync_folder,
+};
+use mt_base::NoMemory;
+use mt_outside::{Arm, Disk, DiskError, Stage};
+use mt_values::Name;
+use std::alloc::Global;
+use std::marker::Model;
+
+/// A folder of the system as a disk, which tells nothing of what it holds. Contracts see its mark and how many of its calls have failed.
+///
+/// Until it is started, each of its calls that reach the folder is a fault.
+#[derive(Drop)]
+pub struct RealDisk<R> {
+    rt: R,
+    alloc: Global,
+    /// The path of the folder, empty until it is started.
+    root: String,
+    /// The numbers of the next arm, of the next folder that is done and of the next that is removed.
+    arms: u64,
+    dirs: u64,
+    removals: u64,
+    clock: u64,
+    faults: Faults,
+}
+
+impl<R> Model for RealDisk<R> {
+    ghost use Rattle.disk_real.specs.States.{DiskState};
+
+    ghost Value = { DiskState };
+
+    ghost view = { λ d. record { clock = d.clock; failed = d.faults.count } };
+}
+
+impl<R: System> RealDisk<R> {
+    /// A disk without a folder, with the mark 0. No call has failed. Takes no memory.
+    pub fn new(rt: R, alloc: Global) -> RealDisk<R>
+        ensures clock { result.clock ≡ 0 }
+        ensures failed { result.failed ≡ 0 }
+    {
+        RealDisk {
+            rt,
+            alloc,
+            root: String::new(alloc),
+            arms: 0,
+            dirs: 0,
+            removals: 0,
+            clock: 0,
+            faults: Faults::none(),
+        }
+    }
+
+    // Makes the folder where it is not there, and keeps its path.
+    fn begin(&mut self, path: &str) -> Result<(), DiskError>
+        ensures { self.new ≡ self.old }
+    {
+        let root = owned(self.alloc, path)?;
+        settle_folder(&self.rt, path)?;
+        self.root = root;
+        Ok(())
+    }
+
+    // The path of the folder, once it is started.
+    fn root(&self) -> Result<&str, DiskError> {
+        if self.root.is_empty() {
+            return Err(DiskError::Fault);
+        }
+        Ok(&self.root)
+    }
+
+    // An arm with a number of its own.
+    fn make_arm(&mut self, alloc: Global) -> Result<RealArm<R>, DiskError>
+        ensures same { self.new ≡ self.old }
+        ensures none_failed { IfOk result (λ a. a ≡ 0) }
+    {
+        let root = owned(alloc, self.root()?)?;
+        let number = draw(&mut self.arms)?;
+        match self.rt.clone() {
+            Ok(rt) => Ok(RealArm::new(rt, alloc, root, number)),
+            Err(_) => Err(DiskError::NoMemory),
+        }
+    }
+
+    // The path of the folder that has this name.
+    fn path_of(&self, alloc: Global, name: &Name) -> Result<String, DiskError> {
+        match root_name(name) {
+            Some(name) => Ok(path_in(alloc, self.root()?, name)?),
+            None => Err(DiskError::Fault),
+        }
+    }
+
+    // The folder of a name.
+    fn find(&mut self, alloc: Global, name: &Name) -> Result<RealDir, DiskError>
+        ensures { self.new ≡ self.old }
+    {
+        let path = self.path_of(alloc, name)?;
+        let number = draw(&mut self.dirs)?;
+        if is_folder(&self.rt, &path) {
+            Ok(RealDir::new(path, number))
+        } else {
+            Err(DiskError::Fault)
+        }
+    }
+
+    // Gives a stage a name.
+    fn give(
+        &mut self,
+        alloc: Global,
+        stage: &RealStage<R>,
+        name: &Name,
+    ) -> Result<RealDir, DiskError>
+        ensures { self.new ≡ self.old }
+    {
+        let path = self.path_of(alloc, name)?;
+        let number = draw(&mut self.dirs)?;
+        sync_folder(&self.rt, stage.path())?;
+        rename(&self.rt, stage.path(), &path)?;
+        Ok(RealDir::new(path, number))
+    }
+
+    // Takes a name away, and once that is settled removes its folder with its files. So no crash leaves the name with some of its files gone.
+    fn cut(&mut self, name: &Name) -> Result<(), DiskError>
+        ensures { self.new ≡ self.old }
+    {
+        let path = self.path_of(self.alloc, name)?;
+        let number = draw(&mut self.removals)?;
+        let hidden = removed_path(self.alloc, &self.root, number)?;
+        remove_folder(&self.rt, self.alloc, &hidden)?;
+        rename(&self.rt, &path, &hidden)?;
+        sync_folder(&self.rt, &self.root)?;
+        remove_folder(&self.rt, self.alloc, &hidden)
+    }
+}
+
+fn owned(alloc: Global, text: &str) -> Result<String, NoMemory> {
+    Ok(String::from_str(alloc, text)?)
+}
+
+fn removed_path(alloc: Global, root: &str, number: u64) -> Result<String, NoMemory> {
+    Ok(format!(in alloc; "{root}/.removed_{number}")?)
+}
+
+impl<R: System + Send> Disk for RealDisk<R> {
+    type Arm = RealArm<R>;
+
+    ghost use Rattle.std.specs.Prelude.{None};
+
+    ghost told = { λ _. None };
+
+    ghost clock = { λ d. d.clock };
+
+    ghost failed = { λ d. d.failed };
+
+    /// Parents are not made. Where the folder is made, a crash does not take it away again. One that can't be made, settled or read is a fault.
+    fn start(&mut self, path: &str) -> Result<(), DiskError> {
+        let begun = self.begin(path);
+        self.faults.note(begun)
+    }
+
+    fn arm(&mut self, alloc: Global) -> Result<RealArm<R>, DiskError> {
+        let made = self.make_arm(alloc);
+        self.faults.note(made)
+    }
+
+    fn take_back(&mut self, arm: RealArm<R>) {
+        self.faults.take(arm.faults());
+    }
+
+    /// In the order of their bytes. An entry that can't be read, or whose name is no UTF-8, is a fault.
+    fn list(&mut self, alloc: Global) -> Result<Vec<Name>, DiskError> {
+        let names = names_in(&self.rt, alloc, &self.root);
+        self.faults.note(names)
+    }
+
+    fn open(&mut self, alloc: Global, name: &Name) -> Result<RealDir, DiskError> {
+        let found = self.find(alloc, name);
+        self.faults.note(found)
+    }
+
+    /// A stage of which a call had failed, and a name that is none of the root, is a fault. A stage that gets no name is removed, as far as that can be done.
+    fn publish(
+        &mut self,
+        alloc: Global,
+        stage: RealStage<R>,
+        name: &Name,
+    ) -> Result<RealDir, DiskError> {
+        let given = if stage.faults() > 0 {
+            Err(DiskError::Fault)
+        } else {
+            self.give(alloc, &stage, name)
+        };
+        if given.is_err() {
+            let removed = stage.remove();
+            let _ = self.faults.note(removed);
+        }
+        self.faults.note(given)
+    }
+
+    /// The folder is first given a name that `list` leaves out. Once that is settled it is removed with its files. Where memory is refused that is a fault.
+    fn remove(&mut self, name: &Name) -> Result<(), DiskError> {
+        if self.cut(name).is_err() {
+            self.faults.raise();
+            return Err(DiskError::Fault);
+        }
+        Ok(())
+    }
+
+    fn sync_names(&mut self) -> Result<(), DiskError> {
+        if self.clock == u64::MAX || sync_folder(&self.rt, &self.root).is_err() {
+            self.faults.raise();
+            return Err(DiskError::Fault);
+        }
+        self.clock += 1;
+        Ok(())
+    }
+
+    fn mark(&self) -> u64 {
+        self.clock
+    }
+
+    fn faults(&self) -> u64 {
+        self.faults.count
+    }
+}

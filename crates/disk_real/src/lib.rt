@@ -1,0 +1,22 @@
+//! The real outside: a folder of the system as a disk, std's readers and writers as streams, and a gate that holds nobody.
+//! What it keeps and gives is told to no proof; its counts of faults are proved.
+#![tactic(auto)]
+
+mod arm;
+mod counts;
+mod disk;
+mod folder;
+mod gate;
+mod names;
+mod streams;
+mod system;
+mod tries;
+
+pub use arm::RealArm;
+pub use disk::RealDisk;
+pub use folder::{RealDir, RealStage};
+pub use gate::OpenGate;
+pub use names::{file_name, is_root_name};
+pub use streams::{StdSink, StdSource};
+pub use system::System;
+pub use tries::MOST_TRIES;

@@ -1,0 +1,69 @@
+// Names of files and folders, and their paths.
+ghost use Rattle.std.specs.Prelude.{◌≡◌, ◌++◌, IfOk, IfSome, IsTrue, codes, string_bytes};
+ghost use Rattle.std.specs.List.{list_all};
+ghost use Rattle.disk_real.specs.Names.{file_name, is_name_byte, is_root_name};
+
+use mt_base::NoMemory;
+use mt_values::{FileId, Name};
+use std::alloc::Global;
+
+/// The name of a file in its folder: `entry.bin`, `manifest.bin`, `marks.bin`, `primary.bin`, and `s0.bin` and `c0.bin` and so on for the skip indexes
+/// and the columns.
+pub fn file_name(alloc: Global, file: FileId) -> Result<String, NoMemory>
+    ensures { IfOk result (λ name. string_bytes name ≡ file_name file) }
+{
+    let name = match file {
+        FileId::Entry => String::from_str(alloc, "entry.bin")?,
+        FileId::Manifest => String::from_str(alloc, "manifest.bin")?,
+        FileId::Marks => String::from_str(alloc, "marks.bin")?,
+        FileId::Primary => String::from_str(alloc, "primary.bin")?,
+        FileId::Skip(number) => format!(in alloc; "s{number}.bin")?,
+        FileId::Column(number) => format!(in alloc; "c{number}.bin")?,
+    };
+    Ok(name)
+}
+
+// A letter, a digit, an underscore or a dot.
+fn is_name_byte(byte: u8) -> bool
+    ensures { result ≡ is_name_byte byte }
+{
+    matches!(byte, b'A'..=b'Z' | b'a'..=b'z' | b'0'..=b'9' | b'_' | b'.')
+}
+
+// Whether there are only such bytes.
+fn are_name_bytes(bytes: &[u8]) -> bool
+    ensures { result ≡ list_all is_name_byte bytes.now }
+{
+    bytes.iter().all(|byte| is_name_byte(*byte))
+}
+
+/// Whether a folder of the root may have this name: letters, digits, underscores and dots, at least one, the first of them no dot.
+pub fn is_root_name(name: &[u8]) -> bool
+    ensures { result ≡ is_root_name name.now }
+{
+    match name.first() {
+        Some(first) if *first != b'.' => are_name_bytes(name),
+        _ => false,
+    }
+}
+
+/// The text of a name that a folder of the root may have.
+pub(crate) fn root_name(name: &Name) -> Option<&str>
+    ensures { IfSome result (λ text. (text.now ≡ name.now) × IsTrue (is_root_name name.now)) }
+{
+    let bytes = name.as_slice();
+    if !is_root_name(bytes) {
+        return None;
+    }
+    match str::from_utf8(bytes) {
+        Ok(text) => Some(text),
+        Err(_) => None,
+    }
+}
+
+/// The path of what has this name in a folder.
+pub(crate) fn path_in(alloc: Global, folder: &str, name: &str) -> Result<String, NoMemory>
+    ensures { IfOk result (λ path. string_bytes path ≡ folder.now ++ codes "/" ++ name.now) }
+{
+    Ok(format!(in alloc; "{folder}/{name}")?)
+}

@@ -1,0 +1,285 @@
+-- The causes of refusals: the script, or the outside, whose count rose then.
+use Rattle.std.proofs.Common.{◌≡◌, ◌⊎◌, ℕ, ◌+◌, ◌-◌, ◌<◌, ◌≤◌, ◌^◌, Bool, true, false, cond, List, [], ◌∷◌, ◌++◌, Option, Some, None, Result, Ok, Err, length, take, refl, zero, suc, ◌==◌, ap, ◌∙◌, subst, inl, inr, arith, nat_le, nat_lt, is_some, ◌&&◌, ◌||◌}
+use Rattle.std.proofs.lemmas.Bool.Decides.{nat_tests}
+use Rattle.std.specs.List.{list_any}
+use Rattle.mt_values.specs.declared.row_fault.DataFault.{DataFault}
+use Rattle.mt_values.specs.declared.row_fault.DataFault.TheVariants as data_fault
+use Rattle.mt_values.specs.declared.row_fault.FieldFault.{FieldFault}
+use Rattle.mt_values.specs.declared.row_fault.FieldFault.TheVariants as field_fault
+use Rattle.mt_values.specs.declared.row_fault.RowFault.{RowFault}
+use Rattle.mt_values.specs.declared.row_fault.RowFault.TheVariants as row_fault
+use Rattle.mt_values.specs.declared.schema.Column.{Column}
+use Rattle.mt_values.specs.declared.schema.Schema.{Schema}
+use Rattle.mt_values.specs.declared.statement.Cause.{Cause}
+use Rattle.mt_values.specs.declared.statement.Cause.TheVariants as cause
+use Rattle.mt_values.specs.declared.statement.Selected.{Selected}
+use Rattle.mt_values.specs.declared.statement.Selected.TheVariants as selected
+use Rattle.mt_values.specs.declared.value.ColType.{ColType}
+use Rattle.mt_values.specs.declared.value.Value.{Value}
+use Rattle.mt_values.specs.Grammar.{same_bytes}
+use Rattle.mt_values.specs.Rows.{fields_from, value_of_field, at_field, value_onto, row_of_fields, row_of_line, row_limit, row_onto, rows_behind, rows_within, inserted_rows}
+use Rattle.mt_values.specs.Schemas.{first_repeat, same_name}
+use Rattle.mt_values.specs.Script.{line_from}
+use Rattle.mt_values.specs.Values.{Row}
+use Rattle.mt_model.specs.declared.refusal.Bound.TheVariants as bound
+use Rattle.mt_model.specs.declared.refusal.Refusal.{Refusal}
+use Rattle.mt_model.specs.declared.refusal.Refusal.TheVariants as refusal
+use Rattle.mt_model.specs.declared.refusal.Room.TheVariants as room
+use Rattle.mt_model.specs.Reply.{place_of, found_or, place_onto, places_of, double_column_at, double_key_at, first_refusal, double_name, too_many_columns, unless_refused, schema_with_key, schema_of_text, create_turn, rows_or_refused, rows_for, rows_of_insert, insert_turn, selected_places, columns_for, columns_of_select}
+use Rattle.mt_values.specs.declared.statement.Statement.{Statement}
+use Rattle.mt_values.specs.declared.statement.Statement.TheVariants as statement
+use Rattle.mt_values.specs.declared.statement.CreateText.{CreateText}
+use Rattle.mt_values.specs.declared.statement.InsertText.{InsertText}
+use Rattle.mt_values.specs.declared.statement.SelectText.{SelectText}
+use Rattle.mt_model.specs.History.{History, schema_of, creates, inserts, column_types}
+use Rattle.mt_model.specs.Outside.{Counts}
+use Rattle.mt_model.specs.Outside.{HasRisen, ReadOrStageFailed, TurnFailed}
+use Rattle.mt_model.specs.Refusals.{code, code_of, is_damage, is_refusal, refusal_line, refusal_of_cause, refusal_of_row, refusal_of_data}
+use Rattle.mt_model.specs.Session.{RefusedAs, Takes}
+use Rattle.mt_model.proofs.Refused.{code_of_line}
+
+-- ---- what a script is refused for
+
+-- the script is the cause, and not the outside
+abbrev pub OfScript : Refusal → Type 0
+OfScript r = code r ≤ 14
+
+-- where it is refused, the script is the cause
+abbrev Scripted : {A : Type 0} → Result A Refusal → Type 0
+Scripted (Ok x) = Unit {0}
+Scripted (Err why) = OfScript why
+
+-- where there is a refusal, the script is its cause
+abbrev Tells : Option Refusal → Type 0
+Tells None = Unit {0}
+Tells (Some why) = OfScript why
+
+scripted : {A : Type 0} (r : Result A Refusal) (why : Refusal) → r ≡ Err why → Scripted r → OfScript why
+scripted {A} r why is h = subst (λ (z : Result A Refusal). Scripted z) is h
+
+told : (o : Option Refusal) (why : Refusal) → o ≡ Some why → Tells o → OfScript why
+told o why is h = subst Tells is h
+
+tells_if : (c : Bool) (o p : Option Refusal) → Tells o → Tells p → Tells (cond c o p)
+tells_if true o p h k = h
+tells_if false o p h k = k
+
+tells_first : (o p : Option Refusal) → Tells o → Tells p → Tells (first_refusal o p)
+tells_first None p h k = k
+tells_first (Some why) p h k = h
+
+found_tells : (name : List ℕ) (o : Option ℕ) → Scripted (found_or name o)
+found_tells name None = omega arith
+found_tells name (Some place) = tt
+
+onto_tells : (r : Result ℕ Refusal) (rest : Result (List ℕ) Refusal) → Scripted r → Scripted rest → Scripted (place_onto r rest)
+onto_tells (Err why) rest h k = h
+onto_tells (Ok place) (Err why) h k = k
+onto_tells (Ok place) (Ok places) h k = tt
+
+places_tell : (columns : List Column) (names : List (List ℕ)) → Scripted (places_of columns names)
+places_tell columns [] = tt
+places_tell columns (name ∷ names) = onto_tells (found_or name (place_of columns name)) (places_of columns names) (found_tells name (place_of columns name)) (places_tell columns names)
+
+repeat_tells : {X : Type 0} (same : X → X → Bool) (tell : ℕ → X → Refusal) → ((place : ℕ) (x : X) → OfScript (tell place x)) → (place : ℕ) (earlier xs : List X) → Tells (first_repeat same tell place earlier xs)
+repeat_tells same tell of place earlier [] = tt
+repeat_tells same tell of place earlier (x ∷ xs) =
+    tells_if (list_any (λ y. same y x) earlier) (Some (tell place x)) (first_repeat same tell (place + 1) (earlier ++ x ∷ []) xs) (of place x) (repeat_tells same tell of (place + 1) (earlier ++ x ∷ []) xs)
+
+double_tells : (c : CreateText) → Tells (double_name c)
+double_tells c =
+    tells_first (first_repeat same_name double_column_at 0 [] c.columns) (first_repeat same_bytes double_key_at 0 [] c.key)
+    (repeat_tells same_name double_column_at (λ place x. omega arith) 0 [] c.columns) (repeat_tells same_bytes double_key_at (λ place x. omega arith) 0 [] c.key)
+
+unless_tells : {X : Type 0} (o : Option Refusal) (x : X) → Tells o → Scripted (unless_refused o x)
+unless_tells None x h = tt
+unless_tells (Some why) x h = h
+
+text_tells : (c : CreateText) → Scripted (schema_of_text c)
+text_tells c = by (places_of c.columns c.key) (places_tell c.columns c.key)
+  where
+    by : (r : Result (List ℕ) Refusal) → Scripted r → Scripted (schema_with_key c r)
+    by (Err why) h = h
+    by (Ok key) h =
+        unless_tells (first_refusal (double_name c) (too_many_columns c)) (record { columns = c.columns; key = key })
+        (tells_first (double_name c) (too_many_columns c) (double_tells c) (tells_if (nat_le (length c.columns) 64) None (Some (refusal.Past bound.Columns)) tt (omega arith)))
+
+create_turn_tells : (table : List ℕ) (h : History) → Tells (create_turn table h)
+create_turn_tells table h =
+    tells_if (is_some (schema_of table h)) (Some (refusal.TableExists table)) (cond (nat_lt (creates h) 64) None (Some (refusal.Past bound.Tables))) (omega arith)
+    (tells_if (nat_lt (creates h) 64) None (Some (refusal.Past bound.Tables)) tt (omega arith))
+
+-- a fault of data is not want of memory
+abbrev OfRow : RowFault → Type 0
+OfRow row_fault.NoMemory = ⊥
+OfRow fault = Unit {0}
+
+abbrev OfData : DataFault → Type 0
+OfData (data_fault.Row fault) = OfRow fault
+OfData fault = Unit {0}
+
+abbrev RowErrs : {A : Type 0} → Result A RowFault → Type 0
+RowErrs (Ok x) = Unit {0}
+RowErrs (Err fault) = OfRow fault
+
+abbrev DataErrs : Result (List Row) DataFault → Type 0
+DataErrs (Ok rows) = Unit {0}
+DataErrs (Err fault) = OfData fault
+
+field_errs : (line place : ℕ) (r : Result Value FieldFault) → RowErrs (at_field line place r)
+field_errs line place (Ok v) = tt
+field_errs line place (Err field_fault.NotOfType) = tt
+field_errs line place (Err field_fault.TooLong) = tt
+
+value_errs : (r : Result Value RowFault) (rest : Result Row RowFault) → RowErrs r → RowErrs rest → RowErrs (value_onto r rest)
+value_errs (Err fault) rest h k = h
+value_errs (Ok v) (Err fault) h k = k
+value_errs (Ok v) (Ok vs) h k = tt
+
+row_errs : (line place : ℕ) (types : List ColType) (fields : List (List ℕ)) → RowErrs (row_of_fields line place types fields)
+row_errs line place [] fields = tt
+row_errs line place (t ∷ ts) [] = tt
+row_errs line place (t ∷ ts) (f ∷ fs) = value_errs (at_field line place (value_of_field t f)) (row_of_fields line (place + 1) ts fs) (field_errs line place (value_of_field t f)) (row_errs line (place + 1) ts fs)
+
+line_errs : (types : List ColType) (line : ℕ) (text : List ℕ) → RowErrs (row_of_line types line text)
+line_errs types line text = by (length (fields_from false text) == length types) (row_errs line 1 types (fields_from false text))
+  where
+    by : (b : Bool) → RowErrs (row_of_fields line 1 types (fields_from false text)) → RowErrs (cond b (row_of_fields line 1 types (fields_from false text)) (Err (row_fault.Fields line (length (fields_from false text)) (length types))))
+    by true h = h
+    by false h = tt
+
+row_onto_errs : (r : Result Row RowFault) (rest : Result (List Row) DataFault) → RowErrs r → DataErrs rest → DataErrs (row_onto r rest)
+row_onto_errs (Err fault) rest h k = h
+row_onto_errs (Ok row) (Err fault) h k = k
+row_onto_errs (Ok row) (Ok rows) h k = tt
+
+data_errs_if : (c : Bool) (r q : Result (List Row) DataFault) → DataErrs r → DataErrs q → DataErrs (cond c r q)
+data_errs_if true r q h k = h
+data_errs_if false r q h k = k
+
+behind_errs : (types : List ColType) (ended : Bool) (count : ℕ) (f : ℕ → List ℕ → Result (List Row) DataFault) (o : Option (List ℕ × List ℕ)) → ((c : ℕ) (text : List ℕ) → DataErrs (f c text)) → DataErrs (rows_behind f types ended count o)
+behind_errs types ended count f None more = data_errs_if ended (Ok []) (Err (data_fault.Unended count)) tt tt
+behind_errs types ended count f (Some found) more =
+    data_errs_if (nat_le row_limit count) (Err data_fault.TooMany) (row_onto (row_of_line types (count + 1) found.0) (f (count + 1) found.1)) tt
+    (row_onto_errs (row_of_line types (count + 1) found.0) (f (count + 1) found.1) (line_errs types (count + 1) found.0) (more (count + 1) found.1))
+
+rows_errs : (n : ℕ) (types : List ColType) (ended : Bool) (count : ℕ) (text : List ℕ) → DataErrs (rows_within n types ended count text)
+rows_errs zero types ended count text = tt
+rows_errs (suc n) types ended count text = behind_errs types ended count (rows_within n types ended) (line_from false text) (rows_errs n types ended)
+
+row_tells : (fault : RowFault) → OfRow fault → OfScript (refusal_of_row fault)
+row_tells row_fault.NoMemory h = absurd h
+row_tells (row_fault.Fields line found wanted) h = omega arith
+row_tells (row_fault.Field line field) h = omega arith
+row_tells row_fault.Value h = omega arith
+
+data_tells : (fault : DataFault) → OfData fault → OfScript (refusal_of_data fault)
+data_tells (data_fault.Row fault) h = row_tells fault h
+data_tells data_fault.TooMany h = omega arith
+data_tells (data_fault.Unended rows) h = omega arith
+
+rows_tell : (i : InsertText) (o : Option Schema) → Scripted (rows_for i o)
+rows_tell i None = omega arith
+rows_tell i (Some schema) = by (inserted_rows (column_types schema) i.lines i.ended) (rows_errs (length i.lines + 1) (column_types schema) i.ended 0 i.lines)
+  where
+    by : (r : Result (List Row) DataFault) → DataErrs r → Scripted (rows_or_refused r)
+    by (Ok rows) h = tt
+    by (Err fault) h = data_tells fault h
+
+insert_turn_tells : (table : List ℕ) (h : History) → Tells (insert_turn table h)
+insert_turn_tells table h =
+    tells_if (nat_le 3000 (inserts table h)) (Some (refusal.Full room.Parts 0)) (cond (nat_le 4294967295 (inserts table h)) (Some (refusal.Full room.Numbers 0)) None) (omega arith)
+    (tells_if (nat_le 4294967295 (inserts table h)) (Some (refusal.Full room.Numbers 0)) None (omega arith) tt)
+
+selected_tells : (columns : List Column) (which : Selected) → Scripted (selected_places columns which)
+selected_tells columns selected.All = tt
+selected_tells columns (selected.Named names) = places_tell columns names
+
+columns_tell : (t : SelectText) (o : Option Schema) → Scripted (columns_for t o)
+columns_tell t None = omega arith
+columns_tell t (Some schema) = selected_tells schema.columns t.columns
+
+cause_tells : (why : Cause) → OfScript (refusal_of_cause why)
+cause_tells (cause.Grammar place) = omega arith
+cause_tells cause.LongStatement = omega arith
+cause_tells cause.LongName = omega arith
+
+-- ---- what a reply says of the outside
+
+-- the script is the cause of the reply, or the disk's count rose
+abbrev Blames : Counts → List ℕ → Type 0
+Blames n reply = (code_of reply ≤ 14) ⊎ ((code_of reply ≤ 17) × HasRisen n n.ended)
+
+by_script : (n : Counts) (h : History) (s from to : ℕ) (why : Refusal) (reply : List ℕ) → RefusedAs h s from to why reply → OfScript why → Blames n reply
+by_script n h s from to why reply r few = let e : code_of reply ≡ code why = ap code_of r.line ∙ code_of_line why in inl (omega arith)
+
+by_none : (n : Counts) (reply is : List ℕ) → reply ≡ is → code_of is ≡ 0 → Blames n reply
+by_none n reply is same none = let e : code_of reply ≡ 0 = ap code_of same ∙ none in inl (omega arith)
+
+by_outside : (n : Counts) (why : Refusal) (reply : List ℕ) → reply ≡ refusal_line why → code why ≤ 17 → HasRisen n n.ended → Blames n reply
+by_outside n why reply is few rose = let e : code_of reply ≡ code why = ap code_of is ∙ code_of_line why in inr (omega arith, rose)
+
+by_stage : (n : Counts) (reply : List ℕ) → ReadOrStageFailed n reply → Blames n reply
+by_stage n reply failed = by_outside n refusal.Failed reply failed.0 (omega arith) failed.1
+
+by_turn : (n : Counts) (reply : List ℕ) → TurnFailed n reply → Blames n reply
+by_turn n reply (inl failed) = by_outside n (refusal.Unsettled 0) reply failed.0 (omega arith) failed.1
+by_turn n reply (inr (now, low, rose, is)) = by_outside n (refusal.Stopped n.opened now 0) reply is (omega arith) (omega arith)
+
+pub takes_blames : (n : Counts) (h : History) (s : ℕ) (st : Result Statement Cause) (from to : ℕ) (reply : List ℕ) → Takes n h s st from to reply → Blames n reply
+takes_blames n h s (Ok (statement.Create c)) from to reply (inl (is, a)) = by_none n reply _ is refl
+takes_blames n h s (Ok (statement.Create c)) from to reply (inr (inl (why, is, r))) = by_script n h s from to why reply r (scripted (schema_of_text c) why is (text_tells c))
+takes_blames n h s (Ok (statement.Create c)) from to reply (inr (inr (inl (schema, is, a, failed)))) = by_stage n reply failed
+takes_blames n h s (Ok (statement.Create c)) from to reply (inr (inr (inr (inl (schema, why, is, turn, r))))) = by_script n h s from to why reply r (told (create_turn c.table (take to h)) why turn (create_turn_tells c.table (take to h)))
+takes_blames n h s (Ok (statement.Create c)) from to reply (inr (inr (inr (inr (schema, is, turn, a, failed))))) = by_turn n reply failed
+takes_blames n h s (Ok (statement.Insert i)) from to reply (inl (is, a)) = by_none n reply _ is refl
+takes_blames n h s (Ok (statement.Insert i)) from to reply (inr (inl (is, a, none))) = by_none n reply _ is refl
+takes_blames n h s (Ok (statement.Insert i)) from to reply (inr (inr (inl (why, is, r)))) =
+    by_script n h s from to why reply r (scripted (rows_of_insert i (take to h)) why is (rows_tell i (schema_of i.table (take to h))))
+takes_blames n h s (Ok (statement.Insert i)) from to reply (inr (inr (inr (inl (row, rows, is, a, failed))))) = by_stage n reply failed
+takes_blames n h s (Ok (statement.Insert i)) from to reply (inr (inr (inr (inr (inl (row, rows, why, is, turn, r)))))) =
+    by_script n h s from to why reply r (told (insert_turn i.table (take to h)) why turn (insert_turn_tells i.table (take to h)))
+takes_blames n h s (Ok (statement.Insert i)) from to reply (inr (inr (inr (inr (inr (row, rows, is, turn, a, failed)))))) = by_turn n reply failed
+takes_blames n h s (Ok (statement.Select t)) from to reply (inl (r, a)) = by_none n reply _ r.reply_is refl
+takes_blames n h s (Ok (statement.Select t)) from to reply (inr (inl (why, is, r))) =
+    by_script n h s from to why reply r (scripted (columns_of_select t (take to h)) why is (columns_tell t (schema_of t.table (take to h))))
+takes_blames n h s (Ok (statement.Select t)) from to reply (inr (inr (columns, is, a, failed))) = by_stage n reply failed
+takes_blames n h s (Err why) from to reply r = by_script n h s from to (refusal_of_cause why) reply r (cause_tells why)
+
+-- a refusal that tells of the outside comes only where the count rose
+pub outside_rose : (n : Counts) (h : History) (s : ℕ) (st : Result Statement Cause) (from to : ℕ) (reply : List ℕ) → Takes n h s st from to reply → 14 < code_of reply → HasRisen n n.ended
+outside_rose n h s st from to reply t many = by (takes_blames n h s st from to reply t)
+  where
+    by : Blames n reply → HasRisen n n.ended
+    by (inl few) = absurd (omega arith)
+    by (inr (few, rose)) = rose
+
+-- a count that stands where it stood at opening, below its type's end, has not risen
+pub still_calm : (n : Counts) → n.ended ≡ n.opened → n.ended < 2 ^ 64 - 1 → HasRisen n n.ended → ⊥
+still_calm n still below rose = omega arith
+
+numbered : (m : ℕ) → m ≤ 14 → (m ≡ 0) ⊎ ((nat_le 1 m && nat_le m 14 || (m == 18)) ≡ true)
+numbered zero few = inl refl
+numbered (suc m) few = inr (test (suc m) (omega arith) few)
+  where
+    test : (k : ℕ) → 0 < k → k ≤ 14 → (nat_le 1 k && nat_le k 14 || (k == 18)) ≡ true
+    test k some few = grind (arith, nat_tests)
+
+-- where no count rose, a statement is accepted or refused for what the script says
+pub told_of_script : (n : Counts) (h : History) (s : ℕ) (st : Result Statement Cause) (from to : ℕ) (reply : List ℕ) → n.ended ≡ n.opened → n.ended < 2 ^ 64 - 1 → Takes n h s st from to reply → (code_of reply ≡ 0) ⊎ (is_refusal reply ≡ true)
+told_of_script n h s st from to reply still below t = by (takes_blames n h s st from to reply t)
+  where
+    by : Blames n reply → (code_of reply ≡ 0) ⊎ (is_refusal reply ≡ true)
+    by (inl few) = numbered (code_of reply) few
+    by (inr (few, rose)) = absurd (still_calm n still below rose)
+
+not_damage : (m : ℕ) → m < 18 → (m == 19) ≡ false
+not_damage m few = grind (arith, nat_tests)
+
+-- no reply tells of damage
+pub never_damaged : (n : Counts) (h : History) (s : ℕ) (st : Result Statement Cause) (from to : ℕ) (reply : List ℕ) → Takes n h s st from to reply → is_damage reply ≡ false
+never_damaged n h s st from to reply t = not_damage (code_of reply) (by (takes_blames n h s st from to reply t))
+  where
+    by : Blames n reply → code_of reply < 18
+    by (inl few) = omega arith
+    by (inr (few, rose)) = omega arith

@@ -1,0 +1,115 @@
+-- Each byte of a string and each part of a list takes something of its text, so the counts that bound their readers cut nothing off.
+use Rattle.std.proofs.Common.{◌≡◌, ℕ, ◌<◌, ◌≤◌, Bool, true, false, cond, ◌==◌, List, [], ◌∷◌, ◌++◌, length, drop, refl, ap, arith, zero, suc, Option, Some, None, Result, Ok, Err, length-drop}
+use Rattle.std.specs.Option.{option_and_then}
+use Rattle.mt_values.specs.declared.schema.Column.{Column}
+use Rattle.mt_values.specs.declared.statement.Slip.{Slip}
+use Rattle.mt_values.specs.declared.statement.Statement.{Statement}
+use Rattle.mt_values.specs.declared.token.Placed.{Placed}
+use Rattle.mt_values.specs.declared.token.Token.{Token}
+use Rattle.mt_values.specs.Escapes.{escape_of}
+use Rattle.mt_values.specs.Lists.{in_front}
+use Rattle.mt_values.specs.Tokens.{begins_with, byte_onto, escape_onto, quote_behind, string_within}
+use Rattle.mt_values.specs.Readers.{Reader, Test, Part, taken, expect, either, choose, listed_within}
+use Rattle.mt_values.specs.Grammar.{name, plain, one_name, column}
+use Rattle.mt_values.specs.Rows.{unescaped_behind, unescaped_within}
+use Rattle.mt_values.proofs.Bounds.{ShorterThan}
+use Rattle.mt_values.proofs.TokenBounds.{escape_shorter}
+
+-- ---- strings of statements
+
+escape_same : (f g : List ℕ → Option (List ℕ × List ℕ)) (k : ℕ) (o : Option (ℕ × List ℕ)) → ShorterThan k o → ((rest : List ℕ) → length rest < k → f rest ≡ g rest) → option_and_then (escape_onto f) o ≡ option_and_then (escape_onto g) o
+escape_same f g k None less same = refl
+escape_same f g k (Some found) less same = ap (byte_onto found.0) (same found.1 less)
+
+quote_same : (f g : List ℕ → Option (List ℕ × List ℕ)) (bs : List ℕ) → ((rest : List ℕ) → length rest ≤ length bs → f rest ≡ g rest) → quote_behind f bs ≡ quote_behind g bs
+quote_same f g bs same = ap (λ (o : Option (List ℕ × List ℕ)). cond (begins_with 39 bs) (byte_onto 39 o) (Some ([], bs))) (same (drop 1 bs) (omega (arith, length-drop 1 bs)))
+
+three : {A : Type 0} (b c : Bool) (x y z u v w : A) → x ≡ u → y ≡ v → z ≡ w → cond b x (cond c y z) ≡ cond b u (cond c v w)
+three true c x y z u v w p q r = p
+three false true x y z u v w p q r = q
+three false false x y z u v w p q r = r
+
+pub strings_same : (n m : ℕ) (text : List ℕ) → length text < n → length text < m → string_within n text ≡ string_within m text
+strings_same zero m text low high = absurd (omega arith)
+strings_same (suc n) zero text low high = absurd (omega arith)
+strings_same (suc n) (suc m) [] low high = refl
+strings_same (suc n) (suc m) (b ∷ bs) low high =
+    three (b == 39) (b == 92) (quote_behind (string_within n) bs) (option_and_then (escape_onto (string_within n)) (escape_of bs)) (byte_onto b (string_within n bs)) (quote_behind (string_within m) bs)
+    (option_and_then (escape_onto (string_within m)) (escape_of bs)) (byte_onto b (string_within m bs))
+    (quote_same (string_within n) (string_within m) bs (λ rest less. strings_same n m rest (omega arith) (omega arith)))
+    (escape_same (string_within n) (string_within m) (length bs) (escape_of bs) (escape_shorter bs) (λ rest less. strings_same n m rest (omega arith) (omega arith)))
+    (ap (byte_onto b) (strings_same n m bs (omega arith) (omega arith)))
+
+-- ---- texts of fields
+
+behind_same : (f g : List ℕ → Option (List ℕ)) (k : ℕ) (o : Option (ℕ × List ℕ)) → ShorterThan k o → ((rest : List ℕ) → length rest < k → f rest ≡ g rest) → option_and_then (unescaped_behind f) o ≡ option_and_then (unescaped_behind g) o
+behind_same f g k None less same = refl
+behind_same f g k (Some found) less same = ap (λ (o : Option (List ℕ)). in_front o found.0) (same found.1 less)
+
+two : {A : Type 0} (b : Bool) (x y u v : A) → x ≡ u → y ≡ v → cond b x y ≡ cond b u v
+two true x y u v p q = p
+two false x y u v p q = q
+
+pub texts_same : (n m : ℕ) (text : List ℕ) → length text < n → length text < m → unescaped_within n text ≡ unescaped_within m text
+texts_same zero m text low high = absurd (omega arith)
+texts_same (suc n) zero text low high = absurd (omega arith)
+texts_same (suc n) (suc m) [] low high = refl
+texts_same (suc n) (suc m) (b ∷ bs) low high =
+    two (b == 92) (option_and_then (unescaped_behind (unescaped_within n)) (escape_of bs)) (in_front (unescaped_within n bs) b) (option_and_then (unescaped_behind (unescaped_within m)) (escape_of bs)) (in_front (unescaped_within m bs) b)
+    (behind_same (unescaped_within n) (unescaped_within m) (length bs) (escape_of bs) (escape_shorter bs) (λ rest less. texts_same n m rest (omega arith) (omega arith)))
+    (ap (λ (o : Option (List ℕ)). in_front o b) (texts_same n m bs (omega arith) (omega arith)))
+
+-- ---- lists of names and of columns
+
+-- two readers read alike what is no longer than this
+abbrev Alike : ℕ → Reader Statement → Reader Statement → Type 0
+Alike k f g = (ts : List Placed) → length ts ≤ k → f ts ≡ g ts
+
+taken_same : {X : Type 0} (r : Result X Slip) (f g : X → Reader Statement) (p : Placed) (ps : List Placed) → ((x : X) → Alike (length ps) (f x) (g x)) → taken r f p ps ≡ taken r g p ps
+taken_same (Ok x) f g p ps same = same x ps (omega arith)
+taken_same (Err s) f g p ps same = refl
+
+expect_same : {X : Type 0} (test : Test X) (f g : X → Reader Statement) (ts : List Placed) → ((x : X) (rest : List Placed) → length rest < length ts → f x rest ≡ g x rest) → expect test f ts ≡ expect test g ts
+expect_same test f g [] same = refl
+expect_same test f g (p ∷ ps) same = taken_same (test p.token) f g p ps (λ x rest less. same x rest (omega arith))
+
+either_same : (b : Bool) (f g h k : Reader Statement) (ts : List Placed) → f ts ≡ g ts → h ts ≡ k ts → either b f h ts ≡ either b g k ts
+either_same true f g h k ts first second = first
+either_same false f g h k ts first second = second
+
+choose_same : (test : Token → Bool) (f g h k : Reader Statement) (ts : List Placed) → f ts ≡ g ts → h ts ≡ k ts → choose test f h ts ≡ choose test g k ts
+choose_same test f g h k [] first second = second
+choose_same test f g h k (p ∷ ps) first second = either_same (test p.token) f g h k (p ∷ ps) first second
+
+-- a part reads on behind itself
+abbrev ReadsOn : {X : Type 0} → Part Statement X → Type 0
+ReadsOn {X} part = (f g : X → Reader Statement) (ts : List Placed) → ((x : X) → Alike (length ts) (f x) (g x)) → part f ts ≡ part g ts
+
+listed_same : {X Y : Type 0} (n m : ℕ) (more : Token → Bool) (between : Test Y) (item : Part Statement X) (front : List X) (next : List X → Reader Statement) (ts : List Placed)
+    → ReadsOn item → length ts < n → length ts < m → listed_within n more between item front next ts ≡ listed_within m more between item front next ts
+listed_same zero m more between item front next ts on low high = absurd (omega arith)
+listed_same (suc n) zero more between item front next ts on low high = absurd (omega arith)
+listed_same (suc n) (suc m) more between item front next ts on low high =
+    on (λ x. choose more (expect between (λ y. listed_within n more between item (front ++ x ∷ []) next)) (next (front ++ x ∷ [])))
+    (λ x. choose more (expect between (λ y. listed_within m more between item (front ++ x ∷ []) next)) (next (front ++ x ∷ []))) ts
+    (λ x rest less.
+    choose_same more (expect between (λ y. listed_within n more between item (front ++ x ∷ []) next)) (expect between (λ y. listed_within m more between item (front ++ x ∷ []) next))
+    (next (front ++ x ∷ [])) (next (front ++ x ∷ [])) rest
+    (expect_same between (λ y. listed_within n more between item (front ++ x ∷ []) next) (λ y. listed_within m more between item (front ++ x ∷ []) next) rest
+    (λ y last lesser. listed_same n m more between item (front ++ x ∷ []) next last on (omega arith) (omega arith))) refl)
+
+name_on : ReadsOn one_name
+name_on f g ts same = expect_same name f g ts (λ x rest less. same x rest (omega arith))
+
+column_on : ReadsOn column
+column_on f g ts same =
+    expect_same name (λ n. expect plain (λ t. f (record { name = n; col_type = t }))) (λ n. expect plain (λ t. g (record { name = n; col_type = t }))) ts
+    (λ n rest less. expect_same plain (λ t. f (record { name = n; col_type = t })) (λ t. g (record { name = n; col_type = t })) rest (λ t last lesser. same (record { name = n; col_type = t }) last (omega arith)))
+
+pub names_same : {Y : Type 0} (n m : ℕ) (more : Token → Bool) (between : Test Y) (next : List (List ℕ) → Reader Statement) (ts : List Placed) → length ts < n → length ts < m
+    → listed_within n more between one_name [] next ts ≡ listed_within m more between one_name [] next ts
+names_same n m more between next ts low high = listed_same n m more between one_name [] next ts name_on low high
+
+pub columns_same : {Y : Type 0} (n m : ℕ) (more : Token → Bool) (between : Test Y) (next : List Column → Reader Statement) (ts : List Placed) → length ts < n → length ts < m
+    → listed_within n more between column [] next ts ≡ listed_within m more between column [] next ts
+columns_same n m more between next ts low high = listed_same n m more between column [] next ts column_on low high

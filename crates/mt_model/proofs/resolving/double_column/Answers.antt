@@ -1,0 +1,20 @@
+use Rattle.std.proofs.Common.{sym, ap, ◌∙◌, Some}
+use Rattle.mt_model.specs.declared.refusal.Reason.TheVariants as reason
+use Rattle.mt_model.specs.declared.refusal.Refusal.TheVariants as refusal
+use Rattle.mt_values.specs.Schemas.{same_name}
+use Rattle.mt_values.proofs.Repeats.{repeat_found, repeat_more}
+use Rattle.mt_model.specs.Reply.{double_column_at}
+use Rattle.mt_model.proofs.resolving.double_column.Goals as goal
+
+pub returns-then-has_name : goal.returns-then-has_name
+returns-then-has_name c =
+    let columns = c.args.columns.now in
+    ap (λ n. Some (refusal.Schema reason.DoubleColumn n)) c.in_ok-name.ensures
+    ∙ sym (repeat_found same_name double_column_at columns c.loop-place.place c.index-columns-place.result c.loop-place-test.true c.index-columns-place.is (sym c.has_name.ensures ∙ c.if-has_name.true))
+    ∙ c.loop-place.invariant
+
+pub loop-place-preserved : goal.loop-place-preserved
+loop-place-preserved c =
+    let columns = c.args.columns.now in
+    repeat_more same_name double_column_at columns c.loop-place.place c.index-columns-place.result c.loop-place-test.true c.index-columns-place.is (sym c.has_name.ensures ∙ c.if-has_name.false)
+    ∙ c.loop-place.invariant

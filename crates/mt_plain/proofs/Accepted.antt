@@ -1,0 +1,79 @@
+-- What a statement gives at the end of a history: its text or its table refuses it, or else its turn, or neither.
+use Rattle.std.proofs.Common.{◌≡◌, ◌⊎◌, ℕ, ◌<◌, ◌^◌, List, [], ◌∷◌, Option, Some, None, Result, Ok, Err, length, All, refl, ap, ◌∙◌, inl, inr, arith}
+use Rattle.mt_values.specs.declared.schema.Schema.{Schema}
+use Rattle.mt_values.specs.declared.statement.CreateText.{CreateText}
+use Rattle.mt_values.specs.declared.statement.InsertText.{InsertText}
+use Rattle.mt_values.specs.Values.{Row}
+use Rattle.mt_values.specs.Grid.{Grid}
+use Rattle.mt_values.specs.Rows.{inserted_rows}
+use Rattle.mt_model.specs.declared.refusal.Refusal.{Refusal}
+use Rattle.mt_model.specs.History.{History, schema_of, column_types}
+use Rattle.mt_model.specs.Reply.{unless_refused, schema_of_text, create_turn, rows_or_refused, rows_for, rows_of_insert, insert_turn}
+use Rattle.mt_model.proofs.Ranges.{inserted_values, inserted_typed}
+use Rattle.mt_plain.specs.Plain.{at_turn, created, rows_at_turn, inserted, IsInserted}
+
+-- ---- CREATE
+
+-- neither its text nor its turn refuses
+pub record IsMade (c : CreateText) (h : History) (schema : Schema) : Type 0 where
+  pub written : schema_of_text c ≡ Ok schema
+  pub turn : create_turn c.table h ≡ None
+
+-- its text refuses it, or its turn does
+abbrev pub IsUnmade : CreateText → History → Refusal → Type 0
+IsUnmade c h why = (schema_of_text c ≡ Err why) ⊎ ((schema : Schema) × (schema_of_text c ≡ Ok schema) × (create_turn c.table h ≡ Some why))
+
+pub made : (c : CreateText) (h : History) (schema : Schema) → created c h ≡ Ok schema → IsMade c h schema
+made c h schema is = by (schema_of_text c) (create_turn c.table h) refl refl is
+  where
+    by : (r : Result Schema Refusal) (o : Option Refusal) → schema_of_text c ≡ r → create_turn c.table h ≡ o → at_turn o r ≡ Ok schema → IsMade c h schema
+    by (Err why) o e f is = cc
+    by (Ok other) (Some why) e f is = cc
+    by (Ok other) None e f is = record { written = e ∙ is; turn = f }
+
+pub unmade : (c : CreateText) (h : History) (why : Refusal) → created c h ≡ Err why → IsUnmade c h why
+unmade c h why is = by (schema_of_text c) (create_turn c.table h) refl refl is
+  where
+    by : (r : Result Schema Refusal) (o : Option Refusal) → schema_of_text c ≡ r → create_turn c.table h ≡ o → at_turn o r ≡ Err why → IsUnmade c h why
+    by (Err other) o e f is = inl (e ∙ is)
+    by (Ok schema) None e f is = cc
+    by (Ok schema) (Some other) e f is = let same : other ≡ why = cc in inr (schema, e, f ∙ ap Some same)
+
+-- ---- INSERT
+
+-- its rows, and its turn does not refuse them
+pub record IsAdded (i : InsertText) (h : History) (row : Row) (rows : List Row) : Type 0 where
+  pub read : rows_of_insert i h ≡ Ok (row ∷ rows)
+  pub turn : insert_turn i.table h ≡ None
+
+pub added : (i : InsertText) (h : History) (row : Row) (rows : List Row) → inserted i h ≡ Ok (row ∷ rows) → IsAdded i h row rows
+added i h row rows is = by (rows_of_insert i h) (insert_turn i.table h) refl refl is
+  where
+    by : (r : Result (List Row) Refusal) (o : Option Refusal) → rows_of_insert i h ≡ r → insert_turn i.table h ≡ o → rows_at_turn o r ≡ Ok (row ∷ rows) → IsAdded i h row rows
+    by (Err why) o e f is = cc
+    by (Ok []) o e f is = cc
+    by (Ok (x ∷ xs)) (Some why) e f is = cc
+    by (Ok (x ∷ xs)) None e f is = record { read = e ∙ is; turn = f }
+
+-- the rows of a table that is there
+rows_of_table : (i : InsertText) (h : History) (schema : Schema) → schema_of i.table h ≡ Some schema → rows_of_insert i h ≡ rows_or_refused (inserted_rows (column_types schema) i.lines i.ended)
+rows_of_table i h schema there = ap (rows_for i) there
+
+-- rows that the turn of their command decides on
+decided : (o turn : Option Refusal) (rows : List Row) → turn ≡ o → 0 < length rows → rows_at_turn turn (Ok rows) ≡ unless_refused o rows
+decided o turn [] is some = absurd (omega arith)
+decided o turn (row ∷ rows) is some = ap (λ p. unless_refused p (row ∷ rows)) is
+
+insert_some : (i : InsertText) (h : History) (schema : Schema) (rows : List Row) → schema_of i.table h ≡ Some schema → inserted_rows (column_types schema) i.lines i.ended ≡ Ok rows → 0 < length rows → insert_turn i.table h ≡ None → inserted i h ≡ Ok rows
+insert_some i h schema rows there is some turn = ap (rows_at_turn (insert_turn i.table h)) (rows_of_table i h schema there ∙ ap rows_or_refused is) ∙ decided None (insert_turn i.table h) rows turn some
+
+-- a block of the rows
+pub block_some : (i : InsertText) (h : History) (schema : Schema) (block : Grid) → schema_of i.table h ≡ Some schema → block.types ≡ column_types schema → All (λ (b : ℕ). b < 2 ^ 8) i.lines → inserted_rows (column_types schema) i.lines i.ended ≡ Ok block.rows → 0 < length block.rows → insert_turn i.table h ≡ None → IsInserted i h block
+block_some i h schema block there types bytes is some turn = record {
+  rows = insert_some i h schema block.rows there is some turn;
+  schema = schema;
+  there = there;
+  types = types;
+  typed = inserted_typed (column_types schema) i.lines i.ended block.rows is;
+  values = inserted_values (column_types schema) i.lines i.ended block.rows bytes is;
+}

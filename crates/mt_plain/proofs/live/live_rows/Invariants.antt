@@ -1,0 +1,7 @@
+-- the rows so far, and what the rest does to them
+use Rattle.std.proofs.Common.{◌≡◌, drop}
+use Rattle.mt_model.specs.Live.{live, live_from}
+use Rattle.mt_plain.proofs.live.live_rows.Given as goal
+
+abbrev pub invariant-loop-entry : goal.invariant-loop-entry
+invariant-loop-entry l = live_from l.table l.key l.rows.items (drop l.entry-index l.entries) ≡ live l.table l.key l.entries

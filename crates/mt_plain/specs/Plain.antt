@@ -1,0 +1,59 @@
+-- What the plain program sorts by, what it accepts at the end of a history, and what it adds to one.
+use Rattle.std.specs.Prelude.{◌≡◌, List, [], ◌∷◌, ◌++◌, All, Option, Some, Result, Ok, Err}
+use Rattle.std.specs.declared.cmp.Ordering.{Ordering}
+use Rattle.mt_values.specs.Values.{Row, AreValues}
+use Rattle.mt_values.specs.Grid.{Grid, AreRowsOf}
+use Rattle.mt_values.specs.Order.{key_cmp, row_cmp}
+use Rattle.mt_values.specs.declared.command.Entry.{Entry}
+use Rattle.mt_values.specs.declared.schema.Schema.{Schema}
+use Rattle.mt_values.specs.declared.statement.CreateText.{CreateText}
+use Rattle.mt_values.specs.declared.statement.InsertText.{InsertText}
+use Rattle.mt_model.specs.declared.refusal.Refusal.{Refusal}
+use Rattle.mt_model.specs.History.{History, schema_of, column_types}
+use Rattle.mt_model.specs.Outside.{Counts}
+use Rattle.mt_model.specs.Reply.{unless_refused, schema_of_text, create_turn, rows_of_insert, insert_turn}
+use Rattle.mt_plain.specs.declared.sorting.Order.{Order}
+use Rattle.mt_plain.specs.declared.sorting.Order.TheVariants as order
+
+-- by the values at some places of the rows, or by the whole rows
+abbrev pub cmp_by : Order → Row → Row → Ordering
+cmp_by (order.Key places) = key_cmp places.now
+cmp_by order.Whole = row_cmp
+
+-- an outside without a fault
+abbrev pub calm : Counts
+calm = record { opened = 0; ended = 0 }
+
+-- what a statement gives, unless it is refused for what it says, or else at its turn
+abbrev pub at_turn : {X : Type 0} → Option Refusal → Result X Refusal → Result X Refusal
+at_turn turn (Err why) = Err why
+at_turn turn (Ok x) = unless_refused turn x
+
+-- the schema that a CREATE gives a table at the end of a history
+abbrev pub created : CreateText → History → Result Schema Refusal
+created c h = at_turn (create_turn c.table h) (schema_of_text c)
+
+-- rows at the turn of their command; no rows have none
+abbrev pub rows_at_turn : Option Refusal → Result (List Row) Refusal → Result (List Row) Refusal
+rows_at_turn turn (Err why) = Err why
+rows_at_turn turn (Ok []) = Ok []
+rows_at_turn turn (Ok (row ∷ rows)) = unless_refused turn (row ∷ rows)
+
+-- the rows that an INSERT adds at the end of a history
+abbrev pub inserted : InsertText → History → Result (List Row) Refusal
+inserted i h = rows_at_turn (insert_turn i.table h) (rows_of_insert i h)
+
+-- the block has the rows that an INSERT adds at the end of a history, and they are its table's
+pub record IsInserted (i : InsertText) (h : History) (block : Grid) : Type 0 where
+  pub rows : inserted i h ≡ Ok block.rows
+  pub schema : Schema
+  pub there : schema_of i.table h ≡ Some schema
+  pub types : block.types ≡ column_types schema
+  pub typed : AreRowsOf (column_types schema) block.rows
+  pub values : AreValues block.rows
+
+-- the history stayed or grew, and what was added is session 0's
+pub record Grows (old new : History) : Type 0 where
+  pub more : History
+  pub is : new ≡ old ++ more
+  pub own : All (λ (e : Entry). e.session ≡ 0) more

@@ -1,0 +1,100 @@
+// Whether a history and a text are those of a script's run.
+ghost use Rattle.std.specs.Prelude.{◌≡◌, ◌↔◌, IfOk, IsTrue, true};
+ghost use Rattle.mt_model.specs.Same.{SameCommand, SameEntry, SameHistory};
+ghost use Rattle.mt_model.specs.Script.{ScriptRun};
+ghost use Rattle.mt_plain.specs.Plain.{calm};
+
+use super::live::rows_of;
+use super::running::run;
+use mt_base::NoMemory;
+use mt_values::{Block, Cause, Command, Create, Entry, Insert, Row, Statement};
+use std::alloc::Global;
+
+/// Whether a script without a history before it, over an outside without faults, may have left this history and printed
+/// this text.
+///
+/// `NoMemory` where a growth was refused.
+pub fn allows(
+    alloc: Global,
+    statements: &[Result<Statement, Cause>],
+    entries: &[Entry],
+    printed: &[u8],
+) -> Result<bool, NoMemory>
+    ensures { IfOk result (λ b. (b ≡ true) ↔ ScriptRun calm statements.now entries.now 0 printed.now) }
+{
+    let done = run(alloc, statements)?;
+    if done.out.as_slice() == printed {
+        same_histories(alloc, &done.history, entries)
+    } else {
+        Ok(false)
+    }
+}
+
+/// Whether two histories are the same but for how blocks are kept.
+fn same_histories(alloc: Global, a: &[Entry], b: &[Entry]) -> Result<bool, NoMemory>
+    ensures { IfOk result (λ same. (same ≡ true) ↔ SameHistory a.now b.now) }
+{
+    if a.len() != b.len() {
+        return Ok(false);
+    }
+    for place in 0..a.len() {
+        if !same_entries(alloc, &a[place], &b[place])? {
+            return Ok(false);
+        }
+    }
+    Ok(true)
+}
+
+/// Whether two entries are the same but for how a block is kept.
+fn same_entries(alloc: Global, a: &Entry, b: &Entry) -> Result<bool, NoMemory>
+    ensures { IfOk result (λ same. (same ≡ true) ↔ SameEntry a.now b.now) }
+{
+    if a.session != b.session {
+        return Ok(false);
+    }
+    same_commands(alloc, &a.command, &b.command)
+}
+
+/// Whether two commands are the same but for how a block is kept.
+fn same_commands(alloc: Global, a: &Command, b: &Command) -> Result<bool, NoMemory>
+    ensures { IfOk result (λ same. (same ≡ true) ↔ SameCommand a.now b.now) }
+{
+    match (a, b) {
+        (Command::Create(c), Command::Create(d)) => Ok(same_creates(c, d)),
+        (Command::Insert(i), Command::Insert(j)) => same_inserts(alloc, i, j),
+        _ => Ok(false),
+    }
+}
+
+/// Whether two tables to be made are the same.
+fn same_creates(a: &Create, b: &Create) -> bool
+    ensures { (result ≡ true) ↔ (a.now ≡ b.now) }
+{
+    a.table == b.table && a.schema == b.schema
+}
+
+/// Whether two INSERTs add the same rows to the same table and partition.
+fn same_inserts(alloc: Global, a: &Insert, b: &Insert) -> Result<bool, NoMemory>
+    ensures { IfOk result (λ same. (same ≡ true) ↔ ((a.now.table ≡ b.now.table) × (a.now.partition ≡ b.now.partition) × (a.now.block.rows ≡ b.now.block.rows))) }
+{
+    if a.table != b.table || a.partition != b.partition {
+        return Ok(false);
+    }
+    same_blocks(alloc, &a.block, &b.block)
+}
+
+/// Whether two blocks have the same rows.
+fn same_blocks(alloc: Global, a: &Block, b: &Block) -> Result<bool, NoMemory>
+    ensures { IfOk result (λ same. (same ≡ true) ↔ (a.now.rows ≡ b.now.rows)) }
+{
+    let rows = rows_of(alloc, a)?;
+    let others = rows_of(alloc, b)?;
+    Ok(same_rows(&rows, &others))
+}
+
+/// Whether two lists of rows are one.
+fn same_rows(a: &[Row], b: &[Row]) -> bool
+    ensures { (result ≡ true) ↔ (a.now ≡ b.now) }
+{
+    a == b
+}

@@ -1,0 +1,203 @@
+// Statements, run one after another.
+ghost use Rattle.std.specs.Prelude.{◌≡◌, ◌++◌, ◌∷◌, [], All, IfOk, OnOk, OnErr, length};
+ghost use Rattle.mt_values.specs.declared.command.Command.TheVariants as command;
+ghost use Rattle.mt_base.specs.declared.partition.Partition.TheVariants.{Whole};
+ghost use Rattle.mt_values.specs.declared.statement.Statement.TheVariants as statement;
+ghost use Rattle.mt_model.specs.History.{IsLegal};
+ghost use Rattle.mt_model.specs.Refusals as refusals;
+ghost use Rattle.mt_model.specs.Session.{Takes, TakesStatement};
+ghost use Rattle.mt_model.specs.Script.{ScriptRun};
+ghost use Rattle.mt_model.specs.Written.{IsWritten, NamesKey};
+ghost use Rattle.mt_plain.specs.Plain.{Grows, calm};
+
+use super::accepting::{created_schema, inserted_block};
+use super::replies::rows_reply;
+use super::selecting::answer;
+use super::tables::schema_of;
+use mt_base::{NoMemory, Twin};
+use mt_model::{Refusal, ok_line, refusal_line, selected_columns};
+use mt_values::{
+    Block, Cause, Command, Create, CreateText, Entry, Insert, InsertText, Name, Partition, Schema,
+    SelectText, Statement,
+};
+use std::alloc::Global;
+
+/// The accepted commands of a run, and what it printed.
+#[derive(Debug, Drop)]
+pub struct Outcome {
+    pub history: Vec<Entry>,
+    pub out: Vec<u8>,
+}
+
+/// Runs the statements of a script, from a history without entries on, over an outside without faults.
+///
+/// `NoMemory` where a growth was refused.
+pub fn run(alloc: Global, statements: &[Result<Statement, Cause>]) -> Result<Outcome, NoMemory>
+    ensures run { IfOk result (λ done. ScriptRun calm statements.now done.history.items 0 done.out.items) }
+    ensures legal { IfOk result (λ done. All IsWritten statements.now → IsLegal done.history.items) }
+{
+    let mut history = Vec::new(alloc);
+    let mut out = Vec::new(alloc);
+    for statement in statements {
+        let reply = step(alloc, &mut history, statement)?;
+        out.extend_from_slice(&reply)?;
+    }
+    Ok(Outcome { history, out })
+}
+
+/// Runs one statement behind the last entry of a history, over an outside without faults, and gives its reply.
+///
+/// `NoMemory` where a growth was refused; the history stays as it was. It also answers a SELECT from a table of 2^32
+/// columns and more, which no legal history has.
+pub fn step(
+    alloc: Global,
+    history: &mut Vec<Entry>,
+    statement: &Result<Statement, Cause>,
+) -> Result<Vec<u8>, NoMemory>
+    ensures takes { IfOk result (λ reply. Takes calm history.new.items 0 statement.now (length history.old.items) (length history.new.items) reply.items) }
+    ensures grows { OnOk result (Grows history.old.items history.new.items) }
+    ensures legal { IsWritten statement.now → IsLegal history.old.items → IsLegal history.new.items }
+    ensures err { OnErr result (history.new.items ≡ history.old.items) }
+{
+    match statement {
+        Ok(statement) => step_statement(alloc, history, statement),
+        Err(cause) => {
+            let line = refused(alloc, Refusal::of_cause(*cause))?;
+            Ok(line)
+        }
+    }
+}
+
+/// The line of a refusal.
+fn refused(alloc: Global, refusal: Refusal) -> Result<Vec<u8>, NoMemory>
+    ensures { IfOk result (λ line. line.items ≡ refusals.refusal_line refusal) }
+{
+    refusal_line(alloc, &refusal)
+}
+
+/// Runs a statement of the grammar.
+fn step_statement(
+    alloc: Global,
+    history: &mut Vec<Entry>,
+    statement: &Statement,
+) -> Result<Vec<u8>, NoMemory>
+    ensures takes { IfOk result (λ reply. TakesStatement calm history.new.items 0 statement.now (length history.old.items) (length history.new.items) reply.items) }
+    ensures grows { OnOk result (Grows history.old.items history.new.items) }
+    ensures legal { NamesKey statement.now → IsLegal history.old.items → IsLegal history.new.items }
+    ensures err { OnErr result (history.new.items ≡ history.old.items) }
+{
+    match statement {
+        Statement::Create(create) => step_create(alloc, history, create),
+        Statement::Insert(insert) => step_insert(alloc, history, insert),
+        Statement::Select(select) => step_select(alloc, history, select),
+    }
+}
+
+/// Runs a CREATE.
+fn step_create(
+    alloc: Global,
+    history: &mut Vec<Entry>,
+    create: &CreateText,
+) -> Result<Vec<u8>, NoMemory>
+    ensures takes { IfOk result (λ reply. TakesStatement calm history.new.items 0 (statement.Create create.now) (length history.old.items) (length history.new.items) reply.items) }
+    ensures grows { OnOk result (Grows history.old.items history.new.items) }
+    ensures legal { NamesKey (statement.Create create.now) → IsLegal history.old.items → IsLegal history.new.items }
+    ensures err { OnErr result (history.new.items ≡ history.old.items) }
+{
+    match created_schema(alloc, history, create)? {
+        Ok(schema) => {
+            let reply = ok_line(alloc, history.len() as u64 + 1)?;
+            let table = create.table.twin(alloc)?;
+            add_create(history, table, schema)?;
+            Ok(reply)
+        }
+        Err(refusal) => {
+            let line = refused(alloc, refusal)?;
+            Ok(line)
+        }
+    }
+}
+
+/// Adds a CREATE of session 0 at the end of a history.
+fn add_create(history: &mut Vec<Entry>, table: Name, schema: Schema) -> Result<(), NoMemory>
+    ensures ok { OnOk result (history.new.items ≡ history.old.items ++ record { session = 0; command = command.Create (record { table = table; schema = schema }) } ∷ []) }
+    ensures err { OnErr result (history.new.items ≡ history.old.items) }
+{
+    let command = Command::Create(Create { table, schema });
+    history.push(Entry {
+        session: 0,
+        command,
+    })?;
+    Ok(())
+}
+
+/// Runs an INSERT.
+fn step_insert(
+    alloc: Global,
+    history: &mut Vec<Entry>,
+    insert: &InsertText,
+) -> Result<Vec<u8>, NoMemory>
+    ensures takes { IfOk result (λ reply. TakesStatement calm history.new.items 0 (statement.Insert insert.now) (length history.old.items) (length history.new.items) reply.items) }
+    ensures grows { OnOk result (Grows history.old.items history.new.items) }
+    ensures legal { IsLegal history.old.items → IsLegal history.new.items }
+    ensures err { OnErr result (history.new.items ≡ history.old.items) }
+{
+    match inserted_block(alloc, history, insert)? {
+        Ok(block) => {
+            if block.len() == 0 {
+                return ok_line(alloc, history.len() as u64);
+            }
+            let reply = ok_line(alloc, history.len() as u64 + 1)?;
+            let table = insert.table.twin(alloc)?;
+            add_insert(history, table, block)?;
+            Ok(reply)
+        }
+        Err(refusal) => {
+            let line = refused(alloc, refusal)?;
+            Ok(line)
+        }
+    }
+}
+
+/// Adds an INSERT of session 0 at the end of a history.
+fn add_insert(history: &mut Vec<Entry>, table: Name, block: Block) -> Result<(), NoMemory>
+    ensures ok { OnOk result (history.new.items ≡ history.old.items ++ record { session = 0; command = command.Insert (record { table = table; partition = Whole; block = block }) } ∷ []) }
+    ensures err { OnErr result (history.new.items ≡ history.old.items) }
+{
+    let partition = Partition::Whole;
+    let command = Command::Insert(Insert {
+        table,
+        partition,
+        block,
+    });
+    history.push(Entry {
+        session: 0,
+        command,
+    })?;
+    Ok(())
+}
+
+/// Answers a SELECT.
+fn step_select(alloc: Global, history: &[Entry], select: &SelectText) -> Result<Vec<u8>, NoMemory>
+    ensures { IfOk result (λ reply. TakesStatement calm history.now 0 (statement.Select select.now) (length history.now) (length history.now) reply.items) }
+{
+    let Some(schema) = schema_of(history, &select.table) else {
+        let line = refused(alloc, Refusal::NoTable(select.table.twin(alloc)?))?;
+        return Ok(line);
+    };
+    let columns = schema.columns.as_slice();
+    if columns.len() > u32::MAX as usize {
+        return Err(NoMemory);
+    }
+    match selected_columns(alloc, columns, &select.columns)? {
+        Ok(places) => {
+            let lines = answer(alloc, history, &select.table, schema, places.as_slice())?;
+            let reply = rows_reply(alloc, &lines, history.len() as u64)?;
+            Ok(reply)
+        }
+        Err(refusal) => {
+            let line = refused(alloc, refusal)?;
+            Ok(line)
+        }
+    }
+}

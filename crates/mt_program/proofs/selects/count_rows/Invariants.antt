@@ -1,0 +1,7 @@
+-- the rows of the parts gone over
+use Rattle.std.proofs.Common.{◌≡◌, take}
+use Rattle.mt_program.specs.Selects.{rows_kept}
+use Rattle.mt_program.proofs.selects.count_rows.Given as goal
+
+abbrev pub invariant-loop-part : goal.invariant-loop-part
+invariant-loop-part g l = l.rows ≡ rows_kept (take l.part-index l.parts)

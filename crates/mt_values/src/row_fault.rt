@@ -1,0 +1,54 @@
+// Why the bytes of an INSERT's data are not its rows.
+
+use mt_base::NoMemory;
+
+/// Why a field is no value of its column.
+#[derive(Clone, Copy, Debug, PartialEq, Eq)]
+pub enum FieldFault {
+    /// It is no value of the column's type.
+    NotOfType,
+    /// It is a text of more bytes than a text may have.
+    TooLong,
+}
+
+/// Why a line is no row. Lines count the rows of data from 1, fields those of a line from 1.
+#[derive(Clone, Copy, Debug, PartialEq, Eq)]
+pub enum RowFault {
+    /// A growth was refused.
+    NoMemory,
+    /// It has another number of fields than the table has columns.
+    Fields {
+        line: usize,
+        found: usize,
+        wanted: usize,
+    },
+    /// A field is not of its column's type, and each field before it is of its own.
+    Field {
+        line: usize,
+        field: usize,
+    },
+    /// A field is a text of more bytes than a text may have, and each field before it is of its column's type.
+    Value,
+}
+
+impl From<NoMemory> for RowFault {
+    ghost use Rattle.std.specs.Prelude.{◌≡◌};
+    ghost use Rattle.mt_values.specs.declared.row_fault.RowFault.TheVariants as row_fault;
+
+    ghost from_gives = { λ _ fault. fault ≡ row_fault.NoMemory };
+
+    fn from(_: NoMemory) -> Self {
+        RowFault::NoMemory
+    }
+}
+
+/// Why data is not the rows of an INSERT.
+#[derive(Clone, Copy, Debug, PartialEq, Eq)]
+pub enum DataFault {
+    /// A line is no row, and each line before it is one.
+    Row(RowFault),
+    /// There are more rows than an INSERT may have.
+    TooMany,
+    /// The input ended before the line that ends data. So many rows were complete, each without a fault.
+    Unended { rows: usize },
+}

@@ -1,0 +1,14 @@
+-- The bytes of a file that is read piece by piece.
+use Rattle.std.proofs.Common.{◌≡◌, ℕ, ◌+◌, ◌≤◌, List, ◌++◌, Option, Some, IfSome, sym, ap, ap₂, ◌∙◌, subst, length, take, drop, arith, length-take}
+use Rattle.std.proofs.Math.Seq.{take-add}
+use Rattle.mt_values.specs.declared.name.FileId.{FileId}
+use Rattle.mt_outside.specs.Files.{Files, bytes_of, ReadsAt}
+
+-- one piece more
+pub piece_more : (told : Option Files) (files : Files) (file : FileId) (at place count next : ℕ) (front buf new : List ℕ) → told ≡ Some files → IfSome told (λ fs. ReadsAt (bytes_of file fs) place count buf) → count ≤ length buf → place ≡ at → next ≡ at + length (take count buf) → take at (bytes_of file files) ≡ front → new ≡ front ++ take count buf → take next (bytes_of file files) ≡ new
+piece_more told files file at place count next front buf new known reads bound here more so_far e =
+    let bytes = bytes_of file files in
+    let read : ReadsAt bytes place count buf = subst (λ o. IfSome o (λ fs. ReadsAt (bytes_of file fs) place count buf)) known reads in
+    let n : next ≡ at + count = omega (arith, length-take count buf) in
+    let piece : take count (drop at bytes) ≡ take count buf = ap (λ p. take count (drop p bytes)) (sym here) ∙ sym read.bytes_are in
+    ap (λ m. take m bytes) n ∙ take-add at count bytes ∙ ap₂ ◌++◌ so_far piece ∙ sym e

@@ -1,0 +1,3 @@
+pub mod FilePieces
+pub mod Gaining
+pub mod Holding

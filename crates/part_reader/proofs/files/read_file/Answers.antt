@@ -1,0 +1,11 @@
+use Rattle.std.proofs.Common.{◌∙◌, arith}
+use Rattle.part_reader.proofs.FilePieces.{piece_more}
+use Rattle.part_reader.proofs.files.read_file.Goals as goal
+
+pub loop-read-preserved : goal.loop-read-preserved
+loop-read-preserved g c = record {
+  read = λ files known.
+      piece_more (g.R.Dir.Dir.files c.args.dir.now) files c.args.file _ _ _ _ _ _ _ known c.in_ok-count.ensures.bytes c.in_ok-count.ensures.bound c.len.ensures c.in_ok-extend_from_slice.ensures.len (c.loop-read.invariant.read files known) c.in_ok-extend_from_slice.ensures.items;
+  tells = c.in_ok-count.ensures.tells ∙ c.loop-read.invariant.tells;
+  later = omega (arith, c.in_ok-count.ensures.cause.later);
+}

@@ -1,0 +1,70 @@
+use Rattle.std.proofs.Common.{◌≡◌, ◌<◌, length, get_or, refl, ◌∙◌, arith}
+use Rattle.std.proofs.lemmas.List.{get_or_default}
+use Rattle.std.proofs.lemmas.Option.{slice_get-get_or, slice_get_read}
+use Rattle.mt_values.specs.Grid.{Cells}
+use Rattle.part_reader.specs.Faults.{ExplainsPart, IsNoDamage}
+use Rattle.part_reader.proofs.Holding.{sound_part}
+use Rattle.part_reader.proofs.Gaining.{handed_on, read_all, read_even, read_more, read_types, rest_more, rows_read}
+use Rattle.part_reader.proofs.reading.read_columns.Goals as goal
+use Rattle.part_reader.proofs.reading.read_columns.Given.{Over}
+
+pub loop-number-preserved : goal.loop-number-preserved
+loop-number-preserved g c =
+    let olds = c.args.columns.now in
+    let i = c.loop-number.number in
+    let any : Cells = c.index-columns-number.result in
+    let old : Cells = get_or c.loop-number.columns i any in
+    let old_is : old ≡ get_or olds i old = c.loop-number.invariant.rest i any (omega arith) ∙ get_or_default olds i any old (omega arith) in
+    record {
+      read = read_more (g.R.Dir.Dir.files c.args.part.now.dir) c.args.part.now.loaded.manifest c.args.places.now olds c.loop-number.columns _ i old c.read_column.new.column (omega arith) (omega arith) c.requires old_is refl
+          c.loop-number.invariant.read c.in_ok-read_column.ensures.read;
+      rest = rest_more olds c.loop-number.columns _ i c.read_column.new.column c.loop-number.invariant.rest refl;
+      tells = c.in_ok-read_column.ensures.tells ∙ c.loop-number.invariant.tells;
+      later = omega (arith, c.in_ok-read_column.ensures.later);
+    }
+
+-- the fault is that of the column that was read last
+fault_of : (g : Over) (c : goal.After-from_residual g) → ExplainsPart (g.R.Dir.Dir.files c.args.part.now.dir) c.args.part.now.loaded.manifest c.args.places.now c.args.columns.now c.in_err-read_column.field-0.0
+fault_of g c =
+    let olds = c.args.columns.now in
+    let i = c.loop-number.number in
+    let any : Cells = c.index-columns-number.result in
+    let old : Cells = get_or c.loop-number.columns i any in
+    let old_is : old ≡ get_or olds i old = c.loop-number.invariant.rest i any (omega arith) ∙ get_or_default olds i any old (omega arith) in
+    let below : i < length c.args.places.now = omega arith in
+    let inside : i < length olds = omega arith in
+    record {
+      at = i;
+      number = get_or c.args.places.now i 0;
+      column = old;
+      number_is = slice_get-get_or c.args.places.now i 0 below;
+      column_is = slice_get_read olds (length olds) i old refl inside old_is;
+      explained = c.in_err-read_column.ensures.damaged;
+    }
+
+pub returns-in_err-read_column-clause-damaged : goal.returns-in_err-read_column-clause-damaged
+returns-in_err-read_column-clause-damaged g c =
+    handed_on (ExplainsPart (g.R.Dir.Dir.files c.args.part.now.dir) c.args.part.now.loaded.manifest c.args.places.now c.args.columns.now) c.from_residual.result c.in_err-read_column.field-0.0 c.from_residual.ensures.1
+    (fault_of g c)
+
+pub returns-in_err-read_column-clause-sound : goal.returns-in_err-read_column-clause-sound
+returns-in_err-read_column-clause-sound g c = λ types rows holds typed.
+    handed_on IsNoDamage c.from_residual.result c.in_err-read_column.field-0.0 c.from_residual.ensures.1
+    (sound_part g.R.Dir.Dir.files types c.args.part.now c.args.places.now rows c.args.columns.now c.in_err-read_column.field-0.0 holds typed
+    (fault_of g c))
+
+pub returns-clause-read : goal.returns-clause-read
+returns-clause-read g c =
+    read_all (g.R.Dir.Dir.files c.args.part.now.dir) c.args.part.now.loaded.manifest c.args.places.now c.args.columns.now c.loop-number.columns c.loop-number.number (omega arith) (omega arith) c.requires c.loop-number.invariant.read
+
+pub returns-clause-values : goal.returns-clause-values
+returns-clause-values g c = λ types rows holds typed.
+    rows_read g.R.Dir.Dir.files types c.args.part.now c.args.places.now rows c.args.columns.now c.loop-number.columns holds typed (returns-clause-read g c)
+
+pub returns-clause-even : goal.returns-clause-even
+returns-clause-even g c = λ n even.
+    read_even (g.R.Dir.Dir.files c.args.part.now.dir) c.args.part.now.loaded.manifest n c.args.places.now c.args.columns.now c.loop-number.columns (returns-clause-read g c) even
+
+pub returns-clause-types : goal.returns-clause-types
+returns-clause-types g c =
+    read_types (g.R.Dir.Dir.files c.args.part.now.dir) c.args.part.now.loaded.manifest c.args.places.now c.args.columns.now c.loop-number.columns (returns-clause-read g c)

@@ -1,0 +1,40 @@
+// A file of a folder, read whole.
+ghost use Rattle.std.specs.Prelude.{◌≡◌, ◌≤◌, IfErr, IfOk, IsErrOf, Some};
+ghost use Rattle.mt_outside.specs.Causes.{Rose};
+ghost use Rattle.mt_outside.specs.Files.{Files, bytes_of};
+ghost use Rattle.part_reader.specs.Faults.{IsNoDamage};
+
+use crate::reading::PartFault;
+use mt_outside::Arm;
+use mt_values::FileId;
+use std::alloc::Global;
+
+/// How many bytes are read at once.
+const PIECE: usize = 65536;
+
+/// All the bytes of a file of a folder, read in pieces of 64 KiB; none where the file is not there.
+///
+/// `Fault` only where the arm's count rose in this call; `NoMemory` where a growth was refused. It is never `Damaged`.
+pub fn read_file<R: Arm>(
+    alloc: Global,
+    arm: &mut R,
+    dir: &R::Dir,
+    file: FileId,
+) -> Result<Vec<u8>, PartFault>
+    ensures bytes { (files : Files) → R.Dir.files dir.now ≡ Some files → IfOk result (λ v. v.items ≡ bytes_of file files) }
+    ensures tells { R.tells arm.new ≡ R.tells arm.old }
+    ensures later { R.failed arm.old ≤ R.failed arm.new }
+    ensures fault { IsErrOf result PartFault.Fault → Rose (R.failed arm.old) (R.failed arm.new) }
+    ensures sound { IfErr result IsNoDamage }
+{
+    let mut bytes = Vec::new(alloc);
+    let mut piece = [0; PIECE];
+    for _read in 0..u64::MAX {
+        let count = arm.read(dir, file, bytes.len() as u64, &mut piece)?;
+        if count == 0 {
+            return Ok(bytes);
+        }
+        bytes.extend_from_slice(&piece[..count])?;
+    }
+    Err(PartFault::NoMemory)
+}

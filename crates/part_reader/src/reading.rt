@@ -1,0 +1,145 @@
+// Parts, why one is not read, and the values of their columns.
+ghost use Rattle.std.specs.Prelude.{◌≡◌, ◌+◌, ◌≤◌, ℕ, All, IfErr, IsErrOf, List, OnOk, length, map, slice_get};
+ghost use Rattle.std.specs.List.{filter_map};
+ghost use Rattle.mt_outside.specs.Causes.{Rose};
+ghost use Rattle.mt_values.specs.declared.value.ColType.{ColType};
+ghost use Rattle.mt_values.specs.Grid.{Cells};
+ghost use Rattle.mt_values.specs.Values.{Row};
+ghost use Rattle.part_reader.specs.Columns.{AreRead, IsRead};
+ghost use Rattle.part_reader.specs.Faults.{ExplainsColumn, ExplainsPart, IsNoDamage};
+ghost use Rattle.part_reader.specs.Parts.{HoldsAt, with_columns};
+
+use crate::files::read_file;
+use crate::marked::add_values;
+use mt_outside::{Arm, DiskError};
+use mt_values::{ColumnData, FileId, FileMark, Loaded};
+use std::alloc::{AllocError, Global};
+use thiserror::Error;
+
+/// A part of a table: its folder, and what is kept of it in memory.
+#[derive(Drop)]
+pub struct Part<F> {
+    pub dir: F,
+    pub loaded: Loaded,
+}
+
+impl<F> Part<F> {
+    /// The part with this folder, of which this is kept. Takes no memory.
+    pub fn of(dir: F, loaded: Loaded) -> Self
+        ensures dir { result.dir ≡ dir }
+        ensures loaded { result.loaded ≡ loaded }
+    {
+        Part { dir, loaded }
+    }
+
+    /// The number of rows that the manifest says. Takes no memory.
+    pub fn rows(&self) -> u64
+        ensures { result ≡ self.now.loaded.manifest.rows }
+    {
+        self.loaded.manifest.rows
+    }
+}
+
+/// What is called wanted of a file for which the manifest has no mark: no bytes, and 32 zeros as their digest.
+pub const NO_MARK: FileMark = FileMark {
+    size: 0,
+    digest: [0; 32],
+};
+
+/// Why a part was not read.
+#[derive(Clone, Copy, Debug, PartialEq, Eq, Error)]
+pub enum PartFault {
+    /// The arm failed.
+    #[error("the disk failed")]
+    Fault,
+    /// A growth was refused.
+    #[error("out of memory")]
+    NoMemory,
+    /// A file does not have the mark that the manifest has of it, or the manifest has none of it. The place is 0 then.
+    /// Or it has its mark, and its bytes are no spelling of the part's rows: from this place on, counted from 0, they go wrong.
+    #[error("a file of the part is damaged at byte {place}")]
+    Damaged {
+        file: FileId,
+        place: u64,
+        /// The mark of the manifest, or `NO_MARK` where it has none.
+        wanted: FileMark,
+        /// The mark of the bytes that were read.
+        found: FileMark,
+    },
+}
+
+impl From<DiskError> for PartFault {
+    ghost use Rattle.part_reader.specs.Faults.{FaultOf};
+
+    ghost from_gives = { FaultOf };
+
+    fn from(error: DiskError) -> Self {
+        match error {
+            DiskError::Fault => PartFault::Fault,
+            DiskError::NoMemory => PartFault::NoMemory,
+        }
+    }
+}
+
+impl From<AllocError> for PartFault {
+    ghost use Rattle.std.specs.Prelude.{◌≡◌};
+    ghost use Rattle.part_reader.specs.declared.reading.PartFault.TheVariants.{NoMemory};
+
+    ghost from_gives = { λ _ e. e ≡ NoMemory };
+
+    fn from(_: AllocError) -> Self {
+        PartFault::NoMemory
+    }
+}
+
+/// Adds the values of the part's columns at these places, counted from 0, each to its own column. Each file is read whole;
+/// a place may come twice.
+///
+/// `Damaged` where the bytes of a file do not have the mark of the manifest, the manifest has none of it, or they are no spelling
+/// of so many values as the part has rows: never where the folder and the manifest hold rows. `Fault` only where the arm's count
+/// rose in this call; `NoMemory` where a growth was refused. After an error some of the values may have been added.
+pub fn read_columns<R: Arm>(
+    alloc: Global,
+    arm: &mut R,
+    part: &Part<R::Dir>,
+    places: &[u32],
+    columns: &mut [ColumnData],
+) -> Result<(), PartFault>
+    requires { length columns.old ≡ length places.now }
+    ensures values { (types : List ColType) (rows : List Row) → HoldsAt R.Dir.files types part.now places.now rows
+        → map (λ (c : Cells). c.col_type) columns.old ≡ filter_map (slice_get types) places.now → OnOk result (columns.new ≡ with_columns rows places.now columns.old) }
+    ensures sound { (types : List ColType) (rows : List Row) → HoldsAt R.Dir.files types part.now places.now rows
+        → map (λ (c : Cells). c.col_type) columns.old ≡ filter_map (slice_get types) places.now → IfErr result IsNoDamage }
+    ensures read { OnOk result (AreRead (R.Dir.files part.now.dir) part.now.loaded.manifest places.now columns.old columns.new) }
+    ensures even { (n : ℕ) → All (λ (c : Cells). length c.values ≡ n) columns.old → OnOk result (All (λ (c : Cells). length c.values ≡ n + part.now.loaded.manifest.rows) columns.new) }
+    ensures types { OnOk result (map (λ (c : Cells). c.col_type) columns.new ≡ map (λ (c : Cells). c.col_type) columns.old) }
+    ensures damaged { IfErr result (ExplainsPart (R.Dir.files part.now.dir) part.now.loaded.manifest places.now columns.old) }
+    ensures tells { R.tells arm.new ≡ R.tells arm.old }
+    ensures later { R.failed arm.old ≤ R.failed arm.new }
+    ensures fault { IsErrOf result PartFault.Fault → Rose (R.failed arm.old) (R.failed arm.new) }
+{
+    for (number, place) in places.iter().enumerate() {
+        read_column(alloc, arm, part, *place, &mut columns[number])?;
+    }
+    Ok(())
+}
+
+/// Adds the values of the part's column with this number to a column.
+///
+/// The errors are those of `read_columns`.
+fn read_column<R: Arm>(
+    alloc: Global,
+    arm: &mut R,
+    part: &Part<R::Dir>,
+    number: u32,
+    column: &mut ColumnData,
+) -> Result<(), PartFault>
+    ensures read { OnOk result (IsRead (R.Dir.files part.now.dir) part.now.loaded.manifest number column.old column.new) }
+    ensures damaged { IfErr result (ExplainsColumn (R.Dir.files part.now.dir) part.now.loaded.manifest number column.old.col_type) }
+    ensures tells { R.tells arm.new ≡ R.tells arm.old }
+    ensures later { R.failed arm.old ≤ R.failed arm.new }
+    ensures fault { IsErrOf result PartFault.Fault → Rose (R.failed arm.old) (R.failed arm.new) }
+{
+    let bytes = read_file(alloc, arm, &part.dir, FileId::Column(number))?;
+    add_values(&part.loaded.manifest, number, &bytes, column)
+}

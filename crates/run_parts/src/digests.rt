@@ -1,0 +1,244 @@
+// Entries and manifests: known bytes, and bytes that are changed, cut and extended.
+ghost use Rattle.std.specs.Prelude.{◌≡◌, IfOk, length};
+
+use column_file::FormatFault;
+use digest_file::{entry_bytes, manifest_bytes, mark_of, read_entry, read_manifest};
+use mt_base::{NoMemory, Seq};
+use mt_values::{FileMark, Manifest};
+use std::alloc::Global;
+use std::test::Fail;
+
+/// The SHA-256 of no bytes.
+const OF_NONE: [u8; 32] = [
+    0xe3, 0xb0, 0xc4, 0x42, 0x98, 0xfc, 0x1c, 0x14, 0x9a, 0xfb, 0xf4, 0xc8, 0x99, 0x6f, 0xb9, 0x24,
+    0x27, 0xae, 0x41, 0xe4, 0x64, 0x9b, 0x93, 0x4c, 0xa4, 0x95, 0x99, 0x1b, 0x78, 0x52, 0xb8, 0x55,
+];
+
+/// The SHA-256 of the bytes `01 02`.
+const OF_TWO: [u8; 32] = [
+    0xa1, 0x28, 0x71, 0xfe, 0xe2, 0x10, 0xfb, 0x86, 0x19, 0x29, 0x1e, 0xae, 0xa1, 0x94, 0x58, 0x1c,
+    0xbd, 0x25, 0x31, 0xe4, 0xb2, 0x37, 0x59, 0xd2, 0x25, 0xf6, 0x80, 0x69, 0x23, 0xf6, 0x32, 0x22,
+];
+
+/// The SHA-256 of the bytes `01 61 01 62`.
+const OF_FOUR: [u8; 32] = [
+    0xfa, 0x4a, 0x35, 0x0f, 0x59, 0x06, 0x02, 0x1e, 0x27, 0xb2, 0xca, 0xf1, 0x94, 0x09, 0x31, 0x9e,
+    0x16, 0x06, 0xcf, 0x68, 0xca, 0x77, 0x62, 0x4c, 0x56, 0xea, 0x19, 0x16, 0x8e, 0x15, 0x6b, 0x25,
+];
+
+/// The entry of the text `SELECT`.
+pub const ENTRY: [u8; 46] = [
+    0x4d, 0x54, 0x53, 0x31, 0x06, 0x00, 0x00, 0x00, 0x53, 0x45, 0x4c, 0x45, 0x43, 0x54, 0xf6, 0xca,
+    0x34, 0x73, 0xf8, 0x7a, 0x43, 0x47, 0x81, 0x1c, 0xa2, 0x75, 0xb5, 0x84, 0x9c, 0x95, 0x14, 0xfd,
+    0x78, 0x9f, 0xcb, 0xf4, 0xd8, 0x81, 0x39, 0x3f, 0x3b, 0x54, 0x61, 0xff, 0xaa, 0x9d,
+];
+
+/// The entry of the text without bytes.
+const EMPTY_ENTRY: [u8; 40] = [
+    0x4d, 0x54, 0x53, 0x31, 0x00, 0x00, 0x00, 0x00, 0x5b, 0x4a, 0xb6, 0xa0, 0x98, 0xb9, 0x0f, 0x0e,
+    0xad, 0x77, 0x59, 0xd3, 0x6b, 0x18, 0x33, 0xe9, 0x95, 0xd9, 0xd7, 0xbd, 0xb5, 0x77, 0x0b, 0x36,
+    0x13, 0xd8, 0xc2, 0xe0, 0xc8, 0xcb, 0x28, 0xc6,
+];
+
+/// The manifest of 2 rows with the files `01 02` and `01 61 01 62`.
+pub const MANIFEST: [u8; 130] = [
+    0x4d, 0x54, 0x50, 0x31, 0x01, 0x00, 0x02, 0x00, 0x00, 0x00, 0x00, 0x00, 0x00, 0x00, 0x02, 0x00,
+    0x00, 0x00, 0x02, 0x00, 0x00, 0x00, 0x00, 0x00, 0x00, 0x00, 0xa1, 0x28, 0x71, 0xfe, 0xe2, 0x10,
+    0xfb, 0x86, 0x19, 0x29, 0x1e, 0xae, 0xa1, 0x94, 0x58, 0x1c, 0xbd, 0x25, 0x31, 0xe4, 0xb2, 0x37,
+    0x59, 0xd2, 0x25, 0xf6, 0x80, 0x69, 0x23, 0xf6, 0x32, 0x22, 0x04, 0x00, 0x00, 0x00, 0x00, 0x00,
+    0x00, 0x00, 0xfa, 0x4a, 0x35, 0x0f, 0x59, 0x06, 0x02, 0x1e, 0x27, 0xb2, 0xca, 0xf1, 0x94, 0x09,
+    0x31, 0x9e, 0x16, 0x06, 0xcf, 0x68, 0xca, 0x77, 0x62, 0x4c, 0x56, 0xea, 0x19, 0x16, 0x8e, 0x15,
+    0x6b, 0x25, 0xf6, 0x19, 0x84, 0xd8, 0x4f, 0x88, 0xa2, 0x76, 0xff, 0x69, 0x1b, 0xb6, 0xd8, 0xbe,
+    0x9a, 0x1e, 0x94, 0xd2, 0x73, 0xc4, 0xa4, 0x20, 0x5c, 0xb1, 0xcc, 0x70, 0xb4, 0x3f, 0x44, 0x4e,
+    0xcb, 0x15,
+];
+
+/// The manifest of 1 row with the file `01`.
+const SMALL: [u8; 90] = [
+    0x4d, 0x54, 0x50, 0x31, 0x01, 0x00, 0x01, 0x00, 0x00, 0x00, 0x00, 0x00, 0x00, 0x00, 0x01, 0x00,
+    0x00, 0x00, 0x01, 0x00, 0x00, 0x00, 0x00, 0x00, 0x00, 0x00, 0x4b, 0xf5, 0x12, 0x2f, 0x34, 0x45,
+    0x54, 0xc5, 0x3b, 0xde, 0x2e, 0xbb, 0x8c, 0xd2, 0xb7, 0xe3, 0xd1, 0x60, 0x0a, 0xd6, 0x31, 0xc3,
+    0x85, 0xa5, 0xd7, 0xcc, 0xe2, 0x3c, 0x77, 0x85, 0x45, 0x9a, 0x9f, 0xc6, 0xe3, 0xe1, 0xcd, 0xb3,
+    0xbd, 0xd0, 0xe5, 0x5e, 0x2e, 0x58, 0xd8, 0x16, 0x36, 0x37, 0x08, 0xc0, 0x22, 0x40, 0xec, 0x10,
+    0x52, 0x29, 0x27, 0x34, 0xfc, 0x8e, 0xea, 0x23, 0xf0, 0x8f,
+];
+
+/// The manifest of no row and no file.
+const EMPTY_MANIFEST: [u8; 50] = [
+    0x4d, 0x54, 0x50, 0x31, 0x01, 0x00, 0x00, 0x00, 0x00, 0x00, 0x00, 0x00, 0x00, 0x00, 0x00, 0x00,
+    0x00, 0x00, 0xb8, 0x6a, 0x47, 0xc7, 0xe1, 0xe8, 0x0c, 0x7f, 0x8d, 0x74, 0x2e, 0xf0, 0xbc, 0x54,
+    0x42, 0x6e, 0xb8, 0xb0, 0xec, 0x1d, 0x11, 0xf3, 0x61, 0xae, 0xdc, 0xd8, 0xf5, 0x9f, 0xa1, 0x34,
+    0x1a, 0x83,
+];
+
+/// What the manifest of no row and no file would be with the version 2.
+const SECOND_VERSION: [u8; 50] = [
+    0x4d, 0x54, 0x50, 0x31, 0x02, 0x00, 0x00, 0x00, 0x00, 0x00, 0x00, 0x00, 0x00, 0x00, 0x00, 0x00,
+    0x00, 0x00, 0x29, 0x9a, 0xf5, 0x2a, 0xd7, 0x5b, 0x1f, 0x3f, 0xcc, 0x99, 0x70, 0x66, 0xc2, 0xba,
+    0x36, 0xed, 0x01, 0xe6, 0x4f, 0x31, 0x8b, 0x55, 0x78, 0x75, 0xda, 0xb1, 0x74, 0x86, 0x22, 0x40,
+    0x17, 0x0c,
+];
+
+/// The first fault of the entry after the lowest bit of each byte was turned.
+const ENTRY_FAULTS: [u64; 46] = [
+    0, 1, 2, 3, 15, 46, 46, 46, 14, 14, 14, 14, 14, 14, 14, 15, 16, 17, 18, 19, 20, 21, 22, 23, 24,
+    25, 26, 27, 28, 29, 30, 31, 32, 33, 34, 35, 36, 37, 38, 39, 40, 41, 42, 43, 44, 45,
+];
+
+/// The first fault of the small manifest after the lowest bit of each byte was turned.
+const SMALL_FAULTS: [u64; 90] = [
+    0, 1, 2, 3, 4, 5, 58, 58, 58, 58, 58, 58, 58, 58, 18, 90, 90, 90, 58, 58, 58, 58, 58, 58, 58,
+    58, 58, 58, 58, 58, 58, 58, 58, 58, 58, 58, 58, 58, 58, 58, 58, 58, 58, 58, 58, 58, 58, 58, 58,
+    58, 58, 58, 58, 58, 58, 58, 58, 58, 58, 59, 60, 61, 62, 63, 64, 65, 66, 67, 68, 69, 70, 71, 72,
+    73, 74, 75, 76, 77, 78, 79, 80, 81, 82, 83, 84, 85, 86, 87, 88, 89,
+];
+
+/// The bytes with another byte at a place, and all others as they are.
+fn with_byte(alloc: Global, bytes: &[u8], at: usize, byte: u8) -> Result<Vec<u8>, NoMemory> {
+    let mut changed = Vec::new(alloc);
+    for (place, old) in bytes.iter().enumerate() {
+        changed.push(if place == at { byte } else { *old })?;
+    }
+    Ok(changed)
+}
+
+/// The bytes with one more at their end.
+fn with_end(alloc: Global, bytes: &[u8], byte: u8) -> Result<Vec<u8>, NoMemory> {
+    let mut longer = Vec::from_slice(alloc, bytes)?;
+    longer.push(byte)?;
+    Ok(longer)
+}
+
+/// The place at which bytes are refused as an entry; none where they are one.
+fn entry_fault(bytes: &[u8]) -> Option<u64> {
+    match read_entry(bytes) {
+        Err(FormatFault::Malformed { place }) => Some(place),
+        _ => None,
+    }
+}
+
+/// The place at which bytes are refused as a manifest; none where they are one, or where memory is short.
+fn manifest_fault(alloc: Global, bytes: &[u8]) -> Option<u64> {
+    match read_manifest(alloc, bytes) {
+        Err(FormatFault::Malformed { place }) => Some(place),
+        _ => None,
+    }
+}
+
+/// The manifest of 2 rows with the files `01 02` and `01 61 01 62`.
+fn manifest(alloc: Global) -> Result<Manifest, NoMemory>
+    ensures { IfOk result (λ m. length m.files ≡ 2) }
+{
+    let mut files = Seq::new(alloc);
+    files.push(mark_of(&[1, 2]))?;
+    files.push(mark_of(b"\x01a\x01b"))?;
+    Ok(Manifest { rows: 2, files })
+}
+
+#[test]
+fn marks_are_sizes_and_digests(rt: HostRuntime) {
+    let none = FileMark {
+        size: 0,
+        digest: OF_NONE,
+    };
+    assert_eq!(rt; mark_of(&[]), none);
+    let two = FileMark {
+        size: 2,
+        digest: OF_TWO,
+    };
+    assert_eq!(rt; mark_of(&[1, 2]), two);
+    let four = FileMark {
+        size: 4,
+        digest: OF_FOUR,
+    };
+    assert_eq!(rt; mark_of(b"\x01a\x01b"), four);
+}
+
+#[test]
+fn entries_have_known_bytes(rt: HostRuntime) -> Result<(), Fail> {
+    let alloc = rt.alloc();
+    let table = [
+        (b"SELECT".as_slice(), ENTRY.as_slice()),
+        (b"".as_slice(), EMPTY_ENTRY.as_slice()),
+    ];
+    for (text, bytes) in table.iter() {
+        assert_eq!(rt; entry_bytes(alloc, text)?.as_slice(), *bytes);
+        assert_eq!(rt; read_entry(bytes), Ok(*text));
+    }
+    Ok(())
+}
+
+#[test]
+fn manifests_have_known_bytes(rt: HostRuntime) -> Result<(), Fail> {
+    let alloc = rt.alloc();
+    let written = manifest_bytes(alloc, &manifest(alloc)?)?;
+    assert_eq!(rt; written.as_slice(), MANIFEST.as_slice());
+    let read = read_manifest(alloc, &MANIFEST)?;
+    assert_eq!(rt; read.rows, 2);
+    assert_eq!(rt;
+        read.files.as_slice(),
+        [mark_of(&[1, 2]), mark_of(b"\x01a\x01b")].as_slice()
+    );
+    let empty = Manifest {
+        rows: 0,
+        files: Seq::new(alloc),
+    };
+    assert_eq!(rt;
+        manifest_bytes(alloc, &empty)?.as_slice(),
+        EMPTY_MANIFEST.as_slice()
+    );
+    let read = read_manifest(alloc, &EMPTY_MANIFEST)?;
+    assert_eq!(rt; read.rows, 0);
+    assert!(rt; read.files.is_empty());
+    Ok(())
+}
+
+#[test]
+fn a_turned_bit_is_refused_at_its_place(rt: HostRuntime) -> Result<(), Fail> {
+    let alloc = rt.alloc();
+    for (at, place) in ENTRY_FAULTS.iter().enumerate() {
+        let old = ENTRY.get(at).copied().ok_or("no byte")?;
+        let changed = with_byte(alloc, &ENTRY, at, old ^ 1)?;
+        assert_eq!(rt; entry_fault(&changed), Some(*place), "at {at}");
+    }
+    for (at, place) in SMALL_FAULTS.iter().enumerate() {
+        let old = SMALL.get(at).copied().ok_or("no byte")?;
+        let changed = with_byte(alloc, &SMALL, at, old ^ 1)?;
+        assert_eq!(rt; manifest_fault(alloc, &changed), Some(*place), "at {at}");
+    }
+    Ok(())
+}
+
+#[test]
+fn cut_files_are_refused_at_their_end(rt: HostRuntime) -> Result<(), Fail> {
+    let alloc = rt.alloc();
+    for at in 0..ENTRY.len() {
+        assert_eq!(rt; entry_fault(&ENTRY[..at]), Some(at as u64));
+    }
+    for at in 0..SMALL.len() {
+        assert_eq!(rt; manifest_fault(alloc, &SMALL[..at]), Some(at as u64));
+    }
+    // A length and a number of files that are the greatest of all, and nothing behind them.
+    let length = b"MTS1\xff\xff\xff\xff";
+    assert_eq!(rt; entry_fault(length), Some(8));
+    let files = b"MTP1\x01\x00\x00\x00\x00\x00\x00\x00\x00\x00\xff\xff\xff\xff";
+    assert_eq!(rt; manifest_fault(alloc, files), Some(18));
+    Ok(())
+}
+
+#[test]
+fn a_byte_behind_the_digest_is_refused_there(rt: HostRuntime) -> Result<(), Fail> {
+    let alloc = rt.alloc();
+    for byte in 0..=255u8 {
+        let entry = with_end(alloc, &ENTRY, byte)?;
+        assert_eq!(rt; entry_fault(&entry), Some(46));
+        let manifest = with_end(alloc, &SMALL, byte)?;
+        assert_eq!(rt; manifest_fault(alloc, &manifest), Some(90));
+    }
+    Ok(())
+}
+
+#[test]
+fn another_version_is_refused(rt: HostRuntime) {
+    assert_eq!(rt; manifest_fault(rt.alloc(), &SECOND_VERSION), Some(4));
+}

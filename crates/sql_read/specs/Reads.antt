@@ -1,0 +1,33 @@
+-- What was read of a statement by its productions.
+use Rattle.std.specs.Prelude.{◌≡◌, Bool, false, List, [], ◌∷◌, Result, Ok, Err}
+use Rattle.mt_values.specs.declared.statement.Statement.{Statement}
+use Rattle.mt_values.specs.declared.token.Placed.{Placed}
+use Rattle.mt_values.specs.declared.token.Token.{Token}
+use Rattle.mt_values.specs.Grammar.{ends}
+use Rattle.mt_values.specs.Readers.{Reader, Part}
+use Rattle.sql_read.specs.declared.cursor.Stop.{Stop}
+use Rattle.sql_read.specs.declared.cursor.Stop.TheVariants as stop
+
+-- the next token passes a test
+abbrev pub first_is : (Token → Bool) → List Placed → Bool
+first_is test [] = false
+first_is test (p ∷ ps) = test p.token
+
+-- A part of a statement was read from some tokens up to others: whatever is to follow it, the definition goes on with it
+-- there. Or it stopped: whatever is to follow, the definition refuses the tokens from there on.
+abbrev pub Reads : {X : Type 0} → Part Statement X → List Placed → Result X Stop → List Placed → Type 0
+Reads {X} part from (Ok x) to = (next : X → Reader Statement) → part next from ≡ next x to
+Reads {X} part from (Err (stop.Slip s)) to = (next : X → Reader Statement) → part next from ≡ Err (s, to)
+Reads {X} part from (Err stop.NoMemory) to = Unit {0}
+
+-- the end of a statement was read: whichever it is, it is read there; or it is refused there
+abbrev pub Ends : List Placed → Result (Unit {0}) Stop → List Placed → Type 0
+Ends from (Ok u) to = (s : Statement) → ends s from ≡ Ok s
+Ends from (Err (stop.Slip f)) to = (s : Statement) → ends s from ≡ Err (f, to)
+Ends from (Err stop.NoMemory) to = Unit {0}
+
+-- the statement that some tokens are, or the tokens from which on they are refused
+abbrev pub IsRead : Reader Statement → List Placed → Result Statement Stop → List Placed → Type 0
+IsRead reader from (Ok s) to = reader from ≡ Ok s
+IsRead reader from (Err (stop.Slip f)) to = reader from ≡ Err (f, to)
+IsRead reader from (Err stop.NoMemory) to = Unit {0}

@@ -1,0 +1,91 @@
+use Rattle.std.proofs.Common.{◌≡◌, ◌≢◌, ◌∙◌, ◌<◌, ◌^◌, Some, Ok, Err, List, ℕ, All, [], ◌∷◌, ◌++◌, sym, ap, ap₂, false, map, length, get_or, slice_get, arith}
+use Rattle.std.proofs.lemmas.List.{length-map}
+use Rattle.std.proofs.lemmas.List.Elements.{All-from_get_or}
+use Rattle.std.proofs.lemmas.Option.{slice_get-get_or, slice_get-map}
+use Rattle.std.specs.Option.{option_map}
+use Rattle.mt_values.specs.Cells.{value_of}
+use Rattle.mt_values.specs.Rows.{fields_from, row_of_line, value_of_field}
+use Rattle.mt_values.specs.Values.{IsValue}
+use Rattle.mt_values.specs.declared.row_fault.RowFault.TheVariants as row_fault
+use Rattle.mt_values.specs.declared.schema.Column.{Column}
+use Rattle.mt_values.specs.declared.value.ColType.{ColType}
+use Rattle.mt_values.proofs.RowValues.{AreBytes, if_ok, row_values}
+use Rattle.tsv_rows.specs.Fields.{EndFields}
+use Rattle.tsv_rows.proofs.LineRows.{other_count, same_count, row_begin, row_miscounted, row_more, row_refused, row_whole}
+use Rattle.tsv_rows.proofs.Marking.{whole_marked}
+use Rattle.tsv_rows.proofs.rows.read_row.Goals as goal
+use Rattle.tsv_rows.proofs.rows.read_row.Goals.{After-len, In_ok-cell, After-drop-ends-2}
+
+types : After-len → List ColType
+types c = map (λ (column : Column). column.col_type) c.args.schema.now.columns
+
+size : (c : After-len) → length (types c) ≡ length c.as_slice-columns.result.now
+unfolding types
+size c = length-map c.args.schema.now.columns (λ (column : Column). column.col_type) ∙ ap length (sym c.as_slice-columns.ensures)
+
+ends : (c : After-len) → EndFields c.args.text.now c.mark_fields.new.ends.items
+ends c = whole_marked c.args.text.now c.mark_fields.new.ends.items c.in_ok-mark_fields.field-0 c.in_ok-mark_fields.ensures.line c.in_ok-mark_fields.ensures.fields
+
+count : (c : After-len) → c.len.result ≡ length c.mark_fields.new.ends.items
+count c = let o = c.mark_fields.new.ends.ok.0 in omega arith
+
+pub returns-in-Some-clause-fault : goal.returns-in-Some-clause-fault
+unfolding types
+returns-in-Some-clause-fault c =
+    let d = (goal.at.returns-in-Some-clause-fault c).After-len in
+    let wanted = length c.as_slice-columns.result.now in
+    let told = other_count c.args.line c.len.result wanted c.in-Some.fault c.in-Some.ensures in
+    let other : length c.mark_fields.new.ends.items ≢ length (types d) = λ e. told.0 (count d ∙ e ∙ size d) in
+    let same : row_fault.Fields c.args.line (length c.mark_fields.new.ends.items) (length (types d)) ≡ c.in-Some.fault =
+    ap₂ (row_fault.Fields c.args.line) (sym (count d)) (size d) ∙ sym told.1 in
+    λ some. sym (row_miscounted (types d) c.args.line c.args.text.now c.mark_fields.new.ends.items (ends d) other) ∙ ap Err same
+
+pub loop-place-init : goal.loop-place-init
+unfolding types
+loop-place-init c =
+    let d = (goal.at.loop-place-init c).After-len in
+    let counted = same_count c.args.line c.len.result (length c.as_slice-columns.result.now) c.in_default.ensures in
+    let same : length c.mark_fields.new.ends.items ≡ length (types d) = sym (count d) ∙ counted ∙ sym (size d) in
+    rw c.in_ok-row.ensures (row_begin (types d) c.args.line c.args.text.now c.mark_fields.new.ends.items (ends d) same)
+
+-- the type at the place of the loop
+type_at : (c : In_ok-cell) → slice_get (map (λ (column : Column). column.col_type) c.args.schema.now.columns) c.loop-place.place ≡ Some c.index-columns-place.result.col_type
+type_at c =
+    let columns = c.args.schema.now.columns in
+    let column = c.index-columns-place.result in
+    let same : c.as_slice-columns.result.now ≡ columns = c.as_slice-columns.ensures in
+    let within : c.loop-place.place < length columns = rw same at c.loop-place-test.true in
+    let is : column ≡ get_or columns c.loop-place.place column = rw same at c.index-columns-place.is in
+    slice_get-map (λ (d : Column). d.col_type) columns c.loop-place.place
+    ∙ ap (option_map (λ (d : Column). d.col_type)) (slice_get-get_or columns c.loop-place.place column within ∙ ap Some (sym is))
+
+pub returns-in-Err-clause-fault : goal.returns-in-Err-clause-fault
+returns-in-Err-clause-fault c =
+    let d = (goal.at.returns-in-Err-clause-fault c).In_ok-cell in
+    let types = map (λ (column : Column). column.col_type) c.args.schema.now.columns in
+    let fields = fields_from false c.args.text.now in
+    let field : slice_get fields c.loop-place.place ≡ Some c.field_at-field.result.now = c.field_at-field.ensures in
+    let read : Err c.in-Err.fault ≡ value_of_field c.index-columns-place.result.col_type c.field_at-field.result.now = rw c.in-Err.is at c.in_ok-cell.ensures in
+    let told = row_refused types fields c.args.line c.loop-place.place c.index-columns-place.result.col_type c.field_at-field.result.now (type_at d) field c.loop-place.row c.in-Err.fault read in
+    λ some. sym (ap Err c.fault_of_field.ensures ∙ told ∙ c.loop-place.invariant)
+
+pub loop-place-preserved : goal.loop-place-preserved
+loop-place-preserved c =
+    let d = (goal.at.loop-place-preserved c).In_ok-cell in
+    let types = map (λ (column : Column). column.col_type) c.args.schema.now.columns in
+    let fields = fields_from false c.args.text.now in
+    let v = value_of c.in-Ok.cell in
+    let field : slice_get fields c.loop-place.place ≡ Some c.field_at-field.result.now = c.field_at-field.ensures in
+    let read : Ok v ≡ value_of_field c.index-columns-place.result.col_type c.field_at-field.result.now = rw c.in-Ok.is at c.in_ok-cell.ensures in
+    let pushed : c.push.new.self ≡ c.loop-place.row ++ c.in_ok-to_value-in-Ok.field-0 ∷ [] = c.in_ok-push-in-Ok.ensures.ok in
+    rw (pushed, c.in_ok-to_value-in-Ok.ensures)
+    (row_more types fields c.args.line c.loop-place.place c.index-columns-place.result.col_type c.field_at-field.result.now (type_at d) field c.loop-place.row v read ∙ c.loop-place.invariant)
+
+pub returns-clause-values : goal.returns-clause-values
+returns-clause-values c =
+    let types = map (λ (column : Column). column.col_type) c.args.schema.now.columns in
+    let fields = fields_from false c.args.text.now in
+    let all : length types ≡ length c.as_slice-columns.result.now = length-map c.args.schema.now.columns (λ (column : Column). column.col_type) ∙ ap length (sym c.as_slice-columns.ensures) in
+    let read : Ok c.loop-place.row ≡ row_of_line types c.args.line c.args.text.now = row_whole types fields c.args.line c.loop-place.place c.loop-place.row (omega arith) ∙ c.loop-place.invariant in
+    let bytes : AreBytes c.args.text.now = All-from_get_or (λ (b : ℕ). b < 2 ^ 8) c.args.text.now 0 (λ i h. omega (arith, c.type_inv.text i)) in
+    if_ok (All IsValue) (row_of_line types c.args.line c.args.text.now) c.loop-place.row (sym read) (row_values types c.args.line c.args.text.now bytes)

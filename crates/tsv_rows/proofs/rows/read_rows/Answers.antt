@@ -1,0 +1,87 @@
+use Rattle.std.proofs.Common.{◌≡◌, ◌+◌, ◌-◌, ◌<◌, ◌^◌, ◌∙◌, ◌++◌, Some, None, Ok, List, ℕ, false, sym, ap, append-nil, arith, length, take, drop, length-drop}
+use Rattle.std.proofs.lemmas.List.{take_rest, take_all, drop-drop, drop_all}
+use Rattle.std.proofs.lemmas.List.Elements.{All-from_get_or}
+use Rattle.mt_values.specs.Grid.{Cells, Grid}
+use Rattle.mt_values.specs.Rows.{inserted_rows, row_of_line}
+use Rattle.mt_values.specs.Script.{line_from}
+use Rattle.mt_values.specs.Values.{AreValues}
+use Rattle.mt_values.proofs.RowValues.{AreBytes, if_ok, inserted_values}
+use Rattle.tsv_rows.specs.Columns.{types_in, when_read, with_row}
+use Rattle.tsv_rows.proofs.DataRows.{no_lines, lines_end, lines_many, lines_refused, lines_more}
+use Rattle.tsv_rows.proofs.rows.read_rows.Goals as goal
+use Rattle.tsv_rows.proofs.rows.read_rows.Goals.{In-Some, In_ok-fault, In_default, After-of_columns}
+
+-- all that was written is what stands
+written_whole : {X : Type 0} (new old : List X) (n : ℕ) → length new ≡ length old → n ≡ length new → take n (new ++ drop (length new) old) ≡ new
+written_whole new old n same all = ap (λ rest. take n (new ++ rest)) (drop_all (length new) old (omega arith)) ∙ ap (take n) (append-nil new) ∙ take_all n new (omega arith)
+
+-- the line that was found, and what stands behind it
+found : (c : In-Some) → Some (take c.in-Some.len (drop c.lines.at c.args.lines.now), drop (c.in-Some.len + 1) (drop c.lines.at c.args.lines.now)) ≡ line_from false (drop c.lines.at c.args.lines.now)
+found c = rw (take_rest, c.in-Some.is) at c.in_ok-len.ensures.line
+
+-- it lies within the text
+inside : (c : In-Some) → c.in-Some.len < length (drop c.lines.at c.args.lines.now)
+inside c = rw (take_rest, c.in-Some.is) at c.in_ok-len.ensures.within
+
+-- what reading the line gave
+read_is : (c : In_ok-fault) → when_read c.in_ok-fault.field-0 c.read_line.new.columns
+    ≡ with_row c.lines.columns.items (row_of_line (types_in c.lines.columns.items) (c.lines.count + 1) (take c.in-Some.len (drop c.lines.at c.args.lines.now)))
+read_is c =
+    let size : c.lines.at + c.in-Some.len - c.lines.at ≡ c.in-Some.len = omega arith in
+    rw (size, c.deref_mut.ensures.value) at c.in_ok-fault.ensures
+
+pub lines-init : goal.lines-init
+lines-init c = record { kept = rw c.in_ok-columns.ensures (no_lines c.args.types.now c.args.lines.now c.args.ended); within = omega arith }
+
+pub returns-then-count-ge-MOST_ROWS-clause-refused : goal.returns-then-count-ge-MOST_ROWS-clause-refused
+returns-then-count-ge-MOST_ROWS-clause-refused c =
+    let d = (goal.at.returns-then-count-ge-MOST_ROWS-clause-refused c).In-Some in
+    let text = drop c.lines.at c.args.lines.now in
+    lines_many c.args.types.now c.args.lines.now c.args.ended text c.lines.columns.items c.lines.count c.lines.invariant.kept (take c.in-Some.len text) (drop (c.in-Some.len + 1) text) (found d)
+    c.if-count-ge-MOST_ROWS.true
+
+pub returns-in-Err-clause-refused : goal.returns-in-Err-clause-refused
+returns-in-Err-clause-refused c =
+    let d = (goal.at.returns-in-Err-clause-refused c).In_ok-fault in
+    let text = drop c.lines.at c.args.lines.now in
+    lines_refused c.args.types.now c.args.lines.now c.args.ended text c.lines.columns.items c.lines.count c.lines.invariant.kept (take c.in-Some.len text) (drop (c.in-Some.len + 1) text)
+    (found (goal.at.returns-in-Err-clause-refused c).In-Some) c.if-count-ge-MOST_ROWS.false c.in-Err.fault (rw c.in-Err.is at (read_is d))
+
+pub lines-preserved : goal.lines-preserved
+lines-preserved c =
+    let d = (goal.at.lines-preserved c).In_ok-fault in
+    let e = (goal.at.lines-preserved c).In-Some in
+    let text = drop c.lines.at c.args.lines.now in
+    let len = c.in-Some.len in
+    let new : List Cells = c.read_line.new.columns in
+    let read : Ok new ≡ with_row c.lines.columns.items (row_of_line (types_in c.lines.columns.items) (c.lines.count + 1) (take len text)) = rw c.in_default-2.is at (read_is d) in
+    let count : length new ≡ length c.lines.columns.items = omega (arith, ap length c.deref_mut.ensures.value) in
+    let whole : take c.lines.columns.len (new ++ drop (length new) c.lines.columns.items) ≡ new = written_whole new c.lines.columns.items c.lines.columns.len count (c.lines.columns.ok.0 ∙ sym count) in
+    let behind : drop (len + 1) text ≡ drop (c.lines.at + (len + 1)) c.args.lines.now = drop-drop (len + 1) c.lines.at c.args.lines.now in
+    record {
+      kept =
+          rw (whole, ← behind)
+          (lines_more c.args.types.now c.args.lines.now c.args.ended text c.lines.columns.items c.lines.count c.lines.invariant.kept (take len text) (drop (len + 1) text) (found e)
+          c.if-count-ge-MOST_ROWS.false new read);
+      within = omega (arith, inside e, length-drop c.lines.at c.args.lines.now);
+    }
+
+-- no line is left
+last : (c : In_default) → None ≡ line_from false (drop c.lines.at c.args.lines.now)
+last c = rw (take_rest, c.in_default.is) at c.in_ok-len.ensures.line
+
+rows_are : (c : After-of_columns) → None ≡ line_from false (drop c.lines.at c.args.lines.now) → inserted_rows c.args.types.now c.args.lines.now c.args.ended ≡ Ok c.of_columns.result.rows
+rows_are c none =
+    let text = drop c.lines.at c.args.lines.now in
+    lines_end c.args.types.now c.args.lines.now c.args.ended text c.lines.columns.items c.lines.count c.lines.invariant.kept c.if-not-ended.false none
+    ∙ ap (λ (g : Grid). Ok g.rows) (sym c.of_columns.ensures)
+
+pub returns-clause-rows : goal.returns-clause-rows
+returns-clause-rows c = rows_are (goal.at.returns-clause-rows c).After-of_columns (last (goal.at.returns-clause-rows c).In_default)
+
+pub returns-clause-values : goal.returns-clause-values
+returns-clause-values c =
+    let types = c.args.types.now in
+    let lines = c.args.lines.now in
+    let bytes : AreBytes lines = All-from_get_or (λ (b : ℕ). b < 2 ^ 8) lines 0 (λ i h. omega (arith, c.type_inv.lines i)) in
+    if_ok AreValues (inserted_rows types lines c.args.ended) c.of_columns.result.rows (rows_are (goal.at.returns-clause-values c).After-of_columns (last (goal.at.returns-clause-values c).In_default)) (inserted_values types lines c.args.ended bytes)

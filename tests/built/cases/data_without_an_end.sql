@@ -1,0 +1,3 @@
+CREATE TABLE w (a UInt8) ENGINE = MergeTree ORDER BY a;
+INSERT INTO w;
+1

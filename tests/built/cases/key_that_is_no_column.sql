@@ -1,0 +1,1 @@
+CREATE TABLE z (k UInt8) ENGINE = MergeTree ORDER BY j;
