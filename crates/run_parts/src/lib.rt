@@ -1,4 +1,4 @@
-//! Tests of the crates below the program, through their public calls.
+//! Tests of blocks, files, disks and definitions, through the public calls of their crates.
 #![tactic(auto)]
 
 #[cfg(test)]
@@ -11,9 +11,5 @@ mod crashes;
 mod digests;
 #[cfg(test)]
 mod examples;
-#[cfg(test)]
-mod rows;
-#[cfg(test)]
-mod statements;
 #[cfg(test)]
 mod variants;

@@ -1,9 +1,9 @@
 // Bytes that differ from sound ones by one byte: each is refused, or is just what its reading is spelled as.
 use crate::columns::file;
 use crate::digests::{ENTRY, MANIFEST};
+use byte_variants::variant;
 use column_file::{FormatFault, decode_column};
 use digest_file::{entry_bytes, manifest_bytes, read_entry, read_manifest};
-use mt_base::NoMemory;
 use mt_values::{ColType, all_places};
 use part_name::{parse, text};
 use std::alloc::Global;
@@ -18,22 +18,6 @@ enum Kind {
     Entry,
     Manifest,
     PartName,
-}
-
-/// The bytes with another byte at a place, or one more at their end; without a byte, cut off at the place.
-pub(crate) fn variant(
-    alloc: Global,
-    bytes: &[u8],
-    at: usize,
-    byte: Option<u8>,
-) -> Result<Vec<u8>, NoMemory> {
-    let (front, back) = bytes.split_at(at.min(bytes.len()));
-    let mut changed = Vec::from_slice(alloc, front)?;
-    if let Some(byte) = byte {
-        changed.push(byte)?;
-        changed.extend_from_slice(back.get(1..).unwrap_or(&[]))?;
-    }
-    Ok(changed)
 }
 
 /// The bytes that what is read of these bytes is spelled as.

@@ -1,8 +1,6 @@
-//! Tests of whole runs, over the outside in memory.
+//! Tests of what whole runs print, over the outside in memory.
 #![tactic(auto)]
 
-#[cfg(test)]
-mod outside;
 #[cfg(test)]
 mod refused;
 #[cfg(test)]

@@ -517,12 +517,3 @@ pub const BEHIND: [Case; 45] = [
         1,
     ),
 ];
-
-/// What makes a table of a number and a text.
-pub const TABLE: &[u8] = b"CREATE TABLE t (a UInt8, s String) ENGINE = MergeTree ORDER BY a;";
-
-/// A table of a number and a text, one INSERT and one SELECT, and what they print.
-pub const PLAIN: (&[u8], &[u8]) = (
-    b"CREATE TABLE t (a UInt8, s String) ENGINE = MergeTree ORDER BY a;\nINSERT INTO t;\n2\tb\n1\ta\n\\.\nSELECT * FROM t;\n",
-    b"OK 1\nOK 2\nROWS 2 PREFIX 2\n1\ta\n2\tb\n",
-);

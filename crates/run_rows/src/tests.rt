@@ -1,5 +1,3 @@
-// Whole runs: their replies, their status, and what they leave where the outside fails.
-mod bounds;
+// Whole runs: what they print, and what they print of scripts that differ by one byte.
 mod changes;
-mod faults;
 mod replies;

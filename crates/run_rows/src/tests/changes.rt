@@ -1,9 +1,8 @@
 // What a script prints that differs from a sound one by one byte.
-use crate::outside::{calm, run_streams};
+use byte_variants::variant;
 use digest_file::mark_of;
-use mt_base::NoMemory;
 use mt_values::FileMark;
-use std::alloc::Global;
+use run_memory::{calm, run_streams};
 use std::test::Fail;
 
 /// A table, an INSERT and a SELECT.
@@ -21,24 +20,13 @@ const PRINTED: FileMark = FileMark {
     ],
 };
 
-/// The bytes with another byte at a place, or one more at their end; without a byte, cut off at the place.
-fn changed(alloc: Global, bytes: &[u8], at: usize, byte: Option<u8>) -> Result<Vec<u8>, NoMemory> {
-    let (front, back) = bytes.split_at(at.min(bytes.len()));
-    let mut changed = Vec::from_slice(alloc, front)?;
-    if let Some(byte) = byte {
-        changed.push(byte)?;
-        changed.extend_from_slice(back.get(1..).unwrap_or(&[]))?;
-    }
-    Ok(changed)
-}
-
 #[test]
 fn scripts_that_differ_by_a_byte_print_what_is_known(rt: HostRuntime) -> Result<(), Fail> {
     let alloc = rt.alloc();
     let mut printed = Vec::new(alloc);
     for at in 0..=SCRIPT.len() {
         for number in 0..=256u16 {
-            let script = changed(alloc, SCRIPT, at, u8::try_from(number).ok())?;
+            let script = variant(alloc, SCRIPT, at, u8::try_from(number).ok())?;
             let ended = run_streams(&rt, alloc, calm(&script))?;
             printed.extend_from_slice(&ended.written)?;
             printed.push(b'0'.saturating_add(ended.status))?;

@@ -1,9 +1,9 @@
 // What scripts print, however they are read and written, and that the plain program prints the same.
-use crate::outside::{Ended, Streams, calm, run_streams, shown};
 use crate::refused::{LONG_NAME, LONGEST_NAME, TEXTS};
-use crate::scripts::{BEHIND, KNOWN, NOTHING, PLAIN, ROWS};
+use crate::scripts::{BEHIND, KNOWN, NOTHING, ROWS};
 use mt_outside::Disk;
 use mt_values::{Cause, Statement};
+use run_memory::{Ended, PLAIN, Streams, calm, run_streams, shown};
 use sql_read::{Next, next_statement};
 use std::alloc::Global;
 use std::process::Abort;

@@ -1,8 +1,7 @@
 // What is refused past a bound, and accepted up to it.
-use crate::outside::words;
-use crate::scripts::TABLE;
 use disk_mem::{CountedAnnals, MemDisk, MemSink, MemSource, OpenGate};
 use mt_program::run;
+use run_memory::{TABLE, words};
 use std::alloc::{AllocError, Global};
 use std::process::Abort;
 use std::sync::Wait;

@@ -1,9 +1,8 @@
 // What runs leave where the outside fails, where the root has names, and where the words are no command line.
-use crate::outside::{Streams, calm, run_over, run_streams, run_words, words};
-use crate::scripts::PLAIN;
 use disk_mem::{CallKind, Listed, MemDisk};
 use mt_base::Seq;
 use mt_outside::{Arm, Disk};
+use run_memory::{PLAIN, Streams, calm, run_over, run_streams, run_words, words};
 use std::alloc::Global;
 use std::process::Abort;
 use std::sync::Wait;

@@ -1,4 +1,6 @@
-// Runs over the outside in memory, and what they leave.
+//! Runs over the outside in memory, and what they leave, for the tests of whole runs.
+#![tactic(auto)]
+
 use disk_mem::{KeptAnnals, MemDisk, MemSink, MemSource, OpenGate};
 use mt_program::run;
 use mt_values::Entry;
@@ -7,9 +9,18 @@ use std::sync::Wait;
 use std::test::Fail;
 use std::thread::Threads;
 
+/// What makes a table of a number and a text.
+pub const TABLE: &[u8] = b"CREATE TABLE t (a UInt8, s String) ENGINE = MergeTree ORDER BY a;";
+
+/// A table of a number and a text, one INSERT and one SELECT, and what they print.
+pub const PLAIN: (&[u8], &[u8]) = (
+    b"CREATE TABLE t (a UInt8, s String) ENGINE = MergeTree ORDER BY a;\nINSERT INTO t;\n2\tb\n1\ta\n\\.\nSELECT * FROM t;\n",
+    b"OK 1\nOK 2\nROWS 2 PREFIX 2\n1\ta\n2\tb\n",
+);
+
 /// How a run is given its script, and how its replies are taken.
 #[derive(Clone, Copy)]
-pub(crate) struct Streams<'a> {
+pub struct Streams<'a> {
     pub script: &'a [u8],
     /// Whether each read gives one byte, and each write takes one.
     pub by_bytes: bool,
@@ -19,7 +30,7 @@ pub(crate) struct Streams<'a> {
 }
 
 /// Streams that read and write whole pieces and do not fail.
-pub(crate) fn calm(script: &[u8]) -> Streams<'_> {
+pub fn calm(script: &[u8]) -> Streams<'_> {
     Streams {
         script,
         by_bytes: false,
@@ -30,7 +41,7 @@ pub(crate) fn calm(script: &[u8]) -> Streams<'_> {
 
 /// What a run leaves.
 #[derive(Drop)]
-pub(crate) struct Ended {
+pub struct Ended {
     pub status: u8,
     pub written: Vec<u8>,
     /// The accepted commands, each as it is shown for debugging.
@@ -40,21 +51,21 @@ pub(crate) struct Ended {
 
 impl Ended {
     /// Whether it wrote and accepted the same.
-    pub(crate) fn is_like(&self, other: &Ended) -> bool {
+    pub fn is_like(&self, other: &Ended) -> bool {
         self.status == other.status
             && self.written == other.written
             && self.history == other.history
     }
 
     /// Whether what it wrote and what it accepted are fronts of what another run did.
-    pub(crate) fn is_front_of(&self, other: &Ended) -> bool {
+    pub fn is_front_of(&self, other: &Ended) -> bool {
         other.written.as_slice().starts_with(&self.written)
             && other.history.as_slice().starts_with(&self.history)
     }
 }
 
 /// The words, as the command line has them.
-pub(crate) fn words(alloc: Global, texts: &[&str]) -> Result<Vec<String>, AllocError> {
+pub fn words(alloc: Global, texts: &[&str]) -> Result<Vec<String>, AllocError> {
     let mut words = Vec::new(alloc);
     for text in texts {
         words.push(format!(in alloc; "{text}")?)?;
@@ -63,7 +74,7 @@ pub(crate) fn words(alloc: Global, texts: &[&str]) -> Result<Vec<String>, AllocE
 }
 
 /// The commands, each as it is shown for debugging.
-pub(crate) fn shown(alloc: Global, entries: &[Entry]) -> Result<Vec<String>, AllocError> {
+pub fn shown(alloc: Global, entries: &[Entry]) -> Result<Vec<String>, AllocError> {
     let mut texts = Vec::new(alloc);
     for entry in entries {
         texts.push(format!(in alloc; "{entry:?}")?)?;
@@ -85,7 +96,7 @@ fn pieces(alloc: Global, streams: Streams<'_>) -> Result<Vec<Vec<u8>>, AllocErro
 }
 
 /// Runs these words.
-pub(crate) fn run_words<R: Threads + Wait + Sync>(
+pub fn run_words<R: Threads + Wait + Sync>(
     rt: &R,
     alloc: Global,
     words: &[String],
@@ -121,7 +132,7 @@ pub(crate) fn run_words<R: Threads + Wait + Sync>(
 }
 
 /// Runs over a disk.
-pub(crate) fn run_over<R: Threads + Wait + Sync>(
+pub fn run_over<R: Threads + Wait + Sync>(
     rt: &R,
     alloc: Global,
     streams: Streams<'_>,
@@ -132,7 +143,7 @@ pub(crate) fn run_over<R: Threads + Wait + Sync>(
 }
 
 /// Runs over an empty disk of which no call fails.
-pub(crate) fn run_streams<R: Threads + Wait + Sync>(
+pub fn run_streams<R: Threads + Wait + Sync>(
     rt: &R,
     alloc: Global,
     streams: Streams<'_>,

@@ -1,5 +1,5 @@
 // Lines that are rows, lines that are none, and rows as lines.
-use crate::variants::variant;
+use byte_variants::variant;
 use digest_file::mark_of;
 use mt_base::{NoMemory, Seq};
 use mt_values::{Block, ColType, Column, DataFault, FileMark, RowFault, Schema, Value};
