@@ -27,3 +27,8 @@ pub record IsFirstFault (t : ColType) (count : ℕ) (bytes : List ℕ) (place : 
 abbrev pub Explains : ColType → ℕ → List ℕ → FormatFault → Type 0
 Explains t count bytes NoMemory = ⊤
 Explains t count bytes (Malformed place) = IsFirstFault t count bytes place
+
+-- the error is the first fault of the bytes, and no want of memory
+abbrev pub Locates : ColType → ℕ → List ℕ → FormatFault → Type 0
+Locates t count bytes NoMemory = ⊥
+Locates t count bytes (Malformed place) = IsFirstFault t count bytes place

@@ -1,3 +1,4 @@
 pub mod Faults
 pub mod Granules
 pub mod Spellings
+pub mod Tests

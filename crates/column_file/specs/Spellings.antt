@@ -17,6 +17,11 @@ pub record IsSpelling (t : ColType) (count : ℕ) (bytes : List ℕ) (values : L
   pub count_is : length values ≡ count
   pub spelled : bytes ≡ column_bytes values
 
+-- the bytes are those of some values of the type, so many of them
+pub record Spells (t : ColType) (count : ℕ) (bytes : List ℕ) : Type 0 where
+  pub values : List Value
+  pub spelling : IsSpelling t count bytes values
+
 -- the bytes are those of these values of the type, and then the rest
 pub record IsFront (t : ColType) (bytes : List ℕ) (values : List Value) (rest : List ℕ) : Type 0 where
   pub typed : All (IsOfType t) values

@@ -1,5 +1,5 @@
 // Single values: their bytes, and the value that bytes begin with.
-ghost use Rattle.std.specs.Prelude.{◌≡◌, ◌≤◌, ◌++◌, MatchOption, OnOk, length, take};
+ghost use Rattle.std.specs.Prelude.{◌≡◌, ◌<◌, ◌≤◌, ◌++◌, MatchOption, OnOk, length, take};
 ghost use Rattle.std.specs.Int.{w16, w32, w64, to_le_bytes};
 ghost use Rattle.mt_values.specs.Cells.{value_of};
 ghost use Rattle.mt_values.specs.ColumnBytes.{leb128, value_bytes};
@@ -149,9 +149,10 @@ fn front<const N: usize>(bytes: &[u8]) -> [u8; N]
     front
 }
 
-/// The fewest bytes that a value of the type takes.
-fn fewest_bytes(col_type: ColType) -> usize
-    ensures { result ≡ fewest_bytes col_type }
+/// The fewest bytes that a value of the type takes, which are at least one. A number of the type takes no more.
+pub fn fewest_bytes(col_type: ColType) -> usize
+    ensures bytes { result ≡ fewest_bytes col_type }
+    ensures some { 0 < result }
 {
     match col_type {
         ColType::UInt8 | ColType::Int8 | ColType::Text => 1,

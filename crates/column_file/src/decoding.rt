@@ -79,7 +79,7 @@ pub fn decode_granule(
 /// The value that begins at a place of the bytes, and how many bytes spell it.
 ///
 /// `Malformed` at the place where no value of the type begins there.
-fn cell_at(col_type: ColType, bytes: &[u8], at: usize) -> Result<(Cell<'_>, usize), FormatFault>
+pub fn cell_at(col_type: ColType, bytes: &[u8], at: usize) -> Result<(Cell<'_>, usize), FormatFault>
     requires { at ≤ length bytes.now }
     ensures { MatchResult result (λ p. IsOfType col_type (value_of p.0) × Begins (value_bytes (value_of p.0)) p.1 (drop at bytes.now))
         (λ e. (e ≡ FormatFault.Malformed at) × NoneBegins col_type (drop at bytes.now)) }
@@ -90,7 +90,7 @@ fn cell_at(col_type: ColType, bytes: &[u8], at: usize) -> Result<(Cell<'_>, usiz
 /// Nothing, where the bytes end at the place.
 ///
 /// `Malformed` at the place where they go on.
-fn end_at(bytes: &[u8], at: usize) -> Result<(), FormatFault>
+pub fn end_at(bytes: &[u8], at: usize) -> Result<(), FormatFault>
     ensures { MatchResult result (λ _. length bytes.now ≤ at) (λ e. (e ≡ FormatFault.Malformed at) × (at < length bytes.now)) }
 {
     if at < bytes.len() {

@@ -12,7 +12,8 @@ use Rattle.column_file.specs.declared.faults.FormatFault.TheVariants.{NoMemory, 
 use Rattle.digest_file.specs.Faults.{AreBytes, BeginsSome, IsFirstFault, Locates}
 use Rattle.digest_file.specs.Frames.{Fit, IsFrame, IsFrameOf, MissesDigest, Opens, PartAt, framed}
 use Rattle.digest_file.proofs.FirstFaults.{begins_front, fault_at}
-use Rattle.digest_file.proofs.Pieces.{bytes_right, fronts_apart, item_in_front, item_behind, longer_has, number_of_4, sha256_bytes}
+use Rattle.column_file.proofs.Numbers.{number_of_4}
+use Rattle.digest_file.proofs.Pieces.{bytes_right, fronts_apart, item_in_front, item_behind, longer_has, sha256_bytes}
 
 regroup : (a b c d : List ℕ) → a ++ b ++ c ++ d ≡ a ++ (b ++ (c ++ d))
 regroup a b c d = simp append_assoc

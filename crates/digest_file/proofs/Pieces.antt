@@ -1,11 +1,9 @@
 -- Pieces of lists, and the bytes that they are.
-use Rattle.std.proofs.Common.{◌≡◌, ℕ, zero, suc, ◌+◌, ◌^◌, ◌<◌, ◌≤◌, List, [], ◌∷◌, ◌++◌, refl, sym, ap, ◌∙◌, subst, length, take, drop, get_or, slice_get, Some, None, arith, inl, inr, ◌⊎◌, Fits, w8}
-use Rattle.std.proofs.lemmas.Bool.{cases_lt}
-use Rattle.std.proofs.lemmas.List.{take_at, drop_at, get_or_past, take-append-le}
-use Rattle.std.proofs.lemmas.List.Elements.{All-nil, All-cons, All-append, All-drop, All-from_get_or, All-get_or, All-take}
-use Rattle.std.proofs.lemmas.Nat.{le_bytes_4, le_bytes_8}
+use Rattle.std.proofs.Common.{◌≡◌, ℕ, zero, suc, ◌+◌, ◌<◌, List, [], ◌∷◌, ◌++◌, refl, sym, ap, ◌∙◌, subst, length, take, drop, get_or, slice_get, Some, None, arith}
+use Rattle.std.proofs.lemmas.List.{take_at, drop_at, take-append-le}
+use Rattle.std.proofs.lemmas.List.Elements.{All-nil, All-cons, All-append, All-drop, All-take}
 use Rattle.std.proofs.lemmas.Option.{slice_get-get_or, slice_get_past}
-use Rattle.std.specs.Int.{w32, w64, to_le_bytes, to_be_bytes, from_le_bytes, byte_at}
+use Rattle.std.specs.Int.{w32, to_be_bytes, byte_at}
 use Rattle.std.specs.Prelude.{slice_index}
 use Rattle.sha2.specs.Sha256.{sha256, digest_bytes, final_hash, initial_hash_256}
 use Rattle.digest_file.specs.Faults.{AreBytes}
@@ -45,47 +43,6 @@ goes_on t whole n size longer e = record {
 }
 
 -- ---- bytes
-
-pub are_bytes : (bs : List ℕ) → ((i : ℕ) → Fits w8 (get_or bs i 0)) → AreBytes bs
-are_bytes bs each = All-from_get_or (λ b. b < 256) bs 0 (λ i h. (each i).fits)
-
-pub each_byte : (bs : List ℕ) → AreBytes bs → (i : ℕ) → get_or bs i 0 < 256
-each_byte bs h i = either (cases_lt i (length bs))
-  where
-    either : (i < length bs) ⊎ (length bs ≤ i) → get_or bs i 0 < 256
-    either (inl k) = All-get_or (λ b. b < 256) bs i 0 k h
-    either (inr k) = omega (arith, get_or_past bs i 0 k)
-
--- four bytes are a number's, and eight are
-small_4 : (bs : List ℕ) → length bs ≡ 4 → ((i : ℕ) → get_or bs i 0 < 256) → from_le_bytes w32 bs < 2 ^ 32
-small_4 [] size each = absurd (omega arith)
-small_4 (a ∷ []) size each = absurd (omega arith)
-small_4 (a ∷ b ∷ []) size each = absurd (omega arith)
-small_4 (a ∷ b ∷ c ∷ []) size each = absurd (omega arith)
-small_4 (a ∷ b ∷ c ∷ d ∷ []) size each = omega (arith, each 0, each 1, each 2, each 3)
-small_4 (a ∷ b ∷ c ∷ d ∷ x ∷ xs) size each = absurd (omega arith)
-
-small_8 : (bs : List ℕ) → length bs ≡ 8 → ((i : ℕ) → get_or bs i 0 < 256) → from_le_bytes w64 bs < 2 ^ 64
-small_8 [] size each = absurd (omega arith)
-small_8 (a ∷ []) size each = absurd (omega arith)
-small_8 (a ∷ b ∷ []) size each = absurd (omega arith)
-small_8 (a ∷ b ∷ c ∷ []) size each = absurd (omega arith)
-small_8 (a ∷ b ∷ c ∷ d ∷ []) size each = absurd (omega arith)
-small_8 (a ∷ b ∷ c ∷ d ∷ e ∷ []) size each = absurd (omega arith)
-small_8 (a ∷ b ∷ c ∷ d ∷ e ∷ f ∷ []) size each = absurd (omega arith)
-small_8 (a ∷ b ∷ c ∷ d ∷ e ∷ f ∷ g ∷ []) size each = absurd (omega arith)
-small_8 (a ∷ b ∷ c ∷ d ∷ e ∷ f ∷ g ∷ h ∷ []) size each = omega (arith, each 0, each 1, each 2, each 3, each 4, each 5, each 6, each 7)
-small_8 (a ∷ b ∷ c ∷ d ∷ e ∷ f ∷ g ∷ h ∷ x ∷ xs) size each = absurd (omega arith)
-
-pub number_of_4 : (bs : List ℕ) → length bs ≡ 4 → AreBytes bs → (n : ℕ) × (n < 2 ^ 32) × (to_le_bytes w32 n ≡ bs)
-number_of_4 bs size are =
-    let each = each_byte bs are in
-    (from_le_bytes w32 bs, small_4 bs size each, le_bytes_4 bs (from_le_bytes w32 bs) size each refl)
-
-pub number_of_8 : (bs : List ℕ) → length bs ≡ 8 → AreBytes bs → (n : ℕ) × (n < 2 ^ 64) × (to_le_bytes w64 n ≡ bs)
-number_of_8 bs size are =
-    let each = each_byte bs are in
-    (from_le_bytes w64 bs, small_8 bs size each, le_bytes_8 bs (from_le_bytes w64 bs) size each refl)
 
 -- what is joined to bytes is bytes
 pub bytes_left : (xs ys : List ℕ) → AreBytes (xs ++ ys) → AreBytes xs

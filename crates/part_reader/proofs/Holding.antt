@@ -8,6 +8,7 @@ use Rattle.std.proofs.lemmas.List.Elements.{All-nil, All-cons, All-head, All-tai
 use Rattle.std.proofs.lemmas.List.FromFn.{length-range_with_len, get_or-range_with_len}
 use Rattle.std.proofs.lemmas.Option.{get_or_from_slice_get, slice_get-get_or, slice_get-map, slice_get_within}
 use Rattle.std.proofs.lemmas.Slice.Zip.{AllZip-right}
+use Rattle.sha2.specs.Sha256.{sha256}
 use Rattle.mt_values.specs.declared.manifest.FileMark.{FileMark}
 use Rattle.mt_values.specs.declared.manifest.Manifest.{Manifest}
 use Rattle.mt_values.specs.declared.name.FileId.{FileId}
@@ -19,6 +20,7 @@ use Rattle.mt_values.specs.declared.value.ColType.TheVariants as type
 use Rattle.mt_values.specs.declared.value.Value.{Value}
 use Rattle.mt_values.specs.Files.{same_file}
 use Rattle.mt_values.specs.Grid.{AreRowsOf, Cells, HaveTypeAt, column_of}
+use Rattle.mt_values.specs.Manifests.{manifest_bytes}
 use Rattle.mt_values.specs.Values.{FitsType, Row, types_of}
 use Rattle.mt_values.proofs.Grids.{All-range, HaveTypeAt-typed, type_at}
 use Rattle.mt_values.proofs.OrderBy.{length_column}
@@ -46,8 +48,13 @@ column_at rows a (suc n) i behind low high = either (same_file (file.Column a) (
         let other : a ≡ i → ⊥ = eqb-false a i e in
         simp e (rest (omega arith) (omega arith))
 
--- its mark
-mark_at : (rows : List Row) (n i : ℕ) → i < n → slice_get (map (λ column. mark_of (column_file_bytes rows column)) (range_with_len 0 n)) i ≡ Some (mark_of (column_file_bytes rows i))
+-- and those of the manifest behind them
+pub manifest_at : (rows : List Row) (width a n : ℕ) → bytes_of file.Manifest (map (column_file rows) (range_with_len a n) ++ manifest_file width rows ∷ []) ≡ manifest_bytes sha256 (manifest_of width rows)
+manifest_at rows width a zero = refl
+manifest_at rows width a (suc n) = manifest_at rows width (a + 1) n
+
+-- the mark of the file of a column
+pub mark_at : (rows : List Row) (n i : ℕ) → i < n → slice_get (map (λ column. mark_of (column_file_bytes rows column)) (range_with_len 0 n)) i ≡ Some (mark_of (column_file_bytes rows i))
 mark_at rows n i below =
     slice_get-map (λ column. mark_of (column_file_bytes rows column)) (range_with_len 0 n) i
     ∙ ap (option_map (λ column. mark_of (column_file_bytes rows column)))

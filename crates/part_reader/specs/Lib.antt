@@ -1,3 +1,6 @@
 pub mod Columns
+pub mod Damage
+pub mod DamagedFile
 pub mod Faults
 pub mod Parts
+pub mod Sound

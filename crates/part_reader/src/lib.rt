@@ -1,11 +1,15 @@
-//! The parts of tables, read back: each file by its mark in the manifest.
+//! The parts of tables, opened, checked and read back: each file by its mark in the manifest.
 #![tactic(auto)]
 
+mod checking;
 mod files;
 mod laws;
 mod marked;
+mod opening;
 mod reading;
 
+pub use checking::check_part;
 pub use files::read_file;
-pub use laws::parts_hold_what_was_written;
+pub use laws::{damage_is_one_file, parts_hold_what_was_written, sound_parts_hold_rows};
+pub use opening::open_part;
 pub use reading::{NO_MARK, Part, PartFault, read_columns};

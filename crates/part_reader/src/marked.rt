@@ -1,5 +1,6 @@
 // Bytes that a manifest has a mark of.
-ghost use Rattle.std.specs.Prelude.{◌≡◌, IfErr, OnOk, Some, slice_get};
+ghost use Rattle.std.specs.Prelude.{◌≡◌, IfErr, MatchResult, OnOk, Some, slice_get};
+ghost use Rattle.mt_values.specs.declared.value.ColType.{ColType};
 ghost use Rattle.column_file.specs.Spellings.{GainsAll};
 ghost use Rattle.part_writer.specs.PartFiles.{mark_of};
 ghost use Rattle.part_reader.specs.Faults.{ExplainsBytes};
@@ -23,6 +24,26 @@ pub fn add_values(
     ensures gained { OnOk result (GainsAll manifest.now.rows bytes.now column.old column.new) }
     ensures damaged { IfErr result (ExplainsBytes manifest.now number column.old.col_type bytes.now) }
 {
+    let mark = mark_found(manifest, number, bytes)?;
+    match decode_onto(column, bytes, manifest.rows as usize) {
+        Ok(()) => Ok(()),
+        Err(FormatFault::NoMemory) => Err(PartFault::NoMemory),
+        Err(FormatFault::Malformed { place }) => Err(PartFault::Damaged {
+            file: FileId::Column(number),
+            place,
+            wanted: mark,
+            found: mark,
+        }),
+    }
+}
+
+/// The mark of the bytes, where the manifest has it for the file of the part's column with this number.
+///
+/// `Damaged` at 0 where the manifest has another, or none. It is nothing else.
+pub fn mark_found(manifest: &Manifest, number: u32, bytes: &[u8]) -> Result<FileMark, PartFault>
+    ensures { MatchResult result (λ mark. (mark ≡ mark_of bytes.now) × (slice_get manifest.now.files number ≡ Some (mark_of bytes.now)))
+        (λ e. (t : ColType) → ExplainsBytes manifest.now number t bytes.now e) }
+{
     let file = FileId::Column(number);
     let found = mark_of(bytes);
     let Some(wanted) = mark_at(manifest, number) else {
@@ -41,16 +62,7 @@ pub fn add_values(
             found,
         });
     }
-    match decode_onto(column, bytes, manifest.rows as usize) {
-        Ok(()) => Ok(()),
-        Err(FormatFault::NoMemory) => Err(PartFault::NoMemory),
-        Err(FormatFault::Malformed { place }) => Err(PartFault::Damaged {
-            file,
-            place,
-            wanted,
-            found,
-        }),
-    }
+    Ok(found)
 }
 
 /// The mark that the manifest has of the file of a column.

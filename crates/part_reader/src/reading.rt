@@ -57,11 +57,13 @@ pub enum PartFault {
     NoMemory,
     /// A file does not have the mark that the manifest has of it, or the manifest has none of it. The place is 0 then.
     /// Or it has its mark, and its bytes are no spelling of the part's rows: from this place on, counted from 0, they go wrong.
+    /// Or it is `manifest.bin`, and its bytes are no manifest of as many files as the table has columns: at this place they go wrong,
+    /// or the number of files stands.
     #[error("a file of the part is damaged at byte {place}")]
     Damaged {
         file: FileId,
         place: u64,
-        /// The mark of the manifest, or `NO_MARK` where it has none.
+        /// The mark of the manifest, or `NO_MARK` where it has none, as of itself.
         wanted: FileMark,
         /// The mark of the bytes that were read.
         found: FileMark,

@@ -1,0 +1,16 @@
+pub mod Dots
+pub mod GroupSteps
+pub mod Inserts
+pub mod Items
+pub mod Keywords
+pub mod Maps
+pub mod NameParts
+pub mod NamePlaces
+pub mod NameTexts
+pub mod Orders
+pub mod Orphans
+pub mod Pairs
+pub mod PassOrder
+pub mod Passes
+pub mod Showings
+pub mod Visibles

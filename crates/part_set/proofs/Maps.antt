@@ -1,0 +1,62 @@
+-- What a set has of a table after one table's shelf was changed.
+use Rattle.std.proofs.Common.{◌≡◌, ◌≢◌, ℕ, ◌<◌, Bool, true, false, List, Option, refl, sym, ap, ◌∙◌, subst, inl, inr, ◌⊎◌}
+use Rattle.std.specs.BTreeMap.{BTreeMap, UpdatesBy, get, is_at}
+use Rattle.std.specs.Cmp.{Equal-is}
+use Rattle.std.specs.Cmp.Lexicographic.{slice_cmp}
+use Rattle.std.specs.Ordering.{nat_cmp}
+use Rattle.std.proofs.lemmas.Bool.{false_from_ne_true}
+use Rattle.std.proofs.lemmas.Map.Lookups.{exact_bytes}
+use Rattle.part_set.specs.declared.kept.Kept.{Kept}
+use Rattle.part_set.specs.Parts.{IsInBlockOrder}
+use Rattle.part_set.specs.Shelf.{Shelf}
+use Rattle.part_set.specs.Sets.{parts_on, room_on}
+
+pub true_or_false : (b : Bool) → (b ≡ true) ⊎ (b ≡ false)
+true_or_false true = inl refl
+true_or_false false = inr refl
+
+-- the key that a query finds is the name that is asked for
+pub found_is : (table t : List ℕ) → is_at (slice_cmp nat_cmp table) t ≡ true → table ≡ t
+found_is table t is = exact_bytes table t ((Equal-is (slice_cmp nat_cmp table t)).0 is)
+
+module _ {P : Type 0} (old new : BTreeMap (List ℕ) (Shelf P)) (table : List ℕ) (w : Option (Shelf P)) (updates : UpdatesBy (slice_cmp nat_cmp) (slice_cmp nat_cmp table) old new w) where
+  -- another table keeps its shelf
+  pub other_shelf : (t : List ℕ) → t ≢ table → get (slice_cmp nat_cmp) new t ≡ get (slice_cmp nat_cmp) old t
+  other_shelf t apart = updates.2 t (false_from_ne_true (is_at (slice_cmp nat_cmp table) t) (λ is. apart (sym (found_is table t is))))
+
+  -- and its parts
+  pub other_parts : (t : List ℕ) → t ≢ table → parts_on (get (slice_cmp nat_cmp) new t) ≡ parts_on (get (slice_cmp nat_cmp) old t)
+  other_parts t apart = ap parts_on (other_shelf t apart)
+
+  -- and its room
+  pub other_room : (t : List ℕ) → t ≢ table → 0 < room_on (get (slice_cmp nat_cmp) old t) → 0 < room_on (get (slice_cmp nat_cmp) new t)
+  other_room t apart room = subst (λ (o : Option (Shelf P)). 0 < room_on o) (sym (other_shelf t apart)) room
+
+  -- the changed shelf has what was written
+  pub here_ordered : IsInBlockOrder (parts_on w) → IsInBlockOrder (parts_on (get (slice_cmp nat_cmp) new table))
+  here_ordered ordered = subst (λ (parts : List (Kept P)). IsInBlockOrder parts) (sym (ap parts_on updates.1)) ordered
+
+  -- where the changed shelf has the parts that it had, all tables have
+  pub all_parts : parts_on w ≡ parts_on (get (slice_cmp nat_cmp) old table) → (t : List ℕ) → parts_on (get (slice_cmp nat_cmp) new t) ≡ parts_on (get (slice_cmp nat_cmp) old t)
+  all_parts same t = elim (true_or_false (is_at (slice_cmp nat_cmp table) t)) [
+    | inl here ↦ subst (λ (u : List ℕ). parts_on (get (slice_cmp nat_cmp) new u) ≡ parts_on (get (slice_cmp nat_cmp) old u)) (found_is table t here) (ap parts_on updates.1 ∙ same)
+    | inr other ↦ ap parts_on (updates.2 t other)
+  ]
+
+  -- likewise its room
+  pub all_room : (0 < room_on (get (slice_cmp nat_cmp) old table) → 0 < room_on w) → (t : List ℕ) → 0 < room_on (get (slice_cmp nat_cmp) old t) → 0 < room_on (get (slice_cmp nat_cmp) new t)
+  all_room kept t = elim (true_or_false (is_at (slice_cmp nat_cmp table) t)) [
+    | inl here ↦ subst (λ (u : List ℕ). 0 < room_on (get (slice_cmp nat_cmp) old u) → 0 < room_on (get (slice_cmp nat_cmp) new u)) (found_is table t here) (λ room. subst (λ (o : Option (Shelf P)). 0 < room_on o) (sym updates.1) (kept room))
+    | inr other ↦ λ room. subst (λ (o : Option (Shelf P)). 0 < room_on o) (sym (updates.2 t other)) room
+  ]
+
+module _ {P : Type 0} (base old new : BTreeMap (List ℕ) (Shelf P)) (table key : List ℕ) (w : Option (Shelf P)) where
+  -- a change that is told of an equal map and an equal name
+  pub told_here : old ≡ base → key ≡ table → UpdatesBy (slice_cmp nat_cmp) (slice_cmp nat_cmp key) old new w → UpdatesBy (slice_cmp nat_cmp) (slice_cmp nat_cmp table) base new w
+  told_here maps names updates =
+      subst (λ (k : List ℕ). UpdatesBy (slice_cmp nat_cmp) (slice_cmp nat_cmp k) base new w) names
+      (subst (λ (m : BTreeMap (List ℕ) (Shelf P)). UpdatesBy (slice_cmp nat_cmp) (slice_cmp nat_cmp key) m new w) maps updates)
+
+-- room on an equal shelf
+pub room_same : {P : Type 0} (o p : Option (Shelf P)) → o ≡ p → 0 < room_on p → 0 < room_on o
+room_same {P} o p same room = subst (λ (q : Option (Shelf P)). 0 < room_on q) (sym same) room

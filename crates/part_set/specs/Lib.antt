@@ -1,0 +1,10 @@
+pub mod Clashes
+pub mod Groups
+pub mod NameOrder
+pub mod Parts
+pub mod Passes
+pub mod RootNames
+pub mod Sets
+pub mod Shelf
+pub mod Shows
+pub mod Visible

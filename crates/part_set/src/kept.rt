@@ -1,0 +1,33 @@
+// A part that is kept, and what a reader holds of a table.
+ghost use Rattle.std.specs.Prelude.{◌≡◌};
+
+use mt_base::{NoMemory, Twin};
+use mt_values::Schema;
+use part_name::PartName;
+use std::alloc::Global;
+
+/// The name of a part, and what is kept for it.
+#[derive(Debug, Drop)]
+pub struct Kept<P> {
+    pub name: PartName,
+    pub part: P,
+}
+
+impl<P: Twin> Twin for Kept<P> {
+    fn twin(&self, alloc: Global) -> Result<Self, NoMemory> {
+        Ok(Kept {
+            name: self.name,
+            part: self.part.twin(alloc)?,
+        })
+    }
+}
+
+/// A table as it was when it was pinned: what is added later is not in it.
+#[derive(Debug, Drop)]
+pub struct Snap<P> {
+    pub schema: Schema,
+    /// The table's parts, in block order.
+    pub parts: Vec<Kept<P>>,
+    /// The length of the history.
+    pub length: u64,
+}

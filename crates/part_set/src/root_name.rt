@@ -1,0 +1,96 @@
+// The names of the root.
+ghost use Rattle.std.specs.Prelude.{◌≡◌, ◌++◌, ◌∷◌, List, ℕ, Some, IfOk, IfSome, IfNone, IsTrue, codes};
+ghost use Rattle.mt_values.specs.RootNames.{create_name, part_name};
+ghost use Rattle.part_name.specs.declared.part.PartName.{PartName};
+ghost use Rattle.part_name.specs.PartNames.{IsPartName, part_text};
+ghost use Rattle.part_set.specs.declared.root_name.RootName.{RootName};
+ghost use Rattle.part_set.specs.RootNames.{root_text, is_table, IsRootName, HasNoDot};
+
+use crate::word::is_table;
+use mt_base::{NoMemory, Seq};
+use mt_values::Name;
+use part_name::PartName;
+use std::alloc::Global;
+
+/// A name of the root.
+#[derive(Debug, Drop)]
+pub enum RootName {
+    /// The table with this name.
+    Create(Name),
+    /// This part.
+    Part(TablePart),
+}
+
+/// A part of a table.
+#[derive(Debug, Drop)]
+pub struct TablePart {
+    pub table: Name,
+    pub name: PartName,
+}
+
+// What stands in front of the first dot, and behind it; none where there is no dot.
+#[tactic(auto, using(crate::proofs::Dots::dot_here))]
+fn split(text: &[u8]) -> Option<(&[u8], &[u8])>
+    ensures found { IfSome result (λ p. HasNoDot p.0.now × (p.0.now ++ 46 ∷ p.1.now ≡ text.now)) }
+    ensures none { IfNone result (HasNoDot text.now) }
+{
+    for (at, byte) in text.iter().enumerate() {
+        if *byte == b'.' {
+            return Some((&text[..at], &text[at + 1..]));
+        }
+    }
+    None
+}
+
+// The name of a part behind a table's name and a dot.
+fn part_behind(text: &[u8]) -> Option<PartName>
+    ensures spelled { IfSome result (λ p. IsPartName p × (codes "part_" ++ part_text p ≡ text.now)) }
+    ensures read { (p : PartName) → IsPartName p → codes "part_" ++ part_text p ≡ text.now → result ≡ Some p }
+{
+    part_name::parse(text.strip_prefix(b"part_".as_slice())?)
+}
+
+/// The name that the bytes spell, or none where they spell none.
+///
+/// `NoMemory` where the table's name found no room.
+pub fn read_name(alloc: Global, bytes: &[u8]) -> Result<Option<RootName>, NoMemory>
+    ensures spelled { (name : RootName) → IsRootName name → root_text name ≡ bytes.now
+        → IfOk result (λ found. found ≡ Some name) }
+    ensures read { IfOk result (λ found. IfSome found (λ name. IsRootName name × (root_text name ≡ bytes.now))) }
+{
+    let Some((table, rest)) = split(bytes) else {
+        return Ok(None);
+    };
+    if !is_table(table) {
+        return Ok(None);
+    }
+    if rest == b"create".as_slice() {
+        return Ok(Some(RootName::Create(Seq::from_slice(alloc, table)?)));
+    }
+    let Some(name) = part_behind(rest) else {
+        return Ok(None);
+    };
+    let table = Seq::from_slice(alloc, table)?;
+    Ok(Some(RootName::Part(TablePart { table, name })))
+}
+
+/// The bytes of a name, as `t.create` or `t.part_all_1_1_0`.
+///
+/// `NoMemory` where they found no room.
+pub fn spell_name(alloc: Global, name: &RootName) -> Result<Name, NoMemory>
+    ensures { IfOk result (λ text. text ≡ root_text name.now) }
+{
+    match name {
+        RootName::Create(table) => {
+            let mut text = Seq::from_slice(alloc, table.as_slice())?;
+            text.extend(b".create".as_slice())?;
+            Ok(text)
+        }
+        RootName::Part(part) => {
+            let mut text = Seq::from_slice(alloc, part.table.as_slice())?;
+            text.extend(b".part_".as_slice())?;
+            text.extend(part_name::text(alloc, &part.name)?.as_slice())?;
+            Ok(text)
+        }
+    }
+}

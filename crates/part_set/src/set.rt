@@ -1,0 +1,154 @@
+// The parts of all tables.
+ghost use Rattle.std.specs.Prelude.{◌≡◌, ◌≢◌, ◌↔◌, ℕ, List, [], IfOk, IsOk, OnOk, OnErr, IsTrue};
+ghost use Rattle.part_set.specs.Parts.{AreNeighbours, IsAdded, IsInBlockOrder, NoneMeets};
+ghost use Rattle.part_set.specs.Sets.{HasRoom, parts_of};
+
+use crate::shelf::TableParts;
+use crate::{Kept, Snap};
+use mt_base::{NoMemory, Twin};
+use mt_values::{Name, Schema};
+use part_name::PartName;
+use std::alloc::Global;
+use std::collections::BTreeMap;
+
+/// The parts that are kept of all tables, each table's in block order, of which no two meet.
+#[derive(Drop)]
+pub struct PartSet<P> {
+    tables: BTreeMap<Name, TableParts<P>>,
+}
+
+impl<P> PartSet<P> {
+    /// No parts. Takes no memory.
+    pub fn new(alloc: Global) -> Self
+        ensures { (table : List ℕ) → parts_of result table ≡ [] }
+    {
+        PartSet {
+            tables: BTreeMap::new(alloc),
+        }
+    }
+
+    /// The parts of a table, in block order; none where it has none.
+    pub fn parts(&self, table: &Name) -> &[Kept<P>]
+        ensures parts { result.now ≡ parts_of self.now table.now }
+        ensures ordered { IsInBlockOrder result.now }
+    {
+        match self.tables.get(table) {
+            Some(parts) => parts.as_slice(),
+            None => &[],
+        }
+    }
+
+    /// Whether both parts are of one partition, and no kept part of the table lies between their blocks.
+    pub fn neighbours(&self, table: &Name, a: &PartName, b: &PartName) -> bool
+        ensures { IsTrue result ↔ AreNeighbours (parts_of self.now table.now) a.now b.now }
+    {
+        match self.tables.get(table) {
+            Some(parts) => parts.neighbours(a, b),
+            None => a.partition == b.partition,
+        }
+    }
+}
+
+impl<P: Drop> PartSet<P> {
+    /// Makes room, so that adding one part to the table takes no memory.
+    ///
+    /// `NoMemory` where a growth was refused; the parts stay.
+    pub fn reserve(&mut self, alloc: Global, table: &Name) -> Result<(), NoMemory>
+        ensures parts { (t : List ℕ) → parts_of self.new t ≡ parts_of self.old t }
+        ensures room { OnOk result (HasRoom self.new table.now) }
+        ensures kept { (t : List ℕ) → HasRoom self.old t → HasRoom self.new t }
+    {
+        if let Some(parts) = self.tables.get_mut(table) {
+            return parts.reserve();
+        }
+        let mut parts = TableParts::new(alloc);
+        parts.reserve()?;
+        self.tables.insert(table.twin(alloc)?, parts)?;
+        Ok(())
+    }
+
+    /// Adds a part to a table, at its place. Takes no memory where there is room.
+    ///
+    /// `NoMemory` where a growth was refused; all parts stay as they were.
+    pub fn add(
+        &mut self,
+        alloc: Global,
+        table: &Name,
+        name: PartName,
+        part: P,
+    ) -> Result<(), NoMemory>
+        requires { NoneMeets (parts_of self.old table.now) name }
+        ensures ok { OnOk result (IsAdded (parts_of self.old table.now) (record { name = name; part = part }) (parts_of self.new table.now)) }
+        ensures ordered { OnOk result (IsInBlockOrder (parts_of self.new table.now)) }
+        ensures others { (t : List ℕ) → t ≢ table.now → parts_of self.new t ≡ parts_of self.old t }
+        ensures err { OnErr result ((t : List ℕ) → parts_of self.new t ≡ parts_of self.old t) }
+        ensures room { HasRoom self.old table.now → IsOk result }
+        ensures rooms { (t : List ℕ) → t ≢ table.now → HasRoom self.old t → HasRoom self.new t }
+    {
+        if let Some(parts) = self.tables.get_mut(table) {
+            return parts.add(name, part);
+        }
+        let mut parts = TableParts::new(alloc);
+        parts.add(name, part)?;
+        self.tables.insert(table.twin(alloc)?, parts)?;
+        Ok(())
+    }
+
+    /// The table gets these parts in place of its own.
+    ///
+    /// `NoMemory` where there was none; all parts stay as they were.
+    pub(crate) fn put(
+        &mut self,
+        alloc: Global,
+        table: &Name,
+        parts: TableParts<P>,
+    ) -> Result<(), NoMemory>
+        ensures ok { OnOk result (parts_of self.new table.now ≡ parts.parts) }
+        ensures others { (t : List ℕ) → t ≢ table.now → parts_of self.new t ≡ parts_of self.old t }
+    {
+        self.tables.insert(table.twin(alloc)?, parts)?;
+        Ok(())
+    }
+
+    /// A copy of what is kept of a table, as it is now, with the table's schema and the length of the history.
+    ///
+    /// `NoMemory` where the copy found no room.
+    pub fn pin(
+        &mut self,
+        alloc: Global,
+        table: &Name,
+        schema: &Schema,
+        length: u64,
+    ) -> Result<Snap<P>, NoMemory>
+    where
+        P: Twin,
+        ensures snap { IfOk result (λ s. (s.schema ≡ schema.now) × (s.parts.items ≡ parts_of self.old table.now) × (s.length ≡ length)) }
+        ensures stays { self.new ≡ self.old }
+    {
+        let schema = schema.twin(alloc)?;
+        let parts = twins(alloc, self.parts(table))?;
+        Ok(Snap {
+            schema,
+            parts,
+            length,
+        })
+    }
+
+    /// Lets a pinned table go.
+    pub fn unpin(&mut self, snap: Snap<P>)
+        ensures { self.new ≡ self.old }
+    {
+        drop(snap);
+    }
+}
+
+// Equal copies of parts.
+fn twins<P: Twin>(alloc: Global, parts: &[Kept<P>]) -> Result<Vec<Kept<P>>, NoMemory>
+    ensures { IfOk result (λ v. v.items ≡ parts.now) }
+{
+    let mut copies = Vec::with_capacity(alloc, parts.len())?;
+    for kept in parts {
+        copies.push(kept.twin(alloc)?)?;
+    }
+    Ok(copies)
+}

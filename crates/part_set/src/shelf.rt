@@ -1,0 +1,109 @@
+// The parts of one table.
+ghost use Rattle.std.specs.Prelude.{◌≡◌, ◌<◌, ◌≤◌, ◌↔◌, [], length, IfOk, IsOk, OnOk, OnErr, IsTrue};
+ghost use Rattle.part_set.specs.Parts.{AreNeighbours, IsAdded, IsInBlockOrder, NoneMeets, in_order};
+ghost use Rattle.std.specs.List.{All, AllWithin};
+
+use crate::Kept;
+use crate::order::{in_order, lies_between};
+use mt_base::NoMemory;
+use part_name::PartName;
+use std::alloc::Global;
+use std::marker::Model;
+
+/// The parts of one table, in block order, of which no two meet.
+#[derive(Drop)]
+pub struct TableParts<P> {
+    parts: Vec<Kept<P>>,
+}
+
+impl<P> Model for TableParts<P> {
+    ghost use Rattle.std.specs.Prelude.{◌-◌, length, vec_capacity};
+    ghost use Rattle.part_set.specs.Parts.{IsInBlockOrder};
+    ghost use Rattle.part_set.specs.Shelf.{Shelf};
+
+    ghost Value = { Shelf P };
+
+    ghost view = { λ t. record { parts = t.parts.items; room = vec_capacity t.parts - length t.parts.items } };
+
+    ghost invariant = { λ t. IsInBlockOrder t.parts.items };
+}
+
+// The place of a part among others: behind all that it does not stand in front of.
+fn place_of<P>(parts: &[Kept<P>], name: &PartName) -> usize
+    requires { IsInBlockOrder parts.now }
+    ensures within { result ≤ length parts.now }
+    ensures front { AllWithin (λ kept. IsTrue (in_order kept.name name.now)) parts.now 0 result }
+    ensures back { AllWithin (λ kept. IsTrue (in_order name.now kept.name)) parts.now result (length parts.now) }
+{
+    parts.partition_point(|kept| in_order(&kept.name, name))
+}
+
+impl<P> TableParts<P> {
+    /// No parts. Takes no memory.
+    pub fn new(alloc: Global) -> Self
+        ensures { result.parts ≡ [] }
+    {
+        TableParts {
+            parts: Vec::new(alloc),
+        }
+    }
+
+    /// The parts, in block order.
+    pub fn as_slice(&self) -> &[Kept<P>]
+        ensures parts { result.now ≡ self.now.parts }
+        ensures ordered { IsInBlockOrder self.now.parts }
+    {
+        self.parts.as_slice()
+    }
+
+    /// Makes room for one more part.
+    ///
+    /// `NoMemory` where there was none; the parts stay.
+    pub fn reserve(&mut self) -> Result<(), NoMemory>
+        ensures parts { self.new.parts ≡ self.old.parts }
+        ensures room { OnOk result (0 < self.new.room) }
+        ensures kept { 0 < self.old.room → 0 < self.new.room }
+    {
+        self.parts.reserve(1)?;
+        Ok(())
+    }
+
+    /// Whether both parts are of one partition, and none of these lies between their blocks.
+    pub fn neighbours(&self, a: &PartName, b: &PartName) -> bool
+        ensures { IsTrue result ↔ AreNeighbours self.now.parts a.now b.now }
+    {
+        are_neighbours(self.parts.as_slice(), a, b)
+    }
+}
+
+// Whether both parts are of one partition, and none of these lies between their blocks.
+fn are_neighbours<P>(parts: &[Kept<P>], a: &PartName, b: &PartName) -> bool
+    ensures { IsTrue result ↔ AreNeighbours parts.now a.now b.now }
+{
+    if a.partition != b.partition {
+        return false;
+    }
+    for kept in parts {
+        if lies_between(a, &kept.name, b) || lies_between(b, &kept.name, a) {
+            return false;
+        }
+    }
+    true
+}
+
+impl<P: Drop> TableParts<P> {
+    /// Adds a part at its place. Takes no memory where there is room.
+    ///
+    /// `NoMemory` where the growth was refused; the parts stay.
+    pub fn add(&mut self, name: PartName, part: P) -> Result<(), NoMemory>
+        requires { NoneMeets self.old.parts name }
+        ensures ok { OnOk result (IsAdded self.old.parts (record { name = name; part = part }) self.new.parts) }
+        ensures ordered { OnOk result (IsInBlockOrder self.new.parts) }
+        ensures err { OnErr result (self.new.parts ≡ self.old.parts) }
+        ensures room { 0 < self.old.room → IsOk result }
+    {
+        let place = place_of(self.parts.as_slice(), &name);
+        self.parts.insert(place, Kept { name, part })?;
+        Ok(())
+    }
+}

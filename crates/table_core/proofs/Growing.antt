@@ -1,0 +1,254 @@
+-- Parts that stand for a history, as it grows.
+use Rattle.std.proofs.Common.{◌≡◌, ℕ, ◌+◌, ◌-◌, ◌<◌, ◌≤◌, Bool, true, false, cond, ◌&&◌, List, [], ◌∷◌, ◌++◌, Option, Some, None, length, filter, map, slice_get, refl, sym, ap, ap₂, ◌∙◌, subst, append-nil, length-append, arith, zero, suc, inl, inr, ◌⊎◌}
+use Rattle.std.specs.List.{flat_map, count_by, AllByRecursion}
+use Rattle.std.proofs.lemmas.Bool.{cases_lt}
+use Rattle.std.proofs.lemmas.Bool.Decides.{Decides-eqb}
+use Rattle.std.proofs.lemmas.List.{map-append}
+use Rattle.std.proofs.lemmas.List.Elements.{All-push, All-weaker, recursion_from_All, filter-append}
+use Rattle.std.proofs.lemmas.List.Sums.{sum_by-cons, sum_by_push}
+use Rattle.std.proofs.lemmas.Option.{slice_get_within}
+use Rattle.mt_base.specs.declared.partition.Partition.{Partition}
+use Rattle.mt_base.specs.declared.partition.Partition.TheVariants.{Whole, Number}
+use Rattle.mt_values.specs.declared.command.Command.{Command}
+use Rattle.mt_values.specs.declared.command.Command.TheVariants as command
+use Rattle.mt_values.specs.declared.command.Entry.{Entry}
+use Rattle.mt_values.specs.declared.command.Insert.{Insert}
+use Rattle.mt_values.specs.declared.schema.Schema.{Schema}
+use Rattle.mt_values.specs.Grammar.{same_bytes}
+use Rattle.mt_values.specs.Order.{key_cmp}
+use Rattle.mt_model.specs.History.{History, first_of, schema_by, schema_of}
+use Rattle.mt_model.specs.Live.{live, of_key, sorted}
+use Rattle.mt_model.proofs.Determined.{key_total}
+use Rattle.mt_model.proofs.Sorting.{sorted_rises}
+use Rattle.mt_model.proofs.Tables.{itself_same}
+use Rattle.table_core.specs.declared.part.CorePart.{CorePart}
+use Rattle.table_core.specs.Numbers.{IsInsertOf, draws, is_within, lies_within, numbered, same_partition, within}
+use Rattle.table_core.specs.Parts.{PartStands, TableStands, has_block}
+use Rattle.table_core.specs.Steps.{part_of_insert}
+use Rattle.table_core.proofs.Numbered.{kept, kept_if, live_within, sorted_by}
+use Rattle.table_core.proofs.Ranges.{lies_above, lies_below, lies_inside}
+
+-- ---- lists
+
+pub slice_left : {X : Type 0} (xs ys : List X) (k : ℕ) → k < length xs → slice_get (xs ++ ys) k ≡ slice_get xs k
+slice_left [] ys k lt = absurd (omega arith)
+slice_left (x ∷ xs) ys zero lt = refl
+slice_left (x ∷ xs) ys (suc k) lt = slice_left xs ys k (omega arith)
+
+pub slice_last : {X : Type 0} (xs : List X) (y : X) → slice_get (xs ++ y ∷ []) (length xs) ≡ Some y
+slice_last [] y = refl
+slice_last (x ∷ xs) y = slice_last xs y
+
+-- ---- schemas and numbers
+
+first_of_assoc : {X : Type 0} (a b c : Option X) → first_of a (first_of b c) ≡ first_of (first_of a b) c
+first_of_assoc None b c = refl
+first_of_assoc (Some x) b c = refl
+
+pub schema_more : (t : List ℕ) (h more : History) → schema_of t (h ++ more) ≡ first_of (schema_of t h) (schema_of t more)
+schema_more t [] more = refl
+schema_more t (e ∷ h) more = ap (first_of (schema_by t e.command)) (schema_more t h more) ∙ first_of_assoc (schema_by t e.command) (schema_of t h) (schema_of t more)
+
+-- a table keeps its schema
+pub schema_kept : (t : List ℕ) (h more : History) (schema : Schema) → schema_of t h ≡ Some schema → schema_of t (h ++ more) ≡ Some schema
+schema_kept t h more schema is = schema_more t h more ∙ ap (λ o. first_of o (schema_of t more)) is
+
+pub numbered_more : (t : List ℕ) (h more : History) → numbered t (h ++ more) ≡ numbered t h ++ numbered t more
+numbered_more t h more = ap (filter (draws t)) (map-append (λ (e : Entry). e.command) h more) ∙ filter-append (draws t) (map (λ (e : Entry). e.command) h) (map (λ (e : Entry). e.command) more)
+
+-- a number that was drawn is no greater than they are many
+pub number_drawn : (t : List ℕ) (p : Partition) (n : ℕ) (h : History) → IsInsertOf t p n h → n ≤ length (numbered t h)
+number_drawn t p n h is = let below = slice_get_within (numbered t h) (n - 1) (command.Insert is.insert) is.there in omega (arith, below, is.from_one)
+
+pub insert_kept : (t : List ℕ) (p : Partition) (n : ℕ) (h more : History) → IsInsertOf t p n h → IsInsertOf t p n (h ++ more)
+insert_kept t p n h more is =
+    let below = slice_get_within (numbered t h) (n - 1) (command.Insert is.insert) is.there in
+    record {
+      from_one = is.from_one;
+      insert = is.insert;
+      there = ap (λ cs. slice_get cs (n - 1)) (numbered_more t h more) ∙ (slice_left (numbered t h) (numbered t more) (n - 1) below ∙ is.there);
+      partition_is = is.partition_is;
+    }
+
+pub insert_was : (t : List ℕ) (p : Partition) (n : ℕ) (h more : History) → IsInsertOf t p n (h ++ more) → n ≤ length (numbered t h) → IsInsertOf t p n h
+insert_was t p n h more is upto =
+    let below : n - 1 < length (numbered t h) = omega (arith, is.from_one, upto) in
+    record {
+      from_one = is.from_one;
+      insert = is.insert;
+      there = sym (slice_left (numbered t h) (numbered t more) (n - 1) below) ∙ (sym (ap (λ cs. slice_get cs (n - 1)) (numbered_more t h more)) ∙ is.there);
+      partition_is = is.partition_is;
+    }
+
+-- ---- commands within some numbers
+
+and_false : (b : Bool) → b && false ≡ false
+and_false true = refl
+and_false false = refl
+
+outside : (p : Partition) (a b n : ℕ) (c : Command) → lies_within a b n ≡ false → is_within p a b n c ≡ false
+outside p a b n (command.Create c) is = refl
+outside p a b n (command.Insert i) is = ap (λ w. same_partition i.partition p && w) is ∙ and_false (same_partition i.partition p)
+
+kept_above : (p : Partition) (a b n : ℕ) (cs : List Command) → b < n → kept p a b n cs ≡ []
+kept_above p a b n [] lt = refl
+kept_above p a b n (c ∷ cs) lt = ap (λ s. kept_if s c (kept p a b (n + 1) cs)) (outside p a b n c (lies_above a b n lt)) ∙ kept_above p a b (n + 1) cs (omega arith)
+
+kept_below : (p : Partition) (a b n : ℕ) (cs : List Command) → n + length cs ≤ a → kept p a b n cs ≡ []
+kept_below p a b n [] le = refl
+kept_below p a b n (c ∷ cs) le = ap (λ s. kept_if s c (kept p a b (n + 1) cs)) (outside p a b n c (lies_below a b n (omega (arith, le)))) ∙ kept_below p a b (n + 1) cs (omega (arith, le))
+
+if_front : (s : Bool) (c : Command) (xs ys : List Command) → kept_if s c (xs ++ ys) ≡ kept_if s c xs ++ ys
+if_front true c xs ys = refl
+if_front false c xs ys = refl
+
+pub kept_more : (p : Partition) (a b n m : ℕ) (cs more : List Command) → m ≡ n + length cs → kept p a b n (cs ++ more) ≡ kept p a b n cs ++ kept p a b m more
+kept_more p a b n m [] more is = let same : n ≡ m = omega (arith, is) in ap (λ k. kept p a b k more) same
+kept_more p a b n m (c ∷ cs) more is =
+    ap (kept_if (is_within p a b n c) c) (kept_more p a b (n + 1) m cs more (omega (arith, is)))
+    ∙ if_front (is_within p a b n c) c (kept p a b (n + 1) cs) (kept p a b m more)
+
+-- commands with greater numbers change nothing
+pub live_kept : (t key : List ℕ) (p : Partition) (a b : ℕ) (h more : History) → b ≤ length (numbered t h) → live t key (within t p a b (h ++ more)) ≡ live t key (within t p a b h)
+live_kept t key p a b h more upto =
+    let last = 1 + length (numbered t h) in
+    live_within t key p a b (h ++ more)
+    ∙ (ap (flat_map (sorted_by key))
+    (ap (kept p a b 1) (numbered_more t h more)
+    ∙ (kept_more p a b 1 last (numbered t h) (numbered t more) refl
+    ∙ (ap (λ (cs : List Command). kept p a b 1 (numbered t h) ++ cs) (kept_above p a b last (numbered t more) (omega (arith, upto))) ∙ append-nil (kept p a b 1 (numbered t h)))))
+    ∙ sym (live_within t key p a b h))
+
+-- ---- parts
+
+-- a part still stands
+pub part_kept : (h more : History) (p : CorePart) → PartStands h p → PartStands (h ++ more) p
+part_kept h more p s =
+    let most = number_drawn p.table p.name.partition p.name.max_block h s.greatest in
+    record {
+      schema = s.schema;
+      there = schema_kept p.table h more s.schema s.there;
+      least = insert_kept p.table p.name.partition p.name.min_block h more s.least;
+      greatest = insert_kept p.table p.name.partition p.name.max_block h more s.greatest;
+      rising = s.rising;
+      partly = λ row. s.partly row ∙ ap (of_key s.schema.key row) (sym (live_kept p.table s.schema.key p.name.partition p.name.min_block p.name.max_block h more most));
+    }
+
+-- parts of a table for which nothing drew a number
+pub table_kept : (t : List ℕ) (ps : List CorePart) (h more : History) → numbered t more ≡ [] → TableStands t ps h → TableStands t ps (h ++ more)
+table_kept t ps h more none s =
+    let same : numbered t (h ++ more) ≡ numbered t h = numbered_more t h more ∙ (ap (λ cs. numbered t h ++ cs) none ∙ append-nil (numbered t h)) in
+    record {
+      own = s.own;
+      each = All-weaker (PartStands h) (PartStands (h ++ more)) (λ p one. part_kept h more p one) ps s.each;
+      once = λ p n is. s.once p n (insert_was t p n h more is (subst (λ (cs : List Command). n ≤ length cs) same (number_drawn t p n (h ++ more) is)));
+    }
+
+same_itself : (p : Partition) → same_partition p p ≡ true
+same_itself Whole = refl
+same_itself (Number n) = (Decides-eqb n n).1 refl
+
+-- a part ends no higher than this
+abbrev EndsBy : ℕ → CorePart → Type 0
+EndsBy top p = p.name.max_block ≤ top
+
+ends_all : (t : List ℕ) (h : History) (ps : List CorePart) → AllByRecursion (λ (p : CorePart). p.table ≡ t) ps → AllByRecursion (PartStands h) ps → AllByRecursion (EndsBy (length (numbered t h))) ps
+ends_all t h [] own each = tt
+ends_all t h (p ∷ ps) own each = (
+  subst (λ u. p.name.max_block ≤ length (numbered u h)) own.0 (number_drawn p.table p.name.partition p.name.max_block h each.0.greatest),
+  ends_all t h ps own.1 each.1,
+)
+
+pub count_push : (f : CorePart → Bool) (ps : List CorePart) (p : CorePart) → count_by f (ps ++ p ∷ []) ≡ count_by f ps + cond (f p) 1 0
+count_push f ps p = sum_by_push (λ (q : CorePart). cond (f q) 1 0) ps p
+
+none_above : (w : Partition) (n top : ℕ) (ps : List CorePart) → AllByRecursion (EndsBy top) ps → top < n → count_by (has_block w n) ps ≡ 0
+none_above w n top [] ends lt = refl
+none_above w n top (p ∷ ps) ends lt =
+    let no : has_block w n p ≡ false =
+    ap (λ b. same_partition p.name.partition w && b) (lies_above p.name.min_block p.name.max_block n (omega (arith, ends.0, lt))) ∙ and_false (same_partition p.name.partition w) in
+    sum_by-cons (λ (q : CorePart). cond (has_block w n q) 1 0) p ps ∙ ap₂ (λ (b : Bool) (k : ℕ). cond b 1 0 + k) no (none_above w n top ps ends.1 lt)
+
+-- the part of an INSERT, behind the table's others
+module _ (h : History) (e : Entry) (i : Insert) (schema : Schema) (is : e.command ≡ command.Insert i) (there : schema_of i.table h ≡ Some schema) where
+  pub drawn_here : numbered i.table (h ++ e ∷ []) ≡ numbered i.table h ++ command.Insert i ∷ []
+  drawn_here =
+      numbered_more i.table h (e ∷ [])
+      ∙ ap (λ cs. numbered i.table h ++ cs) (ap (λ c. cond (draws i.table c) (c ∷ []) []) is ∙ ap (λ b. cond b (command.Insert i ∷ []) []) (itself_same i.table))
+
+  pub drawn_apart : (t : List ℕ) → same_bytes i.table t ≡ false → numbered t (e ∷ []) ≡ []
+  drawn_apart t apart = ap (λ c. cond (draws t c) (c ∷ []) []) is ∙ ap (λ b. cond b (command.Insert i ∷ []) []) apart
+
+  -- its number is the last that was drawn
+  own_number : IsInsertOf i.table i.partition (length (numbered i.table h) + 1) (h ++ e ∷ [])
+  own_number =
+      let count = length (numbered i.table h) in
+      let back : count + 1 - 1 ≡ count = omega arith in
+      record {
+        from_one = omega arith;
+        insert = i;
+        there = ap₂ slice_get drawn_here back ∙ slice_last (numbered i.table h) (command.Insert i);
+        partition_is = refl;
+      }
+
+  own_rows : (key : List ℕ) → live i.table key (within i.table i.partition (length (numbered i.table h) + 1) (length (numbered i.table h) + 1) (h ++ e ∷ [])) ≡ sorted (key_cmp key) i.block.rows
+  own_rows key =
+      let cs = numbered i.table h in
+      let n = length cs + 1 in
+      let yes : is_within i.partition n n n (command.Insert i) ≡ true =
+      ap₂ ◌&&◌ (same_itself i.partition) (lies_inside n n n (omega arith) (omega arith)) in
+      live_within i.table key i.partition n n (h ++ e ∷ [])
+      ∙ (ap (flat_map (sorted_by key))
+      (ap (kept i.partition n n 1) drawn_here
+      ∙ (kept_more i.partition n n 1 n cs (command.Insert i ∷ []) (omega arith)
+      ∙ ap₂ (λ (xs : List Command) (s : Bool). xs ++ kept_if s (command.Insert i) []) (kept_below i.partition n n 1 cs (omega arith)) yes))
+      ∙ append-nil (sorted (key_cmp key) i.block.rows))
+
+  part_new : PartStands (h ++ e ∷ []) (part_of_insert schema (length (numbered i.table h) + 1) i)
+  part_new = record {
+    schema = schema;
+    there = schema_kept i.table h (e ∷ []) schema there;
+    least = own_number;
+    greatest = own_number;
+    rising = sorted_rises (key_cmp schema.key) (key_total schema.key) i.block.rows;
+    partly = λ row. ap (of_key schema.key row) (sym (own_rows schema.key));
+  }
+
+  one_insert : (k : Insert) → Some (command.Insert k) ≡ Some (command.Insert i) → k ≡ i
+  one_insert k same = cc
+
+  pub table_grown : (ps : List CorePart) → TableStands i.table ps h → TableStands i.table (ps ++ part_of_insert schema (length (numbered i.table h) + 1) i ∷ []) (h ++ e ∷ [])
+  table_grown ps s = record {
+    own = All-push (λ (p : CorePart). p.table ≡ i.table) ps new s.own refl;
+    each = All-push (PartStands (h ++ e ∷ [])) ps new (All-weaker (PartStands h) (PartStands (h ++ e ∷ [])) (λ p one. part_kept h (e ∷ []) p one) ps s.each) part_new;
+    once = λ w n at. by w n at (cases_lt (length (numbered i.table h)) n);
+  }
+    where
+      new : CorePart
+      new = part_of_insert schema (length (numbered i.table h) + 1) i
+
+      ends : AllByRecursion (EndsBy (length (numbered i.table h))) ps
+      ends = ends_all i.table h ps (recursion_from_All (λ (p : CorePart). p.table ≡ i.table) ps s.own) (recursion_from_All (PartStands h) ps s.each)
+
+      by : (w : Partition) (n : ℕ) → IsInsertOf i.table w n (h ++ e ∷ []) → (length (numbered i.table h) < n) ⊎ (n ≤ length (numbered i.table h)) → count_by (has_block w n) (ps ++ part_of_insert schema (length (numbered i.table h) + 1) i ∷ []) ≡ 1
+      by w n at (inr upto) =
+          let count = length (numbered i.table h) in
+          let p = part_of_insert schema (count + 1) i in
+          let no : has_block w n p ≡ false =
+          ap (λ b. same_partition i.partition w && b) (lies_below (count + 1) (count + 1) n (omega (arith, upto))) ∙ and_false (same_partition i.partition w) in
+          let one = s.once w n (insert_was i.table w n h (e ∷ []) at upto) in
+          count_push (has_block w n) ps p ∙ ap₂ (λ (k : ℕ) (b : Bool). k + cond b 1 0) one no
+      by w n at (inl lt) =
+          let count = length (numbered i.table h) in
+          let p = part_of_insert schema (count + 1) i in
+          let most = subst (λ (cs : List Command). n ≤ length cs) drawn_here (number_drawn i.table w n (h ++ e ∷ []) at) in
+          let many = length-append (numbered i.table h) (command.Insert i ∷ []) in
+          let n_is : n ≡ count + 1 = omega (arith, most, many, lt) in
+          let place : n - 1 ≡ count = omega (arith, n_is) in
+          let found : Some (command.Insert at.insert) ≡ Some (command.Insert i) =
+          sym at.there ∙ (ap₂ slice_get drawn_here place ∙ slice_last (numbered i.table h) (command.Insert i)) in
+          let mine : i.partition ≡ w = sym (ap (λ (x : Insert). x.partition) (one_insert at.insert found)) ∙ at.partition_is in
+          let same : same_partition i.partition w ≡ true = ap (λ v. same_partition i.partition v) (sym mine) ∙ same_itself i.partition in
+          let inside : lies_within (count + 1) (count + 1) n ≡ true = lies_inside (count + 1) (count + 1) n (omega (arith, n_is)) (omega (arith, n_is)) in
+          let yes : has_block w n p ≡ true = ap₂ ◌&&◌ same inside in
+          count_push (has_block w n) ps p ∙ ap₂ (λ (k : ℕ) (b : Bool). k + cond b 1 0) (none_above w n count ps ends lt) yes

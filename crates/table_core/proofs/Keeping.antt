@@ -1,0 +1,409 @@
+-- What always holds of the store, after one more event.
+use Rattle.std.proofs.Common.{◌≡◌, ℕ, ◌+◌, ◌<◌, ◌≤◌, Bool, true, false, cond, ◌||◌, List, [], ◌∷◌, ◌++◌, Option, Some, None, length, map, filter, slice_get, get_or, take, All, is_some, refl, sym, ap, ap₂, ◌∙◌, subst, append_assoc, append-nil, length-append, arith, inl, inr, ◌⊎◌}
+use Rattle.std.specs.Prelude.{IfNone, IfSome, IsSome}
+use Rattle.std.specs.List.{AllByRecursion, list_any}
+use Rattle.std.specs.Map.{values_of}
+use Rattle.std.proofs.Math.Seq.{get_or-append_seam}
+use Rattle.std.proofs.lemmas.Bool.{cases_lt}
+use Rattle.std.proofs.lemmas.List.{get_or_default, length-map, map-append}
+use Rattle.std.proofs.lemmas.List.Concat.{flat_map-append}
+use Rattle.std.proofs.lemmas.List.Elements.{All-from_recursion, All-nil, All-push, All-weaker, filter-append, recursion_from_All}
+use Rattle.indexmap.specs.IndexMap.{set_value_at}
+use Rattle.mt_values.specs.declared.command.Command.{Command}
+use Rattle.mt_values.specs.declared.command.Command.TheVariants as command
+use Rattle.mt_values.specs.declared.command.Create.{Create}
+use Rattle.mt_values.specs.declared.command.Entry.{Entry}
+use Rattle.mt_values.specs.declared.command.Insert.{Insert}
+use Rattle.mt_values.specs.declared.schema.Column.{Column}
+use Rattle.mt_values.specs.declared.schema.Schema.{Schema}
+use Rattle.mt_values.specs.declared.value.ColType.{ColType}
+use Rattle.mt_values.specs.Grammar.{same_bytes}
+use Rattle.mt_values.specs.Grid.{IsOrderBy, picked}
+use Rattle.mt_values.specs.Order.{key_cmp}
+use Rattle.mt_values.specs.Values.{Row}
+use Rattle.mt_values.proofs.Grids.{filter_map_more}
+use Rattle.mt_model.specs.History.{History, IsAllowed, IsInsertInto, IsLegal, IsLegalAfter, IsTableSchema, creates, first_of, is_create, schema_by, schema_of}
+use Rattle.mt_model.specs.Live.{sorted}
+use Rattle.mt_model.proofs.Determined.{key_total}
+use Rattle.mt_model.proofs.SameKeys.{stable_is_sorted}
+use Rattle.mt_model.proofs.Tables.{itself_same, same_is}
+use Rattle.table_core.specs.declared.part.CorePart.{CorePart}
+use Rattle.table_core.specs.declared.part.Snapshot.{Snapshot}
+use Rattle.table_core.specs.declared.store.Store.{Store}
+use Rattle.table_core.specs.declared.store.Table.{Table}
+use Rattle.table_core.specs.Core.{Core, IsCore}
+use Rattle.table_core.specs.Numbers.{draws, numbered}
+use Rattle.table_core.specs.Parts.{parts_of}
+use Rattle.table_core.specs.Steps.{AcceptsInsert, AddsPart, entered, part_of_insert, snapshot_of}
+use Rattle.table_core.specs.Store.{AddsTable, IsNotNamed, IsStore, Named, SameStore, StandsAt, TableKept, core_of, empty_table, name_by, parts_in, table_names, with_part}
+use Rattle.table_core.proofs.Growing.{drawn_apart, drawn_here, numbered_more, schema_kept, schema_more}
+use Rattle.table_core.proofs.Stepping.{create_core, insert_core, take_core}
+use Rattle.table_core.proofs.Stored.{one_value, same_turned, set_here, slice_here}
+
+-- ---- histories
+
+names_more : (h more : History) → table_names (h ++ more) ≡ table_names h ++ table_names more
+names_more [] more = refl
+names_more (e ∷ h) more = ap (λ (ns : List (List ℕ)). name_by e.command ++ ns) (names_more h more) ∙ sym (append_assoc (name_by e.command) (table_names h) (table_names more))
+
+creates_by : (c : Command) (e : Entry) (h : History) → length (cond (is_create c) (e ∷ h) h) ≡ length (name_by c) + length h
+creates_by (command.Create c) e h = omega arith
+creates_by (command.Insert i) e h = omega arith
+
+-- as many tables were made as there are names
+creates_are : (h : History) → creates h ≡ length (table_names h)
+creates_are [] = refl
+creates_are (e ∷ h) =
+    creates_by e.command e (filter (λ (x : Entry). is_create x.command) h)
+    ∙ (ap (λ n. length (name_by e.command) + n) (creates_are h) ∙ sym (length-append (name_by e.command) (table_names h)))
+
+there_by : (t : List ℕ) (c : Command) (o : Option Schema) (ts : List (List ℕ)) → is_some o ≡ list_any (λ u. same_bytes u t) ts → is_some (first_of (schema_by t c) o) ≡ list_any (λ u. same_bytes u t) (name_by c ++ ts)
+there_by t (command.Create c) o ts is =
+    elim (same_bytes c.table t) as (λ b. is_some (first_of (cond b (Some c.schema) None) o) ≡ (b || list_any (λ u. same_bytes u t) ts)) [ true ↦ refl | false ↦ is ]
+there_by t (command.Insert i) o ts is = is
+
+-- which tables there are
+there : (t : List ℕ) (h : History) → is_some (schema_of t h) ≡ list_any (λ u. same_bytes u t) (table_names h)
+there t [] = refl
+there t (e ∷ h) = there_by t e.command (schema_of t h) (table_names h) (there t h)
+
+none_from : {X : Type 0} (o : Option X) → is_some o ≡ false → o ≡ None
+none_from None h = refl
+none_from (Some x) h = cc
+
+schema_after : (t : List ℕ) (before h : History) (schema : Schema) → IsLegalAfter before h → schema_of t h ≡ Some schema → IsTableSchema schema
+schema_after t before [] schema legal is = cc
+schema_after t before (e ∷ h) schema legal is = by e.command legal.0 is (λ later. schema_after t (before ++ e ∷ []) h schema legal.1 later)
+  where
+    by : (c : Command) → IsAllowed before c → first_of (schema_by t c) (schema_of t h) ≡ Some schema → (schema_of t h ≡ Some schema → IsTableSchema schema) → IsTableSchema schema
+    by (command.Create c) allowed first rest = named (same_bytes c.table t) first
+      where
+        named : (b : Bool) → first_of (cond b (Some c.schema) None) (schema_of t h) ≡ Some schema → IsTableSchema schema
+        named true same = let one : c.schema ≡ schema = cc in subst IsTableSchema one allowed.2
+        named false same = rest same
+    by (command.Insert i) allowed first rest = rest first
+
+-- the schema of a table of a legal history is one that a table may have
+pub legal_schema : (t : List ℕ) (h : History) (schema : Schema) → IsLegal h → schema_of t h ≡ Some schema → IsTableSchema schema
+legal_schema t h schema legal is = schema_after t [] h schema legal is
+
+none_after : (t : List ℕ) (before h : History) → IsLegalAfter before h → schema_of t (before ++ h) ≡ None → numbered t h ≡ []
+none_after t before [] legal none = refl
+none_after t before (e ∷ h) legal none = by e.command refl legal.0 (none_after t (before ++ e ∷ []) h legal.1 (ap (schema_of t) (append_assoc before (e ∷ []) h) ∙ none))
+  where
+    by : (c : Command) → e.command ≡ c → IsAllowed before c → numbered t h ≡ [] → cond (draws t c) (c ∷ numbered t h) (numbered t h) ≡ []
+    by (command.Create c) is allowed rest = rest
+    by (command.Insert i) is allowed rest = named (same_bytes i.table t) refl
+      where
+        named : (b : Bool) → same_bytes i.table t ≡ b → cond b (command.Insert i ∷ numbered t h) (numbered t h) ≡ []
+        named true same =
+            let here : schema_of t before ≡ Some allowed.0 = ap (λ u. schema_of u before) (sym (same_is i.table t same)) ∙ allowed.1 in
+            let found : None ≡ Some allowed.0 = sym none ∙ schema_kept t before (e ∷ h) allowed.0 here in
+            cc
+        named false apart = rest
+
+-- without its table no command drew a number
+none_numbered : (t : List ℕ) (h : History) → IsLegal h → schema_of t h ≡ None → numbered t h ≡ []
+none_numbered t h legal none = none_after t [] h legal none
+
+-- ---- what the tables say of the history
+
+none_named : (t : List ℕ) (ts : List Named) → AllByRecursion (IsNotNamed t) ts → list_any (λ u. same_bytes u t) (map (λ (x : Named). x.0.items) ts) ≡ false
+none_named t [] all = refl
+none_named t (x ∷ ts) all = ap₂ ◌||◌ all.0 (none_named t ts all.1)
+
+pub core_is : (a b : Core) → a.parts ≡ b.parts → a.history ≡ b.history → a.snapshots ≡ b.snapshots → a ≡ b
+core_is a b parts history snapshots = λ j. record { parts = parts j; history = history j; snapshots = snapshots j }
+
+pub same_core : (old new : Store) → SameStore old new → core_of new ≡ core_of old
+same_core old new s = core_is (core_of new) (core_of old) (ap parts_in s.tables) s.entries s.snapshots
+
+pub same_store : (old new : Store) → IsStore old → SameStore old new → IsStore new
+same_store old new is s = record {
+  core = subst IsCore (sym (same_core old new s)) is.core;
+  names = ap (map (λ (t : Named). t.0.items)) s.tables ∙ (is.names ∙ ap table_names (sym s.entries));
+  each = subst (λ (ts : List Named). All (TableKept new.entries.items) ts) (sym s.tables) (subst (λ (h : History). All (TableKept h) old.tables.entries) (sym s.entries) is.each);
+}
+
+module _ (store : Store) (is : IsStore store) where
+  -- a name that no table has is no table's
+  pub no_table : (t : List ℕ) → All (IsNotNamed t) store.tables.entries → schema_of t store.entries.items ≡ None
+  no_table t none =
+      let apart = none_named t store.tables.entries (recursion_from_All (IsNotNamed t) store.tables.entries none) in
+      none_from (schema_of t store.entries.items) (there t store.entries.items ∙ (ap (list_any (λ u. same_bytes u t)) (sym is.names) ∙ apart))
+
+  -- as many tables were made as there are
+  pub tables_made : creates store.entries.items ≡ length store.tables.entries
+  tables_made = creates_are store.entries.items ∙ (ap length (sym is.names) ∙ length-map store.tables.entries (λ (t : Named). t.0.items))
+
+  module _ (t : List ℕ) (place : ℕ) (s : StandsAt store.tables.entries t place) where
+    -- the table that stands there
+    pub kept_here : TableKept store.entries.items s.here
+    kept_here =
+        let lt : length s.front < length (s.front ++ s.here ∷ s.back) = omega (arith, length-append s.front (s.here ∷ s.back)) in
+        let all : All (TableKept store.entries.items) (s.front ++ s.here ∷ s.back) = subst (All (TableKept store.entries.items)) s.tables_are is.each in
+        subst (TableKept store.entries.items) (get_or-append_seam s.front s.here s.back s.here) (all (length s.front) s.here lt)
+
+    pub schema_here : schema_of t store.entries.items ≡ Some s.here.1.schema
+    schema_here = ap (λ u. schema_of u store.entries.items) (sym s.name_is) ∙ kept_here.schema_is
+
+    pub last_here : s.here.1.last ≡ length (numbered t store.entries.items)
+    last_here = kept_here.last_is ∙ ap (λ u. length (numbered u store.entries.items)) s.name_is
+
+    -- what stands there
+    pub place_here : slice_get store.tables.entries place ≡ Some s.here
+    place_here =
+        ap (λ ts. slice_get ts place) s.tables_are ∙ (ap (slice_get (s.front ++ s.here ∷ s.back)) s.place_is ∙ slice_here s.front s.back s.here)
+
+    -- the table that is read there
+    pub read_here : (table : Table) → slice_get (values_of store.tables.entries) place ≡ Some table → table ≡ s.here.1
+    read_here table at =
+        one_value (slice_get (values_of store.tables.entries) place) table s.here.1 at
+        (ap (λ ts. slice_get (values_of ts) place) s.tables_are
+        ∙ (ap (slice_get (values_of (s.front ++ s.here ∷ s.back))) (s.place_is ∙ sym (length-map s.front (λ (x : Named). x.1)))
+        ∙ (ap (λ vs. slice_get vs (length (map (λ (x : Named). x.1) s.front))) (map-append (λ (x : Named). x.1) s.front (s.here ∷ s.back))
+        ∙ slice_here (map (λ (x : Named). x.1) s.front) (map (λ (x : Named). x.1) s.back) s.here.1)))
+
+-- ---- the parts of a table
+
+-- every part is its own table's
+abbrev OwnParts : Named → Type 0
+OwnParts t = All (λ (p : CorePart). p.table ≡ t.0.items) t.1.parts
+
+others_none : (table own : List ℕ) (ps : List CorePart) → same_bytes own table ≡ false → AllByRecursion (λ (p : CorePart). p.table ≡ own) ps → parts_of table ps ≡ []
+others_none table own [] apart all = refl
+others_none table own (p ∷ ps) apart all =
+    ap (λ b. cond b (p ∷ parts_of table ps) (parts_of table ps)) (ap (λ (u : List ℕ). same_bytes u table) all.0 ∙ apart) ∙ others_none table own ps apart all.1
+
+own_all : (table : List ℕ) (ps : List CorePart) → AllByRecursion (λ (p : CorePart). p.table ≡ table) ps → parts_of table ps ≡ ps
+own_all table [] all = refl
+own_all table (p ∷ ps) all =
+    ap (λ b. cond b (p ∷ parts_of table ps) (parts_of table ps)) (ap (λ (u : List ℕ). same_bytes u table) all.0 ∙ itself_same table) ∙ ap (λ (qs : List CorePart). p ∷ qs) (own_all table ps all.1)
+
+-- tables of other names have none of its parts
+pub parts_apart : (table : List ℕ) (h : History) (ts : List Named) → AllByRecursion (IsNotNamed table) ts → AllByRecursion (TableKept h) ts → parts_of table (parts_in ts) ≡ []
+parts_apart table h [] apart kept = refl
+parts_apart table h (t ∷ ts) apart kept =
+    filter-append (λ (p : CorePart). same_bytes p.table table) t.1.parts (parts_in ts)
+    ∙ ap₂ (λ (xs ys : List CorePart). xs ++ ys)
+    (others_none table t.0.items t.1.parts apart.0 (recursion_from_All (λ (p : CorePart). p.table ≡ t.0.items) t.1.parts kept.0.own)) (parts_apart table h ts apart.1 kept.1)
+
+all_left : {X : Type 0} (P : X → Type 0) (xs ys : List X) → AllByRecursion P (xs ++ ys) → AllByRecursion P xs
+all_left P [] ys all = tt
+all_left P (x ∷ xs) ys all = (all.0, all_left P xs ys all.1)
+
+all_right : {X : Type 0} (P : X → Type 0) (xs ys : List X) → AllByRecursion P (xs ++ ys) → AllByRecursion P ys
+all_right P [] ys all = all
+all_right P (x ∷ xs) ys all = all_right P xs ys all.1
+
+all_both : {X : Type 0} (P : X → Type 0) (xs ys : List X) → AllByRecursion P xs → AllByRecursion P ys → AllByRecursion P (xs ++ ys)
+all_both P [] ys one two = two
+all_both P (x ∷ xs) ys one two = (one.0, all_both P xs ys one.1 two)
+
+module _ (store : Store) (is : IsStore store) (t : List ℕ) (place : ℕ) (s : StandsAt store.tables.entries t place) where
+  pub kept_all : AllByRecursion (TableKept store.entries.items) (s.front ++ s.here ∷ s.back)
+  kept_all = recursion_from_All (TableKept store.entries.items) (s.front ++ s.here ∷ s.back) (subst (All (TableKept store.entries.items)) s.tables_are is.each)
+
+  pub kept_front : AllByRecursion (TableKept store.entries.items) s.front
+  kept_front = all_left (TableKept store.entries.items) s.front (s.here ∷ s.back) kept_all
+
+  pub kept_back : AllByRecursion (TableKept store.entries.items) s.back
+  kept_back = (all_right (TableKept store.entries.items) s.front (s.here ∷ s.back) kept_all).1
+
+  -- a table's parts are those that it has
+  pub parts_here : parts_of t (parts_in store.tables.entries) ≡ s.here.1.parts
+  parts_here =
+      let f : CorePart → Bool = λ p. same_bytes p.table t in
+      let own : All (λ (p : CorePart). p.table ≡ t) s.here.1.parts = subst (λ (n : List ℕ). All (λ (p : CorePart). p.table ≡ n) s.here.1.parts) s.name_is (kept_here store is t place s).own in
+      ap (λ ts. parts_of t (parts_in ts)) s.tables_are
+      ∙ (ap (parts_of t) (flat_map-append (λ (x : Named). x.1.parts) s.front (s.here ∷ s.back))
+      ∙ (filter-append f (parts_in s.front) (s.here.1.parts ++ parts_in s.back)
+      ∙ (ap₂ (λ (xs ys : List CorePart). xs ++ ys) (parts_apart t store.entries.items s.front s.before kept_front)
+      (filter-append f s.here.1.parts (parts_in s.back)
+      ∙ ap₂ (λ (xs ys : List CorePart). xs ++ ys) (own_all t s.here.1.parts (recursion_from_All (λ (p : CorePart). p.table ≡ t) s.here.1.parts own)) (parts_apart t store.entries.items s.back s.behind kept_back))
+      ∙ append-nil s.here.1.parts)))
+
+-- ---- a CREATE
+
+table_still : (h : History) (e : Entry) (t : Named) → numbered t.0.items (e ∷ []) ≡ [] → TableKept h t → TableKept (h ++ e ∷ []) t
+table_still h e t none k = record {
+  schema_is = schema_kept t.0.items h (e ∷ []) t.1.schema k.schema_is;
+  last_is = k.last_is ∙ sym (ap length (numbered_more t.0.items h (e ∷ []) ∙ (ap (λ cs. numbered t.0.items h ++ cs) none ∙ append-nil (numbered t.0.items h))));
+  own = k.own;
+}
+
+module _ (old new : Store) (session : ℕ) (c : Create) (is : IsStore old) (adds : AddsTable c old.tables.entries new.tables.entries)
+    (entries : new.entries.items ≡ entered old.entries.items session (command.Create c)) (snapshots : new.snapshots.items ≡ old.snapshots.items) where
+  pub create_is : core_of new ≡ record { parts = parts_in old.tables.entries; history = entered old.entries.items session (command.Create c); snapshots = old.snapshots.items }
+  create_is =
+      core_is (core_of new) (record { parts = parts_in old.tables.entries; history = entered old.entries.items session (command.Create c); snapshots = old.snapshots.items })
+      (ap parts_in adds.tables_are
+      ∙ (flat_map-append (λ (t : Named). t.1.parts) old.tables.entries ((adds.key, empty_table c.schema) ∷ []) ∙ append-nil (parts_in old.tables.entries)))
+      entries snapshots
+
+  pub create_store : IsTableSchema c.schema → schema_of c.table old.entries.items ≡ None → creates old.entries.items < 65536 → IsStore new
+  create_store schema absent few =
+      let e : Entry = record { session = session; command = command.Create c } in
+      let h = old.entries.items in
+      let made : Named = (adds.key, empty_table c.schema) in
+      let name = λ (t : Named). t.0.items in
+      let none : schema_of adds.key.items h ≡ None = ap (λ u. schema_of u h) adds.key_is ∙ absent in
+      let new_table : TableKept (h ++ e ∷ []) made = record {
+        schema_is = schema_more adds.key.items h (e ∷ [])
+            ∙ (ap (λ o. first_of o (schema_of adds.key.items (e ∷ []))) none
+            ∙ ap (λ b. first_of (cond b (Some c.schema) None) None) (ap (same_bytes c.table) adds.key_is ∙ itself_same c.table));
+        last_is = sym (ap length (numbered_more adds.key.items h (e ∷ []) ∙ (append-nil (numbered adds.key.items h) ∙ none_numbered adds.key.items h is.core.legal none)));
+        own = All-nil (λ (p : CorePart). p.table ≡ adds.key.items);
+      } in
+      let all : All (TableKept (h ++ e ∷ [])) (old.tables.entries ++ made ∷ []) =
+      All-push (TableKept (h ++ e ∷ [])) old.tables.entries made (All-weaker (TableKept h) (TableKept (h ++ e ∷ [])) (λ t k. table_still h e t refl k) old.tables.entries is.each) new_table in
+      record {
+        core = subst IsCore (sym create_is) (create_core (core_of old) session c is.core schema absent few);
+        names = ap (map name) adds.tables_are
+            ∙ (map-append name old.tables.entries (made ∷ [])
+            ∙ (ap₂ (λ (ns : List (List ℕ)) (n : List ℕ). ns ++ n ∷ []) is.names adds.key_is ∙ (sym (names_more h (e ∷ [])) ∙ ap table_names (sym entries))));
+        each = subst (λ (ts : List Named). All (TableKept new.entries.items) ts) (sym adds.tables_are) (subst (λ (x : History). All (TableKept x) (old.tables.entries ++ made ∷ [])) (sym entries) all);
+      }
+
+-- ---- an INSERT
+
+module _ (old new : Store) (session : ℕ) (i : Insert) (place number : ℕ) (is : IsStore old) (s : StandsAt old.tables.entries i.table place)
+    (drawn : number ≡ length (numbered i.table old.entries.items) + 1) (fits : number ≤ 4294967295)
+    (tables : new.tables.entries ≡ set_value_at old.tables.entries place (with_part s.here.1 (part_of_insert s.here.1.schema number i) number))
+    (entries : new.entries.items ≡ entered old.entries.items session (command.Insert i)) (snapshots : new.snapshots.items ≡ old.snapshots.items) where
+  abbrev part : CorePart
+  part = part_of_insert s.here.1.schema number i
+
+  abbrev grown : Named
+  grown = (s.here.0, with_part s.here.1 part number)
+
+  tables_now : new.tables.entries ≡ s.front ++ grown ∷ s.back
+  tables_now =
+      tables
+      ∙ (ap₂ (λ (ts : List Named) (k : ℕ). set_value_at ts k (with_part s.here.1 part number)) s.tables_are s.place_is ∙ set_here s.front s.back s.here (with_part s.here.1 part number))
+
+  adds_part : AddsPart part (parts_in old.tables.entries) (parts_in new.tables.entries)
+  adds_part = record {
+    front = parts_in s.front ++ s.here.1.parts;
+    behind = parts_in s.back;
+    old_is = ap parts_in s.tables_are ∙ (flat_map-append (λ (t : Named). t.1.parts) s.front (s.here ∷ s.back) ∙ sym (append_assoc (parts_in s.front) s.here.1.parts (parts_in s.back)));
+    new_is = ap parts_in tables_now
+        ∙ (flat_map-append (λ (t : Named). t.1.parts) s.front (grown ∷ s.back)
+        ∙ (ap (λ (ps : List CorePart). parts_in s.front ++ ps) (append_assoc s.here.1.parts (part ∷ []) (parts_in s.back)) ∙ sym (append_assoc (parts_in s.front) s.here.1.parts (part ∷ parts_in s.back))));
+    last = parts_apart i.table old.entries.items s.back s.behind (kept_back old is i.table place s);
+  }
+
+  pub insert_accepted : AcceptsInsert (core_of old) session i (length old.entries.items + 1) (core_of new)
+  insert_accepted = record {
+    schema = s.here.1.schema;
+    there = schema_here old is i.table place s;
+    room = omega (arith, drawn, fits);
+    place_is = refl;
+    parts = subst (λ n. AddsPart (part_of_insert s.here.1.schema n i) (parts_in old.tables.entries) (parts_in new.tables.entries)) drawn adds_part;
+    history = entries;
+    snapshots = snapshots;
+  }
+
+  abbrev e : Entry
+  e = record { session = session; command = command.Insert i }
+
+  others_still : (ts : List Named) → AllByRecursion (IsNotNamed i.table) ts → AllByRecursion (TableKept old.entries.items) ts → AllByRecursion (TableKept (old.entries.items ++ e ∷ [])) ts
+  others_still [] apart kept = tt
+  others_still (t ∷ ts) apart kept =
+      let turned : same_bytes i.table t.0.items ≡ false = same_turned i.table t.0.items ∙ apart.0 in (
+        table_still old.entries.items e t (drawn_apart old.entries.items e i s.here.1.schema refl (schema_here old is i.table place s) t.0.items turned) kept.0,
+        others_still ts apart.1 kept.1,
+      )
+
+  grown_kept : TableKept (old.entries.items ++ e ∷ []) grown
+  grown_kept =
+      let h = old.entries.items in
+      let here = kept_here old is i.table place s in
+      let count = length-append (numbered i.table h) (command.Insert i ∷ []) in
+      record {
+        schema_is = schema_kept s.here.0.items h (e ∷ []) s.here.1.schema here.schema_is;
+        last_is = drawn ∙ (sym count ∙ (ap length (sym (drawn_here h e i s.here.1.schema refl (schema_here old is i.table place s))) ∙ ap (λ u. length (numbered u (h ++ e ∷ []))) (sym s.name_is)));
+        own = All-push (λ (p : CorePart). p.table ≡ s.here.0.items) s.here.1.parts part here.own (sym s.name_is);
+      }
+
+  pub insert_store : IsInsertInto s.here.1.schema i → IsStore new
+  unfolding insert_accepted
+  insert_store into =
+      let h = old.entries.items in
+      let name = λ (t : Named). t.0.items in
+      let all : AllByRecursion (TableKept (h ++ e ∷ [])) (s.front ++ grown ∷ s.back) =
+      all_both (TableKept (h ++ e ∷ [])) s.front (grown ∷ s.back) (others_still s.front s.before (kept_front old is i.table place s)) (grown_kept, others_still s.back s.behind (kept_back old is i.table place s)) in
+      record {
+        core = insert_core (core_of old) (core_of new) session i (length h + 1) is.core insert_accepted into;
+        names = ap (map name) tables_now
+            ∙ (map-append name s.front (grown ∷ s.back)
+            ∙ (sym (map-append name s.front (s.here ∷ s.back))
+            ∙ (ap (map name) (sym s.tables_are) ∙ (is.names ∙ (sym (append-nil (table_names h)) ∙ (sym (names_more h (e ∷ [])) ∙ ap table_names (sym entries)))))));
+        each = subst (λ (ts : List Named). All (TableKept new.entries.items) ts) (sym tables_now)
+            (subst (λ (x : History). All (TableKept x) (s.front ++ grown ∷ s.back)) (sym entries) (All-from_recursion (TableKept (h ++ e ∷ [])) (s.front ++ grown ∷ s.back) all));
+      }
+
+-- the key of a table is made of the columns of the rows that come into it
+pub key_fits : (h : History) (t : List ℕ) (schema : Schema) (i : Insert) → IsLegal h → schema_of t h ≡ Some schema → IsInsertInto schema i → All (λ place. place < length i.block.types) schema.key
+key_fits h t schema i legal is into =
+    let own = (legal_schema t h schema legal is).own in
+    let count : length i.block.types ≡ length schema.columns = ap (λ (ts : List ColType). length ts) into.types ∙ length-map schema.columns (λ (c : Column). c.col_type) in
+    All-weaker (λ p. p < length schema.columns) (λ p. p < length i.block.types) (λ p lt. omega (arith, count, lt)) schema.key own
+
+-- ---- a snapshot
+
+module _ (old new : Store) (t : List ℕ) (place : ℕ) (one : Snapshot) (is : IsStore old) (s : StandsAt old.tables.entries t place)
+    (tables : new.tables.entries ≡ old.tables.entries) (entries : new.entries.items ≡ old.entries.items) (snapshots : new.snapshots.items ≡ old.snapshots.items ++ one ∷ [])
+    (named : one.table ≡ t) (parts : one.parts ≡ s.here.1.parts) (len : one.length ≡ length old.entries.items) where
+  one_is : one ≡ snapshot_of t (core_of old)
+  one_is = λ j. record { table = named j; parts = (parts ∙ sym (parts_here old is t place s)) j; length = len j }
+
+  pub take_is : core_of new ≡ record { parts = parts_in old.tables.entries; history = old.entries.items; snapshots = old.snapshots.items ++ snapshot_of t (core_of old) ∷ [] }
+  take_is =
+      core_is (core_of new) (record { parts = parts_in old.tables.entries; history = old.entries.items; snapshots = old.snapshots.items ++ snapshot_of t (core_of old) ∷ [] })
+      (ap parts_in tables) entries (snapshots ∙ ap (λ (x : Snapshot). old.snapshots.items ++ x ∷ []) one_is)
+
+  pub take_there : IsSome (schema_of t old.entries.items)
+  take_there = ap is_some (schema_here old is t place s)
+
+  pub take_store : IsStore new
+  take_store = record {
+    core = subst IsCore (sym take_is) (take_core (core_of old) t is.core take_there);
+    names = ap (map (λ (x : Named). x.0.items)) tables ∙ (is.names ∙ ap table_names (sym entries));
+    each = subst (λ (ts : List Named). All (TableKept new.entries.items) ts) (sym tables) (subst (λ (h : History). All (TableKept h) old.tables.entries) (sym entries) is.each);
+  }
+
+-- ---- what was found
+
+pub found_some : (r : Option ℕ) (P : ℕ → Type 0) → is_some r ≡ true → IfSome r P → (place : ℕ) × P place
+found_some None P is h = cc
+found_some (Some place) P is h = (place, h)
+
+pub found_none : (r : Option ℕ) (P : Type 0) → is_some r ≡ false → IfNone r P → P
+found_none None P is h = h
+found_none (Some place) P is h = cc
+
+-- rows ordered by the key are the rows sorted by it
+ordered_is_sorted : (key : List ℕ) (rows : List Row) (order : List ℕ) → IsOrderBy key rows order → picked rows order ≡ sorted (key_cmp key) rows
+ordered_is_sorted key rows order by = stable_is_sorted (key_cmp key) (key_total key) rows (picked rows order) by.rising by.stable
+
+-- the part that an INSERT makes
+pub part_made : (schema : Schema) (number : ℕ) (i : Insert) (table : List ℕ) (rows : List Row) (order : List ℕ) → table ≡ i.table → rows ≡ picked i.block.rows order → IsOrderBy schema.key i.block.rows order
+    → record { table = table; name = record { partition = i.partition; min_block = number; max_block = number; level = 0; mutation = None }; rows = rows } ≡ part_of_insert schema number i
+part_made schema number i table rows order named are by = λ j. record {
+  table = named j;
+  name = record { partition = i.partition; min_block = number; max_block = number; level = 0; mutation = None };
+  rows = (are ∙ ordered_is_sorted schema.key i.block.rows order by) j;
+}
+
+-- the row at one place more
+pub picked_more : (rows : List Row) (places : List ℕ) (i : ℕ) (d : ℕ) (row : Row) → i < length places → slice_get rows (get_or places i d) ≡ Some row → picked rows (take (i + 1) places) ≡ picked rows (take i places) ++ row ∷ []
+picked_more rows places i d row lt at = filter_map_more (slice_get rows) places i (get_or places i d) row lt (get_or_default places i d (get_or places i d) lt) at
+
+-- what is not below a number is at least it
+pub at_least : (m n : ℕ) → (m < n → ⊥) → n ≤ m
+at_least m n none = by (cases_lt m n)
+  where
+    by : (m < n) ⊎ (n ≤ m) → n ≤ m
+    by (inl lt) = absurd (none lt)
+    by (inr le) = le

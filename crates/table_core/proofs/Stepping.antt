@@ -1,0 +1,256 @@
+-- What always holds of the core, after one more event.
+use Rattle.std.proofs.Common.{◌≡◌, ℕ, ◌-◌, ◌<◌, ◌≤◌, Bool, true, false, cond, List, [], ◌∷◌, ◌++◌, Some, None, length, take, drop, get_or, slice_get, All, refl, sym, ap, ap₂, ◌∙◌, subst, append-nil, length-append, arith}
+use Rattle.std.specs.Prelude.{IsSome}
+use Rattle.std.specs.Ordering.{is_lt, nat_cmp, ordering_then}
+use Rattle.std.proofs.lemmas.Bool.Decides.{nat_tests}
+use Rattle.std.proofs.lemmas.List.{take_all, take-append-drop, take-append-le}
+use Rattle.std.proofs.lemmas.List.Elements.{All-push, All-weaker, filter-append}
+use Rattle.std.proofs.lemmas.List.Kept.{IsSortedBy-push}
+use Rattle.std.proofs.lemmas.Option.{get_or_from_slice_get, slice_get_within}
+use Rattle.mt_base.specs.declared.partition.Partition.TheVariants.{Whole}
+use Rattle.mt_values.specs.declared.command.Command.TheVariants as command
+use Rattle.mt_values.specs.declared.command.Create.{Create}
+use Rattle.mt_values.specs.declared.command.Entry.{Entry}
+use Rattle.mt_values.specs.declared.command.Insert.{Insert}
+use Rattle.mt_values.specs.declared.schema.Schema.{Schema}
+use Rattle.mt_values.specs.Grammar.{same_bytes}
+use Rattle.mt_model.specs.History.{History, IsInsertInto, IsLegal, IsTableSchema, creates, schema_of}
+use Rattle.mt_model.proofs.Histories.{legal_front, legal_push}
+use Rattle.mt_model.proofs.Tables.{itself_same, same_is}
+use Rattle.table_core.specs.declared.event.Event.{Event}
+use Rattle.table_core.specs.declared.event.Event.TheVariants as event
+use Rattle.table_core.specs.declared.event.Guard.TheVariants as guard
+use Rattle.table_core.specs.declared.event.Outcome.{Outcome}
+use Rattle.table_core.specs.declared.event.Outcome.TheVariants as outcome
+use Rattle.table_core.specs.declared.part.CorePart.{CorePart}
+use Rattle.table_core.specs.declared.part.Snapshot.{Snapshot}
+use Rattle.table_core.specs.Core.{Core, IsCore, IsSnapshot}
+use Rattle.table_core.specs.Numbers.{numbered}
+use Rattle.table_core.specs.Parts.{AreInBlockOrder, PartStands, PartsStand, TableStands, block_cmp, partition_cmp, parts_of, rows_of_parts}
+use Rattle.table_core.specs.Steps.{AcceptsInsert, AddsPart, AreLeftOf, Gives, MayCome, entered, next_number, part_of_insert, snapshot_of}
+use Rattle.table_core.proofs.Growing.{drawn_apart, number_drawn, table_grown, table_kept}
+use Rattle.table_core.proofs.Joined.{parts_joined}
+use Rattle.table_core.proofs.Numbered.{all_whole, whole_at}
+
+-- ---- one part more
+
+is_of : List ℕ → CorePart → Bool
+is_of table p = same_bytes p.table table
+
+pub parts_added_here : (part : CorePart) (old new : List CorePart) → AddsPart part old new → parts_of part.table new ≡ parts_of part.table old ++ part ∷ []
+parts_added_here part old new a =
+    let t = part.table in
+    let f : CorePart → Bool = λ p. same_bytes p.table t in
+    let was : parts_of t old ≡ parts_of t a.front =
+    ap (parts_of t) a.old_is ∙ (filter-append f a.front a.behind ∙ (ap (λ (xs : List CorePart). parts_of t a.front ++ xs) a.last ∙ append-nil (parts_of t a.front))) in
+    let mine : parts_of t (part ∷ a.behind) ≡ part ∷ [] =
+    ap (λ b. cond b (part ∷ parts_of t a.behind) (parts_of t a.behind)) (itself_same t) ∙ ap (λ (xs : List CorePart). part ∷ xs) a.last in
+    ap (parts_of t) a.new_is ∙ (filter-append f a.front (part ∷ a.behind) ∙ ap₂ (λ (xs ys : List CorePart). xs ++ ys) (sym was) mine)
+
+pub parts_added_apart : (t : List ℕ) (part : CorePart) (old new : List CorePart) → AddsPart part old new → same_bytes part.table t ≡ false → parts_of t new ≡ parts_of t old
+parts_added_apart t part old new a apart =
+    let f : CorePart → Bool = λ p. same_bytes p.table t in
+    let rest : parts_of t (part ∷ a.behind) ≡ parts_of t a.behind = ap (λ b. cond b (part ∷ parts_of t a.behind) (parts_of t a.behind)) apart in
+    ap (parts_of t) a.new_is
+    ∙ (filter-append f a.front (part ∷ a.behind) ∙ (ap (λ (xs : List CorePart). parts_of t a.front ++ xs) rest ∙ sym (ap (parts_of t) a.old_is ∙ filter-append f a.front a.behind)))
+
+not_below : (a b : ℕ) → b ≤ a → is_lt (nat_cmp a b) ≡ false
+not_below a b le = grind (arith, nat_tests)
+
+-- the last part of a table comes behind its others
+last_behind : (h : History) (table : List ℕ) (part p : CorePart) → IsLegal h → part.name.partition ≡ Whole → length (numbered table h) < part.name.min_block → p.table ≡ table → PartStands h p → is_lt (block_cmp part p) ≡ false
+last_behind h table part p legal whole lt own s =
+    let other : p.name.partition ≡ Whole = sym s.least.partition_is ∙ whole_at (numbered p.table h) (p.name.min_block - 1) s.least.insert (all_whole p.table h legal) s.least.there in
+    let upto : p.name.min_block ≤ length (numbered table h) =
+    subst (λ t. p.name.min_block ≤ length (numbered t h)) own (number_drawn p.table p.name.partition p.name.min_block h s.least) in
+    ap₂ (λ a b. is_lt (ordering_then (partition_cmp a b) (nat_cmp part.name.min_block p.name.min_block))) whole other ∙ not_below part.name.min_block p.name.min_block (omega (arith, upto, lt))
+
+order_push : (ps : List CorePart) (part : CorePart) → AreInBlockOrder ps → All (λ (p : CorePart). is_lt (block_cmp part p) ≡ false) ps → AreInBlockOrder (ps ++ part ∷ [])
+order_push ps part up all = IsSortedBy-push (λ x y. is_lt (block_cmp x y)) ps part up (λ d some. all (length ps - 1) d (omega arith))
+
+-- an INSERT's part comes behind the others of its table
+pub order_grown : (h : History) (i : Insert) (schema : Schema) (ps : List CorePart) → IsLegal h → i.partition ≡ Whole → TableStands i.table ps h → AreInBlockOrder ps → AreInBlockOrder (ps ++ part_of_insert schema (next_number i.table h) i ∷ [])
+order_grown h i schema ps legal whole stands up =
+    order_push ps (part_of_insert schema (next_number i.table h) i) up
+    (λ k d below. last_behind h i.table (part_of_insert schema (next_number i.table h) i) (get_or ps k d) legal whole (omega arith) (stands.own k d below) (stands.each k d below))
+
+-- ---- snapshots
+
+snapshot_kept : (h more : History) (s : Snapshot) → IsSnapshot h s → IsSnapshot (h ++ more) s
+snapshot_kept h more s one =
+    let front : take s.length (h ++ more) ≡ take s.length h = take-append-le s.length h more one.within in
+    let longer = length-append h more in
+    record {
+      within = omega (arith, one.within, longer);
+      there = subst (λ (x : History). IsSome (schema_of s.table x)) (sym front) one.there;
+      stands = subst (λ (x : History). TableStands s.table s.parts x) (sym front) one.stands;
+      order = one.order;
+    }
+
+snapshots_kept : (h more : History) (ss : List Snapshot) → All (IsSnapshot h) ss → All (IsSnapshot (h ++ more)) ss
+snapshots_kept h more ss all = All-weaker (IsSnapshot h) (IsSnapshot (h ++ more)) (λ s one. snapshot_kept h more s one) ss all
+
+-- the rows of a snapshot are what merges may have left of the live rows of its front of the history
+pub reads_left : (core : Core) (number : ℕ) (s : Snapshot) → IsCore core → slice_get core.snapshots number ≡ Some s → AreLeftOf s.table s.length core.history (rows_of_parts s.parts)
+reads_left core number s is at schema there =
+    let below = slice_get_within core.snapshots number s at in
+    let one : IsSnapshot core.history s = subst (IsSnapshot core.history) (get_or_from_slice_get core.snapshots number s s at) (is.snapshots number s below) in
+    let front = take s.length core.history in
+    let legal : IsLegal front = legal_front front (drop s.length core.history) (subst IsLegal (sym (take-append-drop s.length core.history)) is.legal) in
+    parts_joined front s.table schema legal there s.parts one.stands one.order
+
+-- ---- the ways in which the state changes
+
+pub record Created (old new : Core) : Type 0 where
+  pub session : ℕ
+  pub create : Create
+  pub schema : IsTableSchema create.schema
+  pub absent : schema_of create.table old.history ≡ None
+  pub few : creates old.history < 65536
+  pub new_is : new ≡ record { parts = old.parts; history = entered old.history session (command.Create create); snapshots = old.snapshots }
+
+pub record Inserted (old new : Core) : Type 0 where
+  pub session : ℕ
+  pub insert : Insert
+  pub place : ℕ
+  pub accepts : AcceptsInsert old session insert place new
+  pub into : IsInsertInto accepts.schema insert
+
+pub record Took (old new : Core) : Type 0 where
+  pub table : List ℕ
+  pub there : IsSome (schema_of table old.history)
+  pub new_is : new ≡ record { parts = old.parts; history = old.history; snapshots = old.snapshots ++ snapshot_of table old ∷ [] }
+
+pub data Change (old new : Core) : Type 0 where
+  Same : new ≡ old → Change old new
+  Made : Created old new → Change old new
+  Added : Inserted old new → Change old new
+  Taken : Took old new → Change old new
+
+pub changes : (old new : Core) (e : Event) (given : Outcome) → MayCome old.history e → Gives old e given new → Change old new
+changes old new (event.Create session c) (outcome.Accepted place) may g = Made (record { session = session; create = c; schema = may; absent = g.0; few = g.1; new_is = g.3 })
+changes old new (event.Create session c) (outcome.Refused guard.TableExists) may g = Same g.1
+changes old new (event.Create session c) (outcome.Refused guard.Creates) may g = Same g.2
+changes old new (event.Create session c) (outcome.Refused guard.NoTable) may g = absurd g
+changes old new (event.Create session c) (outcome.Refused guard.Numbers) may g = absurd g
+changes old new (event.Create session c) (outcome.Refused guard.NoSnapshot) may g = absurd g
+changes old new (event.Create session c) (outcome.Taken number) may g = absurd g
+changes old new (event.Create session c) (outcome.Rows rows place) may g = absurd g
+changes old new (event.Insert session i) (outcome.Accepted place) may g = Added (record { session = session; insert = i; place = place; accepts = g; into = may g.schema g.there })
+changes old new (event.Insert session i) (outcome.Refused guard.NoTable) may g = Same g.1
+changes old new (event.Insert session i) (outcome.Refused guard.Numbers) may g = Same g.2
+changes old new (event.Insert session i) (outcome.Refused guard.TableExists) may g = absurd g
+changes old new (event.Insert session i) (outcome.Refused guard.Creates) may g = absurd g
+changes old new (event.Insert session i) (outcome.Refused guard.NoSnapshot) may g = absurd g
+changes old new (event.Insert session i) (outcome.Taken number) may g = absurd g
+changes old new (event.Insert session i) (outcome.Rows rows place) may g = absurd g
+changes old new (event.TakeSnapshot table) (outcome.Taken number) may g = Taken (record { table = table; there = g.0; new_is = g.2 })
+changes old new (event.TakeSnapshot table) (outcome.Refused guard.NoTable) may g = Same g.1
+changes old new (event.TakeSnapshot table) (outcome.Refused guard.TableExists) may g = absurd g
+changes old new (event.TakeSnapshot table) (outcome.Refused guard.Creates) may g = absurd g
+changes old new (event.TakeSnapshot table) (outcome.Refused guard.Numbers) may g = absurd g
+changes old new (event.TakeSnapshot table) (outcome.Refused guard.NoSnapshot) may g = absurd g
+changes old new (event.TakeSnapshot table) (outcome.Accepted place) may g = absurd g
+changes old new (event.TakeSnapshot table) (outcome.Rows rows place) may g = absurd g
+changes old new (event.ReadSnapshot number) (outcome.Rows rows place) may g = Same g.4
+changes old new (event.ReadSnapshot number) (outcome.Refused guard.NoSnapshot) may g = Same g.1
+changes old new (event.ReadSnapshot number) (outcome.Refused guard.NoTable) may g = absurd g
+changes old new (event.ReadSnapshot number) (outcome.Refused guard.TableExists) may g = absurd g
+changes old new (event.ReadSnapshot number) (outcome.Refused guard.Creates) may g = absurd g
+changes old new (event.ReadSnapshot number) (outcome.Refused guard.Numbers) may g = absurd g
+changes old new (event.ReadSnapshot number) (outcome.Accepted place) may g = absurd g
+changes old new (event.ReadSnapshot number) (outcome.Taken taken) may g = absurd g
+
+-- ---- what always holds
+
+pub create_core : (old : Core) (session : ℕ) (c : Create) → IsCore old → IsTableSchema c.schema → schema_of c.table old.history ≡ None → creates old.history < 65536
+    → IsCore (record { parts = old.parts; history = entered old.history session (command.Create c); snapshots = old.snapshots })
+create_core old session c is schema absent few =
+    let e : Entry = record { session = session; command = command.Create c } in
+    record {
+      legal = legal_push old.history e is.legal (absent, few, schema);
+      parts = λ t. table_kept t (parts_of t old.parts) old.history (e ∷ []) refl (is.parts t);
+      order = is.order;
+      snapshots = snapshots_kept old.history (e ∷ []) old.snapshots is.snapshots;
+    }
+
+pub take_core : (old : Core) (table : List ℕ) → IsCore old → IsSome (schema_of table old.history)
+    → IsCore (record { parts = old.parts; history = old.history; snapshots = old.snapshots ++ snapshot_of table old ∷ [] })
+take_core old table is there =
+    let all : take (length old.history) old.history ≡ old.history = take_all (length old.history) old.history (omega arith) in
+    let one : IsSnapshot old.history (snapshot_of table old) = record {
+      within = omega arith;
+      there = subst (λ (x : History). IsSome (schema_of table x)) (sym all) there;
+      stands = subst (λ (x : History). TableStands table (parts_of table old.parts) x) (sym all) (is.parts table);
+      order = is.order table;
+    } in
+    record {
+      legal = is.legal;
+      parts = is.parts;
+      order = is.order;
+      snapshots = All-push (IsSnapshot old.history) old.snapshots (snapshot_of table old) is.snapshots one;
+    }
+
+module _ (old new : Core) (session : ℕ) (i : Insert) (place : ℕ) (is : IsCore old) (a : AcceptsInsert old session i place new) (into : IsInsertInto a.schema i) where
+  abbrev h : History
+  h = old.history
+
+  abbrev e : Entry
+  e = record { session = session; command = command.Insert i }
+
+  abbrev part : CorePart
+  part = part_of_insert a.schema (next_number i.table h) i
+
+  stands_here : TableStands i.table (parts_of i.table new.parts) (h ++ e ∷ [])
+  stands_here =
+      subst (λ (ps : List CorePart). TableStands i.table ps (old.history ++ e ∷ []))
+      (sym (parts_added_here part old.parts new.parts a.parts))
+      (table_grown old.history e i a.schema refl a.there (parts_of i.table old.parts) (is.parts i.table))
+
+  stands_apart : (t : List ℕ) → same_bytes i.table t ≡ false → TableStands t (parts_of t new.parts) (h ++ e ∷ [])
+  stands_apart t apart =
+      subst (λ (ps : List CorePart). TableStands t ps (old.history ++ e ∷ []))
+      (sym (parts_added_apart t part old.parts new.parts a.parts apart))
+      (table_kept t (parts_of t old.parts) old.history (e ∷ [])
+      (drawn_apart old.history e i a.schema refl a.there t apart) (is.parts t))
+
+  stand_all : PartsStand new.parts (h ++ e ∷ [])
+  stand_all t = by (same_bytes i.table t) refl
+    where
+      by : (b : Bool) → same_bytes i.table t ≡ b → TableStands t (parts_of t new.parts) (h ++ e ∷ [])
+      by true same = subst (λ u. TableStands u (parts_of u new.parts) (h ++ e ∷ [])) (same_is i.table t same) stands_here
+      by false apart = stands_apart t apart
+
+  order_here : AreInBlockOrder (parts_of i.table new.parts)
+  order_here =
+      subst AreInBlockOrder (sym (parts_added_here part old.parts new.parts a.parts))
+      (order_grown old.history i a.schema (parts_of i.table old.parts) is.legal into.partition (is.parts i.table) (is.order i.table))
+
+  order_all : (t : List ℕ) → AreInBlockOrder (parts_of t new.parts)
+  order_all t = by (same_bytes i.table t) refl
+    where
+      by : (b : Bool) → same_bytes i.table t ≡ b → AreInBlockOrder (parts_of t new.parts)
+      by true same = subst (λ u. AreInBlockOrder (parts_of u new.parts)) (same_is i.table t same) order_here
+      by false apart = subst AreInBlockOrder (sym (parts_added_apart t part old.parts new.parts a.parts apart)) (is.order t)
+
+  pub insert_core : IsCore new
+  insert_core =
+      let entry : Entry = record { session = session; command = command.Insert i } in
+      let more = sym a.history in
+      record {
+        legal = subst IsLegal more (legal_push old.history entry is.legal (a.schema, a.there, into));
+        parts = subst (PartsStand new.parts) more stand_all;
+        order = order_all;
+        snapshots = subst (λ (ss : List Snapshot). All (IsSnapshot new.history) ss) (sym a.snapshots)
+            (subst (λ (x : History). All (IsSnapshot x) old.snapshots) more (snapshots_kept old.history (entry ∷ []) old.snapshots is.snapshots));
+      }
+
+pub change_core : (old new : Core) → IsCore old → Change old new → IsCore new
+change_core old new is (Same same) = subst IsCore (sym same) is
+change_core old new is (Made m) = subst IsCore (sym m.new_is) (create_core old m.session m.create is m.schema m.absent m.few)
+change_core old new is (Added a) = insert_core old new a.session a.insert a.place is a.accepts a.into
+change_core old new is (Taken t) = subst IsCore (sym t.new_is) (take_core old t.table is t.there)
+
+-- the core is kept
+pub gives_core : (old new : Core) (e : Event) (given : Outcome) → IsCore old → MayCome old.history e → Gives old e given new → IsCore new
+gives_core old new e given is may g = change_core old new is (changes old new e given may g)

@@ -1,0 +1,22 @@
+use Rattle.std.proofs.Common.{List, ap, refl, ◌∙◌}
+use Rattle.table_core.specs.declared.part.Snapshot.{Snapshot}
+use Rattle.indexmap.specs.IndexMap.{set_value_at}
+use Rattle.table_core.specs.Store.{with_part}
+use Rattle.table_core.proofs.Stored.{on_err, one_value, set_same, value_at}
+use Rattle.table_core.proofs.store.Store.enter_part.Goals as goal
+
+-- the table at the place was not changed
+pub returns-in_err-add_part-clause-err : goal.returns-in_err-add_part-clause-err
+returns-in_err-add_part-clause-err c =
+    let tables = c.args.self.now.tables.entries in
+    on_err c.from_residual-in_err-add_part.result _ (record {
+      tables = ap (set_value_at tables c.args.place) c.in_err-add_part.ensures.err ∙ set_same tables c.args.place _ c.index_mut.ensures.value;
+      entries = c.in_ok-reserve.ensures.items;
+      snapshots = refl {A = List Snapshot};
+    })
+
+pub returns-clause-tables : goal.returns-clause-tables
+returns-clause-tables c = λ t at.
+    let tables = c.args.self.now.tables.entries in
+    let is = one_value _ _ _ c.index_mut.ensures.value (value_at tables c.args.place t at) in
+    ap (set_value_at tables c.args.place) (c.in_ok-add_part.ensures.ok ∙ ap (λ v. with_part v c.args.part c.args.number) is)

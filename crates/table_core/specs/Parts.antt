@@ -1,0 +1,63 @@
+-- Parts that stand for a history (docs/definitions.md, "The core").
+use Rattle.std.specs.Prelude.{◌≡◌, ◌&&◌, ℕ, Bool, List, All, Some, filter}
+use Rattle.std.specs.List.{count_by, flat_map}
+use Rattle.std.specs.List.Sorted.{IsSorted}
+use Rattle.std.specs.Ordering.{nat_cmp, ordering_then}
+use Rattle.std.specs.declared.cmp.Ordering.{Ordering}
+use Rattle.std.specs.declared.cmp.Ordering.TheVariants.{Less, Equal, Greater}
+use Rattle.mt_base.specs.declared.partition.Partition.{Partition}
+use Rattle.mt_base.specs.declared.partition.Partition.TheVariants.{Whole, Number}
+use Rattle.mt_values.specs.declared.schema.Schema.{Schema}
+use Rattle.mt_values.specs.Grammar.{same_bytes}
+use Rattle.mt_values.specs.Order.{key_cmp}
+use Rattle.mt_values.specs.Values.{Row}
+use Rattle.mt_model.specs.History.{History, schema_of}
+use Rattle.mt_model.specs.Live.{live}
+use Rattle.mt_model.specs.Partial.{Partly}
+use Rattle.table_core.specs.declared.part.CorePart.{CorePart}
+use Rattle.table_core.specs.Numbers.{IsInsertOf, lies_within, same_partition, within}
+
+-- the parts of a table, in their order (docs/definitions.md, "The core")
+abbrev pub parts_of : List ℕ → List CorePart → List CorePart
+parts_of table parts = filter (λ (p : CorePart). same_bytes p.table table) parts
+
+-- the rows of parts, one part after another
+abbrev pub rows_of_parts : List CorePart → List Row
+rows_of_parts parts = flat_map (λ (p : CorePart). p.rows) parts
+
+-- whether a part is of the partition, and the number lies within its blocks (docs/definitions.md, "The core")
+abbrev pub has_block : Partition → ℕ → CorePart → Bool
+has_block partition n part = same_partition part.name.partition partition && lies_within part.name.min_block part.name.max_block n
+
+-- a part stands for the INSERTs into its table and partition whose numbers lie within its blocks (docs/definitions.md, "The core")
+pub record PartStands (h : History) (part : CorePart) : Type 0 where
+  pub schema : Schema
+  pub there : schema_of part.table h ≡ Some schema
+  pub least : IsInsertOf part.table part.name.partition part.name.min_block h
+  pub greatest : IsInsertOf part.table part.name.partition part.name.max_block h
+  pub rising : IsSorted (key_cmp schema.key) part.rows
+  pub partly : Partly schema.key (live part.table schema.key (within part.table part.name.partition part.name.min_block part.name.max_block h)) part.rows
+
+-- parts of one table stand for its commands: each number of an INSERT is in the blocks of exactly one of its partition (docs/definitions.md, "The core")
+pub record TableStands (table : List ℕ) (parts : List CorePart) (h : History) : Type 0 where
+  pub own : All (λ (p : CorePart). p.table ≡ table) parts
+  pub each : All (PartStands h) parts
+  pub once : (partition : Partition) (n : ℕ) → IsInsertOf table partition n h → count_by (has_block partition n) parts ≡ 1
+
+-- the parts stand for the history: those of every table do (docs/definitions.md, "The core")
+abbrev pub PartsStand : List CorePart → History → Type 0
+PartsStand parts h = (table : List ℕ) → TableStands table (parts_of table parts) h
+
+-- the whole comes before the partitions that have numbers, and these by their numbers
+abbrev pub partition_cmp : Partition → Partition → Ordering
+partition_cmp Whole Whole = Equal
+partition_cmp Whole (Number n) = Less
+partition_cmp (Number m) Whole = Greater
+partition_cmp (Number m) (Number n) = nat_cmp m n
+
+-- block order: by the partition, then by the least block (docs/definitions.md, "The core")
+abbrev pub block_cmp : CorePart → CorePart → Ordering
+block_cmp a b = ordering_then (partition_cmp a.name.partition b.name.partition) (nat_cmp a.name.min_block b.name.min_block)
+
+abbrev pub AreInBlockOrder : List CorePart → Type 0
+AreInBlockOrder parts = IsSorted block_cmp parts

@@ -1,0 +1,109 @@
+-- What each event gives, and the state that it leaves (docs/definitions.md, "The core").
+use Rattle.std.specs.Prelude.{◌≡◌, ◌+◌, ◌<◌, ◌≤◌, ℕ, List, [], ◌∷◌, ◌++◌, Some, None, IsSome, length, slice_get, take}
+use Rattle.mt_values.specs.declared.command.Command.{Command}
+use Rattle.mt_values.specs.declared.command.Command.TheVariants as command
+use Rattle.mt_values.specs.declared.command.Create.{Create}
+use Rattle.mt_values.specs.declared.command.Insert.{Insert}
+use Rattle.mt_values.specs.declared.schema.Schema.{Schema}
+use Rattle.mt_values.specs.Order.{key_cmp}
+use Rattle.mt_values.specs.Values.{Row}
+use Rattle.mt_model.specs.History.{History, IsInsertInto, IsTableSchema, creates, schema_of}
+use Rattle.mt_model.specs.Live.{live, sorted}
+use Rattle.mt_model.specs.Partial.{Partly}
+use Rattle.table_core.specs.declared.event.Event.{Event}
+use Rattle.table_core.specs.declared.event.Event.TheVariants as event
+use Rattle.table_core.specs.declared.event.Guard.TheVariants as guard
+use Rattle.table_core.specs.declared.event.Outcome.{Outcome}
+use Rattle.table_core.specs.declared.event.Outcome.TheVariants as outcome
+use Rattle.table_core.specs.declared.part.CorePart.{CorePart}
+use Rattle.table_core.specs.declared.part.Snapshot.{Snapshot}
+use Rattle.table_core.specs.Core.{Core}
+use Rattle.table_core.specs.Numbers.{numbered}
+use Rattle.table_core.specs.Parts.{parts_of, rows_of_parts}
+
+-- an event may come: a CREATE has a schema that a table may have, an INSERT has rows of its table, where there is the table (docs/definitions.md, "The core")
+abbrev pub MayCome : History → Event → Type 0
+MayCome h (event.Create session c) = IsTableSchema c.schema
+MayCome h (event.Insert session i) = (schema : Schema) → schema_of i.table h ≡ Some schema → IsInsertInto schema i
+MayCome h (event.TakeSnapshot table) = Unit {0}
+MayCome h (event.ReadSnapshot number) = Unit {0}
+
+-- the history with one entry more
+abbrev pub entered : History → ℕ → Command → History
+entered h session c = h ++ record { session = session; command = c } ∷ []
+
+-- the number that the table's next command draws
+abbrev pub next_number : List ℕ → History → ℕ
+next_number table h = length (numbered table h) + 1
+
+-- the part that an INSERT makes: its own number alone, and its rows in the order of the key, those of equal keys as they came (docs/definitions.md, "The core")
+abbrev pub part_of_insert : Schema → ℕ → Insert → CorePart
+part_of_insert schema number i = record {
+  table = i.table;
+  name = record { partition = i.partition; min_block = number; max_block = number; level = 0; mutation = None };
+  rows = sorted (key_cmp schema.key) i.block.rows;
+}
+
+-- one part more, behind all others of its table; the others stay as they were (docs/definitions.md, "The core")
+pub record AddsPart (part : CorePart) (old new : List CorePart) : Type 0 where
+  pub front : List CorePart
+  pub behind : List CorePart
+  pub old_is : old ≡ front ++ behind
+  pub new_is : new ≡ front ++ part ∷ behind
+  pub last : parts_of part.table behind ≡ []
+
+-- a CREATE: accepted, or refused since there is the table, or else since there are 65,536 (docs/definitions.md, "The core")
+abbrev pub CreateGives : Core → ℕ → Create → Outcome → Core → Type 0
+CreateGives old session c (outcome.Accepted place) new =
+    (schema_of c.table old.history ≡ None) × (creates old.history < 65536) × (place ≡ length old.history + 1)
+    × (new ≡ record { parts = old.parts; history = entered old.history session (command.Create c); snapshots = old.snapshots })
+CreateGives old session c (outcome.Refused guard.TableExists) new = IsSome (schema_of c.table old.history) × (new ≡ old)
+CreateGives old session c (outcome.Refused guard.Creates) new = (schema_of c.table old.history ≡ None) × (65536 ≤ creates old.history) × (new ≡ old)
+CreateGives old session c given new = ⊥
+
+-- an INSERT that is accepted: its entry comes behind the others, and its part behind those of its table
+pub record AcceptsInsert (old : Core) (session : ℕ) (i : Insert) (place : ℕ) (new : Core) : Type 0 where
+  pub schema : Schema
+  pub there : schema_of i.table old.history ≡ Some schema
+  pub room : next_number i.table old.history ≤ 4294967295
+  pub place_is : place ≡ length old.history + 1
+  pub parts : AddsPart (part_of_insert schema (next_number i.table old.history) i) old.parts new.parts
+  pub history : new.history ≡ entered old.history session (command.Insert i)
+  pub snapshots : new.snapshots ≡ old.snapshots
+
+-- an INSERT: accepted, or refused since there is no such table, or else since no number is left (docs/definitions.md, "The core")
+abbrev pub InsertGives : Core → ℕ → Insert → Outcome → Core → Type 0
+InsertGives old session i (outcome.Accepted place) new = AcceptsInsert old session i place new
+InsertGives old session i (outcome.Refused guard.NoTable) new = (schema_of i.table old.history ≡ None) × (new ≡ old)
+InsertGives old session i (outcome.Refused guard.Numbers) new = IsSome (schema_of i.table old.history) × (4294967295 < next_number i.table old.history) × (new ≡ old)
+InsertGives old session i given new = ⊥
+
+-- the snapshot of a table as it is now
+abbrev pub snapshot_of : List ℕ → Core → Snapshot
+snapshot_of table core = record { table = table; parts = parts_of table core.parts; length = length core.history }
+
+-- the taking of a snapshot: one more, or refused since there is no such table (docs/definitions.md, "The core")
+abbrev pub TakeGives : Core → List ℕ → Outcome → Core → Type 0
+TakeGives old table (outcome.Taken number) new =
+    IsSome (schema_of table old.history) × (number ≡ length old.snapshots)
+    × (new ≡ record { parts = old.parts; history = old.history; snapshots = old.snapshots ++ snapshot_of table old ∷ [] })
+TakeGives old table (outcome.Refused guard.NoTable) new = (schema_of table old.history ≡ None) × (new ≡ old)
+TakeGives old table given new = ⊥
+
+-- the reading of a snapshot: the rows of its parts, one part after another, or refused since there is no such snapshot (docs/definitions.md, "The core")
+abbrev pub ReadGives : Core → ℕ → Outcome → Core → Type 0
+ReadGives old number (outcome.Rows rows place) new =
+    (s : Snapshot) × (slice_get old.snapshots number ≡ Some s) × (rows ≡ rows_of_parts s.parts) × (place ≡ s.length) × (new ≡ old)
+ReadGives old number (outcome.Refused guard.NoSnapshot) new = (slice_get old.snapshots number ≡ None) × (new ≡ old)
+ReadGives old number given new = ⊥
+
+-- what an event gives, and the state behind it (docs/definitions.md, "The core")
+abbrev pub Gives : Core → Event → Outcome → Core → Type 0
+Gives old (event.Create session c) given new = CreateGives old session c given new
+Gives old (event.Insert session i) given new = InsertGives old session i given new
+Gives old (event.TakeSnapshot table) given new = TakeGives old table given new
+Gives old (event.ReadSnapshot number) given new = ReadGives old number given new
+
+-- rows are what merges may have left of a table's live rows after as many entries of a history as the place says (docs/definitions.md, "The core")
+abbrev pub AreLeftOf : List ℕ → ℕ → History → List Row → Type 0
+AreLeftOf table place h rows = (schema : Schema) → schema_of table (take place h) ≡ Some schema → Partly schema.key (live table schema.key (take place h)) rows

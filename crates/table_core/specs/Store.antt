@@ -1,0 +1,83 @@
+-- What the state keeps, and what always holds of it.
+use Rattle.std.specs.Prelude.{◌≡◌, ℕ, List, [], ◌∷◌, ◌++◌, All, Some, Vec, false, length, map}
+use Rattle.std.specs.declared.alloc.Global.{Global}
+use Rattle.std.specs.List.{AllByRecursion, flat_map}
+use Rattle.mt_values.specs.declared.command.Command.{Command}
+use Rattle.mt_values.specs.declared.command.Command.TheVariants as command
+use Rattle.mt_values.specs.declared.command.Create.{Create}
+use Rattle.mt_values.specs.declared.schema.Schema.{Schema}
+use Rattle.mt_values.specs.Grammar.{same_bytes}
+use Rattle.mt_model.specs.History.{History, schema_of}
+use Rattle.table_core.specs.declared.part.CorePart.{CorePart}
+use Rattle.table_core.specs.declared.store.Store.{Store}
+use Rattle.table_core.specs.declared.store.Table.{Table}
+use Rattle.table_core.specs.Core.{Core, IsCore}
+use Rattle.table_core.specs.Numbers.{numbered}
+
+-- a table with its name
+abbrev pub Named : Type 0
+Named = Vec ℕ Global × Table
+
+-- the parts of all tables, one table after another
+abbrev pub parts_in : List Named → List CorePart
+parts_in tables = flat_map (λ (t : Named). t.1.parts) tables
+
+-- what contracts see of the store
+abbrev pub core_of : Store → Core
+core_of store = record { parts = parts_in store.tables.entries; history = store.entries.items; snapshots = store.snapshots.items }
+
+abbrev pub name_by : Command → List (List ℕ)
+name_by (command.Create c) = c.table ∷ []
+name_by (command.Insert i) = []
+
+-- the names of the tables, in the order in which they were made
+abbrev pub table_names : History → List (List ℕ)
+table_names [] = []
+table_names (e ∷ h) = name_by e.command ++ table_names h
+
+-- a table has its schema, the last number that was drawn, and its own parts
+pub record TableKept (h : History) (t : Named) : Type 0 where
+  pub schema_is : schema_of t.0.items h ≡ Some t.1.schema
+  pub last_is : t.1.last ≡ length (numbered t.0.items h)
+  pub own : All (λ (p : CorePart). p.table ≡ t.0.items) t.1.parts
+
+-- what always holds of the store
+pub record IsStore (store : Store) : Type 0 where
+  pub core : IsCore (core_of store)
+  pub names : map (λ (t : Named). t.0.items) store.tables.entries ≡ table_names store.entries.items
+  pub each : All (TableKept store.entries.items) store.tables.entries
+
+-- a table has another name
+abbrev pub IsNotNamed : List ℕ → Named → Type 0
+IsNotNamed table t = same_bytes t.0.items table ≡ false
+
+-- where the one table of this name stands among the tables
+pub record StandsAt (tables : List Named) (table : List ℕ) (place : ℕ) : Type 0 where
+  pub front : List Named
+  pub here : Named
+  pub back : List Named
+  pub tables_are : tables ≡ front ++ here ∷ back
+  pub place_is : place ≡ length front
+  pub name_is : here.0.items ≡ table
+  pub before : AllByRecursion (IsNotNamed table) front
+  pub behind : AllByRecursion (IsNotNamed table) back
+
+-- a table without parts
+abbrev pub empty_table : Schema → Table
+empty_table schema = record { schema = schema; parts = []; last = 0 }
+
+-- a table with one part more, whose number is the last that was drawn
+abbrev pub with_part : Table → CorePart → ℕ → Table
+with_part table part number = record { schema = table.schema; parts = table.parts ++ part ∷ []; last = number }
+
+-- one table more, behind the others
+pub record AddsTable (c : Create) (old new : List Named) : Type 0 where
+  pub key : Vec ℕ Global
+  pub key_is : key.items ≡ c.table
+  pub tables_are : new ≡ old ++ (key, empty_table c.schema) ∷ []
+
+-- the same tables, commands and snapshots
+pub record SameStore (old new : Store) : Type 0 where
+  pub tables : new.tables.entries ≡ old.tables.entries
+  pub entries : new.entries.items ≡ old.entries.items
+  pub snapshots : new.snapshots.items ≡ old.snapshots.items

@@ -1,0 +1,31 @@
+// Parts with their rows, and snapshots.
+use mt_base::{NoMemory, Seq, Twin};
+use mt_values::{Name, Row};
+use part_name::PartName;
+use std::alloc::Global;
+
+/// A part of a table, with its rows.
+#[derive(Debug, Drop)]
+pub struct CorePart {
+    pub table: Name,
+    pub name: PartName,
+    pub rows: Seq<Row>,
+}
+
+/// The parts of a table as they stood at a length of the history, in block order.
+#[derive(Debug, Drop)]
+pub struct Snapshot {
+    pub table: Name,
+    pub parts: Seq<CorePart>,
+    pub length: usize,
+}
+
+impl Twin for CorePart {
+    fn twin(&self, alloc: Global) -> Result<Self, NoMemory> {
+        Ok(CorePart {
+            table: self.table.twin(alloc)?,
+            name: self.name,
+            rows: self.rows.twin(alloc)?,
+        })
+    }
+}

@@ -1,0 +1,34 @@
+// Runs of events.
+ghost use Rattle.std.specs.Prelude.{◌≡◌, IfOk};
+ghost use Rattle.table_core.specs.Core.{IsCore, empty_core};
+ghost use Rattle.table_core.specs.Runs.{MayRun, Runs, TellsLeft, TellsSnapshots};
+
+use crate::{CoreState, Event, Outcome, step};
+use mt_base::NoMemory;
+use std::alloc::Global;
+
+/// What a run of events gave, and the state that it left.
+#[derive(Drop)]
+pub struct Done {
+    /// What each event gave, in order.
+    pub outcomes: Vec<Outcome>,
+    pub state: CoreState,
+}
+
+/// Lets events happen one after another, from the state before any event on.
+///
+/// `NoMemory` where a growth was refused.
+pub fn run(alloc: Global, events: Vec<Event>) -> Result<Done, NoMemory>
+    requires { MayRun empty_core events.items }
+    ensures run { IfOk result (λ done. Runs empty_core events.items done.outcomes.items done.state) }
+    ensures core { IfOk result (λ done. IsCore done.state) }
+    ensures read { IfOk result (λ done. TellsLeft events.items done.outcomes.items done.state) }
+    ensures taken { IfOk result (λ done. TellsSnapshots events.items done.outcomes.items done.state) }
+{
+    let mut state = CoreState::new(alloc);
+    let mut outcomes = Vec::new(alloc);
+    for event in events {
+        outcomes.push(step(alloc, &mut state, event)?)?;
+    }
+    Ok(Done { outcomes, state })
+}

@@ -1,0 +1,178 @@
+// One event after another, over the store.
+ghost use Rattle.std.specs.Prelude.{◌≡◌, ◌<◌, ◌++◌, All, IfOk, OnErr, OnOk, Some, length};
+ghost use Rattle.mt_values.specs.declared.schema.Schema.{Schema};
+ghost use Rattle.mt_values.specs.Grid.{picked};
+ghost use Rattle.mt_model.specs.History.{IsInsertInto, IsTableSchema, schema_of};
+ghost use Rattle.table_core.specs.Parts.{rows_of_parts};
+ghost use Rattle.table_core.specs.Steps as steps;
+ghost use Rattle.table_core.specs.Steps.{CreateGives, Gives, InsertGives, MayCome, ReadGives, TakeGives};
+ghost use Rattle.table_core.specs.Store.{IsStore, core_of};
+
+use crate::store::Store;
+use crate::{CorePart, Event, Guard, Outcome, Snapshot};
+use mt_base::{NoMemory, Seq, Twin};
+use mt_values::{Block, Create, Insert, Name, Row, Schema};
+use part_name::PartName;
+use std::alloc::Global;
+
+/// As many tables are made at most.
+const MOST_TABLES: usize = 65_536;
+
+/// What happens at an event.
+///
+/// `NoMemory` where a growth was refused; contracts see the store as it was.
+pub fn happen(alloc: Global, store: &mut Store, event: Event) -> Result<Outcome, NoMemory>
+    requires store { IsStore store.old }
+    requires may { MayCome store.old.entries.items event }
+    ensures gives { IfOk result (λ given. Gives (core_of store.old) event given (core_of store.new)) }
+    ensures err { OnErr result (core_of store.new ≡ core_of store.old) }
+    ensures store { IsStore store.new }
+{
+    match event {
+        Event::Create { session, create } => make_table(alloc, store, session, create),
+        Event::Insert { session, insert } => add_rows(alloc, store, session, insert),
+        Event::TakeSnapshot { table } => take_snapshot(alloc, store, table),
+        Event::ReadSnapshot { number } => read_snapshot(alloc, store, number),
+    }
+}
+
+/// Makes a table, unless there is one of its name or there are too many.
+fn make_table(
+    alloc: Global,
+    store: &mut Store,
+    session: u64,
+    create: Create,
+) -> Result<Outcome, NoMemory>
+    requires store { IsStore store.old }
+    requires schema { IsTableSchema create.schema }
+    ensures gives { IfOk result (λ given. CreateGives (core_of store.old) session create given (core_of store.new)) }
+    ensures err { OnErr result (core_of store.new ≡ core_of store.old) }
+    ensures store { IsStore store.new }
+{
+    if store.find(&create.table).is_some() {
+        return Ok(Outcome::Refused(Guard::TableExists));
+    }
+    if store.tables.len() >= MOST_TABLES {
+        return Ok(Outcome::Refused(Guard::Creates));
+    }
+    let length = store.entries.len() + 1;
+    store.enter_table(alloc, session, create)?;
+    Ok(Outcome::Accepted { length })
+}
+
+/// Adds the rows of an INSERT as a part of their own, unless there is no such table or it has no number left.
+fn add_rows(
+    alloc: Global,
+    store: &mut Store,
+    session: u64,
+    insert: Insert,
+) -> Result<Outcome, NoMemory>
+    requires store { IsStore store.old }
+    requires rows { (schema : Schema) → schema_of insert.table store.old.entries.items ≡ Some schema → IsInsertInto schema insert }
+    ensures gives { IfOk result (λ given. InsertGives (core_of store.old) session insert given (core_of store.new)) }
+    ensures err { OnErr result (core_of store.new ≡ core_of store.old) }
+    ensures store { IsStore store.new }
+{
+    let Some(place) = store.find(&insert.table) else {
+        return Ok(Outcome::Refused(Guard::NoTable));
+    };
+    let table = &store.tables[place];
+    let Some(number) = table.last.checked_add(1) else {
+        return Ok(Outcome::Refused(Guard::Numbers));
+    };
+    let part = part_of_insert(alloc, &table.schema, number, &insert)?;
+    let length = store.entries.len() + 1;
+    store.enter_part(place, session, insert, part, number)?;
+    Ok(Outcome::Accepted { length })
+}
+
+/// The part that an INSERT makes: of its own number alone, with its rows in the order of the key.
+fn part_of_insert(
+    alloc: Global,
+    schema: &Schema,
+    number: u32,
+    insert: &Insert,
+) -> Result<CorePart, NoMemory>
+    requires { All (λ place. place < length insert.now.block.types) schema.now.key }
+    ensures { IfOk result (λ part. part ≡ steps.part_of_insert schema.now number insert.now) }
+{
+    let order = insert.block.key_order(alloc, schema)?;
+    Ok(CorePart {
+        table: insert.table.twin(alloc)?,
+        name: PartName {
+            partition: insert.partition,
+            min_block: number,
+            max_block: number,
+            level: 0,
+            mutation: None,
+        },
+        rows: rows_at(alloc, &insert.block, &order)?,
+    })
+}
+
+/// The rows of a block at these places, in this order.
+fn rows_at(alloc: Global, block: &Block, places: &[u32]) -> Result<Seq<Row>, NoMemory>
+    requires { All (λ place. place < length block.now.rows) places.now }
+    ensures { IfOk result (λ rows. rows ≡ picked block.now.rows places.now) }
+{
+    let mut rows = Seq::with_capacity(alloc, places.len())?;
+    for place in places {
+        rows.push(block.row(alloc, *place as usize)?)?;
+    }
+    Ok(rows)
+}
+
+/// Takes a snapshot of a table as it is now, unless there is no such table.
+fn take_snapshot(alloc: Global, store: &mut Store, table: Name) -> Result<Outcome, NoMemory>
+    requires { IsStore store.old }
+    ensures gives { IfOk result (λ given. TakeGives (core_of store.old) table given (core_of store.new)) }
+    ensures err { OnErr result (core_of store.new ≡ core_of store.old) }
+    ensures store { IsStore store.new }
+{
+    let Some(place) = store.find(&table) else {
+        return Ok(Outcome::Refused(Guard::NoTable));
+    };
+    let parts = store.tables[place].parts.twin(alloc)?;
+    let length = store.entries.len();
+    let number = store.snapshots.len();
+    let snapshot = Snapshot {
+        table,
+        parts,
+        length,
+    };
+    store.snapshots.push(snapshot)?;
+    Ok(Outcome::Taken { number })
+}
+
+/// The rows of a snapshot, unless there is no such snapshot.
+fn read_snapshot(alloc: Global, store: &Store, number: usize) -> Result<Outcome, NoMemory>
+    ensures { IfOk result (λ given. ReadGives (core_of store.now) number given (core_of store.now)) }
+{
+    let Some(snapshot) = store.snapshots.get(number) else {
+        return Ok(Outcome::Refused(Guard::NoSnapshot));
+    };
+    let rows = all_rows(alloc, snapshot.parts.as_slice())?;
+    let length = snapshot.length;
+    Ok(Outcome::Rows { rows, length })
+}
+
+/// The rows of parts, one part after another.
+fn all_rows(alloc: Global, parts: &[CorePart]) -> Result<Seq<Row>, NoMemory>
+    ensures { IfOk result (λ rows. rows ≡ rows_of_parts parts.now) }
+{
+    let mut rows = Seq::new(alloc);
+    for part in parts {
+        push_rows(alloc, &mut rows, part.rows.as_slice())?;
+    }
+    Ok(rows)
+}
+
+/// Adds copies of rows behind others.
+fn push_rows(alloc: Global, rows: &mut Seq<Row>, more: &[Row]) -> Result<(), NoMemory>
+    ensures { OnOk result (rows.new ≡ rows.old ++ more.now) }
+{
+    for row in more {
+        rows.push(row.twin(alloc)?)?;
+    }
+    Ok(())
+}

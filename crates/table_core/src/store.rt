@@ -1,0 +1,131 @@
+// What the state keeps: the tables by their names, the accepted commands and the snapshots.
+ghost use Rattle.std.specs.Prelude.{◌≡◌, ◌<◌, ◌++◌, ◌∷◌, [], All, IfNone, IfSome, OnErr, OnOk, Some, length, option_copied, slice_get};
+ghost use Rattle.indexmap.specs.IndexMap.{set_value_at};
+ghost use Rattle.mt_values.specs.declared.command.Command.TheVariants as command;
+ghost use Rattle.mt_model.specs.History.{schema_of};
+ghost use Rattle.table_core.specs.Core.{empty_core};
+ghost use Rattle.table_core.specs.Steps.{entered};
+ghost use Rattle.table_core.specs.Store.{AddsTable, IsNotNamed, IsStore, Named, SameStore, StandsAt, core_of, with_part};
+
+use crate::{CorePart, Snapshot};
+use indexmap::IndexMap;
+use mt_base::{NoMemory, Seq, Twin};
+use mt_values::{Command, Create, Entry, Insert, Name, Schema};
+use std::alloc::Global;
+
+/// A table: its schema, its parts in block order, and the last number that its commands drew.
+#[derive(Drop)]
+pub struct Table {
+    pub schema: Schema,
+    pub parts: Seq<CorePart>,
+    pub last: u32,
+}
+
+/// The tables by the bytes of their names, in the order in which they were made, the accepted commands and the snapshots.
+#[derive(Drop)]
+pub struct Store {
+    pub tables: IndexMap<Vec<u8>, Table>,
+    pub entries: Vec<Entry>,
+    pub snapshots: Vec<Snapshot>,
+}
+
+impl Store {
+    /// The store before any event. Takes no memory.
+    pub fn new(alloc: Global) -> Self
+        ensures empty { core_of result ≡ empty_core }
+        ensures store { IsStore result }
+    {
+        Store {
+            tables: IndexMap::new(alloc),
+            entries: Vec::new(alloc),
+            snapshots: Vec::new(alloc),
+        }
+    }
+
+    /// The place of a table.
+    pub fn find(&self, table: &Name) -> Option<usize>
+        ensures there { IfSome result (StandsAt self.now.tables.entries table.now) }
+        ensures none { IfNone result (All (IsNotNamed table.now) self.now.tables.entries) }
+    {
+        self.tables.get_index_of(table.as_slice())
+    }
+
+    /// The schema of a table, where there is the table.
+    pub fn schema(&self, table: &Name) -> Option<&Schema>
+        requires { IsStore self.now }
+        ensures { option_copied result ≡ schema_of table.now self.now.entries.items }
+    {
+        let place = self.find(table)?;
+        Some(&self.tables[place].schema)
+    }
+
+    /// Enters a CREATE behind the last command, and its table behind the others.
+    ///
+    /// `NoMemory` where a growth was refused; the store stays as it was.
+    pub fn enter_table(
+        &mut self,
+        alloc: Global,
+        session: u64,
+        create: Create,
+    ) -> Result<(), NoMemory>
+        requires { All (IsNotNamed create.table) self.old.tables.entries }
+        ensures tables { OnOk result (AddsTable create self.old.tables.entries self.new.tables.entries) }
+        ensures entries { OnOk result (self.new.entries.items ≡ entered self.old.entries.items session (command.Create create)) }
+        ensures snapshots { OnOk result (self.new.snapshots.items ≡ self.old.snapshots.items) }
+        ensures err { OnErr result (SameStore self.old self.new) }
+    {
+        let key = create.table.twin(alloc)?.into_vec();
+        let schema = create.schema.twin(alloc)?;
+        let parts = Seq::new(alloc);
+        let last = 0;
+        self.entries.reserve(1)?;
+        self.tables.insert(
+            key,
+            Table {
+                schema,
+                parts,
+                last,
+            },
+        )?;
+        let command = Command::Create(create);
+        self.entries.push_reserved(Entry { session, command });
+        Ok(())
+    }
+
+    /// Enters an INSERT behind the last command, and its part behind those of the table at this place.
+    ///
+    /// `NoMemory` where a growth was refused; the store stays as it was.
+    pub fn enter_part(
+        &mut self,
+        place: usize,
+        session: u64,
+        insert: Insert,
+        part: CorePart,
+        number: u32,
+    ) -> Result<(), NoMemory>
+        requires { place < length self.old.tables.entries }
+        ensures tables { (t : Named) → slice_get self.old.tables.entries place ≡ Some t
+            → OnOk result (self.new.tables.entries ≡ set_value_at self.old.tables.entries place (with_part t.1 part number)) }
+        ensures entries { OnOk result (self.new.entries.items ≡ entered self.old.entries.items session (command.Insert insert)) }
+        ensures snapshots { OnOk result (self.new.snapshots.items ≡ self.old.snapshots.items) }
+        ensures err { OnErr result (SameStore self.old self.new) }
+    {
+        self.entries.reserve(1)?;
+        add_part(&mut self.tables[place], part, number)?;
+        let command = Command::Insert(insert);
+        self.entries.push_reserved(Entry { session, command });
+        Ok(())
+    }
+}
+
+/// Adds a part to a table, whose number is the last that was drawn.
+///
+/// `NoMemory` where a growth was refused; the table stays as it was.
+fn add_part(table: &mut Table, part: CorePart, number: u32) -> Result<(), NoMemory>
+    ensures ok { OnOk result (table.new ≡ with_part table.old part number) }
+    ensures err { OnErr result (table.new ≡ table.old) }
+{
+    table.parts.push(part)?;
+    table.last = number;
+    Ok(())
+}
