@@ -1,0 +1,14 @@
+pub mod BadNames
+pub mod Clear
+pub mod Counted
+pub mod EntryScripts
+pub mod FirstNames
+pub mod Items
+pub mod NameReads
+pub mod NamesTold
+pub mod Orphaned
+pub mod Readings
+pub mod Rising
+pub mod Standing
+pub mod Tabled
+pub mod Undamaged
