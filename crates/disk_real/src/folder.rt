@@ -1,5 +1,5 @@
 // Folders of the root: one that is being made, and one that is done.
-ghost use Rattle.std.specs.Prelude.{◌≡◌, ℕ, IfOk};
+ghost use Rattle.std.specs.Prelude.{◌≡◌, ℕ, IfOk, string_bytes};
 
 use crate::counts::Faults;
 use crate::names::{file_name, path_in};
@@ -30,26 +30,42 @@ impl<R> Model for RealStage<R> {
     ghost view = { λ s. s.faults.count };
 }
 
-/// A folder that is done. Its holds share one number, which no other folder of its disk has.
+/// A folder that is done. Its holds share one number, which no other folder of its disk has. Contracts see its path and that number.
 #[derive(Drop)]
 pub struct RealDir {
     path: String,
     number: u64,
 }
 
+impl Model for RealDir {
+    ghost use Rattle.std.specs.Prelude.{string_bytes};
+    ghost use Rattle.disk_real.specs.States.{DirState};
+
+    ghost Value = { DirState };
+
+    ghost view = { λ d. record { path = string_bytes d.path; number = d.number } };
+}
+
 impl RealDir {
     /// The folder of this path.
-    pub(crate) fn new(path: String, number: u64) -> RealDir {
+    pub(crate) fn new(path: String, number: u64) -> RealDir
+        ensures path { result.path ≡ string_bytes path }
+        ensures number { result.number ≡ number }
+    {
         RealDir { path, number }
     }
 
     /// Its path.
-    pub(crate) fn path(&self) -> &str {
+    pub(crate) fn path(&self) -> &str
+        ensures { result.now ≡ self.now.path }
+    {
         &self.path
     }
 
     /// The number that its disk gave it.
-    pub(crate) fn number(&self) -> u64 {
+    pub(crate) fn number(&self) -> u64
+        ensures { result ≡ self.now.number }
+    {
         self.number
     }
 }

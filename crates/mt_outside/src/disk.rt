@@ -93,9 +93,9 @@ pub trait Dir: Sized + Drop + Send + Sync {
     /// The files with their bytes, where the folder tells.
     ghost files: { Self → Option (List Written) };
 
-    /// Another hold on the same files.
+    /// Another hold on the same files: an equal value.
     fn share(&self, alloc: Global) -> Result<Self, NoMemory>
-        ensures { IfOk result (λ d. files d ≡ files self.now) };
+        ensures { IfOk result (λ d. d ≡ self.now) };
 }
 
 /// What reads folders and makes stages, for one session or merger.

@@ -2,6 +2,7 @@
 #![tactic(auto)]
 
 mod checking;
+mod copies;
 mod files;
 mod laws;
 mod marked;
