@@ -7,6 +7,7 @@ pub mod Maps
 pub mod NameParts
 pub mod NamePlaces
 pub mod NameTexts
+pub mod Named
 pub mod Orders
 pub mod Orphans
 pub mod Pairs

@@ -1,6 +1,6 @@
 -- How the parts of one table stand to each other (docs/definitions.md, "Visible parts").
-use Rattle.std.specs.Prelude.{◌≡◌, ℕ, ◌+◌, ◌≤◌, ◌<◌, Bool, ◌==◌, ◌&&◌, ◌||◌, nat_lt, nat_le, List, length, IsTrue}
-use Rattle.std.specs.List.{All, AllPairs, insert}
+use Rattle.std.specs.Prelude.{◌≡◌, ℕ, ◌+◌, ◌≤◌, ◌<◌, Bool, ◌==◌, ◌&&◌, ◌||◌, nat_lt, nat_le, List, length, map, IsTrue}
+use Rattle.std.specs.List.{All, AllPairs, Contains as HasItem, insert}
 use Rattle.mt_base.specs.declared.partition.Partition.{Partition}
 use Rattle.mt_base.specs.declared.partition.Partition.TheVariants.{Whole, Number}
 use Rattle.part_name.specs.declared.part.PartName.{PartName}
@@ -31,6 +31,10 @@ pub record StandsClear (a b : PartName) : Type 0 where
 -- a list of parts in block order, of which no two meet
 abbrev pub IsInBlockOrder : {P : Type 0} → List (Kept P) → Type 0
 IsInBlockOrder parts = AllPairs (λ a b. StandsClear a.name b.name) parts
+
+-- one of the parts has this name
+abbrev pub HasName : {P : Type 0} → List (Kept P) → PartName → Type 0
+HasName {P} parts name = HasItem (map (λ (kept : Kept P). kept.name) parts) name
 
 -- none of the parts meets this one
 abbrev pub NoneMeets : {P : Type 0} → List (Kept P) → PartName → Type 0

@@ -1,6 +1,6 @@
 // The parts of all tables.
 ghost use Rattle.std.specs.Prelude.{◌≡◌, ◌≢◌, ◌↔◌, ℕ, List, [], IfOk, IsOk, OnOk, OnErr, IsTrue};
-ghost use Rattle.part_set.specs.Parts.{AreNeighbours, IsAdded, IsInBlockOrder, NoneMeets};
+ghost use Rattle.part_set.specs.Parts.{AreNeighbours, HasName, IsAdded, IsInBlockOrder, NoneMeets};
 ghost use Rattle.part_set.specs.Sets.{HasRoom, parts_of};
 
 use crate::shelf::TableParts;
@@ -35,6 +35,16 @@ impl<P> PartSet<P> {
         match self.tables.get(table) {
             Some(parts) => parts.as_slice(),
             None => &[],
+        }
+    }
+
+    /// Whether the table has a part of this name.
+    pub fn has(&self, table: &Name, name: &PartName) -> bool
+        ensures { IsTrue result ↔ HasName (parts_of self.now table.now) name.now }
+    {
+        match self.tables.get(table) {
+            Some(parts) => parts.has(name),
+            None => false,
         }
     }
 
@@ -105,6 +115,7 @@ impl<P: Drop> PartSet<P> {
     ) -> Result<(), NoMemory>
         ensures ok { OnOk result (parts_of self.new table.now ≡ parts.parts) }
         ensures others { (t : List ℕ) → t ≢ table.now → parts_of self.new t ≡ parts_of self.old t }
+        ensures err { OnErr result ((t : List ℕ) → parts_of self.new t ≡ parts_of self.old t) }
     {
         self.tables.insert(table.twin(alloc)?, parts)?;
         Ok(())

@@ -1,6 +1,6 @@
 // The parts of one table.
-ghost use Rattle.std.specs.Prelude.{◌≡◌, ◌<◌, ◌≤◌, ◌↔◌, [], length, IfOk, IsOk, OnOk, OnErr, IsTrue};
-ghost use Rattle.part_set.specs.Parts.{AreNeighbours, IsAdded, IsInBlockOrder, NoneMeets, in_order};
+ghost use Rattle.std.specs.Prelude.{◌≡◌, ◌<◌, ◌≤◌, ◌↔◌, [], false, length, IfOk, IsOk, OnOk, OnErr, IsTrue};
+ghost use Rattle.part_set.specs.Parts.{AreNeighbours, HasName, IsAdded, IsInBlockOrder, NoneMeets, in_order};
 ghost use Rattle.std.specs.List.{All, AllWithin};
 
 use crate::Kept;
@@ -38,6 +38,32 @@ fn place_of<P>(parts: &[Kept<P>], name: &PartName) -> usize
     parts.partition_point(|kept| in_order(&kept.name, name))
 }
 
+// The place of the first part that does not begin in front of where the name begins.
+fn start_of<P>(parts: &[Kept<P>], name: &PartName) -> usize
+    requires { IsInBlockOrder parts.now }
+    ensures within { result ≤ length parts.now }
+    ensures front { AllWithin (λ kept. in_order name.now kept.name ≡ false) parts.now 0 result }
+{
+    parts.partition_point(|kept| !in_order(name, &kept.name))
+}
+
+// Whether one of the parts has this name: only those that begin where it begins are looked at.
+fn has_name<P>(parts: &[Kept<P>], name: &PartName) -> bool
+    requires { IsInBlockOrder parts.now }
+    ensures { IsTrue result ↔ HasName parts.now name.now }
+{
+    let start = start_of(parts, name);
+    for kept in &parts[start..] {
+        if kept.name == *name {
+            return true;
+        }
+        if !in_order(&kept.name, name) {
+            return false;
+        }
+    }
+    false
+}
+
 impl<P> TableParts<P> {
     /// No parts. Takes no memory.
     pub fn new(alloc: Global) -> Self
@@ -66,6 +92,13 @@ impl<P> TableParts<P> {
     {
         self.parts.reserve(1)?;
         Ok(())
+    }
+
+    /// Whether one of them has this name.
+    pub fn has(&self, name: &PartName) -> bool
+        ensures { IsTrue result ↔ HasName self.now.parts name.now }
+    {
+        has_name(self.parts.as_slice(), name)
     }
 
     /// Whether both parts are of one partition, and none of these lies between their blocks.
