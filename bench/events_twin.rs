@@ -1,6 +1,9 @@
 // The workload `events` in plain Rust, with the program's own way of working: one INSERT is read into columns, sorted by its key
 // as pairs of a number and a place, written as column files and a manifest with their SHA-256 into a folder, each synced, and read
 // back, checked, sorted and printed for the SELECT. With --times it tells the steps apart on standard error.
+mod sha256;
+
+use sha256::sha256;
 use std::fs::{self, File};
 use std::io::{self, Read, Write};
 use std::path::Path;
@@ -36,65 +39,6 @@ impl Columns {
         self.c.push(std::str::from_utf8(fields.next()?).ok()?.parse().ok()?);
         Some(())
     }
-}
-
-const ROUND: [u32; 64] = [
-    0x428a2f98, 0x71374491, 0xb5c0fbcf, 0xe9b5dba5, 0x3956c25b, 0x59f111f1, 0x923f82a4, 0xab1c5ed5,
-    0xd807aa98, 0x12835b01, 0x243185be, 0x550c7dc3, 0x72be5d74, 0x80deb1fe, 0x9bdc06a7, 0xc19bf174,
-    0xe49b69c1, 0xefbe4786, 0x0fc19dc6, 0x240ca1cc, 0x2de92c6f, 0x4a7484aa, 0x5cb0a9dc, 0x76f988da,
-    0x983e5152, 0xa831c66d, 0xb00327c8, 0xbf597fc7, 0xc6e00bf3, 0xd5a79147, 0x06ca6351, 0x14292967,
-    0x27b70a85, 0x2e1b2138, 0x4d2c6dfc, 0x53380d13, 0x650a7354, 0x766a0abb, 0x81c2c92e, 0x92722c85,
-    0xa2bfe8a1, 0xa81a664b, 0xc24b8b70, 0xc76c51a3, 0xd192e819, 0xd6990624, 0xf40e3585, 0x106aa070,
-    0x19a4c116, 0x1e376c08, 0x2748774c, 0x34b0bcb5, 0x391c0cb3, 0x4ed8aa4a, 0x5b9cca4f, 0x682e6ff3,
-    0x748f82ee, 0x78a5636f, 0x84c87814, 0x8cc70208, 0x90befffa, 0xa4506ceb, 0xbef9a3f7, 0xc67178f2,
-];
-
-fn compress(state: &mut [u32; 8], block: &[u8]) {
-    let mut w = [0u32; 64];
-    for (word, bytes) in w.iter_mut().zip(block.chunks_exact(4)) {
-        *word = u32::from_be_bytes([bytes[0], bytes[1], bytes[2], bytes[3]]);
-    }
-    for i in 16..64 {
-        let low = w[i - 15].rotate_right(7) ^ w[i - 15].rotate_right(18) ^ (w[i - 15] >> 3);
-        let high = w[i - 2].rotate_right(17) ^ w[i - 2].rotate_right(19) ^ (w[i - 2] >> 10);
-        w[i] = w[i - 16].wrapping_add(low).wrapping_add(w[i - 7]).wrapping_add(high);
-    }
-    let mut s = *state;
-    for i in 0..64 {
-        let sum = s[4].rotate_right(6) ^ s[4].rotate_right(11) ^ s[4].rotate_right(25);
-        let choice = (s[4] & s[5]) ^ (!s[4] & s[6]);
-        let first = s[7].wrapping_add(sum).wrapping_add(choice).wrapping_add(ROUND[i]).wrapping_add(w[i]);
-        let other = s[0].rotate_right(2) ^ s[0].rotate_right(13) ^ s[0].rotate_right(22);
-        let majority = (s[0] & s[1]) ^ (s[0] & s[2]) ^ (s[1] & s[2]);
-        s = [first.wrapping_add(other.wrapping_add(majority)), s[0], s[1], s[2], s[3].wrapping_add(first), s[4], s[5], s[6]];
-    }
-    for (value, more) in state.iter_mut().zip(s) {
-        *value = value.wrapping_add(more);
-    }
-}
-
-fn sha256(bytes: &[u8]) -> [u8; 32] {
-    let mut state = [
-        0x6a09e667, 0xbb67ae85, 0x3c6ef372, 0xa54ff53a, 0x510e527f, 0x9b05688c, 0x1f83d9ab, 0x5be0cd19,
-    ];
-    let whole = bytes.chunks_exact(64);
-    let mut last = whole.remainder().to_vec();
-    for block in whole {
-        compress(&mut state, block);
-    }
-    last.push(0x80);
-    while last.len() % 64 != 56 {
-        last.push(0);
-    }
-    last.extend_from_slice(&(8 * bytes.len() as u64).to_be_bytes());
-    for block in last.chunks_exact(64) {
-        compress(&mut state, block);
-    }
-    let mut digest = [0; 32];
-    for (out, word) in digest.chunks_exact_mut(4).zip(state) {
-        out.copy_from_slice(&word.to_be_bytes());
-    }
-    digest
 }
 
 fn push_leb128(bytes: &mut Vec<u8>, mut number: usize) {
