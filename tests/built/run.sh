@@ -10,6 +10,7 @@
 #   NAME.sink     what is written to in place of a file that is compared
 #   NAME.words    the words of the command line behind the program's name, one a line; none: --path d
 #   NAME.before   a script that is run before, with the same words in the same folder
+#   NAME.change   commands that change the folder of the run, behind that script
 #   NAME.stdout   what is to be printed, to the byte; none: nothing
 #   NAME.status   the status that is wanted; none: 0
 #   NAME.files    what is to lie in the folder of the run at the end, in the order of the paths' bytes: a file as its path, a space
@@ -85,6 +86,9 @@ try_case() {
     mkdir "$work/room"
     if [ -e "$cases/$name.before" ]; then
         run_in_room "${words[@]}" <"$cases/$name.before" >/dev/null
+    fi
+    if [ -e "$cases/$name.change" ]; then
+        (cd "$work/room" && bash -e "$cases/$name.change")
     fi
     run_in_room "${words[@]}" <"$source" >"$sink" || status=$?
     found=$(differences "$name" "$status" || true)

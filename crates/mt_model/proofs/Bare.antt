@@ -100,7 +100,7 @@ bare_into : (table : List ℕ) (c : Command) → inserts_into table (bare_comman
 bare_into table (command.Create c) = refl
 bare_into table (command.Insert i) = refl
 
-bare_inserts : (table : List ℕ) (h : History) → inserts table (bare h) ≡ inserts table h
+pub bare_inserts : (table : List ℕ) (h : History) → inserts table (bare h) ≡ inserts table h
 bare_inserts table h = counted_alike (λ (e : Entry). inserts_into table e.command) (λ e. bare_into table e.command) h
 
 pub bare_create_turn : (table : List ℕ) (h : History) → create_turn table (bare h) ≡ create_turn table h
@@ -109,8 +109,8 @@ bare_create_turn table h = rw (bare_schema table h) (rw (bare_creates h) refl)
 pub bare_rows : (i : InsertText) (h : History) → rows_of_insert i (bare h) ≡ rows_of_insert i h
 bare_rows i h = ap (rows_for i) (bare_schema i.table h)
 
-pub bare_insert_turn : (table : List ℕ) (h : History) → insert_turn table (bare h) ≡ insert_turn table h
-bare_insert_turn table h = rw (bare_inserts table h) refl
+pub bare_insert_turn : (parts : ℕ) (table : List ℕ) (h : History) → insert_turn parts table (bare h) ≡ insert_turn parts table h
+bare_insert_turn parts table h = rw (bare_inserts table h) refl
 
 pub bare_columns : (t : SelectText) (h : History) → columns_of_select t (bare h) ≡ columns_of_select t h
 bare_columns t h = ap (columns_for t) (bare_schema t.table h)

@@ -186,9 +186,9 @@ rows_tell i (Some schema) = by (inserted_rows (column_types schema) i.lines i.en
     by (Ok rows) h = tt
     by (Err fault) h = data_tells fault h
 
-insert_turn_tells : (table : List ℕ) (h : History) → Tells (insert_turn table h)
-insert_turn_tells table h =
-    tells_if (nat_le 3000 (inserts table h)) (Some (refusal.Full room.Parts 0)) (cond (nat_le 4294967295 (inserts table h)) (Some (refusal.Full room.Numbers 0)) None) (omega arith)
+insert_turn_tells : (parts : ℕ) (table : List ℕ) (h : History) → Tells (insert_turn parts table h)
+insert_turn_tells parts table h =
+    tells_if (nat_le 3000 parts) (Some (refusal.Full room.Parts 0)) (cond (nat_le 4294967295 (inserts table h)) (Some (refusal.Full room.Numbers 0)) None) (omega arith)
     (tells_if (nat_le 4294967295 (inserts table h)) (Some (refusal.Full room.Numbers 0)) None (omega arith) tt)
 
 selected_tells : (columns : List Column) (which : Selected) → Scripted (selected_places columns which)
@@ -237,9 +237,9 @@ takes_blames n h s (Ok (statement.Insert i)) from to reply (inr (inl (is, a, non
 takes_blames n h s (Ok (statement.Insert i)) from to reply (inr (inr (inl (why, is, r)))) =
     by_script n h s from to why reply r (scripted (rows_of_insert i (take to h)) why is (rows_tell i (schema_of i.table (take to h))))
 takes_blames n h s (Ok (statement.Insert i)) from to reply (inr (inr (inr (inl (row, rows, is, a, failed))))) = by_stage n reply failed
-takes_blames n h s (Ok (statement.Insert i)) from to reply (inr (inr (inr (inr (inl (row, rows, why, is, turn, r)))))) =
-    by_script n h s from to why reply r (told (insert_turn i.table (take to h)) why turn (insert_turn_tells i.table (take to h)))
-takes_blames n h s (Ok (statement.Insert i)) from to reply (inr (inr (inr (inr (inr (row, rows, is, turn, a, failed)))))) = by_turn n reply failed
+takes_blames n h s (Ok (statement.Insert i)) from to reply (inr (inr (inr (inr (inl (row, rows, why, is, parts, merged, turn, r)))))) =
+    by_script n h s from to why reply r (told (insert_turn parts i.table (take to h)) why turn (insert_turn_tells parts i.table (take to h)))
+takes_blames n h s (Ok (statement.Insert i)) from to reply (inr (inr (inr (inr (inr (row, rows, is, parts, merged, turn, a, failed)))))) = by_turn n reply failed
 takes_blames n h s (Ok (statement.Select t)) from to reply (inl (r, a)) = by_none n reply _ r.reply_is refl
 takes_blames n h s (Ok (statement.Select t)) from to reply (inr (inl (why, is, r))) =
     by_script n h s from to why reply r (scripted (columns_of_select t (take to h)) why is (columns_tell t (schema_of t.table (take to h))))

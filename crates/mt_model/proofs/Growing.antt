@@ -9,7 +9,7 @@ use Rattle.mt_values.specs.declared.statement.Statement.TheVariants as statement
 use Rattle.mt_values.specs.declared.statement.CreateText.{CreateText}
 use Rattle.mt_values.specs.declared.statement.InsertText.{InsertText}
 use Rattle.mt_values.specs.declared.statement.SelectText.{SelectText}
-use Rattle.mt_model.specs.History.{History, own, schema_of}
+use Rattle.mt_model.specs.History.{History, own, schema_of, inserts}
 use Rattle.mt_model.specs.declared.refusal.Refusal.{Refusal}
 use Rattle.mt_model.specs.Outside.{Counts}
 use Rattle.mt_model.specs.Reply.{create_turn, rows_of_insert, insert_turn, columns_of_select}
@@ -60,7 +60,9 @@ insert_taken_more h more s i from to t = record {
   rows = t.rows;
   command = t.command;
   read = subst (λ (x : History). rows_of_insert i x ≡ Ok (t.row ∷ t.rows)) (same_front h more (to - 1) t.adds.before.there) t.read;
-  turn = subst (λ (x : History). insert_turn i.table x ≡ None) (same_front h more (to - 1) t.adds.before.there) t.turn;
+  parts = t.parts;
+  merged = subst (λ (x : History). t.parts ≤ inserts i.table x) (same_front h more (to - 1) t.adds.before.there) t.merged;
+  turn = subst (λ (x : History). insert_turn t.parts i.table x ≡ None) (same_front h more (to - 1) t.adds.before.there) t.turn;
   is = t.is;
   adds = adds_more h more s _ from to t.adds;
 }
@@ -94,16 +96,18 @@ insert_refused_more n h more s i from to reply (inl (why, is, r)) =
     inl (why, subst (λ (x : History). rows_of_insert i x ≡ Err why) (same_front h more to r.nothing.there) is, refused_more h more s from to why reply r)
 insert_refused_more n h more s i from to reply (inr (inl (row, rows, is, a, failed))) =
     inr (inl (row, rows, subst (λ (x : History). rows_of_insert i x ≡ Ok (row ∷ rows)) (same_front h more to a.there) is, nothing_more h more s from to a, failed))
-insert_refused_more n h more s i from to reply (inr (inr (inl (row, rows, why, is, turn, r)))) =
+insert_refused_more n h more s i from to reply (inr (inr (inl (row, rows, why, is, parts, merged, turn, r)))) =
     let front = same_front h more to r.nothing.there in
     let read = subst (λ (x : History). rows_of_insert i x ≡ Ok (row ∷ rows)) front is in
-    let full = subst (λ (x : History). insert_turn i.table x ≡ Some why) front turn in
-    inr (inr (inl (row, rows, why, read, full, refused_more h more s from to why reply r)))
-insert_refused_more n h more s i from to reply (inr (inr (inr (row, rows, is, turn, a, failed)))) =
+    let few = subst (λ (x : History). parts ≤ inserts i.table x) front merged in
+    let full = subst (λ (x : History). insert_turn parts i.table x ≡ Some why) front turn in
+    inr (inr (inl (row, rows, why, read, parts, few, full, refused_more h more s from to why reply r)))
+insert_refused_more n h more s i from to reply (inr (inr (inr (row, rows, is, parts, merged, turn, a, failed)))) =
     let front = same_front h more to a.there in
     let read = subst (λ (x : History). rows_of_insert i x ≡ Ok (row ∷ rows)) front is in
-    let room = subst (λ (x : History). insert_turn i.table x ≡ None) front turn in
-    inr (inr (inr (row, rows, read, room, nothing_more h more s from to a, failed)))
+    let few = subst (λ (x : History). parts ≤ inserts i.table x) front merged in
+    let room = subst (λ (x : History). insert_turn parts i.table x ≡ None) front turn in
+    inr (inr (inr (row, rows, read, parts, few, room, nothing_more h more s from to a, failed)))
 
 select_refused_more : (n : Counts) (h more : History) (s : ℕ) (t : SelectText) (from to : ℕ) (reply : List ℕ) → SelectRefused n h s t from to reply → SelectRefused n (h ++ more) s t from to reply
 select_refused_more n h more s t from to reply (inl (why, is, r)) =

@@ -1,167 +1,219 @@
--- A CREATE that the grammar reads names at least one column in its key.
-use Rattle.std.proofs.Common.{◌≡◌, ℕ, ◌+◌, ◌<◌, Bool, true, false, cond, List, [], ◌∷◌, ◌++◌, Option, Some, None, Result, Ok, Err, length, All, arith, zero, suc, length-append, nat_lt, refl, codes}
+-- A CREATE of a script names at least one column in its key, its table's name is a name, and its text is read again as it alone.
+use Rattle.std.proofs.Common.{◌≡◌, ℕ, ◌+◌, ◌<◌, Bool, true, false, cond, List, [], ◌∷◌, ◌++◌, Option, Some, None, IfOk, Result, Ok, Err, length, All, zero, suc, nat_lt, refl, sym, ap, ◌∙◌, codes}
 use Rattle.std.specs.List.{list_all}
 use Rattle.std.proofs.lemmas.List.Elements.{All-nil, All-cons}
 use Rattle.mt_values.specs.declared.script.Place.TheVariants.{Outside}
 use Rattle.mt_values.specs.declared.statement.Cause.{Cause}
 use Rattle.mt_values.specs.declared.statement.Cause.TheVariants as cause
-use Rattle.mt_values.specs.declared.statement.Selected.{Selected}
-use Rattle.mt_values.specs.declared.statement.Selected.TheVariants as selected
+use Rattle.mt_values.specs.declared.statement.CreateText.{CreateText}
 use Rattle.mt_values.specs.declared.statement.Slip.{Slip}
 use Rattle.mt_values.specs.declared.statement.Statement.{Statement}
 use Rattle.mt_values.specs.declared.statement.Statement.TheVariants as statement
 use Rattle.mt_values.specs.declared.token.Placed.{Placed}
 use Rattle.mt_values.specs.declared.token.Symbol.TheVariants as symbol
 use Rattle.mt_values.specs.declared.token.Token.{Token}
-use Rattle.mt_values.specs.Tokens.{behind, is_keyword, is_space}
-use Rattle.mt_values.specs.Readers.{Reader, Reading, Test, Part, done, taken, expect, either, choose, listed_within}
+use Rattle.mt_values.specs.Tokens.{behind, is_keyword, is_space, tokens_of}
+use Rattle.mt_values.specs.Readers.{Reader, Reading, either, choose}
 use Rattle.mt_values.specs.Grammar as grammar
 use Rattle.mt_values.specs.Script.{ended_from, Data, refused_behind, with_line_rest, line_rest, behind_line, data_of, complete, complete_or_cut, is_between, next_from, next_statement, Step, statement_and, statements_within, statements_of}
-use Rattle.mt_model.specs.Written.{NamesKey, IsWritten}
+use Rattle.mt_model.specs.Written.{IsName, IsWritten}
+use Rattle.mt_model.proofs.Again.{BeginsText, behind_begins, next_alone}
+use Rattle.mt_model.proofs.Unended.{IsOpen, open_no_ends}
+use Rattle.mt_model.proofs.Words.{IsWordToken, tokens_words, name_says}
+use Rattle.mt_model.proofs.Giving.{Gives, GivesAll, expect_says, expect_gives, choose_gives, ends_says, list_gives, column_passes, engine_gives, key_gives, insert_gives, select_gives}
 
--- a reader gives such statements alone
-abbrev Gives : Reading Statement → Type 0
-Gives (Ok s) = NamesKey s
-Gives (Err fault) = Unit {0}
+-- ---- what a CREATE says
 
-abbrev GivesAll : Reader Statement → Type 0
-GivesAll reader = (ts : List Placed) → Gives (reader ts)
+-- a token of a text: its words are words, and it is no semicolon where no semicolon ends the text
+pub record IsTokenOf (terminated : Bool) (t : Token) : Type 0 where
+  pub word : IsWordToken t
+  pub inner : terminated ≡ false → grammar.is_symbol symbol.Semicolon t ≡ false
 
-taken_gives : {X : Type 0} (r : Result X Slip) (next : X → Reader Statement) → ((x : X) → GivesAll (next x)) → (p : Placed) (ps : List Placed) → Gives (taken r next p ps)
-taken_gives (Ok x) next each p ps = each x ps
-taken_gives (Err s) next each p ps = tt
+-- a CREATE that was read from a text
+pub record IsCreateOf (text : List ℕ) (terminated : Bool) (c : CreateText) : Type 0 where
+  pub is : c.text ≡ text
+  pub key : 0 < length c.key
+  pub named : IsName c.table
+  pub ended : terminated ≡ true
 
-expect_gives : {X : Type 0} (test : Test X) (next : X → Reader Statement) → ((x : X) → GivesAll (next x)) → GivesAll (expect test next)
-expect_gives test next each [] = tt
-expect_gives test next each (p ∷ ps) = taken_gives (test p.token) next each p ps
+abbrev IsStatementOf : List ℕ → Bool → Statement → Type 0
+IsStatementOf text terminated (statement.Create c) = IsCreateOf text terminated c
+IsStatementOf text terminated (statement.Insert i) = Unit {0}
+IsStatementOf text terminated (statement.Select s) = Unit {0}
 
-either_gives : (b : Bool) (this other : Reader Statement) → GivesAll this → GivesAll other → GivesAll (either b this other)
-either_gives true this other h k = h
-either_gives false this other h k = k
+tokens_are : (text : List ℕ) (terminated : Bool) → (terminated ≡ false → IsOpen Outside text) → All (λ p. IsTokenOf terminated p.token) (grammar.tokens_and_end text terminated)
+tokens_are text true whole = λ k d lt. record { word = tokens_words text true k d lt; inner = λ e. cc }
+tokens_are text false whole = λ k d lt. record { word = tokens_words text false k d lt; inner = λ e. open_no_ends text (whole refl) k d lt }
 
-choose_gives : (test : Token → Bool) (this other : Reader Statement) → GivesAll this → GivesAll other → GivesAll (choose test this other)
-choose_gives test this other h k [] = k []
-choose_gives test this other h k (p ∷ ps) = either_gives (test p.token) this other h k (p ∷ ps)
+name_is : (terminated : Bool) (t : Token) → IsTokenOf terminated t → IfOk (grammar.name t) IsName
+name_is terminated t h = name_says t h.word
 
-done_gives : (s : Statement) → NamesKey s → GivesAll (done s)
-done_gives s h [] = h
-done_gives s h (p ∷ ps) = tt
+close_cases : (terminated semicolon : Bool) → (terminated ≡ false → semicolon ≡ false) → IfOk (grammar.passing semicolon) (λ _. terminated ≡ true)
+close_cases true true inner = refl
+close_cases true false inner = tt
+close_cases false true inner = absurd (clash (inner refl))
+  where
+    clash : true ≡ false → ⊥
+    clash e = cc
+close_cases false false inner = tt
 
-ends_gives : (s : Statement) → NamesKey s → GivesAll (grammar.ends s)
-ends_gives s h = expect_gives _ (λ _. done s) (λ _. done_gives s h)
+-- where a semicolon comes, it ends the text
+close_is : (terminated : Bool) (t : Token) → IsTokenOf terminated t → IfOk (grammar.the symbol.Semicolon t) (λ _. terminated ≡ true)
+close_is terminated t h = close_cases terminated (grammar.is_symbol symbol.Semicolon t) h.inner
 
--- a part after which each reader gives such statements gives them too
-abbrev Passes : {X : Type 0} → Part Statement X → Type 0
-Passes {X} part = (next : X → Reader Statement) → ((x : X) → GivesAll (next x)) → GivesAll (part next)
+ok_weaker : {X : Type 0} (P Q : X → Type 0) (r : Result X Slip) → ((x : X) → P x → Q x) → IfOk r P → IfOk r Q
+ok_weaker P Q (Ok x) weaker h = weaker x h
+ok_weaker P Q (Err s) weaker h = tt
 
-longer : {X : Type 0} (xs : List X) (x : X) → 0 < length (xs ++ x ∷ [])
-longer xs x = omega (arith, length-append xs (x ∷ []))
+module _ (text : List ℕ) (terminated : Bool) where
+  abbrev Known : Token → Type 0
+  Known t = IsTokenOf terminated t
 
--- a list of parts is not empty
-within_gives : {X Y : Type 0} (n : ℕ) (more : Token → Bool) (between : Test Y) (item : Part Statement X) (front : List X) (next : List X → Reader Statement)
-    → Passes item → ((xs : List X) → 0 < length xs → GivesAll (next xs)) → GivesAll (listed_within n more between item front next)
-within_gives zero more between item front next passes each ts = tt
-within_gives (suc n) more between item front next passes each ts =
-    passes (λ x. choose more (expect between (λ y. listed_within n more between item (front ++ x ∷ []) next)) (next (front ++ x ∷ [])))
-    (λ x.
-    choose_gives more (expect between (λ y. listed_within n more between item (front ++ x ∷ []) next)) (next (front ++ x ∷ []))
-    (expect_gives between (λ y. listed_within n more between item (front ++ x ∷ []) next) (λ y. within_gives n more between item (front ++ x ∷ []) next passes each)) (each (front ++ x ∷ []) (longer front x)))
-    ts
+  abbrev Read : Statement → Type 0
+  Read s = IsStatementOf text terminated s
 
-list_gives : {X : Type 0} (item : Part Statement X) (next : List X → Reader Statement) → Passes item → ((xs : List X) → 0 < length xs → GivesAll (next xs)) → GivesAll (grammar.list_of item next)
-list_gives item next passes each ts = within_gives (length ts + 1) _ _ item [] next passes each ts
+  create_gives : GivesAll Known Read (grammar.create text)
+  create_gives =
+      expect_gives Known Read _ _ (λ _. expect_gives Known Read _ _ (λ _. expect_says Known Read grammar.name _ IsName (name_is terminated) (λ table named.
+      expect_gives Known Read _ _ (λ _. list_gives Known Read grammar.column _ (column_passes Known Read) (λ columns some. expect_gives Known Read _ _ (λ _.
+      expect_gives Known Read _ _ (λ _. expect_gives Known Read _ _ (λ _. engine_gives Known Read _ (expect_gives Known Read _ _ (λ _. expect_gives Known Read _ _ (λ _. key_gives Known Read _ (λ names keyed.
+      ends_says Known Read (statement.Create (record { text = text; table = table; columns = columns; key = names })) (λ t h.
+      ok_weaker (λ _. terminated ≡ true) _ (grammar.the symbol.Semicolon t) (λ _ ended. record { is = refl; key = keyed; named = named; ended = ended }) (close_is terminated t h))))))))))))))
 
-name_passes : Passes grammar.one_name
-name_passes next each = expect_gives grammar.name next each
+  reader_gives : (lines : List ℕ) (ended : Bool) → GivesAll Known Read (grammar.statement_reader text lines ended)
+  reader_gives lines ended =
+      choose_gives Known Read (grammar.is_word (is_keyword (codes "CREATE"))) (grammar.create text) _ create_gives
+      (choose_gives Known Read (grammar.is_word (is_keyword (codes "INSERT"))) (grammar.insert lines ended) grammar.select (insert_gives Known Read lines ended (λ _. tt)) (select_gives Known Read (λ _. tt)))
 
-column_passes : Passes grammar.column
-column_passes next each = expect_gives grammar.name _ (λ n. expect_gives grammar.plain _ (λ t. each _))
+-- ---- a CREATE does not depend on data
 
-engine_gives : (next : Reader Statement) → GivesAll next → GivesAll (grammar.engine next)
-engine_gives next each =
-    expect_gives (grammar.exactly (codes "MergeTree")) _ (λ _.
-    choose_gives (grammar.is_symbol symbol.Open) _ next
-    (expect_gives (grammar.the symbol.Open) _ (λ _. expect_gives (grammar.the symbol.Close) (λ _. next) (λ _. each))) each)
+abbrev IsNoCreate : Statement → Type 0
+IsNoCreate (statement.Create c) = ⊥
+IsNoCreate (statement.Insert i) = Unit {0}
+IsNoCreate (statement.Select s) = Unit {0}
 
-key_gives : (next : List (List ℕ) → Reader Statement) → ((names : List (List ℕ)) → 0 < length names → GivesAll (next names)) → GivesAll (grammar.key next)
-key_gives next each =
-    choose_gives (grammar.is_symbol symbol.Open) _ _
-    (expect_gives (grammar.the symbol.Open) _ (λ _.
-    list_gives grammar.one_name (λ names. expect (grammar.the symbol.Close) (λ _. next names)) name_passes
-    (λ names some. expect_gives (grammar.the symbol.Close) (λ _. next names) (λ _. each names some))))
-    (expect_gives grammar.name (λ n. next (n ∷ [])) (λ n. each (n ∷ []) (omega arith)))
+-- where one gives a CREATE, the other gives the same
+abbrev SameCreate : Reading Statement → Reading Statement → Type 0
+SameCreate (Ok (statement.Create c)) r = r ≡ Ok (statement.Create c)
+SameCreate (Ok (statement.Insert i)) r = Unit {0}
+SameCreate (Ok (statement.Select s)) r = Unit {0}
+SameCreate (Err fault) r = Unit {0}
 
-create_gives : (text : List ℕ) → GivesAll (grammar.create text)
-create_gives text =
-    expect_gives _ _ (λ _. expect_gives _ _ (λ _. expect_gives grammar.name _ (λ table.
-    expect_gives _ _ (λ _. list_gives grammar.column _ column_passes (λ columns some. expect_gives _ _ (λ _.
-    expect_gives _ _ (λ _. expect_gives _ _ (λ _. engine_gives _ (expect_gives _ _ (λ _. expect_gives _ _ (λ _. key_gives _ (λ names keyed.
-    ends_gives (statement.Create (record { text = text; table = table; columns = columns; key = names })) keyed))))))))))))
+same_as_itself : (r : Reading Statement) → SameCreate r r
+same_as_itself (Ok (statement.Create c)) = refl
+same_as_itself (Ok (statement.Insert i)) = tt
+same_as_itself (Ok (statement.Select s)) = tt
+same_as_itself (Err fault) = tt
 
-insert_gives : (lines : List ℕ) (ended : Bool) → GivesAll (grammar.insert lines ended)
-insert_gives lines ended =
-    expect_gives _ _ (λ _. expect_gives _ _ (λ _. expect_gives grammar.name _ (λ table.
-    choose_gives (grammar.is_word (is_keyword (codes "FORMAT"))) _ _
-    (expect_gives (grammar.keyword (codes "FORMAT")) _ (λ _. expect_gives grammar.format _ (λ _. ends_gives (statement.Insert (record { table = table; lines = lines; ended = ended })) tt)))
-    (ends_gives (statement.Insert (record { table = table; lines = lines; ended = ended })) tt))))
+abbrev AnyToken : Token → Type 0
+AnyToken t = Unit {0}
 
-from_gives : (columns : Selected) → GivesAll (expect (grammar.keyword (codes "FROM")) (λ _. expect grammar.name (λ table. grammar.ends (statement.Select (record { columns = columns; table = table })))))
-from_gives columns = expect_gives _ _ (λ _. expect_gives grammar.name _ (λ table. ends_gives (statement.Select (record { columns = columns; table = table })) tt))
+same_as_none : (r q : Reading Statement) → Gives AnyToken IsNoCreate r → SameCreate r q
+same_as_none (Ok (statement.Create c)) q h = absurd h
+same_as_none (Ok (statement.Insert i)) q h = tt
+same_as_none (Ok (statement.Select s)) q h = tt
+same_as_none (Err fault) q h = tt
 
-select_gives : GivesAll grammar.select
-select_gives =
-    expect_gives (grammar.keyword (codes "SELECT")) _ (λ _.
-    choose_gives (grammar.is_symbol symbol.Star) _ _
-    (expect_gives (grammar.the symbol.Star) _ (λ _. from_gives selected.All))
-    (list_gives grammar.one_name _ name_passes (λ names some. from_gives (selected.Named names))))
+either_same : (b : Bool) (this other another : Reader Statement) (ts : List Placed) → GivesAll AnyToken IsNoCreate other → SameCreate (either b this other ts) (either b this another ts)
+either_same true this other another ts h = same_as_itself (this ts)
+either_same false this other another ts h = same_as_none (other ts) (another ts) (h ts (λ _ _ _. tt))
 
-reader_gives : (text lines : List ℕ) (ended : Bool) → GivesAll (grammar.statement_reader text lines ended)
-reader_gives text lines ended =
-    choose_gives (grammar.is_word (is_keyword (codes "CREATE"))) (grammar.create text) _ (create_gives text)
-    (choose_gives (grammar.is_word (is_keyword (codes "INSERT"))) (grammar.insert lines ended) grammar.select (insert_gives lines ended) select_gives)
+choose_same : (test : Token → Bool) (this other another : Reader Statement) (ts : List Placed) → GivesAll AnyToken IsNoCreate other → SameCreate (choose test this other ts) (choose test this another ts)
+choose_same test this other another [] h = same_as_none (other []) (another []) (h [] (λ _ _ _. tt))
+choose_same test this other another (p ∷ ps) h = either_same (test p.token) this other another (p ∷ ps) h
+
+reader_same : (text lines : List ℕ) (ended : Bool) (ts : List Placed) → SameCreate (grammar.statement_reader text lines ended ts) (grammar.statement_reader text [] false ts)
+reader_same text lines ended ts =
+    choose_same (grammar.is_word (is_keyword (codes "CREATE"))) (grammar.create text) _ (choose (grammar.is_word (is_keyword (codes "INSERT"))) (grammar.insert [] false) grammar.select) ts
+    (choose_gives AnyToken IsNoCreate (grammar.is_word (is_keyword (codes "INSERT"))) (grammar.insert lines ended) grammar.select (insert_gives AnyToken IsNoCreate lines ended (λ _. tt)) (select_gives AnyToken IsNoCreate (λ _. tt)))
+
+-- ---- statements of texts
+
+-- a CREATE of a text that a semicolon ends, whatever its data
+pub record IsCreateAlone (text : List ℕ) (c : CreateText) : Type 0 where
+  pub of_text : IsCreateOf text true c
+  pub alone : grammar.statement_of text true [] false ≡ Ok (statement.Create c)
+
+abbrev IsAlone : List ℕ → Result Statement Cause → Type 0
+IsAlone text (Ok (statement.Create c)) = IsCreateAlone text c
+IsAlone text (Ok (statement.Insert i)) = Unit {0}
+IsAlone text (Ok (statement.Select s)) = Unit {0}
+IsAlone text (Err why) = Unit {0}
+
+alone_if : (text : List ℕ) (b : Bool) (r q : Result Statement Cause) → IsAlone text r → IsAlone text q → IsAlone text (cond b r q)
+alone_if text true r q h k = h
+alone_if text false r q h k = k
+
+read_alone : (text : List ℕ) (r q : Reading Statement) → q ≡ grammar.statement_reader text [] false (grammar.tokens_and_end text true) → Gives (λ t. IsTokenOf true t) (IsStatementOf text true) r → SameCreate r q → IsAlone text (grammar.statement_read (length text) r)
+read_alone text (Ok (statement.Create c)) q is h same = by (nat_lt grammar.statement_limit (length text)) refl
+  where
+    by : (b : Bool) → nat_lt grammar.statement_limit (length text) ≡ b → IsAlone text (cond b (Err cause.LongStatement) (Ok (statement.Create c)))
+    by true e = tt
+    by false e = record { of_text = h; alone = ap (grammar.statement_read (length text)) (sym is ∙ same) ∙ ap (λ b. cond b (Err cause.LongStatement) (Ok (statement.Create c))) e }
+read_alone text (Ok (statement.Insert i)) q is h same = alone_if text (nat_lt grammar.statement_limit (length text)) (Err cause.LongStatement) (Ok (statement.Insert i)) tt tt
+read_alone text (Ok (statement.Select s)) q is h same = alone_if text (nat_lt grammar.statement_limit (length text)) (Err cause.LongStatement) (Ok (statement.Select s)) tt tt
+read_alone text (Err fault) q is h same = tt
+
+statement_alone : (text lines : List ℕ) (ended : Bool) → IsAlone text (grammar.statement_of text true lines ended)
+statement_alone text lines ended =
+    let ts = grammar.tokens_and_end text true in
+    read_alone text (grammar.statement_reader text lines ended ts) (grammar.statement_reader text [] false ts) refl
+    (reader_gives text true lines ended ts (tokens_are text true (λ e. cc))) (reader_same text lines ended ts)
+
+behind_alone : (text : List ℕ) (place : ℕ) (r : Result Statement Cause) → IsAlone text (refused_behind place r)
+behind_alone text place (Ok s) = tt
+behind_alone text place (Err why) = tt
+
+with_rest_alone : (text line : List ℕ) (d : Data) → IsAlone text (with_line_rest text line d)
+with_rest_alone text line d = alone_if text (list_all is_space line) _ _ (statement_alone text d.lines d.ended) (behind_alone text _ (grammar.statement_of text true d.lines d.ended))
+
+complete_alone : (found : List ℕ × List ℕ) → IsAlone found.0 (complete found).0
+complete_alone found = by (grammar.takes_data found.0) refl
+  where
+    by : (b : Bool) → grammar.takes_data found.0 ≡ b → IsAlone found.0 (complete found).0
+    by true e = rw e (with_rest_alone found.0 (line_rest found.1) (data_of (behind_line found.1)))
+    by false e = rw e (statement_alone found.0 [] false)
 
 -- ---- statements of a script
 
-read_is : (size : ℕ) (r : Reading Statement) → Gives r → IsWritten (grammar.statement_read size r)
-read_is size (Ok s) h = by (nat_lt grammar.statement_limit size)
-  where
-    by : (b : Bool) → IsWritten (cond b (Err cause.LongStatement) (Ok s))
-    by true = tt
-    by false = h
-read_is size (Err fault) h = tt
-
-pub statement_is : (text : List ℕ) (terminated : Bool) (lines : List ℕ) (ended : Bool) → IsWritten (grammar.statement_of text terminated lines ended)
-statement_is text terminated lines ended = read_is (length text) _ (reader_gives text lines ended (grammar.tokens_and_end text terminated))
-
-behind_is : (place : ℕ) (r : Result Statement Cause) → IsWritten (refused_behind place r)
-behind_is place (Ok s) = tt
-behind_is place (Err why) = tt
+alone_written : (text : List ℕ) (r : Result Statement Cause) → IsAlone text r → next_statement (text ++ 59 ∷ []) ≡ Some (grammar.statement_of text true [] false, []) → IsWritten r
+alone_written text (Ok (statement.Create c)) h next = record {
+  key = h.of_text.key;
+  named = h.of_text.named;
+  again = ap (λ t. next_statement (t ++ 59 ∷ [])) h.of_text.is ∙ (next ∙ ap (λ (s : Result Statement Cause). Some (s, [])) h.alone);
+}
+alone_written text (Ok (statement.Insert i)) h next = tt
+alone_written text (Ok (statement.Select s)) h next = tt
+alone_written text (Err why) h next = tt
 
 written_if : (b : Bool) (r q : Result Statement Cause) → IsWritten r → IsWritten q → IsWritten (cond b r q)
 written_if true r q h k = h
 written_if false r q h k = k
 
-with_rest_is : (text line : List ℕ) (d : Data) → IsWritten (with_line_rest text line d)
-with_rest_is text line d = written_if (list_all is_space line) _ _ (statement_is text true d.lines d.ended) (behind_is _ (grammar.statement_of text true d.lines d.ended))
-
-complete_is : (found : List ℕ × List ℕ) → IsWritten (complete found).0
-complete_is found = by (grammar.takes_data found.0) refl
+read_cut : (text : List ℕ) (r : Reading Statement) → Gives (λ t. IsTokenOf false t) (IsStatementOf text false) r → IsWritten (grammar.statement_read (length text) r)
+read_cut text (Ok (statement.Create c)) h = absurd (clash h.ended)
   where
-    by : (b : Bool) → grammar.takes_data found.0 ≡ b → IsWritten (complete found).0
-    by true e = rw e (with_rest_is found.0 (line_rest found.1) (data_of (behind_line found.1)))
-    by false e = rw e (statement_is found.0 true [] false)
+    clash : false ≡ true → ⊥
+    clash e = cc
+read_cut text (Ok (statement.Insert i)) h = written_if (nat_lt grammar.statement_limit (length text)) (Err cause.LongStatement) (Ok (statement.Insert i)) tt tt
+read_cut text (Ok (statement.Select s)) h = written_if (nat_lt grammar.statement_limit (length text)) (Err cause.LongStatement) (Ok (statement.Select s)) tt tt
+read_cut text (Err fault) h = tt
 
-or_cut_is : (text : List ℕ) (o : Option (List ℕ × List ℕ)) → IsWritten (complete_or_cut text o).0
-or_cut_is text None = statement_is text false [] false
-or_cut_is text (Some found) = complete_is found
+-- a text that no semicolon ends is no CREATE
+cut_written : (text : List ℕ) → IsOpen Outside text → IsWritten (grammar.statement_of text false [] false)
+cut_written text whole = read_cut text (grammar.statement_reader text [] false (tokens_of text)) (reader_gives text false [] false (tokens_of text) (tokens_are text false (λ _. whole)))
+
+first_written : (b : ℕ) (bs : List ℕ) (o : Option (List ℕ × List ℕ)) → BeginsText is_between (b ∷ bs) → ended_from Outside (b ∷ bs) ≡ o → IsWritten (complete_or_cut (b ∷ bs) o).0
+first_written b bs None first e = cut_written (b ∷ bs) e
+first_written b bs (Some found) first e = alone_written found.0 (complete found).0 (complete_alone found) (next_alone b bs found first e)
 
 abbrev IsWrittenStep : Option Step → Type 0
 IsWrittenStep None = Unit {0}
 IsWrittenStep (Some step) = IsWritten step.0
 
-next_is : (script : List ℕ) → IsWrittenStep (next_from script)
-next_is [] = tt
-next_is (b ∷ bs) = or_cut_is (b ∷ bs) (ended_from Outside (b ∷ bs))
+next_is : (text : List ℕ) → BeginsText is_between text → IsWrittenStep (next_from text)
+next_is [] first = tt
+next_is (b ∷ bs) first = first_written b bs (ended_from Outside (b ∷ bs)) first refl
 
 and_are : (more : List ℕ → List (Result Statement Cause)) (o : Option Step) → ((script : List ℕ) → All IsWritten (more script)) → IsWrittenStep o → All IsWritten (statement_and more o)
 and_are more None each h = All-nil IsWritten
@@ -169,8 +221,8 @@ and_are more (Some step) each h = All-cons IsWritten step.0 (more step.1) h (eac
 
 within_are : (n : ℕ) (script : List ℕ) → All IsWritten (statements_within n script)
 within_are zero script = All-nil IsWritten
-within_are (suc n) script = and_are (statements_within n) (next_statement script) (within_are n) (next_is (behind is_between false script))
+within_are (suc n) script = and_are (statements_within n) (next_statement script) (within_are n) (next_is (behind is_between false script) (behind_begins is_between false script))
 
--- each CREATE of a script names a key
+-- each statement of a script is as the grammar gives it
 pub statements_are : (script : List ℕ) → All IsWritten (statements_of script)
 statements_are script = within_are (length script + 1) script

@@ -1,6 +1,8 @@
+pub mod Again
 pub mod Bare
 pub mod Causes
 pub mod Determined
+pub mod Giving
 pub mod Growing
 pub mod Histories
 pub mod Keys
@@ -16,3 +18,5 @@ pub mod SameKeys
 pub mod Sorting
 pub mod Tables
 pub mod TextBounds
+pub mod Unended
+pub mod Words

@@ -1,7 +1,8 @@
 -- A script's run behind a base is determined: what its statements do is a function of the history before them.
-use Rattle.std.proofs.Common.{◌≡◌, ℕ, ◌+◌, ◌-◌, ◌<◌, ◌≤◌, ◌^◌, List, [], ◌∷◌, ◌++◌, All, Option, Some, None, Result, Ok, Err, length, map, take, drop, slice_get, refl, sym, ap, ap₂, ◌∙◌, subst, inl, inr, append-nil, arith, suc}
-use Rattle.std.proofs.lemmas.List.{drop-drop, length-take-le, length-map, map-append, take_all, length-drop}
-use Rattle.std.proofs.lemmas.List.Elements.{All-head, All-tail, All-take, All-drop}
+use Rattle.std.proofs.Common.{◌≡◌, ◌⊎◌, ℕ, Bool, false, nat_le, filter, ◌+◌, ◌-◌, ◌<◌, ◌≤◌, ◌^◌, List, [], ◌∷◌, ◌++◌, All, Option, Some, None, Result, Ok, Err, length, map, take, drop, slice_get, refl, sym, ap, ap₂, ◌∙◌, subst, inl, inr, append-nil, length-append, arith, suc}
+use Rattle.std.proofs.lemmas.List.{drop-drop, length-take-le, length-map, map-append, take_all, length-drop, take-append-drop}
+use Rattle.std.proofs.lemmas.List.Elements.{All-head, All-tail, All-take, All-drop, filter-append}
+use Rattle.std.proofs.lemmas.Bool.Decides.{nat_tests}
 use Rattle.mt_values.specs.declared.command.Entry.{Entry}
 use Rattle.mt_values.specs.declared.command.Command.{Command}
 use Rattle.mt_values.specs.declared.command.Command.TheVariants as command
@@ -16,7 +17,7 @@ use Rattle.mt_values.specs.declared.statement.SelectText.{SelectText}
 use Rattle.mt_values.specs.Values.{Row}
 use Rattle.mt_values.specs.Order.{key_of, row_cmp}
 use Rattle.mt_values.specs.Printing.{line}
-use Rattle.mt_model.specs.History.{History, own, schema_of}
+use Rattle.mt_model.specs.History.{History, own, schema_of, inserts, inserts_into, FewInserts}
 use Rattle.mt_model.specs.Live.{live, sorted}
 use Rattle.mt_model.specs.Answer.{Answer, Prints}
 use Rattle.mt_model.specs.declared.refusal.Refusal.{Refusal}
@@ -31,7 +32,7 @@ use Rattle.mt_model.proofs.Lists.{take_got}
 use Rattle.mt_model.proofs.Places.{takes_places}
 use Rattle.mt_model.proofs.Determined.{answers_once, row_total}
 use Rattle.mt_model.proofs.Sorting.{sorted_permutes, sorted_rises}
-use Rattle.mt_model.proofs.Bare.{bare, bare_entry, bare_same, bare_create_turn, bare_rows, bare_insert_turn, bare_columns, bare_schema, bare_live}
+use Rattle.mt_model.proofs.Bare.{bare, bare_entry, bare_same, bare_create_turn, bare_rows, bare_inserts, bare_columns, bare_schema, bare_live}
 
 -- ---- where all entries are session 0's, its places are the lengths of the history
 
@@ -79,14 +80,14 @@ abbrev create_step : CreateText → Result Schema Refusal → Option Refusal →
 create_step c (Err why) turn = refused why
 create_step c (Ok schema) turn = create_at_turn c schema turn
 
-abbrev insert_at_turn : InsertText → List Row → Option Refusal → Step
-insert_at_turn i rows (Some why) = refused why
-insert_at_turn i rows None = record { reply = ok_line; more = record { session = 0; command = command.Insert (record { table = i.table; partition = Whole; block = record { types = []; rows = rows } }) } ∷ [] }
+abbrev insert_of_rows : InsertText → List Row → Step
+insert_of_rows i rows = record { reply = ok_line; more = record { session = 0; command = command.Insert (record { table = i.table; partition = Whole; block = record { types = []; rows = rows } }) } ∷ [] }
 
-abbrev insert_step : InsertText → Result (List Row) Refusal → Option Refusal → Step
-insert_step i (Err why) turn = refused why
-insert_step i (Ok []) turn = record { reply = ok_line; more = [] }
-insert_step i (Ok (row ∷ rows)) turn = insert_at_turn i (row ∷ rows) turn
+-- of a table with fewer INSERTs than 3000, which its turn never refuses
+abbrev insert_step : InsertText → Result (List Row) Refusal → Step
+insert_step i (Err why) = refused why
+insert_step i (Ok []) = record { reply = ok_line; more = [] }
+insert_step i (Ok (row ∷ rows)) = insert_of_rows i (row ∷ rows)
 
 abbrev lines_at : List ℕ → Schema → List ℕ → History → List (List ℕ)
 lines_at table schema columns h = map line (sorted row_cmp (map (key_of columns) (live table schema.key h)))
@@ -101,7 +102,7 @@ select_step t h (Some schema) = select_columns t h schema (selected_places schem
 
 abbrev step_of : Result Statement Cause → History → Step
 step_of (Ok (statement.Create c)) h = create_step c (schema_of_text c) (create_turn c.table h)
-step_of (Ok (statement.Insert i)) h = insert_step i (rows_of_insert i h) (insert_turn i.table h)
+step_of (Ok (statement.Insert i)) h = insert_step i (rows_of_insert i h)
 step_of (Ok (statement.Select t)) h = select_step t h (schema_of t.table h)
 step_of (Err why) h = refused (refusal_of_cause why)
 
@@ -140,6 +141,42 @@ never_in_turn : (n : Counts) (reply : List ℕ) → IsCalm n → TurnFailed n re
 never_in_turn n reply calm (inl failed) = never_rose n n.ended calm (omega arith) failed.1
 never_in_turn n reply calm (inr (now, low, rose, is)) = never_rose n now calm low rose
 
+-- ---- where a table has fewer INSERTs than 3000, no turn refuses one more
+
+turn_free : (parts : ℕ) (table : List ℕ) (h : History) → inserts table h < 3000 → parts ≤ inserts table h → insert_turn parts table h ≡ None
+turn_free parts table h few merged =
+    let low : nat_le 3000 parts ≡ false = grind (arith, nat_tests) in
+    let below : nat_le 4294967295 (inserts table h) ≡ false = grind (arith, nat_tests) in
+    rw low (rw below refl)
+
+never_full : (parts : ℕ) (table : List ℕ) (h : History) (why : Refusal) → inserts table h < 3000 → parts ≤ inserts table h → insert_turn parts table h ≡ Some why → ⊥
+never_full parts table h why few merged turn = let free = turn_free parts table h few merged in cc
+
+-- more entries take no INSERT away
+inserts_more : (table : List ℕ) (h more : History) → inserts table h ≤ inserts table (h ++ more)
+inserts_more table h more =
+    let p : Entry → Bool = λ e. inserts_into table e.command in
+    omega (arith, ap length (filter-append p h more) ∙ length-append (filter p h) (filter p more))
+
+inserts_front : (table : List ℕ) (n : ℕ) (h : History) → inserts table (take n h) ≤ inserts table h
+inserts_front table n h = subst (λ (x : History). inserts table (take n h) ≤ inserts table x) (take-append-drop n h) (inserts_more table (take n h) (drop n h))
+
+inserts_end : (table : List ℕ) (ss : List (Result Statement Cause)) (h : History) → inserts table h ≤ inserts table (end_of ss h)
+inserts_end table [] h = omega arith
+inserts_end table (s ∷ ss) h = omega (arith, inserts_more table h (step_of s h).more, inserts_end table ss (h ++ (step_of s h).more))
+
+-- the history has few INSERTs, or the one that the statements come to
+abbrev EndsFew : History → List (Result Statement Cause) → ℕ → Type 0
+EndsFew h ss from = FewInserts h ⊎ FewInserts (end_of ss (bare (take from h)))
+
+few_so_far : (h : History) (ss : List (Result Statement Cause)) (from : ℕ) → EndsFew h ss from → FewInserts (take from h)
+few_so_far h ss from (inl few) = λ table. omega (arith, few table, inserts_front table from h)
+few_so_far h ss from (inr few) = λ table. omega (arith, few table, inserts_end table ss (bare (take from h)), bare_inserts table (take from h))
+
+few_behind : (h : History) (s : Result Statement Cause) (ss : List (Result Statement Cause)) (from place : ℕ) → bare (take place h) ≡ bare (take from h) ++ (step_of s (bare (take from h))).more → EndsFew h (s ∷ ss) from → EndsFew h ss place
+few_behind h s ss from place is (inl few) = inl few
+few_behind h s ss from place is (inr few) = inr (subst (λ (x : History). FewInserts (end_of ss x)) (sym is) few)
+
 -- ---- a statement that was taken did this
 
 record Did (h : History) (from to : ℕ) (reply : List ℕ) (step : Step) : Type 0 where
@@ -152,7 +189,7 @@ grown h from to e next there = ap (λ (n : ℕ). bare (take n h)) next ∙ ap ba
 stayed : (h : History) (from to : ℕ) → to ≡ from → bare (take to h) ≡ bare (take from h) ++ []
 stayed h from to is = ap (λ (n : ℕ). bare (take n h)) is ∙ sym (append-nil (bare (take from h)))
 
-module _ (n : Counts) (calm : IsCalm n) (h : History) (base from to : ℕ) (own_entries : OwnEntries h base) (past : base ≤ from) where
+module _ (n : Counts) (calm : IsCalm n) (h : History) (base from to : ℕ) (own_entries : OwnEntries h base) (past : base ≤ from) (few : FewInserts (take from h)) where
   stay : AddsNothing h 0 from to → to ≡ from
   stay a = stays_there h base from to own_entries past a
 
@@ -186,7 +223,7 @@ module _ (n : Counts) (calm : IsCalm n) (h : History) (base from to : ℕ) (own_
       did_refused why reply _ r (ap₂ (create_step c) is (asked (create_turn c.table) (Some why) (bare_create_turn c.table) turn (stay r.nothing)))
   did_not_create c reply (inr (inr (inr (schema, is, turn, a, failed)))) = absurd (never_in_turn n reply calm failed)
 
-  insert_bare : (i : InsertText) (row : Row) (rows : List Row) (c : Command) → IsInsertOf i.table (row ∷ rows) c → (insert_at_turn i (row ∷ rows) None).more ≡ bare_entry (record { session = 0; command = c }) ∷ []
+  insert_bare : (i : InsertText) (row : Row) (rows : List Row) (c : Command) → IsInsertOf i.table (row ∷ rows) c → (insert_of_rows i (row ∷ rows)).more ≡ bare_entry (record { session = 0; command = c }) ∷ []
   insert_bare i row rows (command.Create c) is = absurd is
   insert_bare i row rows (command.Insert j) is = let t = is.0 in let p = is.1 in let r = is.2 in cc
 
@@ -194,24 +231,20 @@ module _ (n : Counts) (calm : IsCalm n) (h : History) (base from to : ℕ) (own_
   did_insert i reply t is =
       let back = (adds_next h base from to t.command own_entries past t.adds).0 in
       let read : rows_of_insert i (bare (take from h)) ≡ Ok (t.row ∷ t.rows) = bare_rows i (take from h) ∙ subst (λ (n : ℕ). rows_of_insert i (take n h) ≡ Ok (t.row ∷ t.rows)) back t.read in
-      let turn : insert_turn i.table (bare (take from h)) ≡ None = bare_insert_turn i.table (take from h) ∙ subst (λ (n : ℕ). insert_turn i.table (take n h) ≡ None) back t.turn in
-      let step : insert_step i (rows_of_insert i (bare (take from h))) (insert_turn i.table (bare (take from h))) ≡ insert_at_turn i (t.row ∷ t.rows) None = ap₂ (insert_step i) read turn in
-      subst (Did h from to reply) (sym step) (did_one reply (insert_at_turn i (t.row ∷ t.rows) None) t.command t.adds is (insert_bare i t.row t.rows t.command t.is))
+      subst (Did h from to reply) (sym (ap (insert_step i) read)) (did_one reply (insert_of_rows i (t.row ∷ t.rows)) t.command t.adds is (insert_bare i t.row t.rows t.command t.is))
 
   did_insert_none : (i : InsertText) (reply : List ℕ) → AddsNothing h 0 from to → rows_of_insert i (take to h) ≡ Ok [] → reply ≡ ok_line to → Did h from to reply (step_of (Ok (statement.Insert i)) (bare (take from h)))
   did_insert_none i reply a none is =
       let read : rows_of_insert i (bare (take from h)) ≡ Ok [] = asked (rows_of_insert i) (Ok []) (bare_rows i) none (stay a) in
-      subst (λ o. Did h from to reply (insert_step i o (insert_turn i.table (bare (take from h))))) (sym read)
-      (did_nothing reply (insert_step i (Ok []) (insert_turn i.table (bare (take from h)))) a is refl)
+      subst (Did h from to reply) (sym (ap (insert_step i) read)) (did_nothing reply (insert_step i (Ok [])) a is refl)
 
   did_not_insert : (i : InsertText) (reply : List ℕ) → InsertRefused n h 0 i from to reply → Did h from to reply (step_of (Ok (statement.Insert i)) (bare (take from h)))
   did_not_insert i reply (inl (why, is, r)) =
-      did_refused why reply _ r (ap (λ o. insert_step i o (insert_turn i.table (bare (take from h)))) (asked (rows_of_insert i) (Err why) (bare_rows i) is (stay r.nothing)))
+      did_refused why reply _ r (ap (insert_step i) (asked (rows_of_insert i) (Err why) (bare_rows i) is (stay r.nothing)))
   did_not_insert i reply (inr (inl (row, rows, is, a, failed))) = absurd (never_failed n reply calm failed)
-  did_not_insert i reply (inr (inr (inl (row, rows, why, is, turn, r)))) =
-      let stays = stay r.nothing in
-      did_refused why reply _ r (ap₂ (insert_step i) (asked (rows_of_insert i) (Ok (row ∷ rows)) (bare_rows i) is stays) (asked (insert_turn i.table) (Some why) (bare_insert_turn i.table) turn stays))
-  did_not_insert i reply (inr (inr (inr (row, rows, is, turn, a, failed)))) = absurd (never_in_turn n reply calm failed)
+  did_not_insert i reply (inr (inr (inl (row, rows, why, is, parts, merged, turn, r)))) =
+      absurd (never_full parts i.table (take to h) why (subst (λ (n : ℕ). inserts i.table (take n h) < 3000) (sym (stay r.nothing)) (few i.table)) merged turn)
+  did_not_insert i reply (inr (inr (inr (row, rows, is, parts, merged, turn, a, failed)))) = absurd (never_in_turn n reply calm failed)
 
   did_select : (t : SelectText) (reply : List ℕ) → Selects h t to reply → AddsNothing h 0 from to → Did h from to reply (step_of (Ok (statement.Select t)) (bare (take from h)))
   did_select t reply r a =
@@ -260,13 +293,13 @@ record Ran (h : History) (ss : List (Result Statement Cause)) (from to : ℕ) (o
   out_is : out ≡ out_of ss (bare (take from h))
   end_is : bare (take to h) ≡ end_of ss (bare (take from h))
 
-ran : (n : Counts) → IsCalm n → (h : History) (base : ℕ) (ss : List (Result Statement Cause)) (from to : ℕ) (out : List ℕ) → OwnEntries h base → base ≤ from → SessionRun n h 0 ss from to out → Ran h ss from to out
-ran n calm h base [] from to out own_entries past r = record { out_is = r.1; end_is = ap (λ (m : ℕ). bare (take m h)) (sym r.0) }
-ran n calm h base (s ∷ ss) from to out own_entries past r =
+ran : (n : Counts) → IsCalm n → (h : History) (base : ℕ) (ss : List (Result Statement Cause)) (from to : ℕ) (out : List ℕ) → OwnEntries h base → base ≤ from → EndsFew h ss from → SessionRun n h 0 ss from to out → Ran h ss from to out
+ran n calm h base [] from to out own_entries past few r = record { out_is = r.1; end_is = ap (λ (m : ℕ). bare (take m h)) (sym r.0) }
+ran n calm h base (s ∷ ss) from to out own_entries past few r =
     let place = r.0 in
     let places = takes_places n h 0 s from place r.1 r.3 in
-    let one = did n calm h base from place own_entries past s r.1 r.3 in
-    let rest = ran n calm h base ss place to r.2 own_entries (omega (arith, places.0)) r.4 in
+    let one = did n calm h base from place own_entries past (few_so_far h (s ∷ ss) from few) s r.1 r.3 in
+    let rest = ran n calm h base ss place to r.2 own_entries (omega (arith, places.0)) (few_behind h s ss from place one.more_is few) r.4 in
     let more = bare (take from h) ++ (step_of s (bare (take from h))).more in
     let length_is : length more ≡ place = ap length (sym one.more_is) ∙ long h place places.1 in
     record {
@@ -275,19 +308,21 @@ ran n calm h base (s ∷ ss) from to out own_entries past r =
       end_is = rest.end_is ∙ ap (end_of ss) one.more_is;
     }
 
-script_ran : (n : Counts) → IsCalm n → (h : History) (ss : List (Result Statement Cause)) (base : ℕ) (out : List ℕ) → ScriptRun n ss h base out → (out ≡ out_of ss (bare (take base h))) × (bare h ≡ end_of ss (bare (take base h)))
-script_ran n calm h ss base out r =
+script_ran : (n : Counts) → IsCalm n → (h : History) (ss : List (Result Statement Cause)) (base : ℕ) (out : List ℕ) → EndsFew h ss base → ScriptRun n ss h base out → (out ≡ out_of ss (bare (take base h))) × (bare h ≡ end_of ss (bare (take base h)))
+script_ran n calm h ss base out few r =
     let rises = run_rises n h ss base r.last out r.run in
     let all : length h ≡ r.last = stays_there h base r.last (length h) r.sessions rises r.nothing_else in
-    let found = ran n calm h base ss base r.last out r.sessions (omega arith) r.run in
+    let found = ran n calm h base ss base r.last out r.sessions (omega arith) few r.run in
     let whole : take r.last h ≡ h = take_all r.last h (omega arith) in
     (found.out_is, ap bare (sym whole) ∙ found.end_is)
 
--- what a script prints behind a base, and each command that is accepted, are determined where no count rose
-pub one_way : (n : Counts) (script : List (Result Statement Cause)) (h g : History) (base : ℕ) (a b : List ℕ) → n.ended ≡ n.opened → n.ended < 2 ^ 64 - 1 → take base h ≡ take base g → ScriptRun n script h base a → ScriptRun n script g base b → (a ≡ b) × SameHistory h g
-one_way n script h g base a b still below same one two =
+-- what a script prints behind a base, and each command that is accepted, are determined where no count rose and one of the histories has few INSERTs
+pub one_way : (n : Counts) (script : List (Result Statement Cause)) (h g : History) (base : ℕ) (a b : List ℕ) → n.ended ≡ n.opened → n.ended < 2 ^ 64 - 1 → FewInserts h → take base h ≡ take base g → ScriptRun n script h base a → ScriptRun n script g base b → (a ≡ b) × SameHistory h g
+one_way n script h g base a b still below few same one two =
     let calm : IsCalm n = record { still = still; below = below } in
-    let left = script_ran n calm h script base a one in
-    let right = script_ran n calm g script base b two in
+    let left = script_ran n calm h script base a (inl few) one in
     let start : bare (take base h) ≡ bare (take base g) = ap bare same in
-    (left.0 ∙ ap (out_of script) start ∙ sym right.0, bare_same h g (left.1 ∙ ap (end_of script) start ∙ sym right.1))
+    let end : bare h ≡ end_of script (bare (take base g)) = left.1 ∙ ap (end_of script) start in
+    let ends : FewInserts (end_of script (bare (take base g))) = λ table. subst (λ (x : History). inserts table x < 3000) end (omega (arith, few table, bare_inserts table h)) in
+    let right = script_ran n calm g script base b (inr ends) two in
+    (left.0 ∙ ap (out_of script) start ∙ sym right.0, bare_same h g (end ∙ sym right.1))

@@ -24,8 +24,8 @@ create_adds_nothing n h s c from to reply (inr (inr (inr (schema, is, turn, a, f
 pub insert_adds_nothing : (n : Counts) (h : History) (s : ℕ) (i : InsertText) (from to : ℕ) (reply : List ℕ) → InsertRefused n h s i from to reply → AddsNothing h s from to
 insert_adds_nothing n h s i from to reply (inl (why, is, r)) = r.nothing
 insert_adds_nothing n h s i from to reply (inr (inl (row, rows, is, a, failed))) = a
-insert_adds_nothing n h s i from to reply (inr (inr (inl (row, rows, why, is, turn, r)))) = r.nothing
-insert_adds_nothing n h s i from to reply (inr (inr (inr (row, rows, is, turn, a, failed)))) = a
+insert_adds_nothing n h s i from to reply (inr (inr (inl (row, rows, why, is, parts, merged, turn, r)))) = r.nothing
+insert_adds_nothing n h s i from to reply (inr (inr (inr (row, rows, is, parts, merged, turn, a, failed)))) = a
 
 pub select_adds_nothing : (n : Counts) (h : History) (s : ℕ) (t : SelectText) (from to : ℕ) (reply : List ℕ) → SelectRefused n h s t from to reply → AddsNothing h s from to
 select_adds_nothing n h s t from to reply (inl (why, is, r)) = r.nothing

@@ -38,7 +38,7 @@ module _ (n m : Counts) (same : n.opened ≡ m.opened) (later : n.ended ≤ m.en
     insert_risen i (inl r) = inl r
     insert_risen i (inr (inl (row, rows, is, a, failed))) = inr (inl (row, rows, is, a, stage_more reply failed))
     insert_risen i (inr (inr (inl r))) = inr (inr (inl r))
-    insert_risen i (inr (inr (inr (row, rows, is, turn, a, failed)))) = inr (inr (inr (row, rows, is, turn, a, turn_more reply failed)))
+    insert_risen i (inr (inr (inr (row, rows, is, parts, merged, turn, a, failed)))) = inr (inr (inr (row, rows, is, parts, merged, turn, a, turn_more reply failed)))
 
     select_risen : (t : SelectText) → SelectRefused n h s t from to reply → SelectRefused m h s t from to reply
     select_risen t (inl r) = inl r

@@ -47,6 +47,10 @@ creates h = length (filter (λ (e : Entry). is_create e.command) h)
 abbrev pub inserts : List ℕ → History → ℕ
 inserts table h = length (filter (λ (e : Entry). inserts_into table e.command) h)
 
+-- Each table has fewer than 3000 INSERTs, so it never has 3000 parts, whatever was merged: merges leave at most one part an INSERT.
+abbrev pub FewInserts : History → Type 0
+FewInserts h = (table : List ℕ) → inserts table h < 3000
+
 -- the types of a table's columns, in order
 abbrev pub column_types : Schema → List ColType
 column_types schema = map (λ (c : Column). c.col_type) schema.columns

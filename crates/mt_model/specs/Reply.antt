@@ -107,10 +107,10 @@ rows_for i (Some schema) = rows_or_refused (inserted_rows (column_types schema) 
 abbrev pub rows_of_insert : InsertText → History → Result (List Row) Refusal
 rows_of_insert i h = rows_for i (schema_of i.table h)
 
--- at the turn of its command: the table has fewer than 3000 parts, of which no merge takes any away, and a number is left for it
-abbrev pub insert_turn : List ℕ → History → Option Refusal
-insert_turn table h =
-    if nat_le 3000 (inserts table h) then Some (refusal.Full room.Parts 0)
+-- at the turn of its command, where the table has so many parts: it has fewer than 3000, and a number is left for it
+abbrev pub insert_turn : ℕ → List ℕ → History → Option Refusal
+insert_turn parts table h =
+    if nat_le 3000 parts then Some (refusal.Full room.Parts 0)
     else if nat_le 4294967295 (inserts table h) then Some (refusal.Full room.Numbers 0)
     else None
 

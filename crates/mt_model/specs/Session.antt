@@ -11,7 +11,7 @@ use Rattle.mt_values.specs.declared.statement.CreateText.{CreateText}
 use Rattle.mt_values.specs.declared.statement.InsertText.{InsertText}
 use Rattle.mt_values.specs.declared.statement.SelectText.{SelectText}
 use Rattle.mt_values.specs.Values.{Row}
-use Rattle.mt_model.specs.History.{History, schema_of, own}
+use Rattle.mt_model.specs.History.{History, schema_of, inserts, own}
 use Rattle.mt_model.specs.Answer.{Answer}
 use Rattle.mt_model.specs.declared.refusal.Refusal.{Refusal}
 use Rattle.mt_model.specs.Outside.{Counts, ReadOrStageFailed, TurnFailed}
@@ -42,13 +42,16 @@ pub record CreateTaken (h : History) (session : ℕ) (c : CreateText) (from to :
   pub turn : create_turn c.table (take (to - 1) h) ≡ None
   pub adds : Adds h session (command.Create (record { table = c.table; schema = schema })) from to
 
--- an INSERT with rows is accepted by the entries before its own, and has one entry with these rows, the last up to its place
+-- An INSERT with rows is accepted by the entries before its own, and has one entry with these rows, the last up to its place.
+-- Its table has some number of parts then: merges leave at most one part an INSERT.
 pub record InsertTaken (h : History) (session : ℕ) (i : InsertText) (from to : ℕ) : Type 0 where
   pub row : Row
   pub rows : List Row
   pub command : Command
   pub read : rows_of_insert i (take (to - 1) h) ≡ Ok (row ∷ rows)
-  pub turn : insert_turn i.table (take (to - 1) h) ≡ None
+  pub parts : ℕ
+  pub merged : parts ≤ inserts i.table (take (to - 1) h)
+  pub turn : insert_turn parts i.table (take (to - 1) h) ≡ None
   pub is : IsInsertOf i.table (row ∷ rows) command
   pub adds : Adds h session command from to
 
@@ -75,13 +78,14 @@ CreateRefused n h session c from to reply =
     ⊎ ((schema : Schema) × (why : Refusal) × (schema_of_text c ≡ Ok schema) × (create_turn c.table (take to h) ≡ Some why) × RefusedAs h session from to why reply)
     ⊎ ((schema : Schema) × (schema_of_text c ≡ Ok schema) × (create_turn c.table (take to h) ≡ None) × AddsNothing h session from to × TurnFailed n reply)
 
--- what an INSERT may be refused for: by its table and data, by its table's room at its turn, or by the outside once it has rows
+-- What an INSERT may be refused for: by its table and data, by its table's room at its turn, or by the outside once it has rows.
+-- Its table has some number of parts at its turn: merges leave at most one part an INSERT.
 abbrev pub InsertRefused : Counts → History → ℕ → InsertText → ℕ → ℕ → List ℕ → Type 0
 InsertRefused n h session i from to reply =
     ((why : Refusal) × (rows_of_insert i (take to h) ≡ Err why) × RefusedAs h session from to why reply)
     ⊎ ((row : Row) × (rows : List Row) × (rows_of_insert i (take to h) ≡ Ok (row ∷ rows)) × AddsNothing h session from to × ReadOrStageFailed n reply)
-    ⊎ ((row : Row) × (rows : List Row) × (why : Refusal) × (rows_of_insert i (take to h) ≡ Ok (row ∷ rows)) × (insert_turn i.table (take to h) ≡ Some why) × RefusedAs h session from to why reply)
-    ⊎ ((row : Row) × (rows : List Row) × (rows_of_insert i (take to h) ≡ Ok (row ∷ rows)) × (insert_turn i.table (take to h) ≡ None) × AddsNothing h session from to × TurnFailed n reply)
+    ⊎ ((row : Row) × (rows : List Row) × (why : Refusal) × (rows_of_insert i (take to h) ≡ Ok (row ∷ rows)) × (parts : ℕ) × (parts ≤ inserts i.table (take to h)) × (insert_turn parts i.table (take to h) ≡ Some why) × RefusedAs h session from to why reply)
+    ⊎ ((row : Row) × (rows : List Row) × (rows_of_insert i (take to h) ≡ Ok (row ∷ rows)) × (parts : ℕ) × (parts ≤ inserts i.table (take to h)) × (insert_turn parts i.table (take to h) ≡ None) × AddsNothing h session from to × TurnFailed n reply)
 
 -- what a SELECT may be refused for: by its table and columns, or by the outside once they are there
 abbrev pub SelectRefused : Counts → History → ℕ → SelectText → ℕ → ℕ → List ℕ → Type 0

@@ -20,7 +20,7 @@ ghost use Rattle.mt_values.specs.Grammar.{column, is_symbol, one_name, the};
 ghost use Rattle.mt_values.specs.Script.{data_ended_within, data_within, statements_of, statements_within};
 ghost use Rattle.mt_values.specs.Rows.{inserted_rows, row_limit, rows_within, unescaped_within};
 ghost use Rattle.mt_model.specs.declared.refusal.Refusal.{Refusal};
-ghost use Rattle.mt_model.specs.History.{History, IsLegal, IsAllowed, IsTableSchema};
+ghost use Rattle.mt_model.specs.History.{History, FewInserts, IsLegal, IsAllowed, IsTableSchema};
 ghost use Rattle.mt_model.specs.Live.{live, sorted, of_key};
 ghost use Rattle.mt_model.specs.Partial.{Partly};
 ghost use Rattle.mt_model.specs.Answer.{Answer, Prints};
@@ -66,8 +66,9 @@ pub fn answers_are_determined()
         → Answer h table schema columns a → Answer h table schema columns b → a ≡ b }
 {}
 
-/// Each CREATE that a script has names a key. The schema that it writes is one that a table may have, and where its turn
-/// refuses nothing either, its command may come next.
+/// Each CREATE that a script has names a key and a table by a name, and its text, with a semicolon behind it, is read as it
+/// alone. The schema that it writes is one that a table may have, and where its turn refuses nothing either, its command
+/// may come next.
 pub fn creates_are_allowed()
     ensures written { (script : List ℕ) → All IsWritten (statements_of script) }
     ensures schema { (c : CreateText) (schema : Schema) → 0 < length c.key → schema_of_text c ≡ Ok schema → IsTableSchema schema }
@@ -127,11 +128,12 @@ pub fn runs_stay_as_counts_rise()
         → n.opened ≡ m.opened → n.ended ≤ m.ended → SessionRun n h session statements from to out → SessionRun m h session statements from to out }
 {}
 
-/// A script that runs behind a base has one run only, where the disk's count did not rise and stands below its type's end:
-/// what it prints, and each command that is accepted, are determined.
+/// A script that runs behind a base has one run only, where the disk's count did not rise and stands below its type's end,
+/// and no table has 3000 INSERTs in one of the two histories: what it prints, and each command that is accepted, are
+/// determined. A table with 3000 INSERTs may have 3000 parts or fewer, by what was merged, and refuse the next one or not.
 pub fn scripts_run_in_one_way()
     ensures { (n : Counts) (script : List (Result Statement Cause)) (h g : History) (base : ℕ) (a b : List ℕ)
-        → n.ended ≡ n.opened → n.ended < 2 ^ 64 - 1 → take base h ≡ take base g → ScriptRun n script h base a → ScriptRun n script g base b → (a ≡ b) × SameHistory h g }
+        → n.ended ≡ n.opened → n.ended < 2 ^ 64 - 1 → FewInserts h → take base h ≡ take base g → ScriptRun n script h base a → ScriptRun n script g base b → (a ≡ b) × SameHistory h g }
 {}
 
 /// The counts that bound the grammar's readers cut nothing off: each step takes at least one byte, or one token.

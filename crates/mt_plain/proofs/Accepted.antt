@@ -8,9 +8,9 @@ use Rattle.mt_values.specs.Grid.{Grid}
 use Rattle.mt_values.specs.Rows.{inserted_rows}
 use Rattle.mt_model.specs.declared.refusal.Refusal.{Refusal}
 use Rattle.mt_model.specs.History.{History, schema_of, column_types}
-use Rattle.mt_model.specs.Reply.{unless_refused, schema_of_text, create_turn, rows_or_refused, rows_for, rows_of_insert, insert_turn}
+use Rattle.mt_model.specs.Reply.{unless_refused, schema_of_text, create_turn, rows_or_refused, rows_for, rows_of_insert}
 use Rattle.mt_model.proofs.Ranges.{inserted_values, inserted_typed}
-use Rattle.mt_plain.specs.Plain.{at_turn, created, rows_at_turn, inserted, IsInserted}
+use Rattle.mt_plain.specs.Plain.{at_turn, created, rows_at_turn, unmerged_turn, inserted, IsInserted}
 
 -- ---- CREATE
 
@@ -44,12 +44,12 @@ unmade c h why is = by (schema_of_text c) (create_turn c.table h) refl refl is
 -- its rows, and its turn does not refuse them
 pub record IsAdded (i : InsertText) (h : History) (row : Row) (rows : List Row) : Type 0 where
   pub read : rows_of_insert i h ≡ Ok (row ∷ rows)
-  pub turn : insert_turn i.table h ≡ None
+  pub turn : unmerged_turn i.table h ≡ None
 
 pub added : (i : InsertText) (h : History) (row : Row) (rows : List Row) → inserted i h ≡ Ok (row ∷ rows) → IsAdded i h row rows
-added i h row rows is = by (rows_of_insert i h) (insert_turn i.table h) refl refl is
+added i h row rows is = by (rows_of_insert i h) (unmerged_turn i.table h) refl refl is
   where
-    by : (r : Result (List Row) Refusal) (o : Option Refusal) → rows_of_insert i h ≡ r → insert_turn i.table h ≡ o → rows_at_turn o r ≡ Ok (row ∷ rows) → IsAdded i h row rows
+    by : (r : Result (List Row) Refusal) (o : Option Refusal) → rows_of_insert i h ≡ r → unmerged_turn i.table h ≡ o → rows_at_turn o r ≡ Ok (row ∷ rows) → IsAdded i h row rows
     by (Err why) o e f is = cc
     by (Ok []) o e f is = cc
     by (Ok (x ∷ xs)) (Some why) e f is = cc
@@ -64,11 +64,11 @@ decided : (o turn : Option Refusal) (rows : List Row) → turn ≡ o → 0 < len
 decided o turn [] is some = absurd (omega arith)
 decided o turn (row ∷ rows) is some = ap (λ p. unless_refused p (row ∷ rows)) is
 
-insert_some : (i : InsertText) (h : History) (schema : Schema) (rows : List Row) → schema_of i.table h ≡ Some schema → inserted_rows (column_types schema) i.lines i.ended ≡ Ok rows → 0 < length rows → insert_turn i.table h ≡ None → inserted i h ≡ Ok rows
-insert_some i h schema rows there is some turn = ap (rows_at_turn (insert_turn i.table h)) (rows_of_table i h schema there ∙ ap rows_or_refused is) ∙ decided None (insert_turn i.table h) rows turn some
+insert_some : (i : InsertText) (h : History) (schema : Schema) (rows : List Row) → schema_of i.table h ≡ Some schema → inserted_rows (column_types schema) i.lines i.ended ≡ Ok rows → 0 < length rows → unmerged_turn i.table h ≡ None → inserted i h ≡ Ok rows
+insert_some i h schema rows there is some turn = ap (rows_at_turn (unmerged_turn i.table h)) (rows_of_table i h schema there ∙ ap rows_or_refused is) ∙ decided None (unmerged_turn i.table h) rows turn some
 
 -- a block of the rows
-pub block_some : (i : InsertText) (h : History) (schema : Schema) (block : Grid) → schema_of i.table h ≡ Some schema → block.types ≡ column_types schema → All (λ (b : ℕ). b < 2 ^ 8) i.lines → inserted_rows (column_types schema) i.lines i.ended ≡ Ok block.rows → 0 < length block.rows → insert_turn i.table h ≡ None → IsInserted i h block
+pub block_some : (i : InsertText) (h : History) (schema : Schema) (block : Grid) → schema_of i.table h ≡ Some schema → block.types ≡ column_types schema → All (λ (b : ℕ). b < 2 ^ 8) i.lines → inserted_rows (column_types schema) i.lines i.ended ≡ Ok block.rows → 0 < length block.rows → unmerged_turn i.table h ≡ None → IsInserted i h block
 block_some i h schema block there types bytes is some turn = record {
   rows = insert_some i h schema block.rows there is some turn;
   schema = schema;

@@ -1,5 +1,5 @@
 -- A script's run stays one where its history is exchanged for one that is the same but for how blocks are kept.
-use Rattle.std.proofs.Common.{◌≡◌, ℕ, ◌-◌, List, [], ◌∷◌, All, Option, Some, None, Result, Ok, Err, option_map, length, map, take, drop, slice_get, refl, sym, ap, ◌∙◌, subst, inl, inr, arith, suc, zero}
+use Rattle.std.proofs.Common.{◌≡◌, ℕ, ◌-◌, ◌≤◌, List, [], ◌∷◌, All, Option, Some, None, Result, Ok, Err, option_map, length, map, take, drop, slice_get, refl, sym, ap, ◌∙◌, subst, inl, inr, arith, suc, zero}
 use Rattle.std.proofs.lemmas.List.{take-map, length-map}
 use Rattle.std.proofs.lemmas.List.Elements.{All-nil, All-cons, All-head, All-tail}
 use Rattle.std.proofs.lemmas.Option.{slice_get-map}
@@ -14,7 +14,7 @@ use Rattle.mt_values.specs.declared.statement.CreateText.{CreateText}
 use Rattle.mt_values.specs.declared.statement.InsertText.{InsertText}
 use Rattle.mt_values.specs.declared.statement.SelectText.{SelectText}
 use Rattle.mt_values.specs.Values.{Row}
-use Rattle.mt_model.specs.History.{History, own, schema_of}
+use Rattle.mt_model.specs.History.{History, own, schema_of, inserts}
 use Rattle.mt_model.specs.Live.{live, of_key}
 use Rattle.mt_model.specs.Answer.{Answer}
 use Rattle.mt_model.specs.declared.refusal.Refusal.{Refusal}
@@ -23,7 +23,7 @@ use Rattle.mt_model.specs.Reply.{create_turn, rows_of_insert, insert_turn, colum
 use Rattle.mt_model.specs.Session.{AddsNothing, Adds, IsInsertOf, CreateTaken, InsertTaken, Selects, RefusedAs, CreateRefused, InsertRefused, SelectRefused, Takes, SessionRun}
 use Rattle.mt_model.specs.Script.{ScriptRun}
 use Rattle.mt_model.specs.Same.{SameHistory}
-use Rattle.mt_model.proofs.Bare.{bare, bare_entry, bare_command, same_bare, bare_create_turn, bare_rows, bare_insert_turn, bare_columns, bare_schema, bare_live, bare_own}
+use Rattle.mt_model.proofs.Bare.{bare, bare_entry, bare_command, same_bare, bare_same, bare_create_turn, bare_rows, bare_inserts, bare_insert_turn, bare_columns, bare_schema, bare_live, bare_own}
 
 drop_bare : (n : ℕ) (h : History) → bare (drop n h) ≡ drop n (bare h)
 drop_bare zero h = refl
@@ -62,6 +62,9 @@ module _ (h g : History) (same : bare h ≡ bare g) where
 
   same_take : (n : ℕ) → bare (take n h) ≡ bare (take n g)
   same_take n = sym (take-map bare_entry n h) ∙ ap (take n) same ∙ take-map bare_entry n g
+
+pub same_back : (h g : History) → SameHistory h g → SameHistory g h
+same_back h g same = bare_same g h (sym (same_bare h g same))
 
 same_part : (h g : History) → bare h ≡ bare g → (m n : ℕ) → bare (take n (drop m h)) ≡ bare (take n (drop m g))
 same_part h g same m n = same_take (drop m h) (drop m g) (same_drop h g same m) n
@@ -119,6 +122,10 @@ module _ (h g : History) (same : bare h ≡ bare g) where
         adds = subst (λ (d : Command). Adds g s d from to) (create_bare _ added.0 added.1 (record { table = c.table; schema = t.schema }) refl) added.2;
       }
 
+  -- as many INSERTs up to a place
+  as_many : (table : List ℕ) (parts n : ℕ) → parts ≤ inserts table (take n h) → parts ≤ inserts table (take n g)
+  as_many table parts n few = subst (λ (m : ℕ). parts ≤ m) (same_asked (inserts table) (bare_inserts table) (take n h) (take n g) (same_take h g same n)) few
+
   insert_taken_same : (s : ℕ) (i : InsertText) (from to : ℕ) → InsertTaken h s i from to → InsertTaken g s i from to
   insert_taken_same s i from to t =
       let added = adds_same s t.command from to t.adds in
@@ -127,7 +134,9 @@ module _ (h g : History) (same : bare h ≡ bare g) where
         rows = t.rows;
         command = added.0;
         read = sym (same_asked (rows_of_insert i) (bare_rows i) (take (to - 1) h) (take (to - 1) g) (same_take h g same (to - 1))) ∙ t.read;
-        turn = sym (same_asked (insert_turn i.table) (bare_insert_turn i.table) (take (to - 1) h) (take (to - 1) g) (same_take h g same (to - 1))) ∙ t.turn;
+        parts = t.parts;
+        merged = as_many i.table t.parts (to - 1) t.merged;
+        turn = sym (same_asked (insert_turn t.parts i.table) (bare_insert_turn t.parts i.table) (take (to - 1) h) (take (to - 1) g) (same_take h g same (to - 1))) ∙ t.turn;
         is = insert_bare i.table (t.row ∷ t.rows) t.command added.0 (sym added.1) t.is;
         adds = added.2;
       }
@@ -160,14 +169,16 @@ module _ (h g : History) (same : bare h ≡ bare g) where
     insert_refused_same : (i : InsertText) → InsertRefused n h s i from to reply → InsertRefused n g s i from to reply
     insert_refused_same i (inl (why, is, r)) = inl (why, asked (rows_of_insert i) (Err why) (bare_rows i) to is, refused_same s from to why reply r)
     insert_refused_same i (inr (inl (row, rows, is, a, failed))) = inr (inl (row, rows, asked (rows_of_insert i) (Ok (row ∷ rows)) (bare_rows i) to is, nothing_same s from to a, failed))
-    insert_refused_same i (inr (inr (inl (row, rows, why, is, turn, r)))) =
+    insert_refused_same i (inr (inr (inl (row, rows, why, is, parts, merged, turn, r)))) =
         let read = asked (rows_of_insert i) (Ok (row ∷ rows)) (bare_rows i) to is in
-        let full = asked (insert_turn i.table) (Some why) (bare_insert_turn i.table) to turn in
-        inr (inr (inl (row, rows, why, read, full, refused_same s from to why reply r)))
-    insert_refused_same i (inr (inr (inr (row, rows, is, turn, a, failed)))) =
+        let few = as_many i.table parts to merged in
+        let full = asked (insert_turn parts i.table) (Some why) (bare_insert_turn parts i.table) to turn in
+        inr (inr (inl (row, rows, why, read, parts, few, full, refused_same s from to why reply r)))
+    insert_refused_same i (inr (inr (inr (row, rows, is, parts, merged, turn, a, failed)))) =
         let read = asked (rows_of_insert i) (Ok (row ∷ rows)) (bare_rows i) to is in
-        let room = asked (insert_turn i.table) None (bare_insert_turn i.table) to turn in
-        inr (inr (inr (row, rows, read, room, nothing_same s from to a, failed)))
+        let few = as_many i.table parts to merged in
+        let room = asked (insert_turn parts i.table) None (bare_insert_turn parts i.table) to turn in
+        inr (inr (inr (row, rows, read, parts, few, room, nothing_same s from to a, failed)))
 
     select_refused_same : (t : SelectText) → SelectRefused n h s t from to reply → SelectRefused n g s t from to reply
     select_refused_same t (inl (why, is, r)) = inl (why, asked (columns_of_select t) (Err why) (bare_columns t) to is, refused_same s from to why reply r)

@@ -1,5 +1,5 @@
 -- What one statement comes to, run behind the last entry of a history, over an outside without faults.
-use Rattle.std.proofs.Common.{◌≡◌, ℕ, ◌+◌, ◌-◌, ◌<◌, List, [], ◌∷◌, ◌++◌, Some, None, Result, Ok, Err, length, take, All, refl, sym, ap, subst, ◌∙◌, inl, inr, arith, length-append}
+use Rattle.std.proofs.Common.{◌≡◌, ℕ, ◌+◌, ◌-◌, ◌<◌, ◌≤◌, List, [], ◌∷◌, ◌++◌, Some, None, Result, Ok, Err, length, take, All, refl, sym, ap, subst, ◌∙◌, inl, inr, arith, length-append}
 use Rattle.std.proofs.lemmas.List.{take-append-le, take_all}
 use Rattle.std.proofs.lemmas.List.Elements.{All-append}
 use Rattle.mt_values.specs.declared.command.Entry.{Entry}
@@ -16,7 +16,7 @@ use Rattle.mt_values.specs.Values.{Row}
 use Rattle.mt_values.specs.Grid.{Grid}
 use Rattle.mt_model.specs.declared.refusal.Refusal.{Refusal}
 use Rattle.mt_model.specs.declared.refusal.Refusal.TheVariants as refusal
-use Rattle.mt_model.specs.History.{History, IsLegal, schema_of}
+use Rattle.mt_model.specs.History.{History, IsLegal, schema_of, inserts}
 use Rattle.mt_model.specs.Refusals.{refusal_line}
 use Rattle.mt_model.specs.Reply.{ok_line, create_turn, rows_of_insert, insert_turn, columns_for, columns_of_select}
 use Rattle.mt_model.specs.Session.{AddsNothing, RefusedAs, CreateRefused, TakesStatement, Takes, SessionRun}
@@ -107,7 +107,9 @@ insert_takes h i block is some = by block.rows refl
             rows = rows;
             command = command.Insert (record { table = i.table; partition = Whole; block = block });
             read = subst (λ (x : History). rows_of_insert i x ≡ Ok (row ∷ rows)) (sym (before_last h entry)) a.read;
-            turn = subst (λ (x : History). insert_turn i.table x ≡ None) (sym (before_last h entry)) a.turn;
+            parts = inserts i.table h;
+            merged = subst (λ (x : History). inserts i.table h ≤ inserts i.table x) (sym (before_last h entry)) (omega arith);
+            turn = subst (λ (x : History). insert_turn (inserts i.table h) i.table x ≡ None) (sym (before_last h entry)) a.turn;
             is = (refl, refl, e);
             adds = adds_last h entry 0 refl;
           },

@@ -1,5 +1,5 @@
 -- What the plain program sorts by, what it accepts at the end of a history, and what it adds to one.
-use Rattle.std.specs.Prelude.{◌≡◌, List, [], ◌∷◌, ◌++◌, All, Option, Some, Result, Ok, Err}
+use Rattle.std.specs.Prelude.{◌≡◌, ℕ, List, [], ◌∷◌, ◌++◌, All, Option, Some, Result, Ok, Err}
 use Rattle.std.specs.declared.cmp.Ordering.{Ordering}
 use Rattle.mt_values.specs.Values.{Row, AreValues}
 use Rattle.mt_values.specs.Grid.{Grid, AreRowsOf}
@@ -9,7 +9,7 @@ use Rattle.mt_values.specs.declared.schema.Schema.{Schema}
 use Rattle.mt_values.specs.declared.statement.CreateText.{CreateText}
 use Rattle.mt_values.specs.declared.statement.InsertText.{InsertText}
 use Rattle.mt_model.specs.declared.refusal.Refusal.{Refusal}
-use Rattle.mt_model.specs.History.{History, schema_of, column_types}
+use Rattle.mt_model.specs.History.{History, schema_of, inserts, column_types}
 use Rattle.mt_model.specs.Outside.{Counts}
 use Rattle.mt_model.specs.Reply.{unless_refused, schema_of_text, create_turn, rows_of_insert, insert_turn}
 use Rattle.mt_plain.specs.declared.sorting.Order.{Order}
@@ -39,9 +39,13 @@ rows_at_turn turn (Err why) = Err why
 rows_at_turn turn (Ok []) = Ok []
 rows_at_turn turn (Ok (row ∷ rows)) = unless_refused turn (row ∷ rows)
 
+-- nothing was merged: the table has one part an INSERT
+abbrev pub unmerged_turn : List ℕ → History → Option Refusal
+unmerged_turn table h = insert_turn (inserts table h) table h
+
 -- the rows that an INSERT adds at the end of a history
 abbrev pub inserted : InsertText → History → Result (List Row) Refusal
-inserted i h = rows_at_turn (insert_turn i.table h) (rows_of_insert i h)
+inserted i h = rows_at_turn (unmerged_turn i.table h) (rows_of_insert i h)
 
 -- the block has the rows that an INSERT adds at the end of a history, and they are its table's
 pub record IsInserted (i : InsertText) (h : History) (block : Grid) : Type 0 where

@@ -3,7 +3,7 @@ ghost use Rattle.std.specs.Prelude.{◌≡◌, ◌^◌, ◌<◌, All, Err, Ok, I
 ghost use Rattle.mt_values.specs.Rows.{inserted_rows};
 ghost use Rattle.mt_model.specs.History as history;
 ghost use Rattle.mt_model.specs.Reply as reply;
-ghost use Rattle.mt_plain.specs.Plain.{IsInserted, created, inserted};
+ghost use Rattle.mt_plain.specs.Plain.{IsInserted, created, inserted, unmerged_turn};
 
 use super::tables::{creates, inserts, schema_of};
 use mt_base::{NoMemory, Seq, Twin};
@@ -15,7 +15,7 @@ use tsv_rows::{ReadStop, read_rows};
 /// The most tables.
 const MOST_TABLES: usize = 64;
 
-/// The fewest INSERTs into a table that leave no room for another part.
+/// The fewest INSERTs into a table that leave no room for another part, since nothing is merged.
 const FULL_TABLE: usize = 3000;
 
 /// The fewest INSERTs into a table that leave no number for another.
@@ -109,7 +109,7 @@ fn read_block(
 
 /// Why a table has no room for another INSERT with rows.
 fn insert_turn(entries: &[Entry], table: &Name) -> Option<Refusal>
-    ensures { result ≡ reply.insert_turn table.now entries.now }
+    ensures { result ≡ unmerged_turn table.now entries.now }
 {
     let count = inserts(entries, table);
     if count >= FULL_TABLE {

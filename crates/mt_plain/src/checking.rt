@@ -1,5 +1,6 @@
 // Whether a history and a text are those of a script's run.
 ghost use Rattle.std.specs.Prelude.{◌≡◌, ◌↔◌, IfOk, IsTrue, true};
+ghost use Rattle.mt_model.specs.History.{FewInserts};
 ghost use Rattle.mt_model.specs.Same.{SameCommand, SameEntry, SameHistory};
 ghost use Rattle.mt_model.specs.Script.{ScriptRun};
 ghost use Rattle.mt_plain.specs.Plain.{calm};
@@ -13,6 +14,9 @@ use std::alloc::Global;
 /// Whether a script without a history before it, over an outside without faults, may have left this history and printed
 /// this text.
 ///
+/// A yes is right of every history. A no is right of a history in which no table has 3000 INSERTs: the plain program merges
+/// nothing, and so it refuses more INSERTs into a table that has 3000, where a program that merges may take them.
+///
 /// `NoMemory` where a growth was refused.
 pub fn allows(
     alloc: Global,
@@ -20,7 +24,8 @@ pub fn allows(
     entries: &[Entry],
     printed: &[u8],
 ) -> Result<bool, NoMemory>
-    ensures { IfOk result (λ b. (b ≡ true) ↔ ScriptRun calm statements.now entries.now 0 printed.now) }
+    ensures allowed { IfOk result (λ b. b ≡ true → ScriptRun calm statements.now entries.now 0 printed.now) }
+    ensures exact { FewInserts entries.now → ScriptRun calm statements.now entries.now 0 printed.now → IfOk result (λ b. b ≡ true) }
 {
     let done = run(alloc, statements)?;
     if done.out.as_slice() == printed {

@@ -1,5 +1,5 @@
 // Statements, run one after another.
-ghost use Rattle.std.specs.Prelude.{◌≡◌, ◌++◌, ◌∷◌, [], All, IfOk, OnOk, OnErr, length};
+ghost use Rattle.std.specs.Prelude.{◌≡◌, ◌<◌, ◌++◌, ◌∷◌, [], All, IfOk, OnOk, OnErr, length};
 ghost use Rattle.mt_values.specs.declared.command.Command.TheVariants as command;
 ghost use Rattle.mt_base.specs.declared.partition.Partition.TheVariants.{Whole};
 ghost use Rattle.mt_values.specs.declared.statement.Statement.TheVariants as statement;
@@ -7,7 +7,7 @@ ghost use Rattle.mt_model.specs.History.{IsLegal};
 ghost use Rattle.mt_model.specs.Refusals as refusals;
 ghost use Rattle.mt_model.specs.Session.{Takes, TakesStatement};
 ghost use Rattle.mt_model.specs.Script.{ScriptRun};
-ghost use Rattle.mt_model.specs.Written.{IsWritten, NamesKey};
+ghost use Rattle.mt_model.specs.Written.{IsStatementText, IsWritten};
 ghost use Rattle.mt_plain.specs.Plain.{Grows, calm};
 
 use super::accepting::{created_schema, inserted_block};
@@ -83,7 +83,7 @@ fn step_statement(
 ) -> Result<Vec<u8>, NoMemory>
     ensures takes { IfOk result (λ reply. TakesStatement calm history.new.items 0 statement.now (length history.old.items) (length history.new.items) reply.items) }
     ensures grows { OnOk result (Grows history.old.items history.new.items) }
-    ensures legal { NamesKey statement.now → IsLegal history.old.items → IsLegal history.new.items }
+    ensures legal { IsStatementText statement.now → IsLegal history.old.items → IsLegal history.new.items }
     ensures err { OnErr result (history.new.items ≡ history.old.items) }
 {
     match statement {
@@ -101,7 +101,7 @@ fn step_create(
 ) -> Result<Vec<u8>, NoMemory>
     ensures takes { IfOk result (λ reply. TakesStatement calm history.new.items 0 (statement.Create create.now) (length history.old.items) (length history.new.items) reply.items) }
     ensures grows { OnOk result (Grows history.old.items history.new.items) }
-    ensures legal { NamesKey (statement.Create create.now) → IsLegal history.old.items → IsLegal history.new.items }
+    ensures legal { 0 < length create.now.key → IsLegal history.old.items → IsLegal history.new.items }
     ensures err { OnErr result (history.new.items ≡ history.old.items) }
 {
     match created_schema(alloc, history, create)? {

@@ -1,6 +1,5 @@
 -- From what a statement did to what its answer says.
-use Rattle.std.proofs.Common.{◌≡◌, ℕ, ◌+◌, List, [], ◌∷◌, ◌++◌, length, map, take, refl, sym, ap, ◌∙◌, subst, append-nil, arith, Option, None, Some, Result, Ok, Err, length-append}
-use Rattle.std.specs.Prelude.{OnOk}
+use Rattle.std.proofs.Common.{◌≡◌, ℕ, ◌+◌, Bool, false, List, [], ◌∷◌, ◌++◌, length, map, take, refl, sym, ap, ◌∙◌, subst, append-nil, arith, Option, None, Some, Result, Ok, Err, length-append}
 use Rattle.std.specs.Option.{option_map}
 use Rattle.std.proofs.lemmas.List.{length-map, take_at, take_all, map-append}
 use Rattle.std.proofs.lemmas.List.Elements.{All-cons, All-nil}
@@ -10,15 +9,17 @@ use Rattle.mt_values.specs.declared.command.Command.{Command}
 use Rattle.mt_values.specs.declared.statement.Cause.{Cause}
 use Rattle.mt_values.specs.declared.statement.Statement.{Statement}
 use Rattle.mt_values.specs.Annals.{Told, began, noted}
+use Rattle.mt_outside.specs.Disk as root
 use Rattle.mt_outside.specs.Files.{Files}
 use Rattle.mt_model.specs.History.{History}
 use Rattle.mt_model.specs.Outside.{Counts}
 use Rattle.mt_model.specs.Session.{Takes, AddsNothing, Adds}
 use Rattle.mt_model.proofs.Growing.{stays, adds_last}
-use Rattle.mt_program.specs.declared.store.Store.{Store}
-use Rattle.mt_program.specs.Answers.{history, Accepts, Foresees, SameList}
-use Rattle.mt_program.specs.Commits.{Notes}
-use Rattle.mt_program.specs.Store.{Stands}
+use Rattle.root_log.specs.declared.store.CoreStore.{CoreStore}
+use Rattle.root_log.specs.Commits.{Notes, SameList}
+use Rattle.root_log.specs.Soundness.{RootStands}
+use Rattle.root_log.specs.Stores.{CoreStands}
+use Rattle.mt_program.specs.Answers.{history, Accepts, Foresees, is_unsettled}
 
 -- the history has as many entries as the keeper's list
 pub length_history : (t : Told) → length (history t) ≡ length t.list
@@ -40,11 +41,12 @@ pub same_kept : (kept : Told) (old new : Option Told) → old ≡ Some kept → 
 same_kept kept old new is same = subst (λ (o : Option Told). SameList o new) is same
 
 -- a statement that adds nothing
-pub accepts_nothing : {F : Type 0} (files_of : F → Option Files) (kept : Told) (st : Result Statement Cause) (opened disk arm : ℕ) (reply : List ℕ) (store : Store F) (told : Option Told)
-    → SameList (Some kept) told → Stands files_of (history kept) store
-    → ((n : Counts) → Foresees opened disk arm n → Takes n (history kept) 0 st (length kept.list) (length kept.list) reply) → Accepts files_of kept st opened disk arm reply store told
-accepts_nothing files_of kept st opened disk arm reply store None same stands takes = absurd same
-accepts_nothing files_of kept st opened disk arm reply store (Some now) same stands takes =
+pub accepts_nothing : {F : Type 0} (files_of : F → Option Files) (kept : Told) (st : Result Statement Cause) (opened disk arm : ℕ) (reply : List ℕ) (store : CoreStore F) (told : Option Told) (root_before now_root : Option root.Told)
+    → SameList (Some kept) told → CoreStands files_of (history kept) store
+    → ((n : Counts) → Foresees opened disk arm n → Takes n (history kept) 0 st (length kept.list) (length kept.list) reply)
+    → (is_unsettled reply ≡ false → RootStands root_before (history kept) → RootStands now_root (history kept)) → Accepts files_of kept st opened disk arm reply store told root_before now_root
+accepts_nothing files_of kept st opened disk arm reply store None root_before now_root same stands takes settled = absurd same
+accepts_nothing files_of kept st opened disk arm reply store (Some now) root_before now_root same stands takes settled =
     let h : history now ≡ history kept = ap (map (λ (n : Noted). n.entry)) same in
     record {
       now = now;
@@ -52,10 +54,15 @@ accepts_nothing files_of kept st opened disk arm reply store (Some now) same sta
       told_is = refl;
       list_is = same ∙ sym (append-nil kept.list);
       sessions = All-nil (λ (n : Noted). n.entry.session ≡ 0);
-      stands = subst (λ (x : History). Stands files_of x store) (sym h) stands;
+      stands = subst (λ (x : History). CoreStands files_of x store) (sym h) stands;
       takes = λ n f. subst (λ (m : ℕ). Takes n (history now) 0 st (length kept.list) m reply) (sym (ap length same))
           (subst (λ (x : History). Takes n x 0 st (length kept.list) (length kept.list) reply) (sym h) (takes n f));
+      settled = λ calm before. subst (RootStands now_root) (sym h) (settled calm before);
     }
+
+-- a root that stays as it was
+pub root_same : (reply : List ℕ) (h : History) (old new : Option root.Told) → new ≡ old → is_unsettled reply ≡ false → RootStands old h → RootStands new h
+root_same reply h old new same calm stands = subst (λ (o : Option root.Told). RootStands o h) (sym same) stands
 
 -- a command of the script's own session
 abbrev pub entry_of : Command → Entry
@@ -82,20 +89,17 @@ module _ (mark : ℕ) (c : Command) (kept : Told) where
       subst (λ (h : History). Adds h 0 c (length kept.list) (length kept.list + 1)) (sym history_after) here
 
   -- a statement that adds one command
-  pub accepts_command : {F : Type 0} (files_of : F → Option Files) (st : Result Statement Cause) (opened disk arm : ℕ) (reply : List ℕ) (store : Store F) (old told : Option Told)
-      → old ≡ Some kept → Notes mark c old told → Stands files_of (history kept ++ entry_of c ∷ []) store
-      → ((n : Counts) (h : History) (m : ℕ) → take m h ≡ history kept → Adds h 0 c m (m + 1) → m ≡ length kept.list → Takes n h 0 st m (m + 1) reply) → Accepts files_of kept st opened disk arm reply store told
-  accepts_command files_of st opened disk arm reply store old told is notes stands takes = record {
+  pub accepts_command : {F : Type 0} (files_of : F → Option Files) (st : Result Statement Cause) (opened disk arm : ℕ) (reply : List ℕ) (store : CoreStore F) (old told : Option Told) (root_before now_root : Option root.Told)
+      → old ≡ Some kept → Notes mark (entry_of c) old told → CoreStands files_of (history kept ++ entry_of c ∷ []) store
+      → ((n : Counts) (h : History) (m : ℕ) → take m h ≡ history kept → Adds h 0 c m (m + 1) → m ≡ length kept.list → Takes n h 0 st m (m + 1) reply)
+      → (RootStands root_before (history kept) → RootStands now_root (history kept ++ entry_of c ∷ [])) → Accepts files_of kept st opened disk arm reply store told root_before now_root
+  accepts_command files_of st opened disk arm reply store old told root_before now_root is notes stands takes settled = record {
     now = after_note mark c kept;
     more = record { entry = entry_of c; mark = mark } ∷ [];
     told_is = notes ∙ ap (option_map (after_note mark c)) is;
     list_is = refl;
     sessions = All-cons (λ (n : Noted). n.entry.session ≡ 0) (record { entry = entry_of c; mark = mark }) [] refl (All-nil (λ (n : Noted). n.entry.session ≡ 0));
-    stands = subst (λ (h : History). Stands files_of h store) (sym history_after) stands;
+    stands = subst (λ (h : History). CoreStands files_of h store) (sym history_after) stands;
     takes = λ n f. subst (λ (m : ℕ). Takes n (history (after_note mark c kept)) 0 st (length kept.list) m reply) (sym length_after) (takes n (history (after_note mark c kept)) (length kept.list) front_after adds_after refl);
+    settled = λ calm before. subst (RootStands now_root) (sym history_after) (settled before);
   }
-
--- what holds in any case holds of each answer
-pub on_ok : {A E : Type 0} (r : Result A E) (P : Type 0) → P → OnOk r P
-on_ok (Ok x) P h = h
-on_ok (Err e) P h = tt

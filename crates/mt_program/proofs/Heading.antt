@@ -10,7 +10,7 @@ use Rattle.mt_values.specs.declared.annals.Noted.{Noted}
 use Rattle.mt_values.specs.declared.command.Entry.{Entry}
 use Rattle.mt_values.specs.Annals.{Told}
 use Rattle.mt_values.specs.Script.{statements_of}
-use Rattle.mt_outside.specs.Files.{Files}
+use Rattle.mt_outside.specs.Disk as root
 use Rattle.mt_outside.specs.declared.disk.DiskError.{DiskError}
 use Rattle.mt_outside.specs.declared.disk.DiskError.TheVariants as failure
 use Rattle.mt_model.specs.History.{History, IsLegal}
@@ -20,7 +20,6 @@ use Rattle.mt_model.specs.Script.{ScriptRun, ScriptReplies, CutRun, CutInReply, 
 use Rattle.mt_model.specs.Session.{AddsNothing, SessionReplies}
 use Rattle.mt_model.proofs.Causes.{never_damaged}
 use Rattle.mt_model.proofs.Replies.{script_replies_run}
-use Rattle.mt_program.specs.declared.store.Store.{Store}
 use Rattle.mt_program.specs.declared.streams.ReadStop.{ReadStop}
 use Rattle.mt_program.specs.declared.streams.ReadStop.TheVariants as unread
 use Rattle.mt_program.specs.declared.serving.Ending.{Ending}
@@ -30,9 +29,16 @@ use Rattle.mt_program.specs.declared.status.Status.{Status}
 use Rattle.mt_program.specs.declared.status.Status.TheVariants as status
 use Rattle.mt_program.specs.Answers.{Foresees, history}
 use Rattle.mt_program.specs.Endings.{IsAnswered, IsEarly, LeftBy, MetNoDamage, settled, status_of, status_of_error, status_of_stop}
-use Rattle.mt_program.specs.Headline.{Leaves, WholeRun, WholeRunWith, ReadRun, RunWithFaults, NothingRan, RunBy, number_of}
-use Rattle.mt_program.specs.Serving.{Item, Ran, ServedAll, ServedFront, ServedCut, ServedBy}
-use Rattle.mt_program.specs.Store.{Stands, TableStands}
+use Rattle.mt_program.specs.Headline.{CutBySink, Leaves, WholeRun, WholeRunWith, ReadRun, RunWithFaults, NothingRan, RunBy, number_of}
+use Rattle.mt_program.specs.Serving.{AreSettled, Item, Ran, ServedAll, ServedFront, ServedCut, ServedBy}
+use Rattle.root_log.specs.declared.opening.Damage.{Damage}
+use Rattle.root_log.specs.declared.opening.OpenFault.{OpenFault}
+use Rattle.root_log.specs.declared.opening.OpenFault.TheVariants as fault
+use Rattle.root_log.proofs.OneDamage.{one_damage}
+use Rattle.root_log.specs.Opening.{IsNotDamaged, IsRootDamage, TellsDamage}
+use Rattle.root_log.specs.Roots.{Stands}
+use Rattle.root_log.specs.Soundness.{RootStands}
+use Rattle.mt_program.specs.Damage.{WritesDamage, WritesFault, damage_line}
 use Rattle.mt_program.proofs.Accepting.{added_nothing, length_history}
 use Rattle.mt_program.proofs.Counting.{some_counts}
 
@@ -84,7 +90,8 @@ nothing_ran n kept = record {
 }
 
 -- the run ended before a statement ran
-module _ (n : Counts) (kept : Told) (script before : List ℕ) (told : Option Told) (written : Option (List ℕ)) (none : kept.list ≡ []) (told_is : told ≡ Some kept) (written_is : written ≡ Some before) where
+module _ (n : Counts) (kept : Told) (script before : List ℕ) (told : Option Told) (written : Option (List ℕ)) (now_root : Option root.Told)
+    (legal : IsLegal (history kept)) (told_is : told ≡ Some kept) (written_is : written ≡ Some before) (settled : RootStands now_root (history kept)) where
   early : (Run : List Item → History → ℕ → List ℕ → Type 0) → Run (statements_of script) (history kept) (length kept.list) [] → Leaves Run kept script before told written
   early Run ran = record {
     now = kept;
@@ -92,18 +99,18 @@ module _ (n : Counts) (kept : Told) (script before : List ℕ) (told : Option To
     out = [];
     told_is = told_is;
     begins = sym (append-nil kept.list);
-    legal = subst IsLegal (sym (ap (map (λ (n : Noted). n.entry)) none)) tt;
+    legal = legal;
     written_is = written_is ∙ ap Some (sym (append-nil before));
     ran = ran;
   }
 
-  none_ran : NothingRan n (statements_of script) (history kept) (length kept.list) []
-  none_ran = record { count = 0; run = nothing_ran n kept }
+  none_ran : NothingRan now_root n (statements_of script) (history kept) (length kept.list) []
+  none_ran = (record { count = 0; run = nothing_ran n kept }, settled)
 
-  pub early_leaves : (ended : Status) → IsEarly ended → (ended ≡ status.Damaged → ⊥) → Leaves (RunBy ended n) kept script before told written
-  early_leaves status.ReadFault is sound = early (NothingRan n) none_ran
-  early_leaves status.TooLong is sound = early (NothingRan n) none_ran
-  early_leaves status.DiskFault is sound = early (RunWithFaults n) (inr none_ran)
+  pub early_leaves : (ended : Status) → IsEarly ended → (ended ≡ status.Damaged → ⊥) → Leaves (RunBy ended now_root n) kept script before told written
+  early_leaves status.ReadFault is sound = early (NothingRan now_root n) none_ran
+  early_leaves status.TooLong is sound = early (NothingRan now_root n) none_ran
+  early_leaves status.DiskFault is sound = early (RunWithFaults now_root n) (inr none_ran)
   early_leaves status.NoMemory is sound = early (CutRun n) (record { count = 0; run = inl (nothing_ran n kept) })
   early_leaves status.Damaged is sound = absurd (sound refl)
   early_leaves status.Done is sound = absurd is
@@ -112,7 +119,7 @@ module _ (n : Counts) (kept : Told) (script before : List ℕ) (told : Option To
   early_leaves status.WriteFault is sound = absurd is
 
 -- the script was served
-module _ (n : Counts) (kept : Told) (script before : List ℕ) (opened disk arm : ℕ) (f : Foresees opened disk arm n) (told : Option Told) (old new : Option (List ℕ)) (is : old ≡ Some before) where
+module _ (n : Counts) (kept : Told) (script before : List ℕ) (opened disk arm : ℕ) (f : Foresees opened disk arm n) (told : Option Told) (was_root now_root : Option root.Told) (old new : Option (List ℕ)) (is : old ≡ Some before) where
   -- what ran is left, and what was written
   left : (Run : List Item → History → ℕ → List ℕ → Type 0) (done : List Item) (replies : List (List ℕ)) (r : Ran kept opened disk arm done replies told) (out : List ℕ) → Appends old new out
       → Run (statements_of script) (history r.now) (length kept.list) out → Leaves Run kept script before told new
@@ -127,8 +134,8 @@ module _ (n : Counts) (kept : Told) (script before : List ℕ) (opened disk arm 
     ran = ran;
   }
 
-  whole_run : (tally : Tally) (refused : Bool) → tally.refused ≡ refused → tally.damaged ≡ false → (s : ServedAll kept script opened disk arm tally told old new)
-      → WholeRunWith refused n (statements_of script) (history s.ran.now) (length kept.list) (concat s.replies)
+  whole_run : (tally : Tally) (refused : Bool) → tally.refused ≡ refused → tally.damaged ≡ false → (s : ServedAll kept script opened disk arm tally told now_root old new)
+      → WholeRunWith refused now_root n (statements_of script) (history s.ran.now) (length kept.list) (concat s.replies)
   whole_run tally refused which sound s =
       let each = replies_of n kept opened disk arm (statements_of script) s.replies told f s.ran in
       record {
@@ -137,6 +144,7 @@ module _ (n : Counts) (kept : Told) (script before : List ℕ) (opened disk arm 
         run = script_replies_run n (statements_of script) (history s.ran.now) (length kept.list) s.replies each;
         out_is = refl;
         tells = record { refusals = sym which ∙ s.tells.refusals; damages = sym sound ∙ s.tells.damages };
+        settled = s.settled;
       }
 
   first_run : (s : ServedFront kept script opened disk arm told old new) → ScriptRun n (take (length s.done) (statements_of script)) (history s.ran.now) (length kept.list) (concat s.replies)
@@ -148,38 +156,42 @@ module _ (n : Counts) (kept : Told) (script before : List ℕ) (opened disk arm 
   cut_run : (s : ServedFront kept script opened disk arm told old new) → CutRun n (statements_of script) (history s.ran.now) (length kept.list) (concat s.replies)
   cut_run s = record { count = length s.done; run = inl (first_run s) }
 
-  cut_in_reply : (s : ServedCut kept script opened disk arm told old new) → CutInReply n (statements_of script) (history s.ran.now) (length kept.list) (concat s.replies ++ s.part)
+  cut_in_reply : (s : ServedCut kept script opened disk arm told now_root old new) → CutBySink now_root n (statements_of script) (history s.ran.now) (length kept.list) (concat s.replies ++ s.part)
   cut_in_reply s = record {
-    count = length s.done;
-    last = s.last;
-    replies = s.replies;
-    reply = s.reply;
-    part = s.part;
-    there = subst (λ (ss : List Item). slice_get ss (length s.done) ≡ Some s.last) (sym s.split) (get_seam s.done s.last s.rest);
-    run = subst (λ (ss : List Item). ScriptReplies n (ss ++ s.last ∷ []) (history s.ran.now) (length kept.list) (s.replies ++ s.reply ∷ []))
-        (sym (ap (take (length s.done)) s.split ∙ take-append_seam s.done (s.last ∷ s.rest)))
-        (replies_of n kept opened disk arm (s.done ++ s.last ∷ []) (s.replies ++ s.reply ∷ []) told f s.ran);
-    front = s.front;
-    written_is = refl;
+    cut = record {
+      count = length s.done;
+      last = s.last;
+      replies = s.replies;
+      reply = s.reply;
+      part = s.part;
+      there = subst (λ (ss : List Item). slice_get ss (length s.done) ≡ Some s.last) (sym s.split) (get_seam s.done s.last s.rest);
+      run = subst (λ (ss : List Item). ScriptReplies n (ss ++ s.last ∷ []) (history s.ran.now) (length kept.list) (s.replies ++ s.reply ∷ []))
+          (sym (ap (take (length s.done)) s.split ∙ take-append_seam s.done (s.last ∷ s.rest)))
+          (replies_of n kept opened disk arm (s.done ++ s.last ∷ []) (s.replies ++ s.reply ∷ []) told f s.ran);
+      front = s.front;
+      written_is = refl;
+    };
+    settled = s.settled;
   }
 
-  leaves_done : (tally : Tally) (risen : Bool) → tally.damaged ≡ false → ServedAll kept script opened disk arm tally told old new → Leaves (RunBy (settled tally risen) n) kept script before told new
+  leaves_done : (tally : Tally) (risen : Bool) → tally.damaged ≡ false → ServedAll kept script opened disk arm tally told now_root old new → Leaves (RunBy (settled tally risen) now_root n) kept script before told new
   leaves_done tally risen sound s =
-      subst (λ (d : Bool). Leaves (RunBy (of_flags d risen tally.refused) n) kept script before told new) (sym sound) (by risen tally.refused refl)
+      subst (λ (d : Bool). Leaves (RunBy (of_flags d risen tally.refused) now_root n) kept script before told new) (sym sound) (by risen tally.refused refl)
     where
-      by : (risen refused : Bool) → tally.refused ≡ refused → Leaves (RunBy (of_flags false risen refused) n) kept script before told new
-      by true refused which = left (RunWithFaults n) (statements_of script) s.replies s.ran (concat s.replies) s.wrote (inl (refused, whole_run tally refused which sound s))
-      by false true which = left (WholeRunWith true n) (statements_of script) s.replies s.ran (concat s.replies) s.wrote (whole_run tally true which sound s)
-      by false false which = left (WholeRunWith false n) (statements_of script) s.replies s.ran (concat s.replies) s.wrote (whole_run tally false which sound s)
+      by : (risen refused : Bool) → tally.refused ≡ refused → Leaves (RunBy (of_flags false risen refused) now_root n) kept script before told new
+      by true refused which = left (RunWithFaults now_root n) (statements_of script) s.replies s.ran (concat s.replies) s.wrote (inl (refused, whole_run tally refused which sound s))
+      by false true which = left (WholeRunWith true now_root n) (statements_of script) s.replies s.ran (concat s.replies) s.wrote (whole_run tally true which sound s)
+      by false false which = left (WholeRunWith false now_root n) (statements_of script) s.replies s.ran (concat s.replies) s.wrote (whole_run tally false which sound s)
 
-  pub leaves_all : (risen : Bool) (ended : Result Ending Status) → kept.list ≡ [] → MetNoDamage ended → IfErr ended IsEarly → LeftBy ended kept script opened disk arm told old new
-      → Leaves (RunBy (status_of risen ended) n) kept script before told new
-  leaves_all risen (Ok (ending.Done tally)) none sound first s = leaves_done tally risen sound s
-  leaves_all risen (Ok ending.NoMemory) none sound first s = left (CutRun n) s.done s.replies s.ran (concat s.replies) s.wrote (cut_run s)
-  leaves_all risen (Ok ending.WriteFault) none sound first s = left (CutInReply n) (s.done ++ s.last ∷ []) (s.replies ++ s.reply ∷ []) s.ran (concat s.replies ++ s.part) s.wrote (cut_in_reply s)
-  leaves_all risen (Err ended) none sound first s = early_leaves n kept script before told new none s.0 (s.1 ∙ is) ended first sound
+  pub leaves_all : (risen : Bool) (ended : Result Ending Status) → IsLegal (history kept) → RootStands was_root (history kept) → MetNoDamage ended → IfErr ended IsEarly
+      → LeftBy ended kept script opened disk arm told was_root now_root old new → Leaves (RunBy (status_of risen ended) now_root n) kept script before told new
+  leaves_all risen (Ok (ending.Done tally)) legal stands sound first s = leaves_done tally risen sound s
+  leaves_all risen (Ok ending.NoMemory) legal stands sound first s = left (CutRun n) s.done s.replies s.ran (concat s.replies) s.wrote (cut_run s)
+  leaves_all risen (Ok ending.WriteFault) legal stands sound first s = left (CutBySink now_root n) (s.done ++ s.last ∷ []) (s.replies ++ s.reply ∷ []) s.ran (concat s.replies ++ s.part) s.wrote (cut_in_reply s)
+  leaves_all risen (Err ended) legal stands sound first s =
+      early_leaves n kept script before told new now_root legal s.0 (s.1 ∙ is) (subst (λ (o : Option root.Told). RootStands o (history kept)) (sym s.2) stands) ended first sound
 
--- ---- no damage is told over a root without names
+-- ---- no damage is told over a root that stands for the list
 
 undamaged : (n : Counts) (h : History) (ss : List Item) (from to : ℕ) (replies : List (List ℕ)) → SessionReplies n h 0 ss from to replies → list_any is_damage replies ≡ false
 undamaged n h [] from to [] r = refl
@@ -187,12 +199,12 @@ undamaged n h [] from to (x ∷ xs) r = absurd r
 undamaged n h (s ∷ ss) from to [] r = absurd r
 undamaged n h (s ∷ ss) from to (x ∷ xs) r = ap (λ b. b || list_any is_damage xs) (never_damaged n h 0 s from r.0 x r.1) ∙ undamaged n h ss r.0 to xs r.2
 
-pub sound_served : (kept : Told) (script : List ℕ) (opened disk arm : ℕ) (told : Option Told) (before after : Option (List ℕ)) (e : Ending) → ServedBy e kept script opened disk arm told before after → MetNoDamage (Ok e)
-sound_served kept script opened disk arm told before after (ending.Done tally) s =
+pub sound_served : (kept : Told) (script : List ℕ) (opened disk arm : ℕ) (told : Option Told) (now_root : Option root.Told) (before after : Option (List ℕ)) (e : Ending) → ServedBy e kept script opened disk arm told now_root before after → MetNoDamage (Ok e)
+sound_served kept script opened disk arm told now_root before after (ending.Done tally) s =
     let n = some_counts opened disk arm in
     s.tells.damages ∙ undamaged n.0 (history s.ran.now) (statements_of script) (length kept.list) (length s.ran.now.list) s.replies (s.ran.run n.0 n.1)
-sound_served kept script opened disk arm told before after ending.NoMemory s = tt
-sound_served kept script opened disk arm told before after ending.WriteFault s = tt
+sound_served kept script opened disk arm told now_root before after ending.NoMemory s = tt
+sound_served kept script opened disk arm told now_root before after ending.WriteFault s = tt
 
 -- ---- which end has which status
 
@@ -293,18 +305,6 @@ pub ended_early : (P : Status → Type 0) (risen : Bool) (ended : Result Ending 
 ended_early P risen (Ok e) h = absurd h
 ended_early P risen (Err s) h = h
 
--- the empty store is of a keeper that tells nothing
-pub empty_stands : {F : Type 0} (files_of : F → Option Files) (kept : Told) (store : Store F) → kept.list ≡ [] → store.tables.items ≡ [] → store.length ≡ 0 → Stands files_of (history kept) store
-empty_stands files_of kept store none tables len =
-    let h : history kept ≡ [] = ap (map (λ (n : Noted). n.entry)) none in
-    subst (λ (x : History). Stands files_of x store) (sym h) (record {
-      legal = tt;
-      length_is = len;
-      tables = ap (map (λ t. t.name)) tables;
-      distinct = λ i j d i_in j_in same. omega arith;
-      each = subst (All (TableStands files_of [])) (sym tables) (All-nil (TableStands files_of []));
-    })
-
 -- a run of one kind is one of another
 pub leaves_as : (R Q : List Item → History → ℕ → List ℕ → Type 0) (kept : Told) (script before : List ℕ) (told : Option Told) (written : Option (List ℕ))
     → ((h : History) (out : List ℕ) → R (statements_of script) h (length kept.list) out → Q (statements_of script) h (length kept.list) out)
@@ -328,12 +328,17 @@ none_taken zero = refl
 none_taken (suc k) = refl
 
 -- where no statement ran, those that ran were wholly read
-pub nothing_read : (left : Option (List ℕ)) (text : List ℕ) (n : Counts) (script : List Item) (h : History) (base : ℕ) (out : List ℕ) → NothingRan n script h base out → ReadRun left text n script h base out
-nothing_read left text n script h base out r = record {
-  count = 0;
-  run = subst (λ (ss : List Item). ScriptRun n ss h base out) (none_taken r.count) r.run;
-  wholly = λ read rest more is split. refl;
-}
+pub nothing_read : (left : Option (List ℕ)) (text : List ℕ) (now_root : Option root.Told) (n : Counts) (script : List Item) (h : History) (base : ℕ) (out : List ℕ) → NothingRan now_root n script h base out → ReadRun left text now_root n script h base out
+nothing_read left text now_root n script h base out r =
+    let run : ScriptRun n [] h base out = subst (λ (ss : List Item). ScriptRun n ss h base out) (none_taken r.0.count) r.0.run in
+    record {
+      count = 0;
+      replies = [];
+      each = record { last = run.last; run = run.run.0; nothing_else = run.nothing_else; sessions = run.sessions };
+      out_is = run.run.1;
+      wholly = λ read rest more is split. refl;
+      settled = λ none. r.1;
+    }
 
 -- the statuses by their numbers
 status_at : ℕ → Option Status
@@ -368,9 +373,9 @@ same_number e f same = inj (sym (numbered e) ∙ (ap status_at same ∙ numbered
     inj h = cc
 
 -- what was left by the status with this number
-pub left_by : (n : Counts) (e f : Status) (kept : Told) (script before : List ℕ) (told : Option Told) (written : Option (List ℕ)) → number_of e ≡ number_of f
-    → Leaves (RunBy e n) kept script before told written → Leaves (RunBy f n) kept script before told written
-left_by n e f kept script before told written same l = subst (λ s. Leaves (RunBy s n) kept script before told written) (same_number e f same) l
+pub left_by : (now_root : Option root.Told) (n : Counts) (e f : Status) (kept : Told) (script before : List ℕ) (told : Option Told) (written : Option (List ℕ)) → number_of e ≡ number_of f
+    → Leaves (RunBy e now_root n) kept script before told written → Leaves (RunBy f now_root n) kept script before told written
+left_by now_root n e f kept script before told written same l = subst (λ s. Leaves (RunBy s now_root n) kept script before told written) (same_number e f same) l
 
 pub at_most_one_is : (e : Status) → number_of e ≤ 1 → IsAnswered e
 at_most_one_is status.Done h = inl refl
@@ -407,3 +412,27 @@ error_undamaged failure.NoMemory h = cc
 pub nothing_left : (script text : List ℕ) (before after : Option (List ℕ)) → before ≡ Some script → Consumes before after text → IsAtEnd after → after ≡ Some []
 nothing_left script text before None is h end = absurd (subst (λ (o : Option (List ℕ)). Consumes o None text) is h)
 nothing_left script text before (Some rest) is h end = ap Some end
+
+-- ---- a root that was not opened
+
+-- of a root that is damaged its damage is written, or nothing
+pub writes_damage : (names : root.Names) (d : Damage) (f : OpenFault) (ended : Status) (failed failed_now : ℕ) (before after : Option (List ℕ)) → IsRootDamage names d → TellsDamage names f
+    → WritesFault f ended failed failed_now before after → WritesDamage ended (damage_line d) failed failed_now before after
+writes_damage names d (fault.Damaged found) ended failed failed_now before after is tells wrote =
+    subst (λ (x : Damage). WritesDamage ended (damage_line x) failed failed_now before after) (one_damage names found d tells is) wrote
+writes_damage names d fault.NoMemory ended failed failed_now before after is tells wrote = subst (λ (x : Status). WritesDamage x (damage_line d) failed failed_now before after) (sym wrote.0) wrote.1
+writes_damage names d fault.Disk ended failed failed_now before after is tells wrote = subst (λ (x : Status). WritesDamage x (damage_line d) failed failed_now before after) (sym wrote.0) wrote.1
+
+-- nothing is written of a root that is not damaged
+pub writes_nothing : (f : OpenFault) (ended : Status) (failed failed_now : ℕ) (before after : Option (List ℕ)) → IsNotDamaged f → WritesFault f ended failed failed_now before after → after ≡ before
+writes_nothing (fault.Damaged d) ended failed failed_now before after sound wrote = absurd sound
+writes_nothing fault.NoMemory ended failed failed_now before after sound wrote = wrote.1
+writes_nothing fault.Disk ended failed failed_now before after sound wrote = wrote.1
+
+-- ---- a root that stands for a list
+
+pub root_told : (o : Option root.Told) (told : root.Told) (h : History) → o ≡ Some told → Stands (root.names_of told) h → RootStands o h
+root_told o told h is stands = λ x at.
+    let both : Some told ≡ Some x = sym is ∙ at in
+    let same : told ≡ x = cc in
+    subst (λ (t : root.Told). Stands (root.names_of t) h) same stands

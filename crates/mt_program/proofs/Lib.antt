@@ -2,14 +2,12 @@ pub mod Accepting
 pub mod Counting
 pub mod Creating
 pub mod Heading
-pub mod Histories
 pub mod Inserting
 pub mod Known
-pub mod PartNames
 pub mod Refusing
-pub mod RootNames
+pub mod Reopened
+pub mod Sealing
 pub mod Selecting
 pub mod ServedScripts
-pub mod Sounding
 pub mod Standing
 pub mod Stopping

@@ -1,5 +1,5 @@
 -- What a refused statement's reply is.
-use Rattle.std.proofs.Common.{◌≡◌, ℕ, ◌<◌, List, [], ◌∷◌, length, refl, sym, ap, ◌∙◌, inl, inr, arith, Some, None, Ok, Err}
+use Rattle.std.proofs.Common.{◌≡◌, ℕ, ◌<◌, ◌≤◌, List, [], ◌∷◌, length, refl, sym, ap, ◌∙◌, subst, inl, inr, arith, Some, None, Ok, Err}
 use Rattle.mt_values.specs.declared.schema.Schema.{Schema}
 use Rattle.mt_values.specs.declared.statement.Cause.{Cause}
 use Rattle.mt_values.specs.declared.statement.CreateText.{CreateText}
@@ -9,6 +9,7 @@ use Rattle.mt_values.specs.declared.statement.Statement.TheVariants as statement
 use Rattle.mt_values.specs.Annals.{Told}
 use Rattle.mt_values.specs.Values.{Row}
 use Rattle.mt_model.specs.declared.refusal.Refusal.{Refusal}
+use Rattle.mt_model.specs.History.{History, inserts}
 use Rattle.mt_model.specs.Outside.{Counts, ReadOrStageFailed, TurnFailed}
 use Rattle.mt_model.specs.Refusals.{refusal_line, refusal_of_cause}
 use Rattle.mt_model.specs.Reply.{schema_of_text, create_turn, rows_of_insert, insert_turn, columns_of_select}
@@ -40,12 +41,13 @@ module _ (n : Counts) (kept : Told) (reply : List ℕ) where
     insert_refused why rows is = inr (inr (inl (why, ap (rows_of_insert i) (whole_front kept) ∙ rows, refused why is)))
 
     module _ (rows : List Row) (some : 0 < length rows) (read : rows_of_insert i (history kept) ≡ Ok rows) where
-      pub insert_full : (why : Refusal) → insert_turn i.table (history kept) ≡ Some why → reply ≡ refusal_line why → Takes n (history kept) 0 (Ok (statement.Insert i)) (length kept.list) (length kept.list) reply
-      insert_full why turn is = by rows some read
+      pub insert_full : (parts : ℕ) (why : Refusal) → parts ≤ inserts i.table (history kept) → insert_turn parts i.table (history kept) ≡ Some why → reply ≡ refusal_line why
+          → Takes n (history kept) 0 (Ok (statement.Insert i)) (length kept.list) (length kept.list) reply
+      insert_full parts why merged turn is = by rows some read
         where
           by : (rs : List Row) → 0 < length rs → rows_of_insert i (history kept) ≡ Ok rs → Takes n (history kept) 0 (Ok (statement.Insert i)) (length kept.list) (length kept.list) reply
           by [] none e = absurd (omega arith)
-          by (r ∷ rs) more e = inr (inr (inr (inr (inl (r, rs, why, ap (rows_of_insert i) (whole_front kept) ∙ e, ap (insert_turn i.table) (whole_front kept) ∙ turn, refused why is)))))
+          by (r ∷ rs) more e = inr (inr (inr (inr (inl (r, rs, why, ap (rows_of_insert i) (whole_front kept) ∙ e, parts, subst (λ (h : History). parts ≤ inserts i.table h) (sym (whole_front kept)) merged, ap (insert_turn parts i.table) (whole_front kept) ∙ turn, refused why is)))))
 
       pub insert_failed : ReadOrStageFailed n reply → Takes n (history kept) 0 (Ok (statement.Insert i)) (length kept.list) (length kept.list) reply
       insert_failed failed = by rows some read
@@ -54,12 +56,13 @@ module _ (n : Counts) (kept : Told) (reply : List ℕ) where
           by [] none e = absurd (omega arith)
           by (r ∷ rs) more e = inr (inr (inr (inl (r, rs, ap (rows_of_insert i) (whole_front kept) ∙ e, added_nothing kept, failed))))
 
-      pub insert_unsettled : insert_turn i.table (history kept) ≡ None → TurnFailed n reply → Takes n (history kept) 0 (Ok (statement.Insert i)) (length kept.list) (length kept.list) reply
-      insert_unsettled turn failed = by rows some read
+      pub insert_unsettled : (parts : ℕ) → parts ≤ inserts i.table (history kept) → insert_turn parts i.table (history kept) ≡ None → TurnFailed n reply
+          → Takes n (history kept) 0 (Ok (statement.Insert i)) (length kept.list) (length kept.list) reply
+      insert_unsettled parts merged turn failed = by rows some read
         where
           by : (rs : List Row) → 0 < length rs → rows_of_insert i (history kept) ≡ Ok rs → Takes n (history kept) 0 (Ok (statement.Insert i)) (length kept.list) (length kept.list) reply
           by [] none e = absurd (omega arith)
-          by (r ∷ rs) more e = inr (inr (inr (inr (inr (r, rs, ap (rows_of_insert i) (whole_front kept) ∙ e, ap (insert_turn i.table) (whole_front kept) ∙ turn, added_nothing kept, failed)))))
+          by (r ∷ rs) more e = inr (inr (inr (inr (inr (r, rs, ap (rows_of_insert i) (whole_front kept) ∙ e, parts, subst (λ (h : History). parts ≤ inserts i.table h) (sym (whole_front kept)) merged, ap (insert_turn parts i.table) (whole_front kept) ∙ turn, added_nothing kept, failed)))))
 
   module _ (s : SelectText) where
     pub select_refused : (why : Refusal) → columns_of_select s (history kept) ≡ Err why → reply ≡ refusal_line why → Takes n (history kept) 0 (Ok (statement.Select s)) (length kept.list) (length kept.list) reply

@@ -12,8 +12,6 @@ use Rattle.std.proofs.lemmas.List.Sums.{sum_by-cons, sum_by_push}
 use Rattle.std.proofs.lemmas.List.Elements.{All-append, All-cons, All-head, All-nil, All-tail, All-weaker, filter_map-append}
 use Rattle.std.proofs.lemmas.Bool.Decides.{nat_tests}
 use Rattle.std.proofs.lemmas.Option.{slice_get-map}
-use Rattle.mt_values.specs.declared.command.Command.{Command}
-use Rattle.mt_values.specs.declared.command.Command.TheVariants as command
 use Rattle.mt_values.specs.declared.schema.Column.{Column}
 use Rattle.mt_values.specs.declared.schema.Schema.{Schema}
 use Rattle.mt_values.specs.declared.statement.Selected.{Selected}
@@ -26,15 +24,15 @@ use Rattle.mt_values.specs.declared.value.Value.{Value}
 use Rattle.mt_values.specs.Values.{Row, types_of}
 use Rattle.mt_values.specs.Order.{key_cmp, row_cmp, key_of, value_cmp}
 use Rattle.mt_values.specs.Grid.{AreRowsOf, Cells, Grid, IsOrderBy, column_of, grid_of, picked, row_at, rows_of}
-use Rattle.mt_values.specs.Grammar.{same_bytes}
 use Rattle.mt_values.specs.Printing.{line}
 use Rattle.mt_values.proofs.Grids.{All-range, filter_map_more, items_at_all, IsPermutation-picked, AreRowsOf-picked, length-picked, lengths_typed, slice_get-column_of}
+use Rattle.mt_outside.specs.Disk as root
 use Rattle.mt_outside.specs.Files.{Files}
 use Rattle.mt_values.specs.declared.manifest.Manifest.{Manifest}
 use Rattle.mt_model.specs.declared.refusal.Refusal.{Refusal}
 use Rattle.mt_model.specs.declared.refusal.Refusal.TheVariants as refusal
 use Rattle.mt_model.specs.History.{History, schema_of, column_types}
-use Rattle.mt_model.specs.Live.{sorted, live, live_from, rows_after}
+use Rattle.mt_model.specs.Live.{sorted, live}
 use Rattle.mt_model.specs.Partial.{Partly}
 use Rattle.mt_model.specs.Answer.{Prints, Answer}
 use Rattle.mt_model.specs.Reply.{rows_line, place_of, place_onto, found_or, places_of, selected_places, columns_for, columns_of_select}
@@ -43,48 +41,18 @@ use Rattle.mt_model.proofs.SameKeys.{stable_is_sorted}
 use Rattle.mt_model.proofs.Determined.{key_total}
 use Rattle.part_reader.specs.declared.reading.Part.{Part}
 use Rattle.part_reader.specs.Parts.{PartHolds, with_columns}
+use Rattle.part_set.specs.declared.kept.Kept.{Kept}
 use Rattle.mt_base.specs.declared.memory.NoMemory.{NoMemory}
-use Rattle.mt_program.specs.declared.store.Store.{Store}
+use Rattle.root_log.specs.declared.store.CoreStore.{CoreStore}
+use Rattle.root_log.specs.Stores.{CoreStands}
 use Rattle.mt_program.specs.Answers.{Answers, history}
 use Rattle.mt_program.specs.Selects.{ArePlacesOf, PartsHold, Printed, joined, rows_kept, values_at}
 use Rattle.mt_program.specs.Selects.{Selected as Chosen}
-use Rattle.mt_program.specs.Store.{PartStands, Stands, rows_into, rows_by, rows_if}
 use Rattle.mt_program.proofs.Accepting.{accepts_nothing, kept_same}
 
 -- rows ordered by the key are the rows stably sorted by it
 pub ordered_is_sorted : (key : List ℕ) (rows : List Row) (order : List ℕ) → IsOrderBy key rows order → picked rows order ≡ sorted (key_cmp key) rows
 ordered_is_sorted key rows order by = stable_is_sorted (key_cmp key) (key_total key) rows (picked rows order) by.rising by.stable
-
--- what the parts hold is the rows of each INSERT, sorted by the key
-module _ {F : Type 0} (files_of : F → Option Files) (schema : Schema) where
-  pub parts_hold : (parts : List (Part F)) (inserted : List (List Row)) → AllZip (PartStands files_of schema) parts inserted
-      → (rows : List (List Row)) × PartsHold files_of schema parts rows × (joined rows ≡ flat_map (sorted (key_cmp schema.key)) inserted)
-  parts_hold [] [] h = ([], tt, refl)
-  parts_hold [] (i ∷ is) h = absurd h
-  parts_hold (p ∷ ps) [] h = absurd h
-  parts_hold (p ∷ ps) (i ∷ is) h =
-      let rest = parts_hold ps is h.1 in (
-        picked i h.0.order ∷ rest.0,
-        (h.0.holds, rest.1),
-        ap (λ (rs : List Row). picked i h.0.order ++ rs) rest.2 ∙ ap (λ (rs : List Row). rs ++ flat_map (sorted (key_cmp schema.key)) is) (ordered_is_sorted schema.key i h.0.order h.0.by_key),
-      )
-
-live_by : (t key : List ℕ) (c : Command) (rows : List Row) (rest : List (List Row))
-    → rows_after t key rows c ++ flat_map (sorted (key_cmp key)) rest ≡ rows ++ flat_map (sorted (key_cmp key)) (rows_by t c ++ rest)
-live_by t key (command.Create c) rows rest = refl
-live_by t key (command.Insert i) rows rest =
-    elim (same_bytes i.table t) as (λ b. (cond b (rows ++ sorted (key_cmp key) i.block.rows) rows) ++ flat_map (sorted (key_cmp key)) rest ≡ rows ++ flat_map (sorted (key_cmp key)) (rows_if b i.block.rows ++ rest)) [
-      | true ↦ append_assoc rows (sorted (key_cmp key) i.block.rows) (flat_map (sorted (key_cmp key)) rest)
-      | false ↦ refl
-    ]
-
-live_from_rows : (t key : List ℕ) (rows : List Row) (h : History) → live_from t key rows h ≡ rows ++ flat_map (sorted (key_cmp key)) (rows_into t h)
-live_from_rows t key rows [] = sym (append-nil rows)
-live_from_rows t key rows (e ∷ es) = live_from_rows t key (rows_after t key rows e.command) es ∙ live_by t key e.command rows (rows_into t es)
-
--- the live rows are the rows of each INSERT, sorted by the key
-pub live_rows : (t key : List ℕ) (h : History) → live t key h ≡ flat_map (sorted (key_cmp key)) (rows_into t h)
-live_rows t key h = live_from_rows t key [] h
 
 whole_key : (n : ℕ) (row : Row) → length row ≡ n → key_of (range_with_len 0 n) row ≡ row
 whole_key n row len = ap (λ k. key_of (range_with_len 0 k) row) (sym len) ∙ items_at_all row
@@ -196,11 +164,11 @@ pub record PartAt {F : Type 0} (files_of : F → Option Files) (schema : Schema)
   pub holds : PartHolds files_of schema part rows
   pub next : take (at + 1) lists ≡ take at lists ++ rows ∷ []
 
-pub part_at : {F : Type 0} (files_of : F → Option Files) (schema : Schema) (parts : List (Part F)) (lists : List (List Row)) (at : ℕ) (part : Part F)
-    → PartsHold files_of schema parts lists → at < length parts → part ≡ get_or parts at part → PartAt files_of schema part at lists
+pub part_at : {F : Type 0} (files_of : F → Option Files) (schema : Schema) (parts : List (Kept (Part F))) (lists : List (List Row)) (at : ℕ) (part : Kept (Part F))
+    → PartsHold files_of schema parts lists → at < length parts → part ≡ get_or parts at part → PartAt files_of schema part.part at lists
 part_at files_of schema [] lists at part h lt is = absurd (omega arith)
 part_at files_of schema (p ∷ ps) [] at part h lt is = absurd h
-part_at files_of schema (p ∷ ps) (r ∷ rs) zero part h lt is = record { rows = r; holds = subst (λ (q : Part _). PartHolds files_of schema q r) (sym is) h.0; next = refl }
+part_at files_of schema (p ∷ ps) (r ∷ rs) zero part h lt is = record { rows = r; holds = subst (λ (q : Kept (Part _)). PartHolds files_of schema q.part r) (sym is) h.0; next = refl }
 part_at files_of schema (p ∷ ps) (r ∷ rs) (suc at) part h lt is =
     let more = part_at files_of schema ps rs at part h.1 (omega arith) is in
     let one : suc at + 1 ≡ suc (at + 1) = omega arith in
@@ -215,37 +183,37 @@ values_next lists at rows places columns new next are is =
     ∙ (values_more (joined (take at lists)) rows places columns are ∙ ap (λ rs. values_at rs places) (sym (ap joined next ∙ joined_push (take at lists) rows)))
 
 module _ {F : Type 0} (files_of : F → Option Files) (schema : Schema) where
-  pub joined_typed : (parts : List (Part F)) (lists : List (List Row)) → PartsHold files_of schema parts lists → AreRowsOf (column_types schema) (joined lists)
+  pub joined_typed : (parts : List (Kept (Part F))) (lists : List (List Row)) → PartsHold files_of schema parts lists → AreRowsOf (column_types schema) (joined lists)
   joined_typed [] [] h = All-nil (λ row. types_of row ≡ column_types schema)
   joined_typed [] (r ∷ rs) h = absurd h
   joined_typed (p ∷ ps) [] h = absurd h
   joined_typed (p ∷ ps) (r ∷ rs) h = All-append (λ row. types_of row ≡ column_types schema) r (joined rs) h.0.typed (joined_typed ps rs h.1)
 
   -- the manifests count the rows
-  pub rows_counted : (parts : List (Part F)) (lists : List (List Row)) → PartsHold files_of schema parts lists → rows_kept parts ≡ length (joined lists)
+  pub rows_counted : (parts : List (Kept (Part F))) (lists : List (List Row)) → PartsHold files_of schema parts lists → rows_kept parts ≡ length (joined lists)
   rows_counted [] [] h = refl
   rows_counted [] (r ∷ rs) h = absurd h
   rows_counted (p ∷ ps) [] h = absurd h
   rows_counted (p ∷ ps) (r ∷ rs) h =
-      let count : p.loaded.manifest.rows ≡ length r = ap (λ (m : Manifest). m.rows) h.0.loaded_is in
-      sum_by-cons (λ (q : Part F). q.loaded.manifest.rows) p ps ∙ (ap₂ (λ m n. m + n) count (rows_counted ps rs h.1) ∙ sym (length-append r (joined rs)))
+      let count : p.part.loaded.manifest.rows ≡ length r = ap (λ (m : Manifest). m.rows) h.0.loaded_is in
+      sum_by-cons (λ (q : Kept (Part F)). q.part.loaded.manifest.rows) p ps ∙ (ap₂ (λ m n. m + n) count (rows_counted ps rs h.1) ∙ sym (length-append r (joined rs)))
 
-  lists_made : (parts : List (Part F)) (lists : List (List Row)) → PartsHold files_of schema parts lists → length lists ≡ length parts
+  lists_made : (parts : List (Kept (Part F))) (lists : List (List Row)) → PartsHold files_of schema parts lists → length lists ≡ length parts
   lists_made [] [] h = refl
   lists_made [] (r ∷ rs) h = absurd h
   lists_made (p ∷ ps) [] h = absurd h
   lists_made (p ∷ ps) (r ∷ rs) h = ap suc (lists_made ps rs h.1)
 
   -- all parts were read
-  pub values_all : (parts : List (Part F)) (lists : List (List Row)) (at : ℕ) (places : List ℕ) (columns : List Cells) → PartsHold files_of schema parts lists → length parts ≤ at
+  pub values_all : (parts : List (Kept (Part F))) (lists : List (List Row)) (at : ℕ) (places : List ℕ) (columns : List Cells) → PartsHold files_of schema parts lists → length parts ≤ at
       → map (λ (c : Cells). c.values) columns ≡ values_at (joined (take at lists)) places → map (λ (c : Cells). c.values) columns ≡ values_at (joined lists) places
   values_all parts lists at places columns h le are = are ∙ ap (λ ls. values_at (joined ls) places) (take_all at lists (omega (arith, lists_made parts lists h)))
 
 -- the rows of one part more are counted
-pub rows_next : {F : Type 0} (parts : List (Part F)) (at : ℕ) (part : Part F) → at < length parts → part ≡ get_or parts at part → rows_kept (take (at + 1) parts) ≡ rows_kept (take at parts) + part.loaded.manifest.rows
+pub rows_next : {F : Type 0} (parts : List (Kept (Part F))) (at : ℕ) (part : Kept (Part F)) → at < length parts → part ≡ get_or parts at part → rows_kept (take (at + 1) parts) ≡ rows_kept (take at parts) + part.part.loaded.manifest.rows
 rows_next {F = F} parts at part lt is =
-    let f = λ (p : Part F). p.loaded.manifest.rows in
-    ap (sum_by f) (take_more parts at part lt) ∙ (sum_by_push f (take at parts) (get_or parts at part) ∙ ap (λ (p : Part F). sum_by f (take at parts) + p.loaded.manifest.rows) (sym is))
+    let f = λ (p : Kept (Part F)). p.part.loaded.manifest.rows in
+    ap (sum_by f) (take_more parts at part lt) ∙ (sum_by_push f (take at parts) (get_or parts at part) ∙ ap (λ (p : Kept (Part F)). sum_by f (take at parts) + p.part.loaded.manifest.rows) (sym is))
 
 -- one column more, without values
 module _ (schema : Schema) (places : List ℕ) (at place : ℕ) (column : Column) (columns : List Cells)
@@ -290,9 +258,9 @@ whole_lines n (r ∷ rs) len =
 
 -- a SELECT's answer, from the rows of its table
 pub selects : (h : History) (s : SelectText) (schema : Schema) (places : List ℕ) (rows : List Row) (block : Grid) (place : ℕ) (reply : List ℕ)
-    → take place h ≡ h → schema_of s.table h ≡ Some schema → selected_places schema.columns s.columns ≡ Ok places → rows ≡ live s.table schema.key h
+    → take place h ≡ h → schema_of s.table h ≡ Some schema → selected_places schema.columns s.columns ≡ Ok places → Partly schema.key (live s.table schema.key h) rows
     → block.rows ≡ map (key_of places) rows → Printed block place reply → Selects h s place reply
-selects h s schema places rows block place reply all there columns live_is rows_are p =
+selects h s schema places rows block place reply all there columns partly rows_are p =
     let width = length block.types in
     let ordered = picked block.rows p.order in
     let typed : AreRowsOf block.types ordered = AreRowsOf-picked block.types (range_with_len 0 width) block.rows p.order p.by p.typed in
@@ -305,7 +273,6 @@ selects h s schema places rows block place reply all there columns live_is rows_
       rising = sorted_rows width ordered len p.by.rising;
       lines_are = refl;
     }) in
-    let partly : Partly schema.key (live s.table schema.key h) rows = subst (Partly schema.key (live s.table schema.key h)) (sym live_is) (λ row. refl) in
     let answer : Answer h s.table schema places lines = record { rows = rows; partly = partly; prints = prints } in
     record {
       schema = schema;
@@ -319,8 +286,8 @@ selects h s schema places rows block place reply all there columns live_is rows_
     }
 
 -- a SELECT adds nothing
-pub selected_answers : {F : Type 0} (files_of : F → Option Files) (kept : Told) (text : SelectText) (opened disk arm : ℕ) (result : Result (Vec ℕ Global) NoMemory) (store : Store F) (told : Option Told)
-    → told ≡ Some kept → Stands files_of (history kept) store → IfOk result (λ reply. Chosen kept text arm opened reply.items) → Answers files_of kept (Ok (statement.Select text)) opened disk arm result store told
-selected_answers files_of kept text opened disk arm (Ok v) store told is stands chosen =
-    accepts_nothing files_of kept (Ok (statement.Select text)) opened disk arm v.items store told (kept_same kept told is) stands (λ n f. chosen n disk f)
-selected_answers files_of kept text opened disk arm (Err e) store told is stands chosen = kept_same kept told is
+pub selected_answers : {F : Type 0} (files_of : F → Option Files) (kept : Told) (text : SelectText) (opened disk arm : ℕ) (result : Result (Vec ℕ Global) NoMemory) (store : CoreStore F) (told : Option Told) (now_root : Option root.Told)
+    → told ≡ Some kept → CoreStands files_of (history kept) store → IfOk result (λ reply. Chosen kept text arm opened reply.items) → Answers files_of kept (Ok (statement.Select text)) opened disk arm result store told now_root now_root
+selected_answers files_of kept text opened disk arm (Ok v) store told now_root is stands chosen =
+    accepts_nothing files_of kept (Ok (statement.Select text)) opened disk arm v.items store told now_root now_root (kept_same kept told is) stands (λ n f. chosen n disk f) (λ calm before. before)
+selected_answers files_of kept text opened disk arm (Err e) store told now_root is stands chosen = kept_same kept told is

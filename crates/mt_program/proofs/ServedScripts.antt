@@ -10,6 +10,7 @@ use Rattle.mt_values.specs.declared.statement.Cause.{Cause}
 use Rattle.mt_values.specs.declared.statement.Statement.{Statement}
 use Rattle.mt_values.specs.Annals.{Told}
 use Rattle.mt_values.specs.Script.{statements_of, next_statement, statement_and}
+use Rattle.mt_outside.specs.Disk as root
 use Rattle.mt_outside.specs.Files.{Files}
 use Rattle.mt_model.specs.History.{History, IsLegal}
 use Rattle.mt_model.specs.Outside.{Counts}
@@ -19,10 +20,12 @@ use Rattle.mt_model.specs.Written.{IsWritten}
 use Rattle.mt_model.proofs.Keys.{statements_are}
 use Rattle.mt_model.proofs.Replies.{replies_more, replies_append}
 use Rattle.mt_program.specs.declared.serving.Tally.{Tally}
-use Rattle.mt_program.specs.declared.store.Store.{Store}
-use Rattle.mt_program.specs.Answers.{history, Accepts, Foresees, SameList}
-use Rattle.mt_program.specs.Serving.{Item, Ran, Served, ServedAll, ServedFront, ServedCut, Tells, tallied}
-use Rattle.mt_program.specs.Store.{Stands}
+use Rattle.root_log.specs.declared.store.CoreStore.{CoreStore}
+use Rattle.root_log.specs.Commits.{SameList}
+use Rattle.root_log.specs.Soundness.{RootStands}
+use Rattle.root_log.specs.Stores.{CoreStands}
+use Rattle.mt_program.specs.Answers.{history, Accepts, Foresees, is_unsettled}
+use Rattle.mt_program.specs.Serving.{AreSettled, Item, Ran, Served, ServedAll, ServedFront, ServedCut, Tells, tallied}
 use Rattle.mt_program.specs.Streams.{AppendsFront}
 use Rattle.mt_program.proofs.Counting.{foresees_before}
 use Rattle.mt_program.proofs.Known.{appends_more, appends_none, sliced}
@@ -50,7 +53,7 @@ one_statement script at used st found =
     let here : next_statement (drop at script) ≡ Some (st, drop used (drop at script)) = subst (λ (t : List ℕ). next_statement t ≡ Some (st, drop used t)) rest found in
     statements_of_step (drop at script) ∙ (ap (statement_and statements_of) here ∙ ap (λ t. st ∷ statements_of t) (drop-drop used at script))
 
--- it names a key where it is a CREATE
+-- what the grammar gives it
 pub is_written : (script : List ℕ) (st : Item) (more : List Item) → statements_of script ≡ st ∷ more → IsWritten st
 is_written script st more is = All-head IsWritten st more (subst (λ (ss : List Item). All IsWritten ss) is (statements_are script))
 
@@ -95,8 +98,8 @@ ran_before kept opened disk arm later more done replies told le less r = record 
 }
 
 -- one more statement that was answered
-module _ {F : Type 0} (files_of : F → Option Files) (kept : Told) (opened disk arm later higher : ℕ) (done : List Item) (replies : List (List ℕ)) (st : Item) (reply : List ℕ) (new : Store F) (told after : Option Told) where
-  pub ran_more : disk ≤ later → arm ≤ higher → (r : Ran kept opened disk arm done replies told) → Accepts files_of r.now st opened later higher reply new after
+module _ {F : Type 0} (files_of : F → Option Files) (kept : Told) (opened disk arm later higher : ℕ) (done : List Item) (replies : List (List ℕ)) (st : Item) (reply : List ℕ) (new : CoreStore F) (told after : Option Told) (was_root now_root : Option root.Told) where
+  pub ran_more : disk ≤ later → arm ≤ higher → (r : Ran kept opened disk arm done replies told) → Accepts files_of r.now st opened later higher reply new after was_root now_root
       → Ran kept opened later higher (done ++ st ∷ []) (replies ++ reply ∷ []) after
   ran_more le less r a =
       let entries = λ (n : Noted). n.entry in
@@ -139,17 +142,34 @@ tells_more t replies reply tells = record {
   damages = ap (λ b. b || is_damage reply) tells.damages ∙ sym (any_push is_damage replies reply);
 }
 
-module _ {F : Type 0} (files_of : F → Option Files) (kept : Told) (script : List ℕ) (opened disk arm at : ℕ) (tally : Tally) (old : Store F) (told : Option Told) (before now : Option (List ℕ))
-    (s : Served files_of kept script opened disk arm at tally old told before now) where
+-- some reply or the next says that a commit failed, or neither does
+either_unsettled : (replies : List (List ℕ)) (reply : List ℕ) → list_any is_unsettled (replies ++ reply ∷ []) ≡ false → (list_any is_unsettled replies ≡ false) × (is_unsettled reply ≡ false)
+either_unsettled replies reply none = neither (list_any is_unsettled replies) (is_unsettled reply) (sym (any_push is_unsettled replies reply) ∙ none)
+  where
+    neither : (a b : Bool) → (a || b) ≡ false → (a ≡ false) × (b ≡ false)
+    neither true b h = cc
+    neither false b h = (refl, h)
+
+module _ {F : Type 0} (files_of : F → Option Files) (kept : Told) (script : List ℕ) (opened disk arm at : ℕ) (tally : Tally) (old : CoreStore F) (told : Option Told) (was_root : Option root.Told) (before now : Option (List ℕ))
+    (s : Served files_of kept script opened disk arm at tally old told was_root before now) where
   -- nothing is left
-  pub served_all : statements_of (drop at script) ≡ [] → ServedAll kept script opened disk arm tally told before now
+  pub served_all : statements_of (drop at script) ≡ [] → ServedAll kept script opened disk arm tally told was_root before now
   served_all none =
       let all : statements_of script ≡ s.done = s.split ∙ (ap (λ ss. s.done ++ ss) none ∙ append-nil s.done) in
       record {
         replies = s.replies;
-        ran = subst (λ (ss : List Item). Ran kept opened disk arm ss s.replies told) (sym all) s.ran;
+        ran = record {
+          now = s.ran.now;
+          more = s.ran.more;
+          told_is = s.ran.told_is;
+          list_is = s.ran.list_is;
+          legal = s.ran.legal;
+          sessions = s.ran.sessions;
+          run = λ n f. subst (λ (ss : List Item). SessionReplies n (history s.ran.now) 0 ss (length kept.list) (length s.ran.now.list) s.replies) (sym all) (s.ran.run n f);
+        };
         wrote = s.wrote;
         tells = s.tells;
+        settled = s.settled;
       }
 
   -- no reply was begun after the last
@@ -175,26 +195,31 @@ module _ {F : Type 0} (files_of : F → Option Files) (kept : Told) (script : Li
       wrote = s.wrote;
     }
 
-    module _ (used : ℕ) (st : Item) (left : statements_of (drop at script) ≡ st ∷ statements_of (drop (at + used) script)) (new : Store F) (after : Option Told) (reply : List ℕ) (written : Option (List ℕ))
-        (a : Accepts files_of s.ran.now st opened later more reply new after) where
+    module _ (used : ℕ) (st : Item) (left : statements_of (drop at script) ≡ st ∷ statements_of (drop (at + used) script)) (new : CoreStore F) (after : Option Told) (now_root : Option root.Told) (reply : List ℕ) (written : Option (List ℕ))
+        (a : Accepts files_of s.ran.now st opened later more reply new after was_root now_root) where
       split_more : statements_of script ≡ (s.done ++ st ∷ []) ++ statements_of (drop (at + used) script)
       split_more = s.split ∙ (ap (λ ss. s.done ++ ss) left ∙ sym (append_assoc s.done (st ∷ []) (statements_of (drop (at + used) script))))
 
+      settled_more : AreSettled (s.replies ++ reply ∷ []) now_root (history a.now)
+      settled_more = λ none. let both = either_unsettled s.replies reply none in a.settled both.1 (s.settled both.0)
+
       -- its reply was written whole
-      pub served_more : Appends now written reply → Served files_of kept script opened later more (at + used) (tallied tally reply) new after before written
+      pub served_more : Appends now written reply → Served files_of kept script opened later more (at + used) (tallied tally reply) new after now_root before written
       unfolding ran_more
       served_more wrote = record {
         done = s.done ++ st ∷ [];
         replies = s.replies ++ reply ∷ [];
         split = split_more;
-        ran = ran_more files_of kept opened disk arm later more s.done s.replies st reply new told after le less s.ran a;
+        ran = ran_more files_of kept opened disk arm later more s.done s.replies st reply new told after was_root now_root le less s.ran a;
         stands = a.stands;
         wrote = subst (Appends before written) (sym (concat_push s.replies reply)) (appends_more before now written (concat s.replies) reply s.wrote wrote);
         tells = tells_more tally s.replies reply s.tells;
+        settled = settled_more;
       }
 
       -- a front of its reply was written
-      pub served_cut : AppendsFront now written reply → ServedCut kept script opened later more after before written
+      pub served_cut : AppendsFront now written reply → ServedCut kept script opened later more after now_root before written
+      unfolding ran_more
       served_cut w = record {
         done = s.done;
         last = st;
@@ -203,15 +228,16 @@ module _ {F : Type 0} (files_of : F → Option Files) (kept : Told) (script : Li
         reply = reply;
         part = w.0;
         split = s.split ∙ ap (λ ss. s.done ++ ss) left;
-        ran = ran_more files_of kept opened disk arm later more s.done s.replies st reply new told after le less s.ran a;
+        ran = ran_more files_of kept opened disk arm later more s.done s.replies st reply new told after was_root now_root le less s.ran a;
         front = (w.1, sym w.2);
         wrote = appends_more before now written (concat s.replies) w.0 s.wrote w.3;
+        settled = settled_more;
       }
 
 -- nothing was answered yet
-pub served_none : {F : Type 0} (files_of : F → Option Files) (kept : Told) (script : List ℕ) (opened disk arm : ℕ) (tally : Tally) (store : Store F) (told : Option Told) (before : Option (List ℕ))
-    → told ≡ Some kept → tally.refused ≡ false → tally.damaged ≡ false → Stands files_of (history kept) store → Served files_of kept script opened disk arm 0 tally store told before before
-served_none files_of kept script opened disk arm tally store told before is refused damaged stands = record {
+pub served_none : {F : Type 0} (files_of : F → Option Files) (kept : Told) (script : List ℕ) (opened disk arm : ℕ) (tally : Tally) (store : CoreStore F) (told : Option Told) (now_root : Option root.Told) (before : Option (List ℕ))
+    → told ≡ Some kept → tally.refused ≡ false → tally.damaged ≡ false → CoreStands files_of (history kept) store → RootStands now_root (history kept) → Served files_of kept script opened disk arm 0 tally store told now_root before before
+served_none files_of kept script opened disk arm tally store told now_root before is refused damaged stands settled = record {
   done = [];
   replies = [];
   split = refl;
@@ -219,4 +245,5 @@ served_none files_of kept script opened disk arm tally store told before is refu
   stands = stands;
   wrote = appends_none before;
   tells = record { refusals = refused; damages = damaged };
+  settled = λ none. settled;
 }

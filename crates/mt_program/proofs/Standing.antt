@@ -1,62 +1,119 @@
 -- What the store tells of the history that it stands for.
-use Rattle.std.proofs.Common.{◌≡◌, ℕ, ◌<◌, Bool, true, false, List, [], ◌∷◌, length, get_or, refl, sym, ap, ◌∙◌, subst, arith, All, map, Option, Some, None, is_some, IfSome, IfNone}
-use Rattle.std.specs.List.{list_any, HoldsAt, AllZip}
-use Rattle.std.proofs.lemmas.List.{length-map, get_or_default}
+use Rattle.std.proofs.Common.{◌≡◌, ◌≤◌, ℕ, suc, Bool, true, false, cond, List, [], ◌∷◌, ◌++◌, length, map, filter, refl, sym, ap, ◌∙◌, subst, arith, Option, Some, None}
+use Rattle.std.specs.BTreeMap.{is_at}
+use Rattle.std.specs.Cmp.Lexicographic.{slice_cmp}
+use Rattle.std.specs.List.{AllZip}
+use Rattle.std.specs.Map.{lookup}
+use Rattle.std.specs.Option.{option_map}
+use Rattle.std.specs.Ordering.{nat_cmp}
+use Rattle.mt_values.specs.declared.command.Command.{Command}
+use Rattle.mt_values.specs.declared.command.Entry.{Entry}
 use Rattle.mt_values.specs.declared.schema.Schema.{Schema}
-use Rattle.mt_values.specs.Grammar.{same_bytes}
+use Rattle.mt_values.specs.Values.{Row}
 use Rattle.mt_outside.specs.Files.{Files}
-use Rattle.mt_model.specs.History.{History, schema_of, creates}
-use Rattle.mt_program.specs.declared.store.Table.{Table}
-use Rattle.mt_program.specs.declared.store.Store.{Store}
-use Rattle.mt_program.specs.Store.{Stands, TableStands, table_names}
-use Rattle.mt_program.proofs.Histories.{there, creates_are}
-use Rattle.mt_model.proofs.Tables.{same_is}
-use Rattle.mt_program.proofs.RootNames.{none_passes}
+use Rattle.mt_model.specs.History.{History, creates, inserts, inserts_into, schema_of}
+use Rattle.mt_model.specs.Live.{live}
+use Rattle.mt_model.specs.Partial.{Partly}
+use Rattle.part_reader.specs.declared.reading.Part.{Part}
+use Rattle.part_reader.specs.Parts.{PartHolds}
+use Rattle.part_set.specs.declared.kept.Kept.{Kept}
+use Rattle.part_set.specs.Sets.{parts_of}
+use Rattle.table_core.specs.declared.part.CorePart.{CorePart}
+use Rattle.table_core.specs.Numbers.{draws, numbered}
+use Rattle.table_core.specs.Parts.{AreInBlockOrder, TableStands, rows_of_parts}
+use Rattle.table_core.proofs.Counted.{parts_at_most}
+use Rattle.table_core.proofs.Joined.{parts_joined}
+use Rattle.root_log.specs.declared.store.CoreStore.{CoreStore}
+use Rattle.root_log.specs.declared.store.Table.{Table}
+use Rattle.root_log.specs.Commits.{SameStore}
+use Rattle.root_log.specs.Stores.{CoreStands, core_parts, table_at}
+use Rattle.mt_program.specs.Selects.{PartsHold, joined}
 
-list_any-map : {X Y : Type 0} (p : Y → Bool) (f : X → Y) (xs : List X) → list_any p (map f xs) ≡ list_any (λ x. p (f x)) xs
-list_any-map p f [] = refl
-list_any-map p f (x ∷ xs) = ap (λ b. Rattle.std.specs.Prelude.◌||◌ (p (f x)) b) (list_any-map p f xs)
+-- as many INSERTs into a table were accepted as its commands drew numbers
+pub numbers_are : (t : List ℕ) (h : History) → inserts t h ≡ length (numbered t h)
+numbers_are t [] = refl
+numbers_are t (e ∷ h) = by (inserts_into t e.command) refl (numbers_are t h)
+  where
+    by : (b : Bool) → inserts_into t e.command ≡ b → inserts t h ≡ length (numbered t h)
+        → length (cond b (e ∷ filter (λ (x : Entry). inserts_into t x.command) h) (filter (λ (x : Entry). inserts_into t x.command) h)) ≡ length (cond b (e.command ∷ numbered t h) (numbered t h))
+    by true is more = ap suc more
+    by false is more = more
 
-none_from : {X : Type 0} (o : Option X) → is_some o ≡ false → o ≡ None
-none_from None h = refl
-none_from (Some x) h = cc
+rows_joined : {F : Type 0} (files_of : F → Option Files) (schema : Schema) (table : List ℕ) (kept : List (Kept (Part F))) (rows : List (List Row)) → PartsHold files_of schema kept rows
+    → rows_of_parts (core_parts table kept rows) ≡ joined rows
+rows_joined files_of schema table [] [] h = refl
+rows_joined files_of schema table [] (r ∷ rows) h = absurd h
+rows_joined files_of schema table (k ∷ kept) [] h = absurd h
+rows_joined files_of schema table (k ∷ kept) (r ∷ rows) h = ap (λ (rs : List Row). r ++ rs) (rows_joined files_of schema table kept rows h.1)
 
--- nothing was found
-pub none_found : (r : Option ℕ) (P : Type 0) → is_some r ≡ false → IfNone r P → P
-none_found None P is h = h
-none_found (Some i) P is h = cc
+as_many : {F : Type 0} (files_of : F → Option Files) (schema : Schema) (table : List ℕ) (kept : List (Kept (Part F))) (rows : List (List Row)) → PartsHold files_of schema kept rows
+    → length (core_parts table kept rows) ≡ length kept
+as_many files_of schema table [] [] h = refl
+as_many files_of schema table [] (r ∷ rows) h = absurd h
+as_many files_of schema table (k ∷ kept) [] h = absurd h
+as_many files_of schema table (k ∷ kept) (r ∷ rows) h = ap suc (as_many files_of schema table kept rows h.1)
 
-module _ {F : Type 0} (files_of : F → Option Files) (h : History) (store : Store F) (s : Stands files_of h store) where
-  -- a name that no table has is no table's
-  pub no_table : (name : List ℕ) → All (λ (t : Table F). same_bytes t.name name ≡ false) store.tables.items → schema_of name h ≡ None
-  no_table name none =
-      let names = λ (t : Table F). t.name in
-      let found : list_any (λ u. same_bytes u name) (table_names h) ≡ false =
-      ap (list_any (λ u. same_bytes u name)) (sym s.tables) ∙ (list_any-map (λ u. same_bytes u name) names store.tables.items ∙ none_passes (λ (t : Table F). same_bytes t.name name) store.tables.items none) in
-      none_from (schema_of name h) (there name h ∙ found)
+-- a table's parts hold rows that merges may have left of its live rows
+pub record Held {F : Type 0} (files_of : F → Option Files) (h : History) (table : List ℕ) (schema : Schema) (parts : List (Kept (Part F))) : Type 0 where
+  pub rows : List (List Row)
+  pub hold : PartsHold files_of schema parts rows
+  pub partly : Partly schema.key (live table schema.key h) (joined rows)
+
+module _ {F : Type 0} (files_of : F → Option Files) (h : History) (store : CoreStore F) (s : CoreStands files_of h store) (table : List ℕ) where
+  abbrev schema_at : Option Table → Option Schema
+  schema_at found = option_map (λ (t : Table). t.schema) found
+
+  -- a name that no table of the store has is no table's
+  pub no_table : table_at store table ≡ None → schema_of table h ≡ None
+  no_table none = sym (s.tables table) ∙ ap schema_at none
 
   -- as many tables were made as the store has
-  pub tables_made : creates h ≡ length store.tables.items
-  tables_made = creates_are h ∙ (ap length (sym s.tables) ∙ length-map store.tables.items (λ (t : Table F). t.name))
+  pub tables_made : creates h ≡ length store.tables.entries
+  tables_made = sym s.count
 
-  module _ (i : ℕ) (table : Table F) (lt : i < length store.tables.items) (is : table ≡ get_or store.tables.items i table) (name : List ℕ) (named : HoldsAt (λ (t : Table F). same_bytes t.name name ≡ true) store.tables.items i) where
-    pub table_stands : TableStands files_of h table
-    table_stands = subst (TableStands files_of h) (sym is) (s.each i table lt)
+  module _ (t : Table) (there : table_at store table ≡ Some t) where
+    pub table_schema : schema_of table h ≡ Some t.schema
+    table_schema = sym (s.tables table) ∙ ap schema_at there
 
-    pub table_named : table.name ≡ name
-    table_named = same_is table.name name (subst (λ (t : Table F). same_bytes t.name name ≡ true) (sym is) (named table))
+    -- the last number that was drawn counts the INSERTs
+    pub drawn_is : inserts table h ≡ t.drawn
+    drawn_is = numbers_are table h ∙ sym (s.drawn table t there)
 
-    pub table_schema : schema_of name h ≡ Some table.schema
-    table_schema = ap (λ n. schema_of n h) (sym table_named) ∙ table_stands.schema_is
+    -- there is at most a part for each INSERT
+    pub parts_made : length (parts_of store.set table) ≤ inserts table h
+    parts_made =
+        let p = s.parts table t there in
+        let most = parts_at_most h table (core_parts table (parts_of store.set table) p.rows) s.legal p.stand in
+        omega (arith, most, as_many files_of t.schema table (parts_of store.set table) p.rows p.hold)
 
-  -- a name that was found is a table's
-  pub found_schema : (name : List ℕ) (r : Option ℕ) → is_some r ≡ true → IfSome r (λ i. i < length store.tables.items)
-      → IfSome r (HoldsAt (λ (t : Table F). same_bytes t.name name ≡ true) store.tables.items) → (schema : Schema) × (schema_of name h ≡ Some schema)
-  found_schema name None is lt named = cc
-  found_schema name (Some i) is lt named = first store.tables.items refl i lt
-    where
-      first : (ts : List (Table F)) → store.tables.items ≡ ts → (i : ℕ) → i < length store.tables.items → (schema : Schema) × (schema_of name h ≡ Some schema)
-      first [] same j below = let none : length store.tables.items ≡ 0 = ap length same in absurd (omega arith)
-      first (t ∷ ts) same j below =
-          let table = get_or store.tables.items i t in
-          (table.schema, table_schema i table lt (get_or_default store.tables.items i t table lt) name named)
+    pub rows_held : Held files_of h table t.schema (parts_of store.set table)
+    rows_held =
+        let p = s.parts table t there in
+        record {
+          rows = p.rows;
+          hold = p.hold;
+          partly = subst (Partly t.schema.key (live table t.schema.key h)) (rows_joined files_of t.schema table (parts_of store.set table) p.rows p.hold)
+              (parts_joined h table t.schema s.legal table_schema (core_parts table (parts_of store.set table) p.rows) p.stand p.order);
+        }
+
+-- a store with the same tables and parts stands for the same history
+pub stands_same : {F : Type 0} (files_of : F → Option Files) (h : History) (old new : CoreStore F) → CoreStands files_of h old → SameStore old new → CoreStands files_of h new
+stands_same {F} files_of h old new s same = record {
+  legal = s.legal;
+  length_is = same.length_is ∙ s.length_is;
+  tables = λ t. ap (option_map (λ (x : Table). x.schema)) (here t) ∙ s.tables t;
+  count = ap length same.tables ∙ s.count;
+  drawn = λ t x is. s.drawn t x (sym (here t) ∙ is);
+  parts = λ t x is.
+      let p = s.parts t x (sym (here t) ∙ is) in
+      record {
+        rows = p.rows;
+        hold = subst (λ (ks : List (Kept (Part F))). PartsHold files_of x.schema ks p.rows) (sym (same.parts t)) p.hold;
+        stand = subst (λ (ks : List (Kept (Part F))). TableStands t (core_parts t ks p.rows) h) (sym (same.parts t)) p.stand;
+        order = subst (λ (ks : List (Kept (Part F))). AreInBlockOrder (core_parts t ks p.rows)) (sym (same.parts t)) p.order;
+      };
+  no_other = λ t none. same.parts t ∙ s.no_other t (sym (here t) ∙ none);
+}
+  where
+    here : (t : List ℕ) → table_at new t ≡ table_at old t
+    here t = ap (λ es. lookup (is_at (slice_cmp nat_cmp t)) es) same.tables

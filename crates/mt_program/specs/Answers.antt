@@ -1,27 +1,25 @@
 -- What the answer to a statement does to what the keeper tells and to the store.
-use Rattle.std.specs.Prelude.{◌≡◌, ℕ, ◌<◌, ◌≤◌, List, ◌++◌, length, map, All, Option, Some, None, Result, MatchResult, Vec}
+use Rattle.std.specs.Prelude.{◌≡◌, ◌==◌, ℕ, ◌<◌, ◌≤◌, Bool, false, List, ◌++◌, length, map, All, Option, Some, Result, MatchResult, Vec}
 use Rattle.std.specs.declared.alloc.Global.{Global}
 use Rattle.mt_values.specs.declared.annals.Noted.{Noted}
 use Rattle.mt_values.specs.declared.statement.Cause.{Cause}
 use Rattle.mt_values.specs.declared.statement.Statement.{Statement}
 use Rattle.mt_values.specs.Annals.{Told}
+use Rattle.mt_outside.specs.Disk as root
 use Rattle.mt_outside.specs.Files.{Files}
 use Rattle.mt_model.specs.History.{History}
 use Rattle.mt_model.specs.Outside.{Counts, HasRisen}
+use Rattle.mt_model.specs.Refusals.{code_of}
 use Rattle.mt_model.specs.Session.{Takes}
-use Rattle.mt_program.specs.declared.store.Store.{Store}
-use Rattle.mt_program.specs.Store.{Stands}
+use Rattle.root_log.specs.declared.store.CoreStore.{CoreStore}
+use Rattle.root_log.specs.Commits.{SameList}
+use Rattle.root_log.specs.Soundness.{RootStands}
+use Rattle.root_log.specs.Stores.{CoreStands}
 use Rattle.mt_base.specs.declared.memory.NoMemory.{NoMemory}
 
 -- the entries that a keeper tells
 abbrev pub history : Told → History
 history t = map (λ (n : Noted). n.entry) t.list
-
--- the list stays, whatever is begun; where nothing was told nothing is
-abbrev pub SameList : Option Told → Option Told → Type 0
-SameList (Some t) (Some u) = u.list ≡ t.list
-SameList None new = new ≡ None
-SameList (Some t) None = ⊥
 
 -- Counts of a run that agree with the disk's count at opening, and with the disk's and the arm's counts as they stand now:
 -- neither falls, and a call of the arm that failed shows in the disk's count once the arm is given back.
@@ -30,22 +28,29 @@ pub record Foresees (opened disk arm : ℕ) (n : Counts) : Type 0 where
   pub later : disk ≤ n.ended
   pub risen : 0 < arm → HasRisen n n.ended
 
+-- a reply says that a commit failed
+abbrev pub is_unsettled : List ℕ → Bool
+is_unsettled reply = code_of reply == 16
+
 -- The keeper tells what it told and these entries of session 0. The store stands for all of it, and the reply is one that the
--- statement may have, whatever the counts come to.
-pub record Accepts {F : Type 0} (files_of : F → Option Files) (kept : Told) (statement : Result Statement Cause) (opened disk arm : ℕ) (reply : List ℕ) (store : Store F) (told : Option Told) : Type 0 where
+-- statement may have, whatever the counts come to. A root that stood for what was told stands for what is told now, unless the
+-- reply says that a commit failed.
+pub record Accepts {F : Type 0} (files_of : F → Option Files) (kept : Told) (statement : Result Statement Cause) (opened disk arm : ℕ) (reply : List ℕ) (store : CoreStore F) (told : Option Told) (root_before root : Option root.Told) : Type 0 where
   pub now : Told
   pub more : List Noted
   pub told_is : told ≡ Some now
   pub list_is : now.list ≡ kept.list ++ more
   pub sessions : All (λ (n : Noted). n.entry.session ≡ 0) more
-  pub stands : Stands files_of (history now) store
+  pub stands : CoreStands files_of (history now) store
   pub takes : (n : Counts) → Foresees opened disk arm n → Takes n (history now) 0 statement (length kept.list) (length now.list) reply
+  pub settled : is_unsettled reply ≡ false → RootStands root_before (history kept) → RootStands root (history now)
 
 -- a statement that ended the run without a reply added nothing
 abbrev pub Keeps : Told → Option Told → Type 0
 Keeps kept told = SameList (Some kept) told
 
--- a statement's reply, or want of memory; with the disk's count at opening, and the disk's and the arm's counts now
-abbrev pub Answers : {F : Type 0} → (F → Option Files) → Told → Result Statement Cause → ℕ → ℕ → ℕ → Result (Vec ℕ Global) NoMemory → Store F → Option Told → Type 0
-Answers files_of kept statement opened disk arm result store told =
-    MatchResult result (λ reply. Accepts files_of kept statement opened disk arm reply.items store told) (λ _. Keeps kept told)
+-- a statement's reply, or want of memory; with the disk's count at opening, the disk's and the arm's counts now, and what the disk
+-- told of the root before and tells now
+abbrev pub Answers : {F : Type 0} → (F → Option Files) → Told → Result Statement Cause → ℕ → ℕ → ℕ → Result (Vec ℕ Global) NoMemory → CoreStore F → Option Told → Option root.Told → Option root.Told → Type 0
+Answers files_of kept statement opened disk arm result store told root_before root =
+    MatchResult result (λ reply. Accepts files_of kept statement opened disk arm reply.items store told root_before root) (λ _. Keeps kept told)

@@ -1,6 +1,7 @@
 -- The status of a run, by what ended it.
 use Rattle.std.specs.Prelude.{◌≡◌, ◌⊎◌, ℕ, Bool, false, List, Option, Some, Result, Ok, Err, if◌then◌else◌}
 use Rattle.mt_values.specs.Annals.{Told}
+use Rattle.mt_outside.specs.Disk as root
 use Rattle.mt_outside.specs.declared.disk.DiskError.{DiskError}
 use Rattle.mt_outside.specs.declared.disk.DiskError.TheVariants as failure
 use Rattle.mt_program.specs.declared.serving.Ending.{Ending}
@@ -53,14 +54,14 @@ IsEarly status.Refused = ⊥
 IsEarly status.NotWords = ⊥
 IsEarly status.WriteFault = ⊥
 
--- over a root without names, nothing damaged was met
+-- over a root that stands for the keeper's list, nothing damaged was met
 abbrev pub MetNoDamage : Result Ending Status → Type 0
 MetNoDamage (Ok (ending.Done tally)) = tally.damaged ≡ false
 MetNoDamage (Ok ending.NoMemory) = Unit {0}
 MetNoDamage (Ok ending.WriteFault) = Unit {0}
 MetNoDamage (Err early) = early ≡ status.Damaged → ⊥
 
--- What is left of a script that was served. Where the run ended before, no more was told or written.
-abbrev pub LeftBy : Result Ending Status → Told → List ℕ → ℕ → ℕ → ℕ → Option Told → Option (List ℕ) → Option (List ℕ) → Type 0
-LeftBy (Ok ending) kept script opened disk arm told before after = ServedBy ending kept script opened disk arm told before after
-LeftBy (Err early) kept script opened disk arm told before after = (told ≡ Some kept) × (after ≡ before)
+-- What is left of a script that was served. Where the run ended before, no more was told or written, and the root is as it was.
+abbrev pub LeftBy : Result Ending Status → Told → List ℕ → ℕ → ℕ → ℕ → Option Told → Option root.Told → Option root.Told → Option (List ℕ) → Option (List ℕ) → Type 0
+LeftBy (Ok ending) kept script opened disk arm told root_before root before after = ServedBy ending kept script opened disk arm told root before after
+LeftBy (Err early) kept script opened disk arm told root_before root before after = (told ≡ Some kept) × (after ≡ before) × (root ≡ root_before)

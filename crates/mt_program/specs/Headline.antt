@@ -1,19 +1,18 @@
 -- What a run promises (docs/definitions.md, "Runs").
-use Rattle.std.specs.Prelude.{◌≡◌, ◌⊎◌, ℕ, List, [], ◌∷◌, ◌++◌, length, take, codes, flat_map, Bool, true, false, Option, Some}
+use Rattle.std.specs.Prelude.{◌≡◌, ◌⊎◌, ℕ, List, [], ◌∷◌, ◌++◌, length, take, Bool, true, false, Option, Some}
 use Rattle.std.specs.List.{concat}
-use Rattle.std.specs.Io.KnownBytes.{Appends}
 use Rattle.mt_values.specs.declared.annals.Noted.{Noted}
 use Rattle.mt_values.specs.Annals.{Told}
-use Rattle.mt_values.specs.Printing.{escaped}
 use Rattle.mt_values.specs.Script.{statements_of}
-use Rattle.mt_outside.specs.Causes.{Rose}
 use Rattle.mt_outside.specs.Disk as root
 use Rattle.mt_model.specs.History.{History, IsLegal}
 use Rattle.mt_model.specs.Outside.{Counts}
 use Rattle.mt_model.specs.Script.{ScriptRun, ScriptReplies, CutRun, CutInReply, FrontRun}
+use Rattle.root_log.specs.Roots.{Stands}
+use Rattle.root_log.specs.Soundness.{RootStands}
 use Rattle.mt_program.specs.Answers.{history}
-use Rattle.mt_program.specs.Serving.{Item, Tells}
-use Rattle.mt_program.specs.Streams.{AppendsFront}
+use Rattle.mt_program.specs.Damage.{WritesDamage}
+use Rattle.mt_program.specs.Serving.{AreSettled, Item, Tells}
 use Rattle.mt_program.specs.declared.serving.Tally.{Tally}
 use Rattle.mt_program.specs.declared.status.Status.{Status}
 use Rattle.mt_program.specs.declared.status.Status.TheVariants as status
@@ -30,43 +29,52 @@ number_of status.NoMemory = 6
 number_of status.Damaged = 7
 number_of status.TooLong = 8
 
--- The statements ran, and all their replies were written. What the replies said.
-pub record WholeRun (tally : Tally) (n : Counts) (script : List Item) (h : History) (base : ℕ) (out : List ℕ) : Type 0 where
+-- The statements ran, and all their replies were written. What the replies said. Where none of them says that a commit failed, the
+-- root stands for the list that is told at the end, so that the next run opens it.
+pub record WholeRun (tally : Tally) (root : Option root.Told) (n : Counts) (script : List Item) (h : History) (base : ℕ) (out : List ℕ) : Type 0 where
   pub replies : List (List ℕ)
   pub each : ScriptReplies n script h base replies
   pub run : ScriptRun n script h base out
   pub out_is : out ≡ concat replies
   pub tells : Tells tally replies
+  pub settled : AreSettled replies root h
 
 -- the same, where none of the replies tells of damage
-abbrev pub WholeRunWith : Bool → Counts → List Item → History → ℕ → List ℕ → Type 0
+abbrev pub WholeRunWith : Bool → Option root.Told → Counts → List Item → History → ℕ → List ℕ → Type 0
 WholeRunWith refused = WholeRun (record { refused = refused; damaged = false })
 
--- no statement ran
-abbrev pub NothingRan : Counts → List Item → History → ℕ → List ℕ → Type 0
-NothingRan n script = FrontRun n []
+-- no statement ran, and the root stands for the list
+abbrev pub NothingRan : Option root.Told → Counts → List Item → History → ℕ → List ℕ → Type 0
+NothingRan root n script h base out = FrontRun n [] h base out × RootStands root h
 
 -- The disk's count rose: all statements ran, and all their replies were written, or the root was not opened and none ran.
-abbrev pub RunWithFaults : Counts → List Item → History → ℕ → List ℕ → Type 0
-RunWithFaults n script h base out = ((refused : Bool) × WholeRunWith refused n script h base out) ⊎ NothingRan n script h base out
+abbrev pub RunWithFaults : Option root.Told → Counts → List Item → History → ℕ → List ℕ → Type 0
+RunWithFaults root n script h base out = ((refused : Bool) × WholeRunWith refused root n script h base out) ⊎ NothingRan root n script h base out
+
+-- The first statements ran and one more. Their replies were written, and a front of its reply. Of the root the same as above.
+pub record CutBySink (root : Option root.Told) (n : Counts) (script : List Item) (h : History) (base : ℕ) (out : List ℕ) : Type 0 where
+  pub cut : CutInReply n script h base out
+  pub settled : AreSettled (cut.replies ++ cut.reply ∷ []) root h
 
 -- The first statements of a script were wholly read: whatever had followed what was read, they would be the same.
 abbrev pub AreWhollyRead : ℕ → List ℕ → Option (List ℕ) → Type 0
 AreWhollyRead count script left = (read rest more : List ℕ) → left ≡ Some rest → script ≡ read ++ rest → take count (statements_of (read ++ more)) ≡ take count (statements_of script)
 
--- The first statements ran, which were wholly read, and all their replies were written.
-pub record ReadRun (left : Option (List ℕ)) (text : List ℕ) (n : Counts) (script : List Item) (h : History) (base : ℕ) (out : List ℕ) : Type 0 where
+-- The first statements ran, which were wholly read, and all their replies were written. Of the root the same as above.
+pub record ReadRun (left : Option (List ℕ)) (text : List ℕ) (root : Option root.Told) (n : Counts) (script : List Item) (h : History) (base : ℕ) (out : List ℕ) : Type 0 where
   pub count : ℕ
-  pub run : ScriptRun n (take count script) h base out
+  pub replies : List (List ℕ)
+  pub each : ScriptReplies n (take count script) h base replies
+  pub out_is : out ≡ concat replies
   pub wholly : AreWhollyRead count text left
+  pub settled : AreSettled replies root h
 
--- The root is empty and the disk tells it, no command was accepted and the keeper tells that, the source tells the script, and the sink what was written.
+-- The disk tells a root that stands for the list that the keeper tells, the source tells the script, and the sink what was written.
 pub record Starts (disk : Option root.Told) (annals : Option Told) (source sink : Option (List ℕ)) (kept : Told) (script before : List ℕ) : Type 0 where
   pub told : root.Told
   pub disk_is : disk ≡ Some told
-  pub empty : root.names_of told ≡ []
   pub annals_is : annals ≡ Some kept
-  pub none : kept.list ≡ []
+  pub stands : Stands (root.names_of told) (history kept)
   pub source_is : source ≡ Some script
   pub sink_is : sink ≡ Some before
 
@@ -82,35 +90,19 @@ pub record Leaves (Run : List Item → History → ℕ → List ℕ → Type 0) 
   pub ran : Run (statements_of script) (history now) (length kept.list) out
 
 -- the run of each status, by the program's steps; of 3 and 8 `run` promises a read run
-abbrev pub RunBy : Status → Counts → List Item → History → ℕ → List ℕ → Type 0
+abbrev pub RunBy : Status → Option root.Told → Counts → List Item → History → ℕ → List ℕ → Type 0
 RunBy status.Done = WholeRunWith false
 RunBy status.Refused = WholeRunWith true
 RunBy status.NotWords = NothingRan
 RunBy status.ReadFault = NothingRan
-RunBy status.WriteFault = CutInReply
+RunBy status.WriteFault = CutBySink
 RunBy status.DiskFault = RunWithFaults
-RunBy status.NoMemory = CutRun
-RunBy status.Damaged = λ n script h base out. ⊥
+RunBy status.NoMemory = λ root. CutRun
+RunBy status.Damaged = λ root n script h base out. ⊥
 RunBy status.TooLong = NothingRan
 
--- the line that names what keeps a root from being opened
-abbrev pub damaged_line : List ℕ → List ℕ
-damaged_line name = codes "DAMAGED name " ++ flat_map escaped name ++ 10 ∷ []
-
--- What is written where the root has a name: the line, or a front of it where the sink failed, and nothing where the run ended before.
-abbrev pub WritesDamage : Status → List ℕ → ℕ → ℕ → Option (List ℕ) → Option (List ℕ) → Type 0
-WritesDamage status.Damaged name failed failed_now before after = Appends before after (damaged_line name) ⊎ (Rose failed failed_now × AppendsFront before after (damaged_line name))
-WritesDamage status.NotWords name failed failed_now before after = after ≡ before
-WritesDamage status.DiskFault name failed failed_now before after = after ≡ before
-WritesDamage status.NoMemory name failed failed_now before after = after ≡ before
-WritesDamage status.Done name failed failed_now before after = ⊥
-WritesDamage status.Refused name failed failed_now before after = ⊥
-WritesDamage status.ReadFault name failed failed_now before after = ⊥
-WritesDamage status.WriteFault name failed failed_now before after = ⊥
-WritesDamage status.TooLong name failed failed_now before after = ⊥
-
--- a run over a root that has a name, by the number with which it ends, with the sink's counts of faults
-pub record NotOpened (number : ℕ) (name : List ℕ) (failed failed_now : ℕ) (before after : Option (List ℕ)) : Type 0 where
+-- a run over a damaged root, by the number with which it ends, with the line of the damage and the sink's counts of faults
+pub record NotOpened (number : ℕ) (line : List ℕ) (failed failed_now : ℕ) (before after : Option (List ℕ)) : Type 0 where
   pub ended : Status
   pub number_is : number ≡ number_of ended
-  pub writes : WritesDamage ended name failed failed_now before after
+  pub writes : WritesDamage ended line failed failed_now before after

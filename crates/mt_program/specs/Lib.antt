@@ -1,12 +1,11 @@
 pub mod Answers
 pub mod Commits
+pub mod Damage
 pub mod Endings
 pub mod Headline
 pub mod Names
 pub mod Selects
 pub mod Serving
 pub mod Stops
-pub mod Store
 pub mod Streams
-pub mod Tables
 pub mod Words

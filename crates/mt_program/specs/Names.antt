@@ -1,20 +1,8 @@
--- The names that the store gives, and those that its replies tell (docs/formats.md, "Names" and "Files").
-use Rattle.std.specs.Prelude.{ℕ, List, ◌++◌, None, codes}
+-- The names of files that replies tell (docs/formats.md, "Files").
+use Rattle.std.specs.Prelude.{ℕ, List, ◌++◌, codes}
 use Rattle.std.specs.Fmt.{decimal}
-use Rattle.mt_base.specs.declared.partition.Partition.TheVariants.{Whole}
 use Rattle.mt_values.specs.declared.name.FileId.{FileId}
 use Rattle.mt_values.specs.declared.name.FileId.TheVariants as file
-use Rattle.mt_values.specs.RootNames.{part_name}
-use Rattle.part_name.specs.declared.part.PartName.{PartName}
-use Rattle.part_name.specs.PartNames.{part_text}
-
--- the part that the n-th INSERT with rows into a table makes
-abbrev pub fresh_part : ℕ → PartName
-fresh_part n = record { partition = Whole; min_block = n; max_block = n; level = 0; mutation = None }
-
--- its name in the root
-abbrev pub insert_name : List ℕ → ℕ → List ℕ
-insert_name table n = part_name table (part_text (fresh_part n))
 
 -- the name of a file in its folder
 abbrev pub file_name : FileId → List ℕ

@@ -18,6 +18,7 @@ use Rattle.mt_model.specs.Reply.{rows_line}
 use Rattle.mt_model.specs.Session.{Takes}
 use Rattle.part_reader.specs.declared.reading.Part.{Part}
 use Rattle.part_reader.specs.Parts.{PartHolds}
+use Rattle.part_set.specs.declared.kept.Kept.{Kept}
 use Rattle.mt_program.specs.Answers.{Foresees, history}
 
 -- the reply is one that the SELECT may have at the end of the history, whatever the counts come to
@@ -42,12 +43,12 @@ abbrev pub joined : List (List Row) → List Row
 joined parts = flat_map (λ (part : List Row). part) parts
 
 -- how many rows parts have, by what is kept of them
-abbrev pub rows_kept : {F : Type 0} → List (Part F) → ℕ
-rows_kept {F} parts = sum_by (λ (part : Part F). part.loaded.manifest.rows) parts
+abbrev pub rows_kept : {F : Type 0} → List (Kept (Part F)) → ℕ
+rows_kept {F} parts = sum_by (λ (k : Kept (Part F)). k.part.loaded.manifest.rows) parts
 
 -- each part of a list holds the rows at its place
-abbrev pub PartsHold : {F : Type 0} → (F → Option Files) → Schema → List (Part F) → List (List Row) → Type 0
-PartsHold files_of schema parts rows = AllZip (PartHolds files_of schema) parts rows
+abbrev pub PartsHold : {F : Type 0} → (F → Option Files) → Schema → List (Kept (Part F)) → List (List Row) → Type 0
+PartsHold {F} files_of schema parts rows = AllZip (λ (k : Kept (Part F)) (r : List Row). PartHolds files_of schema k.part r) parts rows
 
 -- the lines of the rows of a block, sorted by their columns from left to right, behind their number and the length of the history
 pub record Printed (block : Grid) (place : ℕ) (reply : List ℕ) : Type 0 where

@@ -1,5 +1,5 @@
 -- What a script that was served leaves.
-use Rattle.std.specs.Prelude.{◌≡◌, ℕ, Bool, ◌||◌, List, [], ◌∷◌, ◌++◌, length, drop, All, Option, Some, Result}
+use Rattle.std.specs.Prelude.{◌≡◌, ℕ, Bool, false, ◌||◌, List, [], ◌∷◌, ◌++◌, length, drop, All, Option, Some, Result}
 use Rattle.std.specs.List.{concat, list_any}
 use Rattle.std.specs.Io.KnownBytes.{Appends}
 use Rattle.mt_values.specs.declared.annals.Noted.{Noted}
@@ -7,15 +7,17 @@ use Rattle.mt_values.specs.declared.statement.Cause.{Cause}
 use Rattle.mt_values.specs.declared.statement.Statement.{Statement}
 use Rattle.mt_values.specs.Annals.{Told}
 use Rattle.mt_values.specs.Script.{statements_of}
+use Rattle.mt_outside.specs.Disk as root
 use Rattle.mt_outside.specs.Files.{Files}
-use Rattle.mt_model.specs.History.{IsLegal}
+use Rattle.mt_model.specs.History.{History, IsLegal}
 use Rattle.mt_model.specs.Outside.{Counts}
 use Rattle.mt_model.specs.Refusals.{is_refusal, is_damage}
 use Rattle.mt_model.specs.Session.{SessionReplies}
 use Rattle.mt_model.specs.Script.{IsFront}
-use Rattle.mt_program.specs.Answers.{Foresees, history}
-use Rattle.mt_program.specs.Store.{Stands}
-use Rattle.mt_program.specs.declared.store.Store.{Store}
+use Rattle.root_log.specs.declared.store.CoreStore.{CoreStore}
+use Rattle.root_log.specs.Soundness.{RootStands}
+use Rattle.root_log.specs.Stores.{CoreStands}
+use Rattle.mt_program.specs.Answers.{Foresees, history, is_unsettled}
 use Rattle.mt_program.specs.declared.serving.Ending.{Ending}
 use Rattle.mt_program.specs.declared.serving.Ending.TheVariants as ending
 use Rattle.mt_program.specs.declared.serving.Tally.{Tally}
@@ -43,22 +45,28 @@ pub record Tells (t : Tally) (replies : List (List ℕ)) : Type 0 where
   pub refusals : t.refused ≡ list_any is_refusal replies
   pub damages : t.damaged ≡ list_any is_damage replies
 
+-- where none of the replies says that a commit failed, the root stands for the history
+abbrev pub AreSettled : List (List ℕ) → Option root.Told → History → Type 0
+AreSettled replies root h = list_any is_unsettled replies ≡ false → RootStands root h
+
 -- The statements of the script up to a place ran, and their replies were written. The store stands for what the keeper tells.
-pub record Served {F : Type 0} (files_of : F → Option Files) (kept : Told) (script : List ℕ) (opened disk arm at : ℕ) (tally : Tally) (store : Store F) (told : Option Told) (before after : Option (List ℕ)) : Type 0 where
+pub record Served {F : Type 0} (files_of : F → Option Files) (kept : Told) (script : List ℕ) (opened disk arm at : ℕ) (tally : Tally) (store : CoreStore F) (told : Option Told) (root : Option root.Told) (before after : Option (List ℕ)) : Type 0 where
   pub done : List Item
   pub replies : List (List ℕ)
   pub split : statements_of script ≡ done ++ statements_of (drop at script)
   pub ran : Ran kept opened disk arm done replies told
-  pub stands : Stands files_of (history ran.now) store
+  pub stands : CoreStands files_of (history ran.now) store
   pub wrote : Appends before after (concat replies)
   pub tells : Tells tally replies
+  pub settled : AreSettled replies root (history ran.now)
 
 -- All statements ran, and their replies were written.
-pub record ServedAll (kept : Told) (script : List ℕ) (opened disk arm : ℕ) (tally : Tally) (told : Option Told) (before after : Option (List ℕ)) : Type 0 where
+pub record ServedAll (kept : Told) (script : List ℕ) (opened disk arm : ℕ) (tally : Tally) (told : Option Told) (root : Option root.Told) (before after : Option (List ℕ)) : Type 0 where
   pub replies : List (List ℕ)
   pub ran : Ran kept opened disk arm (statements_of script) replies told
   pub wrote : Appends before after (concat replies)
   pub tells : Tells tally replies
+  pub settled : AreSettled replies root (history ran.now)
 
 -- The first statements ran, and their replies were written. A statement that ended the run without a reply added nothing.
 pub record ServedFront (kept : Told) (script : List ℕ) (opened disk arm : ℕ) (told : Option Told) (before after : Option (List ℕ)) : Type 0 where
@@ -70,7 +78,7 @@ pub record ServedFront (kept : Told) (script : List ℕ) (opened disk arm : ℕ)
   pub wrote : Appends before after (concat replies)
 
 -- The first statements ran and one more. Their replies were written, and a front of its reply.
-pub record ServedCut (kept : Told) (script : List ℕ) (opened disk arm : ℕ) (told : Option Told) (before after : Option (List ℕ)) : Type 0 where
+pub record ServedCut (kept : Told) (script : List ℕ) (opened disk arm : ℕ) (told : Option Told) (root : Option root.Told) (before after : Option (List ℕ)) : Type 0 where
   pub done : List Item
   pub last : Item
   pub rest : List Item
@@ -81,9 +89,10 @@ pub record ServedCut (kept : Told) (script : List ℕ) (opened disk arm : ℕ) (
   pub ran : Ran kept opened disk arm (done ++ last ∷ []) (replies ++ reply ∷ []) told
   pub front : IsFront part reply
   pub wrote : Appends before after (concat replies ++ part)
+  pub settled : AreSettled (replies ++ reply ∷ []) root (history ran.now)
 
 -- what a script that was served leaves, by how it ended
-abbrev pub ServedBy : Ending → Told → List ℕ → ℕ → ℕ → ℕ → Option Told → Option (List ℕ) → Option (List ℕ) → Type 0
-ServedBy (ending.Done tally) kept script opened disk arm told before after = ServedAll kept script opened disk arm tally told before after
-ServedBy ending.NoMemory kept script opened disk arm told before after = ServedFront kept script opened disk arm told before after
-ServedBy ending.WriteFault kept script opened disk arm told before after = ServedCut kept script opened disk arm told before after
+abbrev pub ServedBy : Ending → Told → List ℕ → ℕ → ℕ → ℕ → Option Told → Option root.Told → Option (List ℕ) → Option (List ℕ) → Type 0
+ServedBy (ending.Done tally) kept script opened disk arm told root before after = ServedAll kept script opened disk arm tally told root before after
+ServedBy ending.NoMemory kept script opened disk arm told root before after = ServedFront kept script opened disk arm told before after
+ServedBy ending.WriteFault kept script opened disk arm told root before after = ServedCut kept script opened disk arm told root before after

@@ -1,24 +1,35 @@
 -- Why a command was not committed, and what is replied (docs/replies.md, "Faults").
-use Rattle.std.specs.Prelude.{◌≡◌, List, ℕ}
+use Rattle.std.specs.Prelude.{◌≡◌, List, ℕ, Option, Some, None}
 use Rattle.mt_outside.specs.declared.disk.DiskError.{DiskError}
 use Rattle.mt_outside.specs.declared.disk.DiskError.TheVariants as failure
+use Rattle.mt_model.specs.declared.refusal.Bound.TheVariants as bound
+use Rattle.mt_model.specs.declared.refusal.Refusal.{Refusal}
 use Rattle.mt_model.specs.declared.refusal.Refusal.TheVariants as refusal
+use Rattle.mt_model.specs.declared.refusal.Room.TheVariants as room
 use Rattle.mt_model.specs.Refusals.{refusal_line}
-use Rattle.mt_program.specs.declared.stopped.CommitStop.{CommitStop}
-use Rattle.mt_program.specs.declared.stopped.CommitStop.TheVariants as stop
+use Rattle.root_log.specs.declared.commits.Limit.TheVariants as limit
+use Rattle.root_log.specs.declared.commits.Refused.{Refused}
+use Rattle.root_log.specs.declared.commits.Refused.TheVariants as refused
 
--- of a stage that was not sealed
-abbrev pub stop_of_stage : DiskError → CommitStop
-stop_of_stage failure.NoMemory = stop.NoMemory
-stop_of_stage failure.Fault = stop.Failed
+-- the reply where parts were not read, or a stage was not sealed; there is none for want of memory
+abbrev pub IsLineOfStage : DiskError → List ℕ → Type 0
+IsLineOfStage failure.NoMemory line = ⊥
+IsLineOfStage failure.Fault line = line ≡ refusal_line refusal.Failed
 
--- of a sealed stage that was not committed
-abbrev pub stop_of_commit : DiskError → CommitStop
-stop_of_commit failure.NoMemory = stop.NoMemory
-stop_of_commit failure.Fault = stop.Unsettled
+-- what a command on a table is refused for where it was not committed; nothing for want of memory
+abbrev pub refusal_of_commit : List ℕ → Refused → Option Refusal
+refusal_of_commit table refused.NoMemory = None
+refusal_of_commit table refused.Disk = Some (refusal.Unsettled 0)
+refusal_of_commit table (refused.Stopped opened now) = Some (refusal.Stopped opened now 0)
+refusal_of_commit table refused.Exists = Some (refusal.TableExists table)
+refusal_of_commit table (refused.Limit limit.Tables) = Some (refusal.Past bound.Tables)
+refusal_of_commit table (refused.Limit limit.Parts) = Some (refusal.Full room.Parts 0)
+refusal_of_commit table (refused.Limit limit.Numbers) = Some (refusal.Full room.Numbers 0)
 
--- the reply where there is one
-abbrev pub line_of_stop : CommitStop → List ℕ → Type 0
-line_of_stop stop.NoMemory line = ⊥
-line_of_stop stop.Failed line = line ≡ refusal_line refusal.Failed
-line_of_stop stop.Unsettled line = line ≡ refusal_line (refusal.Unsettled 0)
+abbrev pub IsLineFor : Option Refusal → List ℕ → Type 0
+IsLineFor None line = ⊥
+IsLineFor (Some why) line = line ≡ refusal_line why
+
+-- the reply where a command on a table was not committed; there is none for want of memory
+abbrev pub IsLineOf : List ℕ → Refused → List ℕ → Type 0
+IsLineOf table cause line = IsLineFor (refusal_of_commit table cause) line

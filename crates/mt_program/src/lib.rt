@@ -4,13 +4,11 @@
 mod commits;
 mod creates;
 mod inserts;
-mod names;
 mod refusals;
 mod selects;
 mod serving;
 mod status;
 mod stopped;
-mod store;
 mod streams;
 mod top;
 mod words;

@@ -8,19 +8,22 @@ ghost use Rattle.mt_outside.specs.Causes.{Rose};
 ghost use Rattle.mt_model.specs.Refusals.{refusal_line};
 ghost use Rattle.part_name.specs.PartNames.{part_text};
 ghost use Rattle.part_reader.specs.Faults.{IsNoDamage};
+ghost use Rattle.root_log.specs.Soundness.{IsSound};
+ghost use Rattle.root_log.specs.Stores.{CoreStands};
 ghost use Rattle.mt_program.specs.Answers.{history};
-ghost use Rattle.mt_program.specs.Names.{file_name, fresh_part};
+ghost use Rattle.mt_program.specs.Names.{file_name};
 ghost use Rattle.mt_program.specs.Selects.{ArePlacesOf, HaveTypes, PartsHold, Printed, Selected, joined, rows_kept, values_at};
-ghost use Rattle.mt_program.specs.Store.{IsSound, Stands};
 
-use crate::names::{file_name, part_text};
-use crate::stopped::{CommitStop, stop_line};
-use crate::store::Store;
+use crate::refusals::file_name;
+use crate::stopped::stage_line;
 use mt_base::{NoMemory, Seq, Twin};
 use mt_model::{Refusal, refusal_line, rows_line, selected_columns};
-use mt_outside::{Arm, Gate, Point, Who};
+use mt_outside::{Arm, DiskError, Gate, Point, Who};
 use mt_values::{Block, ColumnData, FileId, Schema, SelectText, all_places};
+use part_name::{PartName, text as part_text};
 use part_reader::{Part, PartFault, read_columns};
+use part_set::Kept;
+use root_log::CoreStore;
 use std::alloc::Global;
 use tsv_rows::write_rows;
 
@@ -43,13 +46,13 @@ fn empty_columns(
 }
 
 /// How many rows parts have together; none where a place of 32 bits can't count them.
-fn count_rows<F>(parts: &[Part<F>]) -> Option<usize>
+fn count_rows<F>(parts: &[Kept<Part<F>>]) -> Option<usize>
     ensures rows { IfSome result (λ rows. rows ≡ rows_kept parts.now) }
     ensures few { IfSome result (λ rows. rows < 2 ^ 32) }
 {
     let mut rows: u64 = 0;
-    for part in parts {
-        rows = rows.checked_add(part.loaded.manifest.rows)?;
+    for kept in parts {
+        rows = rows.checked_add(kept.part.loaded.manifest.rows)?;
     }
     if rows > u32::MAX as u64 {
         return None;
@@ -57,9 +60,14 @@ fn count_rows<F>(parts: &[Part<F>]) -> Option<usize>
     Some(rows as usize)
 }
 
-/// The reply to a SELECT that met damage in a file of the part with this number, from 1.
-fn damaged(alloc: Global, text: &SelectText, part: u32, file: FileId) -> Result<Vec<u8>, NoMemory>
-    ensures { IfOk result (λ reply. reply.items ≡ refusal_line (Refusal.Damaged text.now.table (part_text (fresh_part part)) (file_name file))) }
+/// The reply to a SELECT that met damage in a file of a part.
+fn damaged(
+    alloc: Global,
+    text: &SelectText,
+    part: &PartName,
+    file: FileId,
+) -> Result<Vec<u8>, NoMemory>
+    ensures { IfOk result (λ reply. reply.items ≡ refusal_line (Refusal.Damaged text.now.table (part_text part.now) (file_name file))) }
 {
     let table = text.table.twin(alloc)?;
     let part = Seq::of(part_text(alloc, part)?);
@@ -70,14 +78,14 @@ fn damaged(alloc: Global, text: &SelectText, part: u32, file: FileId) -> Result<
 
 /// Adds the values that parts of a table have in the columns at these places, part by part.
 ///
-/// Where a part was not read, the number of the part, from 1, and why.
+/// Where a part was not read, its name, and why.
 fn read_parts<R: Arm>(
     alloc: Global,
     arm: &mut R,
-    parts: &[Part<R::Dir>],
+    parts: &[Kept<Part<R::Dir>>],
     places: &[u32],
     columns: &mut [ColumnData],
-) -> Result<(), (u32, PartFault)>
+) -> Result<(), (PartName, PartFault)>
     requires { length columns.old ≡ length places.now }
     ensures values { (schema : Schema) (rows : List (List Row)) → PartsHold R.Dir.files schema parts.now rows → ArePlacesOf schema places.now
         → HaveTypes schema places.now columns.old → map (λ (c : Cells). c.values) columns.old ≡ values_at [] places.now
@@ -90,12 +98,10 @@ fn read_parts<R: Arm>(
     ensures later { R.failed arm.old ≤ R.failed arm.new }
     ensures fault { IfErr result (λ e. e.1 ≡ PartFault.Fault → Rose (R.failed arm.old) (R.failed arm.new)) }
 {
-    let mut number: u32 = 0;
-    for part in parts {
-        number = number.saturating_add(1);
-        match read_columns(alloc, arm, part, places, columns) {
+    for kept in parts {
+        match read_columns(alloc, arm, &kept.part, places, columns) {
             Ok(()) => {}
-            Err(fault) => return Err((number, fault)),
+            Err(fault) => return Err((kept.name, fault)),
         }
     }
     Ok(())
@@ -104,7 +110,7 @@ fn read_parts<R: Arm>(
 /// The reply with the rows of these columns, so many, sorted by them from left to right. `place` is the length of the history.
 fn print(
     alloc: Global,
-    place: usize,
+    place: u64,
     columns: Vec<ColumnData>,
     rows: usize,
 ) -> Result<Vec<u8>, NoMemory>
@@ -118,7 +124,7 @@ fn print(
     };
     let all = all_places(alloc, width)?;
     let order = block.order_by(alloc, &all)?;
-    let mut reply = rows_line(alloc, block.len(), place as u64)?;
+    let mut reply = rows_line(alloc, block.len(), place)?;
     write_rows(&block, &order, &all, &mut reply)?;
     Ok(reply)
 }
@@ -128,38 +134,38 @@ fn print(
 /// `NoMemory` where a growth was refused.
 pub fn select<R: Arm, G: Gate>(
     alloc: Global,
-    store: &Store<R::Dir>,
+    store: &CoreStore<R::Dir>,
     arm: &mut R,
     gate: &mut G,
     text: &SelectText,
 ) -> Result<Vec<u8>, NoMemory>
     requires { IsSound store.now }
-    ensures answers { (kept : Told) → Stands R.Dir.files (history kept) store.now → IfOk result (λ reply. Selected kept text.now (R.failed arm.new) store.now.opened reply.items) }
+    ensures answers { (kept : Told) → CoreStands R.Dir.files (history kept) store.now → IfOk result (λ reply. Selected kept text.now (R.failed arm.new) store.now.opened reply.items) }
     ensures tells { R.tells arm.new ≡ R.tells arm.old }
     ensures later { R.failed arm.old ≤ R.failed arm.new }
 {
-    let Some(place) = store.find(&text.table) else {
+    let Some(table) = store.tables.get(&text.table) else {
         let name = text.table.twin(alloc)?;
         let why = Refusal::NoTable(name);
         return Ok(refusal_line(alloc, &why)?);
     };
-    let table = &store.tables[place];
     let selected = selected_columns(alloc, table.schema.columns.as_slice(), &text.columns)?;
     let places = match selected {
         Ok(places) => places,
         Err(refusal) => return Ok(refusal_line(alloc, &refusal)?),
     };
-    let Some(rows) = count_rows(&table.parts) else {
+    let parts = store.set.parts(&text.table);
+    let Some(rows) = count_rows(parts) else {
         return Err(NoMemory);
     };
     gate.pass(Who::Session(0), Point::ScanStart);
     let mut columns = empty_columns(alloc, &table.schema, places.as_slice())?;
-    match read_parts(alloc, arm, &table.parts, places.as_slice(), &mut columns) {
+    match read_parts(alloc, arm, parts, places.as_slice(), &mut columns) {
         Ok(()) => {}
         Err((_, PartFault::NoMemory)) => return Err(NoMemory),
-        Err((_, PartFault::Fault)) => return Ok(stop_line(alloc, CommitStop::Failed)?),
+        Err((_, PartFault::Fault)) => return Ok(stage_line(alloc, DiskError::Fault)?),
         Err((part, PartFault::Damaged { file, .. })) => {
-            return Ok(damaged(alloc, text, part, file)?);
+            return Ok(damaged(alloc, text, &part, file)?);
         }
     }
     Ok(print(alloc, store.length, columns, rows)?)

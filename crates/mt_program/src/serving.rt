@@ -5,7 +5,8 @@ ghost use Rattle.mt_values.specs.Annals.{Told};
 ghost use Rattle.mt_values.specs.Script.{next_statement};
 ghost use Rattle.mt_outside.specs.Causes.{Rose};
 ghost use Rattle.mt_model.specs.Written.{IsWritten};
-ghost use Rattle.mt_program.specs.Store.{Stands, NamesFitUnlessRisen, IsSound};
+ghost use Rattle.root_log.specs.Soundness.{IsSound, NamesFitUnlessRisen, RootStands};
+ghost use Rattle.root_log.specs.Stores.{CoreStands};
 ghost use Rattle.mt_program.specs.Answers.{Answers, history};
 ghost use Rattle.mt_program.specs.Serving.{ServedBy, tallied};
 
@@ -13,12 +14,12 @@ use crate::creates::create;
 use crate::inserts::insert;
 use crate::refusals::reply_code;
 use crate::selects::select;
-use crate::store::Store;
 use crate::streams::write_all;
 use mt_base::NoMemory;
 use mt_model::{Refusal, refusal_line};
 use mt_outside::{Arm, Disk, Gate, Point, Sink, Who};
 use mt_values::{Annals, Cause, Statement};
+use root_log::CoreStore;
 use sql_read::{Next, next_statement};
 use std::alloc::Global;
 
@@ -89,21 +90,22 @@ fn read_next(
 /// `NoMemory` where a growth was refused; the store is as it was and the keeper tells the same list.
 pub fn answer<D: Disk, A: Annals, G: Gate>(
     alloc: Global,
-    store: &mut Store<<D::Arm as Arm>::Dir>,
+    store: &mut CoreStore<<D::Arm as Arm>::Dir>,
     disk: &mut D,
     arm: &mut D::Arm,
     annals: &mut A,
     gate: &mut G,
     statement: Result<Statement, Cause>,
 ) -> Result<Vec<u8>, NoMemory>
+    requires written { IsWritten statement }
     requires names { NamesFitUnlessRisen (D.failed disk.old) (D.told disk.old) store.old }
     requires store { IsSound store.old }
     requires opened { store.old.opened ≤ D.failed disk.old }
     requires below { store.old.opened < 2 ^ 64 - 1 }
-    ensures answers { (kept : Told) → A.told annals.old ≡ Some kept → D.Arm.tells arm.old ≡ true → IsWritten statement → Stands D.Arm.Dir.files (history kept) store.old
-        → Answers D.Arm.Dir.files kept statement store.old.opened (D.failed disk.new) (D.Arm.failed arm.new) result store.new (A.told annals.new) }
-    ensures names { OnOk result (NamesFitUnlessRisen (D.failed disk.new) (D.told disk.new) store.new) }
-    ensures store { OnOk result (IsSound store.new) }
+    ensures answers { (kept : Told) → A.told annals.old ≡ Some kept → D.Arm.tells arm.old ≡ true → CoreStands D.Arm.Dir.files (history kept) store.old
+        → Answers D.Arm.Dir.files kept statement store.old.opened (D.failed disk.new) (D.Arm.failed arm.new) result store.new (A.told annals.new) (D.told disk.old) (D.told disk.new) }
+    ensures names { NamesFitUnlessRisen (D.failed disk.new) (D.told disk.new) store.new }
+    ensures store { IsSound store.new }
     ensures opened { store.new.opened ≡ store.old.opened }
     ensures tells { D.Arm.tells arm.new ≡ D.Arm.tells arm.old }
     ensures disk_later { D.failed disk.old ≤ D.failed disk.new }
@@ -120,7 +122,7 @@ pub fn answer<D: Disk, A: Annals, G: Gate>(
 /// Answers the statements of a script in order, each reply written whole before the next statement runs.
 pub fn serve<D: Disk, A: Annals, K: Sink, G: Gate>(
     alloc: Global,
-    store: &mut Store<<D::Arm as Arm>::Dir>,
+    store: &mut CoreStore<<D::Arm as Arm>::Dir>,
     disk: &mut D,
     arm: &mut D::Arm,
     annals: &mut A,
@@ -132,8 +134,8 @@ pub fn serve<D: Disk, A: Annals, K: Sink, G: Gate>(
     requires store { IsSound store.old }
     requires opened { store.old.opened ≤ D.failed disk.old }
     requires below { store.old.opened < 2 ^ 64 - 1 }
-    ensures run { (kept : Told) → A.told annals.old ≡ Some kept → D.Arm.tells arm.old ≡ true → Stands D.Arm.Dir.files (history kept) store.old
-        → ServedBy result kept script.now store.old.opened (D.failed disk.new) (D.Arm.failed arm.new) (A.told annals.new) (K.written sink.old) (K.written sink.new) }
+    ensures run { (kept : Told) → A.told annals.old ≡ Some kept → D.Arm.tells arm.old ≡ true → CoreStands D.Arm.Dir.files (history kept) store.old → RootStands (D.told disk.old) (history kept)
+        → ServedBy result kept script.now store.old.opened (D.failed disk.new) (D.Arm.failed arm.new) (A.told annals.new) (D.told disk.new) (K.written sink.old) (K.written sink.new) }
     ensures disk_later { D.failed disk.old ≤ D.failed disk.new }
     ensures arm_later { D.Arm.failed arm.old ≤ D.Arm.failed arm.new }
     ensures sink_later { K.failed sink.old ≤ K.failed sink.new }

@@ -1,24 +1,29 @@
 // All that the program does.
-ghost use Rattle.std.specs.Prelude.{◌≡◌, ◌⊎◌, ◌↔◌, ◌≤◌, ◌<◌, ◌^◌, ◌-◌, ◌∷◌, List, ℕ, [], Ok, Some, true, false, IfErr, IsErrAnd, IsErrOf, OnOk, length};
-ghost use Rattle.std.specs.Option.{ForSome};
+ghost use Rattle.std.specs.Prelude.{◌≡◌, ◌⊎◌, ◌↔◌, ◌≤◌, ◌<◌, ◌^◌, ◌-◌, List, ℕ, [], Err, Ok, Some, true, false, IfErr, IsErrAnd, IsErrOf, OnOk, length};
 ghost use Rattle.mt_values.specs.Annals.{Told};
 ghost use Rattle.mt_outside.specs.Causes.{Rose};
 ghost use Rattle.mt_outside.specs.Disk as root;
-ghost use Rattle.mt_outside.specs.Files.{Files};
-ghost use Rattle.mt_model.specs.Script.{CutRun, CutInReply};
+ghost use Rattle.mt_model.specs.Script.{CutRun};
+ghost use Rattle.root_log.specs.declared.opening.Damage.{Damage as Damaged};
+ghost use Rattle.root_log.specs.Opening.{IsNotDamaged, IsRootDamage};
+ghost use Rattle.root_log.specs.Roots.{Stands};
+ghost use Rattle.root_log.specs.Soundness.{IsSound, NamesFitUnlessRisen, RootStands};
+ghost use Rattle.root_log.specs.Stores.{CoreStands};
+ghost use Rattle.mt_program.specs.Answers.{history};
+ghost use Rattle.mt_program.specs.Damage.{WritesDamage, WritesFault, damage_line};
 ghost use Rattle.mt_program.specs.Endings.{IsAnswered, IsEarly, LeftBy, MetNoDamage, status_of, status_of_error, status_of_stop};
-ghost use Rattle.mt_program.specs.Headline.{Starts, Leaves, WholeRunWith, ReadRun, RunBy, RunWithFaults, NotOpened, WritesDamage};
+ghost use Rattle.mt_program.specs.Headline.{CutBySink, Leaves, NotOpened, ReadRun, RunBy, RunWithFaults, Starts, WholeRunWith};
 ghost use Rattle.mt_program.specs.Streams.{ConsumesMost};
 ghost use Rattle.mt_program.specs.Words.{is_command};
 
-use crate::refusals::damaged_root;
+use crate::refusals::damage_line;
 use crate::serving::{Ending, serve};
 use crate::status::Status;
-use crate::store::Store;
 use crate::streams::{ReadStop, read_all, write_all};
 use crate::words::is_command_line;
 use mt_outside::{Arm, Disk, DiskError, Gate, Sink, Source};
-use mt_values::{Annals, Name};
+use mt_values::Annals;
+use root_log::{CoreStore, Damage, OpenFault, open};
 use std::alloc::Global;
 use std::sync::Wait;
 use std::thread::Threads;
@@ -68,12 +73,12 @@ fn status_at_end(ended: Result<Ending, Status>, risen: bool) -> Status
     }
 }
 
-/// Reads the script and answers its statements, over a root without names. `opened` is the disk's count when the root was opened.
+/// Reads the script and answers its statements, over a store that was opened.
 ///
 /// The status of a script that was not read.
 fn run_script<D: Disk, A: Annals, S: Source, K: Sink, G: Gate>(
     alloc: Global,
-    opened: u64,
+    store: &mut CoreStore<<D::Arm as Arm>::Dir>,
     source: &mut S,
     sink: &mut K,
     disk: &mut D,
@@ -81,16 +86,19 @@ fn run_script<D: Disk, A: Annals, S: Source, K: Sink, G: Gate>(
     annals: &mut A,
     gate: &mut G,
 ) -> Result<Ending, Status>
-    requires empty { ForSome (D.told disk.old) (λ told. root.names_of told ≡ []) }
-    requires opened { opened ≤ D.failed disk.old }
-    requires below { opened < 2 ^ 64 - 1 }
-    ensures leaves { (kept : Told) (script : List ℕ) → A.told annals.old ≡ Some kept → kept.list ≡ [] → D.Arm.tells arm.old ≡ true → S.left source.old ≡ Some script
-        → LeftBy result kept script opened (D.failed disk.new) (D.Arm.failed arm.new) (A.told annals.new) (K.written sink.old) (K.written sink.new) }
-    ensures sound { (kept : Told) → A.told annals.old ≡ Some kept → kept.list ≡ [] → D.Arm.tells arm.old ≡ true → MetNoDamage result }
+    requires names { NamesFitUnlessRisen (D.failed disk.old) (D.told disk.old) store.old }
+    requires store { IsSound store.old }
+    requires opened { store.old.opened ≤ D.failed disk.old }
+    requires below { store.old.opened < 2 ^ 64 - 1 }
+    ensures leaves { (kept : Told) (script : List ℕ) → A.told annals.old ≡ Some kept → D.Arm.tells arm.old ≡ true → S.left source.old ≡ Some script
+        → CoreStands D.Arm.Dir.files (history kept) store.old → RootStands (D.told disk.old) (history kept)
+        → LeftBy result kept script store.old.opened (D.failed disk.new) (D.Arm.failed arm.new) (A.told annals.new) (D.told disk.old) (D.told disk.new) (K.written sink.old) (K.written sink.new) }
+    ensures sound { (kept : Told) → A.told annals.old ≡ Some kept → D.Arm.tells arm.old ≡ true → CoreStands D.Arm.Dir.files (history kept) store.old → RootStands (D.told disk.old) (history kept)
+        → MetNoDamage result }
     ensures whole { (script : List ℕ) → S.left source.old ≡ Some script → OnOk result ((length script < 2 ^ 40) × (S.left source.new ≡ Some [])) }
     ensures early { IfErr result IsEarly }
     ensures read { IsErrOf result Status.ReadFault → Rose (S.failed source.old) (S.failed source.new) }
-    ensures disk { IsErrOf result Status.DiskFault → Rose (D.failed disk.old) (D.failed disk.new) }
+    ensures disk { result ≡ Err Status.DiskFault → ⊥ }
     ensures long { IsErrOf result Status.TooLong → ConsumesMost (S.left source.old) (S.left source.new) }
     ensures write { result ≡ Ok Ending.WriteFault → Rose (K.failed sink.old) (K.failed sink.new) }
     ensures disk_later { D.failed disk.old ≤ D.failed disk.new }
@@ -100,17 +108,16 @@ fn run_script<D: Disk, A: Annals, S: Source, K: Sink, G: Gate>(
         Ok(text) => text,
         Err(stop) => return Err(failed_reading(stop)),
     };
-    let mut store = Store::new(alloc, opened);
-    let ending = serve(alloc, &mut store, disk, arm, annals, sink, gate, &text);
+    let ending = serve(alloc, store, disk, arm, annals, sink, gate, &text);
     Ok(ending)
 }
 
-/// Writes the line that names what keeps the root from being opened.
-fn refuse_root<K: Sink>(alloc: Global, sink: &mut K, name: &Name) -> Status
-    ensures writes { WritesDamage result name.now (K.failed sink.old) (K.failed sink.new) (K.written sink.old) (K.written sink.new) }
+/// Writes the line of what keeps the root from being opened.
+fn refuse_root<K: Sink>(alloc: Global, sink: &mut K, damage: &Damage) -> Status
+    ensures writes { WritesDamage result (damage_line damage.now) (K.failed sink.old) (K.failed sink.new) (K.written sink.old) (K.written sink.new) }
     ensures status { (result ≡ Status.Damaged) ⊎ (result ≡ Status.NoMemory) }
 {
-    let line = match damaged_root(alloc, name.as_slice()) {
+    let line = match damage_line(alloc, damage) {
         Ok(line) => line,
         Err(_) => return Status::NoMemory,
     };
@@ -120,10 +127,26 @@ fn refuse_root<K: Sink>(alloc: Global, sink: &mut K, name: &Name) -> Status
     }
 }
 
-/// Runs a script where the root has no name. `opened` is the disk's count when the root was opened.
+/// The status of a root that was not opened. Its damage is written.
+fn failed_root<K: Sink>(alloc: Global, sink: &mut K, fault: &OpenFault) -> Status
+    ensures writes { WritesFault fault.now result (K.failed sink.old) (K.failed sink.new) (K.written sink.old) (K.written sink.new) }
+    ensures early { IsEarly result }
+    ensures read { result ≡ Status.ReadFault → ⊥ }
+    ensures long { result ≡ Status.TooLong → ⊥ }
+    ensures disk { result ≡ Status.DiskFault → fault.now ≡ OpenFault.Disk }
+    ensures damaged { IsNotDamaged fault.now → result ≡ Status.Damaged → ⊥ }
+{
+    match fault {
+        OpenFault::NoMemory => Status::NoMemory,
+        OpenFault::Disk => Status::DiskFault,
+        OpenFault::Damaged(damage) => refuse_root(alloc, sink, damage),
+    }
+}
+
+/// Opens the root and runs a script over it. `opened` is the disk's count before the root was opened.
 ///
-/// The status of a script that was not read, of a root that was not listed, and of one that has a name.
-fn run_listed<D: Disk, A: Annals, S: Source, K: Sink, G: Gate>(
+/// The status of a script that was not read, and of a root that was not opened.
+fn run_root<D: Disk, A: Annals, S: Source, K: Sink, G: Gate>(
     alloc: Global,
     opened: u64,
     source: &mut S,
@@ -135,33 +158,31 @@ fn run_listed<D: Disk, A: Annals, S: Source, K: Sink, G: Gate>(
 ) -> Result<Ending, Status>
     requires opened { opened ≤ D.failed disk.old }
     requires below { opened < 2 ^ 64 - 1 }
-    ensures leaves { (kept : Told) (told : root.Told) (script : List ℕ) → A.told annals.old ≡ Some kept → kept.list ≡ [] → D.told disk.old ≡ Some told → root.names_of told ≡ []
+    ensures leaves { (kept : Told) (told : root.Told) (script : List ℕ) → A.told annals.old ≡ Some kept → D.told disk.old ≡ Some told → Stands (root.names_of told) (history kept)
         → D.Arm.tells arm.old ≡ true → S.left source.old ≡ Some script
-        → LeftBy result kept script opened (D.failed disk.new) (D.Arm.failed arm.new) (A.told annals.new) (K.written sink.old) (K.written sink.new) }
-    ensures opening { (told : root.Told) (first : List ℕ × Files) (others : root.Names) → D.told disk.old ≡ Some told → root.names_of told ≡ first ∷ others
-        → IsErrAnd result (λ ended. WritesDamage ended first.0 (K.failed sink.old) (K.failed sink.new) (K.written sink.old) (K.written sink.new))
+        → LeftBy result kept script opened (D.failed disk.new) (D.Arm.failed arm.new) (A.told annals.new) (D.told disk.old) (D.told disk.new) (K.written sink.old) (K.written sink.new) }
+    ensures opening { (told : root.Told) (damage : Damaged) → D.told disk.old ≡ Some told → IsRootDamage (root.names_of told) damage
+        → IsErrAnd result (λ ended. WritesDamage ended (damage_line damage) (K.failed sink.old) (K.failed sink.new) (K.written sink.old) (K.written sink.new))
         × (D.told disk.new ≡ D.told disk.old) × (A.told annals.new ≡ A.told annals.old) }
-    ensures sound { (kept : Told) (told : root.Told) → A.told annals.old ≡ Some kept → kept.list ≡ [] → D.told disk.old ≡ Some told → root.names_of told ≡ [] → D.Arm.tells arm.old ≡ true → MetNoDamage result }
+    ensures sound { (kept : Told) (told : root.Told) → A.told annals.old ≡ Some kept → D.told disk.old ≡ Some told → Stands (root.names_of told) (history kept) → D.Arm.tells arm.old ≡ true → MetNoDamage result }
     ensures whole { (script : List ℕ) → S.left source.old ≡ Some script → OnOk result ((length script < 2 ^ 40) × (S.left source.new ≡ Some [])) }
     ensures early { IfErr result IsEarly }
     ensures read { IsErrOf result Status.ReadFault → Rose (S.failed source.old) (S.failed source.new) }
-    ensures disk { IsErrOf result Status.DiskFault → Rose (D.failed disk.old) (D.failed disk.new) }
+    ensures disk { IsErrOf result Status.DiskFault → Rose (D.failed disk.old) (D.failed disk.new) ⊎ Rose (D.Arm.failed arm.old) (D.Arm.failed arm.new) }
     ensures long { IsErrOf result Status.TooLong → ConsumesMost (S.left source.old) (S.left source.new) }
     ensures write { result ≡ Ok Ending.WriteFault → Rose (K.failed sink.old) (K.failed sink.new) }
     ensures disk_later { D.failed disk.old ≤ D.failed disk.new }
     ensures arm_later { D.Arm.failed arm.old ≤ D.Arm.failed arm.new }
 {
-    let names = match disk.list(alloc) {
-        Ok(names) => names,
-        Err(error) => return Err(failed_opening(error)),
+    let mut store = match open(alloc, disk, arm) {
+        Ok(store) => store,
+        Err(fault) => return Err(failed_root(alloc, sink, &fault)),
     };
-    if !names.is_empty() {
-        return Err(refuse_root(alloc, sink, &names[0]));
-    }
-    run_script(alloc, opened, source, sink, disk, arm, annals, gate)
+    store.opened = opened;
+    run_script(alloc, &mut store, source, sink, disk, arm, annals, gate)
 }
 
-/// Opens the root and runs the script. The arm is given back in each case.
+/// Starts the disk, opens the root and runs the script. The arm is given back in each case.
 fn run_opened<D: Disk, A: Annals, S: Source, K: Sink, G: Gate>(
     alloc: Global,
     path: &str,
@@ -171,13 +192,13 @@ fn run_opened<D: Disk, A: Annals, S: Source, K: Sink, G: Gate>(
     annals: &mut A,
     gate: &mut G,
 ) -> Status
-    ensures leaves { (kept : Told) (told : root.Told) (script before : List ℕ) → A.told annals.old ≡ Some kept → kept.list ≡ [] → D.told disk.old ≡ Some told → root.names_of told ≡ []
+    ensures leaves { (kept : Told) (told : root.Told) (script before : List ℕ) → A.told annals.old ≡ Some kept → D.told disk.old ≡ Some told → Stands (root.names_of told) (history kept)
         → S.left source.old ≡ Some script → K.written sink.old ≡ Some before
-        → Leaves (RunBy result (record { opened = D.failed disk.old; ended = D.failed disk.new })) kept script before (A.told annals.new) (K.written sink.new) }
-    ensures opening { (told : root.Told) (first : List ℕ × Files) (others : root.Names) → D.told disk.old ≡ Some told → root.names_of told ≡ first ∷ others
-        → WritesDamage result first.0 (K.failed sink.old) (K.failed sink.new) (K.written sink.old) (K.written sink.new)
+        → Leaves (RunBy result (D.told disk.new) (record { opened = D.failed disk.old; ended = D.failed disk.new })) kept script before (A.told annals.new) (K.written sink.new) }
+    ensures opening { (told : root.Told) (damage : Damaged) → D.told disk.old ≡ Some told → IsRootDamage (root.names_of told) damage
+        → WritesDamage result (damage_line damage) (K.failed sink.old) (K.failed sink.new) (K.written sink.old) (K.written sink.new)
         × (D.told disk.new ≡ D.told disk.old) × (A.told annals.new ≡ A.told annals.old) }
-    ensures sound { (kept : Told) (told : root.Told) → A.told annals.old ≡ Some kept → kept.list ≡ [] → D.told disk.old ≡ Some told → root.names_of told ≡ [] → result ≡ Status.Damaged → ⊥ }
+    ensures sound { (kept : Told) (told : root.Told) → A.told annals.old ≡ Some kept → D.told disk.old ≡ Some told → Stands (root.names_of told) (history kept) → result ≡ Status.Damaged → ⊥ }
     ensures full { D.failed disk.old ≡ 2 ^ 64 - 1 → result ≡ Status.DiskFault }
     ensures whole { (script : List ℕ) → S.left source.old ≡ Some script → IsAnswered result → (length script < 2 ^ 40) × (S.left source.new ≡ Some []) }
     ensures words { result ≡ Status.NotWords → ⊥ }
@@ -199,16 +220,16 @@ fn run_opened<D: Disk, A: Annals, S: Source, K: Sink, G: Gate>(
         Ok(arm) => arm,
         Err(error) => return failed_opening(error),
     };
-    let ended = run_listed(alloc, opened, source, sink, disk, &mut arm, annals, gate);
+    let ended = run_root(alloc, opened, source, sink, disk, &mut arm, annals, gate);
     disk.take_back(arm);
     status_at_end(ended, opened < disk.faults())
 }
 
-/// Runs a script over an empty root, and refuses a root that has a name.
+/// Runs a script over the root of a folder, as an earlier run left it, and refuses a root that is damaged.
 ///
 /// The status is 0 where all statements were answered, 1 where one of them was refused for what the script says, 2 where the words
 /// are no command line, 3 where the source failed, 4 where the sink failed, 5 where the disk's count of faults rose, 6 for want of
-/// memory, 7 where the root has a name or a part's file is damaged, and 8 where 2^40 bytes were read and no end was met.
+/// memory, 7 where the root is damaged, and 8 where 2^40 bytes were read and no end was met.
 pub fn run<R: Threads + Wait + Sync, D: Disk, A: Annals, S: Source, K: Sink, G: Gate>(
     _rt: &R,
     alloc: Global,
@@ -220,23 +241,23 @@ pub fn run<R: Threads + Wait + Sync, D: Disk, A: Annals, S: Source, K: Sink, G: 
     gate: &mut G,
 ) -> Done<D, A>
     ensures all_answered { (kept : Told) (script before : List ℕ) → Starts (D.told disk) (A.told annals) (S.left source.old) (K.written sink.old) kept script before
-        → result.status ≡ 0 → Leaves (WholeRunWith false (record { opened = D.failed disk; ended = D.failed result.disk })) kept script before (A.told result.annals) (K.written sink.new) }
+        → result.status ≡ 0 → Leaves (WholeRunWith false (D.told result.disk) (record { opened = D.failed disk; ended = D.failed result.disk })) kept script before (A.told result.annals) (K.written sink.new) }
     ensures some_refused { (kept : Told) (script before : List ℕ) → Starts (D.told disk) (A.told annals) (S.left source.old) (K.written sink.old) kept script before
-        → result.status ≡ 1 → Leaves (WholeRunWith true (record { opened = D.failed disk; ended = D.failed result.disk })) kept script before (A.told result.annals) (K.written sink.new) }
+        → result.status ≡ 1 → Leaves (WholeRunWith true (D.told result.disk) (record { opened = D.failed disk; ended = D.failed result.disk })) kept script before (A.told result.annals) (K.written sink.new) }
     ensures source_failed { (kept : Told) (script before : List ℕ) → Starts (D.told disk) (A.told annals) (S.left source.old) (K.written sink.old) kept script before
-        → result.status ≡ 3 → Leaves (ReadRun (S.left source.new) script (record { opened = D.failed disk; ended = D.failed result.disk })) kept script before (A.told result.annals) (K.written sink.new) }
+        → result.status ≡ 3 → Leaves (ReadRun (S.left source.new) script (D.told result.disk) (record { opened = D.failed disk; ended = D.failed result.disk })) kept script before (A.told result.annals) (K.written sink.new) }
     ensures sink_failed { (kept : Told) (script before : List ℕ) → Starts (D.told disk) (A.told annals) (S.left source.old) (K.written sink.old) kept script before
-        → result.status ≡ 4 → Leaves (CutInReply (record { opened = D.failed disk; ended = D.failed result.disk })) kept script before (A.told result.annals) (K.written sink.new) }
+        → result.status ≡ 4 → Leaves (CutBySink (D.told result.disk) (record { opened = D.failed disk; ended = D.failed result.disk })) kept script before (A.told result.annals) (K.written sink.new) }
     ensures disk_failed { (kept : Told) (script before : List ℕ) → Starts (D.told disk) (A.told annals) (S.left source.old) (K.written sink.old) kept script before
-        → result.status ≡ 5 → Leaves (RunWithFaults (record { opened = D.failed disk; ended = D.failed result.disk })) kept script before (A.told result.annals) (K.written sink.new) }
+        → result.status ≡ 5 → Leaves (RunWithFaults (D.told result.disk) (record { opened = D.failed disk; ended = D.failed result.disk })) kept script before (A.told result.annals) (K.written sink.new) }
     ensures out_of_memory { (kept : Told) (script before : List ℕ) → Starts (D.told disk) (A.told annals) (S.left source.old) (K.written sink.old) kept script before
         → result.status ≡ 6 → Leaves (CutRun (record { opened = D.failed disk; ended = D.failed result.disk })) kept script before (A.told result.annals) (K.written sink.new) }
     ensures too_long { (kept : Told) (script before : List ℕ) → Starts (D.told disk) (A.told annals) (S.left source.old) (K.written sink.old) kept script before
-        → result.status ≡ 8 → Leaves (ReadRun (S.left source.new) script (record { opened = D.failed disk; ended = D.failed result.disk })) kept script before (A.told result.annals) (K.written sink.new) }
-    ensures opening { (told : root.Told) (first : List ℕ × Files) (others : root.Names) → D.told disk ≡ Some told → root.names_of told ≡ first ∷ others
-        → NotOpened result.status first.0 (K.failed sink.old) (K.failed sink.new) (K.written sink.old) (K.written sink.new)
+        → result.status ≡ 8 → Leaves (ReadRun (S.left source.new) script (D.told result.disk) (record { opened = D.failed disk; ended = D.failed result.disk })) kept script before (A.told result.annals) (K.written sink.new) }
+    ensures opening { (told : root.Told) (damage : Damaged) → D.told disk ≡ Some told → IsRootDamage (root.names_of told) damage
+        → NotOpened result.status (damage_line damage) (K.failed sink.old) (K.failed sink.new) (K.written sink.old) (K.written sink.new)
         × (D.told result.disk ≡ D.told disk) × (A.told result.annals ≡ A.told annals) }
-    ensures sound { (kept : Told) (told : root.Told) → A.told annals ≡ Some kept → kept.list ≡ [] → D.told disk ≡ Some told → root.names_of told ≡ [] → result.status ≡ 7 → ⊥ }
+    ensures sound { (kept : Told) (told : root.Told) → A.told annals ≡ Some kept → D.told disk ≡ Some told → Stands (root.names_of told) (history kept) → result.status ≡ 7 → ⊥ }
     ensures number { result.status ≤ 8 }
     ensures full { D.failed disk ≡ 2 ^ 64 - 1 → (result.status ≡ 2) ⊎ (result.status ≡ 5) }
     ensures words { (result.status ≡ 2) ↔ (is_command words.now ≡ false) }

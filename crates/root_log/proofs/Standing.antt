@@ -1,5 +1,5 @@
 -- The store that a root is opened as stands for the history of the root.
-use Rattle.std.proofs.Common.{◌≡◌, ℕ, ◌+◌, ◌-◌, ◌<◌, ◌≤◌, Bool, true, false, cond, ◌&&◌, ◌||◌, List, [], ◌∷◌, Option, Some, None, length, get_or, is_some, refl, sym, ap, ap₂, ◌∙◌, subst, inl, inr, ◌⊎◌, arith, zero, suc, nat_eq, nat_le, nat_lt}
+use Rattle.std.proofs.Common.{◌≡◌, ℕ, ◌+◌, ◌-◌, ◌<◌, ◌≤◌, Bool, true, false, cond, ◌&&◌, ◌||◌, List, [], ◌∷◌, Option, Some, None, length, map, get_or, is_some, refl, sym, ap, ap₂, ◌∙◌, subst, inl, inr, ◌⊎◌, arith, zero, suc, nat_eq, nat_le, nat_lt}
 use Rattle.std.proofs.lemmas.Bool.{cases_lt, false≢true, leb-true}
 use Rattle.std.proofs.lemmas.Bool.Decides.{Decides-eqb, nat_tests}
 use Rattle.std.proofs.lemmas.Cmp.{nat_list_cmp_total}
@@ -55,7 +55,7 @@ use Rattle.root_log.specs.Stores.{CoreStands, IsKeptOf, PartsAreThere, StoreOf, 
 use Rattle.root_log.proofs.Clear.{part_stands}
 use Rattle.root_log.proofs.Counted.{Apart, AreTables, AreThere, as_long, as_many, is_among, sizes}
 use Rattle.root_log.proofs.Items.{counted_one, item_either, map_item, mapped, one_counts, unfiltered}
-use Rattle.root_log.proofs.Orphaned.{of_core}
+use Rattle.root_log.proofs.Orphaned.{no_orphan, of_core}
 use Rattle.root_log.proofs.Readings.{one_reading}
 use Rattle.root_log.proofs.Tabled.{never_below, table_here}
 use Rattle.root_log.proofs.Undamaged.{folder_part, folders_agree}
@@ -360,6 +360,20 @@ module _ {F : Type 0} (files_of : F → Option Files) (names : Names) (h : Histo
       (All-weaker (λ (e : List ℕ × Table). table_at store e.0 ≡ Some e.1) (λ (e : List ℕ × Table). e.1.drawn ≡ length (numbered e.0 h)) (λ e at. drawn_is e.0 e.1 at) store.tables.entries entries_found))
       ∙ as_long h (keys_of store.tables.entries) s.legal keys_are)
 
+  -- a table that is not there has no parts
+  no_parts : (table : List ℕ) → table_at store table ≡ None → sets.parts_of store.set table ≡ []
+  no_parts table none = by (sets.parts_of store.set table) refl
+    where
+      by : (ks : List (Kept (Part F))) → sets.parts_of store.set table ≡ ks → sets.parts_of store.set table ≡ []
+      by [] e = e
+      by (k ∷ ks) e =
+          let has = subst (λ (l : List (Kept (Part F))). HasItem (map (λ (x : Kept (Part F)). x.name) l) k.name) (sym e) (item_first k.name (map (λ (x : Kept (Part F)). x.name) ks)) in
+          let visible = subst (λ (r : List RootName). IsVisible r (part_of table k)) same_read ((o.parts table k.name).1 has) in
+          absurd (no_orphan names h s (root.Part (part_of table k)) visible.here (inl (λ there.
+          let some = o.all table (subst (λ (r : List RootName). HasTable r table) (sym same_read) there) in
+          let bad = ap is_some none in
+          cc)))
+
   pub core_stands : CoreStands files_of h store
   core_stands = record {
     legal = s.legal;
@@ -368,4 +382,5 @@ module _ {F : Type 0} (files_of : F → Option Files) (names : Names) (h : Histo
     count = sym (length-keys_of store.tables.entries) ∙ as_many h (keys_of store.tables.entries) s.legal keys_are;
     drawn = drawn_is;
     parts = λ table t at. parts_there table t.schema (schema_at table t at) t at refl;
+    no_other = no_parts;
   }

@@ -1,6 +1,10 @@
 pub mod ByteOrder
+pub mod Commits
 pub mod Damage
 pub mod Entries
+pub mod Keeping
 pub mod Names
+pub mod Opening
 pub mod Roots
+pub mod Soundness
 pub mod Stores

@@ -1,5 +1,5 @@
 -- What the store keeps of a root, and when it stands for a history (docs/architecture.md, "The store").
-use Rattle.std.specs.Prelude.{◌≡◌, ◌⊎◌, ◌↔◌, ℕ, ◌+◌, ◌≤◌, List, [], ◌∷◌, length, map, All, Option, Some, IsSome}
+use Rattle.std.specs.Prelude.{◌≡◌, ◌⊎◌, ◌↔◌, ℕ, ◌+◌, ◌≤◌, List, [], ◌∷◌, length, map, All, Option, Some, None, IsSome}
 use Rattle.std.specs.BTreeMap.{IsOrdered, get}
 use Rattle.std.specs.Cmp.Lexicographic.{slice_cmp}
 use Rattle.std.specs.List.{AllZip, Contains as HasItem, sum_by}
@@ -54,7 +54,7 @@ pub record PartsAreThere {F : Type 0} (files_of : F → Option Files) (h : Histo
   pub order : AreInBlockOrder (core_parts table (parts_of store.set table) rows)
 
 -- The store stands for a history: its tables are those of the history, each with the number that was drawn last, and their parts hold the
--- rows of the history.
+-- rows of the history. It keeps no parts of any other table.
 pub record CoreStands {F : Type 0} (files_of : F → Option Files) (h : History) (store : CoreStore F) : Type 0 where
   pub legal : IsLegal h
   pub length_is : store.length ≡ length h
@@ -62,6 +62,7 @@ pub record CoreStands {F : Type 0} (files_of : F → Option Files) (h : History)
   pub count : length store.tables.entries ≡ creates h
   pub drawn : (table : List ℕ) (t : Table) → table_at store table ≡ Some t → t.drawn ≡ length (numbered table h)
   pub parts : (table : List ℕ) (t : Table) → table_at store table ≡ Some t → PartsAreThere files_of h store table t.schema
+  pub no_other : (table : List ℕ) → table_at store table ≡ None → parts_of store.set table ≡ []
 
 -- ---- what a root is opened as
 

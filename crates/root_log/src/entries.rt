@@ -4,6 +4,7 @@ ghost use Rattle.mt_values.specs.declared.schema.Schema.{Schema};
 ghost use Rattle.mt_values.specs.Script.{next_statement, statements_of};
 ghost use Rattle.mt_outside.specs.Causes.{Rose};
 ghost use Rattle.mt_outside.specs.Files.{Files};
+ghost use Rattle.mt_model.specs.History.{IsTableSchema};
 ghost use Rattle.root_log.specs.Entries.{EntryHolds, IsEntryWith, schema_by, schema_by_items, schema_of_entry};
 
 use digest_file::read_entry;
@@ -77,6 +78,7 @@ fn schema_of_text(alloc: Global, table: &Name, text: &[u8]) -> Result<Option<Sch
 /// `NoMemory` where a growth was refused.
 pub fn read_schema(alloc: Global, table: &Name, bytes: &[u8]) -> Result<Option<Schema>, NoMemory>
     ensures read { IfOk result (λ found. IfSome found (λ schema. IsEntryWith table.now schema bytes.now)) }
+    ensures sound { IfOk result (λ found. IfSome found IsTableSchema) }
     ensures only { (schema : Schema) → IsEntryWith table.now schema bytes.now → IfOk result (λ found. found ≡ Some schema) }
 {
     match read_entry(bytes) {
@@ -95,6 +97,7 @@ pub fn open_entry<R: Arm>(
     table: &Name,
 ) -> Result<Option<Schema>, DiskError>
     ensures holds { (files : Files) → R.Dir.files dir.now ≡ Some files → IfOk result (λ found. IfSome found (λ schema. EntryHolds table.now schema files)) }
+    ensures sound { IfOk result (λ found. IfSome found IsTableSchema) }
     ensures only { (files : Files) (schema : Schema) → R.Dir.files dir.now ≡ Some files → EntryHolds table.now schema files
         → IfOk result (λ found. found ≡ Some schema) }
     ensures tells { R.tells arm.new ≡ R.tells arm.old }

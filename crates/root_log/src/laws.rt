@@ -5,9 +5,11 @@ ghost use Rattle.mt_outside.specs.Disk.{Names, Told, names_of};
 ghost use Rattle.mt_model.specs.History.{History};
 ghost use Rattle.part_set.specs.declared.root_name.RootName.{RootName};
 ghost use Rattle.part_set.specs.Visible.{HasNoOrphan, HasNoOverlap};
+ghost use Rattle.root_log.specs.declared.opening.Damage.{Damage};
 ghost use Rattle.root_log.specs.declared.store.CoreStore.{CoreStore};
 ghost use Rattle.root_log.specs.ByteOrder.{AreInByteOrder};
 ghost use Rattle.root_log.specs.Damage.{DamagedAt, IsFirstBadName, is_create, most_tables};
+ghost use Rattle.root_log.specs.Opening.{IsRootDamage};
 ghost use Rattle.root_log.specs.Roots.{AreRead, Stands};
 ghost use Rattle.root_log.specs.Stores.{CoreStands, StoreOf};
 
@@ -24,6 +26,13 @@ pub fn sound_roots_are_not_damaged()
     ensures no_damage { (names : Names) (h : History) (read : List RootName) (place : ℕ) (f : FileId) → Stands names h → AreRead names read
         → DamagedAt names read place f → ⊥ }
     ensures no_bad_name { (names : Names) (h : History) (place : ℕ) (name : List ℕ) → AreInByteOrder names → Stands names h → IsFirstBadName names place name → ⊥ }
+{}
+
+/// What keeps a root from being opened is one: of the kinds in their order, and of names in byte order, the first. Where the
+/// root stands for a history there is none.
+pub fn damage_of_a_root_is_one()
+    ensures one { (names : Names) (d e : Damage) → IsRootDamage names d → IsRootDamage names e → d ≡ e }
+    ensures none { (names : Names) (h : History) (d : Damage) → AreInByteOrder names → Stands names h → IsRootDamage names d → ⊥ }
 {}
 
 /// The names that a disk tells stand in byte order, each once.

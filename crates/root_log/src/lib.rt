@@ -1,12 +1,21 @@
 //! The root of a store: opened and checked, and what a commit adds to it.
 #![tactic(auto)]
 
+mod checking;
+mod commits;
 mod entries;
+mod keeping;
 mod laws;
 mod names;
+mod opening;
 mod store;
 
+pub use commits::{Limit, Refused, Returned, commit_create, commit_part};
 pub use entries::{open_entry, read_schema};
-pub use laws::{roots_stand_by_their_stores, sound_roots_are_not_damaged, told_names_rise};
+pub use laws::{
+    damage_of_a_root_is_one, roots_stand_by_their_stores, sound_roots_are_not_damaged,
+    told_names_rise,
+};
 pub use names::{NameFault, read_names};
+pub use opening::{Damage, OpenFault, open};
 pub use store::{CoreStore, Table};

@@ -1,4 +1,4 @@
-// What runs leave where the outside fails, where the root has names, and where the words are no command line.
+// What runs leave where the outside fails, where the root is damaged, and where the words are no command line.
 use disk_mem::{CallKind, Listed, MemDisk};
 use mt_base::Seq;
 use mt_outside::{Arm, Disk};
@@ -117,7 +117,7 @@ fn disk_with<R: Abort>(rt: &R, alloc: Global, names: &[&[u8]]) -> Result<MemDisk
 }
 
 #[test]
-fn a_root_with_names_is_not_opened(rt: HostRuntime) -> Result<(), Fail> {
+fn a_damaged_root_is_told(rt: HostRuntime) -> Result<(), Fail> {
     let alloc = rt.alloc();
     let whole = calm(PLAIN.0);
     let by_bytes = Streams {
@@ -135,7 +135,8 @@ fn a_root_with_names_is_not_opened(rt: HostRuntime) -> Result<(), Fail> {
             whole,
             b"DAMAGED name x\n".as_slice(),
         ),
-        (&[b"y", b"t.create"], whole, b"DAMAGED name t.create\n"),
+        (&[b"y", b"t.create"], whole, b"DAMAGED name y\n"),
+        (&[b"t.create"], whole, b"DAMAGED file t.create entry.bin\n"),
         (&[b"a\tb"], whole, b"DAMAGED name a\\tb\n"),
         (&[b"x"], by_bytes, b"DA"),
         (&[b"x"], failing, b""),

@@ -44,9 +44,10 @@ pub fn calm(script: &[u8]) -> Streams<'_> {
 pub struct Ended {
     pub status: u8,
     pub written: Vec<u8>,
-    /// The accepted commands, each as it is shown for debugging.
+    /// The accepted commands, those of earlier runs in front, each as it is shown for debugging.
     pub history: Vec<String>,
     pub disk: MemDisk,
+    pub annals: KeptAnnals,
 }
 
 impl Ended {
@@ -95,13 +96,14 @@ fn pieces(alloc: Global, streams: Streams<'_>) -> Result<Vec<Vec<u8>>, AllocErro
     Ok(pieces)
 }
 
-/// Runs these words.
-pub fn run_words<R: Threads + Wait + Sync>(
+// Runs these words, with a keeper of what was accepted before.
+fn run_kept<R: Threads + Wait + Sync>(
     rt: &R,
     alloc: Global,
     words: &[String],
     streams: Streams<'_>,
     disk: MemDisk,
+    annals: KeptAnnals,
 ) -> Result<Ended, Fail> {
     let mut source = MemSource::new(
         pieces(alloc, streams)?,
@@ -120,7 +122,7 @@ pub fn run_words<R: Threads + Wait + Sync>(
         &mut source,
         &mut sink,
         disk,
-        KeptAnnals::new(alloc),
+        annals,
         &mut OpenGate,
     );
     Ok(Ended {
@@ -128,7 +130,19 @@ pub fn run_words<R: Threads + Wait + Sync>(
         written: sink.written().to_vec(alloc)?,
         history: shown(alloc, done.annals.list())?,
         disk: done.disk,
+        annals: done.annals,
     })
+}
+
+/// Runs these words. Nothing was accepted before.
+pub fn run_words<R: Threads + Wait + Sync>(
+    rt: &R,
+    alloc: Global,
+    words: &[String],
+    streams: Streams<'_>,
+    disk: MemDisk,
+) -> Result<Ended, Fail> {
+    run_kept(rt, alloc, words, streams, disk, KeptAnnals::new(alloc))
 }
 
 /// Runs over a disk.
@@ -140,6 +154,17 @@ pub fn run_over<R: Threads + Wait + Sync>(
 ) -> Result<Ended, Fail> {
     let words = words(alloc, &["mergetree", "--path", "d"])?;
     run_words(rt, alloc, &words, streams, disk)
+}
+
+/// Runs over what an earlier run left, with its keeper.
+pub fn run_again<R: Threads + Wait + Sync>(
+    rt: &R,
+    alloc: Global,
+    streams: Streams<'_>,
+    before: Ended,
+) -> Result<Ended, Fail> {
+    let words = words(alloc, &["mergetree", "--path", "d"])?;
+    run_kept(rt, alloc, &words, streams, before.disk, before.annals)
 }
 
 /// Runs over an empty disk of which no call fails.

@@ -130,6 +130,7 @@ part_kept h more p s =
       there = schema_kept p.table h more s.schema s.there;
       least = insert_kept p.table p.name.partition p.name.min_block h more s.least;
       greatest = insert_kept p.table p.name.partition p.name.max_block h more s.greatest;
+      order = s.order;
       rising = s.rising;
       partly = λ row. s.partly row ∙ ap (of_key s.schema.key row) (sym (live_kept p.table s.schema.key p.name.partition p.name.min_block p.name.max_block h more most));
     }
@@ -210,6 +211,7 @@ module _ (h : History) (e : Entry) (i : Insert) (schema : Schema) (is : e.comman
     there = schema_kept i.table h (e ∷ []) schema there;
     least = own_number;
     greatest = own_number;
+    order = omega arith;
     rising = sorted_rises (key_cmp schema.key) (key_total schema.key) i.block.rows;
     partly = λ row. ap (of_key schema.key row) (sym (own_rows schema.key));
   }

@@ -1,3 +1,5 @@
+pub mod Apart
+pub mod Counted
 pub mod Growing
 pub mod Joined
 pub mod Keeping

@@ -1,5 +1,5 @@
 -- Parts that stand for a history (docs/definitions.md, "The core").
-use Rattle.std.specs.Prelude.{◌≡◌, ◌&&◌, ℕ, Bool, List, All, Some, filter}
+use Rattle.std.specs.Prelude.{◌≡◌, ◌≤◌, ◌&&◌, ℕ, Bool, List, All, Some, filter}
 use Rattle.std.specs.List.{count_by, flat_map}
 use Rattle.std.specs.List.Sorted.{IsSorted}
 use Rattle.std.specs.Ordering.{nat_cmp, ordering_then}
@@ -29,10 +29,11 @@ rows_of_parts parts = flat_map (λ (p : CorePart). p.rows) parts
 abbrev pub has_block : Partition → ℕ → CorePart → Bool
 has_block partition n part = same_partition part.name.partition partition && lies_within part.name.min_block part.name.max_block n
 
--- a part stands for the INSERTs into its table and partition whose numbers lie within its blocks (docs/definitions.md, "The core")
+-- a part stands for the INSERTs into its table and partition whose numbers lie within its blocks, of which there is one at least (docs/definitions.md, "The core")
 pub record PartStands (h : History) (part : CorePart) : Type 0 where
   pub schema : Schema
   pub there : schema_of part.table h ≡ Some schema
+  pub order : part.name.min_block ≤ part.name.max_block
   pub least : IsInsertOf part.table part.name.partition part.name.min_block h
   pub greatest : IsInsertOf part.table part.name.partition part.name.max_block h
   pub rising : IsSorted (key_cmp schema.key) part.rows

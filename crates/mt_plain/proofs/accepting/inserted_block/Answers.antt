@@ -1,7 +1,7 @@
 use Rattle.std.proofs.Common.{◌≡◌, ℕ, ◌<◌, ◌^◌, Some, None, Ok, All, length, sym, ◌∙◌, subst, arith}
 use Rattle.mt_values.specs.Rows.{inserted_rows}
 use Rattle.mt_model.specs.History.{schema_of, column_types}
-use Rattle.mt_model.specs.Reply.{insert_turn}
+use Rattle.mt_plain.specs.Plain.{unmerged_turn}
 use Rattle.mt_plain.proofs.Accepted.{block_some}
 use Rattle.mt_plain.proofs.accepting.inserted_block.Goals as goal
 
@@ -15,7 +15,7 @@ returns c =
     let read = rw c.in-Ok.is at c.in_ok-block.ensures.rows in
     let made = rw c.in-Ok.is at c.in_ok-block.ensures.types in
     let bytes = c.in_ok-block.ensures.bytes in
-    let turn : insert_turn i.table h ≡ None = sym c.insert_turn.ensures ∙ c.in-None.is in
+    let turn : unmerged_turn i.table h ≡ None = sym c.insert_turn.ensures ∙ c.in-None.is in
     let some : 0 < length block.rows = omega arith in
     let kinds : c.as_slice.result.now ≡ column_types schema = cc (c.as_slice.ensures, c.in_ok-types.ensures) in
     let lines : c.as_slice-lines.result.now ≡ i.lines = c.as_slice-lines.ensures in

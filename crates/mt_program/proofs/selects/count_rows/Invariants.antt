@@ -3,5 +3,5 @@ use Rattle.std.proofs.Common.{◌≡◌, take}
 use Rattle.mt_program.specs.Selects.{rows_kept}
 use Rattle.mt_program.proofs.selects.count_rows.Given as goal
 
-abbrev pub invariant-loop-part : goal.invariant-loop-part
-invariant-loop-part g l = l.rows ≡ rows_kept (take l.part-index l.parts)
+abbrev pub invariant-loop-kept : goal.invariant-loop-kept
+invariant-loop-kept g l = l.rows ≡ rows_kept (take l.kept-index l.parts)

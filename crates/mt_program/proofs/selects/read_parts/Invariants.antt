@@ -6,12 +6,12 @@ use Rattle.mt_values.specs.Values.{Row}
 use Rattle.mt_program.specs.Selects.{ArePlacesOf, HaveTypes, PartsHold, joined, rows_kept, values_at}
 use Rattle.mt_program.proofs.selects.read_parts.Given as goal
 
-abbrev pub invariant-loop-part : goal.invariant-loop-part
-invariant-loop-part g l = record {
+abbrev pub invariant-loop-kept : goal.invariant-loop-kept
+invariant-loop-kept g l = record {
   values : (schema : Schema) (rows : List (List Row)) → PartsHold g.R.Dir.Dir.files schema l.parts rows → ArePlacesOf schema l.places → HaveTypes schema l.places l.initial.columns
-      → map (λ (c : Cells). c.values) l.initial.columns ≡ values_at [] l.places → map (λ (c : Cells). c.values) l.columns ≡ values_at (joined (take l.part-index rows)) l.places;
+      → map (λ (c : Cells). c.values) l.initial.columns ≡ values_at [] l.places → map (λ (c : Cells). c.values) l.columns ≡ values_at (joined (take l.kept-index rows)) l.places;
   types : map (λ (c : Cells). c.col_type) l.columns ≡ map (λ (c : Cells). c.col_type) l.initial.columns;
-  even : All (λ (c : Cells). length c.values ≡ 0) l.initial.columns → All (λ (c : Cells). length c.values ≡ rows_kept (take l.part-index l.parts)) l.columns;
+  even : All (λ (c : Cells). length c.values ≡ 0) l.initial.columns → All (λ (c : Cells). length c.values ≡ rows_kept (take l.kept-index l.parts)) l.columns;
   many : length l.columns ≡ length l.initial.columns;
   tells : g.R.Arm.tells l.arm ≡ g.R.Arm.tells l.initial.arm;
   later : g.R.Arm.failed l.initial.arm ≤ g.R.Arm.failed l.arm;

@@ -1,64 +1,72 @@
-use Rattle.std.proofs.Common.{◌≡◌, ◌∙◌, ℕ, List, [], length, map, sym, ap, subst, inl, All, filter_map, slice_get}
+use Rattle.std.proofs.Common.{◌≡◌, ◌∙◌, ◌<◌, ℕ, List, [], length, map, sym, ap, subst, inl, All, filter_map, slice_get, arith}
 use Rattle.mt_values.specs.declared.schema.Column.{Column}
-use Rattle.mt_values.specs.declared.schema.Schema.{Schema}
 use Rattle.mt_values.specs.Grid.{Cells, grid_of, rows_of}
+use Rattle.mt_outside.specs.declared.disk.DiskError.TheVariants as failure
 use Rattle.mt_model.specs.declared.refusal.Refusal.TheVariants as refusal
 use Rattle.mt_model.specs.History.{column_types}
-use Rattle.mt_model.specs.Live.{live}
 use Rattle.mt_model.specs.Refusals.{refusal_line}
 use Rattle.mt_model.specs.Reply.{selected_places}
 use Rattle.part_reader.specs.Faults.{IsNoDamage}
 use Rattle.mt_program.specs.Answers.{history}
-use Rattle.mt_program.specs.Selects.{ArePlacesOf, PartsHold, Printed, joined, rows_kept, values_at}
+use Rattle.mt_program.specs.Selects.{ArePlacesOf, PartsHold, Printed, joined, values_at}
 use Rattle.mt_program.proofs.Accepting.{added_nothing, length_history, whole_front}
-use Rattle.mt_program.proofs.Counting.{stage_failed}
 use Rattle.mt_program.proofs.Refusing.{select_failed, select_refused}
-use Rattle.mt_program.proofs.Selecting.{columns_are, empty_even, joined_typed, lent_back, live_rows, no_columns, parts_hold, projected, rows_counted, selected_below, selects, typed_have_all}
-use Rattle.mt_program.proofs.Standing.{no_table, table_named, table_schema, table_stands}
+use Rattle.mt_program.proofs.Selecting.{columns_are, empty_even, empty_many, joined_typed, lent_back, no_columns, projected, rows_counted, selected_below, selects, typed_have_all}
+use Rattle.mt_program.proofs.Standing.{no_table, rows_held, table_schema}
+use Rattle.mt_program.proofs.Stopping.{line_of_stage}
 use Rattle.mt_program.proofs.selects.select.Goals as goal
 
 -- there is no such table
 pub returns-in_default-clause-answers : goal.returns-in_default-clause-answers
 returns-in_default-clause-answers g c = λ kept stands n disk f.
-    let none = no_table g.R.Dir.Dir.files (history kept) c.args.store.now stands c.args.text.now.table c.in_default.ensures.none in
+    let none = no_table g.R.Dir.Dir.files (history kept) c.args.store.now stands c.args.text.now.table (sym c.in_default.ensures.value) in
     select_refused n kept _ c.args.text.now (refusal.NoTable c.args.text.now.table) (no_columns c.args.text.now (history kept) none)
     (c.in_ok-refusal_line.ensures ∙ ap (λ m. refusal_line (refusal.NoTable m)) c.in_ok-name.ensures)
 
 -- a name that is no column's
 pub returns-in-Err-clause-answers : goal.returns-in-Err-clause-answers
 returns-in-Err-clause-answers g c = λ kept stands n disk f.
-    let table = c.index-table.result.now in
-    let there = table_schema g.R.Dir.Dir.files (history kept) c.args.store.now stands c.in-Some.place table c.in-Some.ensures.there c.index-table.ensures c.args.text.now.table c.in-Some.ensures.named in
+    let table = c.in-Some.table.now in
+    let there = table_schema g.R.Dir.Dir.files (history kept) c.args.store.now stands c.args.text.now.table table (sym c.in-Some.ensures.value) in
     let chosen = ap (λ (cs : List Column). selected_places cs c.args.text.now.columns) (sym c.as_slice.ensures) ∙ (sym c.in_ok-selected.ensures ∙ c.in-Err.is) in
     select_refused n kept _ c.args.text.now c.in-Err.refusal (columns_are c.args.text.now (history kept) table.schema there ∙ chosen) c.in_ok-refusal_line-in-Err.ensures
 
+-- the columns of a table are not too many
+pub selected_columns-requires : goal.selected_columns-requires
+selected_columns-requires g c =
+    let few = (c.requires.tables c.args.text.now.table c.in-Some.table.now (sym c.in-Some.ensures.value)).schema.few in
+    omega (arith, few, ap length c.as_slice.ensures)
+
+pub read_parts-requires-after_bounds : goal.read_parts-requires-after_bounds
+read_parts-requires-after_bounds g c κs within = ap length c.deref_mut.ensures.value ∙ (empty_many c.as_slice-2.result.now c.in_ok-columns.columns.items c.in_ok-columns.ensures.empty ∙ ap length (c.as_slice-2.ensures ∙ sym c.as_slice-3.ensures))
+
 pub empty_columns-requires : goal.empty_columns-requires
 empty_columns-requires g c =
-    let table = c.index-table.result.now in
+    let table = c.in-Some.table.now in
     let chosen = ap (λ (cs : List Column). selected_places cs c.args.text.now.columns) (sym c.as_slice.ensures) ∙ (sym c.in_ok-selected.ensures ∙ c.in-Ok.is) in
     subst (ArePlacesOf table.schema) (sym c.as_slice-2.ensures) (selected_below table.schema c.args.text.now.columns c.in-Ok.places chosen)
 
 -- the arm failed
 pub returns-in-Err-default-Fault-clause-answers : goal.returns-in-Err-default-Fault-clause-answers
 returns-in-Err-default-Fault-clause-answers g c = λ kept stands n disk f.
-    let table = c.index-table.result.now in
-    let there = table_schema g.R.Dir.Dir.files (history kept) c.args.store.now stands c.in-Some.place table c.in-Some.ensures.there c.index-table.ensures c.args.text.now.table c.in-Some.ensures.named in
+    let table = c.in-Some.table.now in
+    let there = table_schema g.R.Dir.Dir.files (history kept) c.args.store.now stands c.args.text.now.table table (sym c.in-Some.ensures.value) in
     let chosen = ap (λ (cs : List Column). selected_places cs c.args.text.now.columns) (sym c.as_slice.ensures) ∙ (sym c.in_ok-selected.ensures ∙ c.in-Ok.is) in
     let rose = c.in-Err-default-Fault.ensures.fault c.in-Err-default-Fault.field-0-1-is in
     select_failed n kept _ c.args.text.now c.in-Ok.places (columns_are c.args.text.now (history kept) table.schema there ∙ chosen)
-    (stage_failed c.args.store.now.opened disk (g.R.Arm.failed c.read_parts.new.arm) (g.R.Arm.failed c.args.arm.now) _ n rose c.in_ok-stop_line-in-Err-default-Fault.ensures f)
+    (line_of_stage c.args.store.now.opened disk (g.R.Arm.failed c.read_parts.new.arm) (g.R.Arm.failed c.args.arm.now) failure.Fault _ n c.in_ok-stage_line-in-Err-default-Fault.ensures (λ same. rose) f)
 
 -- a part is not damaged
 pub returns-in-Err-default-Damaged-clause-answers : goal.returns-in-Err-default-Damaged-clause-answers
 returns-in-Err-default-Damaged-clause-answers g c = λ kept stands n disk f.
     let files = g.R.Dir.Dir.files in
-    let table = c.index-table.result.now in
-    let held = table_stands files (history kept) c.args.store.now stands c.in-Some.place table c.in-Some.ensures.there c.index-table.ensures c.args.text.now.table c.in-Some.ensures.named in
-    let rows = parts_hold files table.schema table.parts.items _ held.parts in
+    let table = c.in-Some.table.now in
+    let there = sym c.in-Some.ensures.value in
+    let held = rows_held files (history kept) c.args.store.now stands c.args.text.now.table table there in
     let chosen = ap (λ (cs : List Column). selected_places cs c.args.text.now.columns) (sym c.as_slice.ensures) ∙ (sym c.in_ok-selected.ensures ∙ c.in-Ok.is) in
     let within = selected_below table.schema c.args.text.now.columns c.in-Ok.places chosen in
     let types = ap (map (λ (x : Cells). x.col_type)) c.deref_mut.ensures.value ∙ (c.in_ok-columns.ensures.types ∙ ap (λ ps. filter_map (slice_get (column_types table.schema)) ps) (c.as_slice-2.ensures ∙ sym c.as_slice-3.ensures)) in
-    let sound = c.in-Err-default-Damaged.ensures.sound table.schema rows.0 (subst (λ ps. PartsHold files table.schema ps rows.0) (sym c.deref-2.ensures.value) rows.1)
+    let sound = c.in-Err-default-Damaged.ensures.sound table.schema held.rows (subst (λ ps. PartsHold files table.schema ps held.rows) (sym c.parts-parts.ensures.parts) held.hold)
     (subst (ArePlacesOf table.schema) (sym c.as_slice-3.ensures) within) types in
     absurd (subst IsNoDamage c.in-Err-default-Damaged.field-0-1-is sound)
 
@@ -69,7 +77,7 @@ print-requires-clause-even g c =
     let back = lent_back items new c.in_ok-columns.columns.len (c.in-Ok-read_parts.ensures.many ∙ ap length c.deref_mut.ensures.value) (ap length (sym c.deref_mut.ensures.value) ∙ c.deref_mut.ensures.len) in
     let none = subst (All (λ (x : Cells). length x.values ≡ 0)) (sym c.deref_mut.ensures.value) (empty_even c.as_slice-2.result.now items c.in_ok-columns.ensures.empty) in
     let even = c.in-Ok-read_parts.ensures.even none in
-    let count = c.in-Some-count_rows.ensures.rows ∙ ap rows_kept (c.deref.ensures.value ∙ sym c.deref-2.ensures.value) in
+    let count = c.in-Some-count_rows.ensures.rows in
     subst (All (λ (x : Cells). length x.values ≡ c.in-Some-count_rows.rows)) (sym back) (subst (λ m. All (λ (x : Cells). length x.values ≡ m) new) (sym count) even)
 
 pub returns-clause-answers : goal.returns-clause-answers
@@ -77,11 +85,11 @@ returns-clause-answers g c = λ kept stands n disk f.
     let files = g.R.Dir.Dir.files in
     let store = c.args.store.now in
     let text = c.args.text.now in
-    let table = c.index-table.result.now in
-    let held = table_stands files (history kept) store stands c.in-Some.place table c.in-Some.ensures.there c.index-table.ensures text.table c.in-Some.ensures.named in
-    let there = table_schema files (history kept) store stands c.in-Some.place table c.in-Some.ensures.there c.index-table.ensures text.table c.in-Some.ensures.named in
-    let name = table_named files (history kept) store stands c.in-Some.place table c.in-Some.ensures.there c.index-table.ensures text.table c.in-Some.ensures.named in
-    let rows = parts_hold files table.schema table.parts.items _ held.parts in
+    let table = c.in-Some.table.now in
+    let at = sym c.in-Some.ensures.value in
+    let held = rows_held files (history kept) store stands text.table table at in
+    let there = table_schema files (history kept) store stands text.table table at in
+    let hold = subst (λ ps. PartsHold files table.schema ps held.rows) (sym c.parts-parts.ensures.parts) held.hold in
     let chosen = ap (λ (cs : List Column). selected_places cs text.columns) (sym c.as_slice.ensures) ∙ (sym c.in_ok-selected.ensures ∙ c.in-Ok.is) in
     let within = selected_below table.schema text.columns c.in-Ok.places chosen in
     let lent = c.deref_mut.ensures.value in
@@ -90,18 +98,17 @@ returns-clause-answers g c = λ kept stands n disk f.
     let same_places = c.as_slice-2.ensures ∙ sym c.as_slice-3.ensures in
     let types = ap (map (λ (x : Cells). x.col_type)) lent ∙ (c.in_ok-columns.ensures.types ∙ ap (λ ps. filter_map (slice_get (column_types table.schema)) ps) same_places) in
     let empty = ap (map (λ (x : Cells). x.values)) lent ∙ (c.in_ok-columns.ensures.empty ∙ ap (values_at []) same_places) in
-    let values : map (λ (x : Cells). x.values) new ≡ values_at (joined rows.0) c.in-Ok.places =
-    c.in-Ok-read_parts.ensures.values table.schema rows.0 (subst (λ ps. PartsHold files table.schema ps rows.0) (sym c.deref-2.ensures.value) rows.1) (subst (ArePlacesOf table.schema) (sym c.as_slice-3.ensures) within) types empty
-    ∙ ap (values_at (joined rows.0)) c.as_slice-3.ensures in
+    let values : map (λ (x : Cells). x.values) new ≡ values_at (joined held.rows) c.in-Ok.places =
+    c.in-Ok-read_parts.ensures.values table.schema held.rows hold (subst (ArePlacesOf table.schema) (sym c.as_slice-3.ensures) within) types empty
+    ∙ ap (values_at (joined held.rows)) c.as_slice-3.ensures in
     let back = lent_back items new c.in_ok-columns.columns.len (c.in-Ok-read_parts.ensures.many ∙ ap length lent) (ap length (sym lent) ∙ c.deref_mut.ensures.len) in
-    let count : c.in-Some-count_rows.rows ≡ length (joined rows.0) = c.in-Some-count_rows.ensures.rows ∙ (ap rows_kept c.deref.ensures.value ∙ rows_counted files table.schema table.parts.items rows.0 rows.1) in
-    let typed = joined_typed files table.schema table.parts.items rows.0 rows.1 in
-    let rows_are = ap (rows_of new) count ∙ projected new c.in-Ok.places (joined rows.0) values (typed_have_all table.schema c.in-Ok.places (joined rows.0) within typed) in
-    let live_is = rows.2 ∙ (sym (live_rows table.name table.schema.key (history kept)) ∙ ap (λ m. live m table.schema.key (history kept)) name) in
+    let count : c.in-Some-count_rows.rows ≡ length (joined held.rows) = c.in-Some-count_rows.ensures.rows ∙ rows_counted files table.schema c.parts-parts.result.now held.rows hold in
+    let typed = joined_typed files table.schema c.parts-parts.result.now held.rows hold in
+    let rows_are = ap (rows_of new) count ∙ projected new c.in-Ok.places (joined held.rows) values (typed_have_all table.schema c.in-Ok.places (joined held.rows) within typed) in
     let place : store.length ≡ length kept.list = stands.length_is ∙ length_history kept in
     let printed = subst (λ (cs : List Cells). Printed (grid_of cs c.in-Some-count_rows.rows) store.length c.in_ok-print.field-0.items) back c.in_ok-print.ensures in
     let here = subst (λ (m : ℕ). Printed (grid_of new c.in-Some-count_rows.rows) m c.in_ok-print.field-0.items) place printed in
     inl (
-      selects (history kept) text table.schema c.in-Ok.places (joined rows.0) (grid_of new c.in-Some-count_rows.rows) (length kept.list) c.in_ok-print.field-0.items (whole_front kept) there chosen live_is rows_are here,
+      selects (history kept) text table.schema c.in-Ok.places (joined held.rows) (grid_of new c.in-Some-count_rows.rows) (length kept.list) c.in_ok-print.field-0.items (whole_front kept) there chosen held.partly rows_are here,
       added_nothing kept,
     )

@@ -11,13 +11,20 @@ statements-init g c = record {
   sound = c.requires.store;
   opened = refl;
   tells = refl;
-  served = λ kept is tells stands. served_none g.D.Arm.Dir.Dir.files kept c.args.script.now c.args.store.now.opened (g.D.Disk.failed c.args.disk.now) (g.D.Arm.Arm.failed c.args.arm.now) c.none-tally.result c.args.store.now
-      (g.A.Annals.told c.args.annals.now) (g.K.Sink.written c.args.sink.now) is c.none-tally.ensures.refused c.none-tally.ensures.damaged stands;
+  served = λ kept is tells stands settled. served_none g.D.Arm.Dir.Dir.files kept c.args.script.now c.args.store.now.opened (g.D.Disk.failed c.args.disk.now) (g.D.Arm.Arm.failed c.args.arm.now) c.none-tally.result c.args.store.now
+      (g.A.Annals.told c.args.annals.now) (g.D.Disk.told c.args.disk.now) (g.K.Sink.written c.args.sink.now) is c.none-tally.ensures.refused c.none-tally.ensures.damaged stands settled;
   within = omega arith;
   disk_later = omega arith;
   arm_later = omega arith;
   sink_later = omega arith;
 }
+
+-- the statement is what the grammar gives
+pub answer-requires-clause-written : goal.answer-requires-clause-written
+answer-requires-clause-written g c κs within =
+    let found = subst (λ o. Found c.args.script.now c.statements.at o) c.in-Ok-Some.field-0-is c.in-Ok-Some.ensures.found in
+    let left = one_statement c.args.script.now c.statements.at c.in-Ok-Some.found.1 c.in-Ok-Some.found.0 found in
+    is_written (drop c.statements.at c.args.script.now) c.in-Ok-Some.found.0 (statements_of (drop (c.statements.at + c.in-Ok-Some.found.1) c.args.script.now)) left
 
 pub answer-requires-clause-opened : goal.answer-requires-clause-opened
 answer-requires-clause-opened g c κs within = let same = c.statements.invariant.opened in let low = c.requires.opened in let later = c.statements.invariant.disk_later in omega arith
@@ -26,42 +33,40 @@ pub answer-requires-clause-below : goal.answer-requires-clause-below
 answer-requires-clause-below g c κs within = let same = c.statements.invariant.opened in let below = c.requires.below in omega arith
 
 pub returns-in-Ok-None-clause-run : goal.returns-in-Ok-None-clause-run
-returns-in-Ok-None-clause-run g c = λ kept is tells stands.
-    let s = c.statements.invariant.served kept is tells stands in
+returns-in-Ok-None-clause-run g c = λ kept is tells stands settled.
+    let s = c.statements.invariant.served kept is tells stands settled in
     let none = subst (λ o. Found c.args.script.now c.statements.at o) c.in-Ok-None.field-0-is c.in-Ok-None.ensures.found in
-    served_all g.D.Arm.Dir.Dir.files kept c.args.script.now c.args.store.now.opened (g.D.Disk.failed c.statements.disk) (g.D.Arm.Arm.failed c.statements.arm) c.statements.at c.statements.tally c.statements.store (g.A.Annals.told c.statements.annals)
+    served_all g.D.Arm.Dir.Dir.files kept c.args.script.now c.args.store.now.opened (g.D.Disk.failed c.statements.disk) (g.D.Arm.Arm.failed c.statements.arm) c.statements.at c.statements.tally c.statements.store (g.A.Annals.told c.statements.annals) (g.D.Disk.told c.statements.disk)
     (g.K.Sink.written c.args.sink.now) (g.K.Sink.written c.statements.sink) s (no_statement c.args.script.now c.statements.at none)
 
 pub returns-in-Err-clause-run : goal.returns-in-Err-clause-run
-returns-in-Err-clause-run g c = λ kept is tells stands.
-    let s = c.statements.invariant.served kept is tells stands in
-    served_so_far g.D.Arm.Dir.Dir.files kept c.args.script.now c.args.store.now.opened (g.D.Disk.failed c.statements.disk) (g.D.Arm.Arm.failed c.statements.arm) c.statements.at c.statements.tally c.statements.store (g.A.Annals.told c.statements.annals)
+returns-in-Err-clause-run g c = λ kept is tells stands settled.
+    let s = c.statements.invariant.served kept is tells stands settled in
+    served_so_far g.D.Arm.Dir.Dir.files kept c.args.script.now c.args.store.now.opened (g.D.Disk.failed c.statements.disk) (g.D.Arm.Arm.failed c.statements.arm) c.statements.at c.statements.tally c.statements.store (g.A.Annals.told c.statements.annals) (g.D.Disk.told c.statements.disk)
     (g.K.Sink.written c.args.sink.now) (g.K.Sink.written c.statements.sink) s
 
 pub returns-in-Err-answer-clause-run : goal.returns-in-Err-answer-clause-run
-returns-in-Err-answer-clause-run g c = λ kept is tells stands.
-    let s = c.statements.invariant.served kept is tells stands in
+returns-in-Err-answer-clause-run g c = λ kept is tells stands settled.
+    let s = c.statements.invariant.served kept is tells stands settled in
     let found = subst (λ o. Found c.args.script.now c.statements.at o) c.in-Ok-Some.field-0-is c.in-Ok-Some.ensures.found in
     let left = one_statement c.args.script.now c.statements.at c.in-Ok-Some.found.1 c.in-Ok-Some.found.0 found in
-    let written = is_written (drop c.statements.at c.args.script.now) c.in-Ok-Some.found.0 (statements_of (drop (c.statements.at + c.in-Ok-Some.found.1) c.args.script.now)) left in
-    let same = c.in-Err-answer.ensures.answers s.ran.now s.ran.told_is (c.statements.invariant.tells ∙ tells) written s.stands in
-    served_unanswered g.D.Arm.Dir.Dir.files kept c.args.script.now c.args.store.now.opened (g.D.Disk.failed c.statements.disk) (g.D.Arm.Arm.failed c.statements.arm) c.statements.at c.statements.tally c.statements.store (g.A.Annals.told c.statements.annals)
+    let same = c.in-Err-answer.ensures.answers s.ran.now s.ran.told_is (c.statements.invariant.tells ∙ tells) s.stands in
+    served_unanswered g.D.Arm.Dir.Dir.files kept c.args.script.now c.args.store.now.opened (g.D.Disk.failed c.statements.disk) (g.D.Arm.Arm.failed c.statements.arm) c.statements.at c.statements.tally c.statements.store (g.A.Annals.told c.statements.annals) (g.D.Disk.told c.statements.disk)
     (g.K.Sink.written c.args.sink.now) (g.K.Sink.written c.statements.sink) s (g.D.Disk.failed c.answer.new.disk) (g.D.Arm.Arm.failed c.answer.new.arm) c.in-Err-answer.ensures.disk_later c.in-Err-answer.ensures.arm_later (g.A.Annals.told c.answer.new.annals) same
 
 pub returns-in-Err-write_all-clause-run : goal.returns-in-Err-write_all-clause-run
-returns-in-Err-write_all-clause-run g c = λ kept is tells stands.
+returns-in-Err-write_all-clause-run g c = λ kept is tells stands settled.
     let files = g.D.Arm.Dir.Dir.files in
-    let s = c.statements.invariant.served kept is tells stands in
+    let s = c.statements.invariant.served kept is tells stands settled in
     let found = subst (λ o. Found c.args.script.now c.statements.at o) c.in-Ok-Some.field-0-is c.in-Ok-Some.ensures.found in
     let left = one_statement c.args.script.now c.statements.at c.in-Ok-Some.found.1 c.in-Ok-Some.found.0 found in
-    let written = is_written (drop c.statements.at c.args.script.now) c.in-Ok-Some.found.0 (statements_of (drop (c.statements.at + c.in-Ok-Some.found.1) c.args.script.now)) left in
     let disk = g.D.Disk.failed c.answer.new.disk in
     let arm = g.D.Arm.Arm.failed c.answer.new.arm in
-    let a = subst (λ o. Accepts files s.ran.now c.in-Ok-Some.found.0 o disk arm c.in-Ok.reply.items c.answer.new.store (g.A.Annals.told c.answer.new.annals)) c.statements.invariant.opened
-    (c.in-Ok.ensures.answers s.ran.now s.ran.told_is (c.statements.invariant.tells ∙ tells) written s.stands) in
-    served_cut files kept c.args.script.now c.args.store.now.opened (g.D.Disk.failed c.statements.disk) (g.D.Arm.Arm.failed c.statements.arm) c.statements.at c.statements.tally c.statements.store (g.A.Annals.told c.statements.annals)
+    let a = subst (λ o. Accepts files s.ran.now c.in-Ok-Some.found.0 o disk arm c.in-Ok.reply.items c.answer.new.store (g.A.Annals.told c.answer.new.annals) (g.D.Disk.told c.statements.disk) (g.D.Disk.told c.answer.new.disk)) c.statements.invariant.opened
+    (c.in-Ok.ensures.answers s.ran.now s.ran.told_is (c.statements.invariant.tells ∙ tells) s.stands) in
+    served_cut files kept c.args.script.now c.args.store.now.opened (g.D.Disk.failed c.statements.disk) (g.D.Arm.Arm.failed c.statements.arm) c.statements.at c.statements.tally c.statements.store (g.A.Annals.told c.statements.annals) (g.D.Disk.told c.statements.disk)
     (g.K.Sink.written c.args.sink.now) (g.K.Sink.written c.statements.sink) s disk arm c.in-Ok.ensures.disk_later c.in-Ok.ensures.arm_later
-    c.in-Ok-Some.found.1 c.in-Ok-Some.found.0 left c.answer.new.store (g.A.Annals.told c.answer.new.annals) c.in-Ok.reply.items (g.K.Sink.written c.write_all.new.sink) a (rw c.deref.ensures.value at c.in-Err-write_all.ensures.front)
+    c.in-Ok-Some.found.1 c.in-Ok-Some.found.0 left c.answer.new.store (g.A.Annals.told c.answer.new.annals) (g.D.Disk.told c.answer.new.disk) c.in-Ok.reply.items (g.K.Sink.written c.write_all.new.sink) a (rw c.deref.ensures.value at c.in-Err-write_all.ensures.front)
 
 pub statements-preserved : goal.statements-preserved
 statements-preserved g c = record {
@@ -69,20 +74,19 @@ statements-preserved g c = record {
   sound = c.in-Ok.ensures.store;
   opened = c.in-Ok.ensures.opened ∙ c.statements.invariant.opened;
   tells = c.in-Ok.ensures.tells ∙ c.statements.invariant.tells;
-  served = λ kept is tells stands.
+  served = λ kept is tells stands settled.
       let files = g.D.Arm.Dir.Dir.files in
-      let s = c.statements.invariant.served kept is tells stands in
+      let s = c.statements.invariant.served kept is tells stands settled in
       let found = subst (λ o. Found c.args.script.now c.statements.at o) c.in-Ok-Some.field-0-is c.in-Ok-Some.ensures.found in
       let left = one_statement c.args.script.now c.statements.at c.in-Ok-Some.found.1 c.in-Ok-Some.found.0 found in
-      let written = is_written (drop c.statements.at c.args.script.now) c.in-Ok-Some.found.0 (statements_of (drop (c.statements.at + c.in-Ok-Some.found.1) c.args.script.now)) left in
       let disk = g.D.Disk.failed c.answer.new.disk in
       let arm = g.D.Arm.Arm.failed c.answer.new.arm in
-      let a = subst (λ o. Accepts files s.ran.now c.in-Ok-Some.found.0 o disk arm c.in-Ok.reply.items c.answer.new.store (g.A.Annals.told c.answer.new.annals)) c.statements.invariant.opened
-      (c.in-Ok.ensures.answers s.ran.now s.ran.told_is (c.statements.invariant.tells ∙ tells) written s.stands) in
-      let more = served_more files kept c.args.script.now c.args.store.now.opened (g.D.Disk.failed c.statements.disk) (g.D.Arm.Arm.failed c.statements.arm) c.statements.at c.statements.tally c.statements.store (g.A.Annals.told c.statements.annals)
+      let a = subst (λ o. Accepts files s.ran.now c.in-Ok-Some.found.0 o disk arm c.in-Ok.reply.items c.answer.new.store (g.A.Annals.told c.answer.new.annals) (g.D.Disk.told c.statements.disk) (g.D.Disk.told c.answer.new.disk)) c.statements.invariant.opened
+      (c.in-Ok.ensures.answers s.ran.now s.ran.told_is (c.statements.invariant.tells ∙ tells) s.stands) in
+      let more = served_more files kept c.args.script.now c.args.store.now.opened (g.D.Disk.failed c.statements.disk) (g.D.Arm.Arm.failed c.statements.arm) c.statements.at c.statements.tally c.statements.store (g.A.Annals.told c.statements.annals) (g.D.Disk.told c.statements.disk)
       (g.K.Sink.written c.args.sink.now) (g.K.Sink.written c.statements.sink) s disk arm c.in-Ok.ensures.disk_later c.in-Ok.ensures.arm_later
-      c.in-Ok-Some.found.1 c.in-Ok-Some.found.0 left c.answer.new.store (g.A.Annals.told c.answer.new.annals) c.in-Ok.reply.items (g.K.Sink.written c.write_all.new.sink) a (rw c.deref.ensures.value at c.in-Ok-write_all.ensures.all) in
-      subst (λ t. Served files kept c.args.script.now c.args.store.now.opened disk arm (c.statements.at + c.in-Ok-Some.found.1) t c.answer.new.store (g.A.Annals.told c.answer.new.annals) (g.K.Sink.written c.args.sink.now) (g.K.Sink.written c.write_all.new.sink))
+      c.in-Ok-Some.found.1 c.in-Ok-Some.found.0 left c.answer.new.store (g.A.Annals.told c.answer.new.annals) (g.D.Disk.told c.answer.new.disk) c.in-Ok.reply.items (g.K.Sink.written c.write_all.new.sink) a (rw c.deref.ensures.value at c.in-Ok-write_all.ensures.all) in
+      subst (λ t. Served files kept c.args.script.now c.args.store.now.opened disk arm (c.statements.at + c.in-Ok-Some.found.1) t c.answer.new.store (g.A.Annals.told c.answer.new.annals) (g.D.Disk.told c.answer.new.disk) (g.K.Sink.written c.args.sink.now) (g.K.Sink.written c.write_all.new.sink))
       (sym (rw c.deref-in-statements.ensures.value at c.with-tally.ensures)) more;
   within = used_within c.args.script.now c.statements.at c.in-Ok-Some.found.1 c.statements.invariant.within (subst (λ o. Used c.args.script.now c.statements.at o) c.in-Ok-Some.field-0-is c.in-Ok-Some.ensures.used).1;
   disk_later = omega arith;
@@ -91,7 +95,7 @@ statements-preserved g c = record {
 }
 
 pub returns-clause-run : goal.returns-clause-run
-returns-clause-run g c = λ kept is tells stands.
-    let s = c.statements.invariant.served kept is tells stands in
-    served_all g.D.Arm.Dir.Dir.files kept c.args.script.now c.args.store.now.opened (g.D.Disk.failed c.statements.disk) (g.D.Arm.Arm.failed c.statements.arm) c.statements.at c.statements.tally c.statements.store (g.A.Annals.told c.statements.annals)
+returns-clause-run g c = λ kept is tells stands settled.
+    let s = c.statements.invariant.served kept is tells stands settled in
+    served_all g.D.Arm.Dir.Dir.files kept c.args.script.now c.args.store.now.opened (g.D.Disk.failed c.statements.disk) (g.D.Arm.Arm.failed c.statements.arm) c.statements.at c.statements.tally c.statements.store (g.A.Annals.told c.statements.annals) (g.D.Disk.told c.statements.disk)
     (g.K.Sink.written c.args.sink.now) (g.K.Sink.written c.statements.sink) s (nothing_left c.args.script.now c.statements.at (omega arith))

@@ -3,7 +3,8 @@ use Rattle.std.proofs.Common.{◌≡◌, ◌≤◌, ◌-◌, Some, true, length}
 use Rattle.mt_values.specs.Annals.{Told}
 use Rattle.mt_program.specs.Answers.{history}
 use Rattle.mt_program.specs.Serving.{Served}
-use Rattle.mt_program.specs.Store.{Stands, NamesFitUnlessRisen, IsSound}
+use Rattle.root_log.specs.Soundness.{IsSound, NamesFitUnlessRisen, RootStands}
+use Rattle.root_log.specs.Stores.{CoreStands}
 use Rattle.mt_program.proofs.serving.serve.Given as goal
 
 abbrev pub invariant-statements : goal.invariant-statements
@@ -18,8 +19,8 @@ invariant-statements g l =
       sound : IsSound l.store;
       opened : l.store.opened ≡ l.initial.store.opened;
       tells : g.D.Arm.Arm.tells l.arm ≡ g.D.Arm.Arm.tells l.initial.arm;
-      served : (kept : Told) → told l.initial.annals ≡ Some kept → g.D.Arm.Arm.tells l.initial.arm ≡ true → Stands files (history kept) l.initial.store
-          → Served files kept l.script l.initial.store.opened (faults l.disk) (arm_faults l.arm) l.at l.tally l.store (told l.annals) (written l.initial.sink) (written l.sink);
+      served : (kept : Told) → told l.initial.annals ≡ Some kept → g.D.Arm.Arm.tells l.initial.arm ≡ true → CoreStands files (history kept) l.initial.store → RootStands (g.D.Disk.told l.initial.disk) (history kept)
+          → Served files kept l.script l.initial.store.opened (faults l.disk) (arm_faults l.arm) l.at l.tally l.store (told l.annals) (g.D.Disk.told l.disk) (written l.initial.sink) (written l.sink);
       within : l.at ≤ length l.script;
       disk_later : faults l.initial.disk ≤ faults l.disk;
       arm_later : arm_faults l.initial.arm ≤ arm_faults l.arm;

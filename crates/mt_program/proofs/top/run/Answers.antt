@@ -6,54 +6,54 @@ use Rattle.mt_program.proofs.top.run.Goals as goal
 
 pub returns-clause-all_answered : goal.returns-clause-all_answered
 returns-clause-all_answered g c = λ kept script before starts is.
-    left_by (record { opened = g.D.Disk.failed c.args.disk; ended = g.D.Disk.failed c.run_opened-ended.new.disk }) c.run_opened-ended.result status.Done kept script before (g.A.Annals.told c.run_opened-ended.new.annals) (g.K.Sink.written c.run_opened-ended.new.sink) (sym c.number-status-2.ensures ∙ is)
-    (c.run_opened-ended.ensures.leaves kept starts.told script before starts.annals_is starts.none starts.disk_is starts.empty starts.source_is starts.sink_is)
+    left_by (g.D.Disk.told c.run_opened-ended.new.disk) (record { opened = g.D.Disk.failed c.args.disk; ended = g.D.Disk.failed c.run_opened-ended.new.disk }) c.run_opened-ended.result status.Done kept script before (g.A.Annals.told c.run_opened-ended.new.annals) (g.K.Sink.written c.run_opened-ended.new.sink) (sym c.number-status-2.ensures ∙ is)
+    (c.run_opened-ended.ensures.leaves kept starts.told script before starts.annals_is starts.disk_is starts.stands starts.source_is starts.sink_is)
 
 pub returns-clause-some_refused : goal.returns-clause-some_refused
 returns-clause-some_refused g c = λ kept script before starts is.
-    left_by (record { opened = g.D.Disk.failed c.args.disk; ended = g.D.Disk.failed c.run_opened-ended.new.disk }) c.run_opened-ended.result status.Refused kept script before (g.A.Annals.told c.run_opened-ended.new.annals) (g.K.Sink.written c.run_opened-ended.new.sink) (sym c.number-status-2.ensures ∙ is)
-    (c.run_opened-ended.ensures.leaves kept starts.told script before starts.annals_is starts.none starts.disk_is starts.empty starts.source_is starts.sink_is)
+    left_by (g.D.Disk.told c.run_opened-ended.new.disk) (record { opened = g.D.Disk.failed c.args.disk; ended = g.D.Disk.failed c.run_opened-ended.new.disk }) c.run_opened-ended.result status.Refused kept script before (g.A.Annals.told c.run_opened-ended.new.annals) (g.K.Sink.written c.run_opened-ended.new.sink) (sym c.number-status-2.ensures ∙ is)
+    (c.run_opened-ended.ensures.leaves kept starts.told script before starts.annals_is starts.disk_is starts.stands starts.source_is starts.sink_is)
 
 pub returns-clause-sink_failed : goal.returns-clause-sink_failed
 returns-clause-sink_failed g c = λ kept script before starts is.
-    left_by (record { opened = g.D.Disk.failed c.args.disk; ended = g.D.Disk.failed c.run_opened-ended.new.disk }) c.run_opened-ended.result status.WriteFault kept script before (g.A.Annals.told c.run_opened-ended.new.annals) (g.K.Sink.written c.run_opened-ended.new.sink) (sym c.number-status-2.ensures ∙ is)
-    (c.run_opened-ended.ensures.leaves kept starts.told script before starts.annals_is starts.none starts.disk_is starts.empty starts.source_is starts.sink_is)
+    left_by (g.D.Disk.told c.run_opened-ended.new.disk) (record { opened = g.D.Disk.failed c.args.disk; ended = g.D.Disk.failed c.run_opened-ended.new.disk }) c.run_opened-ended.result status.WriteFault kept script before (g.A.Annals.told c.run_opened-ended.new.annals) (g.K.Sink.written c.run_opened-ended.new.sink) (sym c.number-status-2.ensures ∙ is)
+    (c.run_opened-ended.ensures.leaves kept starts.told script before starts.annals_is starts.disk_is starts.stands starts.source_is starts.sink_is)
 
 pub returns-clause-disk_failed : goal.returns-clause-disk_failed
 returns-clause-disk_failed g c = λ kept script before starts is.
-    left_by (record { opened = g.D.Disk.failed c.args.disk; ended = g.D.Disk.failed c.run_opened-ended.new.disk }) c.run_opened-ended.result status.DiskFault kept script before (g.A.Annals.told c.run_opened-ended.new.annals) (g.K.Sink.written c.run_opened-ended.new.sink) (sym c.number-status-2.ensures ∙ is)
-    (c.run_opened-ended.ensures.leaves kept starts.told script before starts.annals_is starts.none starts.disk_is starts.empty starts.source_is starts.sink_is)
+    left_by (g.D.Disk.told c.run_opened-ended.new.disk) (record { opened = g.D.Disk.failed c.args.disk; ended = g.D.Disk.failed c.run_opened-ended.new.disk }) c.run_opened-ended.result status.DiskFault kept script before (g.A.Annals.told c.run_opened-ended.new.annals) (g.K.Sink.written c.run_opened-ended.new.sink) (sym c.number-status-2.ensures ∙ is)
+    (c.run_opened-ended.ensures.leaves kept starts.told script before starts.annals_is starts.disk_is starts.stands starts.source_is starts.sink_is)
 
 pub returns-clause-out_of_memory : goal.returns-clause-out_of_memory
 returns-clause-out_of_memory g c = λ kept script before starts is.
-    left_by (record { opened = g.D.Disk.failed c.args.disk; ended = g.D.Disk.failed c.run_opened-ended.new.disk }) c.run_opened-ended.result status.NoMemory kept script before (g.A.Annals.told c.run_opened-ended.new.annals) (g.K.Sink.written c.run_opened-ended.new.sink) (sym c.number-status-2.ensures ∙ is)
-    (c.run_opened-ended.ensures.leaves kept starts.told script before starts.annals_is starts.none starts.disk_is starts.empty starts.source_is starts.sink_is)
+    left_by (g.D.Disk.told c.run_opened-ended.new.disk) (record { opened = g.D.Disk.failed c.args.disk; ended = g.D.Disk.failed c.run_opened-ended.new.disk }) c.run_opened-ended.result status.NoMemory kept script before (g.A.Annals.told c.run_opened-ended.new.annals) (g.K.Sink.written c.run_opened-ended.new.sink) (sym c.number-status-2.ensures ∙ is)
+    (c.run_opened-ended.ensures.leaves kept starts.told script before starts.annals_is starts.disk_is starts.stands starts.source_is starts.sink_is)
 
 pub returns-clause-source_failed : goal.returns-clause-source_failed
 returns-clause-source_failed g c = λ kept script before starts is.
     let left = g.S.Source.left c.run_opened-ended.new.source in
-    leaves_as (NothingRan (record { opened = g.D.Disk.failed c.args.disk; ended = g.D.Disk.failed c.run_opened-ended.new.disk })) (ReadRun left script (record { opened = g.D.Disk.failed c.args.disk; ended = g.D.Disk.failed c.run_opened-ended.new.disk })) kept script before (g.A.Annals.told c.run_opened-ended.new.annals) (g.K.Sink.written c.run_opened-ended.new.sink)
-    (λ h out ran. nothing_read left script _ _ h _ out ran)
-    (left_by (record { opened = g.D.Disk.failed c.args.disk; ended = g.D.Disk.failed c.run_opened-ended.new.disk }) c.run_opened-ended.result status.ReadFault kept script before (g.A.Annals.told c.run_opened-ended.new.annals) (g.K.Sink.written c.run_opened-ended.new.sink) (sym c.number-status-2.ensures ∙ is)
-    (c.run_opened-ended.ensures.leaves kept starts.told script before starts.annals_is starts.none starts.disk_is starts.empty starts.source_is starts.sink_is))
+    leaves_as (NothingRan (g.D.Disk.told c.run_opened-ended.new.disk) (record { opened = g.D.Disk.failed c.args.disk; ended = g.D.Disk.failed c.run_opened-ended.new.disk })) (ReadRun left script (g.D.Disk.told c.run_opened-ended.new.disk) (record { opened = g.D.Disk.failed c.args.disk; ended = g.D.Disk.failed c.run_opened-ended.new.disk })) kept script before (g.A.Annals.told c.run_opened-ended.new.annals) (g.K.Sink.written c.run_opened-ended.new.sink)
+    (λ h out ran. nothing_read left script _ _ _ h _ out ran)
+    (left_by (g.D.Disk.told c.run_opened-ended.new.disk) (record { opened = g.D.Disk.failed c.args.disk; ended = g.D.Disk.failed c.run_opened-ended.new.disk }) c.run_opened-ended.result status.ReadFault kept script before (g.A.Annals.told c.run_opened-ended.new.annals) (g.K.Sink.written c.run_opened-ended.new.sink) (sym c.number-status-2.ensures ∙ is)
+    (c.run_opened-ended.ensures.leaves kept starts.told script before starts.annals_is starts.disk_is starts.stands starts.source_is starts.sink_is))
 
 pub returns-clause-too_long : goal.returns-clause-too_long
 returns-clause-too_long g c = λ kept script before starts is.
     let left = g.S.Source.left c.run_opened-ended.new.source in
-    leaves_as (NothingRan (record { opened = g.D.Disk.failed c.args.disk; ended = g.D.Disk.failed c.run_opened-ended.new.disk })) (ReadRun left script (record { opened = g.D.Disk.failed c.args.disk; ended = g.D.Disk.failed c.run_opened-ended.new.disk })) kept script before (g.A.Annals.told c.run_opened-ended.new.annals) (g.K.Sink.written c.run_opened-ended.new.sink)
-    (λ h out ran. nothing_read left script _ _ h _ out ran)
-    (left_by (record { opened = g.D.Disk.failed c.args.disk; ended = g.D.Disk.failed c.run_opened-ended.new.disk }) c.run_opened-ended.result status.TooLong kept script before (g.A.Annals.told c.run_opened-ended.new.annals) (g.K.Sink.written c.run_opened-ended.new.sink) (sym c.number-status-2.ensures ∙ is)
-    (c.run_opened-ended.ensures.leaves kept starts.told script before starts.annals_is starts.none starts.disk_is starts.empty starts.source_is starts.sink_is))
+    leaves_as (NothingRan (g.D.Disk.told c.run_opened-ended.new.disk) (record { opened = g.D.Disk.failed c.args.disk; ended = g.D.Disk.failed c.run_opened-ended.new.disk })) (ReadRun left script (g.D.Disk.told c.run_opened-ended.new.disk) (record { opened = g.D.Disk.failed c.args.disk; ended = g.D.Disk.failed c.run_opened-ended.new.disk })) kept script before (g.A.Annals.told c.run_opened-ended.new.annals) (g.K.Sink.written c.run_opened-ended.new.sink)
+    (λ h out ran. nothing_read left script _ _ _ h _ out ran)
+    (left_by (g.D.Disk.told c.run_opened-ended.new.disk) (record { opened = g.D.Disk.failed c.args.disk; ended = g.D.Disk.failed c.run_opened-ended.new.disk }) c.run_opened-ended.result status.TooLong kept script before (g.A.Annals.told c.run_opened-ended.new.annals) (g.K.Sink.written c.run_opened-ended.new.sink) (sym c.number-status-2.ensures ∙ is)
+    (c.run_opened-ended.ensures.leaves kept starts.told script before starts.annals_is starts.disk_is starts.stands starts.source_is starts.sink_is))
 
--- the root has a name
+-- the root is damaged
 pub returns-clause-opening : goal.returns-clause-opening
-returns-clause-opening g c = λ root first others is names.
-    let opened = c.run_opened-ended.ensures.opening root first others is names in
+returns-clause-opening g c = λ root damage is names.
+    let opened = c.run_opened-ended.ensures.opening root damage is names in
     (record { ended = c.run_opened-ended.result; number_is = c.number-status-2.ensures; writes = opened.0 }, opened.1, opened.2)
 
 pub returns-clause-sound : goal.returns-clause-sound
-returns-clause-sound g c = λ kept root told none is empty bad.
-    c.run_opened-ended.ensures.sound kept root told none is empty (same_number c.run_opened-ended.result status.Damaged (sym c.number-status-2.ensures ∙ bad))
+returns-clause-sound g c = λ kept root told is stands bad.
+    c.run_opened-ended.ensures.sound kept root told is stands (same_number c.run_opened-ended.result status.Damaged (sym c.number-status-2.ensures ∙ bad))
 
 pub returns-clause-whole : goal.returns-clause-whole
 returns-clause-whole g c = λ script left low.

@@ -1,88 +1,101 @@
-use Rattle.std.proofs.Common.{◌≡◌, ◌⊎◌, ◌≤◌, ◌<◌, ℕ, Bool, true, false, Some, Ok, Err, List, inl, inr, refl, ◌∙◌, sym, ap, subst, nat_lt, arith}
+use Rattle.std.proofs.Common.{◌≡◌, ◌⊎◌, ◌≤◌, ◌<◌, ℕ, Bool, true, false, Option, Some, Ok, Err, List, inl, inr, refl, ◌∙◌, sym, ap, subst, nat_lt, arith}
 use Rattle.std.specs.Prelude.{is_some, IfErr}
 use Rattle.std.proofs.lemmas.Bool.Decides.{nat_tests}
 use Rattle.mt_outside.specs.Causes.{Rose}
 use Rattle.mt_model.specs.Outside.{Counts}
-use Rattle.mt_program.specs.Answers.{Foresees}
+use Rattle.mt_outside.specs.Disk as root
+use Rattle.mt_program.specs.Answers.{Foresees, history}
+use Rattle.mt_program.specs.Damage.{WritesDamage, damage_line}
 use Rattle.mt_program.specs.Endings.{IsAnswered, IsEarly, MetNoDamage, status_of}
-use Rattle.mt_program.specs.Headline.{Leaves, RunBy, WritesDamage}
+use Rattle.mt_program.specs.Headline.{Leaves, RunBy}
 use Rattle.mt_program.specs.declared.status.Status.{Status}
 use Rattle.mt_program.specs.declared.status.Status.TheVariants as status
-use Rattle.mt_program.proofs.Counting.{risen_back}
-use Rattle.mt_program.proofs.Heading.{answered_calm, answered_served, disk_fault, early_leaves, ended_early, error_early, error_undamaged, leaves_all, not_damaged, not_words, read_fault, too_long, write_fault}
+use Rattle.mt_program.proofs.Counting.{risen_back, some_rose}
+use Rattle.mt_program.proofs.Heading.{answered_calm, answered_served, disk_fault, early_leaves, ended_early, error_early, error_undamaged, leaves_all, not_damaged, not_words, read_fault, root_told, too_long, write_fault}
 use Rattle.mt_program.proofs.top.run_opened.Goals as goal
 
 -- the count of faults can't rise
 pub returns-then-opened-clause-leaves : goal.returns-then-opened-clause-leaves
-returns-then-opened-clause-leaves g c = λ kept root script before told none is empty left written.
-    early_leaves (record { opened = g.D.Disk.failed c.args.disk.now; ended = g.D.Disk.failed c.args.disk.now }) kept script before (g.A.Annals.told c.args.annals.now) (g.K.Sink.written c.args.sink.now) none told written status.DiskFault tt (λ bad. cc)
+returns-then-opened-clause-leaves g c = λ kept names script before told is stands left written.
+    let n : Counts = record { opened = g.D.Disk.failed c.args.disk.now; ended = g.D.Disk.failed c.args.disk.now } in
+    let now = g.D.Disk.told c.args.disk.now in
+    early_leaves n kept script before (g.A.Annals.told c.args.annals.now) (g.K.Sink.written c.args.sink.now) now stands.legal told written (root_told now names (history kept) is stands) status.DiskFault tt (λ bad. cc)
 
--- the root was not started
+-- the disk was not started
 pub returns-in-Err-clause-leaves : goal.returns-in-Err-clause-leaves
-returns-in-Err-clause-leaves g c = λ kept root script before told none is empty left written.
+returns-in-Err-clause-leaves g c = λ kept names script before told is stands left written.
     let n : Counts = record { opened = g.D.Disk.failed c.args.disk.now; ended = g.D.Disk.failed c.start.new.self } in
-    subst (λ s. Leaves (RunBy s n) kept script before (g.A.Annals.told c.args.annals.now) (g.K.Sink.written c.args.sink.now)) (sym c.failed_opening.ensures)
-    (early_leaves n kept script before (g.A.Annals.told c.args.annals.now) (g.K.Sink.written c.args.sink.now) none told written _ (error_early c.in-Err.error) (error_undamaged c.in-Err.error))
+    let now = g.D.Disk.told c.start.new.self in
+    subst (λ s. Leaves (RunBy s now n) kept script before (g.A.Annals.told c.args.annals.now) (g.K.Sink.written c.args.sink.now)) (sym c.failed_opening.ensures)
+    (early_leaves n kept script before (g.A.Annals.told c.args.annals.now) (g.K.Sink.written c.args.sink.now) now stands.legal told written (root_told now names (history kept) (c.start.ensures.told ∙ is) stands) _
+    (error_early c.in-Err.error) (error_undamaged c.in-Err.error))
 
 -- no arm was made
 pub returns-in-Err-arm-clause-leaves : goal.returns-in-Err-arm-clause-leaves
-returns-in-Err-arm-clause-leaves g c = λ kept root script before told none is empty left written.
+returns-in-Err-arm-clause-leaves g c = λ kept names script before told is stands left written.
     let n : Counts = record { opened = g.D.Disk.failed c.args.disk.now; ended = g.D.Disk.failed c.arm.new.self } in
-    subst (λ s. Leaves (RunBy s n) kept script before (g.A.Annals.told c.args.annals.now) (g.K.Sink.written c.args.sink.now)) (sym c.failed_opening-in-Err-arm.ensures)
-    (early_leaves n kept script before (g.A.Annals.told c.args.annals.now) (g.K.Sink.written c.args.sink.now) none told written _ (error_early c.in-Err-arm.error) (error_undamaged c.in-Err-arm.error))
+    let now = g.D.Disk.told c.arm.new.self in
+    subst (λ s. Leaves (RunBy s now n) kept script before (g.A.Annals.told c.args.annals.now) (g.K.Sink.written c.args.sink.now)) (sym c.failed_opening-in-Err-arm.ensures)
+    (early_leaves n kept script before (g.A.Annals.told c.args.annals.now) (g.K.Sink.written c.args.sink.now) now stands.legal told written
+    (root_told now names (history kept) (c.in-Err-arm.ensures.told ∙ (c.start.ensures.told ∙ is)) stands) _ (error_early c.in-Err-arm.error) (error_undamaged c.in-Err-arm.error))
 
 pub returns-clause-leaves : goal.returns-clause-leaves
-returns-clause-leaves g c = λ kept root script before told none is empty left written.
+returns-clause-leaves g c = λ kept names script before told is stands left written.
     let here = c.in-Ok.ensures.told ∙ (c.start.ensures.told ∙ is) in
     let tells = c.in-Ok.ensures.tells ∙ ap is_some (c.start.ensures.told ∙ is) in
     let n : Counts = record { opened = g.D.Disk.failed c.args.disk.now; ended = g.D.Disk.failed c.take_back.new.self } in
-    let disk = g.D.Disk.failed c.run_listed-ended.new.disk in
-    let arm = g.D.Arm.Arm.failed c.run_listed-ended.new.arm in
+    let disk = g.D.Disk.failed c.run_root-ended.new.disk in
+    let arm = g.D.Arm.Arm.failed c.run_root-ended.new.arm in
     let opened = c.faults-opened.ensures in
-    let later = c.run_listed-ended.ensures.disk_later in
+    let later = c.run_root-ended.ensures.disk_later in
     let low : c.faults-opened.result ≤ disk = omega arith in
     let f : Foresees c.faults-opened.result disk arm n = record {
       opened_is = sym c.faults-opened.ensures;
       later = c.take_back.ensures.later;
       risen = λ some. risen_back (g.D.Disk.failed c.args.disk.now) disk (g.D.Disk.failed c.take_back.new.self) (omega arith) (c.take_back.ensures.taken some);
     } in
-    subst (λ s. Leaves (RunBy s n) kept script before (g.A.Annals.told c.run_listed-ended.new.annals) (g.K.Sink.written c.run_listed-ended.new.sink)) (sym c.status_at_end.ensures)
-    (leaves_all n kept script before c.faults-opened.result disk arm f (g.A.Annals.told c.run_listed-ended.new.annals) (g.K.Sink.written c.args.sink.now) (g.K.Sink.written c.run_listed-ended.new.sink) written
-    (nat_lt c.faults-opened.result c.faults.result) c.run_listed-ended.result none (c.run_listed-ended.ensures.sound kept root told none here empty tells) c.run_listed-ended.ensures.early
-    (c.run_listed-ended.ensures.leaves kept root script told none here empty tells left))
+    let was = g.D.Disk.told c.arm.new.self in
+    let ran = g.D.Disk.told c.run_root-ended.new.disk in
+    let told_now = g.A.Annals.told c.run_root-ended.new.annals in
+    let out = g.K.Sink.written c.run_root-ended.new.sink in
+    subst (λ (o : Option root.Told). Leaves (RunBy c.status_at_end.result o n) kept script before told_now out) (sym c.take_back.ensures.told)
+    (subst (λ s. Leaves (RunBy s ran n) kept script before told_now out) (sym c.status_at_end.ensures)
+    (leaves_all n kept script before c.faults-opened.result disk arm f told_now was ran (g.K.Sink.written c.args.sink.now) out written
+    (nat_lt c.faults-opened.result c.faults.result) c.run_root-ended.result stands.legal (root_told was names (history kept) here stands) (c.run_root-ended.ensures.sound kept names told here stands tells) c.run_root-ended.ensures.early
+    (c.run_root-ended.ensures.leaves kept names script told here stands tells left)))
 
 pub returns-clause-opening : goal.returns-clause-opening
-returns-clause-opening g c = λ root first others is names.
+returns-clause-opening g c = λ names damage is damaged.
     let here = c.in-Ok.ensures.told ∙ (c.start.ensures.told ∙ is) in
-    let opened = c.run_listed-ended.ensures.opening root first others here names in
-    let P = λ (s : Status). WritesDamage s first.0 (g.K.Sink.failed c.args.sink.now) (g.K.Sink.failed c.run_listed-ended.new.sink) (g.K.Sink.written c.args.sink.now) (g.K.Sink.written c.run_listed-ended.new.sink) in (
-      subst P (sym c.status_at_end.ensures) (ended_early P (nat_lt c.faults-opened.result c.faults.result) c.run_listed-ended.result opened.0),
+    let opened = c.run_root-ended.ensures.opening names damage here damaged in
+    let P = λ (s : Status). WritesDamage s (damage_line damage) (g.K.Sink.failed c.args.sink.now) (g.K.Sink.failed c.run_root-ended.new.sink) (g.K.Sink.written c.args.sink.now) (g.K.Sink.written c.run_root-ended.new.sink) in (
+      subst P (sym c.status_at_end.ensures) (ended_early P (nat_lt c.faults-opened.result c.faults.result) c.run_root-ended.result opened.0),
       c.take_back.ensures.told ∙ (opened.1 ∙ (c.in-Ok.ensures.told ∙ c.start.ensures.told)),
       opened.2,
     )
 
 pub returns-clause-sound : goal.returns-clause-sound
-returns-clause-sound g c = λ kept root told none is empty bad.
+returns-clause-sound g c = λ kept names told is stands bad.
     let here = c.in-Ok.ensures.told ∙ (c.start.ensures.told ∙ is) in
     let tells = c.in-Ok.ensures.tells ∙ ap is_some (c.start.ensures.told ∙ is) in
-    not_damaged (nat_lt c.faults-opened.result c.faults.result) c.run_listed-ended.result (c.run_listed-ended.ensures.sound kept root told none here empty tells) (sym c.status_at_end.ensures ∙ bad)
+    not_damaged (nat_lt c.faults-opened.result c.faults.result) c.run_root-ended.result (c.run_root-ended.ensures.sound kept names told here stands tells) (sym c.status_at_end.ensures ∙ bad)
 
 pub returns-clause-whole : goal.returns-clause-whole
 returns-clause-whole g c = λ script left done.
-    answered_served _ (nat_lt c.faults-opened.result c.faults.result) c.run_listed-ended.result (c.run_listed-ended.ensures.whole script left) c.run_listed-ended.ensures.early (subst IsAnswered c.status_at_end.ensures done)
+    answered_served _ (nat_lt c.faults-opened.result c.faults.result) c.run_root-ended.result (c.run_root-ended.ensures.whole script left) c.run_root-ended.ensures.early (subst IsAnswered c.status_at_end.ensures done)
 
 pub returns-clause-words : goal.returns-clause-words
-returns-clause-words g c = λ bad. not_words (nat_lt c.faults-opened.result c.faults.result) c.run_listed-ended.result c.run_listed-ended.ensures.early (sym c.status_at_end.ensures ∙ bad)
+returns-clause-words g c = λ bad. not_words (nat_lt c.faults-opened.result c.faults.result) c.run_root-ended.result c.run_root-ended.ensures.early (sym c.status_at_end.ensures ∙ bad)
 
 pub returns-clause-read : goal.returns-clause-read
-returns-clause-read g c = λ e. c.run_listed-ended.ensures.read (read_fault (nat_lt c.faults-opened.result c.faults.result) c.run_listed-ended.result (sym c.status_at_end.ensures ∙ e))
+returns-clause-read g c = λ e. c.run_root-ended.ensures.read (read_fault (nat_lt c.faults-opened.result c.faults.result) c.run_root-ended.result (sym c.status_at_end.ensures ∙ e))
 
 pub returns-clause-write : goal.returns-clause-write
 returns-clause-write g c = λ e.
-    c.run_listed-ended.ensures.write (write_fault (nat_lt c.faults-opened.result c.faults.result) c.run_listed-ended.result c.run_listed-ended.ensures.early (sym c.status_at_end.ensures ∙ e))
+    c.run_root-ended.ensures.write (write_fault (nat_lt c.faults-opened.result c.faults.result) c.run_root-ended.result c.run_root-ended.ensures.early (sym c.status_at_end.ensures ∙ e))
 
 pub returns-clause-long : goal.returns-clause-long
-returns-clause-long g c = λ e. c.run_listed-ended.ensures.long (too_long (nat_lt c.faults-opened.result c.faults.result) c.run_listed-ended.result (sym c.status_at_end.ensures ∙ e))
+returns-clause-long g c = λ e. c.run_root-ended.ensures.long (too_long (nat_lt c.faults-opened.result c.faults.result) c.run_root-ended.result (sym c.status_at_end.ensures ∙ e))
 
 -- the count rose before the end, or when the names were listed
 risen_at_end : (opened first listed last now : ℕ) → opened ≡ first → first ≤ listed → last ≡ now → nat_lt opened last ≡ true → Rose first now
@@ -92,14 +105,23 @@ risen_at_list : (first second third now : ℕ) → first ≤ second → Rose sec
 risen_at_list first second third now low rose later = omega arith
 
 pub returns-clause-disk : goal.returns-clause-disk
-returns-clause-disk g c = λ e. by (disk_fault (nat_lt c.faults-opened.result c.faults.result) c.run_listed-ended.result (sym c.status_at_end.ensures ∙ e))
+returns-clause-disk g c = λ e. by (disk_fault (nat_lt c.faults-opened.result c.faults.result) c.run_root-ended.result (sym c.status_at_end.ensures ∙ e))
   where
     first : g.D.Disk.failed c.args.disk.now ≤ g.D.Disk.failed c.arm.new.self
     first = let start = c.start.ensures.cause.later in let arm = c.in-Ok.ensures.cause.later in omega arith
 
-    by : (nat_lt c.faults-opened.result c.faults.result ≡ true) ⊎ (c.run_listed-ended.result ≡ Err status.DiskFault) → Rose (g.D.Disk.failed c.args.disk.now) (g.D.Disk.failed c.take_back.new.self)
+    by : (nat_lt c.faults-opened.result c.faults.result ≡ true) ⊎ (c.run_root-ended.result ≡ Err status.DiskFault) → Rose (g.D.Disk.failed c.args.disk.now) (g.D.Disk.failed c.take_back.new.self)
     by (inl risen) = risen_at_end c.faults-opened.result (g.D.Disk.failed c.args.disk.now) (g.D.Disk.failed c.args.disk.now) c.faults.result (g.D.Disk.failed c.take_back.new.self) c.faults-opened.ensures (omega arith) c.faults.ensures risen
-    by (inr failed) = risen_at_list (g.D.Disk.failed c.args.disk.now) (g.D.Disk.failed c.arm.new.self) (g.D.Disk.failed c.run_listed-ended.new.disk) (g.D.Disk.failed c.take_back.new.self) first (c.run_listed-ended.ensures.disk failed) c.take_back.ensures.later
+    by (inr failed) = in_root (c.run_root-ended.ensures.disk failed)
+      where
+        in_root : Rose (g.D.Disk.failed c.arm.new.self) (g.D.Disk.failed c.run_root-ended.new.disk) ⊎ Rose (g.D.Arm.Arm.failed c.in-Ok.arm) (g.D.Arm.Arm.failed c.run_root-ended.new.arm) → Rose (g.D.Disk.failed c.args.disk.now) (g.D.Disk.failed c.take_back.new.self)
+        in_root (inl rose) = risen_at_list (g.D.Disk.failed c.args.disk.now) (g.D.Disk.failed c.arm.new.self) (g.D.Disk.failed c.run_root-ended.new.disk) (g.D.Disk.failed c.take_back.new.self) first rose c.take_back.ensures.later
+        in_root (inr rose) =
+            let some : 0 < g.D.Arm.Arm.failed c.run_root-ended.new.arm = some_rose (g.D.Arm.Arm.failed c.in-Ok.arm) (g.D.Arm.Arm.failed c.run_root-ended.new.arm) rose in
+            let back = c.take_back.ensures.taken some in
+            let later = c.run_root-ended.ensures.disk_later in
+            let low = first in
+            omega arith
 
 -- a count that has not risen is the same
 same_count : (opened first last now : ℕ) → opened ≡ first → last ≡ now → first ≤ now → nat_lt opened last ≡ false → now ≡ first
@@ -107,9 +129,9 @@ same_count opened first last now at is low calm = let le : last ≤ opened = gri
 
 pub returns-clause-calm : goal.returns-clause-calm
 returns-clause-calm g c = λ done.
-    let calm = answered_calm (nat_lt c.faults-opened.result c.faults.result) c.run_listed-ended.result c.run_listed-ended.ensures.early (subst IsAnswered c.status_at_end.ensures done) in
+    let calm = answered_calm (nat_lt c.faults-opened.result c.faults.result) c.run_root-ended.result c.run_root-ended.ensures.early (subst IsAnswered c.status_at_end.ensures done) in
     let start = c.start.ensures.cause.later in
     let arm = c.in-Ok.ensures.cause.later in
-    let listed = c.run_listed-ended.ensures.disk_later in
+    let listed = c.run_root-ended.ensures.disk_later in
     let back = c.take_back.ensures.later in
     same_count c.faults-opened.result (g.D.Disk.failed c.args.disk.now) c.faults.result (g.D.Disk.failed c.take_back.new.self) c.faults-opened.ensures c.faults.ensures (omega arith) calm

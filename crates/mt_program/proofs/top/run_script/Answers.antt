@@ -2,7 +2,7 @@ use Rattle.std.proofs.Common.{◌∙◌, ◌<◌, ◌^◌, sym, ap, subst, List,
 use Rattle.mt_program.specs.Endings.{IsEarly}
 use Rattle.mt_program.specs.Serving.{ServedBy}
 use Rattle.mt_program.specs.declared.status.Status.TheVariants as status
-use Rattle.mt_program.proofs.Heading.{all_read, empty_stands, nothing_left, sound_served, stop_early, stop_undamaged}
+use Rattle.mt_program.proofs.Heading.{all_read, nothing_left, sound_served, stop_early, stop_undamaged}
 use Rattle.mt_program.proofs.top.run_script.Goals as goal
 
 -- the script was not read
@@ -10,27 +10,25 @@ pub returns-in-Err-clause-early : goal.returns-in-Err-clause-early
 returns-in-Err-clause-early g c = subst IsEarly (sym c.failed_reading.ensures) (stop_early c.in-Err.stop)
 
 pub returns-in-Err-clause-sound : goal.returns-in-Err-clause-sound
-returns-in-Err-clause-sound g c = λ kept told none tells bad. stop_undamaged c.in-Err.stop (sym c.failed_reading.ensures ∙ bad)
+returns-in-Err-clause-sound g c = λ kept told tells stands settled bad. stop_undamaged c.in-Err.stop (sym c.failed_reading.ensures ∙ bad)
 
 -- it was served
 pub returns-clause-leaves : goal.returns-clause-leaves
-returns-clause-leaves g c = λ kept script told none tells left.
-    let stands = empty_stands g.D.Arm.Dir.Dir.files kept c.new-store.result none c.new-store.ensures.tables c.new-store.ensures.length in
+returns-clause-leaves g c = λ kept script told tells left stands settled.
     let text = all_read script c.in-Ok.text.items (g.S.Source.left c.args.source.now) (g.S.Source.left c.read_all.new.source) left c.in-Ok.ensures.all.0 c.in-Ok.ensures.all.1 in
-    let served = c.serve-ending.ensures.run kept told tells stands in
+    let served = c.serve-ending.ensures.run kept told tells stands settled in
     let disk = g.D.Disk.failed c.serve-ending.new.disk in
     let arm = g.D.Arm.Arm.failed c.serve-ending.new.arm in
     let now = g.A.Annals.told c.serve-ending.new.annals in
+    let root = g.D.Disk.told c.serve-ending.new.disk in
     let before = g.K.Sink.written c.args.sink.now in
     let after = g.K.Sink.written c.serve-ending.new.sink in
-    subst (λ (o : ℕ). ServedBy c.serve-ending.result kept script o disk arm now before after) c.new-store.ensures.opened
-    (subst (λ (ys : List ℕ). ServedBy c.serve-ending.result kept ys c.new-store.result.opened disk arm now before after) (c.deref.ensures.value ∙ text) served)
+    subst (λ (ys : List ℕ). ServedBy c.serve-ending.result kept ys c.args.store.now.opened disk arm now root before after) (c.deref.ensures.value ∙ text) served
 
 pub returns-clause-sound : goal.returns-clause-sound
-returns-clause-sound g c = λ kept told none tells.
-    sound_served kept c.deref.result.now c.new-store.result.opened (g.D.Disk.failed c.serve-ending.new.disk) (g.D.Arm.Arm.failed c.serve-ending.new.arm) (g.A.Annals.told c.serve-ending.new.annals) (g.K.Sink.written c.args.sink.now)
-    (g.K.Sink.written c.serve-ending.new.sink) c.serve-ending.result
-    (c.serve-ending.ensures.run kept told tells (empty_stands g.D.Arm.Dir.Dir.files kept c.new-store.result none c.new-store.ensures.tables c.new-store.ensures.length))
+returns-clause-sound g c = λ kept told tells stands settled.
+    sound_served kept c.deref.result.now c.args.store.now.opened (g.D.Disk.failed c.serve-ending.new.disk) (g.D.Arm.Arm.failed c.serve-ending.new.arm) (g.A.Annals.told c.serve-ending.new.annals) (g.D.Disk.told c.serve-ending.new.disk)
+    (g.K.Sink.written c.args.sink.now) (g.K.Sink.written c.serve-ending.new.sink) c.serve-ending.result (c.serve-ending.ensures.run kept told tells stands settled)
 
 pub returns-clause-whole : goal.returns-clause-whole
 returns-clause-whole g c = λ script left.

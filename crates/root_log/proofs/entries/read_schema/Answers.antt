@@ -1,3 +1,4 @@
+use Rattle.root_log.proofs.Created.{created_told}
 use Rattle.root_log.proofs.EntryScripts.{told_entry, told_only}
 use Rattle.root_log.proofs.entries.read_schema.Goals as goal
 
@@ -9,3 +10,6 @@ returns-in-Ok-clause-only c = λ schema is. told_only c.schema_of_text.result c.
 
 pub returns-in-Err-clause-only : goal.returns-in-Err-clause-only
 returns-in-Err-clause-only c = λ schema is. absurd (c.in-Err.ensures.spelled is.text (record { few = is.few; spelled = is.bytes }))
+
+pub returns-in-Ok-clause-sound : goal.returns-in-Ok-clause-sound
+returns-in-Ok-clause-sound c = created_told c.schema_of_text.result c.args.table.now c.in-Ok.text.now c.schema_of_text.ensures

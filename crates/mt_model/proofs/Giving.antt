@@ -1,0 +1,120 @@
+-- The statements that the grammar's readers give.
+use Rattle.std.proofs.Common.{ℕ, ◌+◌, ◌<◌, Bool, true, false, List, [], ◌∷◌, ◌++◌, IfOk, Result, Ok, Err, length, All, arith, zero, suc, length-append, codes}
+use Rattle.std.proofs.lemmas.List.Elements.{All-head, All-tail}
+use Rattle.mt_values.specs.declared.statement.InsertText.{InsertText}
+use Rattle.mt_values.specs.declared.statement.SelectText.{SelectText}
+use Rattle.mt_values.specs.declared.statement.Selected.{Selected}
+use Rattle.mt_values.specs.declared.statement.Selected.TheVariants as selected
+use Rattle.mt_values.specs.declared.statement.Slip.{Slip}
+use Rattle.mt_values.specs.declared.statement.Statement.{Statement}
+use Rattle.mt_values.specs.declared.statement.Statement.TheVariants as statement
+use Rattle.mt_values.specs.declared.token.Placed.{Placed}
+use Rattle.mt_values.specs.declared.token.Symbol.TheVariants as symbol
+use Rattle.mt_values.specs.declared.token.Token.{Token}
+use Rattle.mt_values.specs.Tokens.{is_keyword}
+use Rattle.mt_values.specs.Readers.{Reader, Reading, Test, Part, done, taken, expect, either, choose, listed_within}
+use Rattle.mt_values.specs.Grammar as grammar
+
+any_ok : {X : Type 0} (r : Result X Slip) → IfOk r (λ _. Unit {0})
+any_ok (Ok x) = tt
+any_ok (Err s) = tt
+
+-- the statements that readers give, of tokens of which this is known
+module _ (T : Token → Type 0) (Good : Statement → Type 0) where
+  -- a reader gives such statements alone
+  abbrev pub Gives : Reading Statement → Type 0
+  Gives (Ok s) = Good s
+  Gives (Err fault) = Unit {0}
+
+  abbrev pub GivesAll : Reader Statement → Type 0
+  GivesAll reader = (ts : List Placed) → All (λ p. T p.token) ts → Gives (reader ts)
+
+  taken_gives : {X : Type 0} (Says : X → Type 0) (r : Result X Slip) (next : X → Reader Statement) → IfOk r Says → ((x : X) → Says x → GivesAll (next x)) → (p : Placed) (ps : List Placed) → All (λ p. T p.token) ps → Gives (taken r next p ps)
+  taken_gives Says (Ok x) next says each p ps known = each x says ps known
+  taken_gives Says (Err s) next says each p ps known = tt
+
+  pub expect_says : {X : Type 0} (test : Test X) (next : X → Reader Statement) (Says : X → Type 0) → ((t : Token) → T t → IfOk (test t) Says) → ((x : X) → Says x → GivesAll (next x)) → GivesAll (expect test next)
+  expect_says test next Says says each [] known = tt
+  expect_says test next Says says each (p ∷ ps) known =
+      taken_gives Says (test p.token) next (says p.token (All-head (λ q. T q.token) p ps known)) each p ps (All-tail (λ q. T q.token) p ps known)
+
+  pub expect_gives : {X : Type 0} (test : Test X) (next : X → Reader Statement) → ((x : X) → GivesAll (next x)) → GivesAll (expect test next)
+  expect_gives test next each = expect_says test next (λ _. Unit {0}) (λ t _. any_ok (test t)) (λ x _. each x)
+
+  either_gives : (b : Bool) (this other : Reader Statement) → GivesAll this → GivesAll other → GivesAll (either b this other)
+  either_gives true this other h k = h
+  either_gives false this other h k = k
+
+  pub choose_gives : (test : Token → Bool) (this other : Reader Statement) → GivesAll this → GivesAll other → GivesAll (choose test this other)
+  choose_gives test this other h k [] known = k [] known
+  choose_gives test this other h k (p ∷ ps) known = either_gives (test p.token) this other h k (p ∷ ps) known
+
+  done_gives : (s : Statement) → Good s → GivesAll (done s)
+  done_gives s h [] known = h
+  done_gives s h (p ∷ ps) known = tt
+
+  -- the semicolon may say something too
+  pub ends_says : (s : Statement) → ((t : Token) → T t → IfOk (grammar.the symbol.Semicolon t) (λ _. Good s)) → GivesAll (grammar.ends s)
+  ends_says s says = expect_says _ (λ _. done s) (λ _. Good s) says (λ _ h. done_gives s h)
+
+  ends_gives : (s : Statement) → Good s → GivesAll (grammar.ends s)
+  ends_gives s h = expect_gives _ (λ _. done s) (λ _. done_gives s h)
+
+  -- a part after which each reader gives such statements gives them too
+  abbrev Passes : {X : Type 0} → Part Statement X → Type 0
+  Passes {X} part = (next : X → Reader Statement) → ((x : X) → GivesAll (next x)) → GivesAll (part next)
+
+  longer : {X : Type 0} (xs : List X) (x : X) → 0 < length (xs ++ x ∷ [])
+  longer xs x = omega (arith, length-append xs (x ∷ []))
+
+  -- a list of parts is not empty
+  within_gives : {X Y : Type 0} (n : ℕ) (more : Token → Bool) (between : Test Y) (item : Part Statement X) (front : List X) (next : List X → Reader Statement)
+      → Passes item → ((xs : List X) → 0 < length xs → GivesAll (next xs)) → GivesAll (listed_within n more between item front next)
+  within_gives zero more between item front next passes each ts known = tt
+  within_gives (suc n) more between item front next passes each ts known =
+      passes (λ x. choose more (expect between (λ y. listed_within n more between item (front ++ x ∷ []) next)) (next (front ++ x ∷ [])))
+      (λ x.
+      choose_gives more (expect between (λ y. listed_within n more between item (front ++ x ∷ []) next)) (next (front ++ x ∷ []))
+      (expect_gives between (λ y. listed_within n more between item (front ++ x ∷ []) next) (λ y. within_gives n more between item (front ++ x ∷ []) next passes each)) (each (front ++ x ∷ []) (longer front x)))
+      ts known
+
+  pub list_gives : {X : Type 0} (item : Part Statement X) (next : List X → Reader Statement) → Passes item → ((xs : List X) → 0 < length xs → GivesAll (next xs)) → GivesAll (grammar.list_of item next)
+  list_gives item next passes each ts known = within_gives (length ts + 1) _ _ item [] next passes each ts known
+
+  name_passes : Passes grammar.one_name
+  name_passes next each = expect_gives grammar.name next each
+
+  pub column_passes : Passes grammar.column
+  column_passes next each = expect_gives grammar.name _ (λ n. expect_gives grammar.plain _ (λ t. each _))
+
+  pub engine_gives : (next : Reader Statement) → GivesAll next → GivesAll (grammar.engine next)
+  engine_gives next each =
+      expect_gives (grammar.exactly (codes "MergeTree")) _ (λ _.
+      choose_gives (grammar.is_symbol symbol.Open) _ next
+      (expect_gives (grammar.the symbol.Open) _ (λ _. expect_gives (grammar.the symbol.Close) (λ _. next) (λ _. each))) each)
+
+  pub key_gives : (next : List (List ℕ) → Reader Statement) → ((names : List (List ℕ)) → 0 < length names → GivesAll (next names)) → GivesAll (grammar.key next)
+  key_gives next each =
+      choose_gives (grammar.is_symbol symbol.Open) _ _
+      (expect_gives (grammar.the symbol.Open) _ (λ _.
+      list_gives grammar.one_name (λ names. expect (grammar.the symbol.Close) (λ _. next names)) name_passes
+      (λ names some. expect_gives (grammar.the symbol.Close) (λ _. next names) (λ _. each names some))))
+      (expect_gives grammar.name (λ n. next (n ∷ [])) (λ n. each (n ∷ []) (omega arith)))
+
+  pub insert_gives : (lines : List ℕ) (ended : Bool) → ((i : InsertText) → Good (statement.Insert i)) → GivesAll (grammar.insert lines ended)
+  insert_gives lines ended good =
+      expect_gives _ _ (λ _. expect_gives _ _ (λ _. expect_gives grammar.name _ (λ table.
+      choose_gives (grammar.is_word (is_keyword (codes "FORMAT"))) _ _
+      (expect_gives (grammar.keyword (codes "FORMAT")) _ (λ _. expect_gives grammar.format _ (λ _. ends_gives (statement.Insert (record { table = table; lines = lines; ended = ended })) (good _))))
+      (ends_gives (statement.Insert (record { table = table; lines = lines; ended = ended })) (good _)))))
+
+  from_gives : (columns : Selected) → ((s : SelectText) → Good (statement.Select s))
+      → GivesAll (expect (grammar.keyword (codes "FROM")) (λ _. expect grammar.name (λ table. grammar.ends (statement.Select (record { columns = columns; table = table })))))
+  from_gives columns good = expect_gives _ _ (λ _. expect_gives grammar.name _ (λ table. ends_gives (statement.Select (record { columns = columns; table = table })) (good _)))
+
+  pub select_gives : ((s : SelectText) → Good (statement.Select s)) → GivesAll grammar.select
+  select_gives good =
+      expect_gives (grammar.keyword (codes "SELECT")) _ (λ _.
+      choose_gives (grammar.is_symbol symbol.Star) _ _
+      (expect_gives (grammar.the symbol.Star) _ (λ _. from_gives selected.All good))
+      (list_gives grammar.one_name _ name_passes (λ names some. from_gives (selected.Named names) good)))

@@ -1,0 +1,45 @@
+use Rattle.std.proofs.Common.{◌≡◌, List, ℕ, Option, Some, Ok, Err, sym, ap, ◌∙◌, subst, refl}
+use Rattle.mt_program.specs.Answers.{history}
+use Rattle.mt_program.specs.Endings.{LeftBy}
+use Rattle.mt_program.proofs.Heading.{root_told, writes_damage, writes_nothing}
+use Rattle.mt_program.proofs.Reopened.{names_reopened, sound_reopened, stands_reopened}
+use Rattle.mt_program.proofs.top.run_root.Goals as goal
+
+-- the root was not opened
+pub returns-in-Err-clause-leaves : goal.returns-in-Err-clause-leaves
+returns-in-Err-clause-leaves g c = λ kept names script told is stands tells left. (
+  told,
+  writes_nothing c.in-Err.fault c.failed_root.result (g.K.Sink.failed c.args.sink.now) (g.K.Sink.failed c.failed_root.new.sink) (g.K.Sink.written c.args.sink.now) (g.K.Sink.written c.failed_root.new.sink)
+      (c.in-Err.ensures.stands names (history kept) is stands) c.failed_root.ensures.writes,
+  c.in-Err.ensures.told,
+)
+
+pub returns-in-Err-clause-opening : goal.returns-in-Err-clause-opening
+returns-in-Err-clause-opening g c = λ names damage is damaged. (
+  writes_damage _ damage c.in-Err.fault c.failed_root.result (g.K.Sink.failed c.args.sink.now) (g.K.Sink.failed c.failed_root.new.sink) (g.K.Sink.written c.args.sink.now) (g.K.Sink.written c.failed_root.new.sink)
+      damaged (c.in-Err.ensures.damaged names is) c.failed_root.ensures.writes,
+  c.in-Err.ensures.told,
+  refl,
+)
+
+pub returns-in-Err-clause-sound : goal.returns-in-Err-clause-sound
+returns-in-Err-clause-sound g c = λ kept names told is stands tells. c.failed_root.ensures.damaged (c.in-Err.ensures.stands names (history kept) is stands)
+
+pub run_script-requires-clause-store : goal.run_script-requires-clause-store
+run_script-requires-clause-store g c κs within = sound_reopened c.in-Ok.store c.args.opened c.in-Ok.ensures.sound
+
+-- the script was served
+pub returns-clause-leaves : goal.returns-clause-leaves
+returns-clause-leaves g c = λ kept names script told is stands tells left.
+    let files = g.D.Arm.Dir.Dir.files in
+    let root_stands = root_told (g.D.Disk.told c.open.new.disk) names (history kept) (c.in-Ok.ensures.told ∙ is) stands in
+    let core = stands_reopened c.in-Ok.store c.args.opened files (history kept) (c.in-Ok.ensures.stands names (history kept) is stands) in
+    subst (λ was. LeftBy c.run_script.result kept script c.args.opened (g.D.Disk.failed c.run_script.new.disk) (g.D.Arm.Arm.failed c.run_script.new.arm) (g.A.Annals.told c.run_script.new.annals) was (g.D.Disk.told c.run_script.new.disk)
+    (g.K.Sink.written c.args.sink.now) (g.K.Sink.written c.run_script.new.sink)) c.in-Ok.ensures.told (c.run_script.ensures.leaves kept script told (c.in-Ok.ensures.tells ∙ tells) left core root_stands)
+
+pub returns-clause-sound : goal.returns-clause-sound
+returns-clause-sound g c = λ kept names told is stands tells.
+    let files = g.D.Arm.Dir.Dir.files in
+    let root_stands = root_told (g.D.Disk.told c.open.new.disk) names (history kept) (c.in-Ok.ensures.told ∙ is) stands in
+    let core = stands_reopened c.in-Ok.store c.args.opened files (history kept) (c.in-Ok.ensures.stands names (history kept) is stands) in
+    c.run_script.ensures.sound kept told (c.in-Ok.ensures.tells ∙ tells) core root_stands

@@ -1,0 +1,163 @@
+-- The store with one table more.
+use Rattle.std.proofs.Common.{◌≡◌, ℕ, ◌+◌, ◌-◌, ◌<◌, Bool, true, false, cond, List, [], ◌∷◌, ◌++◌, Option, Some, None, length, filter, slice_get, refl, sym, ap, ◌∙◌, subst, append-nil, append_assoc, length-append, arith, inl, inr, ◌⊎◌}
+use Rattle.std.specs.List.{AllZip}
+use Rattle.std.specs.Option.{option_map}
+use Rattle.std.proofs.lemmas.List.Elements.{All-nil, filter-append}
+use Rattle.mt_base.specs.declared.partition.Partition.{Partition}
+use Rattle.mt_values.specs.declared.command.Command.{Command}
+use Rattle.mt_values.specs.declared.command.Command.TheVariants as command
+use Rattle.mt_values.specs.declared.command.Create.{Create}
+use Rattle.mt_values.specs.declared.command.Entry.{Entry}
+use Rattle.mt_values.specs.declared.schema.Schema.{Schema}
+use Rattle.mt_values.specs.Grammar.{same_bytes}
+use Rattle.mt_values.specs.Values.{Row}
+use Rattle.mt_outside.specs.Files.{Files}
+use Rattle.mt_model.specs.History.{History, IsAllowed, IsLegal, IsLegalAfter, IsTableSchema, creates, first_of, is_create, schema_of}
+use Rattle.mt_model.proofs.Histories.{legal_push}
+use Rattle.mt_model.proofs.Lists.{get_past}
+use Rattle.mt_model.proofs.Tables.{itself_same, same_is}
+use Rattle.part_reader.specs.declared.reading.Part.{Part}
+use Rattle.part_reader.specs.Parts.{PartHolds}
+use Rattle.part_set.specs.declared.kept.Kept.{Kept}
+use Rattle.part_set.specs.declared.set.PartSet.{PartSet}
+use Rattle.part_set.specs.Sets.{parts_of}
+use Rattle.table_core.specs.declared.part.CorePart.{CorePart}
+use Rattle.table_core.specs.Numbers.{IsInsertOf, draws, numbered}
+use Rattle.table_core.specs.Parts.{AreInBlockOrder, PartStands, TableStands}
+use Rattle.table_core.specs.Steps.{entered}
+use Rattle.table_core.proofs.Growing.{numbered_more, schema_kept, schema_more, table_kept}
+use Rattle.root_log.specs.declared.store.CoreStore.{CoreStore}
+use Rattle.root_log.specs.declared.store.Table.{Table}
+use Rattle.root_log.specs.Commits.{EntersTable, fresh_table}
+use Rattle.root_log.specs.Stores.{CoreStands, PartsAreThere, core_parts, table_at}
+use Rattle.root_log.proofs.Updated.{it_or, one_some}
+
+pub first_none : (o : Option Schema) → first_of o None ≡ o
+first_none None = refl
+first_none (Some schema) = refl
+
+none_after : (t : List ℕ) (before h : History) → IsLegalAfter before h → schema_of t (before ++ h) ≡ None → numbered t h ≡ []
+none_after t before [] legal none = refl
+none_after t before (e ∷ h) legal none = by e.command legal.0 (none_after t (before ++ e ∷ []) h legal.1 (ap (schema_of t) (append_assoc before (e ∷ []) h) ∙ none))
+  where
+    by : (c : Command) → IsAllowed before c → numbered t h ≡ [] → cond (draws t c) (c ∷ numbered t h) (numbered t h) ≡ []
+    by (command.Create c) allowed rest = rest
+    by (command.Insert i) allowed rest = named (same_bytes i.table t) refl
+      where
+        named : (b : Bool) → same_bytes i.table t ≡ b → cond b (command.Insert i ∷ numbered t h) (numbered t h) ≡ []
+        named true same =
+            let here : schema_of t before ≡ Some allowed.0 = ap (λ u. schema_of u before) (sym (same_is i.table t same)) ∙ allowed.1 in
+            let found : None ≡ Some allowed.0 = sym none ∙ schema_kept t before (e ∷ h) allowed.0 here in
+            cc
+        named false apart = rest
+
+-- where there is no table no command drew a number of it
+pub none_numbered : (t : List ℕ) (h : History) → IsLegal h → schema_of t h ≡ None → numbered t h ≡ []
+none_numbered t h legal none = none_after t [] h legal none
+
+nothing_in_order : AreInBlockOrder []
+nothing_in_order = λ k d low lt. absurd (omega (arith, lt))
+
+module _ {F : Type 0} (files_of : F → Option Files) (h : History) (old new : CoreStore F) (session : ℕ) (c : Create) (s : CoreStands files_of h old)
+    (a : EntersTable c.table c.schema old new) where
+  abbrev e : Entry
+  e = record { session = session; command = command.Create c }
+
+  abbrev schema_at : Option Table → Option Schema
+  schema_at found = option_map (λ (x : Table). x.schema) found
+
+  absent : schema_of c.table h ≡ None
+  absent = sym (s.tables c.table) ∙ ap schema_at a.absent
+
+  -- a name is that of the new table, or the store has there what it had
+  abbrev IsNewOr : List ℕ → Type 0
+  IsNewOr t = (c.table ≡ t) ⊎ ((same_bytes c.table t ≡ false) × (table_at new t ≡ table_at old t))
+
+  here : (t : List ℕ) → IsNewOr t
+  here = it_or old new c.table (Some (fresh_table c.schema)) a.updates
+
+  schema_apart : (t : List ℕ) → same_bytes c.table t ≡ false → schema_of t (h ++ e ∷ []) ≡ schema_of t h
+  schema_apart t apart = schema_more t h (e ∷ []) ∙ (ap (λ b. first_of (schema_of t h) (first_of (cond b (Some c.schema) None) None)) apart ∙ first_none (schema_of t h))
+
+  schema_here : schema_of c.table (h ++ e ∷ []) ≡ Some c.schema
+  schema_here =
+      schema_more c.table h (e ∷ [])
+      ∙ (ap (λ o. first_of o (schema_of c.table (e ∷ []))) absent ∙ ap (λ b. first_of (cond b (Some c.schema) None) None) (itself_same c.table))
+
+  none_drawn : (t : List ℕ) → numbered t (h ++ e ∷ []) ≡ numbered t h
+  none_drawn t = numbered_more t h (e ∷ []) ∙ append-nil (numbered t h)
+
+  none_here : numbered c.table (h ++ e ∷ []) ≡ []
+  none_here = none_drawn c.table ∙ none_numbered c.table h s.legal absent
+
+  no_insert : (w : Partition) (n : ℕ) → IsInsertOf c.table w n (h ++ e ∷ []) → ⊥
+  no_insert w n is =
+      let found : None ≡ Some (command.Insert is.insert) =
+      sym (get_past [] (n - 1) (omega arith)) ∙ (sym (ap (λ (cs : List Command). slice_get cs (n - 1)) none_here) ∙ is.there) in
+      cc
+
+  same_parts : (t : List ℕ) → parts_of new.set t ≡ parts_of old.set t
+  same_parts t = ap (λ (x : PartSet (Part F)). parts_of x t) a.set_is
+
+  no_parts : parts_of new.set c.table ≡ []
+  no_parts = same_parts c.table ∙ s.no_other c.table a.absent
+
+  abbrev Hold : Schema → List (Kept (Part F)) → List (List Row) → Type 0
+  Hold schema ks rows = AllZip (λ (k : Kept (Part F)) (r : List Row). PartHolds files_of schema k.part r) ks rows
+
+  -- the new table has no parts
+  empty_there : PartsAreThere files_of (h ++ e ∷ []) new c.table c.schema
+  empty_there = record {
+    rows = [];
+    hold = subst (λ (ks : List (Kept (Part F))). Hold c.schema ks []) (sym no_parts) tt;
+    stand = subst (λ (ks : List (Kept (Part F))). TableStands c.table (core_parts c.table ks []) (h ++ e ∷ [])) (sym no_parts)
+        (record { own = All-nil (λ (p : CorePart). p.table ≡ c.table); each = All-nil (PartStands (h ++ e ∷ [])); once = λ w n is. absurd (no_insert w n is) });
+    order = subst (λ (ks : List (Kept (Part F))). AreInBlockOrder (core_parts c.table ks [])) (sym no_parts) nothing_in_order;
+  }
+
+  -- another has its own
+  kept_there : (t : List ℕ) (schema : Schema) → PartsAreThere files_of h old t schema → PartsAreThere files_of (h ++ e ∷ []) new t schema
+  kept_there t schema p = record {
+    rows = p.rows;
+    hold = subst (λ (ks : List (Kept (Part F))). Hold schema ks p.rows) (sym (same_parts t)) p.hold;
+    stand = subst (λ (ks : List (Kept (Part F))). TableStands t (core_parts t ks p.rows) (h ++ e ∷ [])) (sym (same_parts t))
+        (table_kept t (core_parts t (parts_of old.set t) p.rows) h (e ∷ []) refl p.stand);
+    order = subst (λ (ks : List (Kept (Part F))). AreInBlockOrder (core_parts t ks p.rows)) (sym (same_parts t)) p.order;
+  }
+
+  -- what the store has at the new table's name
+  one_table : (t : List ℕ) (x : Table) → table_at new t ≡ Some x → c.table ≡ t → fresh_table c.schema ≡ x
+  one_table t x is same = one_some (table_at new t) (fresh_table c.schema) x (subst (λ (u : List ℕ). table_at new u ≡ Some (fresh_table c.schema)) same a.updates.1) is
+
+  pub stands_created : IsTableSchema c.schema → length old.tables.entries < 64 → CoreStands files_of (entered h session (command.Create c)) new
+  stands_created sound few =
+      let made = λ (x : Entry). is_create x.command in
+      let count : creates h < 65536 = omega (arith, few, s.count) in
+      record {
+        legal = legal_push h e s.legal (absent, count, sound);
+        length_is = a.length_is ∙ (ap (λ n. n + 1) s.length_is ∙ sym (length-append h (e ∷ [])));
+        tables = λ t. tables_at t (here t);
+        count = a.count ∙ (ap (λ n. n + 1) s.count ∙ sym (ap length (filter-append made h (e ∷ [])) ∙ length-append (filter made h) (e ∷ [])));
+        drawn = λ t x is. drawn_at t x is (here t);
+        parts = λ t x is. parts_at t x is (here t);
+        no_other = λ t none. none_at t none (here t);
+      }
+    where
+      tables_at : (t : List ℕ) → IsNewOr t → option_map (λ (x : Table). x.schema) (table_at new t) ≡ schema_of t (h ++ e ∷ [])
+      tables_at t (inl is) = subst (λ (u : List ℕ). schema_at (table_at new u) ≡ schema_of u (h ++ e ∷ [])) is (ap schema_at a.updates.1 ∙ sym schema_here)
+      tables_at t (inr other) = ap schema_at other.1 ∙ (s.tables t ∙ sym (schema_apart t other.0))
+
+      drawn_at : (t : List ℕ) (x : Table) → table_at new t ≡ Some x → IsNewOr t → x.drawn ≡ length (numbered t (h ++ e ∷ []))
+      drawn_at t x is (inl same) =
+          sym (ap (λ (y : Table). y.drawn) (one_table t x is same)) ∙ sym (ap length (subst (λ (u : List ℕ). numbered u (h ++ e ∷ []) ≡ []) same none_here))
+      drawn_at t x is (inr other) = s.drawn t x (sym other.1 ∙ is) ∙ ap length (sym (none_drawn t))
+
+      parts_at : (t : List ℕ) (x : Table) → table_at new t ≡ Some x → IsNewOr t → PartsAreThere files_of (h ++ e ∷ []) new t x.schema
+      parts_at t x is (inl same) =
+          subst (λ (y : Table). PartsAreThere files_of (h ++ e ∷ []) new t y.schema) (one_table t x is same)
+          (subst (λ (u : List ℕ). PartsAreThere files_of (h ++ e ∷ []) new u c.schema) same empty_there)
+      parts_at t x is (inr other) = kept_there t x.schema (s.parts t x (sym other.1 ∙ is))
+
+      none_at : (t : List ℕ) → table_at new t ≡ None → IsNewOr t → parts_of new.set t ≡ []
+      none_at t none (inl same) = subst (λ (u : List ℕ). parts_of new.set u ≡ []) same no_parts
+      none_at t none (inr other) = same_parts t ∙ s.no_other t (sym other.1 ∙ none)

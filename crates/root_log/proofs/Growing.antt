@@ -1,0 +1,306 @@
+-- A root that stands for a history stands for it with one command more, once what the command makes is among its names.
+use Rattle.std.proofs.Common.{◌≡◌, ℕ, ◌<◌, ◌≤◌, Bool, true, false, cond, List, [], ◌∷◌, ◌++◌, Option, Some, None, IsTrue, length, map, is_some, refl, sym, ap, ◌∙◌, subst, append-nil, arith, inl, inr, ◌⊎◌}
+use Rattle.std.proofs.lemmas.List.{map-append}
+use Rattle.std.proofs.lemmas.List.Elements.{All-contains, All-push, All-weaker, Contains-append_left, Contains-push, Contains-push_cases, filter-append}
+use Rattle.std.specs.BTreeMap.{insert_entry}
+use Rattle.std.specs.Cmp.Lexicographic.{slice_cmp}
+use Rattle.std.specs.List.{Contains as HasItem}
+use Rattle.std.specs.Ordering.{nat_cmp}
+use Rattle.mt_values.specs.declared.command.Command.TheVariants as command
+use Rattle.mt_values.specs.declared.command.Create.{Create}
+use Rattle.mt_values.specs.declared.command.Entry.{Entry}
+use Rattle.mt_values.specs.declared.command.Insert.{Insert}
+use Rattle.mt_values.specs.declared.schema.Schema.{Schema}
+use Rattle.mt_values.specs.Grammar.{same_bytes}
+use Rattle.mt_values.specs.Order.{key_cmp}
+use Rattle.mt_values.specs.RootNames.{create_name}
+use Rattle.mt_outside.specs.Disk.{Names, files_at}
+use Rattle.mt_outside.specs.Files.{Files}
+use Rattle.mt_model.specs.History.{History, IsInsertInto, IsTableSchema, creates, first_of, schema_of}
+use Rattle.mt_model.specs.Live.{sorted}
+use Rattle.mt_model.proofs.Histories.{legal_push}
+use Rattle.mt_model.proofs.Tables.{itself_same, same_is}
+use Rattle.part_set.specs.declared.root_name.RootName.{RootName}
+use Rattle.part_set.specs.declared.root_name.RootName.TheVariants as root
+use Rattle.part_set.specs.declared.root_name.TablePart.{TablePart}
+use Rattle.part_set.specs.RootNames.{IsRootName, is_table, root_text}
+use Rattle.part_set.specs.Visible.{Covers, HasPart, HasTable, IsVisible}
+use Rattle.table_core.specs.declared.part.CorePart.{CorePart}
+use Rattle.table_core.specs.Numbers.{numbered}
+use Rattle.table_core.specs.Parts.{TableStands, parts_of}
+use Rattle.table_core.specs.Steps.{entered, next_number, part_of_insert}
+use Rattle.table_core.proofs.Apart.{ends_below}
+use Rattle.table_core.proofs.Growing.{drawn_apart, schema_kept, schema_more, table_grown, table_kept}
+use Rattle.root_log.specs.ByteOrder.{AreInByteOrder}
+use Rattle.root_log.specs.Commits.{fresh_part}
+use Rattle.root_log.specs.Entries.{EntryHolds}
+use Rattle.root_log.specs.Roots.{FolderHolds, HasFolder, PartIsThere, Stands, named}
+use Rattle.root_log.proofs.Added.{are_read, folder_kept, new_folder, new_read, read_or_new, read_with, still_read, with_name}
+use Rattle.root_log.proofs.Clear.{of_table}
+use Rattle.root_log.proofs.Fitting.{ends_by}
+use Rattle.root_log.proofs.Orphaned.{of_core, part_named}
+use Rattle.root_log.proofs.Tabled.{table_here}
+
+-- ---- schemas
+
+first_none : (o : Option Schema) → first_of o None ≡ o
+first_none None = refl
+first_none (Some schema) = refl
+
+-- an INSERT gives no table a schema
+schema_inserted : (t : List ℕ) (h : History) (session : ℕ) (i : Insert) → schema_of t (entered h session (command.Insert i)) ≡ schema_of t h
+schema_inserted t h session i = schema_more t h (record { session = session; command = command.Insert i } ∷ []) ∙ first_none (schema_of t h)
+
+module _ (h : History) (session : ℕ) (c : Create) where
+  abbrev last : Entry
+  last = record { session = session; command = command.Create c }
+
+  -- a CREATE gives its table the schema, where there was no such table
+  schema_created : schema_of c.table h ≡ None → schema_of c.table (h ++ last ∷ []) ≡ Some c.schema
+  schema_created absent =
+      schema_more c.table h (last ∷ [])
+      ∙ (ap (λ (o : Option Schema). first_of o (schema_of c.table (last ∷ []))) absent ∙ ap (λ (b : Bool). first_of (cond b (Some c.schema) None) None) (itself_same c.table))
+
+  -- and no other one
+  schema_apart : (t : List ℕ) → same_bytes c.table t ≡ false → schema_of t (h ++ last ∷ []) ≡ schema_of t h
+  schema_apart t apart =
+      schema_more t h (last ∷ []) ∙ (ap (λ (b : Bool). first_of (schema_of t h) (first_of (cond b (Some c.schema) None) None)) apart ∙ first_none (schema_of t h))
+
+-- ---- visible parts
+
+same_part : (p q : TablePart) → root.Part p ≡ root.Part q → p ≡ q
+same_part p q e = cc
+
+-- one table more hides no part and shows none
+module _ (read : List RootName) (table : List ℕ) where
+  part_was : (part : TablePart) → HasPart (read_with (root.Create table) read) part → HasPart read part
+  part_was part has = elim (read_or_new (root.Create table) read (root.Part part) has) [ inl old ↦ old | inr same ↦ cc ]
+
+  table_hides_none : (part : TablePart) → IsVisible read part → IsVisible (read_with (root.Create table) read) part
+  table_hides_none part visible = record {
+    here = still_read (root.Create table) read (root.Part part) visible.here;
+    shows = λ hidden. visible.shows (record { by = hidden.by; here = part_was hidden.by hidden.here; other = hidden.other; covers = hidden.covers });
+  }
+
+  table_shows_none : (part : TablePart) → IsVisible (read_with (root.Create table) read) part → IsVisible read part
+  table_shows_none part visible = record {
+    here = part_was part visible.here;
+    shows = λ hidden. visible.shows (record { by = hidden.by; here = still_read (root.Create table) read (root.Part hidden.by) hidden.here; other = hidden.other; covers = hidden.covers });
+  }
+
+-- one part more that covers none and is covered by none shows itself
+module _ (read : List RootName) (new : TablePart) (covers_none : (part : TablePart) → HasPart read part → Covers new part → ⊥) (none_covers : (part : TablePart) → HasPart read part → Covers part new → ⊥) where
+  abbrev names_with : List RootName
+  names_with = read_with (root.Part new) read
+
+  part_or_new : (part : TablePart) → HasPart names_with part → HasPart read part ⊎ (new ≡ part)
+  part_or_new part has = elim (read_or_new (root.Part new) read (root.Part part) has) [ inl old ↦ inl old | inr same ↦ inr (same_part new part same) ]
+
+  still_visible : (part : TablePart) → IsVisible read part → IsVisible names_with part
+  still_visible part visible = record {
+    here = still_read (root.Part new) read (root.Part part) visible.here;
+    shows = λ hidden. elim (part_or_new hidden.by hidden.here) [
+      | inl old ↦ visible.shows (record { by = hidden.by; here = old; other = hidden.other; covers = hidden.covers })
+      | inr same ↦ covers_none part visible.here (subst (λ (p : TablePart). Covers p part) (sym same) hidden.covers)
+    ];
+  }
+
+  was_visible : (part : TablePart) → HasPart read part → IsVisible names_with part → IsVisible read part
+  was_visible part here visible = record {
+    here = here;
+    shows = λ hidden. visible.shows (record { by = hidden.by; here = still_read (root.Part new) read (root.Part hidden.by) hidden.here; other = hidden.other; covers = hidden.covers });
+  }
+
+  new_visible : HasPart names_with new → IsVisible names_with new
+  new_visible here = record {
+    here = here;
+    shows = λ hidden. elim (part_or_new hidden.by hidden.here) [
+      | inl old ↦ none_covers hidden.by old hidden.covers
+      | inr same ↦ hidden.other (sym same)
+    ];
+  }
+
+-- ---- a root that stands
+
+-- each part is there with one name and one command more
+part_there : (names : Names) (h : History) (new : List ℕ) (files : Files) (e : Entry) → files_at new names ≡ None → (part : CorePart) → PartIsThere names h part → PartIsThere (with_name names new files) (h ++ e ∷ []) part
+part_there names h new files e free part there = record {
+  schema = there.schema;
+  schema_is = schema_kept part.table h (e ∷ []) there.schema there.schema_is;
+  folder = folder_kept names new files (root_text (root.Part (named part))) (FolderHolds there.schema part.rows) free there.folder;
+}
+
+module _ (names : Names) (h : History) (session : ℕ) (c : Create) (files : Files) (s : Stands names h) (absent : schema_of c.table h ≡ None) (holds : EntryHolds c.table c.schema files)
+    (free : files_at (create_name c.table) names ≡ None) where
+  abbrev made : List RootName
+  made = read_with (root.Create c.table) s.read
+
+  -- each table of the longer history has its entry
+  entry_there : (t : List ℕ) (schema : Schema) → schema_of t (h ++ last h session c ∷ []) ≡ Some schema → HasFolder (with_name names (create_name c.table) files) (create_name t) (EntryHolds t schema)
+  entry_there t schema is = by (same_bytes c.table t) refl
+    where
+      by : (b : Bool) → same_bytes c.table t ≡ b → HasFolder (with_name names (create_name c.table) files) (create_name t) (EntryHolds t schema)
+      by true here =
+          let same = same_is c.table t here in
+          let found = subst (λ (u : List ℕ). schema_of u (h ++ last h session c ∷ []) ≡ Some c.schema) same (schema_created h session c absent) in
+          let schemas : c.schema ≡ schema = cc in
+          let own : HasFolder (with_name names (create_name c.table) files) (create_name c.table) (EntryHolds c.table c.schema) =
+          record { files = files; there = new_folder names (create_name c.table) files; holds = holds } in
+          subst (λ (x : Schema). HasFolder (with_name names (create_name c.table) files) (create_name t) (EntryHolds t x)) schemas
+          (subst (λ (u : List ℕ). HasFolder (with_name names (create_name c.table) files) (create_name u) (EntryHolds u c.schema)) same own)
+      by false apart = folder_kept names (create_name c.table) files (create_name t) (EntryHolds t schema) free (s.tables t schema (sym (schema_apart h session c t apart) ∙ is))
+
+  -- and no other name is an entry
+  table_known : (t : List ℕ) → HasTable made t → (schema : Schema) × (schema_of t (h ++ last h session c ∷ []) ≡ Some schema)
+  table_known t has = elim (read_or_new (root.Create c.table) s.read (root.Create t) has) [
+    | inl old ↦ (let known = s.no_other t old in (known.0, schema_kept t h (last h session c ∷ []) known.0 known.1))
+    | inr new ↦ (
+        let same : c.table ≡ t = cc in
+        (c.schema, subst (λ (u : List ℕ). schema_of u (h ++ last h session c ∷ []) ≡ Some c.schema) same (schema_created h session c absent)))
+  ]
+
+  table_stands : creates h < 65536 → IsTableSchema c.schema → IsTrue (is_table c.table) → Stands (with_name names (create_name c.table) files) (h ++ last h session c ∷ [])
+  table_stands few sound word = record {
+    legal = legal_push h (last h session c) s.legal (absent, few, sound);
+    read = made;
+    are = are_read (root.Create c.table) word names files s.read s.are;
+    unmutated = λ part has. s.unmutated part (part_was s.read c.table part has);
+    tables = entry_there;
+    no_other = table_known;
+    parts = s.parts;
+    visible = λ part. (λ visible. (s.visible part).0 (table_shows_none s.read c.table part visible), λ has. table_hides_none s.read c.table part ((s.visible part).1 has));
+    stand = λ t. table_kept t (parts_of t s.parts) h (last h session c ∷ []) refl (s.stand t);
+    there = All-weaker (PartIsThere names h) (PartIsThere (with_name names (create_name c.table) files) (h ++ last h session c ∷ []))
+        (part_there names h (create_name c.table) files (last h session c) free) s.parts s.there;
+  }
+
+-- once the entry of a table is there, the root stands for the history with its CREATE
+pub stands_with_table : (names : Names) (h : History) (session : ℕ) (c : Create) (files : Files) → AreInByteOrder names → Stands names h
+    → schema_of c.table h ≡ None → creates h < 65536 → IsTableSchema c.schema → IsTrue (is_table c.table) → EntryHolds c.table c.schema files
+    → files_at (create_name c.table) names ≡ None → Stands (insert_entry (slice_cmp nat_cmp) names (create_name c.table) files) (entered h session (command.Create c))
+stands_with_table names h session c files rise s absent few sound word holds free = table_stands names h session c files s absent holds free few sound word
+
+-- ---- the part of an INSERT
+
+module _ (names : Names) (h : History) (session : ℕ) (i : Insert) (schema : Schema) (files : Files) (s : Stands names h) (known : schema_of i.table h ≡ Some schema) (is : IsInsertInto schema i)
+    (few : next_number i.table h ≤ 4294967295) (holds : FolderHolds schema (sorted (key_cmp schema.key) i.block.rows) files) where
+  abbrev new : TablePart
+  new = record { table = i.table; name = fresh_part (next_number i.table h) }
+
+  abbrev core : CorePart
+  core = part_of_insert schema (next_number i.table h) i
+
+  abbrev text : List ℕ
+  text = root_text (root.Part new)
+
+  abbrev entry : Entry
+  entry = record { session = session; command = command.Insert i }
+
+  abbrev read : List RootName
+  read = read_with (root.Part new) s.read
+
+  named_new : named core ≡ new
+  named_new = λ j. record { table = i.table; name = record { partition = is.partition j; min_block = next_number i.table h; max_block = next_number i.table h; level = 0; mutation = None } }
+
+  new_named : IsRootName (root.Part new)
+  new_named = (
+    All-contains IsRootName s.read (root.Create i.table) s.are.sound (table_here names h s i.table (ap is_some known)),
+    record { partition = tt; min_block = (omega arith, few); max_block = (omega arith, few); order = omega arith; level = omega arith; mutation = tt },
+  )
+
+  -- the visible parts of the table end below the number
+  visible_below : (part : TablePart) → IsVisible s.read part → part.table ≡ i.table → part.name.max_block ≤ length (numbered i.table h)
+  visible_below part visible own =
+      let found = of_core names h s part visible in
+      let table : found.core.table ≡ i.table = ap (λ (p : TablePart). p.table) found.name_is ∙ own in
+      let below = All-contains (λ (p : CorePart). p.name.max_block < next_number i.table h) (parts_of i.table s.parts) found.core
+      (ends_below h i.table (parts_of i.table s.parts) (s.stand i.table)) (of_table i.table s.parts found.core found.here table) in
+      let block : found.core.name.max_block ≡ part.name.max_block = ap (λ (p : TablePart). p.name.max_block) found.name_is in
+      omega (arith, below, block)
+
+  -- so do the hidden ones
+  all_below : (part : TablePart) → HasPart s.read part → part.table ≡ i.table → part.name.max_block ≤ length (numbered i.table h)
+  all_below = ends_by s.read s.are.sound s.unmutated i.table (length (numbered i.table h)) visible_below
+
+  covers_none : (part : TablePart) → HasPart s.read part → Covers new part → ⊥
+  covers_none part here covers =
+      let below = all_below part here (sym covers.table) in
+      let order = (part_named names h s part here).order in
+      let least = covers.name.min_block in
+      omega (arith, below, order, least)
+
+  none_covers : (part : TablePart) → HasPart s.read part → Covers part new → ⊥
+  none_covers part here covers =
+      let below = all_below part here covers.table in
+      let most = covers.name.max_block in
+      omega (arith, below, most)
+
+  visible_there : (part : TablePart) → IsVisible read part → HasItem (map named (s.parts ++ core ∷ [])) part
+  visible_there part visible = subst (λ (ps : List TablePart). HasItem ps part) (sym (map-append named s.parts (core ∷ []))) (elim (part_or_new s.read new covers_none none_covers part visible.here) [
+    | inl old ↦ Contains-append_left (map named s.parts) (named core ∷ []) part ((s.visible part).0 (was_visible s.read new covers_none none_covers part old visible))
+    | inr same ↦ subst (HasItem (map named s.parts ++ named core ∷ [])) (named_new ∙ same) (Contains-push (map named s.parts) (named core))
+  ])
+
+  there_visible : (part : TablePart) → HasItem (map named (s.parts ++ core ∷ [])) part → IsVisible read part
+  there_visible part has = elim (Contains-push_cases (map named s.parts) (named core) part (subst (λ (ps : List TablePart). HasItem ps part) (map-append named s.parts (core ∷ [])) has)) [
+    | inl old ↦ still_visible s.read new covers_none none_covers part ((s.visible part).1 old)
+    | inr same ↦ subst (IsVisible read) (sym named_new ∙ same) (new_visible s.read new covers_none none_covers (new_read (root.Part new) new_named s.read s.are.sound))
+  ]
+
+  -- the parts of each table stand for the longer history
+  tables_stand : (t : List ℕ) → TableStands t (parts_of t (s.parts ++ core ∷ [])) (h ++ entry ∷ [])
+  tables_stand t = by (same_bytes i.table t) refl
+    where
+      more : parts_of t (s.parts ++ core ∷ []) ≡ parts_of t s.parts ++ cond (same_bytes i.table t) (core ∷ []) []
+      more = filter-append (λ (p : CorePart). same_bytes p.table t) s.parts (core ∷ [])
+
+      by : (b : Bool) → same_bytes i.table t ≡ b → TableStands t (parts_of t (s.parts ++ core ∷ [])) (h ++ entry ∷ [])
+      by true here =
+          let same = same_is i.table t here in
+          let parts = more ∙ ap (λ (b : Bool). parts_of t s.parts ++ cond b (core ∷ []) []) here in
+          let grown = table_grown h entry i schema refl known (parts_of i.table s.parts) (s.stand i.table) in
+          subst (λ (ps : List CorePart). TableStands t ps (h ++ entry ∷ [])) (sym parts)
+          (subst (λ (u : List ℕ). TableStands u (parts_of u s.parts ++ core ∷ []) (h ++ entry ∷ [])) same grown)
+      by false apart =
+          let parts = more ∙ (ap (λ (b : Bool). parts_of t s.parts ++ cond b (core ∷ []) []) apart ∙ append-nil (parts_of t s.parts)) in
+          subst (λ (ps : List CorePart). TableStands t ps (h ++ entry ∷ [])) (sym parts)
+          (table_kept t (parts_of t s.parts) h (entry ∷ []) (drawn_apart h entry i schema refl known t apart) (s.stand t))
+
+  new_there : PartIsThere (with_name names text files) (h ++ entry ∷ []) core
+  new_there = record {
+    schema = schema;
+    schema_is = schema_kept i.table h (entry ∷ []) schema known;
+    folder = record {
+      files = files;
+      there = subst (λ (p : TablePart). files_at (root_text (root.Part p)) (with_name names text files) ≡ Some files) (sym named_new) (new_folder names text files);
+      holds = holds;
+    };
+  }
+
+  part_stands : files_at text names ≡ None → Stands (with_name names text files) (h ++ entry ∷ [])
+  part_stands free = record {
+    legal = legal_push h entry s.legal (schema, known, is);
+    read = read;
+    are = are_read (root.Part new) new_named names files s.read s.are;
+    unmutated = λ part has. elim (part_or_new s.read new covers_none none_covers part has) [
+      | inl old ↦ s.unmutated part old
+      | inr same ↦ sym (ap (λ (p : TablePart). p.name.mutation) same)
+    ];
+    tables = λ t found there. folder_kept names text files (create_name t) (EntryHolds t found) free (s.tables t found (sym (schema_inserted t h session i) ∙ there));
+    no_other = λ t has. elim (read_or_new (root.Part new) s.read (root.Create t) has) [
+      | inl old ↦ (let was = s.no_other t old in (was.0, schema_kept t h (entry ∷ []) was.0 was.1))
+      | inr same ↦ cc
+    ];
+    parts = s.parts ++ core ∷ [];
+    visible = λ part. (visible_there part, there_visible part);
+    stand = tables_stand;
+    there = All-push (PartIsThere (with_name names text files) (h ++ entry ∷ [])) s.parts core
+        (All-weaker (PartIsThere names h) (PartIsThere (with_name names text files) (h ++ entry ∷ [])) (part_there names h text files entry free) s.parts s.there) new_there;
+  }
+
+-- once the part of an INSERT is there, the root stands for the history with the INSERT
+pub stands_with_part : (names : Names) (h : History) (session : ℕ) (i : Insert) (schema : Schema) (files : Files) → AreInByteOrder names → Stands names h
+    → schema_of i.table h ≡ Some schema → IsInsertInto schema i → next_number i.table h ≤ 4294967295 → FolderHolds schema (sorted (key_cmp schema.key) i.block.rows) files
+    → files_at (root_text (root.Part (record { table = i.table; name = fresh_part (next_number i.table h) }))) names ≡ None
+    → Stands (insert_entry (slice_cmp nat_cmp) names (root_text (root.Part (record { table = i.table; name = fresh_part (next_number i.table h) }))) files) (entered h session (command.Insert i))
+stands_with_part names h session i schema files rise s known is few holds free = part_stands names h session i schema files s known is few holds free

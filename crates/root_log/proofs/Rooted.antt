@@ -1,0 +1,58 @@
+-- The root after a commit stands for the history with the command.
+use Rattle.std.proofs.Common.{◌≡◌, ℕ, ◌+◌, ◌<◌, List, Option, Some, None, IsTrue, length, sym, ap, ◌∙◌, subst, arith}
+use Rattle.std.specs.BTreeMap.{insert_entry}
+use Rattle.std.specs.Cmp.Lexicographic.{slice_cmp}
+use Rattle.std.specs.Option.{ForSome, option_map}
+use Rattle.std.specs.Ordering.{nat_cmp}
+use Rattle.mt_values.specs.declared.command.Command.TheVariants as command
+use Rattle.mt_values.specs.declared.command.Create.{Create}
+use Rattle.mt_values.specs.declared.manifest.Loaded.{Loaded}
+use Rattle.mt_values.specs.Grid.{Grid}
+use Rattle.mt_values.specs.RootNames.{create_name, part_name}
+use Rattle.mt_outside.specs.Disk.{Names, Told, files_at, names_of, put}
+use Rattle.mt_outside.specs.Files.{Files}
+use Rattle.mt_model.specs.History.{History, IsInsertInto, IsTableSchema, creates, schema_of}
+use Rattle.part_name.specs.PartNames.{part_text}
+use Rattle.part_set.specs.RootNames.{is_table}
+use Rattle.table_core.specs.Steps.{entered, next_number}
+use Rattle.root_log.specs.declared.store.CoreStore.{CoreStore}
+use Rattle.root_log.specs.declared.store.Table.{Table}
+use Rattle.root_log.specs.Commits.{IsSealedOf, fresh_part, insert_into, insert_of_block, part_rows}
+use Rattle.root_log.specs.Entries.{EntryHolds}
+use Rattle.root_log.specs.Roots.{FolderHolds, Stands}
+use Rattle.root_log.specs.Soundness.{NamesFit, RootStands}
+use Rattle.root_log.specs.Stores.{CoreStands, table_at}
+use Rattle.root_log.proofs.FreeNames.{entry_free, fresh_named, part_free, put_told}
+use Rattle.root_log.proofs.Growing.{stands_with_part, stands_with_table}
+use Rattle.root_log.proofs.Rising.{told_rise}
+use Rattle.root_log.proofs.Updated.{one_some}
+
+module _ {F : Type 0} (files_of : F → Option Files) (store : CoreStore F) (h : History) (session clock : ℕ) (before after : Option Told)
+    (s : CoreStands files_of h store) (stands : RootStands before h) (fit : ForSome before (NamesFit store)) where
+  -- the entry of a new table was published
+  pub root_made : (c : Create) (sealed : Option Files) (files : Files) → table_at store c.table ≡ None → length store.tables.entries < 64 → IsTableSchema c.schema → IsTrue (is_table c.table)
+      → sealed ≡ Some files → EntryHolds c.table c.schema files → after ≡ put clock (create_name c.table) sealed before → RootStands after (entered h session (command.Create c))
+  root_made c sealed files absent few sound named is holds put_is = λ x told.
+      let from = put_told clock (create_name c.table) sealed before x (sym put_is ∙ told) in
+      let none : schema_of c.table h ≡ None = sym (s.tables c.table) ∙ ap (option_map (λ (t : Table). t.schema)) absent in
+      let count : creates h < 65536 = (let known = s.count in omega (arith, few, known)) in
+      let files_are : files ≡ from.1 = one_some sealed files from.1 is from.3 in
+      subst (λ (names : Names). Stands names (entered h session (command.Create c))) (sym from.4)
+      (stands_with_table (names_of from.0) h session c from.1 (told_rise from.0) (stands from.0 from.2) none count sound named
+      (subst (EntryHolds c.table c.schema) files_are holds) (entry_free store from.0 (fit from.0 from.2) c.table absent))
+
+  -- a new part was
+  pub root_added : (table : List ℕ) (t : Table) (block : Grid) (sealed : Option Files) (loaded : Loaded) → table_at store table ≡ Some t → t.drawn < 4294967295 → IsInsertInto t.schema (insert_into table block)
+      → IsSealedOf t.schema block sealed loaded → after ≡ put clock (part_name table (part_text (fresh_part (t.drawn + 1)))) sealed before
+      → RootStands after (entered h session (insert_of_block table block))
+  root_added table t block sealed loaded here small rows is put_is = λ x told.
+      let from = put_told clock (part_name table (part_text (fresh_part (t.drawn + 1)))) sealed before x (sym put_is ∙ told) in
+      let known : schema_of table h ≡ Some t.schema = sym (s.tables table) ∙ ap (option_map (λ (u : Table). u.schema)) here in
+      let number : t.drawn + 1 ≡ next_number table h = ap (λ n. n + 1) (s.drawn table t here) in
+      let files_are : is.files ≡ from.1 = one_some sealed is.files from.1 is.sealed_are from.3 in
+      let free = part_free store from.0 (fit from.0 from.2) table t (fresh_part (t.drawn + 1)) here (fresh_named t.drawn small) (omega arith) in
+      subst (λ (names : Names). Stands names (entered h session (insert_of_block table block)))
+      (sym (from.4 ∙ ap (λ (n : ℕ). insert_entry (slice_cmp nat_cmp) (names_of from.0) (part_name table (part_text (fresh_part n))) from.1) number))
+      (stands_with_part (names_of from.0) h session (insert_into table block) t.schema from.1 (told_rise from.0) (stands from.0 from.2) known rows (omega (arith, number, small))
+      (subst (FolderHolds t.schema (part_rows t.schema block)) files_are is.holds)
+      (subst (λ (n : ℕ). files_at (part_name table (part_text (fresh_part n))) (names_of from.0) ≡ None) number free))

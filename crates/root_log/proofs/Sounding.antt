@@ -1,0 +1,152 @@
+-- What a store keeps of its tables, as commands enter it.
+use Rattle.std.proofs.Common.{◌≡◌, ◌≢◌, ℕ, ◌+◌, ◌<◌, ◌≤◌, ◌^◌, ◌-◌, List, [], ◌∷◌, true, false, Option, Some, take, drop, refl, sym, ap, ◌∙◌, subst, arith, inl, inr}
+use Rattle.std.specs.BTreeMap.{is_at}
+use Rattle.std.specs.Cmp.Lexicographic.{slice_cmp}
+use Rattle.std.specs.List.{All}
+use Rattle.std.specs.Map.{lookup}
+use Rattle.std.specs.Ordering.{nat_cmp}
+use Rattle.std.proofs.lemmas.List.Elements.{All-append, All-cons, All-drop, All-nil, All-take, All-weaker}
+use Rattle.mt_base.specs.declared.partition.Partition.TheVariants.{Whole}
+use Rattle.mt_values.specs.declared.schema.Schema.{Schema}
+use Rattle.mt_values.specs.Grammar.{same_bytes}
+use Rattle.mt_outside.specs.Causes.{Rose}
+use Rattle.mt_outside.specs.Disk.{Told}
+use Rattle.mt_model.specs.History.{IsTableSchema}
+use Rattle.mt_model.proofs.Tables.{itself_same}
+use Rattle.part_reader.specs.declared.reading.Part.{Part}
+use Rattle.part_set.specs.declared.kept.Kept.{Kept}
+use Rattle.part_set.specs.declared.set.PartSet.{PartSet}
+use Rattle.part_set.specs.Sets.{parts_of}
+use Rattle.root_log.specs.declared.commits.Refused.{Refused}
+use Rattle.root_log.specs.declared.commits.Refused.TheVariants as refused
+use Rattle.root_log.specs.declared.store.CoreStore.{CoreStore}
+use Rattle.root_log.specs.declared.store.Table.{Table}
+use Rattle.root_log.specs.Commits.{EntersTable, SameStore, fresh_part, fresh_table}
+use Rattle.root_log.specs.Soundness.{IsNameUnder, IsSound, IsSoundTable, NamesFit, NamesFitUnlessRisen}
+use Rattle.root_log.specs.Stores.{table_at}
+use Rattle.root_log.proofs.Behind.{PartIsAdded}
+use Rattle.root_log.proofs.Updated.{it_or, no_some, one_some}
+
+module _ {F : Type 0} where
+  abbrev Ends : ℕ → Kept (Part F) → Type 0
+  Ends n k = k.name.max_block ≤ n
+
+  abbrev IsWhole : Kept (Part F) → Type 0
+  IsWhole k = k.name.partition ≡ Whole
+
+  abbrev Rises : Kept (Part F) → Type 0
+  Rises k = k.name.min_block ≤ k.name.max_block
+
+  -- a table with the same parts
+  moved : (old new : CoreStore F) (table : List ℕ) (t : Table) → parts_of new.set table ≡ parts_of old.set table → IsSoundTable old table t → IsSoundTable new table t
+  moved old new table t same sound = record {
+    schema = sound.schema;
+    ends = subst (All (Ends t.drawn)) (sym same) sound.ends;
+    whole = subst (All IsWhole) (sym same) sound.whole;
+    order = subst (All Rises) (sym same) sound.order;
+  }
+
+  module _ (old new : CoreStore F) where
+    module _ (same : SameStore old new) where
+      same_table : (table : List ℕ) → table_at new table ≡ table_at old table
+      same_table table = ap (λ (es : List (List ℕ × Table)). lookup (is_at (slice_cmp nat_cmp table)) es) same.tables
+
+      -- the same store is as sound
+      pub sound_same : IsSound old → IsSound new
+      sound_same sound = record {
+        tables = λ table t at. moved old new table t (same.parts table) (sound.tables table t (sym (same_table table) ∙ at));
+        no_other = λ table none. same.parts table ∙ sound.no_other table (sym (same_table table) ∙ none);
+      }
+
+      under_same : (name : List ℕ) → IsNameUnder old name → IsNameUnder new name
+      under_same name under = record { table = under.table; kept = under.kept; there = same_table under.table ∙ under.there; is = under.is }
+
+      names_same : (told : Told) → NamesFit old told → NamesFit new told
+      names_same told fit = λ k d lt. under_same _ (fit k d lt)
+
+      -- where the names are the same, or the disk's count has risen, they fit as they did
+      pub names_kept : (before after : ℕ) (told now : Option Told) (cause : Refused) → old.opened ≤ before → old.opened < 2 ^ 64 - 1 → before ≤ after
+          → (cause ≡ refused.Disk → Rose before after) → (cause ≢ refused.Disk → now ≡ told) → NamesFitUnlessRisen before told old → NamesFitUnlessRisen after now new
+      names_kept before after told now cause low below later rose unchanged fit = λ is. by cause rose unchanged is
+        where
+          still : after ≡ new.opened → now ≡ told → (x : Told) → now ≡ Some x → NamesFit new x
+          still is stays x told_is =
+              let opened = same.opened_is in
+              names_same x (fit (omega (arith, is, opened, low, later)) x (sym stays ∙ told_is))
+
+          risen : after ≡ new.opened → Rose before after → ⊥
+          risen is up = let opened = same.opened_is in absurd (omega (arith, is, up, opened, low, below))
+
+          by : (r : Refused) → (r ≡ refused.Disk → Rose before after) → (r ≢ refused.Disk → now ≡ told) → after ≡ new.opened → (x : Told) → now ≡ Some x → NamesFit new x
+          by refused.Disk up stays is = absurd (risen is (up refl))
+          by refused.NoMemory up stays is = still is (stays (λ e. cc))
+          by (refused.Stopped opened at) up stays is = still is (stays (λ e. cc))
+          by refused.Exists up stays is = still is (stays (λ e. cc))
+          by (refused.Limit l) up stays is = still is (stays (λ e. cc))
+
+    -- one table more
+    pub sound_made : (table : List ℕ) (schema : Schema) → EntersTable table schema old new → IsTableSchema schema → IsSound old → IsSound new
+    sound_made table schema enters fits sound = record {
+      tables = λ u t at. elim (it_or old new table (Some (fresh_table schema)) enters.updates u) [
+        | inl same ↦ here u t same (one_some (table_at new u) (fresh_table schema) t (subst (λ (v : List ℕ). table_at new v ≡ Some (fresh_table schema)) same enters.updates.1) at)
+        | inr other ↦ moved old new u t (parts u) (sound.tables u t (sym other.1 ∙ at))
+      ];
+      no_other = λ u none. elim (it_or old new table (Some (fresh_table schema)) enters.updates u) [
+        | inl same ↦ subst (λ (v : List ℕ). parts_of new.set v ≡ []) same no_parts
+        | inr other ↦ parts u ∙ sound.no_other u (sym other.1 ∙ none)
+      ];
+    }
+      where
+        parts : (u : List ℕ) → parts_of new.set u ≡ parts_of old.set u
+        parts u = ap (λ (s : PartSet (Part F)). parts_of s u) enters.set_is
+
+        no_parts : parts_of new.set table ≡ []
+        no_parts = parts table ∙ sound.no_other table enters.absent
+
+        fresh : IsSoundTable new table (fresh_table schema)
+        fresh = record {
+          schema = fits;
+          ends = subst (All (Ends 0)) (sym no_parts) (All-nil (Ends 0));
+          whole = subst (All IsWhole) (sym no_parts) (All-nil IsWhole);
+          order = subst (All Rises) (sym no_parts) (All-nil Rises);
+        }
+
+        here : (u : List ℕ) (t : Table) → table ≡ u → fresh_table schema ≡ t → IsSoundTable new u t
+        here u t same is = subst (IsSoundTable new u) is (subst (λ (v : List ℕ). IsSoundTable new v (fresh_table schema)) same fresh)
+
+    -- one part more
+    module _ (table : List ℕ) (part : Part F) (t : Table) (a : PartIsAdded table part t old new) where
+      abbrev kept : Kept (Part F)
+      kept = record { name = fresh_part (t.drawn + 1); part = part }
+
+      abbrev more : Table
+      more = record { schema = t.schema; drawn = t.drawn + 1 }
+
+      apart : (u : List ℕ) → same_bytes table u ≡ false → u ≢ table
+      apart u differ is = let same : same_bytes table u ≡ true = ap (same_bytes table) is ∙ itself_same table in cc
+
+      -- what holds of the parts and of the new one
+      all_added : (P : Kept (Part F) → Type 0) → All P (parts_of old.set table) → P kept → All P (parts_of new.set table)
+      all_added P all one = subst (All P) (sym a.added.is) (All-append P (take a.added.place (parts_of old.set table)) (kept ∷ drop a.added.place (parts_of old.set table))
+          (All-take P a.added.place (parts_of old.set table) all) (All-cons P kept (drop a.added.place (parts_of old.set table)) one (All-drop P a.added.place (parts_of old.set table) all)))
+
+      grown : IsSoundTable old table t → IsSoundTable new table more
+      grown was = record {
+        schema = was.schema;
+        ends = all_added (Ends (t.drawn + 1)) (All-weaker (Ends t.drawn) (Ends (t.drawn + 1)) (λ k le. omega (arith, le)) (parts_of old.set table) was.ends) (omega arith);
+        whole = all_added IsWhole was.whole refl;
+        order = all_added Rises was.order (omega arith);
+      }
+
+      pub sound_added : IsSound old → IsSound new
+      sound_added sound = record {
+        tables = λ u x at. elim (it_or old new table (Some more) a.updates u) [
+          | inl same ↦ subst (IsSoundTable new u) (one_some (table_at new u) more x (subst (λ (v : List ℕ). table_at new v ≡ Some more) same a.updates.1) at)
+              (subst (λ (v : List ℕ). IsSoundTable new v more) same (grown (sound.tables table t a.there)))
+          | inr other ↦ moved old new u x (a.others u (apart u other.0)) (sound.tables u x (sym other.1 ∙ at))
+        ];
+        no_other = λ u none. elim (it_or old new table (Some more) a.updates u) [
+          | inl same ↦ absurd (no_some (table_at new u) more none (subst (λ (v : List ℕ). table_at new v ≡ Some more) same a.updates.1))
+          | inr other ↦ a.others u (apart u other.0) ∙ sound.no_other u (sym other.1 ∙ none)
+        ];
+      }

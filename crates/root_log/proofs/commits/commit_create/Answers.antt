@@ -1,0 +1,123 @@
+use Rattle.std.proofs.Common.{◌≡◌, ◌<◌, ℕ, List, Some, None, Err, length, refl, sym, ap, ◌∙◌, subst}
+use Rattle.std.specs.Option.{ForSome, option_map}
+use Rattle.mt_values.specs.declared.command.Command.TheVariants as command
+use Rattle.mt_values.specs.declared.command.Entry.{Entry}
+use Rattle.mt_values.specs.Annals.{Told, began, noted}
+use Rattle.mt_outside.specs.Disk.{MayPut, files_at, names_of, put}
+use Rattle.root_log.specs.Commits.{fresh_table, refuses_create}
+use Rattle.root_log.specs.Soundness.{NamesFit}
+use Rattle.root_log.specs.Stores.{table_at}
+use Rattle.root_log.proofs.Entering.{stands_created}
+use Rattle.root_log.proofs.FreeNames.{entry_free, made_fits}
+use Rattle.root_log.proofs.Leaving.{cause_shown, disk_fault, disk_memory, none_shown, outside_disk, same_tables, shown_absent, shown_calm, shown_few, shown_other, taken_out}
+use Rattle.root_log.proofs.Rooted.{root_made}
+use Rattle.root_log.proofs.Sounding.{names_kept, sound_made, sound_same}
+use Rattle.root_log.proofs.commits.commit_create.Goals as goal
+
+pub commit-requires-clause-free : goal.commit-requires-clause-free
+commit-requires-clause-free g c κs within = λ root is.
+    let none = none_shown (λ n. refuses_create c.args.store.now c.args.create.table n) _ _ _ c.refuse_create.ensures c.faults.ensures c.in_default.is in
+    let still = shown_calm c.args.store.now c.args.create.table _ none c.requires.opened in
+    ap (λ n. files_at n (names_of root)) c.in-Ok.ensures.name ∙ entry_free c.args.store.now root (c.requires.names still root is) c.args.create.table (shown_absent c.args.store.now c.args.create.table _ none)
+
+-- the store shows why
+pub returns-in-Some-clause-cause : goal.returns-in-Some-clause-cause
+returns-in-Some-clause-cause g c =
+    cause_shown (λ n. refuses_create c.args.store.now c.args.create.table n) _ _ _ c.refuse_create.ensures c.faults.ensures (Some c.in-Some.cause) _ c.in-Some.is refl
+
+pub returns-in-Some-clause-rose : goal.returns-in-Some-clause-rose
+returns-in-Some-clause-rose g c = λ disk. absurd (shown_other c.args.store.now c.args.create.table c.faults.result c.in-Some.cause (sym c.refuse_create.ensures ∙ c.in-Some.is) disk)
+
+pub returns-in-Some-clause-faulted : goal.returns-in-Some-clause-faulted
+returns-in-Some-clause-faulted g c = λ disk. absurd (shown_other c.args.store.now c.args.create.table c.faults.result c.in-Some.cause (sym c.refuse_create.ensures ∙ c.in-Some.is) disk)
+
+pub returns-in-Some-clause-same : goal.returns-in-Some-clause-same
+returns-in-Some-clause-same g c = same_tables _ _ refl refl refl refl
+
+-- there was no memory
+pub returns-in-Err-clause-cause : goal.returns-in-Err-clause-cause
+returns-in-Err-clause-cause g c =
+    cause_shown (λ n. refuses_create c.args.store.now c.args.create.table n) _ _ _ c.refuse_create.ensures c.faults.ensures None _ c.in_default.is tt
+
+pub returns-in-Err-clause-same : goal.returns-in-Err-clause-same
+returns-in-Err-clause-same g c = same_tables _ _ c.in-Err.ensures.err refl refl refl
+
+pub returns-in-Err-clause-store : goal.returns-in-Err-clause-store
+returns-in-Err-clause-store g c = sound_same _ _ (same_tables c.args.store.now _ c.in-Err.ensures.err refl refl refl) c.requires.store
+
+-- it was not committed
+pub returns-in-Err-commit-clause-cause : goal.returns-in-Err-commit-clause-cause
+returns-in-Err-commit-clause-cause g c =
+    cause_shown (λ n. refuses_create c.args.store.now c.args.create.table n) _ _ _ c.refuse_create.ensures c.faults.ensures None _ c.in_default.is
+    (outside_disk c.in-Err-commit.error c.of_disk-cause.result c.of_disk-cause.ensures)
+
+pub returns-in-Err-commit-clause-rose : goal.returns-in-Err-commit-clause-rose
+returns-in-Err-commit-clause-rose g c = λ disk. c.in-Err-commit.ensures.cause.failed (ap Err (disk_fault c.in-Err-commit.error c.of_disk-cause.result c.of_disk-cause.ensures disk))
+
+pub returns-in-Err-commit-clause-published : goal.returns-in-Err-commit-clause-published
+returns-in-Err-commit-clause-published g c = λ none.
+    subst (λ (n : List ℕ). MayPut (g.D.Disk.clock c.args.disk.now) n c.args.sealed.files (g.D.Disk.told c.args.disk.now) (g.D.Disk.told c.commit.new.disk)) c.in-Ok.ensures.name c.in-Err-commit.ensures.left
+
+pub returns-in-Err-commit-clause-same : goal.returns-in-Err-commit-clause-same
+returns-in-Err-commit-clause-same g c =
+    let key = c.args.create.table in
+    let absent = shown_absent c.args.store.now key c.faults.result (sym c.refuse_create.ensures ∙ c.in_default.is) in
+    same_tables _ _ (taken_out c.args.store.now.tables.entries _ _ key _ (fresh_table c.args.create.schema) absent c.in-Ok.ensures.entries c.in-Ok.ensures.table c.remove.ensures.entries) refl refl refl
+
+pub returns-in-Err-commit-clause-store : goal.returns-in-Err-commit-clause-store
+returns-in-Err-commit-clause-store g c = sound_same _ _ (returns-in-Err-commit-clause-same g c) c.requires.store
+
+pub returns-in-Err-commit-clause-names : goal.returns-in-Err-commit-clause-names
+returns-in-Err-commit-clause-names g c =
+    names_kept c.args.store.now _ (returns-in-Err-commit-clause-same g c) (g.D.Disk.failed c.args.disk.now) _ (g.D.Disk.told c.args.disk.now) _ c.of_disk-cause.result
+    c.requires.opened c.requires.below c.in-Err-commit.ensures.cause.later (returns-in-Err-commit-clause-rose g c)
+    (λ other. c.in-Err-commit.ensures.memory (ap Err (disk_memory c.in-Err-commit.error c.of_disk-cause.result c.of_disk-cause.ensures other))) c.requires.names
+
+-- it was
+module _ (g : _) (c : goal.After-drop-name-inside-2 g) where
+  none : refuses_create c.args.store.now c.args.create.table (g.D.Disk.failed c.args.disk.now) ≡ None
+  none = none_shown (λ n. refuses_create c.args.store.now c.args.create.table n) _ _ _ c.refuse_create.ensures c.faults.ensures c.in_default.is
+
+  absent : table_at c.args.store.now c.args.create.table ≡ None
+  absent = shown_absent c.args.store.now c.args.create.table _ none
+
+  few : length c.args.store.now.tables.entries < 64
+  few = shown_few c.args.store.now c.args.create.table _ none
+
+  -- each name of the root is one under the store
+  fit : ForSome (g.D.Disk.told c.args.disk.now) (NamesFit c.args.store.now)
+  fit = c.requires.names (shown_calm c.args.store.now c.args.create.table _ none c.requires.opened)
+
+pub returns-clause-cause : goal.returns-clause-cause
+returns-clause-cause g c =
+    cause_shown (λ n. refuses_create c.args.store.now c.args.create.table n) _ _ _ c.refuse_create.ensures c.faults.ensures None _ c.in_default.is tt
+
+pub returns-clause-root : goal.returns-clause-root
+returns-clause-root g c =
+    c.in-Ok-commit.ensures.disk ∙ ap (λ (n : List ℕ). put (g.D.Disk.clock c.args.disk.now) n c.args.sealed.files (g.D.Disk.told c.args.disk.now)) c.in-Ok.ensures.name
+
+pub returns-clause-annals : goal.returns-clause-annals
+returns-clause-annals g c =
+    let mark = g.D.Disk.clock c.commit.new.disk in
+    c.in-Ok-commit.ensures.annals
+    ∙ (ap (λ (e : Entry). option_map (λ (t : Told). noted mark (began e t)) (g.A.Annals.told c.prepare_create.new.annals)) c.in-Ok.ensures.entry
+    ∙ ap (option_map (λ (t : Told). noted mark (began (record { session = c.args.session; command = command.Create c.args.create }) t))) c.in-Ok.ensures.told)
+
+pub returns-clause-enters : goal.returns-clause-enters
+returns-clause-enters g c =
+    record { absent = absent g c; updates = c.in-Ok.ensures.updates; count = c.in-Ok.ensures.count; set_is = refl; length_is = c.in-Ok.ensures.length; opened_is = refl }
+
+pub returns-clause-stands : goal.returns-clause-stands
+returns-clause-stands g c = λ h s.
+    stands_created g.D.Arm.Dir.Dir.files h c.args.store.now _ c.args.session c.args.create s (returns-clause-enters g c) c.requires.schema (few g c)
+
+pub returns-clause-store : goal.returns-clause-store
+returns-clause-store g c = sound_made _ _ _ _ (returns-clause-enters g c) c.requires.schema c.requires.store
+
+pub returns-clause-names : goal.returns-clause-names
+returns-clause-names g c = λ _. made_fits _ _ _ _ (returns-clause-enters g c) _ _ _ _ (fit g c) (returns-clause-root g c)
+
+pub returns-clause-root_stands : goal.returns-clause-root_stands
+returns-clause-root_stands g c = λ h files s stands is holds.
+    root_made g.D.Arm.Dir.Dir.files c.args.store.now h c.args.session (g.D.Disk.clock c.args.disk.now) (g.D.Disk.told c.args.disk.now) _ s stands (fit g c) c.args.create c.args.sealed.files files
+    (absent g c) (few g c) c.requires.schema c.requires.named is holds (returns-clause-root g c)

@@ -1,0 +1,114 @@
+use Rattle.std.proofs.Common.{◌≡◌, ◌+◌, ◌<◌, ℕ, List, Some, None, refl, sym, ap, ◌∙◌, subst, arith}
+use Rattle.std.specs.Option.{ForSome}
+use Rattle.mt_values.specs.RootNames.{part_name}
+use Rattle.mt_outside.specs.Disk.{files_at, names_of, put}
+use Rattle.part_name.specs.PartNames.{part_text}
+use Rattle.part_reader.specs.declared.reading.Part.{Part}
+use Rattle.part_set.specs.declared.kept.Kept.{Kept}
+use Rattle.part_set.specs.Parts.{IsAdded, NoneMeets}
+use Rattle.part_set.specs.Sets.{parts_of}
+use Rattle.root_log.specs.declared.store.Table.{Table}
+use Rattle.root_log.specs.Commits.{EntersSealed, IsSealedOf, fresh_part, refuses_part}
+use Rattle.root_log.specs.Soundness.{NamesFit}
+use Rattle.root_log.specs.Stores.{table_at}
+use Rattle.root_log.proofs.Behind.{PartIsAdded, enters_part, none_meets}
+use Rattle.root_log.proofs.FreeNames.{added_fits, fresh_named, part_free}
+use Rattle.root_log.proofs.Inserted.{stands_inserted}
+use Rattle.root_log.proofs.Leaving.{none_shown, shown_number, shown_part_calm}
+use Rattle.root_log.proofs.Rooted.{root_added}
+use Rattle.root_log.proofs.Sounding.{sound_added, sound_same}
+use Rattle.root_log.proofs.Updated.{one_some}
+use Rattle.root_log.proofs.commits.commit_part.Goals as goal
+
+pub commit-requires-clause-free : goal.commit-requires-clause-free
+commit-requires-clause-free g c κs within = λ root is.
+    let t : Table = c.index.result.now in
+    let none = none_shown (λ n. refuses_part c.args.store.now c.args.table.now t.drawn n) _ _ _ c.refuse_part.ensures c.faults.ensures c.in_default.is in
+    let still = shown_part_calm c.args.store.now c.args.table.now _ t.drawn none c.requires.opened in
+    let small = shown_number c.args.store.now c.args.table.now _ t.drawn none in
+    ap (λ n. files_at n (names_of root)) c.in-Ok.ensures.name
+    ∙ part_free c.args.store.now root (c.requires.names still root is) c.args.table.now t (fresh_part (t.drawn + 1)) c.index.ensures (fresh_named t.drawn small) (omega arith)
+
+pub enter_part-requires : goal.enter_part-requires
+enter_part-requires g c =
+    let t : Table = c.index.result.now in
+    subst (λ (ks : List (Kept (Part g.row.D-Arm-Dir.Denot))). NoneMeets ks (fresh_part (t.drawn + 1))) (sym (c.in-Ok.ensures.parts c.args.table.now))
+    (none_meets (parts_of c.args.store.now.set c.args.table.now) t.drawn (c.requires.store.tables c.args.table.now t c.index.ensures).ends)
+
+-- there was no memory
+pub returns-in-Err-clause-store : goal.returns-in-Err-clause-store
+returns-in-Err-clause-store g c = sound_same c.args.store.now _ (record { tables = refl; parts = c.in-Err.ensures.parts; length_is = refl; opened_is = refl }) c.requires.store
+
+-- it was not committed
+pub returns-in-Err-commit-clause-store : goal.returns-in-Err-commit-clause-store
+returns-in-Err-commit-clause-store g c = sound_same c.args.store.now _ (record { tables = refl; parts = c.in-Ok.ensures.parts; length_is = refl; opened_is = refl }) c.requires.store
+
+-- it was
+module _ (g : _) (c : goal.After-drop-name-inside-in-Ok-enter_part g) where
+  abbrev t : Table
+  t = c.index.result.now
+
+  none : refuses_part c.args.store.now c.args.table.now t.drawn (g.D.Disk.failed c.args.disk.now) ≡ None
+  none = none_shown (λ n. refuses_part c.args.store.now c.args.table.now t.drawn n) _ _ _ c.refuse_part.ensures c.faults.ensures c.in_default.is
+
+  small : t.drawn < 4294967295
+  small = shown_number c.args.store.now c.args.table.now _ t.drawn none
+
+  -- each name of the root is one under the store
+  fit : ForSome (g.D.Disk.told c.args.disk.now) (NamesFit c.args.store.now)
+  fit = c.requires.names (shown_part_calm c.args.store.now c.args.table.now _ t.drawn none c.requires.opened)
+
+  published : g.D.Disk.told c.commit.new.disk ≡ put (g.D.Disk.clock c.args.disk.now) (part_name c.args.table.now (part_text (fresh_part (t.drawn + 1)))) c.args.part.sealed.files (g.D.Disk.told c.args.disk.now)
+  published = c.in-Ok-commit.ensures.disk ∙ ap (λ (n : List ℕ). put (g.D.Disk.clock c.args.disk.now) n c.args.part.sealed.files (g.D.Disk.told c.args.disk.now)) c.in-Ok.ensures.name
+
+  added : PartIsAdded c.args.table.now c.of-part.result t c.args.store.now c.enter_part.new.store
+  added = record {
+    there = c.index.ensures;
+    updates = c.in-Ok-enter_part.ensures.updates t c.index.ensures;
+    count = c.in-Ok-enter_part.ensures.count;
+    added = subst (λ (ks : List (Kept (Part g.row.D-Arm-Dir.Denot))). IsAdded ks (record { name = fresh_part (t.drawn + 1); part = c.of-part.result }) (parts_of c.enter_part.new.store.set c.args.table.now))
+        (c.in-Ok.ensures.parts c.args.table.now) c.in-Ok-enter_part.ensures.added;
+    ordered = c.in-Ok-enter_part.ensures.ordered;
+    others = λ u apart. c.in-Ok-enter_part.ensures.others u apart ∙ c.in-Ok.ensures.parts u;
+    length_is = c.in-Ok-enter_part.ensures.length ∙ c.in-Ok.ensures.length;
+    opened_is = c.enter_part.ensures.opened;
+  }
+
+  -- the part is behind the others
+  sealed : EntersSealed g.D.Arm.Dir.Dir.files c.args.part.sealed.files c.args.part.loaded c.args.table.now t c.args.store.now c.enter_part.new.store
+  sealed = record {
+    part = c.of-part.result;
+    files_are = ap g.D.Arm.Dir.Dir.files c.of-part.ensures.dir ∙ c.in-Ok-commit.ensures.dir;
+    loaded_is = c.of-part.ensures.loaded;
+    enters = enters_part c.args.table.now c.of-part.result t c.args.store.now c.enter_part.new.store added c.requires.store;
+  }
+
+  -- the table that is there is the one that was read
+  same : (u : Table) → table_at c.args.store.now c.args.table.now ≡ Some u → t ≡ u
+  same u at = one_some (table_at c.args.store.now c.args.table.now) t u c.index.ensures at
+
+pub returns-in-Ok-enter_part-clause-enters : goal.returns-in-Ok-enter_part-clause-enters
+returns-in-Ok-enter_part-clause-enters g c = λ u at.
+    subst (λ (x : Table). EntersSealed g.D.Arm.Dir.Dir.files c.args.part.sealed.files c.args.part.loaded c.args.table.now x c.args.store.now c.enter_part.new.store) (same g c u at) (sealed g c)
+
+pub returns-in-Ok-enter_part-clause-stands : goal.returns-in-Ok-enter_part-clause-stands
+returns-in-Ok-enter_part-clause-stands g c = λ h u s at is.
+    let t : Table = c.index.result.now in
+    let here : IsSealedOf t.schema c.args.block c.args.part.sealed.files c.args.part.loaded =
+    subst (λ (x : Table). IsSealedOf x.schema c.args.block c.args.part.sealed.files c.args.part.loaded) (sym (same g c u at)) is in
+    stands_inserted g.D.Arm.Dir.Dir.files h c.args.store.now c.enter_part.new.store c.args.session c.args.table.now t c.args.block c.args.part.sealed.files c.args.part.loaded s
+    (c.requires.rows t c.index.ensures) here (sealed g c)
+
+pub returns-in-Ok-enter_part-clause-root_stands : goal.returns-in-Ok-enter_part-clause-root_stands
+returns-in-Ok-enter_part-clause-root_stands g c = λ h u s stands at is.
+    let t : Table = c.index.result.now in
+    let here : IsSealedOf t.schema c.args.block c.args.part.sealed.files c.args.part.loaded =
+    subst (λ (x : Table). IsSealedOf x.schema c.args.block c.args.part.sealed.files c.args.part.loaded) (sym (same g c u at)) is in
+    root_added g.D.Arm.Dir.Dir.files c.args.store.now h c.args.session (g.D.Disk.clock c.args.disk.now) (g.D.Disk.told c.args.disk.now) (g.D.Disk.told c.commit.new.disk) s stands (fit g c)
+    c.args.table.now t c.args.block c.args.part.sealed.files c.args.part.loaded c.index.ensures (small g c) (c.requires.rows t c.index.ensures) here (published g c)
+
+pub returns-in-Ok-enter_part-clause-store : goal.returns-in-Ok-enter_part-clause-store
+returns-in-Ok-enter_part-clause-store g c = sound_added _ _ _ _ _ (added g c) c.requires.store
+
+pub returns-in-Ok-enter_part-clause-names : goal.returns-in-Ok-enter_part-clause-names
+returns-in-Ok-enter_part-clause-names g c = λ _. added_fits _ _ _ _ _ (added g c) _ _ _ _ (small g c) (fit g c) (published g c)

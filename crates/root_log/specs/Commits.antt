@@ -1,0 +1,156 @@
+-- What refuses a commit, and what it leaves (docs/architecture.md, "Commits").
+use Rattle.std.specs.Prelude.{◌≡◌, ◌≢◌, ℕ, ◌+◌, List, [], ◌∷◌, ◌++◌, Option, Some, None, Result, Ok, Err, filter, if◌then◌else◌, is_some, length, nat_le, nat_lt}
+use Rattle.std.specs.BTreeMap.{Updates}
+use Rattle.std.specs.Cmp.Lexicographic.{slice_cmp}
+use Rattle.std.specs.Option.{option_map}
+use Rattle.std.specs.Ordering.{nat_cmp}
+use Rattle.mt_base.specs.declared.partition.Partition.TheVariants.{Whole}
+use Rattle.mt_values.specs.declared.command.Command.{Command}
+use Rattle.mt_values.specs.declared.command.Entry.{Entry}
+use Rattle.mt_values.specs.declared.command.Insert.{Insert}
+use Rattle.mt_values.specs.declared.schema.Schema.{Schema}
+use Rattle.mt_values.specs.declared.command.Command.TheVariants as command
+use Rattle.mt_values.specs.Grid.{Grid}
+use Rattle.mt_values.specs.Annals.{Told, began, noted}
+use Rattle.mt_values.specs.Order.{key_cmp}
+use Rattle.mt_values.specs.Values.{Row}
+use Rattle.mt_model.specs.Live.{sorted}
+use Rattle.mt_values.specs.declared.manifest.Loaded.{Loaded}
+use Rattle.mt_outside.specs.declared.disk.DiskError.{DiskError}
+use Rattle.mt_outside.specs.declared.disk.DiskError.TheVariants as failure
+use Rattle.mt_outside.specs.Files.{Files}
+use Rattle.part_name.specs.declared.part.PartName.{PartName}
+use Rattle.part_reader.specs.declared.reading.Part.{Part}
+use Rattle.part_writer.specs.PartFiles.{manifest_of}
+use Rattle.part_set.specs.declared.kept.Kept.{Kept}
+use Rattle.part_set.specs.Sets.{parts_of}
+use Rattle.table_core.specs.Numbers.{same_partition}
+use Rattle.root_log.specs.declared.commits.Limit.TheVariants as limit
+use Rattle.root_log.specs.declared.commits.Refused.{Refused}
+use Rattle.root_log.specs.declared.commits.Refused.TheVariants as refused
+use Rattle.root_log.specs.declared.commits.Returned.{Returned}
+use Rattle.root_log.specs.declared.store.CoreStore.{CoreStore}
+use Rattle.root_log.specs.declared.store.Table.{Table}
+use Rattle.root_log.specs.Roots.{FolderHolds}
+use Rattle.root_log.specs.Stores.{table_at}
+
+-- why a command was not committed; none where it was
+abbrev pub cause_of : {T S : Type 0} → Result T (Returned S) → Option Refused
+cause_of (Ok x) = None
+cause_of (Err r) = Some r.cause
+
+-- none, or a cause that the store and the disk's count do not show
+abbrev pub IsOutside : Option Refused → Type 0
+IsOutside None = Unit {0}
+IsOutside (Some refused.NoMemory) = Unit {0}
+IsOutside (Some refused.Disk) = Unit {0}
+IsOutside (Some (refused.Stopped opened now)) = ⊥
+IsOutside (Some refused.Exists) = ⊥
+IsOutside (Some (refused.Limit l)) = ⊥
+
+-- the cause is the one that the store and the disk's count show; where they show none it is none, or one of the outside
+abbrev pub IsCause : Option Refused → Option Refused → Type 0
+IsCause (Some shown) cause = cause ≡ Some shown
+IsCause None cause = IsOutside cause
+
+-- the disk's count of faults is above the one at opening
+abbrev pub stopped_by : ℕ → ℕ → Option Refused
+stopped_by opened now = if nat_lt opened now then Some (refused.Stopped opened now) else None
+
+-- what the store and the disk's count show against a CREATE: there is the table, or as many as may be, or the store was stopped
+abbrev pub refuses_create : {F : Type 0} → CoreStore F → List ℕ → ℕ → Option Refused
+refuses_create store table now =
+    if is_some (table_at store table) then Some refused.Exists
+    else if nat_le 64 (length store.tables.entries) then Some (refused.Limit limit.Tables)
+    else stopped_by store.opened now
+
+-- of what was published, or was not
+abbrev pub refused_by_disk : DiskError → Refused
+refused_by_disk failure.NoMemory = refused.NoMemory
+refused_by_disk failure.Fault = refused.Disk
+
+-- the same tables and parts, whatever room there is for more
+pub record SameStore {F : Type 0} (old new : CoreStore F) : Type 0 where
+  pub tables : new.tables.entries ≡ old.tables.entries
+  pub parts : (table : List ℕ) → parts_of new.set table ≡ parts_of old.set table
+  pub length_is : new.length ≡ old.length
+  pub opened_is : new.opened ≡ old.opened
+
+-- a table of which no command drew a number
+abbrev pub fresh_table : Schema → Table
+fresh_table schema = record { schema = schema; drawn = 0 }
+
+-- there is one more table, and one more command
+pub record EntersTable {F : Type 0} (table : List ℕ) (schema : Schema) (old new : CoreStore F) : Type 0 where
+  pub absent : table_at old table ≡ None
+  pub updates : Updates (slice_cmp nat_cmp) old.tables new.tables table (Some (fresh_table schema))
+  pub count : length new.tables.entries ≡ length old.tables.entries + 1
+  pub set_is : new.set ≡ old.set
+  pub length_is : new.length ≡ old.length + 1
+  pub opened_is : new.opened ≡ old.opened
+
+-- a command of a session
+abbrev pub entry_of : ℕ → Command → Entry
+entry_of session command = record { session = session; command = command }
+
+-- the block, as it is added to a table
+abbrev pub insert_into : List ℕ → Grid → Insert
+insert_into table block = record { table = table; partition = Whole; block = block }
+
+-- the command that adds a block to a table
+abbrev pub insert_of_block : List ℕ → Grid → Command
+insert_of_block table block = command.Insert (insert_into table block)
+
+-- the rows of a block as its part has them: in the order of the key, those of equal keys as they came
+abbrev pub part_rows : Schema → Grid → List Row
+part_rows schema block = sorted (key_cmp schema.key) block.rows
+
+-- what was sealed of a block for a table with this schema, where the stage told it: the files of the block's rows, and their manifest
+pub record IsSealedOf (schema : Schema) (block : Grid) (sealed : Option Files) (loaded : Loaded) : Type 0 where
+  pub files : Files
+  pub sealed_are : sealed ≡ Some files
+  pub holds : FolderHolds schema (part_rows schema block) files
+  pub loaded_is : loaded.manifest ≡ manifest_of (length schema.columns) (part_rows schema block)
+
+-- the keeper tells one more command, with its mark
+abbrev pub Notes : ℕ → Entry → Option Told → Option Told → Type 0
+Notes mark entry old new = new ≡ option_map (λ (t : Told). noted mark (began entry t)) old
+
+-- the list stays, whatever is begun; where nothing was told nothing is
+abbrev pub SameList : Option Told → Option Told → Type 0
+SameList (Some t) (Some u) = u.list ≡ t.list
+SameList None new = new ≡ None
+SameList (Some t) None = ⊥
+
+-- the part that a table's next INSERT makes
+abbrev pub fresh_part : ℕ → PartName
+fresh_part n = record { partition = Whole; min_block = n; max_block = n; level = 0; mutation = None }
+
+-- the parts that are of the whole partition
+abbrev pub whole_parts : {P : Type 0} → List (Kept P) → List (Kept P)
+whole_parts {P} parts = filter (λ (k : Kept P). same_partition k.name.partition Whole) parts
+
+-- what the store and the disk's count show against a part of a table of which so many numbers were drawn: the partition has as many
+-- parts as may be, or the table has no number left, or the store was stopped
+abbrev pub refuses_part : {F : Type 0} → CoreStore F → List ℕ → ℕ → ℕ → Option Refused
+refuses_part store table drawn now =
+    if nat_le 3000 (length (whole_parts (parts_of store.set table))) then Some (refused.Limit limit.Parts)
+    else if nat_le 4294967295 drawn then Some (refused.Limit limit.Numbers)
+    else stopped_by store.opened now
+
+-- there is one more part of a table, behind its others, its number drawn, and one more command
+pub record EntersPart {F : Type 0} (table : List ℕ) (part : Part F) (t : Table) (old new : CoreStore F) : Type 0 where
+  pub there : table_at old table ≡ Some t
+  pub updates : Updates (slice_cmp nat_cmp) old.tables new.tables table (Some (record { schema = t.schema; drawn = t.drawn + 1 }))
+  pub count : length new.tables.entries ≡ length old.tables.entries
+  pub parts : parts_of new.set table ≡ parts_of old.set table ++ record { name = fresh_part (t.drawn + 1); part = part } ∷ []
+  pub others : (u : List ℕ) → u ≢ table → parts_of new.set u ≡ parts_of old.set u
+  pub length_is : new.length ≡ old.length + 1
+  pub opened_is : new.opened ≡ old.opened
+
+-- the same, where the new part has what was sealed: its files, as its folder tells them, and what is kept of it
+pub record EntersSealed {F : Type 0} (files_of : F → Option Files) (files : Option Files) (loaded : Loaded) (table : List ℕ) (t : Table) (old new : CoreStore F) : Type 0 where
+  pub part : Part F
+  pub files_are : files_of part.dir ≡ files
+  pub loaded_is : part.loaded ≡ loaded
+  pub enters : EntersPart table part t old new

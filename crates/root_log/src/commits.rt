@@ -1,0 +1,504 @@
+// A command added to the disk, to what the keeper tells and to the store.
+ghost use Rattle.std.specs.Prelude.{◌≡◌, ◌≢◌, ◌+◌, ◌-◌, ◌<◌, ◌≤◌, ◌^◌, ℕ, IsSome, IsTrue, List, Option, Some, None, IfErr, IfOk, IfSome, IsErrOf, IsNone, IsOk, OnErr, OnOk, length};
+ghost use Rattle.std.specs.BTreeMap.{Updates, get, insert_entry};
+ghost use Rattle.std.specs.Cmp.Lexicographic.{slice_cmp};
+ghost use Rattle.std.specs.Option.{ForSome};
+ghost use Rattle.std.specs.Ordering.{nat_cmp};
+ghost use Rattle.mt_values.specs.declared.command.Command.TheVariants as command;
+ghost use Rattle.mt_values.specs.RootNames.{create_name, part_name};
+ghost use Rattle.part_name.specs.PartNames.{part_text};
+ghost use Rattle.part_set.specs.RootNames.{is_table};
+ghost use Rattle.part_set.specs.Parts.{IsAdded, IsInBlockOrder, NoneMeets};
+ghost use Rattle.part_set.specs.Sets.{HasRoom, parts_of};
+ghost use Rattle.mt_outside.specs.Causes.{Rose};
+ghost use Rattle.mt_outside.specs.DiskCauses.{HasDiskCause};
+ghost use Rattle.mt_outside.specs.Disk.{MayPut, files_at, names_of, put};
+ghost use Rattle.mt_outside.specs.Files.{Files};
+ghost use Rattle.mt_model.specs.History.{History, IsInsertInto, IsTableSchema};
+ghost use Rattle.mt_base.specs.declared.partition.Partition.TheVariants.{Whole};
+ghost use Rattle.table_core.specs.Numbers.{same_partition};
+ghost use Rattle.table_core.specs.Steps.{entered};
+ghost use Rattle.root_log.specs.Commits.{EntersSealed, EntersTable, IsCause, Notes, SameList, SameStore, cause_of, entry_of, fresh_part, fresh_table, IsSealedOf, insert_into, insert_of_block, refused_by_disk, refuses_create, refuses_part, stopped_by, whole_parts};
+ghost use Rattle.root_log.specs.Entries.{EntryHolds};
+ghost use Rattle.root_log.specs.Soundness.{IsSound, NamesFitUnlessRisen, RootStands};
+ghost use Rattle.root_log.specs.Stores.{CoreStands, table_at};
+ghost use Rattle.root_log.specs.declared.store.Table.{Table as Made};
+
+use crate::{CoreStore, Table};
+use mt_base::{NoMemory, Partition, Twin};
+use mt_outside::{Arm, Disk, DiskError};
+use mt_values::{Annals, Block, Command, Create, Entry, Insert, Name};
+use part_name::PartName;
+use part_reader::Part;
+use part_set::{Kept, PartSet, RootName, TablePart, spell_name};
+use part_writer::SealedPart;
+use stage_dir::Sealed;
+use std::alloc::Global;
+use std::collections::BTreeMap;
+
+/// No more tables than this are made.
+const MOST_TABLES: usize = 64;
+
+/// No partition has more parts than this.
+const MOST_PARTS: usize = 3000;
+
+/// The greatest number of a table's commands.
+const LAST_NUMBER: u32 = 4_294_967_295;
+
+/// Which room is full.
+#[derive(Clone, Copy, Debug)]
+pub enum Limit {
+    /// As many tables were made as may be.
+    Tables,
+    /// The partition has as many parts as may be.
+    Parts,
+    /// The table has no number left.
+    Numbers,
+}
+
+/// Why a command was not committed.
+#[derive(Clone, Copy, Debug)]
+pub enum Refused {
+    /// A growth was refused.
+    NoMemory,
+    /// The publish or the sync of the names failed. The name is there or not.
+    Disk,
+    /// The disk's count of faults is above the one at opening, so the store takes no command.
+    Stopped { opened: u64, now: u64 },
+    /// There is a table of this name.
+    Exists,
+    /// There is no room for more.
+    Limit(Limit),
+}
+
+impl Refused {
+    // Why what was sealed was not committed.
+    fn of_disk(error: DiskError) -> Refused
+        ensures { result ≡ refused_by_disk error }
+    {
+        match error {
+            DiskError::NoMemory => Refused::NoMemory,
+            DiskError::Fault => Refused::Disk,
+        }
+    }
+}
+
+/// Why a command was not committed, and what was sealed for it, where it was not given to the disk.
+#[derive(Drop)]
+pub struct Returned<S> {
+    pub cause: Refused,
+    pub back: Option<S>,
+}
+
+// The disk's count of faults is above the one at opening.
+fn refuse_stopped(opened: u64, now: u64) -> Option<Refused>
+    ensures { result ≡ stopped_by opened now }
+{
+    if opened < now {
+        return Some(Refused::Stopped { opened, now });
+    }
+    None
+}
+
+// What the store and the disk's count show against a CREATE.
+fn refuse_create<F>(store: &CoreStore<F>, table: &Name, now: u64) -> Option<Refused>
+    ensures { result ≡ refuses_create store.now table.now now }
+{
+    if store.tables.contains_key(table) {
+        return Some(Refused::Exists);
+    }
+    if store.tables.len() >= MOST_TABLES {
+        return Some(Refused::Limit(Limit::Tables));
+    }
+    refuse_stopped(store.opened, now)
+}
+
+// Whether it is the whole partition.
+fn is_whole(partition: Partition) -> bool
+    ensures { result ≡ same_partition partition Whole }
+{
+    match partition {
+        Partition::Whole => true,
+        Partition::Number(_) => false,
+    }
+}
+
+// How many of these parts are of the whole partition.
+fn count_whole<P>(parts: &[Kept<P>]) -> usize
+    ensures { result ≡ length (whole_parts parts.now) }
+{
+    parts
+        .iter()
+        .filter(|kept| is_whole(kept.name.partition))
+        .count()
+}
+
+// What the store and the disk's count show against a part of a table of which so many numbers were drawn.
+fn refuse_part<F>(store: &CoreStore<F>, table: &Name, drawn: u32, now: u64) -> Option<Refused>
+    ensures { result ≡ refuses_part store.now table.now drawn now }
+{
+    if count_whole(store.set.parts(table)) >= MOST_PARTS {
+        return Some(Refused::Limit(Limit::Parts));
+    }
+    if drawn >= LAST_NUMBER {
+        return Some(Refused::Limit(Limit::Numbers));
+    }
+    refuse_stopped(store.opened, now)
+}
+
+// What a commit takes with it: no memory is wanted for it any more.
+struct Ready {
+    // The name of the root.
+    name: Name,
+    table: Name,
+    entry: Entry,
+    // The length of the history behind it.
+    length: u64,
+}
+
+// Takes all memory of a CREATE. The table is entered, to be taken out again where the commit fails.
+//
+// `NoMemory` where a growth was refused, and at a history of 2^64 - 1 commands; the tables are as they were.
+fn prepare_create<A: Annals>(
+    alloc: Global,
+    tables: &mut BTreeMap<Name, Table>,
+    annals: &mut A,
+    session: u64,
+    create: Create,
+    before: u64,
+) -> Result<Ready, NoMemory>
+    requires { get (slice_cmp nat_cmp) tables.old create.table ≡ None }
+    ensures name { IfOk result (λ r. r.name ≡ create_name create.table) }
+    ensures table { IfOk result (λ r. r.table ≡ create.table) }
+    ensures entry { IfOk result (λ r. r.entry ≡ entry_of session (command.Create create)) }
+    ensures length { IfOk result (λ r. r.length ≡ before + 1) }
+    ensures entries { OnOk result (tables.new.entries ≡ insert_entry (slice_cmp nat_cmp) tables.old.entries create.table (fresh_table create.schema)) }
+    ensures updates { OnOk result (Updates (slice_cmp nat_cmp) tables.old tables.new create.table (Some (fresh_table create.schema))) }
+    ensures count { OnOk result (length tables.new.entries ≡ length tables.old.entries + 1) }
+    ensures err { OnErr result (tables.new.entries ≡ tables.old.entries) }
+    ensures room { OnOk result (A.has_room annals.new) }
+    ensures told { A.told annals.new ≡ A.told annals.old }
+{
+    let Some(length) = before.checked_add(1) else {
+        return Err(NoMemory);
+    };
+    let table = create.table.twin(alloc)?;
+    let root_name = RootName::Create(create.table.twin(alloc)?);
+    let name = spell_name(alloc, &root_name)?;
+    let key = create.table.twin(alloc)?;
+    let schema = create.schema.twin(alloc)?;
+    annals.reserve(alloc)?;
+    tables.insert(key, Table { schema, drawn: 0 })?;
+    let command = Command::Create(create);
+    let entry = Entry { session, command };
+    Ok(Ready {
+        name,
+        table,
+        entry,
+        length,
+    })
+}
+
+// What a part's commit takes with it: no memory is wanted for it any more.
+struct ReadyPart {
+    // The name of the root.
+    name: Name,
+    entry: Entry,
+    // The length of the history behind it.
+    length: u64,
+}
+
+// Takes all memory of the part with this number of a table. No part is added yet.
+//
+// `NoMemory` where a growth was refused, and at a history of 2^64 - 1 commands; the parts are as they were.
+fn prepare_part<P: Drop, A: Annals>(
+    alloc: Global,
+    set: &mut PartSet<P>,
+    annals: &mut A,
+    session: u64,
+    table: &Name,
+    number: u32,
+    block: Block,
+    before: u64,
+) -> Result<ReadyPart, NoMemory>
+    ensures name { IfOk result (λ r. r.name ≡ part_name table.now (part_text (fresh_part number))) }
+    ensures entry { IfOk result (λ r. r.entry ≡ entry_of session (insert_of_block table.now block)) }
+    ensures length { IfOk result (λ r. r.length ≡ before + 1) }
+    ensures parts { (t : List ℕ) → parts_of set.new t ≡ parts_of set.old t }
+    ensures place { OnOk result (HasRoom set.new table.now) }
+    ensures room { OnOk result (A.has_room annals.new) }
+    ensures told { A.told annals.new ≡ A.told annals.old }
+{
+    let Some(length) = before.checked_add(1) else {
+        return Err(NoMemory);
+    };
+    let root_name = RootName::Part(TablePart {
+        table: table.twin(alloc)?,
+        name: name_of_part(number),
+    });
+    let name = spell_name(alloc, &root_name)?;
+    let table_name = table.twin(alloc)?;
+    set.reserve(alloc, table)?;
+    annals.reserve(alloc)?;
+    let command = Command::Insert(Insert {
+        table: table_name,
+        partition: Partition::Whole,
+        block,
+    });
+    let entry = Entry { session, command };
+    Ok(ReadyPart {
+        name,
+        entry,
+        length,
+    })
+}
+
+// The name of the part that the INSERT with this number into a table makes.
+fn name_of_part(number: u32) -> PartName
+    ensures { result ≡ fresh_part number }
+{
+    PartName {
+        partition: Partition::Whole,
+        min_block: number,
+        max_block: number,
+        level: 0,
+        mutation: None,
+    }
+}
+
+// Publishes what was sealed, settles it and notes the command. The keeper has room for it.
+//
+// After an error the keeper tells the same list; after a fault the name is there or not.
+fn commit<D: Disk, A: Annals>(
+    alloc: Global,
+    disk: &mut D,
+    annals: &mut A,
+    sealed: Sealed<<D::Arm as Arm>::Stage>,
+    name: &Name,
+    entry: Entry,
+) -> Result<<D::Arm as Arm>::Dir, DiskError>
+    requires free { ForSome (D.told disk.old) (λ t. files_at name.now (names_of t) ≡ None) }
+    requires room { A.has_room annals.old }
+    ensures disk { OnOk result (D.told disk.new ≡ put (D.clock disk.old) name.now sealed.files (D.told disk.old)) }
+    ensures dir { IfOk result (λ d. D.Arm.Dir.files d ≡ sealed.files) }
+    ensures settled { OnOk result (D.clock disk.new ≡ D.clock disk.old + 1) }
+    ensures annals { OnOk result (Notes (D.clock disk.new) entry (A.told annals.old) (A.told annals.new)) }
+    ensures annals_err { OnErr result (SameList (A.told annals.old) (A.told annals.new)) }
+    ensures left { OnErr result (MayPut (D.clock disk.old) name.now sealed.files (D.told disk.old) (D.told disk.new)) }
+    ensures memory { IsErrOf result DiskError.NoMemory → D.told disk.new ≡ D.told disk.old }
+    ensures cause { HasDiskCause (D.failed disk.old) (D.failed disk.new) result }
+{
+    annals.begin(entry);
+    let dir = match disk.publish(alloc, sealed.into_stage(), name) {
+        Ok(dir) => dir,
+        Err(error) => return Err(error),
+    };
+    disk.sync_names()?;
+    annals.note(disk.mark());
+    Ok(dir)
+}
+
+/// Commits a CREATE whose entry was sealed: its name is published and settled, the keeper notes it, and the store has the table.
+///
+/// It is refused where there is the table, or as many as may be, or the store was stopped, in this order; else only for want of
+/// memory, or where the disk's count of faults rose in this call. What was sealed comes back where it was not given to the disk.
+/// After a refusal the store is as it was but for room, and the keeper tells the same list.
+pub fn commit_create<D: Disk, A: Annals>(
+    alloc: Global,
+    store: &mut CoreStore<<D::Arm as Arm>::Dir>,
+    disk: &mut D,
+    annals: &mut A,
+    session: u64,
+    create: Create,
+    sealed: Sealed<<D::Arm as Arm>::Stage>,
+) -> Result<(), Returned<Sealed<<D::Arm as Arm>::Stage>>>
+    requires named { IsTrue (is_table create.table) }
+    requires schema { IsTableSchema create.schema }
+    requires store { IsSound store.old }
+    requires names { NamesFitUnlessRisen (D.failed disk.old) (D.told disk.old) store.old }
+    requires opened { store.old.opened ≤ D.failed disk.old }
+    requires below { store.old.opened < 2 ^ 64 - 1 }
+    ensures cause { IsCause (refuses_create store.old create.table (D.failed disk.old)) (cause_of result) }
+    ensures rose { IfErr result (λ r. r.cause ≡ Refused.Disk → Rose (D.failed disk.old) (D.failed disk.new)) }
+    ensures later { D.failed disk.old ≤ D.failed disk.new }
+    ensures back { IfErr result (λ r. IfSome r.back (λ s. s ≡ sealed)) }
+    ensures unpublished { IfErr result (λ r. IfSome r.back (λ _. disk.new ≡ disk.old)) }
+    ensures published { IfErr result (λ r. IsNone r.back → MayPut (D.clock disk.old) (create_name create.table) sealed.files (D.told disk.old) (D.told disk.new)) }
+    ensures faulted { IfErr result (λ r. r.cause ≡ Refused.Disk → IsNone r.back) }
+    ensures same { OnErr result (SameStore store.old store.new) }
+    ensures annals_err { OnErr result (SameList (A.told annals.old) (A.told annals.new)) }
+    ensures root { OnOk result (D.told disk.new ≡ put (D.clock disk.old) (create_name create.table) sealed.files (D.told disk.old)) }
+    ensures mark { OnOk result (D.clock disk.new ≡ D.clock disk.old + 1) }
+    ensures annals { OnOk result (Notes (D.clock disk.new) (entry_of session (command.Create create)) (A.told annals.old) (A.told annals.new)) }
+    ensures enters { OnOk result (EntersTable create.table create.schema store.old store.new) }
+    ensures stands { (h : History) → CoreStands D.Arm.Dir.files h store.old → OnOk result (CoreStands D.Arm.Dir.files (entered h session (command.Create create)) store.new) }
+    ensures root_stands { (h : History) (files : Files) → CoreStands D.Arm.Dir.files h store.old → RootStands (D.told disk.old) h
+        → sealed.files ≡ Some files → EntryHolds create.table create.schema files → OnOk result (RootStands (D.told disk.new) (entered h session (command.Create create))) }
+    ensures unchanged { IfErr result (λ r. r.cause ≢ Refused.Disk → D.told disk.new ≡ D.told disk.old) }
+    ensures store { IsSound store.new }
+    ensures names { NamesFitUnlessRisen (D.failed disk.new) (D.told disk.new) store.new }
+    ensures opened { store.new.opened ≡ store.old.opened }
+{
+    if let Some(cause) = refuse_create(store, &create.table, disk.faults()) {
+        let back = Some(sealed);
+        return Err(Returned { cause, back });
+    }
+    let before = store.length;
+    let ready = match prepare_create(alloc, &mut store.tables, annals, session, create, before) {
+        Ok(ready) => ready,
+        Err(_) => {
+            let back = Some(sealed);
+            let cause = Refused::NoMemory;
+            return Err(Returned { cause, back });
+        }
+    };
+    let Ready {
+        name,
+        table,
+        entry,
+        length,
+    } = ready;
+    match commit(alloc, disk, annals, sealed, &name, entry) {
+        Ok(_) => {}
+        Err(error) => {
+            store.tables.remove(&table);
+            let cause = Refused::of_disk(error);
+            return Err(Returned { cause, back: None });
+        }
+    }
+    store.length = length;
+    Ok(())
+}
+
+// The table draws a number.
+fn draw(tables: &mut BTreeMap<Name, Table>, table: &Name, number: u32)
+    ensures updates { (t : Made) → get (slice_cmp nat_cmp) tables.old table.now ≡ Some t
+        → Updates (slice_cmp nat_cmp) tables.old tables.new table.now (Some (record { schema = t.schema; drawn = number })) }
+    ensures count { length tables.new.entries ≡ length tables.old.entries }
+{
+    let Some(found) = tables.get_mut(table) else {
+        return;
+    };
+    found.drawn = number;
+}
+
+// Enters a part with the number that its table draws now. Takes no memory where there is room.
+//
+// `NoMemory` where a growth was refused.
+fn enter_part<F: Drop>(
+    alloc: Global,
+    store: &mut CoreStore<F>,
+    table: &Name,
+    number: u32,
+    part: Part<F>,
+    after: u64,
+) -> Result<(), NoMemory>
+    requires { NoneMeets (parts_of store.old.set table.now) (fresh_part number) }
+    ensures room { HasRoom store.old.set table.now → IsOk result }
+    ensures added { OnOk result (IsAdded (parts_of store.old.set table.now) (record { name = fresh_part number; part = part }) (parts_of store.new.set table.now)) }
+    ensures ordered { OnOk result (IsInBlockOrder (parts_of store.new.set table.now)) }
+    ensures others { OnOk result ((t : List ℕ) → t ≢ table.now → parts_of store.new.set t ≡ parts_of store.old.set t) }
+    ensures updates { (t : Made) → table_at store.old table.now ≡ Some t
+        → OnOk result (Updates (slice_cmp nat_cmp) store.old.tables store.new.tables table.now (Some (record { schema = t.schema; drawn = number }))) }
+    ensures count { OnOk result (length store.new.tables.entries ≡ length store.old.tables.entries) }
+    ensures length { OnOk result (store.new.length ≡ after) }
+    ensures opened { store.new.opened ≡ store.old.opened }
+{
+    store.set.add(alloc, table, name_of_part(number), part)?;
+    draw(&mut store.tables, table, number);
+    store.length = after;
+    Ok(())
+}
+
+/// Commits a block whose part was sealed: its name is published and settled, the keeper notes it, and the store has the part.
+///
+/// It is refused where the partition has as many parts as may be, or the table has no number left, or the store was stopped, in this
+/// order; else only for want of memory, or where the disk's count of faults rose in this call. What was sealed comes back where it
+/// was not given to the disk. After a refusal the store is as it was but for room, and the keeper tells the same list.
+pub fn commit_part<D: Disk, A: Annals>(
+    alloc: Global,
+    store: &mut CoreStore<<D::Arm as Arm>::Dir>,
+    disk: &mut D,
+    annals: &mut A,
+    session: u64,
+    table: &Name,
+    part: SealedPart<<D::Arm as Arm>::Stage>,
+    block: Block,
+) -> Result<(), Returned<SealedPart<<D::Arm as Arm>::Stage>>>
+    requires there { IsSome (table_at store.old table.now) }
+    requires rows { (t : Made) → table_at store.old table.now ≡ Some t → IsInsertInto t.schema (insert_into table.now block) }
+    requires store { IsSound store.old }
+    requires names { NamesFitUnlessRisen (D.failed disk.old) (D.told disk.old) store.old }
+    requires opened { store.old.opened ≤ D.failed disk.old }
+    requires below { store.old.opened < 2 ^ 64 - 1 }
+    ensures cause { (t : Made) → table_at store.old table.now ≡ Some t → IsCause (refuses_part store.old table.now t.drawn (D.failed disk.old)) (cause_of result) }
+    ensures rose { IfErr result (λ r. r.cause ≡ Refused.Disk → Rose (D.failed disk.old) (D.failed disk.new)) }
+    ensures later { D.failed disk.old ≤ D.failed disk.new }
+    ensures back { IfErr result (λ r. IfSome r.back (λ s. s ≡ part)) }
+    ensures unpublished { IfErr result (λ r. IfSome r.back (λ _. disk.new ≡ disk.old)) }
+    ensures faulted { IfErr result (λ r. r.cause ≡ Refused.Disk → IsNone r.back) }
+    ensures same { OnErr result (SameStore store.old store.new) }
+    ensures annals_err { OnErr result (SameList (A.told annals.old) (A.told annals.new)) }
+    ensures mark { OnOk result (D.clock disk.new ≡ D.clock disk.old + 1) }
+    ensures annals { OnOk result (Notes (D.clock disk.new) (entry_of session (insert_of_block table.now block)) (A.told annals.old) (A.told annals.new)) }
+    ensures published { (t : Made) → table_at store.old table.now ≡ Some t
+        → IfErr result (λ r. IsNone r.back → MayPut (D.clock disk.old) (part_name table.now (part_text (fresh_part (t.drawn + 1)))) part.sealed.files (D.told disk.old) (D.told disk.new)) }
+    ensures root { (t : Made) → table_at store.old table.now ≡ Some t
+        → OnOk result (D.told disk.new ≡ put (D.clock disk.old) (part_name table.now (part_text (fresh_part (t.drawn + 1)))) part.sealed.files (D.told disk.old)) }
+    ensures enters { (t : Made) → table_at store.old table.now ≡ Some t → OnOk result (EntersSealed D.Arm.Dir.files part.sealed.files part.loaded table.now t store.old store.new) }
+    ensures stands { (h : History) (t : Made) → CoreStands D.Arm.Dir.files h store.old → table_at store.old table.now ≡ Some t → IsSealedOf t.schema block part.sealed.files part.loaded
+        → OnOk result (CoreStands D.Arm.Dir.files (entered h session (insert_of_block table.now block)) store.new) }
+    ensures root_stands { (h : History) (t : Made) → CoreStands D.Arm.Dir.files h store.old → RootStands (D.told disk.old) h
+        → table_at store.old table.now ≡ Some t → IsSealedOf t.schema block part.sealed.files part.loaded
+        → OnOk result (RootStands (D.told disk.new) (entered h session (insert_of_block table.now block))) }
+    ensures unchanged { IfErr result (λ r. r.cause ≢ Refused.Disk → D.told disk.new ≡ D.told disk.old) }
+    ensures store { IsSound store.new }
+    ensures names { NamesFitUnlessRisen (D.failed disk.new) (D.told disk.new) store.new }
+    ensures opened { store.new.opened ≡ store.old.opened }
+{
+    let drawn = store.tables[table].drawn;
+    if let Some(cause) = refuse_part(store, table, drawn, disk.faults()) {
+        let back = Some(part);
+        return Err(Returned { cause, back });
+    }
+    let number = drawn + 1;
+    let before = store.length;
+    let ready = match prepare_part(
+        alloc,
+        &mut store.set,
+        annals,
+        session,
+        table,
+        number,
+        block,
+        before,
+    ) {
+        Ok(ready) => ready,
+        Err(_) => {
+            let back = Some(part);
+            let cause = Refused::NoMemory;
+            return Err(Returned { cause, back });
+        }
+    };
+    let ReadyPart {
+        name,
+        entry,
+        length,
+    } = ready;
+    let SealedPart { sealed, loaded } = part;
+    let dir = match commit(alloc, disk, annals, sealed, &name, entry) {
+        Ok(dir) => dir,
+        Err(error) => {
+            let cause = Refused::of_disk(error);
+            return Err(Returned { cause, back: None });
+        }
+    };
+    let part = Part::of(dir, loaded);
+    match enter_part(alloc, store, table, number, part, length) {
+        Ok(()) => Ok(()),
+        Err(_) => {
+            let cause = Refused::NoMemory;
+            Err(Returned { cause, back: None })
+        }
+    }
+}

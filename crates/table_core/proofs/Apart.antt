@@ -1,0 +1,102 @@
+-- Parts that stand for a table's commands have no block in common.
+use Rattle.std.proofs.Common.{◌≡◌, ◌≢◌, ℕ, ◌+◌, ◌-◌, ◌<◌, ◌≤◌, Bool, true, cond, ◌&&◌, List, [], ◌∷◌, Some, length, slice_get, get_or, All, refl, sym, ap, ap₂, ◌∙◌, subst, arith, zero, suc, inl, inr, ◌⊎◌}
+use Rattle.std.specs.List.{count_by}
+use Rattle.std.proofs.lemmas.Bool.{cases_lt}
+use Rattle.std.proofs.lemmas.List.Sums.{sum_by-cons}
+use Rattle.std.proofs.lemmas.Option.{get_or_from_slice_get, slice_get_within}
+use Rattle.mt_base.specs.declared.partition.Partition.TheVariants.{Whole}
+use Rattle.mt_model.specs.History.{History, IsLegal}
+use Rattle.part_name.specs.PartNames.{Before, IsPartName}
+use Rattle.table_core.specs.declared.part.CorePart.{CorePart}
+use Rattle.table_core.specs.Numbers.{IsInsertOf, numbered, same_partition}
+use Rattle.table_core.specs.Parts.{PartStands, TableStands, has_block}
+use Rattle.table_core.specs.Steps.{next_number}
+use Rattle.table_core.proofs.Growing.{number_drawn}
+use Rattle.table_core.proofs.Numbered.{all_whole, insert_at, whole_at}
+use Rattle.table_core.proofs.Ranges.{lies_inside}
+
+-- one part that passes is counted
+count_one : (f : CorePart → Bool) (ps : List CorePart) (i : ℕ) (a : CorePart) → slice_get ps i ≡ Some a → f a ≡ true → 1 ≤ count_by f ps
+count_one f [] i a at passes = cc
+count_one f (p ∷ ps) zero a at passes =
+    let same : p ≡ a = cc in
+    let here : f p ≡ true = ap f same ∙ passes in
+    let sum = sum_by-cons (λ (q : CorePart). cond (f q) 1 0) p ps ∙ ap (λ (b : Bool). cond b 1 0 + count_by f ps) here in
+    omega (arith, sum)
+count_one f (p ∷ ps) (suc i) a at passes =
+    let rest = count_one f ps i a at passes in
+    let sum = sum_by-cons (λ (q : CorePart). cond (f q) 1 0) p ps in
+    omega (arith, sum, rest)
+
+-- two of them are counted twice
+count_two : (f : CorePart → Bool) (ps : List CorePart) (i j : ℕ) (a b : CorePart) → slice_get ps i ≡ Some a → slice_get ps j ≡ Some b → i ≢ j → f a ≡ true → f b ≡ true → 2 ≤ count_by f ps
+count_two f [] i j a b at there apart one two = cc
+count_two f (p ∷ ps) zero zero a b at there apart one two = absurd (apart refl)
+count_two f (p ∷ ps) zero (suc j) a b at there apart one two =
+    let same : p ≡ a = cc in
+    let here : f p ≡ true = ap f same ∙ one in
+    let rest = count_one f ps j b there two in
+    let sum = sum_by-cons (λ (q : CorePart). cond (f q) 1 0) p ps ∙ ap (λ (c : Bool). cond c 1 0 + count_by f ps) here in
+    omega (arith, sum, rest)
+count_two f (p ∷ ps) (suc i) zero a b at there apart one two =
+    let same : p ≡ b = cc in
+    let here : f p ≡ true = ap f same ∙ two in
+    let rest = count_one f ps i a at one in
+    let sum = sum_by-cons (λ (q : CorePart). cond (f q) 1 0) p ps ∙ ap (λ (c : Bool). cond c 1 0 + count_by f ps) here in
+    omega (arith, sum, rest)
+count_two f (p ∷ ps) (suc i) (suc j) a b at there apart one two =
+    let rest = count_two f ps i j a b at there (λ same. apart (ap suc same)) one two in
+    let sum = sum_by-cons (λ (q : CorePart). cond (f q) 1 0) p ps in
+    omega (arith, sum, rest)
+
+-- a part of a legal history is of the whole
+pub whole_part : (h : History) (p : CorePart) → IsLegal h → PartStands h p → p.name.partition ≡ Whole
+whole_part h p legal s = sym s.least.partition_is ∙ whole_at (numbered p.table h) (p.name.min_block - 1) s.least.insert (all_whole p.table h legal) s.least.there
+
+-- the parts of a table end below its next number
+pub ends_below : (h : History) (table : List ℕ) (ps : List CorePart) → TableStands table ps h → All (λ (p : CorePart). p.name.max_block < next_number table h) ps
+ends_below h table ps s k d below =
+    let p = get_or ps k d in
+    let stands : PartStands h p = s.each k d below in
+    let drawn = subst (λ t. p.name.max_block ≤ length (numbered t h)) (s.own k d below) (number_drawn p.table p.name.partition p.name.max_block h stands.greatest) in
+    omega (arith, drawn)
+
+module _ (h : History) (table : List ℕ) (ps : List CorePart) (legal : IsLegal h) (s : TableStands table ps h) where
+  stands_at : (i : ℕ) (a : CorePart) → slice_get ps i ≡ Some a → PartStands h a
+  stands_at i a at = subst (PartStands h) (get_or_from_slice_get ps i a a at) (s.each i a (slice_get_within ps i a at))
+
+  own_at : (i : ℕ) (a : CorePart) → slice_get ps i ≡ Some a → a.table ≡ table
+  own_at i a at = subst (λ (p : CorePart). p.table ≡ table) (get_or_from_slice_get ps i a a at) (s.own i a (slice_get_within ps i a at))
+
+  holds_at : (i n : ℕ) (a : CorePart) → slice_get ps i ≡ Some a → a.name.min_block ≤ n → n ≤ a.name.max_block → has_block Whole n a ≡ true
+  holds_at i n a at from upto =
+      ap₂ ◌&&◌ (ap (λ w. same_partition w Whole) (whole_part h a legal (stands_at i a at))) (lies_inside a.name.min_block a.name.max_block n from upto)
+
+  -- no number lies within two parts
+  none_twice : (i j n : ℕ) (a b : CorePart) → slice_get ps i ≡ Some a → slice_get ps j ≡ Some b → i ≢ j → a.name.min_block ≤ n → n ≤ a.name.max_block → b.name.min_block ≤ n → n ≤ b.name.max_block → ⊥
+  none_twice i j n a b at there apart from upto begun under =
+      let stands = stands_at i a at in
+      let least = stands.least.from_one in
+      let drawn = subst (λ t. a.name.max_block ≤ length (numbered t h)) (own_at i a at) (number_drawn a.table a.name.partition a.name.max_block h stands.greatest) in
+      let one : 1 ≤ n = omega (arith, least, from) in
+      let found = insert_at (numbered table h) (n - 1) (all_whole table h legal) (omega (arith, one, drawn, upto)) in
+      let is : IsInsertOf table Whole n h = record { from_one = one; insert = found.insert; there = found.there; partition_is = found.whole } in
+      let once = s.once Whole n is in
+      let twice = count_two (has_block Whole n) ps i j a b at there apart (holds_at i n a at from upto) (holds_at j n b there begun under) in
+      omega (arith, once, twice)
+
+  -- of two parts of a table, one stands before the other
+  pub stand_apart : (i j : ℕ) (a b : CorePart) → slice_get ps i ≡ Some a → slice_get ps j ≡ Some b → i ≢ j → IsPartName a.name → IsPartName b.name → Before a.name b.name ⊎ Before b.name a.name
+  stand_apart i j a b at there apart first second = by (cases_lt a.name.max_block b.name.min_block) (cases_lt b.name.max_block a.name.min_block)
+    where
+      same : a.name.partition ≡ b.name.partition
+      same = whole_part h a legal (stands_at i a at) ∙ sym (whole_part h b legal (stands_at j b there))
+
+      by : (a.name.max_block < b.name.min_block) ⊎ (b.name.min_block ≤ a.name.max_block) → (b.name.max_block < a.name.min_block) ⊎ (a.name.min_block ≤ b.name.max_block) → Before a.name b.name ⊎ Before b.name a.name
+      by (inl below) other = inl (record { partition = same; blocks = below })
+      by (inr meets) (inl below) = inr (record { partition = sym same; blocks = below })
+      by (inr meets) (inr also) = absurd (shared (cases_lt a.name.min_block b.name.min_block))
+        where
+          shared : (a.name.min_block < b.name.min_block) ⊎ (b.name.min_block ≤ a.name.min_block) → ⊥
+          shared (inl lt) = none_twice i j b.name.min_block a b at there apart (omega (arith, lt)) meets (omega arith) second.order
+          shared (inr le) = none_twice i j a.name.min_block a b at there apart (omega arith) first.order le also

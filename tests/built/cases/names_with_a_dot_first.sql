@@ -1,0 +1,4 @@
+INSERT INTO t;
+0	z
+\.
+SELECT * FROM t;

@@ -1,0 +1,5 @@
+SELECT * FROM t;
+INSERT INTO t;
+0	z
+\.
+SELECT * FROM t;

@@ -1,0 +1,13 @@
+SELECT * FROM t;
+CREATE TABLE t (b UInt8) ENGINE = MergeTree ORDER BY b;
+INSERT INTO t;
+0	z
+\.
+INSERT INTO t;
+1
+\.
+INSERT INTO t;
+\.
+CREATE TABLE u (s String) ENGINE = MergeTree ORDER BY s;
+SELECT s FROM t;
+SELECT * FROM u;
