@@ -255,36 +255,41 @@ fn is_damaged_part<R: Threads + Wait + Sync + Abort>(
 /// Three numbers, one more than there are texts.
 const THREE: &[u8] = b"\x01\x02\x03";
 
-// The digest of each manifest is right. What is wrong are its first bytes, its number of rows or of files, or the marks of files.
+/// The first bytes of a manifest, its number of rows and of files, the files whose marks it has, and which file is damaged then.
+type Marked = (
+    &'static [u8],
+    u64,
+    u32,
+    &'static [&'static [u8]],
+    &'static [u8],
+);
+
+/// The digest of each manifest is right. What is wrong are its first bytes, its numbers or its marks.
+const MANIFESTS: [Marked; 18] = [
+    (b"MTP1\x02\x00", 2, 2, &[NUMBERS, TEXTS], b"manifest.bin"),
+    (b"MTP1\x00\x00", 2, 2, &[NUMBERS, TEXTS], b"manifest.bin"),
+    (b"MTP1\x01\x01", 2, 2, &[NUMBERS, TEXTS], b"manifest.bin"),
+    (b"MTS1\x01\x00", 2, 2, &[NUMBERS, TEXTS], b"manifest.bin"),
+    (b"", 2, 2, &[NUMBERS, TEXTS], b"manifest.bin"),
+    (FIRST, 2, 0, &[], b"manifest.bin"),
+    (FIRST, 2, 1, &[NUMBERS], b"manifest.bin"),
+    (FIRST, 2, 3, &[NUMBERS, TEXTS, TEXTS], b"manifest.bin"),
+    (FIRST, 2, 1, &[NUMBERS, TEXTS], b"manifest.bin"),
+    (FIRST, 2, 3, &[NUMBERS, TEXTS], b"manifest.bin"),
+    (FIRST, 2, u32::MAX, &[NUMBERS, TEXTS], b"manifest.bin"),
+    (FIRST, 0, 2, &[NUMBERS, TEXTS], b"c0.bin"),
+    (FIRST, 1, 2, &[NUMBERS, TEXTS], b"c0.bin"),
+    (FIRST, 3, 2, &[NUMBERS, TEXTS], b"c0.bin"),
+    (FIRST, u64::MAX, 2, &[NUMBERS, TEXTS], b"c0.bin"),
+    (FIRST, 2, 2, &[TEXTS, NUMBERS], b"c0.bin"),
+    (FIRST, 2, 2, &[NUMBERS, NUMBERS], b"c1.bin"),
+    (FIRST, 2, 2, &[b"", TEXTS], b"c0.bin"),
+];
+
 #[test]
 fn manifests_of_other_parts_are_told(rt: HostRuntime) -> Result<(), Fail> {
     let alloc = rt.alloc();
-    for (first, rows, count, marked, file) in [
-        (
-            b"MTP1\x02\x00".as_slice(),
-            2,
-            2,
-            [NUMBERS, TEXTS].as_slice(),
-            b"manifest.bin".as_slice(),
-        ),
-        (b"MTP1\x00\x00", 2, 2, &[NUMBERS, TEXTS], b"manifest.bin"),
-        (b"MTP1\x01\x01", 2, 2, &[NUMBERS, TEXTS], b"manifest.bin"),
-        (b"MTS1\x01\x00", 2, 2, &[NUMBERS, TEXTS], b"manifest.bin"),
-        (b"", 2, 2, &[NUMBERS, TEXTS], b"manifest.bin"),
-        (FIRST, 2, 0, &[], b"manifest.bin"),
-        (FIRST, 2, 1, &[NUMBERS], b"manifest.bin"),
-        (FIRST, 2, 3, &[NUMBERS, TEXTS, TEXTS], b"manifest.bin"),
-        (FIRST, 2, 1, &[NUMBERS, TEXTS], b"manifest.bin"),
-        (FIRST, 2, 3, &[NUMBERS, TEXTS], b"manifest.bin"),
-        (FIRST, 2, u32::MAX, &[NUMBERS, TEXTS], b"manifest.bin"),
-        (FIRST, 0, 2, &[NUMBERS, TEXTS], b"c0.bin"),
-        (FIRST, 1, 2, &[NUMBERS, TEXTS], b"c0.bin"),
-        (FIRST, 3, 2, &[NUMBERS, TEXTS], b"c0.bin"),
-        (FIRST, u64::MAX, 2, &[NUMBERS, TEXTS], b"c0.bin"),
-        (FIRST, 2, 2, &[TEXTS, NUMBERS], b"c0.bin"),
-        (FIRST, 2, 2, &[NUMBERS, NUMBERS], b"c1.bin"),
-        (FIRST, 2, 2, &[b"", TEXTS], b"c0.bin"),
-    ] {
+    for (first, rows, count, marked, file) in MANIFESTS {
         let manifest = manifest(alloc, first, rows, count, marked)?;
         let name = b"t.part_all_1_1_0";
         is_damaged_part(&rt, alloc, name, &[NUMBERS, TEXTS], manifest, file)?;
@@ -292,33 +297,33 @@ fn manifests_of_other_parts_are_told(rt: HostRuntime) -> Result<(), Fail> {
     Ok(())
 }
 
-// The manifest has the marks of the files. What is wrong are their values, or the part's partition.
+/// The name of a part, its number of rows, the files of its columns, and which file is damaged.
+type Columns = (&'static [u8], u64, &'static [&'static [u8]], &'static [u8]);
+
+/// The manifest has the marks of the files. What is wrong are their values, or the part's partition.
+const PARTS: [Columns; 11] = [
+    (b"t.part_all_1_1_0", 2, &[THREE, TEXTS], b"c0.bin"),
+    (b"t.part_all_1_1_0", 3, &[THREE, TEXTS], b"c1.bin"),
+    (b"t.part_all_1_1_0", 2, &[NUMBERS, NUMBERS], b"c1.bin"),
+    (b"t.part_all_1_1_0", 2, &[TEXTS, TEXTS], b"c0.bin"),
+    (b"t.part_all_1_1_0", 2, &[NUMBERS, b"\x01a\x02b"], b"c1.bin"),
+    (
+        b"t.part_all_1_1_0",
+        2,
+        &[NUMBERS, b"\x01a\x80\x00"],
+        b"c1.bin",
+    ),
+    (b"t.part_all_1_1_0", 2, &[b"", b""], b"c0.bin"),
+    (b"t.part_all_1_1_0", 0, &[NUMBERS, TEXTS], b"c0.bin"),
+    (b"t.part_all_1_1_0", 0, &[b"", TEXTS], b"c1.bin"),
+    (b"t.part_7_1_1_0", 2, &[NUMBERS, TEXTS], b"manifest.bin"),
+    (b"t.part_0_1_1_0", 0, &[b"", b""], b"manifest.bin"),
+];
+
 #[test]
 fn columns_that_spell_no_rows_are_told(rt: HostRuntime) -> Result<(), Fail> {
     let alloc = rt.alloc();
-    for (name, rows, columns, file) in [
-        (
-            b"t.part_all_1_1_0".as_slice(),
-            2,
-            [THREE, TEXTS].as_slice(),
-            b"c0.bin".as_slice(),
-        ),
-        (b"t.part_all_1_1_0", 3, &[THREE, TEXTS], b"c1.bin"),
-        (b"t.part_all_1_1_0", 2, &[NUMBERS, NUMBERS], b"c1.bin"),
-        (b"t.part_all_1_1_0", 2, &[TEXTS, TEXTS], b"c0.bin"),
-        (b"t.part_all_1_1_0", 2, &[NUMBERS, b"\x01a\x02b"], b"c1.bin"),
-        (
-            b"t.part_all_1_1_0",
-            2,
-            &[NUMBERS, b"\x01a\x80\x00"],
-            b"c1.bin",
-        ),
-        (b"t.part_all_1_1_0", 2, &[b"", b""], b"c0.bin"),
-        (b"t.part_all_1_1_0", 0, &[NUMBERS, TEXTS], b"c0.bin"),
-        (b"t.part_all_1_1_0", 0, &[b"", TEXTS], b"c1.bin"),
-        (b"t.part_7_1_1_0", 2, &[NUMBERS, TEXTS], b"manifest.bin"),
-        (b"t.part_0_1_1_0", 0, &[b"", b""], b"manifest.bin"),
-    ] {
+    for (name, rows, columns, file) in PARTS {
         let manifest = manifest(alloc, FIRST, rows, 2, columns)?;
         is_damaged_part(&rt, alloc, name, columns, manifest, file)?;
     }

@@ -87,108 +87,126 @@ fn bad_names_are_told(rt: HostRuntime) -> Result<(), Fail> {
     Ok(())
 }
 
-// Of several names the first in the order of their bytes is told, and it is printed as a String is.
+/// Names of a root, whose folders are empty, and the line that it is told by.
+type Case = (&'static [&'static [u8]], &'static [u8]);
+
+/// Of several bad names the first in the order of their bytes is told, and it is printed as a String is.
+const FIRST_NAMES: [Case; 11] = [
+    (&[b"y", b"x", b"z"], b"DAMAGED name x\n"),
+    (&[b"a", b"Z"], b"DAMAGED name Z\n"),
+    (&[b"xy", b"x"], b"DAMAGED name x\n"),
+    (
+        &[b"t.part_all_1_1", b"t.create1"],
+        b"DAMAGED name t.create1\n",
+    ),
+    (&[b"\xff", b"~"], b"DAMAGED name ~\n"),
+    (&[b"\xff"], b"DAMAGED name \xff\n"),
+    (&[b"a\tb"], b"DAMAGED name a\\tb\n"),
+    (&[b"a\nb"], b"DAMAGED name a\\nb\n"),
+    (&[b"it's"], b"DAMAGED name it\\'s\n"),
+    (&[b"a\\b"], b"DAMAGED name a\\\\b\n"),
+    (
+        &[b"\x00\x08\x0c\x0d\x07"],
+        b"DAMAGED name \\0\\b\\f\\r\x07\n",
+    ),
+];
+
+/// A part whose table has no entry, or to which a mutation was applied.
+const ORPHANS: [Case; 8] = [
+    (&[b"t.part_all_1_1_0"], b"DAMAGED orphan t.part_all_1_1_0\n"),
+    (
+        &[b"T.create", b"t.part_all_1_1_0"],
+        b"DAMAGED orphan t.part_all_1_1_0\n",
+    ),
+    (&[b"t.part_7_1_1_0"], b"DAMAGED orphan t.part_7_1_1_0\n"),
+    (
+        &[b"t.part_18446744073709551615_1_4294967295_4294967295"],
+        b"DAMAGED orphan t.part_18446744073709551615_1_4294967295_4294967295\n",
+    ),
+    (
+        &[b"t.part_all_9_9_0", b"t.part_all_10_10_0"],
+        b"DAMAGED orphan t.part_all_10_10_0\n",
+    ),
+    (
+        &[b"u.part_all_1_1_0", b"t.part_all_2_2_0"],
+        b"DAMAGED orphan t.part_all_2_2_0\n",
+    ),
+    (
+        &[b"t.create", b"t.part_all_1_1_0_2"],
+        b"DAMAGED orphan t.part_all_1_1_0_2\n",
+    ),
+    (
+        &[
+            b"t.create",
+            b"t.part_all_1_1_0",
+            b"t.part_all_1_1_0_4294967295",
+        ],
+        b"DAMAGED orphan t.part_all_1_1_0_4294967295\n",
+    ),
+];
+
+/// Two parts with a block in common, of which neither contains the other, and no other part contains one of them.
+const OVERLAPS: [Case; 7] = [
+    (
+        &[b"t.create", b"t.part_all_1_3_1", b"t.part_all_2_4_1"],
+        b"DAMAGED overlap t.part_all_1_3_1 t.part_all_2_4_1\n",
+    ),
+    (
+        &[b"t.create", b"t.part_all_1_2_0", b"t.part_all_1_1_1"],
+        b"DAMAGED overlap t.part_all_1_1_1 t.part_all_1_2_0\n",
+    ),
+    (
+        &[b"t.create", b"t.part_all_9_11_1", b"t.part_all_10_12_1"],
+        b"DAMAGED overlap t.part_all_10_12_1 t.part_all_9_11_1\n",
+    ),
+    (
+        &[
+            b"t.create",
+            b"t.part_all_1_2_0",
+            b"t.part_all_1_5_1",
+            b"t.part_all_2_9_1",
+        ],
+        b"DAMAGED overlap t.part_all_1_5_1 t.part_all_2_9_1\n",
+    ),
+    (
+        &[
+            b"t.create",
+            b"t.part_all_1_3_1",
+            b"t.part_all_3_4_0",
+            b"t.part_all_3_9_1",
+        ],
+        b"DAMAGED overlap t.part_all_1_3_1 t.part_all_3_9_1\n",
+    ),
+    (
+        &[
+            b"t.create",
+            b"t.part_all_1_1_0",
+            b"t.part_all_2_4_1",
+            b"t.part_all_3_3_0",
+            b"t.part_all_4_5_1",
+        ],
+        b"DAMAGED overlap t.part_all_2_4_1 t.part_all_4_5_1\n",
+    ),
+    (
+        &[
+            b"u.create",
+            b"u.part_all_1_2_1",
+            b"u.part_all_2_3_1",
+            b"t.create",
+            b"t.part_all_6_7_1",
+            b"t.part_all_7_8_1",
+        ],
+        b"DAMAGED overlap t.part_all_6_7_1 t.part_all_7_8_1\n",
+    ),
+];
+
 #[test]
 fn names_are_told_by_one_line(rt: HostRuntime) -> Result<(), Fail> {
     let alloc = rt.alloc();
-    for (names, line) in [
-        (
-            [b"y".as_slice(), b"x", b"z"].as_slice(),
-            b"DAMAGED name x\n".as_slice(),
-        ),
-        (&[b"a", b"Z"], b"DAMAGED name Z\n"),
-        (&[b"xy", b"x"], b"DAMAGED name x\n"),
-        (
-            &[b"t.part_all_1_1", b"t.create1"],
-            b"DAMAGED name t.create1\n",
-        ),
-        (&[b"\xff", b"~"], b"DAMAGED name ~\n"),
-        (&[b"\xff"], b"DAMAGED name \xff\n"),
-        (&[b"a\tb"], b"DAMAGED name a\\tb\n"),
-        (&[b"a\nb"], b"DAMAGED name a\\nb\n"),
-        (&[b"it's"], b"DAMAGED name it\\'s\n"),
-        (&[b"a\\b"], b"DAMAGED name a\\\\b\n"),
-        (
-            &[b"\x00\x08\x0c\x0d\x07"],
-            b"DAMAGED name \\0\\b\\f\\r\x07\n",
-        ),
-        // No part of a table without an entry.
-        (&[b"t.part_all_1_1_0"], b"DAMAGED orphan t.part_all_1_1_0\n"),
-        (
-            &[b"T.create", b"t.part_all_1_1_0"],
-            b"DAMAGED orphan t.part_all_1_1_0\n",
-        ),
-        (&[b"t.part_7_1_1_0"], b"DAMAGED orphan t.part_7_1_1_0\n"),
-        (
-            &[b"t.part_18446744073709551615_1_4294967295_4294967295"],
-            b"DAMAGED orphan t.part_18446744073709551615_1_4294967295_4294967295\n",
-        ),
-        (
-            &[b"t.part_all_9_9_0", b"t.part_all_10_10_0"],
-            b"DAMAGED orphan t.part_all_10_10_0\n",
-        ),
-        (
-            &[b"u.part_all_1_1_0", b"t.part_all_2_2_0"],
-            b"DAMAGED orphan t.part_all_2_2_0\n",
-        ),
-        // No part to which a mutation was applied.
-        (
-            &[b"t.create", b"t.part_all_1_1_0_2"],
-            b"DAMAGED orphan t.part_all_1_1_0_2\n",
-        ),
-        (
-            &[
-                b"t.create",
-                b"t.part_all_1_1_0",
-                b"t.part_all_1_1_0_4294967295",
-            ],
-            b"DAMAGED orphan t.part_all_1_1_0_4294967295\n",
-        ),
-        // No two parts with a block in common, of which neither contains the other.
-        (
-            &[b"t.create", b"t.part_all_1_3_1", b"t.part_all_2_4_1"],
-            b"DAMAGED overlap t.part_all_1_3_1 t.part_all_2_4_1\n",
-        ),
-        (
-            &[b"t.create", b"t.part_all_1_2_0", b"t.part_all_1_1_1"],
-            b"DAMAGED overlap t.part_all_1_1_1 t.part_all_1_2_0\n",
-        ),
-        (
-            &[b"t.create", b"t.part_all_9_11_1", b"t.part_all_10_12_1"],
-            b"DAMAGED overlap t.part_all_10_12_1 t.part_all_9_11_1\n",
-        ),
-        (
-            &[
-                b"t.create",
-                b"t.part_all_1_3_1",
-                b"t.part_all_3_4_0",
-                b"t.part_all_3_9_1",
-            ],
-            b"DAMAGED overlap t.part_all_1_3_1 t.part_all_3_9_1\n",
-        ),
-        (
-            &[
-                b"t.create",
-                b"t.part_all_1_1_0",
-                b"t.part_all_2_4_1",
-                b"t.part_all_3_3_0",
-                b"t.part_all_4_5_1",
-            ],
-            b"DAMAGED overlap t.part_all_2_4_1 t.part_all_4_5_1\n",
-        ),
-        (
-            &[
-                b"u.create",
-                b"u.part_all_1_2_1",
-                b"u.part_all_2_3_1",
-                b"t.create",
-                b"t.part_all_6_7_1",
-                b"t.part_all_7_8_1",
-            ],
-            b"DAMAGED overlap t.part_all_6_7_1 t.part_all_7_8_1\n",
-        ),
-    ] {
-        is_damaged(&rt, alloc, &empty_folders(alloc, names)?, line)?;
+    for cases in [FIRST_NAMES.as_slice(), &ORPHANS, &OVERLAPS] {
+        for (names, line) in cases {
+            is_damaged(&rt, alloc, &empty_folders(alloc, names)?, line)?;
+        }
     }
     Ok(())
 }
