@@ -16,7 +16,7 @@ use Rattle.mt_outside.specs.declared.disk.DiskError.TheVariants as failure
 use Rattle.mt_model.specs.History.{History, IsLegal}
 use Rattle.mt_model.specs.Outside.{Counts}
 use Rattle.mt_model.specs.Refusals.{is_damage}
-use Rattle.mt_model.specs.Script.{ScriptRun, ScriptReplies, CutRun, CutInReply, FrontRun, OwnEntries}
+use Rattle.mt_model.specs.Script.{ScriptRun, ScriptReplies, CutInReply, FrontRun, OwnEntries}
 use Rattle.mt_model.specs.Session.{AddsNothing, SessionReplies}
 use Rattle.mt_model.proofs.Causes.{never_damaged}
 use Rattle.mt_model.proofs.Replies.{script_replies_run}
@@ -29,7 +29,7 @@ use Rattle.mt_program.specs.declared.status.Status.{Status}
 use Rattle.mt_program.specs.declared.status.Status.TheVariants as status
 use Rattle.mt_program.specs.Answers.{Foresees, history}
 use Rattle.mt_program.specs.Endings.{IsAnswered, IsEarly, LeftBy, MetNoDamage, settled, status_of, status_of_error, status_of_stop}
-use Rattle.mt_program.specs.Headline.{CutBySink, Leaves, WholeRun, WholeRunWith, ReadRun, RunWithFaults, NothingRan, RunBy, number_of}
+use Rattle.mt_program.specs.Headline.{CutByMemory, CutBySink, Leaves, WholeRun, WholeRunWith, ReadRun, RunWithFaults, NothingRan, RunBy, number_of}
 use Rattle.mt_program.specs.Serving.{AreSettled, Item, Ran, ServedAll, ServedFront, ServedCut, ServedBy}
 use Rattle.root_log.specs.declared.opening.Damage.{Damage}
 use Rattle.root_log.specs.declared.opening.OpenFault.{OpenFault}
@@ -111,7 +111,7 @@ module _ (n : Counts) (kept : Told) (script before : List ℕ) (told : Option To
   early_leaves status.ReadFault is sound = early (NothingRan now_root n) none_ran
   early_leaves status.TooLong is sound = early (NothingRan now_root n) none_ran
   early_leaves status.DiskFault is sound = early (RunWithFaults now_root n) (inr none_ran)
-  early_leaves status.NoMemory is sound = early (CutRun n) (record { count = 0; run = inl (nothing_ran n kept) })
+  early_leaves status.NoMemory is sound = early (CutByMemory now_root n) (record { cut = record { count = 0; run = inl (nothing_ran n kept) }; count = 0; place = length kept.list; replies = []; each = refl; out_is = refl; settled = λ none. settled })
   early_leaves status.Damaged is sound = absurd (sound refl)
   early_leaves status.Done is sound = absurd is
   early_leaves status.Refused is sound = absurd is
@@ -147,14 +147,24 @@ module _ (n : Counts) (kept : Told) (script before : List ℕ) (opened disk arm 
         settled = s.settled;
       }
 
-  first_run : (s : ServedFront kept script opened disk arm told old new) → ScriptRun n (take (length s.done) (statements_of script)) (history s.ran.now) (length kept.list) (concat s.replies)
+  first_run : (s : ServedFront kept script opened disk arm told now_root old new) → ScriptRun n (take (length s.done) (statements_of script)) (history s.ran.now) (length kept.list) (concat s.replies)
   first_run s =
       let first : take (length s.done) (statements_of script) ≡ s.done = ap (take (length s.done)) s.split ∙ take-append_seam s.done s.rest in
       subst (λ (ss : List Item). ScriptRun n ss (history s.ran.now) (length kept.list) (concat s.replies)) (sym first)
       (script_replies_run n s.done (history s.ran.now) (length kept.list) s.replies (replies_of n kept opened disk arm s.done s.replies told f s.ran))
 
-  cut_run : (s : ServedFront kept script opened disk arm told old new) → CutRun n (statements_of script) (history s.ran.now) (length kept.list) (concat s.replies)
-  cut_run s = record { count = length s.done; run = inl (first_run s) }
+  cut_run : (s : ServedFront kept script opened disk arm told now_root old new) → CutByMemory now_root n (statements_of script) (history s.ran.now) (length kept.list) (concat s.replies)
+  cut_run s =
+      let first : take (length s.done) (statements_of script) ≡ s.done = ap (take (length s.done)) s.split ∙ take-append_seam s.done s.rest in
+      record {
+        cut = record { count = length s.done; run = inl (first_run s) };
+        count = length s.done;
+        place = length s.ran.now.list;
+        replies = s.replies;
+        each = subst (λ (ss : List Item). SessionReplies n (history s.ran.now) 0 ss (length kept.list) (length s.ran.now.list) s.replies) (sym first) (s.ran.run n f);
+        out_is = refl;
+        settled = s.settled;
+      }
 
   cut_in_reply : (s : ServedCut kept script opened disk arm told now_root old new) → CutBySink now_root n (statements_of script) (history s.ran.now) (length kept.list) (concat s.replies ++ s.part)
   cut_in_reply s = record {
@@ -186,7 +196,7 @@ module _ (n : Counts) (kept : Told) (script before : List ℕ) (opened disk arm 
   pub leaves_all : (risen : Bool) (ended : Result Ending Status) → IsLegal (history kept) → RootStands was_root (history kept) → MetNoDamage ended → IfErr ended IsEarly
       → LeftBy ended kept script opened disk arm told was_root now_root old new → Leaves (RunBy (status_of risen ended) now_root n) kept script before told new
   leaves_all risen (Ok (ending.Done tally)) legal stands sound first s = leaves_done tally risen sound s
-  leaves_all risen (Ok ending.NoMemory) legal stands sound first s = left (CutRun n) s.done s.replies s.ran (concat s.replies) s.wrote (cut_run s)
+  leaves_all risen (Ok ending.NoMemory) legal stands sound first s = left (CutByMemory now_root n) s.done s.replies s.ran (concat s.replies) s.wrote (cut_run s)
   leaves_all risen (Ok ending.WriteFault) legal stands sound first s = left (CutBySink now_root n) (s.done ++ s.last ∷ []) (s.replies ++ s.reply ∷ []) s.ran (concat s.replies ++ s.part) s.wrote (cut_in_reply s)
   leaves_all risen (Err ended) legal stands sound first s =
       early_leaves n kept script before told new now_root legal s.0 (s.1 ∙ is) (subst (λ (o : Option root.Told). RootStands o (history kept)) (sym s.2) stands) ended first sound

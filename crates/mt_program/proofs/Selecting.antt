@@ -290,4 +290,4 @@ pub selected_answers : {F : Type 0} (files_of : F → Option Files) (kept : Told
     → told ≡ Some kept → CoreStands files_of (history kept) store → IfOk result (λ reply. Chosen kept text arm opened reply.items) → Answers files_of kept (Ok (statement.Select text)) opened disk arm result store told now_root now_root
 selected_answers files_of kept text opened disk arm (Ok v) store told now_root is stands chosen =
     accepts_nothing files_of kept (Ok (statement.Select text)) opened disk arm v.items store told now_root now_root (kept_same kept told is) stands (λ n f. chosen n disk f) (λ calm before. before)
-selected_answers files_of kept text opened disk arm (Err e) store told now_root is stands chosen = kept_same kept told is
+selected_answers files_of kept text opened disk arm (Err e) store told now_root is stands chosen = (kept_same kept told is, refl)

@@ -135,6 +135,13 @@ ran_still kept opened disk arm later more done replies told (Some now) le less r
           (subst (λ (x : History). SessionReplies n x 0 done (length kept.list) (length r.now.list) replies) (sym h) (r.run n (foresees_before opened disk later arm more n le less f)));
     }
 
+-- and its history is that before
+still_history : (kept : Told) (opened disk arm later more : ℕ) (done : List Item) (replies : List (List ℕ)) (told after : Option Told) (le : disk ≤ later) (less : arm ≤ more)
+    → (r : Ran kept opened disk arm done replies told) (same : SameList (Some r.now) after) → history (ran_still kept opened disk arm later more done replies told after le less r same).now ≡ history r.now
+unfolding ran_still
+still_history kept opened disk arm later more done replies told None le less r same = absurd same
+still_history kept opened disk arm later more done replies told (Some now) le less r same = ap (map (λ (n : Noted). n.entry)) same
+
 -- what is told of the replies, with one more
 pub tells_more : (t : Tally) (replies : List (List ℕ)) (reply : List ℕ) → Tells t replies → Tells (tallied t reply) (replies ++ reply ∷ [])
 tells_more t replies reply tells = record {
@@ -173,7 +180,7 @@ module _ {F : Type 0} (files_of : F → Option Files) (kept : Told) (script : Li
       }
 
   -- no reply was begun after the last
-  pub served_so_far : ServedFront kept script opened disk arm told before now
+  pub served_so_far : ServedFront kept script opened disk arm told was_root before now
   served_so_far = record {
     done = s.done;
     rest = statements_of (drop at script);
@@ -181,18 +188,22 @@ module _ {F : Type 0} (files_of : F → Option Files) (kept : Told) (script : Li
     split = s.split;
     ran = s.ran;
     wrote = s.wrote;
+    settled = s.settled;
   }
 
   module _ (later more : ℕ) (le : disk ≤ later) (less : arm ≤ more) where
     -- the next statement had no reply
-    pub served_unanswered : (after : Option Told) → SameList (Some s.ran.now) after → ServedFront kept script opened later more after before now
-    served_unanswered after same = record {
+    pub served_unanswered : (after : Option Told) (now_root : Option root.Told) → SameList (Some s.ran.now) after → now_root ≡ was_root → ServedFront kept script opened later more after now_root before now
+    served_unanswered after now_root same as_was = record {
       done = s.done;
       rest = statements_of (drop at script);
       replies = s.replies;
       split = s.split;
       ran = ran_still kept opened disk arm later more s.done s.replies told after le less s.ran same;
       wrote = s.wrote;
+      settled = λ none.
+          let stands : RootStands now_root (history s.ran.now) = subst (λ (o : Option root.Told). RootStands o (history s.ran.now)) (sym as_was) (s.settled none) in
+          subst (RootStands now_root) (sym (still_history kept opened disk arm later more s.done s.replies told after le less s.ran same)) stands;
     }
 
     module _ (used : ℕ) (st : Item) (left : statements_of (drop at script) ≡ st ∷ statements_of (drop (at + used) script)) (new : CoreStore F) (after : Option Told) (now_root : Option root.Told) (reply : List ℕ) (written : Option (List ℕ))

@@ -45,12 +45,12 @@ pub record Accepts {F : Type 0} (files_of : F → Option Files) (kept : Told) (s
   pub takes : (n : Counts) → Foresees opened disk arm n → Takes n (history now) 0 statement (length kept.list) (length now.list) reply
   pub settled : is_unsettled reply ≡ false → RootStands root_before (history kept) → RootStands root (history now)
 
--- a statement that ended the run without a reply added nothing
-abbrev pub Keeps : Told → Option Told → Type 0
-Keeps kept told = SameList (Some kept) told
+-- a statement that ended the run without a reply added nothing, to the list and to the root
+abbrev pub Keeps : Told → Option Told → Option root.Told → Option root.Told → Type 0
+Keeps kept told root_before root = SameList (Some kept) told × (root ≡ root_before)
 
 -- a statement's reply, or want of memory; with the disk's count at opening, the disk's and the arm's counts now, and what the disk
 -- told of the root before and tells now
 abbrev pub Answers : {F : Type 0} → (F → Option Files) → Told → Result Statement Cause → ℕ → ℕ → ℕ → Result (Vec ℕ Global) NoMemory → CoreStore F → Option Told → Option root.Told → Option root.Told → Type 0
 Answers files_of kept statement opened disk arm result store told root_before root =
-    MatchResult result (λ reply. Accepts files_of kept statement opened disk arm reply.items store told root_before root) (λ _. Keeps kept told)
+    MatchResult result (λ reply. Accepts files_of kept statement opened disk arm reply.items store told root_before root) (λ _. Keeps kept told root_before root)

@@ -7,6 +7,7 @@ use Rattle.mt_values.specs.Script.{statements_of}
 use Rattle.mt_outside.specs.Disk as root
 use Rattle.mt_model.specs.History.{History, IsLegal}
 use Rattle.mt_model.specs.Outside.{Counts}
+use Rattle.mt_model.specs.Session.{SessionReplies}
 use Rattle.mt_model.specs.Script.{ScriptRun, ScriptReplies, CutRun, CutInReply, FrontRun}
 use Rattle.root_log.specs.Roots.{Stands}
 use Rattle.root_log.specs.Soundness.{RootStands}
@@ -56,6 +57,16 @@ pub record CutBySink (root : Option root.Told) (n : Counts) (script : List Item)
   pub cut : CutInReply n script h base out
   pub settled : AreSettled (cut.replies ++ cut.reply ∷ []) root h
 
+-- The first statements ran, and all their replies were written; perhaps one more ran that has no reply. Of the root the same as above.
+pub record CutByMemory (root : Option root.Told) (n : Counts) (script : List Item) (h : History) (base : ℕ) (out : List ℕ) : Type 0 where
+  pub cut : CutRun n script h base out
+  pub count : ℕ
+  pub place : ℕ
+  pub replies : List (List ℕ)
+  pub each : SessionReplies n h 0 (take count script) base place replies
+  pub out_is : out ≡ concat replies
+  pub settled : AreSettled replies root h
+
 -- The first statements of a script were wholly read: whatever had followed what was read, they would be the same.
 abbrev pub AreWhollyRead : ℕ → List ℕ → Option (List ℕ) → Type 0
 AreWhollyRead count script left = (read rest more : List ℕ) → left ≡ Some rest → script ≡ read ++ rest → take count (statements_of (read ++ more)) ≡ take count (statements_of script)
@@ -97,7 +108,7 @@ RunBy status.NotWords = NothingRan
 RunBy status.ReadFault = NothingRan
 RunBy status.WriteFault = CutBySink
 RunBy status.DiskFault = RunWithFaults
-RunBy status.NoMemory = λ root. CutRun
+RunBy status.NoMemory = CutByMemory
 RunBy status.Damaged = λ root n script h base out. ⊥
 RunBy status.TooLong = NothingRan
 

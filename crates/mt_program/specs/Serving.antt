@@ -69,13 +69,14 @@ pub record ServedAll (kept : Told) (script : List ℕ) (opened disk arm : ℕ) (
   pub settled : AreSettled replies root (history ran.now)
 
 -- The first statements ran, and their replies were written. A statement that ended the run without a reply added nothing.
-pub record ServedFront (kept : Told) (script : List ℕ) (opened disk arm : ℕ) (told : Option Told) (before after : Option (List ℕ)) : Type 0 where
+pub record ServedFront (kept : Told) (script : List ℕ) (opened disk arm : ℕ) (told : Option Told) (root : Option root.Told) (before after : Option (List ℕ)) : Type 0 where
   pub done : List Item
   pub rest : List Item
   pub replies : List (List ℕ)
   pub split : statements_of script ≡ done ++ rest
   pub ran : Ran kept opened disk arm done replies told
   pub wrote : Appends before after (concat replies)
+  pub settled : AreSettled replies root (history ran.now)
 
 -- The first statements ran and one more. Their replies were written, and a front of its reply.
 pub record ServedCut (kept : Told) (script : List ℕ) (opened disk arm : ℕ) (told : Option Told) (root : Option root.Told) (before after : Option (List ℕ)) : Type 0 where
@@ -94,5 +95,5 @@ pub record ServedCut (kept : Told) (script : List ℕ) (opened disk arm : ℕ) (
 -- what a script that was served leaves, by how it ended
 abbrev pub ServedBy : Ending → Told → List ℕ → ℕ → ℕ → ℕ → Option Told → Option root.Told → Option (List ℕ) → Option (List ℕ) → Type 0
 ServedBy (ending.Done tally) kept script opened disk arm told root before after = ServedAll kept script opened disk arm tally told root before after
-ServedBy ending.NoMemory kept script opened disk arm told root before after = ServedFront kept script opened disk arm told before after
+ServedBy ending.NoMemory kept script opened disk arm told root before after = ServedFront kept script opened disk arm told root before after
 ServedBy ending.WriteFault kept script opened disk arm told root before after = ServedCut kept script opened disk arm told root before after

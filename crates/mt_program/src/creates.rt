@@ -8,7 +8,7 @@ ghost use Rattle.root_log.specs.Stores.{CoreStands};
 ghost use Rattle.mt_program.specs.Answers.{Answers, history};
 
 use crate::commits::{give_back, seal_entry};
-use crate::stopped::{refused_line, stage_line};
+use crate::stopped::{refused_line, stage_line, unsettled_line};
 use mt_base::{NoMemory, Twin};
 use mt_model::{ok_line, refusal_line, resolve};
 use mt_outside::{Arm, Disk};
@@ -18,7 +18,7 @@ use std::alloc::Global;
 
 /// Makes a table, unless the CREATE is refused. All memory is taken before the commit.
 ///
-/// `NoMemory` where a growth was refused; the keeper tells the same list.
+/// `NoMemory` where a growth was refused; the keeper tells the same list, and the root is as it was.
 pub fn create<D: Disk, A: Annals>(
     alloc: Global,
     store: &mut CoreStore<<D::Arm as Arm>::Dir>,
@@ -50,6 +50,7 @@ pub fn create<D: Disk, A: Annals>(
         return Err(NoMemory);
     };
     let reply = ok_line(alloc, length)?;
+    let unsettled = unsettled_line(alloc)?;
     let table = text.table.twin(alloc)?;
     let sealed = match seal_entry(alloc, arm, text.text.as_slice()) {
         Ok(sealed) => sealed,
@@ -60,7 +61,7 @@ pub fn create<D: Disk, A: Annals>(
         Ok(()) => Ok(reply),
         Err(returned) => {
             give_back(arm, returned.back);
-            Ok(refused_line(alloc, &text.table, returned.cause)?)
+            Ok(refused_line(alloc, &text.table, returned.cause, unsettled)?)
         }
     }
 }

@@ -11,7 +11,7 @@ ghost use Rattle.root_log.specs.Stores.{CoreStands};
 ghost use Rattle.mt_program.specs.Answers.{Answers, history};
 
 use crate::commits::give_back;
-use crate::stopped::{refused_line, stage_line};
+use crate::stopped::{refused_line, stage_line, unsettled_line};
 use mt_base::{NoMemory, Twin};
 use mt_model::{Refusal, ok_line, refusal_line};
 use mt_outside::{Arm, Disk, DiskError};
@@ -57,7 +57,7 @@ fn seal_block<R: Arm>(
 
 /// Adds the rows of an INSERT to its table, unless it is refused. All memory is taken before the commit.
 ///
-/// `NoMemory` where a growth was refused; the keeper tells the same list.
+/// `NoMemory` where a growth was refused; the keeper tells the same list, and the root is as it was.
 pub fn insert<D: Disk, A: Annals>(
     alloc: Global,
     store: &mut CoreStore<<D::Arm as Arm>::Dir>,
@@ -100,6 +100,7 @@ pub fn insert<D: Disk, A: Annals>(
         return Err(NoMemory);
     };
     let reply = ok_line(alloc, length)?;
+    let unsettled = unsettled_line(alloc)?;
     let part = match seal_block(alloc, arm, &found.schema, &block) {
         Ok(part) => part,
         Err(error) => return Ok(stage_line(alloc, error)?),
@@ -108,7 +109,7 @@ pub fn insert<D: Disk, A: Annals>(
         Ok(()) => Ok(reply),
         Err(returned) => {
             give_back(arm, returned.back.map(|part| part.sealed));
-            Ok(refused_line(alloc, &text.table, returned.cause)?)
+            Ok(refused_line(alloc, &text.table, returned.cause, unsettled)?)
         }
     }
 }

@@ -87,7 +87,7 @@ fn read_next(
 
 /// Answers a statement, or the text that is none.
 ///
-/// `NoMemory` where a growth was refused; the store is as it was and the keeper tells the same list.
+/// `NoMemory` where a growth was refused; the keeper tells the same list, and the root is as it was.
 pub fn answer<D: Disk, A: Annals, G: Gate>(
     alloc: Global,
     store: &mut CoreStore<<D::Arm as Arm>::Dir>,

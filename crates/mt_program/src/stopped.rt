@@ -1,6 +1,8 @@
 // What the outside, or the turn of a command, refuses a statement for.
-ghost use Rattle.std.specs.Prelude.{◌≡◌, IfOk};
+ghost use Rattle.std.specs.Prelude.{◌≡◌, IfErr, IfOk};
 ghost use Rattle.mt_program.specs.Stops.{IsLineOf, IsLineOfStage, refusal_of_commit};
+ghost use Rattle.mt_model.specs.declared.refusal.Refusal.TheVariants as refusal;
+ghost use Rattle.mt_model.specs.Refusals.{refusal_line};
 
 use mt_base::{NoMemory, Twin};
 use mt_model::{Bound, Refusal, Room, refusal_line};
@@ -50,12 +52,32 @@ fn refusal_of(alloc: Global, table: &Name, cause: Refused) -> Result<Option<Refu
     Ok(Some(refusal))
 }
 
-/// The reply to a command on a table that was not committed.
+/// The reply to a command whose publish or whose sync failed. It is formed before the commit.
 ///
-/// `NoMemory` where that was why, and where a growth was refused.
-pub fn refused_line(alloc: Global, table: &Name, cause: Refused) -> Result<Vec<u8>, NoMemory>
-    ensures { IfOk result (λ line. IsLineOf table.now cause line.items) }
+/// `NoMemory` where a growth was refused.
+pub fn unsettled_line(alloc: Global) -> Result<Vec<u8>, NoMemory>
+    ensures { IfOk result (λ line. line.items ≡ refusal_line (refusal.Unsettled 0)) }
 {
+    let accepted = 0;
+    refusal_line(alloc, &Refusal::Unsettled { accepted })
+}
+
+/// The reply to a command on a table that was not committed. Where the disk failed it is `unsettled`, so that no memory is wanted then.
+///
+/// `NoMemory` where that was why, and where a growth was refused; never where the disk failed.
+pub fn refused_line(
+    alloc: Global,
+    table: &Name,
+    cause: Refused,
+    unsettled: Vec<u8>,
+) -> Result<Vec<u8>, NoMemory>
+    requires { unsettled.items ≡ refusal_line (refusal.Unsettled 0) }
+    ensures line { IfOk result (λ line. IsLineOf table.now cause line.items) }
+    ensures disk { IfErr result (λ _. cause ≡ Refused.Disk → ⊥) }
+{
+    if let Refused::Disk = cause {
+        return Ok(unsettled);
+    }
     let Some(refusal) = refusal_of(alloc, table, cause)? else {
         return Err(NoMemory);
     };

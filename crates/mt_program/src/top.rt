@@ -3,7 +3,6 @@ ghost use Rattle.std.specs.Prelude.{◌≡◌, ◌⊎◌, ◌↔◌, ◌≤◌, 
 ghost use Rattle.mt_values.specs.Annals.{Told};
 ghost use Rattle.mt_outside.specs.Causes.{Rose};
 ghost use Rattle.mt_outside.specs.Disk as root;
-ghost use Rattle.mt_model.specs.Script.{CutRun};
 ghost use Rattle.root_log.specs.declared.opening.Damage.{Damage as Damaged};
 ghost use Rattle.root_log.specs.Opening.{IsNotDamaged, IsRootDamage};
 ghost use Rattle.root_log.specs.Roots.{Stands};
@@ -12,7 +11,7 @@ ghost use Rattle.root_log.specs.Stores.{CoreStands};
 ghost use Rattle.mt_program.specs.Answers.{history};
 ghost use Rattle.mt_program.specs.Damage.{WritesDamage, WritesFault, damage_line};
 ghost use Rattle.mt_program.specs.Endings.{IsAnswered, IsEarly, LeftBy, MetNoDamage, status_of, status_of_error, status_of_stop};
-ghost use Rattle.mt_program.specs.Headline.{CutBySink, Leaves, NotOpened, ReadRun, RunBy, RunWithFaults, Starts, WholeRunWith};
+ghost use Rattle.mt_program.specs.Headline.{CutByMemory, CutBySink, Leaves, NotOpened, ReadRun, RunBy, RunWithFaults, Starts, WholeRunWith};
 ghost use Rattle.mt_program.specs.Streams.{ConsumesMost};
 ghost use Rattle.mt_program.specs.Words.{is_command};
 
@@ -251,7 +250,7 @@ pub fn run<R: Threads + Wait + Sync, D: Disk, A: Annals, S: Source, K: Sink, G: 
     ensures disk_failed { (kept : Told) (script before : List ℕ) → Starts (D.told disk) (A.told annals) (S.left source.old) (K.written sink.old) kept script before
         → result.status ≡ 5 → Leaves (RunWithFaults (D.told result.disk) (record { opened = D.failed disk; ended = D.failed result.disk })) kept script before (A.told result.annals) (K.written sink.new) }
     ensures out_of_memory { (kept : Told) (script before : List ℕ) → Starts (D.told disk) (A.told annals) (S.left source.old) (K.written sink.old) kept script before
-        → result.status ≡ 6 → Leaves (CutRun (record { opened = D.failed disk; ended = D.failed result.disk })) kept script before (A.told result.annals) (K.written sink.new) }
+        → result.status ≡ 6 → Leaves (CutByMemory (D.told result.disk) (record { opened = D.failed disk; ended = D.failed result.disk })) kept script before (A.told result.annals) (K.written sink.new) }
     ensures too_long { (kept : Told) (script before : List ℕ) → Starts (D.told disk) (A.told annals) (S.left source.old) (K.written sink.old) kept script before
         → result.status ≡ 8 → Leaves (ReadRun (S.left source.new) script (D.told result.disk) (record { opened = D.failed disk; ended = D.failed result.disk })) kept script before (A.told result.annals) (K.written sink.new) }
     ensures opening { (told : root.Told) (damage : Damaged) → D.told disk ≡ Some told → IsRootDamage (root.names_of told) damage

@@ -18,7 +18,7 @@ ghost use Rattle.mt_model.specs.History.{History, IsInsertInto, IsTableSchema};
 ghost use Rattle.mt_base.specs.declared.partition.Partition.TheVariants.{Whole};
 ghost use Rattle.table_core.specs.Numbers.{same_partition};
 ghost use Rattle.table_core.specs.Steps.{entered};
-ghost use Rattle.root_log.specs.Commits.{EntersSealed, EntersTable, IsCause, Notes, SameList, SameStore, cause_of, entry_of, fresh_part, fresh_table, IsSealedOf, insert_into, insert_of_block, refused_by_disk, refuses_create, refuses_part, stopped_by, whole_parts};
+ghost use Rattle.root_log.specs.Commits.{EntersSealed, EntersTable, IsCause, IsOutside, Notes, SameList, SameStore, cause_of, entry_of, fresh_part, fresh_table, IsSealedOf, insert_into, insert_of_block, refused_by_disk, refuses_create, refuses_part, stopped_by, whole_parts};
 ghost use Rattle.root_log.specs.Entries.{EntryHolds};
 ghost use Rattle.root_log.specs.Soundness.{IsSound, NamesFitUnlessRisen, RootStands};
 ghost use Rattle.root_log.specs.Stores.{CoreStands, table_at};
@@ -325,6 +325,7 @@ pub fn commit_create<D: Disk, A: Annals>(
     ensures unpublished { IfErr result (λ r. IfSome r.back (λ _. disk.new ≡ disk.old)) }
     ensures published { IfErr result (λ r. IsNone r.back → MayPut (D.clock disk.old) (create_name create.table) sealed.files (D.told disk.old) (D.told disk.new)) }
     ensures faulted { IfErr result (λ r. r.cause ≡ Refused.Disk → IsNone r.back) }
+    ensures given { IfErr result (λ r. IsNone r.back → IsOutside (Some r.cause)) }
     ensures same { OnErr result (SameStore store.old store.new) }
     ensures annals_err { OnErr result (SameList (A.told annals.old) (A.told annals.new)) }
     ensures root { OnOk result (D.told disk.new ≡ put (D.clock disk.old) (create_name create.table) sealed.files (D.told disk.old)) }
@@ -437,6 +438,7 @@ pub fn commit_part<D: Disk, A: Annals>(
     ensures back { IfErr result (λ r. IfSome r.back (λ s. s ≡ part)) }
     ensures unpublished { IfErr result (λ r. IfSome r.back (λ _. disk.new ≡ disk.old)) }
     ensures faulted { IfErr result (λ r. r.cause ≡ Refused.Disk → IsNone r.back) }
+    ensures given { IfErr result (λ r. IsNone r.back → IsOutside (Some r.cause)) }
     ensures same { OnErr result (SameStore store.old store.new) }
     ensures annals_err { OnErr result (SameList (A.told annals.old) (A.told annals.new)) }
     ensures mark { OnOk result (D.clock disk.new ≡ D.clock disk.old + 1) }

@@ -52,7 +52,7 @@ returns-in-Err-answer-clause-run g c = λ kept is tells stands settled.
     let left = one_statement c.args.script.now c.statements.at c.in-Ok-Some.found.1 c.in-Ok-Some.found.0 found in
     let same = c.in-Err-answer.ensures.answers s.ran.now s.ran.told_is (c.statements.invariant.tells ∙ tells) s.stands in
     served_unanswered g.D.Arm.Dir.Dir.files kept c.args.script.now c.args.store.now.opened (g.D.Disk.failed c.statements.disk) (g.D.Arm.Arm.failed c.statements.arm) c.statements.at c.statements.tally c.statements.store (g.A.Annals.told c.statements.annals) (g.D.Disk.told c.statements.disk)
-    (g.K.Sink.written c.args.sink.now) (g.K.Sink.written c.statements.sink) s (g.D.Disk.failed c.answer.new.disk) (g.D.Arm.Arm.failed c.answer.new.arm) c.in-Err-answer.ensures.disk_later c.in-Err-answer.ensures.arm_later (g.A.Annals.told c.answer.new.annals) same
+    (g.K.Sink.written c.args.sink.now) (g.K.Sink.written c.statements.sink) s (g.D.Disk.failed c.answer.new.disk) (g.D.Arm.Arm.failed c.answer.new.arm) c.in-Err-answer.ensures.disk_later c.in-Err-answer.ensures.arm_later (g.A.Annals.told c.answer.new.annals) (g.D.Disk.told c.answer.new.disk) same.0 same.1
 
 pub returns-in-Err-write_all-clause-run : goal.returns-in-Err-write_all-clause-run
 returns-in-Err-write_all-clause-run g c = λ kept is tells stands settled.
