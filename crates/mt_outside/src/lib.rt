@@ -8,5 +8,8 @@ mod streams;
 
 pub use disk::{Arm, Change, Dir, Disk, DiskError, Files, Stage, Stamped, Written};
 pub use gate::{Gate, Point, Who};
-pub use laws::{changes_add_their_own_moments, images_now, images_only_grow, syncs_settle};
+pub use laws::{
+    changes_add_their_own_moments, images_now, images_only_grow, publishes_add_one_name,
+    syncs_add_no_image, syncs_settle,
+};
 pub use streams::{ReadFault, Sink, Source, WriteFault};

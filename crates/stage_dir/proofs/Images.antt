@@ -14,6 +14,7 @@ use Rattle.mt_outside.specs.declared.disk.Change.TheVariants.{Publish}
 use Rattle.mt_outside.specs.Files.{Files, bytes_of, is_synced}
 use Rattle.mt_outside.specs.Disk.{AllBy, Image, LeftAt, MayBecome, MayLead, Names, Since, Survive, Told, at_clock, before_clock, changed, files_at, names_after, with_change}
 use Rattle.mt_outside.proofs.Changes.{at_clock-none, at_clock-with_change, before_clock-all, before_clock-with_change, lead_none, left_at_all, names_after_last, survive_same}
+use Rattle.mt_outside.proofs.Crashes.{all_by-append, names_after-append}
 use Rattle.stage_dir.specs.Stages.{AreSealed}
 use Rattle.stage_dir.specs.Crashes.{AreOfOthers, HoldsExactly, IsOfOther, WasPublished}
 use Rattle.stage_dir.proofs.Lookups.{other_kept, published_at}
@@ -47,10 +48,6 @@ lead_others clock name from to (s ∷ ss) others (inr leads) =
 after_others : (clock : ℕ) (name : List ℕ) (names : Names) (ss : Told) → AreOfOthers clock name ss → files_at name (names_after names ss) ≡ files_at name names
 after_others clock name names [] others = refl
 after_others clock name names (s ∷ ss) others = after_others clock name (changed names s.change) ss others.2 ∙ other_kept name s.change names others.1
-
-names_after-append : (names : Names) (xs ys : Told) → names_after names (xs ++ ys) ≡ names_after (names_after names xs) ys
-names_after-append names [] ys = refl
-names_after-append names (x ∷ xs) ys = names_after-append (changed names x.change) xs ys
 
 -- ---- some of the changes of others
 
@@ -120,10 +117,6 @@ lead_holds clock name files from to ss sealed others there leads = holds_kept na
 all_by-later : (told : Told) (mark later : ℕ) → mark ≤ later → AllBy mark told → AllBy later told
 all_by-later [] mark later le by = tt
 all_by-later (s ∷ ss) mark later le by = (omega (arith, by.0), all_by-later ss mark later le by.1)
-
-all_by-append : (xs ys : Told) (mark : ℕ) → AllBy mark xs → AllBy mark ys → AllBy mark (xs ++ ys)
-all_by-append [] ys mark by more = more
-all_by-append (x ∷ xs) ys mark by more = (by.0, all_by-append xs ys mark by.1 more)
 
 -- ---- published files
 
