@@ -1,5 +1,5 @@
 -- Parts that stand for a table are at most as many as the INSERTs that were accepted into it.
-use Rattle.std.proofs.Common.{◌≡◌, ℕ, ◌+◌, ◌-◌, ◌<◌, ◌≤◌, Bool, true, false, cond, ◌&&◌, List, [], ◌∷◌, All, filter, length, nat_le, refl, ap, ap₂, ◌∙◌, subst, arith, zero, suc, inl, inr, ◌⊎◌}
+use Rattle.std.proofs.Common.{◌≡◌, ℕ, ◌+◌, ◌-◌, ◌<◌, ◌≤◌, Bool, true, false, cond, ◌&&◌, List, [], ◌∷◌, filter, length, nat_le, refl, ap, ap₂, ◌∙◌, subst, arith, zero, suc, inl, inr, ◌⊎◌}
 use Rattle.std.specs.List.{AllByRecursion, count_by}
 use Rattle.std.proofs.lemmas.Bool.{cases_lt}
 use Rattle.std.proofs.lemmas.Bool.Decides.{nat_tests}

@@ -4,7 +4,7 @@ use Rattle.std.specs.Prelude.{IsSome}
 use Rattle.std.specs.Ordering.{is_lt, nat_cmp, ordering_then}
 use Rattle.std.proofs.lemmas.Bool.Decides.{nat_tests}
 use Rattle.std.proofs.lemmas.List.{take_all, take-append-drop, take-append-le}
-use Rattle.std.proofs.lemmas.List.Elements.{All-push, All-weaker, filter-append}
+use Rattle.std.proofs.lemmas.List.Elements.{All-nil, All-push, All-weaker, filter-append}
 use Rattle.std.proofs.lemmas.List.Kept.{IsSortedBy-push}
 use Rattle.std.proofs.lemmas.Option.{get_or_from_slice_get, slice_get_within}
 use Rattle.mt_base.specs.declared.partition.Partition.TheVariants.{Whole}
@@ -17,6 +17,10 @@ use Rattle.mt_values.specs.Grammar.{same_bytes}
 use Rattle.mt_model.specs.History.{History, IsInsertInto, IsLegal, IsTableSchema, creates, schema_of}
 use Rattle.mt_model.proofs.Histories.{legal_front, legal_push}
 use Rattle.mt_model.proofs.Tables.{itself_same, same_is}
+use Rattle.table_core.specs.declared.event.Accept.{Accept}
+use Rattle.table_core.specs.declared.event.Accept.TheVariants as accept
+use Rattle.table_core.specs.declared.event.Crash.{Crash}
+use Rattle.table_core.specs.declared.event.Crash.TheVariants as crash
 use Rattle.table_core.specs.declared.event.Event.{Event}
 use Rattle.table_core.specs.declared.event.Event.TheVariants as event
 use Rattle.table_core.specs.declared.event.Guard.TheVariants as guard
@@ -27,7 +31,7 @@ use Rattle.table_core.specs.declared.part.Snapshot.{Snapshot}
 use Rattle.table_core.specs.Core.{Core, IsCore, IsSnapshot}
 use Rattle.table_core.specs.Numbers.{numbered}
 use Rattle.table_core.specs.Parts.{AreInBlockOrder, PartStands, PartsStand, TableStands, block_cmp, partition_cmp, parts_of, rows_of_parts}
-use Rattle.table_core.specs.Steps.{AcceptsInsert, AddsPart, AreLeftOf, Gives, MayCome, entered, next_number, part_of_insert, snapshot_of}
+use Rattle.table_core.specs.Steps.{AcceptGives, AcceptsInsert, AddsPart, AreLeftOf, CrashMeets, Gives, MayAccept, MayCome, MayCrash, entered, next_number, part_of_insert, snapshot_of, without_snapshots}
 use Rattle.table_core.proofs.Growing.{drawn_apart, number_drawn, table_grown, table_kept}
 use Rattle.table_core.proofs.Joined.{parts_joined}
 use Rattle.table_core.proofs.Numbered.{all_whole, whole_at}
@@ -121,45 +125,43 @@ pub record Took (old new : Core) : Type 0 where
   pub there : IsSome (schema_of table old.history)
   pub new_is : new ≡ record { parts = old.parts; history = old.history; snapshots = old.snapshots ++ snapshot_of table old ∷ [] }
 
+-- an accept leaves the state as it was, or makes a table, or adds a part
+pub data Entered (old new : Core) : Type 0 where
+  Same : new ≡ old → Entered old new
+  Made : Created old new → Entered old new
+  Added : Inserted old new → Entered old new
+
 pub data Change (old new : Core) : Type 0 where
-  Same : new ≡ old → Change old new
-  Made : Created old new → Change old new
-  Added : Inserted old new → Change old new
+  Entering : Entered old new → Change old new
   Taken : Took old new → Change old new
+  Ended : (met : Core) → Entered old met → new ≡ without_snapshots met → Change old new
+
+pub enters : (old new : Core) (a : Accept) (given : Outcome) → MayAccept old.history a → AcceptGives old a given new → Entered old new
+enters old new (accept.Create session c) (outcome.Accepted place) may g = Made (record { session = session; create = c; schema = may; absent = g.0; few = g.1; new_is = g.3 })
+enters old new (accept.Create session c) (outcome.Refused guard.TableExists) may g = Same g.1
+enters old new (accept.Create session c) (outcome.Refused guard.Creates) may g = Same g.2
+enters old new (accept.Insert session i) (outcome.Accepted place) may g = Added (record { session = session; insert = i; place = place; accepts = g; into = may g.schema g.there })
+enters old new (accept.Insert session i) (outcome.Refused guard.NoTable) may g = Same g.1
+enters old new (accept.Insert session i) (outcome.Refused guard.Numbers) may g = Same g.2
+enters old new (accept.Create session c) given may g = absurd g
+enters old new (accept.Insert session i) given may g = absurd g
+
+-- what a crash meets
+pub meets : (old met : Core) (c : Crash) → MayCrash old.history c → CrashMeets old c met → Entered old met
+meets old met crash.Between may m = Same m
+meets old met (crash.Within a false) may m = Same m
+meets old met (crash.Within a true) may m = enters old met a m.0 may m.1
 
 pub changes : (old new : Core) (e : Event) (given : Outcome) → MayCome old.history e → Gives old e given new → Change old new
-changes old new (event.Create session c) (outcome.Accepted place) may g = Made (record { session = session; create = c; schema = may; absent = g.0; few = g.1; new_is = g.3 })
-changes old new (event.Create session c) (outcome.Refused guard.TableExists) may g = Same g.1
-changes old new (event.Create session c) (outcome.Refused guard.Creates) may g = Same g.2
-changes old new (event.Create session c) (outcome.Refused guard.NoTable) may g = absurd g
-changes old new (event.Create session c) (outcome.Refused guard.Numbers) may g = absurd g
-changes old new (event.Create session c) (outcome.Refused guard.NoSnapshot) may g = absurd g
-changes old new (event.Create session c) (outcome.Taken number) may g = absurd g
-changes old new (event.Create session c) (outcome.Rows rows place) may g = absurd g
-changes old new (event.Insert session i) (outcome.Accepted place) may g = Added (record { session = session; insert = i; place = place; accepts = g; into = may g.schema g.there })
-changes old new (event.Insert session i) (outcome.Refused guard.NoTable) may g = Same g.1
-changes old new (event.Insert session i) (outcome.Refused guard.Numbers) may g = Same g.2
-changes old new (event.Insert session i) (outcome.Refused guard.TableExists) may g = absurd g
-changes old new (event.Insert session i) (outcome.Refused guard.Creates) may g = absurd g
-changes old new (event.Insert session i) (outcome.Refused guard.NoSnapshot) may g = absurd g
-changes old new (event.Insert session i) (outcome.Taken number) may g = absurd g
-changes old new (event.Insert session i) (outcome.Rows rows place) may g = absurd g
+changes old new (event.Accept a) given may g = Entering (enters old new a given may g)
 changes old new (event.TakeSnapshot table) (outcome.Taken number) may g = Taken (record { table = table; there = g.0; new_is = g.2 })
-changes old new (event.TakeSnapshot table) (outcome.Refused guard.NoTable) may g = Same g.1
-changes old new (event.TakeSnapshot table) (outcome.Refused guard.TableExists) may g = absurd g
-changes old new (event.TakeSnapshot table) (outcome.Refused guard.Creates) may g = absurd g
-changes old new (event.TakeSnapshot table) (outcome.Refused guard.Numbers) may g = absurd g
-changes old new (event.TakeSnapshot table) (outcome.Refused guard.NoSnapshot) may g = absurd g
-changes old new (event.TakeSnapshot table) (outcome.Accepted place) may g = absurd g
-changes old new (event.TakeSnapshot table) (outcome.Rows rows place) may g = absurd g
-changes old new (event.ReadSnapshot number) (outcome.Rows rows place) may g = Same g.4
-changes old new (event.ReadSnapshot number) (outcome.Refused guard.NoSnapshot) may g = Same g.1
-changes old new (event.ReadSnapshot number) (outcome.Refused guard.NoTable) may g = absurd g
-changes old new (event.ReadSnapshot number) (outcome.Refused guard.TableExists) may g = absurd g
-changes old new (event.ReadSnapshot number) (outcome.Refused guard.Creates) may g = absurd g
-changes old new (event.ReadSnapshot number) (outcome.Refused guard.Numbers) may g = absurd g
-changes old new (event.ReadSnapshot number) (outcome.Accepted place) may g = absurd g
-changes old new (event.ReadSnapshot number) (outcome.Taken taken) may g = absurd g
+changes old new (event.TakeSnapshot table) (outcome.Refused guard.NoTable) may g = Entering (Same g.1)
+changes old new (event.ReadSnapshot number) (outcome.Rows rows place) may g = Entering (Same g.4)
+changes old new (event.ReadSnapshot number) (outcome.Refused guard.NoSnapshot) may g = Entering (Same g.1)
+changes old new (event.Crash c) outcome.Restarted may g = Ended g.0 (meets old g.0 c may g.1) g.2
+changes old new (event.TakeSnapshot table) given may g = absurd g
+changes old new (event.ReadSnapshot number) given may g = absurd g
+changes old new (event.Crash c) given may g = absurd g
 
 -- ---- what always holds
 
@@ -245,11 +247,19 @@ module _ (old new : Core) (session : ℕ) (i : Insert) (place : ℕ) (is : IsCor
             (subst (λ (x : History). All (IsSnapshot x) old.snapshots) more (snapshots_kept old.history (entry ∷ []) old.snapshots is.snapshots));
       }
 
-pub change_core : (old new : Core) → IsCore old → Change old new → IsCore new
-change_core old new is (Same same) = subst IsCore (sym same) is
-change_core old new is (Made m) = subst IsCore (sym m.new_is) (create_core old m.session m.create is m.schema m.absent m.few)
-change_core old new is (Added a) = insert_core old new a.session a.insert a.place is a.accepts a.into
+-- without its snapshots it holds too
+pub crash_core : (met : Core) → IsCore met → IsCore (without_snapshots met)
+crash_core met is = record { legal = is.legal; parts = is.parts; order = is.order; snapshots = All-nil (IsSnapshot met.history) }
+
+enters_core : (old new : Core) → IsCore old → Entered old new → IsCore new
+enters_core old new is (Same same) = subst IsCore (sym same) is
+enters_core old new is (Made m) = subst IsCore (sym m.new_is) (create_core old m.session m.create is m.schema m.absent m.few)
+enters_core old new is (Added a) = insert_core old new a.session a.insert a.place is a.accepts a.into
+
+change_core : (old new : Core) → IsCore old → Change old new → IsCore new
+change_core old new is (Entering entered) = enters_core old new is entered
 change_core old new is (Taken t) = subst IsCore (sym t.new_is) (take_core old t.table is t.there)
+change_core old new is (Ended met entered same) = subst IsCore (sym same) (crash_core met (enters_core old met is entered))
 
 -- the core is kept
 pub gives_core : (old new : Core) (e : Event) (given : Outcome) → IsCore old → MayCome old.history e → Gives old e given new → IsCore new

@@ -1,5 +1,5 @@
 -- What each event gives, and the state that it leaves (docs/definitions.md, "The core").
-use Rattle.std.specs.Prelude.{◌≡◌, ◌+◌, ◌<◌, ◌≤◌, ℕ, List, [], ◌∷◌, ◌++◌, Some, None, IsSome, length, slice_get, take}
+use Rattle.std.specs.Prelude.{◌≡◌, ◌+◌, ◌<◌, ◌≤◌, ℕ, true, false, List, [], ◌∷◌, ◌++◌, Some, None, IsSome, length, slice_get, take}
 use Rattle.mt_values.specs.declared.command.Command.{Command}
 use Rattle.mt_values.specs.declared.command.Command.TheVariants as command
 use Rattle.mt_values.specs.declared.command.Create.{Create}
@@ -10,6 +10,10 @@ use Rattle.mt_values.specs.Values.{Row}
 use Rattle.mt_model.specs.History.{History, IsInsertInto, IsTableSchema, creates, schema_of}
 use Rattle.mt_model.specs.Live.{live, sorted}
 use Rattle.mt_model.specs.Partial.{Partly}
+use Rattle.table_core.specs.declared.event.Accept.{Accept}
+use Rattle.table_core.specs.declared.event.Accept.TheVariants as accept
+use Rattle.table_core.specs.declared.event.Crash.{Crash}
+use Rattle.table_core.specs.declared.event.Crash.TheVariants as crash
 use Rattle.table_core.specs.declared.event.Event.{Event}
 use Rattle.table_core.specs.declared.event.Event.TheVariants as event
 use Rattle.table_core.specs.declared.event.Guard.TheVariants as guard
@@ -21,12 +25,22 @@ use Rattle.table_core.specs.Core.{Core}
 use Rattle.table_core.specs.Numbers.{numbered}
 use Rattle.table_core.specs.Parts.{parts_of, rows_of_parts}
 
--- an event may come: a CREATE has a schema that a table may have, an INSERT has rows of its table, where there is the table (docs/definitions.md, "The core")
+-- an accept may come: a CREATE has a schema that a table may have, an INSERT has rows of its table, where there is the table (docs/definitions.md, "The core")
+abbrev pub MayAccept : History → Accept → Type 0
+MayAccept h (accept.Create session c) = IsTableSchema c.schema
+MayAccept h (accept.Insert session i) = (schema : Schema) → schema_of i.table h ≡ Some schema → IsInsertInto schema i
+
+-- a crash may come: within an accept, where the accept may (docs/definitions.md, "The core")
+abbrev pub MayCrash : History → Crash → Type 0
+MayCrash h crash.Between = Unit {0}
+MayCrash h (crash.Within a done) = MayAccept h a
+
+-- an event may come: an accept, or a crash within one, where the accept may; all others always (docs/definitions.md, "The core")
 abbrev pub MayCome : History → Event → Type 0
-MayCome h (event.Create session c) = IsTableSchema c.schema
-MayCome h (event.Insert session i) = (schema : Schema) → schema_of i.table h ≡ Some schema → IsInsertInto schema i
+MayCome h (event.Accept a) = MayAccept h a
 MayCome h (event.TakeSnapshot table) = Unit {0}
 MayCome h (event.ReadSnapshot number) = Unit {0}
+MayCome h (event.Crash c) = MayCrash h c
 
 -- the history with one entry more
 abbrev pub entered : History → ℕ → Command → History
@@ -78,6 +92,11 @@ InsertGives old session i (outcome.Refused guard.NoTable) new = (schema_of i.tab
 InsertGives old session i (outcome.Refused guard.Numbers) new = IsSome (schema_of i.table old.history) × (4294967295 < next_number i.table old.history) × (new ≡ old)
 InsertGives old session i given new = ⊥
 
+-- an accept: what its CREATE or its INSERT gives (docs/definitions.md, "The core")
+abbrev pub AcceptGives : Core → Accept → Outcome → Core → Type 0
+AcceptGives old (accept.Create session c) given new = CreateGives old session c given new
+AcceptGives old (accept.Insert session i) given new = InsertGives old session i given new
+
 -- the snapshot of a table as it is now
 abbrev pub snapshot_of : List ℕ → Core → Snapshot
 snapshot_of table core = record { table = table; parts = parts_of table core.parts; length = length core.history }
@@ -97,12 +116,27 @@ ReadGives old number (outcome.Rows rows place) new =
 ReadGives old number (outcome.Refused guard.NoSnapshot) new = (slice_get old.snapshots number ≡ None) × (new ≡ old)
 ReadGives old number given new = ⊥
 
+-- the state without its snapshots (docs/definitions.md, "The core")
+abbrev pub without_snapshots : Core → Core
+without_snapshots core = record { parts = core.parts; history = core.history; snapshots = [] }
+
+-- the state that a crash meets: the one before it, or that which an accept gives, where it came within the accept and this was done (docs/definitions.md, "The core")
+abbrev pub CrashMeets : Core → Crash → Core → Type 0
+CrashMeets old crash.Between met = met ≡ old
+CrashMeets old (crash.Within a false) met = met ≡ old
+CrashMeets old (crash.Within a true) met = (given : Outcome) × AcceptGives old a given met
+
+-- a crash: the state that it meets is left without its snapshots (docs/definitions.md, "The core")
+abbrev pub CrashGives : Core → Crash → Outcome → Core → Type 0
+CrashGives old c outcome.Restarted new = (met : Core) × CrashMeets old c met × (new ≡ without_snapshots met)
+CrashGives old c given new = ⊥
+
 -- what an event gives, and the state behind it (docs/definitions.md, "The core")
 abbrev pub Gives : Core → Event → Outcome → Core → Type 0
-Gives old (event.Create session c) given new = CreateGives old session c given new
-Gives old (event.Insert session i) given new = InsertGives old session i given new
+Gives old (event.Accept a) given new = AcceptGives old a given new
 Gives old (event.TakeSnapshot table) given new = TakeGives old table given new
 Gives old (event.ReadSnapshot number) given new = ReadGives old number given new
+Gives old (event.Crash c) given new = CrashGives old c given new
 
 -- rows are what merges may have left of a table's live rows after as many entries of a history as the place says (docs/definitions.md, "The core")
 abbrev pub AreLeftOf : List ℕ → ℕ → History → List Row → Type 0

@@ -2,17 +2,35 @@
 use mt_base::Seq;
 use mt_values::{Create, Insert, Name, Row};
 
-/// What may happen.
+/// A command that a session gives: it is accepted, or refused.
 #[derive(Debug, Drop)]
-pub enum Event {
+pub enum Accept {
     /// A session gives a CREATE.
     Create { session: u64, create: Create },
     /// A session gives an INSERT.
     Insert { session: u64, insert: Insert },
+}
+
+/// Where a crash comes.
+#[derive(Debug, Drop)]
+pub enum Crash {
+    /// Between two events.
+    Between,
+    /// Within an accept, which is then done as a whole, or not at all.
+    Within { accept: Accept, done: bool },
+}
+
+/// What may happen.
+#[derive(Debug, Drop)]
+pub enum Event {
+    /// A command is accepted, or refused.
+    Accept(Accept),
     /// A snapshot of a table is taken.
     TakeSnapshot { table: Name },
     /// The snapshot with this number, from 0, is read.
     ReadSnapshot { number: usize },
+    /// The store ends where it is, and begins again.
+    Crash(Crash),
 }
 
 /// Why an event is refused.
@@ -41,4 +59,6 @@ pub enum Outcome {
     Rows { rows: Seq<Row>, length: usize },
     /// Nothing was changed.
     Refused(Guard),
+    /// All began again, and no snapshot is left.
+    Restarted,
 }

@@ -14,7 +14,7 @@ ghost use Rattle.table_core.specs.declared.part.CorePart.{CorePart};
 ghost use Rattle.table_core.specs.Core.{Core, IsCore};
 ghost use Rattle.table_core.specs.Numbers.{numbered};
 ghost use Rattle.table_core.specs.Parts.{AreInBlockOrder, TableStands, rows_of_parts};
-ghost use Rattle.table_core.specs.Runs.{MayRun, Runs, TellsLeft, TellsSnapshots};
+ghost use Rattle.table_core.specs.Runs.{HasEntries, KeepsAccepted, KeepsHistory, KnowsSnapshots, MayRun, Runs, TellsLeft, TellsSnapshots};
 ghost use Rattle.table_core.specs.Steps.{Gives, MayCome, entered, next_number, part_of_insert};
 
 /// The rows of the parts that stand for a table, part after part in block order, are what merges may have left of its live rows.
@@ -47,10 +47,20 @@ pub fn parts_are_at_most_inserts()
 {}
 
 /// What always holds of the core holds after each event that may come, and so after a run of events. What was read of a
-/// snapshot stays what merges may have left of the front of the history at which it was taken, whatever is accepted later.
+/// snapshot stays what merges may have left of the front of the history at which it was taken, whatever comes later. The
+/// number of a snapshot stays its number up to the next crash, behind which no number is known that was told before it.
 pub fn what_was_read_stays()
     ensures step { (old new : Core) (e : Event) (given : Outcome) → IsCore old → MayCome old.history e → Gives old e given new → IsCore new }
     ensures run { (events : List Event) (outcomes : List Outcome) (old new : Core) → IsCore old → MayRun old events → Runs old events outcomes new → IsCore new }
-    ensures read { (events : List Event) (outcomes : List Outcome) (old new : Core) → IsCore old → MayRun old events → Runs old events outcomes new → TellsLeft events outcomes new }
-    ensures taken { (events : List Event) (outcomes : List Outcome) (old new : Core) → MayRun old events → Runs old events outcomes new → TellsSnapshots events outcomes new }
+    ensures read { (events : List Event) (outcomes : List Outcome) (old new : Core) → IsCore old → MayRun old events → Runs old events outcomes new → TellsLeft old events outcomes new }
+    ensures taken { (events : List Event) (outcomes : List Outcome) (old new : Core) → Runs old events outcomes new → TellsSnapshots old events outcomes new }
+    ensures known { (events : List Event) (outcomes : List Outcome) (old new : Core) → Runs old events outcomes new → KnowsSnapshots old events outcomes new }
+{}
+
+/// No entry of the history is ever lost, by a crash neither. It has each command that was accepted, at the place that was
+/// told, and else at most commands within whose accepts a crash came.
+pub fn what_was_accepted_stays()
+    ensures history { (events : List Event) (outcomes : List Outcome) (old new : Core) → Runs old events outcomes new → KeepsHistory old events outcomes new }
+    ensures accepted { (events : List Event) (outcomes : List Outcome) (old new : Core) → Runs old events outcomes new → KeepsAccepted events outcomes new }
+    ensures entries { (events : List Event) (outcomes : List Outcome) (old new : Core) → Runs old events outcomes new → HasEntries old events outcomes new }
 {}

@@ -10,10 +10,10 @@ mod state;
 mod steps;
 mod store;
 
-pub use event::{Event, Guard, Outcome};
+pub use event::{Accept, Crash, Event, Guard, Outcome};
 pub use laws::{
     parts_are_at_most_inserts, parts_stand_apart, parts_stand_as_histories_grow,
-    parts_stand_for_live_rows, what_was_read_stays,
+    parts_stand_for_live_rows, what_was_accepted_stays, what_was_read_stays,
 };
 pub use part::{CorePart, Snapshot};
 pub use running::{Done, run};

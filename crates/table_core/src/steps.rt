@@ -5,11 +5,11 @@ ghost use Rattle.mt_values.specs.Grid.{picked};
 ghost use Rattle.mt_model.specs.History.{IsInsertInto, IsTableSchema, schema_of};
 ghost use Rattle.table_core.specs.Parts.{rows_of_parts};
 ghost use Rattle.table_core.specs.Steps as steps;
-ghost use Rattle.table_core.specs.Steps.{CreateGives, Gives, InsertGives, MayCome, ReadGives, TakeGives};
+ghost use Rattle.table_core.specs.Steps.{AcceptGives, CrashGives, CrashMeets, CreateGives, Gives, InsertGives, MayAccept, MayCome, MayCrash, ReadGives, TakeGives};
 ghost use Rattle.table_core.specs.Store.{IsStore, core_of};
 
 use crate::store::Store;
-use crate::{CorePart, Event, Guard, Outcome, Snapshot};
+use crate::{Accept, CorePart, Crash, Event, Guard, Outcome, Snapshot};
 use mt_base::{NoMemory, Seq, Twin};
 use mt_values::{Block, Create, Insert, Name, Row, Schema};
 use part_name::PartName;
@@ -29,11 +29,56 @@ pub fn happen(alloc: Global, store: &mut Store, event: Event) -> Result<Outcome,
     ensures store { IsStore store.new }
 {
     match event {
-        Event::Create { session, create } => make_table(alloc, store, session, create),
-        Event::Insert { session, insert } => add_rows(alloc, store, session, insert),
+        Event::Accept(accept) => decide(alloc, store, accept),
         Event::TakeSnapshot { table } => take_snapshot(alloc, store, table),
         Event::ReadSnapshot { number } => read_snapshot(alloc, store, number),
+        Event::Crash(crash) => restart(alloc, store, crash),
     }
+}
+
+/// Accepts a command, or refuses it.
+fn decide(alloc: Global, store: &mut Store, accept: Accept) -> Result<Outcome, NoMemory>
+    requires store { IsStore store.old }
+    requires may { MayAccept store.old.entries.items accept }
+    ensures gives { IfOk result (λ given. AcceptGives (core_of store.old) accept given (core_of store.new)) }
+    ensures err { OnErr result (core_of store.new ≡ core_of store.old) }
+    ensures store { IsStore store.new }
+{
+    match accept {
+        Accept::Create { session, create } => make_table(alloc, store, session, create),
+        Accept::Insert { session, insert } => add_rows(alloc, store, session, insert),
+    }
+}
+
+/// Begins again behind a crash: of an accept within which it came all is left or nothing, and no snapshot is.
+fn restart(alloc: Global, store: &mut Store, crash: Crash) -> Result<Outcome, NoMemory>
+    requires store { IsStore store.old }
+    requires may { MayCrash store.old.entries.items crash }
+    ensures gives { IfOk result (λ given. CrashGives (core_of store.old) crash given (core_of store.new)) }
+    ensures err { OnErr result (core_of store.new ≡ core_of store.old) }
+    ensures store { IsStore store.new }
+{
+    meet_crash(alloc, store, crash)?;
+    store.snapshots.clear();
+    Ok(Outcome::Restarted)
+}
+
+/// Leaves the state that a crash meets: an accept within which it came and that was done is done here.
+fn meet_crash(alloc: Global, store: &mut Store, crash: Crash) -> Result<(), NoMemory>
+    requires store { IsStore store.old }
+    requires may { MayCrash store.old.entries.items crash }
+    ensures meets { OnOk result (CrashMeets (core_of store.old) crash (core_of store.new)) }
+    ensures err { OnErr result (core_of store.new ≡ core_of store.old) }
+    ensures store { IsStore store.new }
+{
+    let Crash::Within { accept, done } = crash else {
+        return Ok(());
+    };
+    if !done {
+        return Ok(());
+    }
+    decide(alloc, store, accept)?;
+    Ok(())
 }
 
 /// Makes a table, unless there is one of its name or there are too many.

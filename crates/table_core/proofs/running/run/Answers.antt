@@ -6,7 +6,7 @@ use Rattle.table_core.specs.declared.event.Event.{Event}
 use Rattle.table_core.specs.declared.event.Outcome.{Outcome}
 use Rattle.table_core.specs.Core.{IsCore, empty_core}
 use Rattle.table_core.specs.Runs.{MayRun, Runs}
-use Rattle.table_core.proofs.Telling.{may_come, run_push, run_tells_left, run_tells_snapshots}
+use Rattle.table_core.proofs.Telling.{may_come, run_accepted, run_entries, run_history, run_known, run_push, run_tells_left, run_tells_snapshots}
 use Rattle.table_core.proofs.running.run.Goals as goal
 
 -- what the iterator of a vector has given is a front of its items
@@ -41,17 +41,21 @@ all_given s xs t items begun y none =
     let empty : into_iter_items t ≡ [] = nothing_left (into_iter_items t) (sym t.rest.ok.0 ∙ none) in
     sym (append-nil xs) ∙ (ap (λ ys. xs ++ ys) (sym empty) ∙ (sym (taken_front s xs t y) ∙ begun))
 
-pub returns-clause-read : goal.returns-clause-read
-returns-clause-read c =
+pub returns : goal.returns
+returns c =
     let began = c.into_iter-event-iterator in
+    let outcomes = c.loop-event.outcomes.items in
     let all = all_given began.result c.loop-event.yielded c.loop-event.event-iterator c.args.events.items began.ensures.into_iter_gives.0 c.loop-event.yielded_by c.in-None.ensures.steps.0 in
+    let ran : Runs empty_core c.args.events.items outcomes c.loop-event.state =
+    subst (λ (es : List Event). Runs empty_core es outcomes c.loop-event.state) all c.loop-event.invariant.ran in
     let begins : IsCore empty_core = subst IsCore c.new-state.ensures.empty c.new-state.ensures.core in
-    run_tells_left c.args.events.items c.loop-event.outcomes.items empty_core c.loop-event.state begins c.requires
-    (subst (λ (es : List Event). Runs empty_core es c.loop-event.outcomes.items c.loop-event.state) all c.loop-event.invariant.ran)
-
-pub returns-clause-taken : goal.returns-clause-taken
-returns-clause-taken c =
-    let began = c.into_iter-event-iterator in
-    let all = all_given began.result c.loop-event.yielded c.loop-event.event-iterator c.args.events.items began.ensures.into_iter_gives.0 c.loop-event.yielded_by c.in-None.ensures.steps.0 in
-    run_tells_snapshots c.args.events.items c.loop-event.outcomes.items empty_core c.loop-event.state c.requires
-    (subst (λ (es : List Event). Runs empty_core es c.loop-event.outcomes.items c.loop-event.state) all c.loop-event.invariant.ran)
+    record {
+      run = ran;
+      core = c.loop-event.invariant.core;
+      read = run_tells_left c.args.events.items outcomes empty_core c.loop-event.state begins c.requires ran;
+      taken = run_tells_snapshots c.args.events.items outcomes empty_core c.loop-event.state ran;
+      known = run_known c.args.events.items outcomes empty_core c.loop-event.state ran;
+      history = run_history c.args.events.items outcomes empty_core c.loop-event.state ran;
+      accepted = run_accepted c.args.events.items outcomes empty_core c.loop-event.state ran;
+      entries = run_entries c.args.events.items outcomes empty_core c.loop-event.state ran;
+    }
