@@ -1,7 +1,8 @@
 -- An image of a disk is one that a crash may leave.
-use Rattle.std.proofs.Common.{◌≡◌, inl, inr, ℕ, ◌+◌, ◌<◌, ◌≤◌, nat_lt, ◌==◌, arith, Bool, true, false, cond, List, [], ◌∷◌, ◌++◌, map, length, replicate, ◌/◌, refl, sym, ap, ◌∙◌, subst}
-use Rattle.std.proofs.lemmas.Bool.{cases_Bool, cond-true, cond-false, cond_both, ltb-true, eqb-true}
+use Rattle.std.proofs.Common.{◌≡◌, inl, inr, ℕ, ◌+◌, ◌-◌, ◌<◌, ◌≤◌, nat_lt, ◌==◌, arith, Bool, true, false, cond, List, [], ◌∷◌, ◌++◌, append-nil, map, length, replicate, ◌/◌, refl, sym, ap, ◌∙◌, subst}
+use Rattle.std.proofs.lemmas.Bool.{cases_Bool, cases_lt, cond-true, cond-false, cond_both, ltb-true, eqb-true, lt-ltb, le-ltb, eq-eqb, ne_eqb}
 use Rattle.std.proofs.lemmas.List.{map-append}
+use Rattle.std.proofs.lemmas.List.Elements.{filter-append}
 use Rattle.std.specs.Ordering.{nat_cmp, match_ordering}
 use Rattle.std.specs.declared.cmp.Ordering.{Ordering}
 use Rattle.std.specs.declared.cmp.Ordering.TheVariants.{Less, Equal, Greater}
@@ -15,7 +16,9 @@ use Rattle.mt_outside.specs.declared.disk.Stamped.{Stamped}
 use Rattle.mt_outside.specs.declared.disk.Change.{Change}
 use Rattle.mt_outside.specs.declared.disk.Change.TheVariants.{Publish, Remove}
 use Rattle.mt_outside.specs.Files.{Files, bytes_of, is_synced}
-use Rattle.mt_outside.specs.Disk.{Told, Names, AllBy, Image, MayLead, MayBecome, Survive, changed, names_after, names_of, before_clock, at_clock}
+use Rattle.mt_outside.specs.Disk.{Told, Names, AllBy, Image, IsStamped, IsStartedAgain, MayLead, MayBecome, Survive, changed, names_after, names_of, before_clock, at_clock}
+use Rattle.mt_outside.proofs.Changes.{survive_same, before_clock-all, at_clock-none, left_at_all}
+use Rattle.mt_outside.proofs.Crashes.{names_after-append, image_as_read, stamped_by}
 use Rattle.disk_mem.specs.Images.{loses, has_happened, happened, lost_file, left_files, left_change, left_stamped, image_told}
 
 -- a file without its bytes
@@ -46,107 +49,218 @@ lost_bytes file (w ∷ ws) synced =
           )
     ]
 
--- the files of a folder after a crash
-left_may : (lose : Bool) (files : Files) → MayBecome files (left_files lose files)
-left_may true files = record { kept = λ file synced. lost_bytes file files synced }
-left_may false files = record { kept = λ file synced. refl }
+-- a file counts as synced after a crash where it did before
+lost_file-synced : (w : Written) → (lost_file w).synced ≡ w.synced
+lost_file-synced w = elim (cases_Bool w.synced) [ inl is ↦ ap (λ (v : Written). v.synced) (kept_file w is) | inr isnt ↦ ap (λ (v : Written). v.synced) (cond-false w.synced w (zeros_of w) isnt) ∙ sym isnt ]
+
+lost_synced : (file : FileId) (files : Files) → is_synced file (map lost_file files) ≡ is_synced file files
+lost_synced file [] = refl
+lost_synced file (w ∷ ws) =
+    ap (λ (id : FileId). cond (same_file id file) (lost_file w).synced (is_synced file (map lost_file ws))) (lost_file-file w)
+    ∙ (ap (λ (b : Bool). cond (same_file w.file file) b (is_synced file (map lost_file ws))) (lost_file-synced w)
+    ∙ ap (λ (b : Bool). cond (same_file w.file file) w.synced b) (lost_synced file ws))
+
+-- what the files of a folder may become after a crash, they might have become before it
+left_become : (lose : Bool) (files new : Files) → MayBecome (left_files lose files) new → MayBecome files new
+left_become true files new become = record { kept = λ file synced. become.kept file (lost_synced file files ∙ synced) ∙ lost_bytes file files synced }
+left_become false files new become = become
+
+-- names, each with its files after a crash
+abbrev pub left_names : Bool → Names → Names
+left_names lose names = map (λ (n : List ℕ × Files). (n.0, left_files lose n.1)) names
+
+survive_left : (lose : Bool) (names to : Names) → Survive (left_names lose names) to → Survive names to
+survive_left lose [] to kept = kept
+survive_left lose (n ∷ names) [] kept = absurd kept
+survive_left lose (n ∷ names) (m ∷ to) kept = (kept.0, left_become lose n.1 m.1 kept.1, survive_left lose names to kept.2)
 
 -- the same choice on both sides
-survive_ordered : (o : Ordering) (a1 a2 a3 b1 b2 b3 : Names) → Survive a1 b1 → Survive a2 b2 → Survive a3 b3 → Survive (match_ordering o a1 a2 a3) (match_ordering o b1 b2 b3)
-survive_ordered Less a1 a2 a3 b1 b2 b3 less same more = less
-survive_ordered Equal a1 a2 a3 b1 b2 b3 less same more = same
-survive_ordered Greater a1 a2 a3 b1 b2 b3 less same more = more
+left_ordered : (o : Ordering) (lose : Bool) (a b c : Names) → match_ordering o (left_names lose a) (left_names lose b) (left_names lose c) ≡ left_names lose (match_ordering o a b c)
+left_ordered Less lose a b c = refl
+left_ordered Equal lose a b c = refl
+left_ordered Greater lose a b c = refl
 
-survive_cond : (b : Bool) (a1 a2 b1 b2 : Names) → Survive a1 b1 → Survive a2 b2 → Survive (cond b a1 a2) (cond b b1 b2)
-survive_cond true a1 a2 b1 b2 first second = first
-survive_cond false a1 a2 b1 b2 first second = second
+left_cond : (b : Bool) (lose : Bool) (a c : Names) → cond b (left_names lose a) (left_names lose c) ≡ left_names lose (cond b a c)
+left_cond true lose a c = refl
+left_cond false lose a c = refl
 
--- a publish keeps that the names survive
-survive_insert : (a b : Names) (name : List ℕ) (f g : Files) → Survive a b → MayBecome f g → Survive (insert_entry (slice_cmp nat_cmp) a name f) (insert_entry (slice_cmp nat_cmp) b name g)
-survive_insert [] [] name f g kept may = (refl, may, tt)
-survive_insert [] (y ∷ b) name f g kept may = absurd kept
-survive_insert (x ∷ a) [] name f g kept may = absurd kept
-survive_insert (x ∷ a) (y ∷ b) name f g kept may =
-    subst (λ (k : List ℕ). Survive (insert_entry (slice_cmp nat_cmp) (x ∷ a) name f)
-    (match_ordering (slice_cmp nat_cmp name k) ((name, g) ∷ y ∷ b) ((y.0, g) ∷ b) (y ∷ insert_entry (slice_cmp nat_cmp) b name g))) kept.0
-    (survive_ordered (slice_cmp nat_cmp name x.0) ((name, f) ∷ x ∷ a) ((x.0, f) ∷ a) (x ∷ insert_entry (slice_cmp nat_cmp) a name f)
-    ((name, g) ∷ y ∷ b) ((y.0, g) ∷ b) (y ∷ insert_entry (slice_cmp nat_cmp) b name g)
-    (refl, may, kept) (kept.0, may, kept.2) (kept.0, kept.1, survive_insert a b name f g kept.2 may))
+-- a publish of the files as they are after the crash
+left_insert : (lose : Bool) (names : Names) (name : List ℕ) (files : Files)
+    → insert_entry (slice_cmp nat_cmp) (left_names lose names) name (left_files lose files) ≡ left_names lose (insert_entry (slice_cmp nat_cmp) names name files)
+left_insert lose [] name files = refl
+left_insert lose (n ∷ names) name files =
+    ap (λ (rest : Names). match_ordering (slice_cmp nat_cmp name n.0) ((name, left_files lose files) ∷ left_names lose (n ∷ names)) ((n.0, left_files lose files) ∷ left_names lose names) ((n.0, left_files lose n.1) ∷ rest))
+    (left_insert lose names name files)
+    ∙ left_ordered (slice_cmp nat_cmp name n.0) lose ((name, files) ∷ n ∷ names) ((n.0, files) ∷ names) (n ∷ insert_entry (slice_cmp nat_cmp) names name files)
 
--- so does a remove
-survive_remove : (a b : Names) (name : List ℕ) → Survive a b → Survive (remove_entry (is_at (slice_cmp nat_cmp name)) a) (remove_entry (is_at (slice_cmp nat_cmp name)) b)
-survive_remove [] [] name kept = tt
-survive_remove [] (y ∷ b) name kept = absurd kept
-survive_remove (x ∷ a) [] name kept = absurd kept
-survive_remove (x ∷ a) (y ∷ b) name kept =
-    subst (λ (k : List ℕ). Survive (remove_entry (is_at (slice_cmp nat_cmp name)) (x ∷ a))
-    (cond (is_at (slice_cmp nat_cmp name) k) b (y ∷ remove_entry (is_at (slice_cmp nat_cmp name)) b))) kept.0
-    (survive_cond (is_at (slice_cmp nat_cmp name) x.0) a (x ∷ remove_entry (is_at (slice_cmp nat_cmp name)) a) b (y ∷ remove_entry (is_at (slice_cmp nat_cmp name)) b)
-    kept.2 (kept.0, kept.1, survive_remove a b name kept.2))
+left_remove : (lose : Bool) (names : Names) (name : List ℕ) → remove_entry (is_at (slice_cmp nat_cmp name)) (left_names lose names) ≡ left_names lose (remove_entry (is_at (slice_cmp nat_cmp name)) names)
+left_remove lose [] name = refl
+left_remove lose (n ∷ names) name =
+    ap (λ (rest : Names). cond (is_at (slice_cmp nat_cmp name) n.0) (left_names lose names) ((n.0, left_files lose n.1) ∷ rest)) (left_remove lose names name)
+    ∙ left_cond (is_at (slice_cmp nat_cmp name) n.0) lose names (n ∷ remove_entry (is_at (slice_cmp nat_cmp name)) names)
 
-survive_change : (lose : Bool) (a b : Names) (change : Change Files) → Survive a b → Survive (changed a change) (changed b (left_change lose change))
-survive_change lose a b (Publish name files) kept = survive_insert a b name files (left_files lose files) kept (left_may lose files)
-survive_change lose a b (Remove name) kept = survive_remove a b name kept
+left_changed : (lose : Bool) (names : Names) (change : Change Files) → changed (left_names lose names) (left_change lose change) ≡ left_names lose (changed names change)
+left_changed lose names (Publish name files) = left_insert lose names name files
+left_changed lose names (Remove name) = left_remove lose names name
 
--- settled changes
-survive_all : (lose : Bool) (a b : Names) (ss : List (Stamped Files)) → Survive a b → Survive (names_after a ss) (names_after b (map (left_stamped lose) ss))
-survive_all lose a b [] kept = kept
-survive_all lose a b (s ∷ ss) kept = survive_all lose (changed a s.change) (changed b (left_change lose s.change)) ss (survive_change lose a b s.change kept)
+left_after : (lose : Bool) (names : Names) (ss : Told) → names_after (left_names lose names) (map (left_stamped lose) ss) ≡ left_names lose (names_after names ss)
+left_after lose names [] = refl
+left_after lose names (s ∷ ss) = ap (λ (ns : Names). names_after ns (map (left_stamped lose) ss)) (left_changed lose names s.change) ∙ left_after lose (changed names s.change) ss
 
--- changes that happened or not
-lead_happened : (lose : Bool) (choice number : ℕ) (a b : Names) (ss : List (Stamped Files)) → Survive a b
-    → MayLead a ss (names_after b (map (left_stamped lose) (happened choice number ss)))
-lead_happened lose choice number a b [] kept = kept
-lead_happened lose choice number a b (s ∷ ss) kept =
-    elim (cases_Bool (has_happened choice number)) [
-      | inl did ↦ rw (cond-true (has_happened choice number) (s ∷ happened choice (number + 1) ss) (happened choice (number + 1) ss) did)
-          (inr (lead_happened lose choice (number + 1) (changed a s.change) (changed b (left_change lose s.change)) ss (survive_change lose a b s.change kept)))
-      | inr didnt ↦ rw (cond-false (has_happened choice number) (s ∷ happened choice (number + 1) ss) (happened choice (number + 1) ss) didnt)
-          (inl (lead_happened lose choice (number + 1) a b ss kept))
-    ]
-
-names_after-append : (names : Names) (xs ys : List (Stamped Files)) → names_after names (xs ++ ys) ≡ names_after (names_after names xs) ys
-names_after-append names [] ys = refl
-names_after-append names (x ∷ xs) ys = names_after-append (changed names x.change) xs ys
-
--- what an image tells, a crash may leave
-pub image_leads : (choice clock : ℕ) (told : Told) → Image told clock (names_of (image_told choice clock told))
-image_leads choice clock told =
-    let lose : Bool = loses choice in
+-- an image has the names that the changes which happened make, each with its files after the crash
+pub image_names : (choice clock : ℕ) (told : Told)
+    → names_of (image_told choice clock told) ≡ left_names (loses choice) (names_after (names_after [] (before_clock clock told)) (happened choice 0 (at_clock clock told)))
+image_names choice clock told =
     let settled : Told = before_clock clock told in
     let rest : Told = happened choice 0 (at_clock clock told) in
-    let names_are : names_of (image_told choice clock told) ≡ names_after (names_after [] (map (left_stamped lose) settled)) (map (left_stamped lose) rest) =
-    ap (names_after []) (map-append (left_stamped lose) settled rest) ∙ names_after-append [] (map (left_stamped lose) settled) (map (left_stamped lose) rest) in
-    subst (λ (names : Names). Image told clock names) (sym names_are)
-    (lead_happened lose choice 0 (names_after [] settled) (names_after [] (map (left_stamped lose) settled)) (at_clock clock told) (survive_all lose [] [] settled tt))
+    left_after (loses choice) [] (settled ++ rest) ∙ ap (left_names (loses choice)) (names_after-append [] settled rest)
 
--- what an image tells is stamped with marks up to the old one
-all_by_cond : (b : Bool) (m : ℕ) (s : Stamped Files) (ss : Told) → (b ≡ true → s.clock ≤ m) → AllBy m ss → AllBy m (cond b (s ∷ ss) ss)
-all_by_cond b m s ss here rest = cond_both b (s ∷ ss) ss (AllBy m) (λ is. (here is, rest)) (λ isnt. rest)
+-- ---- the marks of an image
 
-all_by_before : (told : Told) (m clock : ℕ) → clock ≤ m → AllBy m (before_clock clock told)
-all_by_before [] m clock up = tt
-all_by_before (s ∷ ss) m clock up = all_by_cond (nat_lt s.clock clock) m s (before_clock clock ss) (λ is. let less : s.clock < clock = ltb-true s.clock clock is in omega arith) (all_by_before ss m clock up)
+-- each of the changes is stamped with such a mark
+abbrev Each : (ℕ → Type 0) → Told → Type 0
+Each P [] = Unit {0}
+Each P (s ∷ ss) = P s.clock × Each P ss
 
-all_by_at : (told : Told) (m clock : ℕ) → clock ≤ m → AllBy m (at_clock clock told)
-all_by_at [] m clock up = tt
-all_by_at (s ∷ ss) m clock up = all_by_cond (s.clock == clock) m s (at_clock clock ss) (λ is. let same : s.clock ≡ clock = eqb-true s.clock clock is in omega arith) (all_by_at ss m clock up)
+each_cond : (P : ℕ → Type 0) (b : Bool) (s : Stamped Files) (ss : Told) → (b ≡ true → P s.clock) → Each P ss → Each P (cond b (s ∷ ss) ss)
+each_cond P b s ss here rest = cond_both b (s ∷ ss) ss (Each P) (λ is. (here is, rest)) (λ isnt. rest)
 
-all_by_happened : (choice number m : ℕ) (ss : Told) → AllBy m ss → AllBy m (happened choice number ss)
-all_by_happened choice number m [] by = tt
-all_by_happened choice number m (s ∷ ss) by =
-    all_by_cond (has_happened choice number) m s (happened choice (number + 1) ss) (λ did. by.0) (all_by_happened choice (number + 1) m ss by.1)
+each_before : (clock : ℕ) (told : Told) → Each (λ mark. mark < clock) (before_clock clock told)
+each_before clock [] = tt
+each_before clock (s ∷ ss) = each_cond (λ mark. mark < clock) (nat_lt s.clock clock) s (before_clock clock ss) (λ is. ltb-true s.clock clock is) (each_before clock ss)
 
-all_by_append : (m : ℕ) (xs ys : Told) → AllBy m xs → AllBy m ys → AllBy m (xs ++ ys)
-all_by_append m [] ys by_xs by_ys = by_ys
-all_by_append m (x ∷ xs) ys by_xs by_ys = (by_xs.0, all_by_append m xs ys by_xs.1 by_ys)
+each_at : (clock : ℕ) (told : Told) → Each (λ mark. mark ≡ clock) (at_clock clock told)
+each_at clock [] = tt
+each_at clock (s ∷ ss) = each_cond (λ mark. mark ≡ clock) (s.clock == clock) s (at_clock clock ss) (λ is. eqb-true s.clock clock is) (each_at clock ss)
 
-all_by_left : (lose : Bool) (m : ℕ) (ss : Told) → AllBy m ss → AllBy m (map (left_stamped lose) ss)
-all_by_left lose m [] by = tt
-all_by_left lose m (s ∷ ss) by = (by.0, all_by_left lose m ss by.1)
+each_happened : (P : ℕ → Type 0) (choice number : ℕ) (ss : Told) → Each P ss → Each P (happened choice number ss)
+each_happened P choice number [] each = tt
+each_happened P choice number (s ∷ ss) each =
+    each_cond P (has_happened choice number) s (happened choice (number + 1) ss) (λ did. each.0) (each_happened P choice (number + 1) ss each.1)
+
+each_left : (P : ℕ → Type 0) (lose : Bool) (ss : Told) → Each P ss → Each P (map (left_stamped lose) ss)
+each_left P lose [] each = tt
+each_left P lose (s ∷ ss) each = (each.0, each_left P lose ss each.1)
+
+-- the settled changes of an image, and the others
+each_settled : (choice clock : ℕ) (told : Told) → Each (λ mark. mark < clock) (map (left_stamped (loses choice)) (before_clock clock told))
+each_settled choice clock told = each_left (λ mark. mark < clock) (loses choice) (before_clock clock told) (each_before clock told)
+
+each_rest : (choice clock : ℕ) (told : Told) → Each (λ mark. mark ≡ clock) (map (left_stamped (loses choice)) (happened choice 0 (at_clock clock told)))
+each_rest choice clock told =
+    each_left (λ mark. mark ≡ clock) (loses choice) (happened choice 0 (at_clock clock told)) (each_happened (λ mark. mark ≡ clock) choice 0 (at_clock clock told) (each_at clock told))
+
+-- changes before a mark, and changes at it
+before_all : (clock : ℕ) (ss : Told) → Each (λ mark. mark < clock) ss → before_clock clock ss ≡ ss
+before_all clock [] each = refl
+before_all clock (s ∷ ss) each = cond-true (nat_lt s.clock clock) (s ∷ before_clock clock ss) (before_clock clock ss) (lt-ltb s.clock clock each.0) ∙ ap (λ (rest : Told). s ∷ rest) (before_all clock ss each.1)
+
+before_none : (clock : ℕ) (ss : Told) → Each (λ mark. mark ≡ clock) ss → before_clock clock ss ≡ []
+before_none clock [] each = refl
+before_none clock (s ∷ ss) each =
+    cond-false (nat_lt s.clock clock) (s ∷ before_clock clock ss) (before_clock clock ss) (le-ltb s.clock clock (omega (arith, each.0))) ∙ before_none clock ss each.1
+
+at_all : (clock : ℕ) (ss : Told) → Each (λ mark. mark ≡ clock) ss → at_clock clock ss ≡ ss
+at_all clock [] each = refl
+at_all clock (s ∷ ss) each = cond-true (s.clock == clock) (s ∷ at_clock clock ss) (at_clock clock ss) (eq-eqb s.clock clock each.0) ∙ ap (λ (rest : Told). s ∷ rest) (at_all clock ss each.1)
+
+at_none : (clock : ℕ) (ss : Told) → Each (λ mark. mark < clock) ss → at_clock clock ss ≡ []
+at_none clock [] each = refl
+at_none clock (s ∷ ss) each =
+    cond-false (s.clock == clock) (s ∷ at_clock clock ss) (at_clock clock ss) (ne_eqb s.clock clock (λ same. omega (arith, each.0, same))) ∙ at_none clock ss each.1
+
+-- what is settled of an image is what was, and the rest is what happened of the rest
+image_before : (choice clock : ℕ) (told : Told) → before_clock clock (image_told choice clock told) ≡ map (left_stamped (loses choice)) (before_clock clock told)
+image_before choice clock told =
+    let settled : Told = map (left_stamped (loses choice)) (before_clock clock told) in
+    let rest : Told = map (left_stamped (loses choice)) (happened choice 0 (at_clock clock told)) in
+    ap (before_clock clock) (map-append (left_stamped (loses choice)) (before_clock clock told) (happened choice 0 (at_clock clock told)))
+    ∙ (filter-append (λ (s : Stamped Files). nat_lt s.clock clock) settled rest
+    ∙ (ap (λ (ss : Told). ss ++ before_clock clock rest) (before_all clock settled (each_settled choice clock told))
+    ∙ (ap (λ (ss : Told). settled ++ ss) (before_none clock rest (each_rest choice clock told)) ∙ append-nil settled)))
+
+image_at : (choice clock : ℕ) (told : Told) → at_clock clock (image_told choice clock told) ≡ map (left_stamped (loses choice)) (happened choice 0 (at_clock clock told))
+image_at choice clock told =
+    let settled : Told = map (left_stamped (loses choice)) (before_clock clock told) in
+    let rest : Told = map (left_stamped (loses choice)) (happened choice 0 (at_clock clock told)) in
+    ap (at_clock clock) (map-append (left_stamped (loses choice)) (before_clock clock told) (happened choice 0 (at_clock clock told)))
+    ∙ (filter-append (λ (s : Stamped Files). s.clock == clock) settled rest
+    ∙ (ap (λ (ss : Told). ss ++ at_clock clock rest) (at_none clock settled (each_settled choice clock told)) ∙ at_all clock rest (each_rest choice clock told)))
+
+-- an image is stamped with marks up to the old one, in their order
+image_stamped : (choice clock : ℕ) (told : Told) → IsStamped clock (image_told choice clock told)
+image_stamped choice clock told =
+    rw (image_before choice clock told, image_at choice clock told) (map-append (left_stamped (loses choice)) (before_clock clock told) (happened choice 0 (at_clock clock told)))
+
+all_by_up : (clock m : ℕ) (ss : Told) → clock ≤ m → AllBy clock ss → AllBy m ss
+all_by_up clock m [] up by = tt
+all_by_up clock m (s ∷ ss) up by = (omega (arith, up, by.0), all_by_up clock m ss up by.1)
 
 pub image_by : (choice clock m : ℕ) (told : Told) → clock ≤ m → AllBy m (image_told choice clock told)
 image_by choice clock m told up =
-    all_by_left (loses choice) m (before_clock clock told ++ happened choice 0 (at_clock clock told))
-    (all_by_append m (before_clock clock told) (happened choice 0 (at_clock clock told)) (all_by_before told m clock up)
-    (all_by_happened choice 0 m (at_clock clock told) (all_by_at told m clock up)))
+    let image : Told = image_told choice clock told in
+    all_by_up clock m image up (stamped_by image clock (image_stamped choice clock told))
+
+-- ---- what a crash may leave of an image
+
+-- of the changes that happened, each may have happened or not
+lead_again : (lose : Bool) (choice number : ℕ) (from to : Names) (ss : Told) → MayLead (left_names lose from) (map (left_stamped lose) (happened choice number ss)) to → MayLead from ss to
+lead_again lose choice number from to [] kept = survive_left lose from to kept
+lead_again lose choice number from to (s ∷ ss) leads =
+    let later : Told = happened choice (number + 1) ss in
+    elim (cases_Bool (has_happened choice number)) [
+      | inl did ↦ elim (subst (λ (all : Told). MayLead (left_names lose from) (map (left_stamped lose) all) to) (cond-true (has_happened choice number) (s ∷ later) later did) leads) [
+        | inl without ↦ inl (lead_again lose choice (number + 1) from to ss without)
+        | inr done ↦ inr (
+            lead_again lose choice (number + 1) (changed from s.change) to ss
+            (subst (λ (names : Names). MayLead names (map (left_stamped lose) later) to) (left_changed lose from s.change) done)
+            )
+      ]
+      | inr didnt ↦ inl (
+          lead_again lose choice (number + 1) from to ss
+          (subst (λ (all : Told). MayLead (left_names lose from) (map (left_stamped lose) all) to) (cond-false (has_happened choice number) (s ∷ later) later didnt) leads)
+          )
+    ]
+
+-- a crash of an image leaves nothing else at the same mark
+image_at_once : (choice clock : ℕ) (told : Told) (names : Names) → Image (image_told choice clock told) clock names → Image told clock names
+image_at_once choice clock told names image =
+    let here = rw (image_before choice clock told, image_at choice clock told, left_after (loses choice) [] (before_clock clock told)) at image in
+    lead_again (loses choice) choice 0 (names_after [] (before_clock clock told)) names (at_clock clock told) here
+
+-- what a crash may do to the files of an image, a crash of the first disk may do
+image_survives : (choice clock : ℕ) (told : Told) (names : Names) → Survive (names_of (image_told choice clock told)) names → Image told clock names
+image_survives choice clock told names kept =
+    image_at_once choice clock told names (image_as_read (image_told choice clock told) clock names (image_stamped choice clock told) kept)
+
+-- what an image tells, a crash may leave
+pub image_leads : (choice clock : ℕ) (told : Told) → Image told clock (names_of (image_told choice clock told))
+image_leads choice clock told = image_survives choice clock told (names_of (image_told choice clock told)) (survive_same (names_of (image_told choice clock told)))
+
+-- an image of an image is one of the first disk
+pub image_again : (told : Told) (clock choice later : ℕ) (names : Names) → clock ≤ later → Image (image_told choice clock told) later names → Image told clock names
+image_again told clock choice later names up image =
+    elim (cases_lt clock later) [
+      | inl above ↦ (
+          let all : Told = image_told choice clock told in
+          let next : later ≡ later - 1 + 1 = omega arith in
+          let by : AllBy (later - 1) all = image_by choice clock (later - 1) told (omega arith) in
+          let settled : Image all (later - 1 + 1) names = subst (λ (mark : ℕ). Image all mark names) next image in
+          image_survives choice clock told names (rw (before_clock-all all (later - 1) by, at_clock-none all (later - 1) by) at settled)
+          )
+      | inr within ↦ (
+          let same : later ≡ clock = omega arith in
+          image_at_once choice clock told names (subst (λ (mark : ℕ). Image (image_told choice clock told) mark names) same image)
+          )
+    ]
+
+-- an image, with the mark one above, is the disk started again
+pub started_again : (told : Told) (clock choice since : ℕ) → since ≤ clock → IsStartedAgain told clock since (image_told choice clock told) (clock + 1)
+started_again told clock choice since past =
+    let now = image_told choice clock told in
+    let by = image_by choice clock clock told (omega arith) in
+    record {
+      stamped = rw (before_clock-all now clock by, at_clock-none now clock by) (sym (append-nil now));
+      settled = at_clock-none now clock by;
+      images = λ names image. (clock, length (at_clock clock told), past, omega arith, left_at_all told clock names (image_again told clock choice (clock + 1) names (omega arith) image));
+    }

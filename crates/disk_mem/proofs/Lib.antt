@@ -1,3 +1,4 @@
+pub mod Choices
 pub mod FirstFile
 pub mod Images
 pub mod Names

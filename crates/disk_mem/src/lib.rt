@@ -7,6 +7,7 @@ mod disk;
 mod folder;
 mod gate;
 mod image;
+mod laws;
 mod plan;
 mod root;
 mod streams;
@@ -16,5 +17,8 @@ pub use arm::MemArm;
 pub use disk::MemDisk;
 pub use folder::{MemDir, MemStage};
 pub use gate::OpenGate;
+pub use laws::{
+    images_are_reached_by_choices, images_are_started_again, images_of_an_image_are_images,
+};
 pub use plan::{CallKind, Listed};
 pub use streams::{MemSink, MemSource};
