@@ -1,5 +1,6 @@
 -- The causes of refusals: the script, or the outside, whose count rose then.
-use Rattle.std.proofs.Common.{◌≡◌, ◌⊎◌, ℕ, ◌+◌, ◌-◌, ◌<◌, ◌≤◌, ◌^◌, Bool, true, false, cond, List, [], ◌∷◌, ◌++◌, Option, Some, None, Result, Ok, Err, length, take, refl, zero, suc, ◌==◌, ap, ◌∙◌, subst, inl, inr, arith, nat_le, nat_lt, is_some, ◌&&◌, ◌||◌}
+use Rattle.std.proofs.Common.{◌≡◌, ◌⊎◌, ℕ, ◌+◌, ◌-◌, ◌<◌, ◌≤◌, ◌^◌, Bool, true, false, cond, List, [], ◌∷◌, ◌++◌, Option, Some, None, Result, Ok, Err, length, take, refl, sym, zero, suc, ◌==◌, ap, ◌∙◌, subst, inl, inr, arith, nat_le, nat_lt, is_some, ◌&&◌, ◌||◌}
+use Rattle.std.proofs.lemmas.Bool.{false≢true}
 use Rattle.std.proofs.lemmas.Bool.Decides.{nat_tests}
 use Rattle.std.specs.List.{list_any}
 use Rattle.mt_values.specs.declared.row_fault.DataFault.{DataFault}
@@ -34,6 +35,7 @@ use Rattle.mt_values.specs.declared.statement.SelectText.{SelectText}
 use Rattle.mt_model.specs.History.{History, schema_of, creates, inserts, column_types}
 use Rattle.mt_model.specs.Outside.{Counts}
 use Rattle.mt_model.specs.Outside.{HasRisen, ReadOrStageFailed, TurnFailed}
+use Rattle.mt_model.specs.Causes.{MeetsCause}
 use Rattle.mt_model.specs.Refusals.{code, code_of, is_damage, is_refusal, refusal_line, refusal_of_cause, refusal_of_row, refusal_of_data}
 use Rattle.mt_model.specs.Session.{RefusedAs, Takes}
 use Rattle.mt_model.proofs.Refused.{code_of_line}
@@ -283,3 +285,37 @@ never_damaged n h s st from to reply t = not_damage (code_of reply) (by (takes_b
     by : Blames n reply → code_of reply < 18
     by (inl few) = omega arith
     by (inr (few, rose)) = omega arith
+
+-- ---- refusals have causes
+
+-- a number that is none of E01 to E14 and E18 is of no refusal
+no_refusal : (m : ℕ) → (m ≡ 0) ⊎ ((14 < m) × (m < 18)) → (nat_le 1 m && nat_le m 14 || (m == 18)) ≡ true → ⊥
+no_refusal m (inl none) is = let off : (nat_le 1 m && nat_le m 14 || (m == 18)) ≡ false = rw none refl in false≢true (sym off ∙ is)
+no_refusal m (inr within) is = let low = within.0 in let high = within.1 in let off : (nat_le 1 m && nat_le m 14 || (m == 18)) ≡ false = grind (arith, nat_tests, low, high) in false≢true (sym off ∙ is)
+
+not_by_none : (reply is : List ℕ) → reply ≡ is → code_of is ≡ 0 → is_refusal reply ≡ true → ⊥
+not_by_none reply is same none refuses = no_refusal (code_of reply) (inl (ap code_of same ∙ none)) refuses
+
+not_by_outside : (why : Refusal) (reply : List ℕ) → reply ≡ refusal_line why → 14 < code why → code why < 18 → is_refusal reply ≡ true → ⊥
+not_by_outside why reply is low high refuses = let e : code_of reply ≡ code why = ap code_of is ∙ code_of_line why in no_refusal (code_of reply) (inr (omega (arith, e, low), omega (arith, e, high))) refuses
+
+not_by_turn : (n : Counts) (reply : List ℕ) → TurnFailed n reply → is_refusal reply ≡ true → ⊥
+not_by_turn n reply (inl failed) refuses = not_by_outside (refusal.Unsettled 0) reply failed.0 (omega arith) (omega arith) refuses
+not_by_turn n reply (inr stopped) refuses = not_by_outside (refusal.Stopped n.opened stopped.0 0) reply stopped.3 (omega arith) (omega arith) refuses
+
+pub refused_by_cause : (n : Counts) (h : History) (s : ℕ) (st : Result Statement Cause) (from to : ℕ) (reply : List ℕ) → Takes n h s st from to reply → is_refusal reply ≡ true → MeetsCause (take to h) st
+refused_by_cause n h s (Ok (statement.Create c)) from to reply (inl (is, a)) refuses = absurd (not_by_none reply _ is refl refuses)
+refused_by_cause n h s (Ok (statement.Create c)) from to reply (inr (inl (why, is, r))) refuses = inl (why, is)
+refused_by_cause n h s (Ok (statement.Create c)) from to reply (inr (inr (inl (schema, is, a, failed)))) refuses = absurd (not_by_outside refusal.Failed reply failed.0 (omega arith) (omega arith) refuses)
+refused_by_cause n h s (Ok (statement.Create c)) from to reply (inr (inr (inr (inl (schema, why, is, turn, r))))) refuses = inr (schema, why, is, turn)
+refused_by_cause n h s (Ok (statement.Create c)) from to reply (inr (inr (inr (inr (schema, is, turn, a, failed))))) refuses = absurd (not_by_turn n reply failed refuses)
+refused_by_cause n h s (Ok (statement.Insert i)) from to reply (inl (is, a)) refuses = absurd (not_by_none reply _ is refl refuses)
+refused_by_cause n h s (Ok (statement.Insert i)) from to reply (inr (inl (is, a, none))) refuses = absurd (not_by_none reply _ is refl refuses)
+refused_by_cause n h s (Ok (statement.Insert i)) from to reply (inr (inr (inl (why, is, r)))) refuses = inl (why, is)
+refused_by_cause n h s (Ok (statement.Insert i)) from to reply (inr (inr (inr (inl (row, rows, is, a, failed))))) refuses = absurd (not_by_outside refusal.Failed reply failed.0 (omega arith) (omega arith) refuses)
+refused_by_cause n h s (Ok (statement.Insert i)) from to reply (inr (inr (inr (inr (inl (row, rows, why, is, parts, merged, turn, r)))))) refuses = inr (parts, why, merged, turn)
+refused_by_cause n h s (Ok (statement.Insert i)) from to reply (inr (inr (inr (inr (inr (row, rows, is, parts, merged, turn, a, failed)))))) refuses = absurd (not_by_turn n reply failed refuses)
+refused_by_cause n h s (Ok (statement.Select t)) from to reply (inl (r, a)) refuses = absurd (not_by_none reply _ r.reply_is refl refuses)
+refused_by_cause n h s (Ok (statement.Select t)) from to reply (inr (inl (why, is, r))) refuses = (why, is)
+refused_by_cause n h s (Ok (statement.Select t)) from to reply (inr (inr (columns, is, a, failed))) refuses = absurd (not_by_outside refusal.Failed reply failed.0 (omega arith) (omega arith) refuses)
+refused_by_cause n h s (Err why) from to reply r refuses = tt

@@ -19,4 +19,5 @@ pub mod Sorting
 pub mod Tables
 pub mod TextBounds
 pub mod Unended
+pub mod Unrefused
 pub mod Words

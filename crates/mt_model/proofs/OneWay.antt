@@ -47,7 +47,7 @@ own_past h base from past each =
     (subst (All (λ (e : Entry). e.session ≡ 0)) (drop-drop (from - base) base h) (All-drop (λ (e : Entry). e.session ≡ 0) (from - base) (drop base h) each))
 
 -- who adds nothing stays where it is
-stays_there : (h : History) (base from to : ℕ) → OwnEntries h base → base ≤ from → AddsNothing h 0 from to → to ≡ from
+pub stays_there : (h : History) (base from to : ℕ) → OwnEntries h base → base ≤ from → AddsNothing h 0 from to → to ≡ from
 stays_there h base from to each past a =
     let part = take (to - from) (drop from h) in
     let own_part : length (own 0 part) ≡ length part = all_own part (All-take (λ (e : Entry). e.session ≡ 0) (to - from) (drop from h) (own_past h base from past each)) in
@@ -57,7 +57,7 @@ stays_there h base from to each past a =
     omega (arith, own_part, none, long, a.later)
 
 -- who adds one command adds the next entry
-adds_next : (h : History) (base from to : ℕ) (c : Command) → OwnEntries h base → base ≤ from → Adds h 0 c from to → (to - 1 ≡ from) × (to ≡ from + 1)
+pub adds_next : (h : History) (base from to : ℕ) (c : Command) → OwnEntries h base → base ≤ from → Adds h 0 c from to → (to - 1 ≡ from) × (to ≡ from + 1)
 adds_next h base from to c each past a =
     let back : to - 1 ≡ from = stays_there h base from (to - 1) each past a.before in
     (back, omega (arith, a.later))
@@ -134,10 +134,10 @@ pub record IsCalm (n : Counts) : Type 0 where
 never_rose : (n : Counts) (now : ℕ) → IsCalm n → now ≤ n.ended → HasRisen n now → ⊥
 never_rose n now calm low rose = let still : n.ended ≡ n.opened = calm.still in let below : n.ended < 2 ^ 64 - 1 = calm.below in omega arith
 
-never_failed : (n : Counts) (reply : List ℕ) → IsCalm n → ReadOrStageFailed n reply → ⊥
+pub never_failed : (n : Counts) (reply : List ℕ) → IsCalm n → ReadOrStageFailed n reply → ⊥
 never_failed n reply calm failed = never_rose n n.ended calm (omega arith) failed.1
 
-never_in_turn : (n : Counts) (reply : List ℕ) → IsCalm n → TurnFailed n reply → ⊥
+pub never_in_turn : (n : Counts) (reply : List ℕ) → IsCalm n → TurnFailed n reply → ⊥
 never_in_turn n reply calm (inl failed) = never_rose n n.ended calm (omega arith) failed.1
 never_in_turn n reply calm (inr (now, low, rose, is)) = never_rose n now calm low rose
 

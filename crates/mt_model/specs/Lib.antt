@@ -1,4 +1,5 @@
 pub mod Answer
+pub mod Causes
 pub mod History
 pub mod Live
 pub mod Outside

@@ -1,4 +1,5 @@
 // Laws of the definitions: what follows from them, whatever a program does. Each function has an empty body and the law as its contract.
+ghost use Rattle.std.specs.List.{list_any};
 ghost use Rattle.std.specs.Prelude.{◌≡◌, ◌⊎◌, ◌-◌, ◌^◌, ◌<◌, ◌≤◌, ◌++◌, ◌∷◌, [], ℕ, Bool, List, length, take, true, false, All, None, Ok, Result};
 ghost use Rattle.std.specs.List.Sorted.{IsPermutation, IsSorted};
 ghost use Rattle.mt_values.specs.declared.value.ColType.{ColType};
@@ -19,6 +20,7 @@ ghost use Rattle.mt_values.specs.Readers.{Reader, listed_within};
 ghost use Rattle.mt_values.specs.Grammar.{column, is_symbol, one_name, the};
 ghost use Rattle.mt_values.specs.Script.{data_ended_within, data_within, statements_of, statements_within};
 ghost use Rattle.mt_values.specs.Rows.{inserted_rows, row_limit, rows_within, unescaped_within};
+ghost use Rattle.mt_model.specs.Causes.{MeetsCause, NoneMeets};
 ghost use Rattle.mt_model.specs.declared.refusal.Refusal.{Refusal};
 ghost use Rattle.mt_model.specs.History.{History, FewInserts, IsLegal, IsAllowed, IsTableSchema};
 ghost use Rattle.mt_model.specs.Live.{live, sorted, of_key};
@@ -28,7 +30,7 @@ ghost use Rattle.mt_model.specs.Outside.{Counts, HasRisen};
 ghost use Rattle.mt_model.specs.Refusals.{code, code_of, is_damage, is_refusal, refusal_line};
 ghost use Rattle.mt_model.specs.Reply.{create_turn, ok_line, rows_reply, schema_of_text};
 ghost use Rattle.mt_model.specs.Session.{AddsNothing, SessionRun, Takes};
-ghost use Rattle.mt_model.specs.Script.{ScriptRun};
+ghost use Rattle.mt_model.specs.Script.{ScriptReplies, ScriptRun};
 ghost use Rattle.mt_model.specs.Same.{SameHistory};
 ghost use Rattle.mt_model.specs.Written.{IsWritten};
 
@@ -108,6 +110,15 @@ pub fn faults_are_of_the_outside()
         → n.ended ≡ n.opened → n.ended < 2 ^ 64 - 1 → Takes n h session statement from to reply → (code_of reply ≡ 0) ⊎ (is_refusal reply ≡ true) }
     ensures undamaged { (n : Counts) (h : History) (session : ℕ) (statement : Result Statement Cause) (from to : ℕ) (reply : List ℕ)
         → Takes n h session statement from to reply → is_damage reply ≡ false }
+{}
+
+/// A statement is refused for what the script says only where it meets a cause at its place. Where the disk's count did not rise and stands below
+/// its type's end, and none of a script's statements meets a cause behind those before it, none of them is refused.
+pub fn refusals_have_a_cause()
+    ensures one { (n : Counts) (h : History) (session : ℕ) (statement : Result Statement Cause) (from to : ℕ) (reply : List ℕ)
+        → Takes n h session statement from to reply → is_refusal reply ≡ true → MeetsCause (take to h) statement }
+    ensures script { (n : Counts) (script : List (Result Statement Cause)) (h : History) (base : ℕ) (replies : List (List ℕ))
+        → n.ended ≡ n.opened → n.ended < 2 ^ 64 - 1 → ScriptReplies n script h base replies → NoneMeets h base script → list_any is_refusal replies ≡ false }
 {}
 
 /// The places of a session's statements never fall, and none is above the length of the history.
