@@ -97,17 +97,17 @@ part_name_is : (t : List ℕ) (p : PartName) → part_name t (part_text p) ≡ t
 part_name_is t p = append_assoc t (codes ".part_") (part_text p)
 
 -- an entry's name is no part's
-entry_is_no_part : (t u : List ℕ) (p : PartName) → IsPartName p → create_name t ≡ part_name u (part_text p) → ⊥
+pub entry_is_no_part : (t u : List ℕ) (p : PartName) → IsPartName p → create_name t ≡ part_name u (part_text p) → ⊥
 entry_is_no_part t u p named is =
     let behind = (last_dot t u (codes "create") (behind_part p) create_no_dot (part_no_dot p named) (is ∙ part_name_is u p)).1 in
     let first : ◌≡◌ {A = ℕ} 99 112 = ap (λ (text : List ℕ). get_or text 0 0) behind in
     absurd (omega arith)
 
-entries_differ : (t u : List ℕ) → create_name t ≡ create_name u → t ≡ u
+pub entries_differ : (t u : List ℕ) → create_name t ≡ create_name u → t ≡ u
 entries_differ t u is = append_cancel_right t u (codes ".create") is
 
 -- a part's name tells its table and what it is called there
-parts_differ : (t u : List ℕ) (p q : PartName) → IsPartName p → IsPartName q → part_name t (part_text p) ≡ part_name u (part_text q) → (t ≡ u) × (p ≡ q)
+pub parts_differ : (t u : List ℕ) (p q : PartName) → IsPartName p → IsPartName q → part_name t (part_text p) ≡ part_name u (part_text q) → (t ≡ u) × (p ≡ q)
 parts_differ t u p q named also is =
     let split = last_dot t u (behind_part p) (behind_part q) (part_no_dot p named) (part_no_dot q also) (sym (part_name_is t p) ∙ (is ∙ part_name_is u q)) in
     (split.0, names_same p q named also (ap (λ (text : List ℕ). drop 5 text) split.1))

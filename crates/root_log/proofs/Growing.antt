@@ -182,6 +182,21 @@ stands_with_table names h session c files rise s absent few sound word holds fre
 
 -- ---- the part of an INSERT
 
+module _ (names : Names) (h : History) (s : Stands names h) (table : List ℕ) where
+  -- the visible parts of a table end by the number of its last command
+  visible_end_by : (part : TablePart) → IsVisible s.read part → part.table ≡ table → part.name.max_block ≤ length (numbered table h)
+  visible_end_by part visible own =
+      let found = of_core names h s part visible in
+      let here : found.core.table ≡ table = ap (λ (p : TablePart). p.table) found.name_is ∙ own in
+      let below = All-contains (λ (p : CorePart). p.name.max_block < next_number table h) (parts_of table s.parts) found.core
+      (ends_below h table (parts_of table s.parts) (s.stand table)) (of_table table s.parts found.core found.here here) in
+      let block : found.core.name.max_block ≡ part.name.max_block = ap (λ (p : TablePart). p.name.max_block) found.name_is in
+      omega (arith, below, block)
+
+  -- so do the hidden ones
+  pub parts_end_by : (part : TablePart) → HasPart s.read part → part.table ≡ table → part.name.max_block ≤ length (numbered table h)
+  parts_end_by = ends_by s.read s.are.sound s.unmutated table (length (numbered table h)) visible_end_by
+
 module _ (names : Names) (h : History) (session : ℕ) (i : Insert) (schema : Schema) (files : Files) (s : Stands names h) (known : schema_of i.table h ≡ Some schema) (is : IsInsertInto schema i)
     (few : next_number i.table h ≤ 4294967295) (holds : FolderHolds schema (sorted (key_cmp schema.key) i.block.rows) files) where
   abbrev new : TablePart
@@ -208,30 +223,16 @@ module _ (names : Names) (h : History) (session : ℕ) (i : Insert) (schema : Sc
     record { partition = tt; min_block = (omega arith, few); max_block = (omega arith, few); order = omega arith; level = omega arith; mutation = tt },
   )
 
-  -- the visible parts of the table end below the number
-  visible_below : (part : TablePart) → IsVisible s.read part → part.table ≡ i.table → part.name.max_block ≤ length (numbered i.table h)
-  visible_below part visible own =
-      let found = of_core names h s part visible in
-      let table : found.core.table ≡ i.table = ap (λ (p : TablePart). p.table) found.name_is ∙ own in
-      let below = All-contains (λ (p : CorePart). p.name.max_block < next_number i.table h) (parts_of i.table s.parts) found.core
-      (ends_below h i.table (parts_of i.table s.parts) (s.stand i.table)) (of_table i.table s.parts found.core found.here table) in
-      let block : found.core.name.max_block ≡ part.name.max_block = ap (λ (p : TablePart). p.name.max_block) found.name_is in
-      omega (arith, below, block)
-
-  -- so do the hidden ones
-  all_below : (part : TablePart) → HasPart s.read part → part.table ≡ i.table → part.name.max_block ≤ length (numbered i.table h)
-  all_below = ends_by s.read s.are.sound s.unmutated i.table (length (numbered i.table h)) visible_below
-
   covers_none : (part : TablePart) → HasPart s.read part → Covers new part → ⊥
   covers_none part here covers =
-      let below = all_below part here (sym covers.table) in
+      let below = parts_end_by names h s i.table part here (sym covers.table) in
       let order = (part_named names h s part here).order in
       let least = covers.name.min_block in
       omega (arith, below, order, least)
 
   none_covers : (part : TablePart) → HasPart s.read part → Covers part new → ⊥
   none_covers part here covers =
-      let below = all_below part here covers.table in
+      let below = parts_end_by names h s i.table part here covers.table in
       let most = covers.name.max_block in
       omega (arith, below, most)
 

@@ -4,6 +4,10 @@ pub mod Behind
 pub mod Checked
 pub mod Clear
 pub mod Counted
+pub mod CrashCommits
+pub mod CrashNames
+pub mod CrashSafe
+pub mod CrashTurns
 pub mod Created
 pub mod Entering
 pub mod EntryScripts
@@ -25,8 +29,10 @@ pub mod Orphaned
 pub mod Readings
 pub mod Rising
 pub mod Rooted
+pub mod SameStores
 pub mod Sounding
 pub mod Standing
+pub mod StartedAgain
 pub mod Tabled
 pub mod Undamaged
 pub mod Updated

@@ -88,7 +88,7 @@ pub item_at : {X : Type 0} (xs : List X) (place : ℕ) (x : X) → slice_get xs 
 item_at xs place x is = (place, slice_get_within xs place x is, get_or_from_slice_get xs place x x is)
 
 -- a name with a folder is among those that were read
-name_read : (names : Names) (read : List RootName) (name : List ℕ) (files : Files) → map root_text read ≡ map (λ (n : List ℕ × Files). n.0) names → files_at name names ≡ Some files
+pub name_read : (names : Names) (read : List RootName) (name : List ℕ) (files : Files) → map root_text read ≡ map (λ (n : List ℕ × Files). n.0) names → files_at name names ≡ Some files
     → (n : RootName) × HasItem read n × (root_text n ≡ name)
 name_read [] read name files is at = cc
 name_read (m ∷ names) [] name files is at = cc

@@ -73,14 +73,17 @@ module _ {K X : Type 0} (R : K → K → Ordering) (o : IsTotalOrder R) where
       by true more = sorted_tail R e.0 (keys_of es) rise
       by false more = rise_cons R e.0 (keys_of (remove_entry test es)) (above_removed e.0 test es (sorted_head R e.0 (keys_of es) rise)) more
 
-one_change : (names : Names) (change : Change Files) → AreInByteOrder names → AreInByteOrder (changed names change)
+pub one_change : (names : Names) (change : Change Files) → AreInByteOrder names → AreInByteOrder (changed names change)
 one_change names (Publish name files) rise = inserted (slice_cmp nat_cmp) nat_list_cmp_total name files names rise
 one_change names (Remove name) rise = removed (slice_cmp nat_cmp) nat_list_cmp_total (is_at (slice_cmp nat_cmp name)) names rise
 
-all_changes : (names : Names) (ss : List (Stamped Files)) → AreInByteOrder names → AreInByteOrder (names_after names ss)
+pub all_changes : (names : Names) (ss : List (Stamped Files)) → AreInByteOrder names → AreInByteOrder (names_after names ss)
 all_changes names [] rise = rise
 all_changes names (s ∷ ss) rise = all_changes (changed names s.change) ss (one_change names s.change rise)
 
+pub rise_nothing : AreInByteOrder []
+rise_nothing = rise_none (slice_cmp nat_cmp)
+
 -- the names after any changes of a disk that began empty
 pub told_rise : (told : Told) → AreInByteOrder (names_of told)
-told_rise told = all_changes [] told (rise_none (slice_cmp nat_cmp))
+told_rise told = all_changes [] told rise_nothing

@@ -75,12 +75,12 @@ partition_is Whole (Number n) is = cc
 partition_is (Number m) Whole is = cc
 partition_is (Number m) (Number n) is = ap Number ((Decides-eqb m n).0 is)
 
-record HasBlock (partition : Partition) (n : ℕ) (name : PartName) : Type 0 where
-  same : name.partition ≡ partition
-  low : name.min_block ≤ n
-  high : n ≤ name.max_block
+pub record HasBlock (partition : Partition) (n : ℕ) (name : PartName) : Type 0 where
+  pub same : name.partition ≡ partition
+  pub low : name.min_block ≤ n
+  pub high : n ≤ name.max_block
 
-blocks : (partition : Partition) (n : ℕ) (part : CorePart) → has_block partition n part ≡ true → HasBlock partition n part.name
+pub blocks : (partition : Partition) (n : ℕ) (part : CorePart) → has_block partition n part ≡ true → HasBlock partition n part.name
 blocks partition n part passes =
     let parts = both (same_partition part.name.partition partition) (lies_within part.name.min_block part.name.max_block n) passes in
     let bounds = both (nat_le part.name.min_block n) (nat_le n part.name.max_block) parts.1 in

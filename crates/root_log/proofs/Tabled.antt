@@ -94,7 +94,7 @@ module _ (names : Names) (h : History) (s : Stands names h) where
       by None is none = cc
       by (Some schema) is one = let folder = s.tables t schema is in table_read names s.read t folder.files s.are folder.there
 
-  are_tables : AreInByteOrder names → AreTables h (tables_in s.read)
+  pub are_tables : AreInByteOrder names → AreTables h (tables_in s.read)
   are_tables rise = record {
     apart = apart_in s.read (subst (IsStrictlySortedBy (slice_cmp nat_cmp)) (sym s.are.spelled) rise);
     there = there_in h s.read table_known;

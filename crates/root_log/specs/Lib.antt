@@ -1,5 +1,6 @@
 pub mod ByteOrder
 pub mod Commits
+pub mod Crashes
 pub mod Damage
 pub mod Entries
 pub mod Keeping

@@ -1,10 +1,13 @@
 // A command added to the disk, to what the keeper tells and to the store.
-ghost use Rattle.std.specs.Prelude.{◌≡◌, ◌≢◌, ◌+◌, ◌-◌, ◌<◌, ◌≤◌, ◌^◌, ℕ, IsSome, IsTrue, List, Option, Some, None, IfErr, IfOk, IfSome, IsErrOf, IsNone, IsOk, OnErr, OnOk, length};
+ghost use Rattle.std.specs.Prelude.{◌≡◌, ◌≢◌, ◌+◌, ◌-◌, ◌<◌, ◌≤◌, ◌^◌, ℕ, IsSome, IsTrue, List, Option, Some, None, IfErr, IfOk, IfSome, IsErrOf, IsNone, IsOk, OnErr, OnOk, length, Result};
 ghost use Rattle.std.specs.BTreeMap.{Updates, get, insert_entry};
 ghost use Rattle.std.specs.Cmp.Lexicographic.{slice_cmp};
-ghost use Rattle.std.specs.Option.{ForSome};
+ghost use Rattle.std.specs.Option.{ForSome, option_map};
 ghost use Rattle.std.specs.Ordering.{nat_cmp};
 ghost use Rattle.mt_values.specs.declared.command.Command.TheVariants as command;
+ghost use Rattle.mt_values.specs.declared.statement.Cause.{Cause};
+ghost use Rattle.mt_values.specs.declared.statement.Statement.{Statement};
+ghost use Rattle.mt_values.specs.Annals.{Told, began};
 ghost use Rattle.mt_values.specs.RootNames.{create_name, part_name};
 ghost use Rattle.part_name.specs.PartNames.{part_text};
 ghost use Rattle.part_set.specs.RootNames.{is_table};
@@ -16,9 +19,11 @@ ghost use Rattle.mt_outside.specs.Disk.{MayPut, files_at, names_of, put};
 ghost use Rattle.mt_outside.specs.Files.{Files};
 ghost use Rattle.mt_model.specs.History.{History, IsInsertInto, IsTableSchema};
 ghost use Rattle.mt_base.specs.declared.partition.Partition.TheVariants.{Whole};
+ghost use Rattle.stage_dir.specs.Stages.{AreSealed};
 ghost use Rattle.table_core.specs.Numbers.{same_partition};
 ghost use Rattle.table_core.specs.Steps.{entered};
 ghost use Rattle.root_log.specs.Commits.{EntersSealed, EntersTable, IsCause, IsOutside, Notes, SameList, SameStore, cause_of, entry_of, fresh_part, fresh_table, IsSealedOf, insert_into, insert_of_block, refused_by_disk, refuses_create, refuses_part, stopped_by, whole_parts};
+ghost use Rattle.root_log.specs.Crashes.{IsCommandOf, KeepsThroughCrashes};
 ghost use Rattle.root_log.specs.Entries.{EntryHolds};
 ghost use Rattle.root_log.specs.Soundness.{IsSound, NamesFitUnlessRisen, RootStands};
 ghost use Rattle.root_log.specs.Stores.{CoreStands, table_at};
@@ -284,6 +289,9 @@ fn commit<D: Disk, A: Annals>(
     ensures settled { OnOk result (D.clock disk.new ≡ D.clock disk.old + 1) }
     ensures annals { OnOk result (Notes (D.clock disk.new) entry (A.told annals.old) (A.told annals.new)) }
     ensures annals_err { OnErr result (SameList (A.told annals.old) (A.told annals.new)) }
+    ensures begun { OnErr result (A.told annals.new ≡ option_map (began entry) (A.told annals.old)) }
+    ensures mark_err { OnErr result (D.clock disk.new ≡ D.clock disk.old) }
+    ensures sealed { ForSome sealed.files AreSealed }
     ensures left { OnErr result (MayPut (D.clock disk.old) name.now sealed.files (D.told disk.old) (D.told disk.new)) }
     ensures memory { IsErrOf result DiskError.NoMemory → D.told disk.new ≡ D.told disk.old }
     ensures cause { HasDiskCause (D.failed disk.old) (D.failed disk.new) result }
@@ -328,6 +336,9 @@ pub fn commit_create<D: Disk, A: Annals>(
     ensures given { IfErr result (λ r. IsNone r.back → IsOutside (Some r.cause)) }
     ensures same { OnErr result (SameStore store.old store.new) }
     ensures annals_err { OnErr result (SameList (A.told annals.old) (A.told annals.new)) }
+    ensures list_back { IfErr result (λ r. IfSome r.back (λ _. A.told annals.new ≡ A.told annals.old)) }
+    ensures begun { IfErr result (λ r. IsNone r.back → A.told annals.new ≡ option_map (began (entry_of session (command.Create create))) (A.told annals.old)) }
+    ensures mark_err { OnErr result (D.clock disk.new ≡ D.clock disk.old) }
     ensures root { OnOk result (D.told disk.new ≡ put (D.clock disk.old) (create_name create.table) sealed.files (D.told disk.old)) }
     ensures mark { OnOk result (D.clock disk.new ≡ D.clock disk.old + 1) }
     ensures annals { OnOk result (Notes (D.clock disk.new) (entry_of session (command.Create create)) (A.told annals.old) (A.told annals.new)) }
@@ -335,6 +346,10 @@ pub fn commit_create<D: Disk, A: Annals>(
     ensures stands { (h : History) → CoreStands D.Arm.Dir.files h store.old → OnOk result (CoreStands D.Arm.Dir.files (entered h session (command.Create create)) store.new) }
     ensures root_stands { (h : History) (files : Files) → CoreStands D.Arm.Dir.files h store.old → RootStands (D.told disk.old) h
         → sealed.files ≡ Some files → EntryHolds create.table create.schema files → OnOk result (RootStands (D.told disk.new) (entered h session (command.Create create))) }
+    ensures through_crashes { (statements : List (Result Statement Cause)) (first : Told) (start : ℕ) (files : Files) → sealed.files ≡ Some files → EntryHolds create.table create.schema files
+        → IsCommandOf statements (entry_of session (command.Create create))
+        → KeepsThroughCrashes D.Arm.Dir.files statements store.old (D.failed disk.old) (D.told disk.old) (D.clock disk.old) (A.told annals.old) first start
+        → KeepsThroughCrashes D.Arm.Dir.files statements store.new (D.failed disk.new) (D.told disk.new) (D.clock disk.new) (A.told annals.new) first start }
     ensures unchanged { IfErr result (λ r. r.cause ≢ Refused.Disk → D.told disk.new ≡ D.told disk.old) }
     ensures store { IsSound store.new }
     ensures names { NamesFitUnlessRisen (D.failed disk.new) (D.told disk.new) store.new }
@@ -441,6 +456,9 @@ pub fn commit_part<D: Disk, A: Annals>(
     ensures given { IfErr result (λ r. IsNone r.back → IsOutside (Some r.cause)) }
     ensures same { OnErr result (SameStore store.old store.new) }
     ensures annals_err { OnErr result (SameList (A.told annals.old) (A.told annals.new)) }
+    ensures list_back { IfErr result (λ r. IfSome r.back (λ _. A.told annals.new ≡ A.told annals.old)) }
+    ensures begun { IfErr result (λ r. IsNone r.back → A.told annals.new ≡ option_map (began (entry_of session (insert_of_block table.now block))) (A.told annals.old)) }
+    ensures mark_err { OnErr result (D.clock disk.new ≡ D.clock disk.old) }
     ensures mark { OnOk result (D.clock disk.new ≡ D.clock disk.old + 1) }
     ensures annals { OnOk result (Notes (D.clock disk.new) (entry_of session (insert_of_block table.now block)) (A.told annals.old) (A.told annals.new)) }
     ensures published { (t : Made) → table_at store.old table.now ≡ Some t
@@ -453,6 +471,10 @@ pub fn commit_part<D: Disk, A: Annals>(
     ensures root_stands { (h : History) (t : Made) → CoreStands D.Arm.Dir.files h store.old → RootStands (D.told disk.old) h
         → table_at store.old table.now ≡ Some t → IsSealedOf t.schema block part.sealed.files part.loaded
         → OnOk result (RootStands (D.told disk.new) (entered h session (insert_of_block table.now block))) }
+    ensures through_crashes { (t : Made) (statements : List (Result Statement Cause)) (first : Told) (start : ℕ) → table_at store.old table.now ≡ Some t → IsSealedOf t.schema block part.sealed.files part.loaded
+        → IsCommandOf statements (entry_of session (insert_of_block table.now block))
+        → KeepsThroughCrashes D.Arm.Dir.files statements store.old (D.failed disk.old) (D.told disk.old) (D.clock disk.old) (A.told annals.old) first start
+        → KeepsThroughCrashes D.Arm.Dir.files statements store.new (D.failed disk.new) (D.told disk.new) (D.clock disk.new) (A.told annals.new) first start }
     ensures unchanged { IfErr result (λ r. r.cause ≢ Refused.Disk → D.told disk.new ≡ D.told disk.old) }
     ensures store { IsSound store.new }
     ensures names { NamesFitUnlessRisen (D.failed disk.new) (D.told disk.new) store.new }

@@ -13,8 +13,8 @@ mod store;
 pub use commits::{Limit, Refused, Returned, commit_create, commit_part};
 pub use entries::{open_entry, read_schema};
 pub use laws::{
-    damage_of_a_root_is_one, roots_stand_by_their_stores, sound_roots_are_not_damaged,
-    told_names_rise,
+    crashes_leave_what_was_noted, damage_of_a_root_is_one, roots_stand_by_their_stores,
+    runs_go_on_behind_a_crash, sound_roots_are_not_damaged, told_names_rise,
 };
 pub use names::{NameFault, read_names};
 pub use opening::{Damage, OpenFault, open};

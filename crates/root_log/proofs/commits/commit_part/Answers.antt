@@ -1,20 +1,25 @@
-use Rattle.std.proofs.Common.{◌≡◌, ◌+◌, ◌<◌, ℕ, List, Some, None, refl, sym, ap, ◌∙◌, subst, arith}
-use Rattle.std.specs.Option.{ForSome}
+use Rattle.std.proofs.Common.{◌≡◌, ◌+◌, ◌<◌, ℕ, List, Some, None, Err, refl, sym, ap, ◌∙◌, subst, arith}
+use Rattle.std.specs.Option.{ForSome, option_map}
+use Rattle.mt_values.specs.declared.command.Entry.{Entry}
+use Rattle.mt_values.specs.Annals.{Told, began, noted}
 use Rattle.mt_values.specs.RootNames.{part_name}
-use Rattle.mt_outside.specs.Disk.{files_at, names_of, put}
+use Rattle.mt_outside.specs.Disk.{MayPut, files_at, names_of, put}
 use Rattle.part_name.specs.PartNames.{part_text}
 use Rattle.part_reader.specs.declared.reading.Part.{Part}
 use Rattle.part_set.specs.declared.kept.Kept.{Kept}
 use Rattle.part_set.specs.Parts.{IsAdded, NoneMeets}
 use Rattle.part_set.specs.Sets.{parts_of}
 use Rattle.root_log.specs.declared.store.Table.{Table}
-use Rattle.root_log.specs.Commits.{EntersSealed, IsSealedOf, fresh_part, refuses_part}
+use Rattle.root_log.specs.Commits.{EntersSealed, IsSealedOf, entry_of, fresh_part, insert_of_block, refuses_part}
+use Rattle.root_log.specs.Crashes.{entries_of}
 use Rattle.root_log.specs.Soundness.{NamesFit}
 use Rattle.root_log.specs.Stores.{table_at}
 use Rattle.root_log.proofs.Behind.{PartIsAdded, enters_part, none_meets}
+use Rattle.root_log.proofs.CrashCommits.{grows_by_part}
+use Rattle.root_log.proofs.CrashTurns.{kept_committed, kept_failed, kept_untouched, unrisen}
 use Rattle.root_log.proofs.FreeNames.{added_fits, fresh_named, part_free}
 use Rattle.root_log.proofs.Inserted.{stands_inserted}
-use Rattle.root_log.proofs.Leaving.{none_shown, shown_number, shown_part_calm}
+use Rattle.root_log.proofs.Leaving.{disk_fault, disk_memory, none_shown, shown_number, shown_part_calm}
 use Rattle.root_log.proofs.Rooted.{root_added}
 use Rattle.root_log.proofs.Sounding.{sound_added, sound_same}
 use Rattle.root_log.proofs.Updated.{one_some}
@@ -112,3 +117,48 @@ returns-in-Ok-enter_part-clause-store g c = sound_added _ _ _ _ _ (added g c) c.
 
 pub returns-in-Ok-enter_part-clause-names : goal.returns-in-Ok-enter_part-clause-names
 returns-in-Ok-enter_part-clause-names g c = λ _. added_fits _ _ _ _ _ (added g c) _ _ _ _ (small g c) (fit g c) (published g c)
+
+-- what a crash leaves
+pub returns-in-Err-clause-through_crashes : goal.returns-in-Err-clause-through_crashes
+returns-in-Err-clause-through_crashes g c = λ u statements first start at is of keeps.
+    kept_untouched g.D.Arm.Dir.Dir.files statements c.args.store.now _ first start _ _ _ _ _ _ _ (record { tables = refl; parts = c.in-Err.ensures.parts; length_is = refl; opened_is = refl }) refl refl c.in-Err.ensures.told keeps
+
+pub returns-in-Err-commit-clause-through_crashes : goal.returns-in-Err-commit-clause-through_crashes
+returns-in-Err-commit-clause-through_crashes g c = λ u statements first start at is of keeps.
+    let store = c.args.store.now in
+    let table = c.args.table.now in
+    let t : Table = c.index.result.now in
+    let none = none_shown (λ n. refuses_part store table t.drawn n) _ _ _ c.refuse_part.ensures c.faults.ensures c.in_default.is in
+    let calm = keeps.calm (shown_part_calm store table _ t.drawn none c.requires.opened) in
+    let same : t ≡ u = one_some (table_at store table) t u c.index.ensures at in
+    let here : IsSealedOf t.schema c.args.block c.args.part.sealed.files c.args.part.loaded = subst (λ (x : Table). IsSealedOf x.schema c.args.block c.args.part.sealed.files c.args.part.loaded) (sym same) is in
+    let e : Entry = entry_of c.args.session (insert_of_block table c.args.block) in
+    let begun =
+    c.in-Err-commit.ensures.begun
+    ∙ (ap (λ (x : Entry). option_map (began x) (g.A.Annals.told c.prepare_part.new.annals)) c.in-Ok.ensures.entry ∙ ap (option_map (began e)) c.in-Ok.ensures.told) in
+    let may = subst (λ (n : List ℕ). MayPut (g.D.Disk.clock c.args.disk.now) n c.args.part.sealed.files (g.D.Disk.told c.args.disk.now) (g.D.Disk.told c.commit.new.disk)) c.in-Ok.ensures.name c.in-Err-commit.ensures.left in
+    let unless = unrisen c.of_disk-cause.result store.opened (g.D.Disk.failed c.args.disk.now) (g.D.Disk.failed c.commit.new.disk) (g.D.Disk.told c.args.disk.now) (g.D.Disk.told c.commit.new.disk)
+    c.requires.opened c.requires.below c.in-Err-commit.ensures.cause.later
+    (λ disk. c.in-Err-commit.ensures.cause.failed (ap Err (disk_fault c.in-Err-commit.error c.of_disk-cause.result c.of_disk-cause.ensures disk)))
+    (λ other. c.in-Err-commit.ensures.memory (ap Err (disk_memory c.in-Err-commit.error c.of_disk-cause.result c.of_disk-cause.ensures other))) in
+    kept_failed g.D.Arm.Dir.Dir.files statements store _ first start (g.D.Disk.clock c.args.disk.now) (part_name table (part_text (fresh_part (t.drawn + 1)))) c.args.part.sealed.files here.files e _ _ _ _ here.sealed_are calm.0
+    (grows_by_part g.D.Arm.Dir.Dir.files store (entries_of calm.0.kept.list) c.args.session (calm.1 calm.0.kept calm.0.annals_is) here.files (c.in-Err-commit.ensures.sealed here.files here.sealed_are) table t c.args.block c.index.ensures
+    (shown_number store table _ t.drawn none) (c.requires.rows t c.index.ensures) here.holds)
+    _ _ of c.in-Err-commit.ensures.mark_err may begun (record { tables = refl; parts = c.in-Ok.ensures.parts; length_is = refl; opened_is = refl }) calm.1 unless
+
+pub returns-in-Ok-enter_part-clause-through_crashes : goal.returns-in-Ok-enter_part-clause-through_crashes
+returns-in-Ok-enter_part-clause-through_crashes g c = λ u statements first start at is of keeps.
+    let store = c.args.store.now in
+    let table = c.args.table.now in
+    let t : Table = c.index.result.now in
+    let calm = keeps.calm (shown_part_calm store table _ t.drawn (none g c) c.requires.opened) in
+    let here : IsSealedOf t.schema c.args.block c.args.part.sealed.files c.args.part.loaded = subst (λ (x : Table). IsSealedOf x.schema c.args.block c.args.part.sealed.files c.args.part.loaded) (sym (same g c u at)) is in
+    let e : Entry = entry_of c.args.session (insert_of_block table c.args.block) in
+    let mark = g.D.Disk.clock c.commit.new.disk in
+    let notes : g.A.Annals.told c.commit.new.annals ≡ option_map (λ (x : Told). noted mark (began e x)) (g.A.Annals.told c.args.annals.now) =
+    c.in-Ok-commit.ensures.annals
+    ∙ (ap (λ (x : Entry). option_map (λ (y : Told). noted mark (began x y)) (g.A.Annals.told c.prepare_part.new.annals)) c.in-Ok.ensures.entry ∙ ap (option_map (λ (y : Told). noted mark (began e y))) c.in-Ok.ensures.told) in
+    kept_committed g.D.Arm.Dir.Dir.files statements store _ first start (g.D.Disk.clock c.args.disk.now) (part_name table (part_text (fresh_part (t.drawn + 1)))) c.args.part.sealed.files here.files e _ _ _ _ here.sealed_are calm.0
+    (grows_by_part g.D.Arm.Dir.Dir.files store (entries_of calm.0.kept.list) c.args.session (calm.1 calm.0.kept calm.0.annals_is) here.files (c.in-Ok-commit.ensures.sealed here.files here.sealed_are) table t c.args.block c.index.ensures
+    (small g c) (c.requires.rows t c.index.ensures) here.holds)
+    _ _ c.in-Ok-commit.ensures.settled (published g c) notes (returns-in-Ok-enter_part-clause-stands g c (entries_of calm.0.kept.list) u (calm.1 calm.0.kept calm.0.annals_is) at is)

@@ -1,4 +1,4 @@
-use Rattle.std.proofs.Common.{◌≡◌, ◌∙◌, ◌+◌, List, ℕ, [], sym, subst, rules, arith}
+use Rattle.std.proofs.Common.{◌≡◌, ◌∙◌, ◌+◌, List, ℕ, [], sym, subst, inl, inr, rules, arith}
 use Rattle.std.specs.Vec.{vec_len}
 use Rattle.std.proofs.lemmas.List.{nil_from_length}
 use Rattle.std.proofs.lemmas.Option.{MatchOption-at_some}
@@ -6,6 +6,7 @@ use Rattle.mt_outside.specs.Disk.{names_of}
 use Rattle.part_set.specs.Visible.{HasNoOrphan}
 use Rattle.root_log.specs.Names.{IsFirstBadText}
 use Rattle.root_log.specs.Opening.{IsNotDamaged, TellsDamage}
+use Rattle.root_log.proofs.CrashSafe.{safe_opened}
 use Rattle.root_log.proofs.Fitting.{fits_store}
 use Rattle.root_log.proofs.NamesTold.{told_first}
 use Rattle.root_log.proofs.NextNames.{are_read}
@@ -66,3 +67,22 @@ returns-clause-settled g c = λ told known some.
           absurd {A = g.D.Disk.clock c.if-not-is_empty.disk ≡ g.D.Disk.clock c.args.disk.now + 1} (some (no_names (names_of told) (sym are ∙ (sym c.in_ok-root.ensures.texts ∙ none))))
           )
     ]
+
+-- what a crash leaves
+pub returns-in_err-list-clause-crashes : goal.returns-in_err-list-clause-crashes
+returns-in_err-list-clause-crashes g c = λ told list known all. safe_opened told _ _ list all (inl c.in_err-list.ensures.clock)
+
+pub returns-in_err-root-clause-crashes : goal.returns-in_err-root-clause-crashes
+returns-in_err-root-clause-crashes g c = λ told list known all. safe_opened told _ _ list all (inl c.in_ok-list.ensures.clock)
+
+pub returns-in_err-store-clause-crashes : goal.returns-in_err-store-clause-crashes
+returns-in_err-store-clause-crashes g c = λ told list known all. safe_opened told _ _ list all (inl (c.in_err-store.ensures.clock ∙ c.in_ok-list.ensures.clock))
+
+pub returns-in_err-sync_names-clause-crashes : goal.returns-in_err-sync_names-clause-crashes
+returns-in_err-sync_names-clause-crashes g c = λ told list known all. safe_opened told _ _ list all (inl (c.in_err-sync_names.ensures.clock_err ∙ (c.in_ok-store.ensures.clock ∙ c.in_ok-list.ensures.clock)))
+
+pub returns-clause-crashes : goal.returns-clause-crashes
+returns-clause-crashes g c = λ told list known all. safe_opened told _ (g.D.Disk.clock c.if-not-is_empty.disk) list all (elim c.if-not-is_empty.branch [
+  | then-not-is_empty+in_ok-sync_names w ↦ inr (search rules)
+  | else-not-is_empty w ↦ inl (search rules)
+])

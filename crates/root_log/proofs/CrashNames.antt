@@ -1,0 +1,80 @@
+-- The names that a crash may leave: their order, and which of them are free.
+use Rattle.std.proofs.Common.{◌≡◌, inl, inr, ℕ, ◌≤◌, List, [], ◌∷◌, Option, Some, None, length, map, refl, sym, ap, ◌∙◌, subst, arith}
+use Rattle.std.specs.Cmp.Lexicographic.{slice_cmp}
+use Rattle.std.specs.List.{Contains as HasItem}
+use Rattle.std.specs.List.Sorted.{IsStrictlySortedBy}
+use Rattle.std.specs.Ordering.{nat_cmp}
+use Rattle.std.proofs.lemmas.List.Elements.{All-contains}
+use Rattle.mt_values.specs.declared.schema.Schema.{Schema}
+use Rattle.mt_values.specs.RootNames.{create_name, part_name}
+use Rattle.mt_outside.specs.declared.disk.Stamped.{Stamped}
+use Rattle.mt_outside.specs.Disk.{Image, MayLead, Names, Survive, Told, at_clock, before_clock, changed, files_at, names_after}
+use Rattle.mt_outside.specs.Files.{Files}
+use Rattle.mt_model.specs.History.{History, schema_of}
+use Rattle.part_name.specs.PartNames.{part_text}
+use Rattle.part_set.specs.declared.root_name.RootName.{RootName}
+use Rattle.part_set.specs.declared.root_name.RootName.TheVariants as root
+use Rattle.part_set.specs.RootNames.{IsRootName, root_text}
+use Rattle.table_core.specs.Numbers.{numbered}
+use Rattle.table_core.specs.Steps.{next_number}
+use Rattle.root_log.specs.ByteOrder.{AreInByteOrder}
+use Rattle.root_log.specs.Commits.{fresh_part}
+use Rattle.root_log.specs.Roots.{Stands}
+use Rattle.root_log.proofs.FreeNames.{entries_differ, entry_is_no_part, fresh_named, parts_differ}
+use Rattle.root_log.proofs.Growing.{parts_end_by}
+use Rattle.root_log.proofs.Readings.{name_read}
+use Rattle.root_log.proofs.Rising.{all_changes, one_change, rise_nothing}
+
+-- ---- order
+
+pub same_names : (from to : Names) → Survive from to → map (λ (n : List ℕ × Files). n.0) from ≡ map (λ (n : List ℕ × Files). n.0) to
+same_names [] [] kept = refl
+same_names [] (n ∷ to) kept = absurd kept
+same_names (o ∷ from) [] kept = absurd kept
+same_names (o ∷ from) (n ∷ to) kept = λ i. kept.0 i ∷ same_names from to kept.2 i
+
+lead_rise : (from to : Names) (ss : List (Stamped Files)) → AreInByteOrder from → MayLead from ss to → AreInByteOrder to
+lead_rise from to [] rise kept = subst (IsStrictlySortedBy (slice_cmp nat_cmp)) (same_names from to kept) rise
+lead_rise from to (s ∷ ss) rise (inl leads) = lead_rise from to ss rise leads
+lead_rise from to (s ∷ ss) rise (inr leads) = lead_rise (changed from s.change) to ss (one_change from s.change rise) leads
+
+-- what a crash may leave stands in byte order
+pub image_rise : (told : Told) (clock : ℕ) (names : Names) → Image told clock names → AreInByteOrder names
+image_rise told clock names image = lead_rise (names_after [] (before_clock clock told)) names (at_clock clock told) (all_changes [] (before_clock clock told) rise_nothing) image
+
+-- ---- names that are free
+
+module _ (names : Names) (h : History) (s : Stands names h) where
+  some_or_none : (o : Option Files) → ((files : Files) → o ≡ Some files → ⊥) → o ≡ None
+  some_or_none None not = refl
+  some_or_none (Some files) not = absurd (not files refl)
+
+  -- the entry of a table that the history does not have
+  pub entry_free_in : (table : List ℕ) → schema_of table h ≡ None → files_at (create_name table) names ≡ None
+  entry_free_in table none = some_or_none (files_at (create_name table) names) (λ files at. let found = name_read names s.read (create_name table) files s.are.spelled at in by found.0 found.1 found.2)
+    where
+      by : (n : RootName) → HasItem s.read n → root_text n ≡ create_name table → ⊥
+      by (root.Create t) has is =
+          let known = s.no_other t has in
+          let same : schema_of t h ≡ None = subst (λ (u : List ℕ). schema_of u h ≡ None) (sym (entries_differ t table is)) none in
+          let both : None ≡ Some known.0 = sym same ∙ known.1 in
+          cc
+      by (root.Part part) has is =
+          entry_is_no_part table part.table part.name (All-contains IsRootName s.read (root.Part part) s.are.sound has).1 (sym is)
+
+  -- the part of the next number of a table
+  pub part_free_in : (table : List ℕ) (schema : Schema) → schema_of table h ≡ Some schema → next_number table h ≤ 4294967295
+      → files_at (part_name table (part_text (fresh_part (next_number table h)))) names ≡ None
+  part_free_in table schema known few =
+      some_or_none (files_at (part_name table (part_text (fresh_part (next_number table h)))) names) (λ files at.
+      let found = name_read names s.read (part_name table (part_text (fresh_part (next_number table h)))) files s.are.spelled at in
+      by found.0 found.1 found.2)
+    where
+      by : (n : RootName) → HasItem s.read n → root_text n ≡ part_name table (part_text (fresh_part (next_number table h))) → ⊥
+      by (root.Create t) has is = entry_is_no_part t table (fresh_part (next_number table h)) (fresh_named (length (numbered table h)) (omega (arith, few))) is
+      by (root.Part part) has is =
+          let differ = parts_differ part.table table part.name (fresh_part (next_number table h)) (All-contains IsRootName s.read (root.Part part) s.are.sound has).1
+          (fresh_named (length (numbered table h)) (omega (arith, few))) is in
+          let ends = parts_end_by names h s table part has differ.0 in
+          let block : part.name.max_block ≡ next_number table h = ap (λ p. p.max_block) differ.1 in
+          absurd (omega (arith, ends, block))
