@@ -1,8 +1,8 @@
 -- What counts of faults foresee, and the replies that they allow.
-use Rattle.std.proofs.Common.{◌≡◌, ℕ, ◌+◌, ◌-◌, ◌^◌, ◌<◌, ◌≤◌, List, [], min, refl, sym, ap, ◌∙◌, subst, inl, inr, arith}
+use Rattle.std.proofs.Common.{◌≡◌, ℕ, ◌+◌, ◌-◌, ◌^◌, ◌<◌, ◌≤◌, List, min, refl, sym, ap, ◌∙◌, inl, inr, arith}
 use Rattle.mt_outside.specs.Causes.{Rose}
 use Rattle.mt_model.specs.declared.refusal.Refusal.TheVariants as refusal
-use Rattle.mt_model.specs.Outside.{Counts, HasRisen, ReadOrStageFailed, CommitFailed, WasStopped, TurnFailed}
+use Rattle.mt_model.specs.Outside.{Counts, HasRisen, ReadOrStageFailed, TurnFailed}
 use Rattle.mt_model.specs.Refusals.{refusal_line}
 use Rattle.mt_program.specs.Answers.{Foresees}
 

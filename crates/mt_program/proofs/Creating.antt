@@ -1,5 +1,5 @@
 -- One more table.
-use Rattle.std.proofs.Common.{◌≡◌, ℕ, ◌+◌, ◌-◌, ◌<◌, ◌≤◌, ◌^◌, Bool, true, false, cond, List, [], ◌∷◌, ◌++◌, length, take, refl, sym, ap, ◌∙◌, subst, arith, Option, Some, None, Ok, is_some, nat_lt, codes, Result, inl}
+use Rattle.std.proofs.Common.{◌≡◌, ℕ, ◌+◌, ◌-◌, ◌<◌, ◌≤◌, ◌^◌, Bool, true, false, cond, List, [], ◌∷◌, ◌++◌, length, take, refl, sym, ap, ◌∙◌, arith, Option, Some, None, Ok, is_some, nat_lt, codes, Result, inl}
 use Rattle.std.specs.Result.{result_ok}
 use Rattle.std.proofs.lemmas.Bool.Decides.{nat_tests}
 use Rattle.mt_values.specs.declared.command.Command.TheVariants as command
@@ -9,7 +9,6 @@ use Rattle.mt_values.specs.declared.statement.CreateText.{CreateText}
 use Rattle.mt_values.specs.declared.statement.Statement.{Statement}
 use Rattle.mt_values.specs.declared.statement.Statement.TheVariants as statement
 use Rattle.mt_values.specs.Annals.{Told}
-use Rattle.mt_values.specs.Grammar.{same_bytes}
 use Rattle.mt_values.specs.Script.{statements_of, statement_and}
 use Rattle.mt_values.proofs.ScriptBounds.{statements_of_step}
 use Rattle.mt_outside.specs.Disk as root

@@ -1,9 +1,9 @@
 -- From a script that was served to what a run promises.
-use Rattle.std.proofs.Common.{◌≡◌, ◌⊎◌, ◌≤◌, inl, inr, zero, suc, ◌==◌, if◌then◌else◌, ℕ, Bool, true, false, cond, ◌||◌, List, [], ◌∷◌, ◌++◌, slice_get, length, map, take, drop, refl, sym, ap, ◌∙◌, subst, Option, None, Some, Result, Ok, Err, append-nil, arith}
+use Rattle.std.proofs.Common.{◌≡◌, ◌⊎◌, ◌≤◌, inl, inr, zero, suc, ◌==◌, if◌then◌else◌, ℕ, Bool, true, false, ◌||◌, List, [], ◌∷◌, ◌++◌, slice_get, length, map, take, drop, refl, sym, ap, ◌∙◌, subst, Option, None, Some, Result, Ok, Err, append-nil, arith}
 use Rattle.std.specs.Prelude.{IfErr, IsErrAnd, OnOk}
 use Rattle.std.specs.List.{All, concat, list_any}
 use Rattle.std.specs.Io.KnownBytes.{Appends, Consumes, IsAtEnd}
-use Rattle.std.proofs.lemmas.List.{map-append, take_all, drop_all}
+use Rattle.std.proofs.lemmas.List.{map-append, drop_all}
 use Rattle.std.proofs.lemmas.List.Elements.{All-map, All-nil}
 use Rattle.std.proofs.Math.Seq.{drop-append_seam, take-append_seam}
 use Rattle.mt_values.specs.declared.annals.Noted.{Noted}
@@ -16,7 +16,7 @@ use Rattle.mt_outside.specs.declared.disk.DiskError.TheVariants as failure
 use Rattle.mt_model.specs.History.{History, IsLegal}
 use Rattle.mt_model.specs.Outside.{Counts}
 use Rattle.mt_model.specs.Refusals.{is_damage}
-use Rattle.mt_model.specs.Script.{ScriptRun, ScriptReplies, CutInReply, FrontRun, OwnEntries}
+use Rattle.mt_model.specs.Script.{ScriptRun, ScriptReplies, OwnEntries}
 use Rattle.mt_model.specs.Session.{AddsNothing, SessionReplies}
 use Rattle.mt_model.proofs.Causes.{never_damaged}
 use Rattle.mt_model.proofs.Replies.{script_replies_run}
@@ -29,8 +29,8 @@ use Rattle.mt_program.specs.declared.status.Status.{Status}
 use Rattle.mt_program.specs.declared.status.Status.TheVariants as status
 use Rattle.mt_program.specs.Answers.{Foresees, history}
 use Rattle.mt_program.specs.Endings.{IsAnswered, IsEarly, LeftBy, MetNoDamage, settled, status_of, status_of_error, status_of_stop}
-use Rattle.mt_program.specs.Headline.{CutByMemory, CutBySink, Leaves, WholeRun, WholeRunWith, ReadRun, RunWithFaults, NothingRan, RunBy, number_of}
-use Rattle.mt_program.specs.Serving.{AreSettled, Item, Ran, ServedAll, ServedFront, ServedCut, ServedBy}
+use Rattle.mt_program.specs.Headline.{CutByMemory, CutBySink, Leaves, WholeRunWith, ReadRun, RunWithFaults, NothingRan, RunBy, number_of}
+use Rattle.mt_program.specs.Serving.{Item, Ran, ServedAll, ServedFront, ServedCut, ServedBy}
 use Rattle.root_log.specs.declared.opening.Damage.{Damage}
 use Rattle.root_log.specs.declared.opening.OpenFault.{OpenFault}
 use Rattle.root_log.specs.declared.opening.OpenFault.TheVariants as fault

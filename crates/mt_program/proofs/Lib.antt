@@ -1,5 +1,7 @@
 pub mod Accepting
+pub mod Completing
 pub mod Counting
+pub mod Crashing
 pub mod Creating
 pub mod Heading
 pub mod Inserting

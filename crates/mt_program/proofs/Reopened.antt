@@ -1,6 +1,5 @@
 -- A store whose count of faults at opening is the one before the disk was started.
-use Rattle.std.proofs.Common.{◌≡◌, ℕ, List, Option, Some, All}
-use Rattle.std.specs.Option.{ForSome}
+use Rattle.std.proofs.Common.{ℕ, Option}
 use Rattle.std.proofs.lemmas.List.Elements.{All-weaker}
 use Rattle.std.specs.Map.{keys_of}
 use Rattle.mt_outside.specs.Disk.{Told, names_of}

@@ -1,5 +1,5 @@
 -- What is sealed of a block for a table.
-use Rattle.std.proofs.Common.{◌≡◌, ℕ, ◌+◌, List, length, map, All, refl, sym, ap, ap₂, ◌∙◌, subst, Option, Some}
+use Rattle.std.proofs.Common.{◌≡◌, ℕ, List, length, All, refl, sym, ap, ap₂, ◌∙◌, subst, Option, Some}
 use Rattle.std.specs.List.{range_with_len}
 use Rattle.std.proofs.lemmas.List.{length-map}
 use Rattle.sha2.specs.Sha256.{sha256}

@@ -2,7 +2,7 @@
 use Rattle.std.proofs.Common.{◌≡◌, ℕ, zero, suc, ◌+◌, ◌<◌, ◌≤◌, Bool, true, false, cond, List, [], ◌∷◌, ◌++◌, length, get_or, take, drop, refl, sym, ap, ap₂, ◌∙◌, subst, append_assoc, append-nil, arith, All, map, Option, Some, None, Result, Ok, Err, slice_get, filter_map, option_and_then, zero-add, length-append}
 use Rattle.std.specs.Prelude.{IfOk, Vec}
 use Rattle.std.specs.declared.alloc.Global.{Global}
-use Rattle.std.specs.List.{AllZip, flat_map, concat, cons_option, range_with_len, sum_by}
+use Rattle.std.specs.List.{flat_map, concat, cons_option, range_with_len, sum_by}
 use Rattle.std.specs.Option.{option_map}
 use Rattle.std.specs.List.Sorted.{IsSorted}
 use Rattle.std.specs.Cmp.Lexicographic.{slice_cmp}
@@ -23,7 +23,7 @@ use Rattle.mt_values.specs.declared.value.ColType.{ColType}
 use Rattle.mt_values.specs.declared.value.Value.{Value}
 use Rattle.mt_values.specs.Values.{Row, types_of}
 use Rattle.mt_values.specs.Order.{key_cmp, row_cmp, key_of, value_cmp}
-use Rattle.mt_values.specs.Grid.{AreRowsOf, Cells, Grid, IsOrderBy, column_of, grid_of, picked, row_at, rows_of}
+use Rattle.mt_values.specs.Grid.{AreRowsOf, Cells, Grid, IsOrderBy, column_of, picked, row_at, rows_of}
 use Rattle.mt_values.specs.Printing.{line}
 use Rattle.mt_values.proofs.Grids.{All-range, filter_map_more, items_at_all, IsPermutation-picked, AreRowsOf-picked, length-picked, lengths_typed, slice_get-column_of}
 use Rattle.mt_outside.specs.Disk as root

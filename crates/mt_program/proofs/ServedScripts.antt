@@ -1,19 +1,16 @@
 -- One more statement of a script.
-use Rattle.std.proofs.Common.{◌≡◌, ℕ, ◌+◌, ◌-◌, ◌≤◌, Bool, true, false, ◌||◌, List, [], ◌∷◌, ◌++◌, length, map, take, drop, refl, sym, ap, ◌∙◌, subst, Option, Some, None, Result, ◌<◌, append_assoc, append-nil, arith, All}
+use Rattle.std.proofs.Common.{◌≡◌, ℕ, ◌+◌, ◌-◌, ◌≤◌, Bool, true, false, ◌||◌, List, [], ◌∷◌, ◌++◌, length, map, take, drop, refl, sym, ap, ◌∙◌, subst, Option, Some, None, ◌<◌, append_assoc, append-nil, arith, All}
 use Rattle.std.specs.List.{concat, list_any}
 use Rattle.std.specs.Option.{option_map, IfSome}
 use Rattle.std.specs.Io.KnownBytes.{Appends}
 use Rattle.std.proofs.lemmas.List.{map-append, drop-drop, length-drop, drop_all}
 use Rattle.std.proofs.lemmas.List.Elements.{All-append, All-head, All-nil}
 use Rattle.mt_values.specs.declared.annals.Noted.{Noted}
-use Rattle.mt_values.specs.declared.statement.Cause.{Cause}
-use Rattle.mt_values.specs.declared.statement.Statement.{Statement}
 use Rattle.mt_values.specs.Annals.{Told}
 use Rattle.mt_values.specs.Script.{statements_of, next_statement, statement_and}
 use Rattle.mt_outside.specs.Disk as root
 use Rattle.mt_outside.specs.Files.{Files}
 use Rattle.mt_model.specs.History.{History, IsLegal}
-use Rattle.mt_model.specs.Outside.{Counts}
 use Rattle.mt_model.specs.Refusals.{is_damage, is_refusal}
 use Rattle.mt_model.specs.Session.{SessionReplies}
 use Rattle.mt_model.specs.Written.{IsWritten}
@@ -24,7 +21,7 @@ use Rattle.root_log.specs.declared.store.CoreStore.{CoreStore}
 use Rattle.root_log.specs.Commits.{SameList}
 use Rattle.root_log.specs.Soundness.{RootStands}
 use Rattle.root_log.specs.Stores.{CoreStands}
-use Rattle.mt_program.specs.Answers.{history, Accepts, Foresees, is_unsettled}
+use Rattle.mt_program.specs.Answers.{history, Accepts, is_unsettled}
 use Rattle.mt_program.specs.Serving.{AreSettled, Item, Ran, Served, ServedAll, ServedFront, ServedCut, Tells, tallied}
 use Rattle.mt_program.specs.Streams.{AppendsFront}
 use Rattle.mt_program.proofs.Counting.{foresees_before}

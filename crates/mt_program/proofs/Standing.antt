@@ -1,12 +1,6 @@
 -- What the store tells of the history that it stands for.
-use Rattle.std.proofs.Common.{◌≡◌, ◌≤◌, ℕ, suc, Bool, true, false, cond, List, [], ◌∷◌, ◌++◌, length, map, filter, refl, sym, ap, ◌∙◌, subst, arith, Option, Some, None}
-use Rattle.std.specs.BTreeMap.{is_at}
-use Rattle.std.specs.Cmp.Lexicographic.{slice_cmp}
-use Rattle.std.specs.List.{AllZip}
-use Rattle.std.specs.Map.{lookup}
+use Rattle.std.proofs.Common.{◌≡◌, ◌≤◌, ℕ, suc, Bool, true, false, cond, List, [], ◌∷◌, ◌++◌, length, filter, refl, sym, ap, ◌∙◌, subst, arith, Option, Some, None}
 use Rattle.std.specs.Option.{option_map}
-use Rattle.std.specs.Ordering.{nat_cmp}
-use Rattle.mt_values.specs.declared.command.Command.{Command}
 use Rattle.mt_values.specs.declared.command.Entry.{Entry}
 use Rattle.mt_values.specs.declared.schema.Schema.{Schema}
 use Rattle.mt_values.specs.Values.{Row}
@@ -15,17 +9,14 @@ use Rattle.mt_model.specs.History.{History, creates, inserts, inserts_into, sche
 use Rattle.mt_model.specs.Live.{live}
 use Rattle.mt_model.specs.Partial.{Partly}
 use Rattle.part_reader.specs.declared.reading.Part.{Part}
-use Rattle.part_reader.specs.Parts.{PartHolds}
 use Rattle.part_set.specs.declared.kept.Kept.{Kept}
 use Rattle.part_set.specs.Sets.{parts_of}
-use Rattle.table_core.specs.declared.part.CorePart.{CorePart}
-use Rattle.table_core.specs.Numbers.{draws, numbered}
-use Rattle.table_core.specs.Parts.{AreInBlockOrder, TableStands, rows_of_parts}
+use Rattle.table_core.specs.Numbers.{numbered}
+use Rattle.table_core.specs.Parts.{rows_of_parts}
 use Rattle.table_core.proofs.Counted.{parts_at_most}
 use Rattle.table_core.proofs.Joined.{parts_joined}
 use Rattle.root_log.specs.declared.store.CoreStore.{CoreStore}
 use Rattle.root_log.specs.declared.store.Table.{Table}
-use Rattle.root_log.specs.Commits.{SameStore}
 use Rattle.root_log.specs.Stores.{CoreStands, core_parts, table_at}
 use Rattle.mt_program.specs.Selects.{PartsHold, joined}
 
@@ -95,25 +86,3 @@ module _ {F : Type 0} (files_of : F → Option Files) (h : History) (store : Cor
           partly = subst (Partly t.schema.key (live table t.schema.key h)) (rows_joined files_of t.schema table (parts_of store.set table) p.rows p.hold)
               (parts_joined h table t.schema s.legal table_schema (core_parts table (parts_of store.set table) p.rows) p.stand p.order);
         }
-
--- a store with the same tables and parts stands for the same history
-pub stands_same : {F : Type 0} (files_of : F → Option Files) (h : History) (old new : CoreStore F) → CoreStands files_of h old → SameStore old new → CoreStands files_of h new
-stands_same {F} files_of h old new s same = record {
-  legal = s.legal;
-  length_is = same.length_is ∙ s.length_is;
-  tables = λ t. ap (option_map (λ (x : Table). x.schema)) (here t) ∙ s.tables t;
-  count = ap length same.tables ∙ s.count;
-  drawn = λ t x is. s.drawn t x (sym (here t) ∙ is);
-  parts = λ t x is.
-      let p = s.parts t x (sym (here t) ∙ is) in
-      record {
-        rows = p.rows;
-        hold = subst (λ (ks : List (Kept (Part F))). PartsHold files_of x.schema ks p.rows) (sym (same.parts t)) p.hold;
-        stand = subst (λ (ks : List (Kept (Part F))). TableStands t (core_parts t ks p.rows) h) (sym (same.parts t)) p.stand;
-        order = subst (λ (ks : List (Kept (Part F))). AreInBlockOrder (core_parts t ks p.rows)) (sym (same.parts t)) p.order;
-      };
-  no_other = λ t none. same.parts t ∙ s.no_other t (sym (here t) ∙ none);
-}
-  where
-    here : (t : List ℕ) → table_at new t ≡ table_at old t
-    here t = ap (λ es. lookup (is_at (slice_cmp nat_cmp t)) es) same.tables

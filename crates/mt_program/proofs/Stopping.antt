@@ -1,5 +1,5 @@
 -- Why a command was not committed, and what is replied.
-use Rattle.std.proofs.Common.{◌≡◌, ℕ, suc, ◌+◌, ◌<◌, ◌≤◌, Bool, true, false, cond, List, [], ◌∷◌, length, filter, refl, sym, ap, ◌∙◌, subst, arith, Option, Some, None, Ok, is_some, nat_le, nat_lt}
+use Rattle.std.proofs.Common.{◌≡◌, ℕ, suc, ◌<◌, ◌≤◌, Bool, true, false, cond, List, [], ◌∷◌, length, filter, refl, sym, ap, ◌∙◌, subst, arith, Option, Some, None, Ok, is_some, nat_le, nat_lt}
 use Rattle.std.proofs.lemmas.Bool.Decides.{nat_tests}
 use Rattle.mt_base.specs.declared.partition.Partition.TheVariants.{Whole}
 use Rattle.mt_values.specs.declared.schema.Schema.{Schema}
@@ -16,9 +16,8 @@ use Rattle.mt_outside.specs.Files.{Files}
 use Rattle.mt_model.specs.declared.refusal.Bound.TheVariants as bound
 use Rattle.mt_model.specs.declared.refusal.Refusal.TheVariants as refusal
 use Rattle.mt_model.specs.declared.refusal.Room.TheVariants as room
-use Rattle.mt_model.specs.History.{History, creates, inserts, schema_of}
+use Rattle.mt_model.specs.History.{History, inserts}
 use Rattle.mt_model.specs.Outside.{Counts, ReadOrStageFailed, TurnFailed}
-use Rattle.mt_model.specs.Refusals.{refusal_line}
 use Rattle.mt_model.specs.Reply.{schema_of_text, create_turn, rows_of_insert, insert_turn}
 use Rattle.mt_model.specs.Session.{Takes}
 use Rattle.part_reader.specs.declared.reading.Part.{Part}

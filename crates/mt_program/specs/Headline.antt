@@ -1,10 +1,11 @@
 -- What a run promises (docs/definitions.md, "Runs").
-use Rattle.std.specs.Prelude.{◌≡◌, ◌⊎◌, ℕ, List, [], ◌∷◌, ◌++◌, length, take, Bool, true, false, Option, Some}
+use Rattle.std.specs.Prelude.{◌≡◌, ◌⊎◌, ◌<◌, ◌^◌, ℕ, List, [], ◌∷◌, ◌++◌, length, take, Bool, true, false, Option, Some}
 use Rattle.std.specs.List.{concat}
 use Rattle.mt_values.specs.declared.annals.Noted.{Noted}
 use Rattle.mt_values.specs.Annals.{Told}
 use Rattle.mt_values.specs.Script.{statements_of}
 use Rattle.mt_outside.specs.Disk as root
+use Rattle.mt_model.specs.Causes.{NoneMeets}
 use Rattle.mt_model.specs.History.{History, IsLegal}
 use Rattle.mt_model.specs.Outside.{Counts}
 use Rattle.mt_model.specs.Session.{SessionReplies}
@@ -117,3 +118,10 @@ pub record NotOpened (number : ℕ) (line : List ℕ) (failed failed_now : ℕ) 
   pub ended : Status
   pub number_is : number ≡ number_of ended
   pub writes : WritesDamage ended line failed failed_now before after
+
+-- Nothing that is handed in stands against a run: the words are a command line, the script is under the bound, and none of its statements, run
+-- from a place of the history on, each behind the commands of those before it, meets a cause to be refused.
+pub record NothingRefuses (command : Bool) (script : List ℕ) (h : History) (base : ℕ) : Type 0 where
+  pub words : command ≡ true
+  pub short : length script < 2 ^ 40
+  pub causes : NoneMeets h base (statements_of script)

@@ -1,5 +1,6 @@
 pub mod Answers
 pub mod Commits
+pub mod Crashes
 pub mod Damage
 pub mod Endings
 pub mod Headline

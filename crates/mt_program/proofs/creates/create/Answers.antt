@@ -1,7 +1,7 @@
 use Rattle.std.proofs.Common.{◌≡◌, ◌<◌, ◌^◌, ◌++◌, ◌∷◌, [], List, ℕ, Some, None, Ok, Err, length, refl, sym, ap, ◌∙◌, subst, arith}
 use Rattle.mt_values.specs.declared.command.Command.TheVariants as command
 use Rattle.mt_values.specs.declared.statement.Statement.TheVariants as statement
-use Rattle.mt_model.specs.Reply.{create_turn, ok_line, schema_of_text}
+use Rattle.mt_model.specs.Reply.{create_turn, ok_line}
 use Rattle.mt_model.proofs.Tables.{schema_is}
 use Rattle.root_log.specs.Commits.{IsCause, Notes, refuses_create}
 use Rattle.root_log.specs.Entries.{EntryHolds}
@@ -12,7 +12,8 @@ use Rattle.mt_program.specs.Commits.{entry_files}
 use Rattle.mt_program.proofs.Accepting.{accepts_nothing, entry_of, kept_same, same_kept}
 use Rattle.mt_program.proofs.Creating.{created_accepts, entry_holds, turn_free}
 use Rattle.mt_program.proofs.Refusing.{create_failed, create_refused}
-use Rattle.mt_program.proofs.Standing.{no_table, stands_same, tables_made}
+use Rattle.root_log.proofs.SameStores.{stands_same}
+use Rattle.mt_program.proofs.Standing.{no_table, tables_made}
 use Rattle.mt_program.proofs.Stopping.{create_not_committed, line_of_stage, nothing_shown_to_create, root_unless_disk}
 use Rattle.mt_program.proofs.creates.create.Goals as goal
 
@@ -96,3 +97,34 @@ returns-in_ok-refused_line-in-Err-commit_create-clause-answers g c = λ kept is 
     (λ n f. create_not_committed files store kept stands before disk arm cause reply n f c.requires.opened ended.later ended.rose text c.in-Ok.schema (sym c.in_ok-resolved.ensures ∙ c.in-Ok.is) line
     (subst (λ (t : List ℕ). IsCause (refuses_create store t before) (Some cause)) name ended.cause))
     (λ calm bef. root_unless_disk text.table cause reply h was now line ended.unchanged calm bef)
+
+-- what a crash leaves
+pub returns-in-Ok-commit_create-clause-through_crashes : goal.returns-in-Ok-commit_create-clause-through_crashes
+returns-in-Ok-commit_create-clause-through_crashes g c = λ statements first start tells has keeps.
+    let text = c.args.text.now in
+    let schema = c.in-Ok.schema in
+    let says = sym c.in_ok-resolved.ensures ∙ c.in-Ok.is in
+    let few = subst (λ (t : List ℕ). length t < 2 ^ 32) c.as_slice.ensures c.in-Ok-seal_entry.ensures.few in
+    let holds = subst (λ (t : List ℕ). EntryHolds t schema (entry_files text.text)) (sym c.in_ok-table.ensures) (entry_holds text schema c.requires.written says few) in
+    c.commit_create.ensures.through_crashes statements first start (entry_files text.text) (c.in-Ok-seal_entry.ensures.files tells ∙ ap (λ (t : List ℕ). Some (entry_files t)) c.as_slice.ensures) holds
+    (refl, (statement.Create text, has, (c.in_ok-table.ensures, says))) keeps
+
+pub returns-in_ok-refused_line-in-Err-commit_create-clause-through_crashes : goal.returns-in_ok-refused_line-in-Err-commit_create-clause-through_crashes
+returns-in_ok-refused_line-in-Err-commit_create-clause-through_crashes g c = λ statements first start tells has keeps.
+    let text = c.args.text.now in
+    let schema = c.in-Ok.schema in
+    let says = sym c.in_ok-resolved.ensures ∙ c.in-Ok.is in
+    let few = subst (λ (t : List ℕ). length t < 2 ^ 32) c.as_slice.ensures c.in-Ok-seal_entry.ensures.few in
+    let holds = subst (λ (t : List ℕ). EntryHolds t schema (entry_files text.text)) (sym c.in_ok-table.ensures) (entry_holds text schema c.requires.written says few) in
+    c.commit_create.ensures.through_crashes statements first start (entry_files text.text) (c.in-Ok-seal_entry.ensures.files tells ∙ ap (λ (t : List ℕ). Some (entry_files t)) c.as_slice.ensures) holds
+    (refl, (statement.Create text, has, (c.in_ok-table.ensures, says))) keeps
+
+pub returns-in_err-refused_line-in-Err-commit_create-clause-through_crashes : goal.returns-in_err-refused_line-in-Err-commit_create-clause-through_crashes
+returns-in_err-refused_line-in-Err-commit_create-clause-through_crashes g c = λ statements first start tells has keeps.
+    let text = c.args.text.now in
+    let schema = c.in-Ok.schema in
+    let says = sym c.in_ok-resolved.ensures ∙ c.in-Ok.is in
+    let few = subst (λ (t : List ℕ). length t < 2 ^ 32) c.as_slice.ensures c.in-Ok-seal_entry.ensures.few in
+    let holds = subst (λ (t : List ℕ). EntryHolds t schema (entry_files text.text)) (sym c.in_ok-table.ensures) (entry_holds text schema c.requires.written says few) in
+    c.commit_create.ensures.through_crashes statements first start (entry_files text.text) (c.in-Ok-seal_entry.ensures.files tells ∙ ap (λ (t : List ℕ). Some (entry_files t)) c.as_slice.ensures) holds
+    (refl, (statement.Create text, has, (c.in_ok-table.ensures, says))) keeps

@@ -1,4 +1,4 @@
-use Rattle.std.proofs.Common.{◌≡◌, ◌≤◌, ◌<◌, ◌+◌, ◌++◌, ◌∷◌, [], ℕ, List, Option, Some, None, Ok, Err, Result, Bool, true, false, length, refl, sym, ap, ◌∙◌, subst, arith}
+use Rattle.std.proofs.Common.{◌≡◌, ◌≤◌, ◌<◌, ℕ, List, Option, Some, Ok, Err, Result, Bool, true, false, length, refl, sym, ap, ◌∙◌, subst, arith}
 use Rattle.mt_base.specs.declared.partition.Partition.TheVariants.{Whole}
 use Rattle.tsv_rows.specs.Stops.{Refuses}
 use Rattle.mt_values.specs.declared.row_fault.DataFault.{DataFault}
@@ -11,17 +11,19 @@ use Rattle.mt_values.specs.Values.{AreValues, Row}
 use Rattle.part_set.specs.Sets.{parts_of}
 use Rattle.table_core.specs.Numbers.{same_partition}
 use Rattle.mt_model.specs.declared.refusal.Refusal.TheVariants as refusal
-use Rattle.mt_model.specs.History.{IsInsertInto, column_types, inserts, schema_of}
+use Rattle.mt_model.specs.History.{IsInsertInto, column_types, inserts}
 use Rattle.mt_model.specs.Refusals.{refusal_line, refusal_of_data}
-use Rattle.mt_model.specs.Reply.{ok_line, rows_of_insert}
+use Rattle.mt_model.specs.Reply.{ok_line}
 use Rattle.root_log.specs.declared.store.Table.{Table}
-use Rattle.root_log.specs.Commits.{IsCause, insert_into, refuses_part, whole_parts}
+use Rattle.root_log.specs.Commits.{insert_into, whole_parts}
 use Rattle.root_log.specs.Stores.{table_at}
 use Rattle.mt_program.specs.Answers.{history}
 use Rattle.mt_program.proofs.Accepting.{accepts_nothing, kept_same, length_history, same_kept}
 use Rattle.mt_program.proofs.Inserting.{empty_accepted, inserted_accepts, no_such_table, not_empty, rows_read, rows_refused, turn_free}
 use Rattle.mt_program.proofs.Refusing.{insert_failed, insert_refused}
-use Rattle.mt_program.proofs.Standing.{drawn_is, no_table, parts_made, stands_same, table_schema}
+use Rattle.mt_model.specs.Reply.{rows_or_refused}
+use Rattle.root_log.proofs.SameStores.{stands_same}
+use Rattle.mt_program.proofs.Standing.{drawn_is, no_table, parts_made, table_schema}
 use Rattle.mt_program.proofs.Stopping.{filtered, insert_not_committed, line_of_stage, nothing_shown, root_unless_disk}
 use Rattle.mt_program.proofs.inserts.insert.Goals as goal
 
@@ -168,3 +170,28 @@ returns-clause-answers g c = λ kept is tells stands.
     (λ n f. insert_not_committed files store kept stands before disk arm cause reply n f c.requires.opened ended.later ended.rose text found at c.in-Ok.block.rows some
     (rows_read text h found.schema there c.in-Ok.block.rows read) line (ended.cause found at))
     (λ calm bef. root_unless_disk text.table cause reply h was now line ended.unchanged calm bef)
+
+-- what a crash leaves
+pub returns-in-Ok-commit_part-clause-through_crashes : goal.returns-in-Ok-commit_part-clause-through_crashes
+returns-in-Ok-commit_part-clause-through_crashes g c = λ statements first start tells has keeps.
+    let text = c.args.text.now in
+    let found = c.in-Some.found.now in
+    let read = by_table c.deref.result.now (column_types found.schema) c.as_slice.result.now text.lines text.ended (Ok c.in-Ok.block.rows) (c.deref.ensures.value ∙ c.in_ok-types.ensures) c.as_slice.ensures c.in-Ok.ensures.rows in
+    c.commit_part.ensures.through_crashes found statements first start (sym c.in-Some.ensures.value) (c.in-Ok-seal_block.ensures.sealed tells)
+    (refl, (statement.Insert text, has, (found.schema, c.in-Ok.block.rows, ap rows_or_refused read, (refl, refl, refl)))) keeps
+
+pub returns-clause-through_crashes : goal.returns-clause-through_crashes
+returns-clause-through_crashes g c = λ statements first start tells has keeps.
+    let text = c.args.text.now in
+    let found = c.in-Some.found.now in
+    let read = by_table c.deref.result.now (column_types found.schema) c.as_slice.result.now text.lines text.ended (Ok c.in-Ok.block.rows) (c.deref.ensures.value ∙ c.in_ok-types.ensures) c.as_slice.ensures c.in-Ok.ensures.rows in
+    c.commit_part.ensures.through_crashes found statements first start (sym c.in-Some.ensures.value) (c.in-Ok-seal_block.ensures.sealed tells)
+    (refl, (statement.Insert text, has, (found.schema, c.in-Ok.block.rows, ap rows_or_refused read, (refl, refl, refl)))) keeps
+
+pub returns-in_err-refused_line-in-Err-commit_part-clause-through_crashes : goal.returns-in_err-refused_line-in-Err-commit_part-clause-through_crashes
+returns-in_err-refused_line-in-Err-commit_part-clause-through_crashes g c = λ statements first start tells has keeps.
+    let text = c.args.text.now in
+    let found = c.in-Some.found.now in
+    let read = by_table c.deref.result.now (column_types found.schema) c.as_slice.result.now text.lines text.ended (Ok c.in-Ok.block.rows) (c.deref.ensures.value ∙ c.in_ok-types.ensures) c.as_slice.ensures c.in-Ok.ensures.rows in
+    c.commit_part.ensures.through_crashes found statements first start (sym c.in-Some.ensures.value) (c.in-Ok-seal_block.ensures.sealed tells)
+    (refl, (statement.Insert text, has, (found.schema, c.in-Ok.block.rows, ap rows_or_refused read, (refl, refl, refl)))) keeps

@@ -1,10 +1,5 @@
-use Rattle.std.proofs.Common.{◌≡◌, ◌++◌, ◌<◌, ◌∙◌, ℕ, List, All, ap, arith, length, subst, sym}
-use Rattle.std.specs.List.{flat_map, range_with_len}
-use Rattle.mt_values.specs.Grid.{Grid, IsOrderBy, picked}
-use Rattle.mt_values.specs.Order.{key_of}
-use Rattle.mt_values.specs.Printing.{line}
+use Rattle.std.proofs.Common.{◌<◌, ◌∙◌, All, arith, length, subst, sym}
 use Rattle.mt_values.proofs.Grids.{All-range, places_below}
-use Rattle.mt_model.specs.Reply.{rows_line}
 use Rattle.mt_program.proofs.selects.print.Goals as goal
 
 pub order_by-requires : goal.order_by-requires

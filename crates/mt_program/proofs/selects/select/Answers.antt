@@ -1,4 +1,4 @@
-use Rattle.std.proofs.Common.{◌≡◌, ◌∙◌, ◌<◌, ℕ, List, [], length, map, sym, ap, subst, inl, All, filter_map, slice_get, arith}
+use Rattle.std.proofs.Common.{◌≡◌, ◌∙◌, ℕ, List, [], length, map, sym, ap, subst, inl, All, filter_map, slice_get, arith}
 use Rattle.mt_values.specs.declared.schema.Column.{Column}
 use Rattle.mt_values.specs.Grid.{Cells, grid_of, rows_of}
 use Rattle.mt_outside.specs.declared.disk.DiskError.TheVariants as failure

@@ -1,6 +1,12 @@
-use Rattle.std.proofs.Common.{◌∙◌, ◌≤◌, sym, subst}
-use Rattle.mt_program.specs.Headline.{NothingRan, ReadRun}
+use Rattle.std.proofs.Common.{◌∙◌, ◌≡◌, ◌⊎◌, ◌≤◌, ℕ, sym, subst}
+use Rattle.mt_model.specs.Outside.{Counts}
+use Rattle.root_log.proofs.CrashSafe.{safe_at_start}
+use Rattle.mt_program.specs.Headline.{Leaves, NothingRan, ReadRun, RunBy}
+use Rattle.mt_program.specs.Words.{is_command}
+use Rattle.mt_program.specs.declared.status.Status.{Status}
 use Rattle.mt_program.specs.declared.status.Status.TheVariants as status
+use Rattle.mt_program.proofs.Completing.{none_refused, not_too_long, zero_or_six}
+use Rattle.mt_program.proofs.Crashing.{nothing_of_script}
 use Rattle.mt_program.proofs.Heading.{left_by, leaves_as, nothing_read, same_number, at_most_one_is}
 use Rattle.mt_program.proofs.top.run.Goals as goal
 
@@ -58,3 +64,24 @@ returns-clause-sound g c = λ kept root told is stands bad.
 pub returns-clause-whole : goal.returns-clause-whole
 returns-clause-whole g c = λ script left low.
     c.run_opened-ended.ensures.whole script left (at_most_one_is c.run_opened-ended.result (subst (λ n. n ≤ 1) c.number-status-2.ensures low))
+
+-- what a crash leaves
+pub returns-clause-crashes : goal.returns-clause-crashes
+returns-clause-crashes g c = λ kept told is known all. c.run_opened-ended.ensures.crashes kept told is known all
+
+pub returns-then-not-is_command_line-clause-crashes : goal.returns-then-not-is_command_line-clause-crashes
+returns-then-not-is_command_line-clause-crashes g c = λ kept told is known all. nothing_of_script told kept _ _ _ _ known is (safe_at_start told (g.D.Disk.clock c.args.disk) kept.list all) (g.S.Source.left c.args.source.now) _ _
+
+-- nothing stands against the run
+pub returns-clause-complete : goal.returns-clause-complete
+returns-clause-complete g c = λ kept now script before starts there nothing read write disk.
+    let ended = c.run_opened-ended.result in
+    let done = c.run_opened-ended.ensures in
+    let counts : Counts = record { opened = g.D.Disk.failed c.args.disk; ended = g.D.Disk.failed c.run_opened-ended.new.disk } in
+    let left = done.leaves kept starts.told script before starts.annals_is starts.disk_is starts.stands starts.source_is starts.sink_is in
+    subst (λ (n : ℕ). (n ≡ 0) ⊎ (n ≡ 6)) (sym c.number-status-2.ensures)
+    (zero_or_six ended done.words (λ is. read (done.read is)) (λ is. write (done.write is)) (λ is. disk (done.disk is)) (λ is. done.sound kept starts.told starts.annals_is starts.disk_is starts.stands is)
+    (λ is. not_too_long script (g.S.Source.left c.args.source.now) (g.S.Source.left c.run_opened-ended.new.source) starts.source_is nothing.short (done.long is))
+    (λ is. none_refused (g.D.Disk.told c.run_opened-ended.new.disk) (g.D.Disk.failed c.args.disk) (g.D.Disk.failed c.run_opened-ended.new.disk) kept now script before (g.A.Annals.told c.run_opened-ended.new.annals) (g.K.Sink.written c.run_opened-ended.new.sink) (is_command c.args.words.now)
+    done.later disk there nothing
+    (subst (λ (s : Status). Leaves (RunBy s (g.D.Disk.told c.run_opened-ended.new.disk) counts) kept script before (g.A.Annals.told c.run_opened-ended.new.annals) (g.K.Sink.written c.run_opened-ended.new.sink)) is left)))

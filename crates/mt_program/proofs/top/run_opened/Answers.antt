@@ -1,16 +1,20 @@
-use Rattle.std.proofs.Common.{◌≡◌, ◌⊎◌, ◌≤◌, ◌<◌, ℕ, Bool, true, false, Option, Some, Ok, Err, List, inl, inr, refl, ◌∙◌, sym, ap, subst, nat_lt, arith}
-use Rattle.std.specs.Prelude.{is_some, IfErr}
+use Rattle.std.proofs.Common.{◌≡◌, ◌⊎◌, ◌≤◌, ◌<◌, ℕ, true, false, Option, Err, inl, inr, ◌∙◌, sym, ap, subst, nat_lt, arith}
+use Rattle.std.specs.Prelude.{is_some}
 use Rattle.std.proofs.lemmas.Bool.Decides.{nat_tests}
 use Rattle.mt_outside.specs.Causes.{Rose}
 use Rattle.mt_model.specs.Outside.{Counts}
 use Rattle.mt_outside.specs.Disk as root
 use Rattle.mt_program.specs.Answers.{Foresees, history}
 use Rattle.mt_program.specs.Damage.{WritesDamage, damage_line}
-use Rattle.mt_program.specs.Endings.{IsAnswered, IsEarly, MetNoDamage, status_of}
+use Rattle.mt_program.specs.Endings.{IsAnswered}
 use Rattle.mt_program.specs.Headline.{Leaves, RunBy}
 use Rattle.mt_program.specs.declared.status.Status.{Status}
 use Rattle.mt_program.specs.declared.status.Status.TheVariants as status
 use Rattle.mt_program.proofs.Counting.{risen_back, some_rose}
+use Rattle.root_log.specs.Crashes.{AllStand}
+use Rattle.root_log.proofs.CrashSafe.{safe_at_start, safe_opened}
+use Rattle.mt_program.specs.Crashes.{LeavesOfScript}
+use Rattle.mt_program.proofs.Crashing.{left_moved, nothing_of_script}
 use Rattle.mt_program.proofs.Heading.{answered_calm, answered_served, disk_fault, early_leaves, ended_early, error_early, error_undamaged, leaves_all, not_damaged, not_words, read_fault, root_told, too_long, write_fault}
 use Rattle.mt_program.proofs.top.run_opened.Goals as goal
 
@@ -135,3 +139,32 @@ returns-clause-calm g c = λ done.
     let listed = c.run_root-ended.ensures.disk_later in
     let back = c.take_back.ensures.later in
     same_count c.faults-opened.result (g.D.Disk.failed c.args.disk.now) c.faults.result (g.D.Disk.failed c.take_back.new.self) c.faults-opened.ensures c.faults.ensures (omega arith) calm
+
+-- what a crash leaves
+pub returns-then-opened-clause-crashes : goal.returns-then-opened-clause-crashes
+returns-then-opened-clause-crashes g c = λ kept told is known all. nothing_of_script told kept _ _ _ _ known is (safe_at_start told (g.D.Disk.clock c.args.disk.now) kept.list all) (g.S.Source.left c.args.source.now) _ _
+
+pub returns-in-Err-clause-crashes : goal.returns-in-Err-clause-crashes
+returns-in-Err-clause-crashes g c = λ kept told is known all.
+    nothing_of_script told kept _ _ _ _ (c.start.ensures.told ∙ known) is (safe_opened told (g.D.Disk.clock c.args.disk.now) (g.D.Disk.clock c.start.new.self) kept.list all (inl c.start.ensures.clock)) (g.S.Source.left c.args.source.now) _ _
+
+pub returns-in-Err-arm-clause-crashes : goal.returns-in-Err-arm-clause-crashes
+returns-in-Err-arm-clause-crashes g c = λ kept told is known all.
+    nothing_of_script told kept _ _ _ _ (c.in-Err-arm.ensures.told ∙ (c.start.ensures.told ∙ known)) is
+    (safe_opened told (g.D.Disk.clock c.args.disk.now) (g.D.Disk.clock c.arm.new.self) kept.list all (inl (c.in-Err-arm.ensures.clock ∙ c.start.ensures.clock))) (g.S.Source.left c.args.source.now) _ _
+
+pub returns-clause-crashes : goal.returns-clause-crashes
+returns-clause-crashes g c = λ kept told is known all.
+    let here = c.in-Ok.ensures.told ∙ (c.start.ensures.told ∙ known) in
+    let tells = c.in-Ok.ensures.tells ∙ ap is_some (c.start.ensures.told ∙ known) in
+    let mark : g.D.Disk.clock c.arm.new.self ≡ g.D.Disk.clock c.args.disk.now = c.in-Ok.ensures.clock ∙ c.start.ensures.clock in
+    let left = c.run_root-ended.ensures.crashes kept told is here tells (subst (λ m. AllStand told m (history kept)) (sym mark) all) in
+    let disk = c.run_root-ended.new.disk in
+    let annals = g.A.Annals.told c.run_root-ended.new.annals in
+    let from_start = subst (λ m. LeavesOfScript (g.S.Source.left c.args.source.now) c.faults-opened.result (g.D.Disk.failed disk) (g.D.Disk.told disk) (g.D.Disk.clock disk) annals kept m) mark left in
+    let from_opened = subst (λ m. LeavesOfScript (g.S.Source.left c.args.source.now) m (g.D.Disk.failed disk) (g.D.Disk.told disk) (g.D.Disk.clock disk) annals kept (g.D.Disk.clock c.args.disk.now)) c.faults-opened.ensures from_start in
+    let start_later = c.start.ensures.cause.later in
+    let arm_later = c.in-Ok.ensures.cause.later in
+    let root_later = c.run_root-ended.ensures.disk_later in
+    let back_later = c.take_back.ensures.later in
+    left_moved c.take_back.ensures.told c.take_back.ensures.clock (λ same. omega (arith, same, start_later, arm_later, root_later, back_later)) from_opened

@@ -1,8 +1,10 @@
-use Rattle.std.proofs.Common.{◌≡◌, List, ℕ, Option, Some, Ok, Err, sym, ap, ◌∙◌, subst, refl}
+use Rattle.std.proofs.Common.{◌∙◌, subst, refl}
 use Rattle.mt_program.specs.Answers.{history}
 use Rattle.mt_program.specs.Endings.{LeftBy}
+use Rattle.root_log.proofs.CrashSafe.{stands_as_read}
+use Rattle.mt_program.proofs.Crashing.{keeps_opened, nothing_of_script}
 use Rattle.mt_program.proofs.Heading.{root_told, writes_damage, writes_nothing}
-use Rattle.mt_program.proofs.Reopened.{names_reopened, sound_reopened, stands_reopened}
+use Rattle.mt_program.proofs.Reopened.{reopened, sound_reopened, stands_reopened}
 use Rattle.mt_program.proofs.top.run_root.Goals as goal
 
 -- the root was not opened
@@ -43,3 +45,17 @@ returns-clause-sound g c = λ kept names told is stands tells.
     let root_stands = root_told (g.D.Disk.told c.open.new.disk) names (history kept) (c.in-Ok.ensures.told ∙ is) stands in
     let core = stands_reopened c.in-Ok.store c.args.opened files (history kept) (c.in-Ok.ensures.stands names (history kept) is stands) in
     c.run_script.ensures.sound kept told (c.in-Ok.ensures.tells ∙ tells) core root_stands
+
+-- what a crash leaves
+pub returns-in-Err-clause-crashes : goal.returns-in-Err-clause-crashes
+returns-in-Err-clause-crashes g c = λ kept told is known tells all.
+    nothing_of_script told kept _ _ (g.D.Disk.clock c.args.disk.now) _ (c.in-Err.ensures.told ∙ known) is (c.in-Err.ensures.crashes told kept.list known all) (g.S.Source.left c.args.source.now) c.args.opened _
+
+pub returns-clause-crashes : goal.returns-clause-crashes
+returns-clause-crashes g c = λ kept told is known tells all.
+    let files = g.D.Arm.Dir.Dir.files in
+    let start = g.D.Disk.clock c.args.disk.now in
+    let core = stands_reopened c.in-Ok.store c.args.opened files (history kept) (c.in-Ok.ensures.stands told (history kept) known (stands_as_read told start (history kept) all)) in
+    let keeps = keeps_opened told kept (g.D.Disk.told c.open.new.disk) (g.D.Disk.clock c.open.new.disk) start (g.A.Annals.told c.args.annals.now) (c.in-Ok.ensures.told ∙ known) is (c.in-Ok.ensures.crashes told kept.list known all)
+    files (reopened c.in-Ok.store c.args.opened) (g.D.Disk.failed c.open.new.disk) core in
+    c.run_script.ensures.through_crashes kept start (c.in-Ok.ensures.tells ∙ tells) keeps

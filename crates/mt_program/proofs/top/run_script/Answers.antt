@@ -1,7 +1,8 @@
-use Rattle.std.proofs.Common.{◌∙◌, ◌<◌, ◌^◌, sym, ap, subst, List, ℕ, length}
+use Rattle.std.proofs.Common.{◌∙◌, ◌<◌, ◌^◌, sym, subst, List, ℕ, length}
 use Rattle.mt_program.specs.Endings.{IsEarly}
 use Rattle.mt_program.specs.Serving.{ServedBy}
-use Rattle.mt_program.specs.declared.status.Status.TheVariants as status
+use Rattle.mt_values.specs.Script.{statements_of}
+use Rattle.mt_program.proofs.Crashing.{unread}
 use Rattle.mt_program.proofs.Heading.{all_read, nothing_left, sound_served, stop_early, stop_undamaged}
 use Rattle.mt_program.proofs.top.run_script.Goals as goal
 
@@ -38,3 +39,16 @@ returns-clause-whole g c = λ script left.
       subst (λ (ys : List ℕ). length ys < 2 ^ 40) (all_read script c.in-Ok.text.items before after left all.0 all.1) c.in-Ok.ensures.short,
       nothing_left script c.in-Ok.text.items before after left all.0 all.1,
     )
+
+-- what a crash leaves
+pub returns-in-Err-clause-through_crashes : goal.returns-in-Err-clause-through_crashes
+returns-in-Err-clause-through_crashes g c = λ first start tells keeps. unread (g.S.Source.left c.args.source.now) keeps
+
+pub returns-clause-through_crashes : goal.returns-clause-through_crashes
+returns-clause-through_crashes g c = λ first start tells keeps.
+    let all = c.in-Ok.ensures.all in
+    record {
+      text = c.deref.result.now;
+      text_is = λ script left. c.deref.ensures.value ∙ all_read script c.in-Ok.text.items (g.S.Source.left c.args.source.now) (g.S.Source.left c.read_all.new.source) left all.0 all.1;
+      leaves = c.serve-ending.ensures.through_crashes first start tells (keeps (statements_of c.deref.result.now));
+    }
