@@ -201,6 +201,13 @@ columns_tell : (t : SelectText) (o : Option Schema) → Scripted (columns_for t 
 columns_tell t None = omega arith
 columns_tell t (Some schema) = selected_tells schema.columns t.columns
 
+-- a CREATE or a SELECT that is refused for what it says
+pub text_is_cause : (c : CreateText) (why : Refusal) → schema_of_text c ≡ Err why → OfScript why
+text_is_cause c why is = scripted (schema_of_text c) why is (text_tells c)
+
+pub selected_is_cause : (columns : List Column) (which : Selected) (why : Refusal) → selected_places columns which ≡ Err why → OfScript why
+selected_is_cause columns which why is = scripted (selected_places columns which) why is (selected_tells columns which)
+
 cause_tells : (why : Cause) → OfScript (refusal_of_cause why)
 cause_tells (cause.Grammar place) = omega arith
 cause_tells cause.LongStatement = omega arith
@@ -277,6 +284,10 @@ told_of_script n h s st from to reply still below t = by (takes_blames n h s st 
 
 not_damage : (m : ℕ) → m < 18 → (m == 19) ≡ false
 not_damage m few = grind (arith, nat_tests)
+
+-- where the script is the cause, the line does not tell of damage
+pub undamaged_line : (why : Refusal) → OfScript why → is_damage (refusal_line why) ≡ false
+undamaged_line why few = let e : code_of (refusal_line why) ≡ code why = code_of_line why in not_damage (code_of (refusal_line why)) (omega (arith, e, few))
 
 -- no reply tells of damage
 pub never_damaged : (n : Counts) (h : History) (s : ℕ) (st : Result Statement Cause) (from to : ℕ) (reply : List ℕ) → Takes n h s st from to reply → is_damage reply ≡ false

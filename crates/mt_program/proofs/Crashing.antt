@@ -1,12 +1,15 @@
 -- What is left for a crash, from opening to the end of a run.
-use Rattle.std.proofs.Common.{◌≡◌, ℕ, List, [], Option, Some, None, inl, refl, sym, ◌∙◌, subst}
+use Rattle.std.proofs.Common.{◌≡◌, ◌++◌, ◌∷◌, ℕ, List, [], Option, Some, None, inl, refl, sym, ◌∙◌, subst, ap, append-nil, append_assoc}
+use Rattle.std.proofs.lemmas.List.Elements.{All-nil}
+use Rattle.mt_values.specs.declared.annals.Noted.{Noted}
 use Rattle.mt_values.specs.Annals.{Told}
 use Rattle.mt_values.specs.Script.{statements_of}
 use Rattle.mt_outside.specs.Disk as root
 use Rattle.mt_outside.specs.Files.{Files}
 use Rattle.root_log.specs.declared.store.CoreStore.{CoreStore}
-use Rattle.root_log.specs.Crashes.{AreCalm, AreCrashSafe, IsCrashSafe, KeepsThroughCrashes, entries_of}
+use Rattle.root_log.specs.Crashes.{AreCalm, AreCrashSafe, IsCommandOf, IsCrashSafe, KeepsThroughCrashes, entries_of}
 use Rattle.root_log.specs.Stores.{CoreStands}
+use Rattle.root_log.proofs.CrashDone.{keeps_more}
 use Rattle.root_log.proofs.CrashSafe.{safe_begun}
 use Rattle.mt_program.specs.Crashes.{LeavesForCrashes, LeavesOfScript}
 use Rattle.mt_program.specs.Serving.{Item}
@@ -25,10 +28,20 @@ pub left_for_crashes : {F : Type 0} {files_of : F → Option Files} {statements 
     → store.opened ≡ opened → KeepsThroughCrashes files_of statements store failed disk clock annals first start → LeavesForCrashes statements opened failed disk clock annals first start
 left_for_crashes same keeps = record { safe = keeps.safe; calm = λ is. (keeps.calm (is ∙ sym same)).0 }
 
+-- of a script of which so much ran
+pub left_behind : {F : Type 0} {files_of : F → Option Files} {ran : List Item} {store : CoreStore F} {opened failed : ℕ} {disk : Option root.Told} {clock : ℕ} {annals : Option Told} {first : Told} {start : ℕ} (statements rest : List Item)
+    → statements ≡ ran ++ rest → store.opened ≡ opened → KeepsThroughCrashes files_of ran store failed disk clock annals first start → LeavesForCrashes statements opened failed disk clock annals first start
+left_behind {ran = ran} {opened = opened} {failed = failed} {disk = disk} {clock = clock} {annals = annals} {first = first} {start = start} statements rest split same keeps =
+    subst (λ (ss : List Item). LeavesForCrashes ss opened failed disk clock annals first start) (sym split) (left_for_crashes same (keeps_more ran rest keeps))
+
+-- one statement more of a script ran
+pub one_more : (script : List ℕ) (ran left : List Item) (st : Item) (rest : List Item) → statements_of script ≡ ran ++ left → left ≡ st ∷ rest → statements_of script ≡ (ran ++ st ∷ []) ++ rest
+one_more script ran left st rest split is = split ∙ (ap (λ (ss : List Item). ran ++ ss) is ∙ sym (append_assoc ran (st ∷ []) rest))
+
 -- the script was not read
 pub unread : {F : Type 0} {files_of : F → Option Files} {store : CoreStore F} {failed : ℕ} {disk : Option root.Told} {clock : ℕ} {annals : Option Told} {first : Told} {start : ℕ} (source : Option (List ℕ))
-    → ((statements : List Item) → KeepsThroughCrashes files_of statements store failed disk clock annals first start) → LeavesOfScript source store.opened failed disk clock annals first start
-unread source keeps = record { text = told_or_none source; text_is = told_is source; leaves = left_for_crashes refl (keeps (statements_of (told_or_none source))) }
+    → KeepsThroughCrashes files_of [] store failed disk clock annals first start → LeavesOfScript source store.opened failed disk clock annals first start
+unread source keeps = record { text = told_or_none source; text_is = told_is source; leaves = left_for_crashes refl (keeps_more [] (statements_of (told_or_none source)) keeps) }
 
 module _ (told : root.Told) (kept : Told) (disk : Option root.Told) (clock start : ℕ) (annals : Option Told) (disk_is : disk ≡ Some told) (annals_is : annals ≡ Some kept) (safe : IsCrashSafe told clock kept.list None kept.list start) where
   opened_calm : AreCalm disk clock annals kept start
@@ -41,6 +54,9 @@ module _ (told : root.Told) (kept : Told) (disk : Option root.Told) (clock start
     disk_is = disk_is;
     annals_is = annals_is;
     safe = safe_begun told clock kept.list kept.begun kept.list start safe;
+    more = [];
+    more_is = sym (append-nil kept.list);
+    added = All-nil (λ (n : Noted). IsCommandOf statements n.entry);
     begun = λ e is. inl is;
   }
 

@@ -1,7 +1,7 @@
 -- From a script that was served to what a run promises.
-use Rattle.std.proofs.Common.{◌≡◌, ◌⊎◌, ◌≤◌, inl, inr, zero, suc, ◌==◌, if◌then◌else◌, ℕ, Bool, true, false, ◌||◌, List, [], ◌∷◌, ◌++◌, slice_get, length, map, take, drop, refl, sym, ap, ◌∙◌, subst, Option, None, Some, Result, Ok, Err, append-nil, arith}
+use Rattle.std.proofs.Common.{◌≡◌, ◌⊎◌, ◌≤◌, inl, inr, zero, suc, ◌==◌, if◌then◌else◌, ℕ, Bool, true, false, List, [], ◌∷◌, ◌++◌, slice_get, length, map, take, drop, refl, sym, ap, ◌∙◌, subst, Option, None, Some, Result, Ok, Err, append-nil, arith}
 use Rattle.std.specs.Prelude.{IfErr, IsErrAnd, OnOk}
-use Rattle.std.specs.List.{All, concat, list_any}
+use Rattle.std.specs.List.{All, concat}
 use Rattle.std.specs.Io.KnownBytes.{Appends, Consumes, IsAtEnd}
 use Rattle.std.proofs.lemmas.List.{map-append, drop_all}
 use Rattle.std.proofs.lemmas.List.Elements.{All-map, All-nil}
@@ -15,10 +15,8 @@ use Rattle.mt_outside.specs.declared.disk.DiskError.{DiskError}
 use Rattle.mt_outside.specs.declared.disk.DiskError.TheVariants as failure
 use Rattle.mt_model.specs.History.{History, IsLegal}
 use Rattle.mt_model.specs.Outside.{Counts}
-use Rattle.mt_model.specs.Refusals.{is_damage}
 use Rattle.mt_model.specs.Script.{ScriptRun, ScriptReplies, OwnEntries}
 use Rattle.mt_model.specs.Session.{AddsNothing, SessionReplies}
-use Rattle.mt_model.proofs.Causes.{never_damaged}
 use Rattle.mt_model.proofs.Replies.{script_replies_run}
 use Rattle.mt_program.specs.declared.streams.ReadStop.{ReadStop}
 use Rattle.mt_program.specs.declared.streams.ReadStop.TheVariants as unread
@@ -30,7 +28,7 @@ use Rattle.mt_program.specs.declared.status.Status.TheVariants as status
 use Rattle.mt_program.specs.Answers.{Foresees, history}
 use Rattle.mt_program.specs.Endings.{IsAnswered, IsEarly, LeftBy, MetNoDamage, settled, status_of, status_of_error, status_of_stop}
 use Rattle.mt_program.specs.Headline.{CutByMemory, CutBySink, Leaves, WholeRunWith, ReadRun, RunWithFaults, NothingRan, RunBy, number_of}
-use Rattle.mt_program.specs.Serving.{Item, Ran, ServedAll, ServedFront, ServedCut, ServedBy}
+use Rattle.mt_program.specs.Serving.{Item, Ran, ServedAll, ServedFront, ServedCut}
 use Rattle.root_log.specs.declared.opening.Damage.{Damage}
 use Rattle.root_log.specs.declared.opening.OpenFault.{OpenFault}
 use Rattle.root_log.specs.declared.opening.OpenFault.TheVariants as fault
@@ -40,7 +38,6 @@ use Rattle.root_log.specs.Roots.{Stands}
 use Rattle.root_log.specs.Soundness.{RootStands}
 use Rattle.mt_program.specs.Damage.{WritesDamage, WritesFault, damage_line}
 use Rattle.mt_program.proofs.Accepting.{added_nothing, length_history}
-use Rattle.mt_program.proofs.Counting.{some_counts}
 
 get_seam : {X : Type 0} (xs : List X) (x : X) (ys : List X) → slice_get (xs ++ x ∷ ys) (length xs) ≡ Some x
 get_seam [] x ys = refl
@@ -200,21 +197,6 @@ module _ (n : Counts) (kept : Told) (script before : List ℕ) (opened disk arm 
   leaves_all risen (Ok ending.WriteFault) legal stands sound first s = left (CutBySink now_root n) (s.done ++ s.last ∷ []) (s.replies ++ s.reply ∷ []) s.ran (concat s.replies ++ s.part) s.wrote (cut_in_reply s)
   leaves_all risen (Err ended) legal stands sound first s =
       early_leaves n kept script before told new now_root legal s.0 (s.1 ∙ is) (subst (λ (o : Option root.Told). RootStands o (history kept)) (sym s.2) stands) ended first sound
-
--- ---- no damage is told over a root that stands for the list
-
-undamaged : (n : Counts) (h : History) (ss : List Item) (from to : ℕ) (replies : List (List ℕ)) → SessionReplies n h 0 ss from to replies → list_any is_damage replies ≡ false
-undamaged n h [] from to [] r = refl
-undamaged n h [] from to (x ∷ xs) r = absurd r
-undamaged n h (s ∷ ss) from to [] r = absurd r
-undamaged n h (s ∷ ss) from to (x ∷ xs) r = ap (λ b. b || list_any is_damage xs) (never_damaged n h 0 s from r.0 x r.1) ∙ undamaged n h ss r.0 to xs r.2
-
-pub sound_served : (kept : Told) (script : List ℕ) (opened disk arm : ℕ) (told : Option Told) (now_root : Option root.Told) (before after : Option (List ℕ)) (e : Ending) → ServedBy e kept script opened disk arm told now_root before after → MetNoDamage (Ok e)
-sound_served kept script opened disk arm told now_root before after (ending.Done tally) s =
-    let n = some_counts opened disk arm in
-    s.tells.damages ∙ undamaged n.0 (history s.ran.now) (statements_of script) (length kept.list) (length s.ran.now.list) s.replies (s.ran.run n.0 n.1)
-sound_served kept script opened disk arm told now_root before after ending.NoMemory s = tt
-sound_served kept script opened disk arm told now_root before after ending.WriteFault s = tt
 
 -- ---- which end has which status
 
@@ -442,7 +424,4 @@ writes_nothing fault.Disk ended failed failed_now before after sound wrote = wro
 -- ---- a root that stands for a list
 
 pub root_told : (o : Option root.Told) (told : root.Told) (h : History) → o ≡ Some told → Stands (root.names_of told) h → RootStands o h
-root_told o told h is stands = λ x at.
-    let both : Some told ≡ Some x = sym is ∙ at in
-    let same : told ≡ x = cc in
-    subst (λ (t : root.Told). Stands (root.names_of t) h) same stands
+root_told o told h is stands = (told, is, stands)

@@ -13,3 +13,4 @@ pub mod Selecting
 pub mod ServedScripts
 pub mod Standing
 pub mod Stopping
+pub mod Undamaged

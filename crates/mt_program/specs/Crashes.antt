@@ -17,3 +17,9 @@ pub record LeavesOfScript (source : Option (List ℕ)) (opened failed : ℕ) (di
   pub text : List ℕ
   pub text_is : (script : List ℕ) → source ≡ Some script → text ≡ script
   pub leaves : LeavesForCrashes (statements_of text) opened failed disk clock annals first start
+
+-- nothing was added to the disk and to the list, and nothing was written
+pub record IsAsBefore (disk disk_now : Option root.Told) (annals annals_now : Option Told) (written written_now : Option (List ℕ)) : Type 0 where
+  pub names : disk_now ≡ disk
+  pub list : annals_now ≡ annals
+  pub output : written_now ≡ written

@@ -3,14 +3,20 @@ use Rattle.std.specs.Prelude.{◌≡◌, ◌⊎◌, ℕ, List, [], ◌∷◌, �
 use Rattle.std.specs.Io.KnownBytes.{Appends}
 use Rattle.mt_values.specs.Printing.{escaped}
 use Rattle.mt_outside.specs.Causes.{Rose}
+use Rattle.mt_outside.specs.Disk.{Names}
 use Rattle.root_log.specs.declared.opening.Damage.{Damage}
 use Rattle.root_log.specs.declared.opening.Damage.TheVariants as damage
 use Rattle.root_log.specs.declared.opening.OpenFault.{OpenFault}
 use Rattle.root_log.specs.declared.opening.OpenFault.TheVariants as fault
+use Rattle.root_log.specs.Opening.{IsRootDamage}
 use Rattle.mt_program.specs.Names.{file_name}
 use Rattle.mt_program.specs.Streams.{AppendsFront}
 use Rattle.mt_program.specs.declared.status.Status.{Status}
 use Rattle.mt_program.specs.declared.status.Status.TheVariants as status
+
+-- a root of these names is damaged
+abbrev pub IsDamagedRoot : Names → Type 0
+IsDamagedRoot names = (damage : Damage) × IsRootDamage names damage
 
 -- what keeps a root from being opened, in words
 abbrev pub damage_text : Damage → List ℕ

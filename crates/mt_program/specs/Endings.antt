@@ -54,7 +54,7 @@ IsEarly status.Refused = ⊥
 IsEarly status.NotWords = ⊥
 IsEarly status.WriteFault = ⊥
 
--- over a root that stands for the keeper's list, nothing damaged was met
+-- nothing damaged was met
 abbrev pub MetNoDamage : Result Ending Status → Type 0
 MetNoDamage (Ok (ending.Done tally)) = tally.damaged ≡ false
 MetNoDamage (Ok ending.NoMemory) = Unit {0}

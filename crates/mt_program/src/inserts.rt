@@ -1,6 +1,5 @@
 // Running an INSERT.
-ghost use Rattle.std.specs.Prelude.{◌≡◌, ◌-◌, ◌<◌, ◌≤◌, ◌^◌, Ok, Some, true, IfOk, OnOk, List, ℕ, Result};
-ghost use Rattle.std.specs.List.{Contains as HasItem};
+ghost use Rattle.std.specs.Prelude.{◌≡◌, ◌∷◌, ◌++◌, [], ◌-◌, ◌<◌, ◌≤◌, ◌^◌, Ok, Some, true, false, IfOk, OnOk, List, ℕ, Result};
 ghost use Rattle.mt_values.specs.declared.statement.Cause.{Cause};
 ghost use Rattle.mt_values.specs.declared.statement.Statement.{Statement};
 ghost use Rattle.mt_values.specs.declared.statement.Statement.TheVariants as statement;
@@ -8,9 +7,10 @@ ghost use Rattle.mt_values.specs.Annals.{Told};
 ghost use Rattle.mt_values.specs.Grid.{AreRowsOf};
 ghost use Rattle.mt_outside.specs.DiskCauses.{HasDiskCause};
 ghost use Rattle.mt_model.specs.History.{IsTableSchema, column_types};
+ghost use Rattle.mt_model.specs.Refusals.{is_damage};
 ghost use Rattle.root_log.specs.Commits.{IsSealedOf};
 ghost use Rattle.root_log.specs.Crashes.{KeepsThroughCrashes};
-ghost use Rattle.root_log.specs.Soundness.{IsSound, NamesFitUnlessRisen};
+ghost use Rattle.root_log.specs.Soundness.{HasSoundParts, IsSound, NamesFitUnlessRisen};
 ghost use Rattle.root_log.specs.Stores.{CoreStands};
 ghost use Rattle.mt_program.specs.Answers.{Answers, history};
 
@@ -76,9 +76,12 @@ pub fn insert<D: Disk, A: Annals>(
     requires below { store.old.opened < 2 ^ 64 - 1 }
     ensures answers { (kept : Told) → A.told annals.old ≡ Some kept → D.Arm.tells arm.old ≡ true → CoreStands D.Arm.Dir.files (history kept) store.old
         → Answers D.Arm.Dir.files kept (Ok (statement.Insert text.now)) store.old.opened (D.failed disk.new) (D.Arm.failed arm.new) result store.new (A.told annals.new) (D.told disk.old) (D.told disk.new) }
-    ensures through_crashes { (statements : List (Result Statement Cause)) (first : Told) (start : ℕ) → D.Arm.tells arm.old ≡ true → HasItem statements (Ok (statement.Insert text.now))
-        → KeepsThroughCrashes D.Arm.Dir.files statements store.old (D.failed disk.old) (D.told disk.old) (D.clock disk.old) (A.told annals.old) first start
-        → KeepsThroughCrashes D.Arm.Dir.files statements store.new (D.failed disk.new) (D.told disk.new) (D.clock disk.new) (A.told annals.new) first start }
+    ensures through_crashes { (ran : List (Result Statement Cause)) (first : Told) (start : ℕ) → D.Arm.tells arm.old ≡ true
+        → KeepsThroughCrashes D.Arm.Dir.files ran store.old (D.failed disk.old) (D.told disk.old) (D.clock disk.old) (A.told annals.old) first start
+        → KeepsThroughCrashes D.Arm.Dir.files (ran ++ Ok (statement.Insert text.now) ∷ []) store.old (D.failed disk.old) (D.told disk.old) (D.clock disk.old) (A.told annals.old) first start
+        → KeepsThroughCrashes D.Arm.Dir.files (ran ++ Ok (statement.Insert text.now) ∷ []) store.new (D.failed disk.new) (D.told disk.new) (D.clock disk.new) (A.told annals.new) first start }
+    ensures undamaged { IfOk result (λ reply. is_damage reply.items ≡ false) }
+    ensures held { D.Arm.tells arm.old ≡ true → HasSoundParts D.Arm.Dir.files store.old → HasSoundParts D.Arm.Dir.files store.new }
     ensures names { NamesFitUnlessRisen (D.failed disk.new) (D.told disk.new) store.new }
     ensures store { IsSound store.new }
     ensures opened { store.new.opened ≡ store.old.opened }

@@ -1,18 +1,18 @@
 // Running a SELECT.
-ghost use Rattle.std.specs.Prelude.{◌≡◌, ◌+◌, ◌-◌, ◌≤◌, ◌<◌, ◌^◌, [], List, ℕ, Ok, Some, All, IfErr, IfOk, IfSome, OnOk, length, map};
+ghost use Rattle.std.specs.Prelude.{◌≡◌, ◌+◌, ◌-◌, ◌≤◌, ◌<◌, ◌^◌, [], List, ℕ, Ok, Some, true, false, All, IfErr, IfOk, IfSome, OnOk, length, map};
 ghost use Rattle.mt_values.specs.declared.schema.Schema.{Schema};
 ghost use Rattle.mt_values.specs.Annals.{Told};
 ghost use Rattle.mt_values.specs.Grid.{Cells, grid_of};
 ghost use Rattle.mt_values.specs.Values.{Row};
 ghost use Rattle.mt_outside.specs.Causes.{Rose};
-ghost use Rattle.mt_model.specs.Refusals.{refusal_line};
+ghost use Rattle.mt_model.specs.Refusals.{is_damage, refusal_line};
 ghost use Rattle.part_name.specs.PartNames.{part_text};
 ghost use Rattle.part_reader.specs.Faults.{IsNoDamage};
-ghost use Rattle.root_log.specs.Soundness.{IsSound};
+ghost use Rattle.root_log.specs.Soundness.{HasSoundParts, IsSound};
 ghost use Rattle.root_log.specs.Stores.{CoreStands};
 ghost use Rattle.mt_program.specs.Answers.{history};
 ghost use Rattle.mt_program.specs.Names.{file_name};
-ghost use Rattle.mt_program.specs.Selects.{ArePlacesOf, HaveTypes, PartsHold, Printed, Selected, joined, rows_kept, values_at};
+ghost use Rattle.mt_program.specs.Selects.{ArePlacesOf, ExplainsParts, HaveTypes, PartsHold, Printed, Selected, TellsOfDamage, joined, rows_kept, values_at};
 
 use crate::refusals::file_name;
 use crate::stopped::stage_line;
@@ -94,6 +94,7 @@ fn read_parts<R: Arm>(
     ensures many { OnOk result (length columns.new ≡ length columns.old) }
     ensures sound { (schema : Schema) (rows : List (List Row)) → PartsHold R.Dir.files schema parts.now rows → ArePlacesOf schema places.now
         → HaveTypes schema places.now columns.old → IfErr result (λ e. IsNoDamage e.1) }
+    ensures damaged { IfErr result (λ e. ExplainsParts R.Dir.files parts.now places.now (map (λ (c : Cells). c.col_type) columns.old) e.0 e.1) }
     ensures tells { R.tells arm.new ≡ R.tells arm.old }
     ensures later { R.failed arm.old ≤ R.failed arm.new }
     ensures fault { IfErr result (λ e. e.1 ≡ PartFault.Fault → Rose (R.failed arm.old) (R.failed arm.new)) }
@@ -141,6 +142,8 @@ pub fn select<R: Arm, G: Gate>(
 ) -> Result<Vec<u8>, NoMemory>
     requires { IsSound store.now }
     ensures answers { (kept : Told) → CoreStands R.Dir.files (history kept) store.now → IfOk result (λ reply. Selected kept text.now (R.failed arm.new) store.now.opened reply.items) }
+    ensures undamaged { HasSoundParts R.Dir.files store.now → IfOk result (λ reply. is_damage reply.items ≡ false) }
+    ensures damaged { IfOk result (λ reply. is_damage reply.items ≡ true → TellsOfDamage R.Dir.files store.now text.now reply.items) }
     ensures tells { R.tells arm.new ≡ R.tells arm.old }
     ensures later { R.failed arm.old ≤ R.failed arm.new }
 {

@@ -1,18 +1,19 @@
 // Answering the statements of a script, one after another.
-ghost use Rattle.std.specs.Prelude.{◌≡◌, ◌<◌, ◌≤◌, ◌-◌, ◌^◌, Some, true, false, IfOk, IfSome, OnOk, drop, length, List, ℕ, Result};
-ghost use Rattle.std.specs.List.{Contains as HasItem};
+ghost use Rattle.std.specs.Prelude.{◌≡◌, ◌∷◌, ◌++◌, [], ◌<◌, ◌≤◌, ◌-◌, ◌^◌, Ok, Some, true, false, IfOk, IfSome, OnOk, drop, length, List, ℕ, Result};
 ghost use Rattle.std.specs.Option.{option_map};
 ghost use Rattle.mt_values.specs.declared.statement.Cause.{Cause};
 ghost use Rattle.mt_values.specs.declared.statement.Statement.{Statement};
 ghost use Rattle.mt_values.specs.Annals.{Told};
 ghost use Rattle.mt_values.specs.Script.{next_statement, statements_of};
 ghost use Rattle.mt_outside.specs.Causes.{Rose};
+ghost use Rattle.mt_model.specs.Refusals.{is_damage};
 ghost use Rattle.mt_model.specs.Written.{IsWritten};
 ghost use Rattle.root_log.specs.Crashes.{KeepsThroughCrashes};
-ghost use Rattle.root_log.specs.Soundness.{IsSound, NamesFitUnlessRisen, RootStands};
+ghost use Rattle.root_log.specs.Soundness.{HasSoundParts, IsSound, NamesFitUnlessRisen, RootStands};
 ghost use Rattle.root_log.specs.Stores.{CoreStands};
 ghost use Rattle.mt_program.specs.Answers.{Answers, history};
 ghost use Rattle.mt_program.specs.Crashes.{LeavesForCrashes};
+ghost use Rattle.mt_program.specs.Endings.{MetNoDamage};
 ghost use Rattle.mt_program.specs.Serving.{ServedBy, tallied};
 
 use crate::creates::create;
@@ -109,9 +110,12 @@ pub fn answer<D: Disk, A: Annals, G: Gate>(
     requires below { store.old.opened < 2 ^ 64 - 1 }
     ensures answers { (kept : Told) → A.told annals.old ≡ Some kept → D.Arm.tells arm.old ≡ true → CoreStands D.Arm.Dir.files (history kept) store.old
         → Answers D.Arm.Dir.files kept statement store.old.opened (D.failed disk.new) (D.Arm.failed arm.new) result store.new (A.told annals.new) (D.told disk.old) (D.told disk.new) }
-    ensures through_crashes { (statements : List (Result Statement Cause)) (first : Told) (start : ℕ) → D.Arm.tells arm.old ≡ true → HasItem statements statement
-        → KeepsThroughCrashes D.Arm.Dir.files statements store.old (D.failed disk.old) (D.told disk.old) (D.clock disk.old) (A.told annals.old) first start
-        → KeepsThroughCrashes D.Arm.Dir.files statements store.new (D.failed disk.new) (D.told disk.new) (D.clock disk.new) (A.told annals.new) first start }
+    ensures through_crashes { (ran : List (Result Statement Cause)) (first : Told) (start : ℕ) → D.Arm.tells arm.old ≡ true
+        → KeepsThroughCrashes D.Arm.Dir.files ran store.old (D.failed disk.old) (D.told disk.old) (D.clock disk.old) (A.told annals.old) first start
+        → KeepsThroughCrashes D.Arm.Dir.files (ran ++ statement ∷ []) store.old (D.failed disk.old) (D.told disk.old) (D.clock disk.old) (A.told annals.old) first start
+        → KeepsThroughCrashes D.Arm.Dir.files (ran ++ statement ∷ []) store.new (D.failed disk.new) (D.told disk.new) (D.clock disk.new) (A.told annals.new) first start }
+    ensures undamaged { HasSoundParts D.Arm.Dir.files store.old → IfOk result (λ reply. is_damage reply.items ≡ false) }
+    ensures held { D.Arm.tells arm.old ≡ true → HasSoundParts D.Arm.Dir.files store.old → HasSoundParts D.Arm.Dir.files store.new }
     ensures names { NamesFitUnlessRisen (D.failed disk.new) (D.told disk.new) store.new }
     ensures store { IsSound store.new }
     ensures opened { store.new.opened ≡ store.old.opened }
@@ -145,8 +149,9 @@ pub fn serve<D: Disk, A: Annals, K: Sink, G: Gate>(
     ensures run { (kept : Told) → A.told annals.old ≡ Some kept → D.Arm.tells arm.old ≡ true → CoreStands D.Arm.Dir.files (history kept) store.old → RootStands (D.told disk.old) (history kept)
         → ServedBy result kept script.now store.old.opened (D.failed disk.new) (D.Arm.failed arm.new) (A.told annals.new) (D.told disk.new) (K.written sink.old) (K.written sink.new) }
     ensures through_crashes { (first : Told) (start : ℕ) → D.Arm.tells arm.old ≡ true
-        → KeepsThroughCrashes D.Arm.Dir.files (statements_of script.now) store.old (D.failed disk.old) (D.told disk.old) (D.clock disk.old) (A.told annals.old) first start
+        → KeepsThroughCrashes D.Arm.Dir.files [] store.old (D.failed disk.old) (D.told disk.old) (D.clock disk.old) (A.told annals.old) first start
         → LeavesForCrashes (statements_of script.now) store.old.opened (D.failed disk.new) (D.told disk.new) (D.clock disk.new) (A.told annals.new) first start }
+    ensures undamaged { D.Arm.tells arm.old ≡ true → HasSoundParts D.Arm.Dir.files store.old → MetNoDamage (Ok result) }
     ensures disk_later { D.failed disk.old ≤ D.failed disk.new }
     ensures arm_later { D.Arm.failed arm.old ≤ D.Arm.failed arm.new }
     ensures sink_later { K.failed sink.old ≤ K.failed sink.new }

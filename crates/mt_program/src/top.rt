@@ -1,5 +1,5 @@
 // All that the program does.
-ghost use Rattle.std.specs.Prelude.{◌≡◌, ◌⊎◌, ◌↔◌, ◌≤◌, ◌<◌, ◌^◌, ◌-◌, List, ℕ, [], Err, Ok, Some, true, false, IfErr, IsErrAnd, IsErrOf, OnOk, length};
+ghost use Rattle.std.specs.Prelude.{◌≡◌, ◌≢◌, ◌+◌, ◌⊎◌, ◌↔◌, ◌≤◌, ◌<◌, ◌^◌, ◌-◌, List, ℕ, [], Err, Ok, Some, true, false, IfErr, IsErrAnd, IsErrOf, OnOk, length};
 ghost use Rattle.mt_values.specs.Annals.{Told};
 ghost use Rattle.mt_outside.specs.Causes.{Rose};
 ghost use Rattle.mt_outside.specs.Disk as root;
@@ -7,14 +7,13 @@ ghost use Rattle.root_log.specs.declared.opening.Damage.{Damage as Damaged};
 ghost use Rattle.root_log.specs.Crashes.{AllStand, KeepsThroughCrashes};
 ghost use Rattle.root_log.specs.Opening.{IsNotDamaged, IsRootDamage};
 ghost use Rattle.root_log.specs.Roots.{Stands};
-ghost use Rattle.root_log.specs.Soundness.{IsSound, NamesFitUnlessRisen, RootStands};
+ghost use Rattle.root_log.specs.Soundness.{HasSoundParts, IsSound, NamesFitUnlessRisen, RootStands};
 ghost use Rattle.root_log.specs.Stores.{CoreStands};
 ghost use Rattle.mt_program.specs.Answers.{history};
-ghost use Rattle.mt_program.specs.Crashes.{LeavesOfScript};
-ghost use Rattle.mt_program.specs.Damage.{WritesDamage, WritesFault, damage_line};
+ghost use Rattle.mt_program.specs.Crashes.{IsAsBefore, LeavesOfScript};
+ghost use Rattle.mt_program.specs.Damage.{IsDamagedRoot, WritesDamage, WritesFault, damage_line};
 ghost use Rattle.mt_program.specs.Endings.{IsAnswered, IsEarly, LeftBy, MetNoDamage, status_of, status_of_error, status_of_stop};
 ghost use Rattle.mt_program.specs.Headline.{CutByMemory, CutBySink, Leaves, NotOpened, NothingRefuses, ReadRun, RunBy, RunWithFaults, Starts, WholeRunWith};
-ghost use Rattle.mt_program.specs.Serving.{Item};
 ghost use Rattle.mt_program.specs.Streams.{ConsumesMost};
 ghost use Rattle.mt_program.specs.Words.{is_command};
 
@@ -95,10 +94,9 @@ fn run_script<D: Disk, A: Annals, S: Source, K: Sink, G: Gate>(
     ensures leaves { (kept : Told) (script : List ℕ) → A.told annals.old ≡ Some kept → D.Arm.tells arm.old ≡ true → S.left source.old ≡ Some script
         → CoreStands D.Arm.Dir.files (history kept) store.old → RootStands (D.told disk.old) (history kept)
         → LeftBy result kept script store.old.opened (D.failed disk.new) (D.Arm.failed arm.new) (A.told annals.new) (D.told disk.old) (D.told disk.new) (K.written sink.old) (K.written sink.new) }
-    ensures sound { (kept : Told) → A.told annals.old ≡ Some kept → D.Arm.tells arm.old ≡ true → CoreStands D.Arm.Dir.files (history kept) store.old → RootStands (D.told disk.old) (history kept)
-        → MetNoDamage result }
+    ensures undamaged { D.Arm.tells arm.old ≡ true → HasSoundParts D.Arm.Dir.files store.old → MetNoDamage result }
     ensures through_crashes { (first : Told) (start : ℕ) → D.Arm.tells arm.old ≡ true
-        → ((statements : List Item) → KeepsThroughCrashes D.Arm.Dir.files statements store.old (D.failed disk.old) (D.told disk.old) (D.clock disk.old) (A.told annals.old) first start)
+        → KeepsThroughCrashes D.Arm.Dir.files [] store.old (D.failed disk.old) (D.told disk.old) (D.clock disk.old) (A.told annals.old) first start
         → LeavesOfScript (S.left source.old) store.old.opened (D.failed disk.new) (D.told disk.new) (D.clock disk.new) (A.told annals.new) first start }
     ensures whole { (script : List ℕ) → S.left source.old ≡ Some script → OnOk result ((length script < 2 ^ 40) × (S.left source.new ≡ Some [])) }
     ensures early { IfErr result IsEarly }
@@ -170,8 +168,12 @@ fn run_root<D: Disk, A: Annals, S: Source, K: Sink, G: Gate>(
         → IsErrAnd result (λ ended. WritesDamage ended (damage_line damage) (K.failed sink.old) (K.failed sink.new) (K.written sink.old) (K.written sink.new))
         × (D.told disk.new ≡ D.told disk.old) × (A.told annals.new ≡ A.told annals.old) }
     ensures sound { (kept : Told) (told : root.Told) → A.told annals.old ≡ Some kept → D.told disk.old ≡ Some told → Stands (root.names_of told) (history kept) → D.Arm.tells arm.old ≡ true → MetNoDamage result }
+    ensures damaged { (told : root.Told) → D.told disk.old ≡ Some told → D.Arm.tells arm.old ≡ true → MetNoDamage result ⊎ IsDamagedRoot (root.names_of told) }
     ensures crashes { (kept : Told) (told : root.Told) → A.told annals.old ≡ Some kept → D.told disk.old ≡ Some told → D.Arm.tells arm.old ≡ true → AllStand told (D.clock disk.old) (history kept)
         → LeavesOfScript (S.left source.old) opened (D.failed disk.new) (D.told disk.new) (D.clock disk.new) (A.told annals.new) kept (D.clock disk.old) }
+    ensures settles { (kept : Told) (told : root.Told) → A.told annals.old ≡ Some kept → D.told disk.old ≡ Some told → D.Arm.tells arm.old ≡ true → root.names_of told ≢ [] → AllStand told (D.clock disk.old + 1) (history kept)
+        → IsAsBefore (D.told disk.old) (D.told disk.new) (A.told annals.old) (A.told annals.new) (K.written sink.old) (K.written sink.new)
+        ⊎ LeavesOfScript (S.left source.old) opened (D.failed disk.new) (D.told disk.new) (D.clock disk.new) (A.told annals.new) kept (D.clock disk.old + 1) }
     ensures whole { (script : List ℕ) → S.left source.old ≡ Some script → OnOk result ((length script < 2 ^ 40) × (S.left source.new ≡ Some [])) }
     ensures early { IfErr result IsEarly }
     ensures read { IsErrOf result Status.ReadFault → Rose (S.failed source.old) (S.failed source.new) }
@@ -206,8 +208,12 @@ fn run_opened<D: Disk, A: Annals, S: Source, K: Sink, G: Gate>(
         → WritesDamage result (damage_line damage) (K.failed sink.old) (K.failed sink.new) (K.written sink.old) (K.written sink.new)
         × (D.told disk.new ≡ D.told disk.old) × (A.told annals.new ≡ A.told annals.old) }
     ensures sound { (kept : Told) (told : root.Told) → A.told annals.old ≡ Some kept → D.told disk.old ≡ Some told → Stands (root.names_of told) (history kept) → result ≡ Status.Damaged → ⊥ }
+    ensures damaged { (told : root.Told) → D.told disk.old ≡ Some told → result ≡ Status.Damaged → IsDamagedRoot (root.names_of told) }
     ensures crashes { (kept : Told) (told : root.Told) → A.told annals.old ≡ Some kept → D.told disk.old ≡ Some told → AllStand told (D.clock disk.old) (history kept)
         → LeavesOfScript (S.left source.old) (D.failed disk.old) (D.failed disk.new) (D.told disk.new) (D.clock disk.new) (A.told annals.new) kept (D.clock disk.old) }
+    ensures settles { (kept : Told) (told : root.Told) → A.told annals.old ≡ Some kept → D.told disk.old ≡ Some told → root.names_of told ≢ [] → AllStand told (D.clock disk.old + 1) (history kept)
+        → IsAsBefore (D.told disk.old) (D.told disk.new) (A.told annals.old) (A.told annals.new) (K.written sink.old) (K.written sink.new)
+        ⊎ LeavesOfScript (S.left source.old) (D.failed disk.old) (D.failed disk.new) (D.told disk.new) (D.clock disk.new) (A.told annals.new) kept (D.clock disk.old + 1) }
     ensures full { D.failed disk.old ≡ 2 ^ 64 - 1 → result ≡ Status.DiskFault }
     ensures whole { (script : List ℕ) → S.left source.old ≡ Some script → IsAnswered result → (length script < 2 ^ 40) × (S.left source.new ≡ Some []) }
     ensures words { result ≡ Status.NotWords → ⊥ }
@@ -265,6 +271,9 @@ pub fn run<R: Threads + Wait + Sync, D: Disk, A: Annals, S: Source, K: Sink, G: 
         → result.status ≡ 8 → Leaves (ReadRun (S.left source.new) script (D.told result.disk) (record { opened = D.failed disk; ended = D.failed result.disk })) kept script before (A.told result.annals) (K.written sink.new) }
     ensures crashes { (kept : Told) (told : root.Told) → A.told annals ≡ Some kept → D.told disk ≡ Some told → AllStand told (D.clock disk) (history kept)
         → LeavesOfScript (S.left source.old) (D.failed disk) (D.failed result.disk) (D.told result.disk) (D.clock result.disk) (A.told result.annals) kept (D.clock disk) }
+    ensures settles { (kept : Told) (told : root.Told) → A.told annals ≡ Some kept → D.told disk ≡ Some told → root.names_of told ≢ [] → AllStand told (D.clock disk + 1) (history kept)
+        → IsAsBefore (D.told disk) (D.told result.disk) (A.told annals) (A.told result.annals) (K.written sink.old) (K.written sink.new)
+        ⊎ LeavesOfScript (S.left source.old) (D.failed disk) (D.failed result.disk) (D.told result.disk) (D.clock result.disk) (A.told result.annals) kept (D.clock disk + 1) }
     ensures complete { (kept now : Told) (script before : List ℕ) → Starts (D.told disk) (A.told annals) (S.left source.old) (K.written sink.old) kept script before
         → A.told result.annals ≡ Some now → NothingRefuses (is_command words.now) script (history now) (length kept.list)
         → (Rose (S.failed source.old) (S.failed source.new) → ⊥) → (Rose (K.failed sink.old) (K.failed sink.new) → ⊥) → (Rose (D.failed disk) (D.failed result.disk) → ⊥)
@@ -273,6 +282,7 @@ pub fn run<R: Threads + Wait + Sync, D: Disk, A: Annals, S: Source, K: Sink, G: 
         → NotOpened result.status (damage_line damage) (K.failed sink.old) (K.failed sink.new) (K.written sink.old) (K.written sink.new)
         × (D.told result.disk ≡ D.told disk) × (A.told result.annals ≡ A.told annals) }
     ensures sound { (kept : Told) (told : root.Told) → A.told annals ≡ Some kept → D.told disk ≡ Some told → Stands (root.names_of told) (history kept) → result.status ≡ 7 → ⊥ }
+    ensures damaged { (told : root.Told) → D.told disk ≡ Some told → result.status ≡ 7 → IsDamagedRoot (root.names_of told) }
     ensures number { result.status ≤ 8 }
     ensures full { D.failed disk ≡ 2 ^ 64 - 1 → (result.status ≡ 2) ⊎ (result.status ≡ 5) }
     ensures words { (result.status ≡ 2) ↔ (is_command words.now ≡ false) }

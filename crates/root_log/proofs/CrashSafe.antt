@@ -9,9 +9,9 @@ use Rattle.std.proofs.lemmas.Option.{slice_get_within}
 use Rattle.mt_values.specs.declared.annals.Noted.{Noted}
 use Rattle.mt_values.specs.declared.command.Entry.{Entry}
 use Rattle.mt_outside.specs.declared.disk.Change.TheVariants.{Publish}
-use Rattle.mt_outside.specs.Disk.{Image, MayBecome, Names, Since, Survive, Told, WithPublished, at_clock, names_of, with_change}
+use Rattle.mt_outside.specs.Disk.{Image, LeftAt, MayBecome, MayLead, Names, Since, Survive, Told, WithPublished, at_clock, names_after, names_of, with_change}
 use Rattle.mt_outside.specs.Files.{Files}
-use Rattle.mt_outside.proofs.Changes.{at_clock-none, before_clock-all, image_from_left, left_at_all, names_after_last, since-sync, since-with_change, survive_same}
+use Rattle.mt_outside.proofs.Changes.{at_clock-none, before_clock-all, before_clock-with_change, image_from_left, left_at_all, names_after_last, since-sync, since-with_change, survive_same}
 use Rattle.mt_outside.proofs.Crashes.{image_as_read, image_published, image_synced, stamped_by, stamped_change, stamped_sync, survive_inserted}
 use Rattle.mt_model.specs.History.{History}
 use Rattle.root_log.specs.ByteOrder.{AreInByteOrder}
@@ -75,6 +75,7 @@ pub safe_begun : (told : Told) (clock : ℕ) (list : List Noted) (begun : Option
 safe_begun told clock list begun first start safe = record {
   stamped = safe.stamped;
   begins = safe.begins;
+  at_start = safe.at_start;
   past = safe.past;
   images = λ m mark names behind left. begun_too m list begun names (safe.images m mark names behind left);
 }
@@ -84,6 +85,7 @@ pub safe_at_start : (told : Told) (clock : ℕ) (list : List Noted) → AllStand
 safe_at_start told clock list all = record {
   stamped = all.stamped;
   begins = ([], sym (append-nil list));
+  at_start = λ names left. all.images names (image_from_left told clock 0 names left);
   past = λ m mark behind. elim behind [
     | inl first ↦ (let is = first.1 in omega (arith, is))
     | inr later ↦ (let within = slice_get_within list later.0 later.1 later.4 in let base = later.2 in absurd (omega (arith, within, base)))
@@ -127,6 +129,7 @@ module _ (told : Told) (clock : ℕ) (list first : List Noted) (start : ℕ) (sa
   safe_synced = record {
     stamped = stamped_sync told clock safe.stamped;
     begins = safe.begins;
+    at_start = safe.at_start;
     past = λ m mark behind. let past = safe.past m mark behind in omega (arith, past);
     images = λ m mark names behind left. elim (since-sync told clock mark names left) [
       | inl old ↦ safe.images m mark names behind old
@@ -145,11 +148,18 @@ module _ (told : Told) (clock : ℕ) (list first : List Noted) (start : ℕ) (sa
         subst (λ (ns : Names). Stands ns (entries_of list ++ e ∷ [])) (sym w.is)
         (grows w.old w.left (image_rise told clock w.old w.before) (safe_now w.old w.before) w.become)
 
+    -- what was settled at the start is so still
+    same_start : (names : Names) → LeftAt published start 0 names → Stands names (entries_of first)
+    same_start names left =
+        let past : start ≤ clock = safe.past base start (inl (refl, refl)) in
+        safe.at_start names (subst (λ (settled : Told). MayLead (names_after [] settled) [] names) (before_clock-with_change told start clock (Publish name files) past) left)
+
     -- the command is begun
     pub safe_published : IsCrashSafe published clock list (Some e) first start
     safe_published = record {
       stamped = stamped_change told clock (Publish name files) safe.stamped;
       begins = safe.begins;
+      at_start = same_start;
       past = safe.past;
       images = λ m mark names behind left. elim (since-with_change told clock mark (Publish name files) names left) [
         | inl old ↦ begun_too m list (Some e) names (safe.images m mark names behind old)
@@ -215,6 +225,7 @@ module _ (told : Told) (clock : ℕ) (list first : List Noted) (start : ℕ) (sa
     safe_noted = record {
       stamped = stamped_sync published clock (stamped_change told clock (Publish name files) safe.stamped);
       begins = (safe.begins.0 ++ last ∷ [], ap (λ (ns : List Noted). ns ++ last ∷ []) safe.begins.1 ∙ append_assoc first safe.begins.0 (last ∷ []));
+      at_start = same_start;
       past = λ m mark behind. elim (behind_last m mark behind) [
         | inl old ↦ (let past = safe.past m mark old in omega (arith, past))
         | inr new ↦ (let is = new.1 in omega (arith, is))

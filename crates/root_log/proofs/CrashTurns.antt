@@ -1,10 +1,11 @@
 -- What a crash leaves behind the turn of a command: one that was committed, one whose commit failed, and one that was refused.
-use Rattle.std.proofs.Common.{◌≡◌, ◌≢◌, ◌⊎◌, inl, inr, ℕ, ◌+◌, ◌-◌, ◌<◌, ◌≤◌, ◌^◌, List, [], ◌∷◌, ◌++◌, Option, Some, Result, refl, sym, ap, ◌∙◌, subst, arith}
+use Rattle.std.proofs.Common.{◌≡◌, ◌≢◌, ◌⊎◌, inl, inr, ℕ, ◌+◌, ◌-◌, ◌<◌, ◌≤◌, ◌^◌, List, [], ◌∷◌, ◌++◌, Option, Some, Result, refl, sym, ap, ◌∙◌, subst, arith, append_assoc}
 use Rattle.std.specs.BTreeMap.{insert_entry}
 use Rattle.std.specs.Cmp.Lexicographic.{slice_cmp}
 use Rattle.std.specs.Option.{option_map}
 use Rattle.std.specs.Ordering.{nat_cmp}
 use Rattle.std.proofs.lemmas.List.{map_push}
+use Rattle.std.proofs.lemmas.List.Elements.{All-push}
 use Rattle.mt_values.specs.declared.annals.Noted.{Noted}
 use Rattle.mt_values.specs.declared.command.Entry.{Entry}
 use Rattle.mt_values.specs.declared.statement.Cause.{Cause}
@@ -20,9 +21,10 @@ use Rattle.root_log.specs.declared.commits.Refused.TheVariants as refused
 use Rattle.root_log.specs.declared.store.CoreStore.{CoreStore}
 use Rattle.root_log.specs.ByteOrder.{AreInByteOrder}
 use Rattle.root_log.specs.Commits.{SameStore}
-use Rattle.root_log.specs.Crashes.{AreCrashSafe, AreCalm, IsCommandOf, KeepsThroughCrashes, StandsForKept, entries_of}
+use Rattle.root_log.specs.Crashes.{AreCrashSafe, AreCalm, IsCommandBehind, IsCommandOf, KeepsThroughCrashes, StandsForKept, entries_of}
 use Rattle.root_log.specs.Roots.{Stands}
 use Rattle.root_log.specs.Stores.{CoreStands}
+use Rattle.root_log.proofs.CrashDone.{command_last, commands_more, safe_more}
 use Rattle.root_log.proofs.CrashSafe.{safe_begun, safe_noted, safe_published}
 use Rattle.root_log.proofs.SameStores.{stands_same}
 
@@ -35,25 +37,28 @@ unrisen (refused.Stopped o n) opened before after told now low below later rose 
 unrisen refused.Exists opened before after told now low below later rose unchanged is = unchanged (λ e. cc)
 unrisen (refused.Limit l) opened before after told now low below later rose unchanged is = unchanged (λ e. cc)
 
-module _ {F : Type 0} (files_of : F → Option Files) (statements : List (Result Statement Cause)) (old new : CoreStore F) (first : keeper.Told) (start : ℕ) where
+module _ {F : Type 0} (files_of : F → Option Files) (ran : List (Result Statement Cause)) (statement : Result Statement Cause) (old new : CoreStore F) (first : keeper.Told) (start : ℕ) where
+  abbrev behind : List (Result Statement Cause)
+  behind = ran ++ statement ∷ []
+
   -- nothing was changed
   pub kept_untouched : (failed clock now : ℕ) (before after : Option Told) (annals later : Option keeper.Told) → SameStore old new → after ≡ before → now ≡ clock → later ≡ annals
-      → KeepsThroughCrashes files_of statements old failed before clock annals first start → KeepsThroughCrashes files_of statements new failed after now later first start
+      → KeepsThroughCrashes files_of ran old failed before clock annals first start → KeepsThroughCrashes files_of behind new failed after now later first start
   kept_untouched failed clock now before after annals later same disk mark list keeps =
-      let moved : KeepsThroughCrashes files_of statements new failed before clock annals first start =
+      let moved : KeepsThroughCrashes files_of behind new failed before clock annals first start =
       record {
-        safe = keeps.safe;
+        safe = safe_more ran (statement ∷ []) keeps.safe;
         calm = λ is.
             let was = keeps.calm (is ∙ same.opened_is) in
             (was.0, λ kept there. stands_same files_of (entries_of kept.list) old new (was.1 kept there) same);
       } in
-      subst (λ (t : Option Told). KeepsThroughCrashes files_of statements new failed t now later first start) (sym disk)
-      (subst (λ (c : ℕ). KeepsThroughCrashes files_of statements new failed before c later first start) (sym mark)
-      (subst (λ (a : Option keeper.Told). KeepsThroughCrashes files_of statements new failed before clock a first start) (sym list) moved))
+      subst (λ (t : Option Told). KeepsThroughCrashes files_of behind new failed t now later first start) (sym disk)
+      (subst (λ (c : ℕ). KeepsThroughCrashes files_of behind new failed before c later first start) (sym mark)
+      (subst (λ (a : Option keeper.Told). KeepsThroughCrashes files_of behind new failed before clock a first start) (sym list) moved))
 
   -- a turn published sealed files whose command makes of each root that stands for the list one that stands for it with the command
   module _ (clock : ℕ) (name : List ℕ) (sealed : Option Files) (files : Files) (e : Entry) (before after : Option Told) (annals later : Option keeper.Told) (sealed_is : sealed ≡ Some files)
-      (s : AreCalm before clock annals first start)
+      (was : AreCrashSafe ran before clock annals first start) (s : AreCalm before clock annals first start)
       (grows : (old : Names) (left : Files) → AreInByteOrder old → Stands old (entries_of s.kept.list) → MayBecome files left → Stands (insert_entry (slice_cmp nat_cmp) old name left) (entries_of s.kept.list ++ e ∷ []))
     where
       abbrev published : Told
@@ -85,12 +90,21 @@ module _ {F : Type 0} (files_of : F → Option Files) (statements : List (Result
           subst (λ (k : keeper.Told). CoreStands files_of (entries_of k.list) new) is
           (subst (λ h. CoreStands files_of h new) (sym (map_push (λ (n : Noted). n.entry) s.kept.list (record { entry = e; mark = clock + 1 }))) stands)
 
-      pub kept_committed : (failed now : ℕ) → now ≡ clock + 1 → after ≡ put clock name sealed before → later ≡ option_map (λ (t : keeper.Told). noted now (began e t)) annals
-          → CoreStands files_of (entries_of s.kept.list ++ e ∷ []) new → KeepsThroughCrashes files_of statements new failed after now later first start
-      kept_committed failed now raised put_is notes stands =
+      -- the keeper tells one list
+      one_kept : was.kept ≡ s.kept
+      one_kept = let both : Some was.kept ≡ Some s.kept = sym was.annals_is ∙ s.annals_is in cc
+
+      list_was : s.kept.list ≡ first.list ++ was.more
+      list_was = ap (λ (k : keeper.Told). k.list) (sym one_kept) ∙ was.more_is
+
+      pub kept_committed : (failed now : ℕ) → IsCommandOf (statement ∷ []) e → now ≡ clock + 1 → after ≡ put clock name sealed before → later ≡ option_map (λ (t : keeper.Told). noted now (began e t)) annals
+          → CoreStands files_of (entries_of s.kept.list ++ e ∷ []) new → KeepsThroughCrashes files_of behind new failed after now later first start
+      unfolding committed_settled
+      kept_committed failed now of raised put_is notes stands =
+          let last : Noted = record { entry = e; mark = clock + 1 } in
           let notes_then = subst (λ (m : ℕ). later ≡ option_map (λ (t : keeper.Told). noted m (began e t)) annals) raised notes in
           let settled = committed_settled put_is notes_then in
-          let keeps : KeepsThroughCrashes files_of statements new failed after (clock + 1) later first start =
+          let keeps : KeepsThroughCrashes files_of behind new failed after (clock + 1) later first start =
           record {
             safe = record {
               told = settled.told;
@@ -98,23 +112,29 @@ module _ {F : Type 0} (files_of : F → Option Files) (statements : List (Result
               disk_is = settled.disk_is;
               annals_is = settled.annals_is;
               safe = safe_begun settled.told (clock + 1) settled.kept.list settled.kept.begun first.list start settled.settled;
+              more = was.more ++ last ∷ [];
+              more_is = ap (λ (ns : List Noted). ns ++ last ∷ []) list_was ∙ append_assoc first.list was.more (last ∷ []);
+              added = All-push (λ (n : Noted). IsCommandOf behind n.entry) was.more last (commands_more ran (statement ∷ []) was.more was.added) (command_last ran statement e of);
               begun = λ x is. let none = is in cc;
             };
             calm = λ _. (settled, committed_stands notes_then stands);
           } in
-          subst (λ (c : ℕ). KeepsThroughCrashes files_of statements new failed after c later first start) (sym raised) keeps
+          subst (λ (c : ℕ). KeepsThroughCrashes files_of behind new failed after c later first start) (sym raised) keeps
 
       -- its commit failed: its name is there or not
-      is_begun : IsCommandOf statements e → (x : Entry) → Some e ≡ Some x → (first.begun ≡ Some x) ⊎ IsCommandOf statements x
-      is_begun of x is = let same : e ≡ x = cc in inr (subst (IsCommandOf statements) same of)
+      is_begun : IsCommandOf (statement ∷ []) e → (x : Entry) → Some e ≡ Some x → (first.begun ≡ Some x) ⊎ IsCommandBehind behind was.more x
+      is_begun of x is = let same : e ≡ x = cc in inr (ran, [], statement, refl, subst (IsCommandOf (statement ∷ [])) same of, was.added)
 
-      failed_safe : IsCommandOf statements e → MayPut clock name sealed before after → later ≡ option_map (began e) annals → AreCrashSafe statements after clock later first start
+      failed_safe : IsCommandOf (statement ∷ []) e → MayPut clock name sealed before after → later ≡ option_map (began e) annals → AreCrashSafe behind after clock later first start
       failed_safe of (inl same) begun = record {
         told = s.told;
         kept = began e s.kept;
         disk_is = same ∙ s.disk_is;
         annals_is = told_later begun;
         safe = safe_begun s.told clock s.kept.list (Some e) first.list start s.settled;
+        more = was.more;
+        more_is = list_was;
+        added = commands_more ran (statement ∷ []) was.more was.added;
         begun = is_begun of;
       }
       failed_safe of (inr put_is) begun = record {
@@ -123,14 +143,17 @@ module _ {F : Type 0} (files_of : F → Option Files) (statements : List (Result
         disk_is = told_after put_is;
         annals_is = told_later begun;
         safe = safe_published s.told clock s.kept.list first.list start s.settled name files e grows;
+        more = was.more;
+        more_is = list_was;
+        added = commands_more ran (statement ∷ []) was.more was.added;
         begun = is_begun of;
       }
 
       -- and where the disk's count has not risen, it is not
-      pub kept_failed : (failed now : ℕ) → IsCommandOf statements e → now ≡ clock → MayPut clock name sealed before after → later ≡ option_map (began e) annals → SameStore old new → StandsForKept files_of annals old → (failed ≡ new.opened → after ≡ before)
-          → KeepsThroughCrashes files_of statements new failed after now later first start
+      pub kept_failed : (failed now : ℕ) → IsCommandOf (statement ∷ []) e → now ≡ clock → MayPut clock name sealed before after → later ≡ option_map (began e) annals → SameStore old new → StandsForKept files_of annals old → (failed ≡ new.opened → after ≡ before)
+          → KeepsThroughCrashes files_of behind new failed after now later first start
       kept_failed failed now of stays may begun same stands unless =
-          let keeps : KeepsThroughCrashes files_of statements new failed after clock later first start =
+          let keeps : KeepsThroughCrashes files_of behind new failed after clock later first start =
           record {
             safe = failed_safe of may begun;
             calm = λ is. (
@@ -141,4 +164,4 @@ module _ {F : Type 0} (files_of : F → Option Files) (statements : List (Result
                   subst (λ (k : keeper.Told). CoreStands files_of (entries_of k.list) new) kept_is (stands_same files_of (entries_of s.kept.list) old new (stands s.kept s.annals_is) same)),
             );
           } in
-          subst (λ (c : ℕ). KeepsThroughCrashes files_of statements new failed after c later first start) (sym stays) keeps
+          subst (λ (c : ℕ). KeepsThroughCrashes files_of behind new failed after c later first start) (sym stays) keeps

@@ -5,6 +5,7 @@ pub mod Checked
 pub mod Clear
 pub mod Counted
 pub mod CrashCommits
+pub mod CrashDone
 pub mod CrashNames
 pub mod CrashSafe
 pub mod CrashTurns
@@ -15,6 +16,7 @@ pub mod FirstNames
 pub mod Fitting
 pub mod FreeNames
 pub mod Growing
+pub mod Holding
 pub mod Inserted
 pub mod Items
 pub mod KeptNames

@@ -9,7 +9,8 @@ use Rattle.mt_values.specs.declared.command.Create.{Create}
 use Rattle.mt_values.specs.declared.manifest.Loaded.{Loaded}
 use Rattle.mt_values.specs.Grid.{Grid}
 use Rattle.mt_values.specs.RootNames.{create_name, part_name}
-use Rattle.mt_outside.specs.Disk.{Names, Told, files_at, names_of, put}
+use Rattle.mt_outside.specs.declared.disk.Change.TheVariants.{Publish}
+use Rattle.mt_outside.specs.Disk.{Names, Told, files_at, names_of, put, with_change}
 use Rattle.mt_outside.specs.Files.{Files}
 use Rattle.mt_model.specs.History.{History, IsInsertInto, IsTableSchema, creates, schema_of}
 use Rattle.part_name.specs.PartNames.{part_text}
@@ -32,27 +33,40 @@ module _ {F : Type 0} (files_of : F → Option Files) (store : CoreStore F) (h :
   -- the entry of a new table was published
   pub root_made : (c : Create) (sealed : Option Files) (files : Files) → table_at store c.table ≡ None → length store.tables.entries < 64 → IsTableSchema c.schema → IsTrue (is_table c.table)
       → sealed ≡ Some files → EntryHolds c.table c.schema files → after ≡ put clock (create_name c.table) sealed before → RootStands after (entered h session (command.Create c))
-  root_made c sealed files absent few sound named is holds put_is = λ x told.
+  root_made c sealed files absent few sound named is holds put_is =
+      let x = with_change clock (Publish (create_name c.table) files) stands.0 in
+      let told : after ≡ Some x = put_is ∙ (ap (λ (o : Option Files). put clock (create_name c.table) o before) is ∙ ap (put clock (create_name c.table) (Some files)) stands.1) in
       let from = put_told clock (create_name c.table) sealed before x (sym put_is ∙ told) in
+      let there : Stands (names_of from.0) h = subst (λ (t : Told). Stands (names_of t) h) (one_some before stands.0 from.0 stands.1 from.2) stands.2 in
       let none : schema_of c.table h ≡ None = sym (s.tables c.table) ∙ ap (option_map (λ (t : Table). t.schema)) absent in
       let count : creates h < 65536 = (let known = s.count in omega (arith, few, known)) in
-      let files_are : files ≡ from.1 = one_some sealed files from.1 is from.3 in
-      subst (λ (names : Names). Stands names (entered h session (command.Create c))) (sym from.4)
-      (stands_with_table (names_of from.0) h session c from.1 (told_rise from.0) (stands from.0 from.2) none count sound named
-      (subst (EntryHolds c.table c.schema) files_are holds) (entry_free store from.0 (fit from.0 from.2) c.table absent))
+      let files_are : files ≡ from.1 = one_some sealed files from.1 is from.3 in (
+        x,
+        told,
+        subst (λ (names : Names). Stands names (entered h session (command.Create c))) (sym from.4)
+            (stands_with_table (names_of from.0) h session c from.1 (told_rise from.0) there none count sound named
+            (subst (EntryHolds c.table c.schema) files_are holds) (entry_free store from.0 (fit from.0 from.2) c.table absent)),
+      )
 
   -- a new part was
   pub root_added : (table : List ℕ) (t : Table) (block : Grid) (sealed : Option Files) (loaded : Loaded) → table_at store table ≡ Some t → t.drawn < 4294967295 → IsInsertInto t.schema (insert_into table block)
       → IsSealedOf t.schema block sealed loaded → after ≡ put clock (part_name table (part_text (fresh_part (t.drawn + 1)))) sealed before
       → RootStands after (entered h session (insert_of_block table block))
-  root_added table t block sealed loaded here small rows is put_is = λ x told.
+  root_added table t block sealed loaded here small rows is put_is =
+      let name = part_name table (part_text (fresh_part (t.drawn + 1))) in
+      let x = with_change clock (Publish name is.files) stands.0 in
+      let told : after ≡ Some x = put_is ∙ (ap (λ (o : Option Files). put clock name o before) is.sealed_are ∙ ap (put clock name (Some is.files)) stands.1) in
+      let there = λ (f : Told) (known : before ≡ Some f). subst (λ (t : Told). Stands (names_of t) h) (one_some before stands.0 f stands.1 known) stands.2 in
       let from = put_told clock (part_name table (part_text (fresh_part (t.drawn + 1)))) sealed before x (sym put_is ∙ told) in
       let known : schema_of table h ≡ Some t.schema = sym (s.tables table) ∙ ap (option_map (λ (u : Table). u.schema)) here in
       let number : t.drawn + 1 ≡ next_number table h = ap (λ n. n + 1) (s.drawn table t here) in
       let files_are : is.files ≡ from.1 = one_some sealed is.files from.1 is.sealed_are from.3 in
-      let free = part_free store from.0 (fit from.0 from.2) table t (fresh_part (t.drawn + 1)) here (fresh_named t.drawn small) (omega arith) in
-      subst (λ (names : Names). Stands names (entered h session (insert_of_block table block)))
-      (sym (from.4 ∙ ap (λ (n : ℕ). insert_entry (slice_cmp nat_cmp) (names_of from.0) (part_name table (part_text (fresh_part n))) from.1) number))
-      (stands_with_part (names_of from.0) h session (insert_into table block) t.schema from.1 (told_rise from.0) (stands from.0 from.2) known rows (omega (arith, number, small))
-      (subst (FolderHolds t.schema (part_rows t.schema block)) files_are is.holds)
-      (subst (λ (n : ℕ). files_at (part_name table (part_text (fresh_part n))) (names_of from.0) ≡ None) number free))
+      let free = part_free store from.0 (fit from.0 from.2) table t (fresh_part (t.drawn + 1)) here (fresh_named t.drawn small) (omega arith) in (
+        x,
+        told,
+        subst (λ (names : Names). Stands names (entered h session (insert_of_block table block)))
+            (sym (from.4 ∙ ap (λ (n : ℕ). insert_entry (slice_cmp nat_cmp) (names_of from.0) (part_name table (part_text (fresh_part n))) from.1) number))
+            (stands_with_part (names_of from.0) h session (insert_into table block) t.schema from.1 (told_rise from.0) (there from.0 from.2) known rows (omega (arith, number, small))
+            (subst (FolderHolds t.schema (part_rows t.schema block)) files_are is.holds)
+            (subst (λ (n : ℕ). files_at (part_name table (part_text (fresh_part n))) (names_of from.0) ≡ None) number free)),
+      )

@@ -1,5 +1,5 @@
 -- What a crash leaves of a root while commands are added to it (docs/definitions.md, "Crashes").
-use Rattle.std.specs.Prelude.{◌≡◌, ◌⊎◌, ℕ, ◌+◌, ◌≤◌, List, [], ◌∷◌, ◌++◌, length, map, take, slice_get, Option, Some, None, Result, Ok}
+use Rattle.std.specs.Prelude.{◌≡◌, ◌⊎◌, ℕ, ◌+◌, ◌≤◌, List, [], ◌∷◌, ◌++◌, length, map, take, slice_get, All, Option, Some, None, Result, Ok}
 use Rattle.std.specs.List.{Contains as HasItem}
 use Rattle.std.specs.Option.{ForSome}
 use Rattle.mt_values.specs.declared.annals.Noted.{Noted}
@@ -12,7 +12,7 @@ use Rattle.mt_values.specs.declared.statement.Statement.{Statement}
 use Rattle.mt_values.specs.declared.statement.Statement.TheVariants as statement
 use Rattle.mt_values.specs.Values.{Row}
 use Rattle.mt_values.specs.Annals as keeper
-use Rattle.mt_outside.specs.Disk.{Image, IsStamped, Names, Since, Told}
+use Rattle.mt_outside.specs.Disk.{Image, IsStamped, LeftAt, Names, Since, Told}
 use Rattle.mt_outside.specs.Files.{Files}
 use Rattle.mt_model.specs.History.{History}
 use Rattle.mt_model.specs.Reply.{rows_for, schema_of_text}
@@ -50,11 +50,12 @@ IsMarkBehind base start list m mark =
 abbrev pub Begins : List Noted → List Noted → Type 0
 Begins first list = (more : List Noted) × (list ≡ first ++ more)
 
--- A list began with some entries when the mark stood at a start. Whatever a crash leaves at a moment when the first m entries were noted
--- holds them: it stands for the first entries, these or more, or for all of them and the one that is begun.
+-- A list began with some entries when the mark stood at a start. What is settled by then stands for these entries. Whatever a crash leaves at
+-- a moment when the first m entries were noted holds them: it stands for the first entries, these or more, or for all of them and the one that is begun.
 pub record IsCrashSafe (told : Told) (clock : ℕ) (list : List Noted) (begun : Option Entry) (first : List Noted) (start : ℕ) : Type 0 where
   pub stamped : IsStamped clock told
   pub begins : Begins first list
+  pub at_start : (names : Names) → LeftAt told start 0 names → Stands names (entries_of first)
   pub past : (m mark : ℕ) → IsMarkBehind (length first) start list m mark → mark ≤ clock
   pub images : (m mark : ℕ) (names : Names) → IsMarkBehind (length first) start list m mark → Since told clock mark names → HoldsFirst m list begun names
 
@@ -69,14 +70,27 @@ IsCommandBy (statement.Select s) c = ⊥
 abbrev pub IsCommandOf : List (Result Statement Cause) → Entry → Type 0
 IsCommandOf statements e = (e.session ≡ 0) × ((s : Statement) × HasItem statements (Ok s) × IsCommandBy s e.command)
 
--- a disk and a keeper tell, and it is so of what they tell; what is begun was begun at the start, or is the command of one of the statements
-pub record AreCrashSafe (statements : List (Result Statement Cause)) (disk : Option Told) (clock : ℕ) (annals : Option keeper.Told) (first : keeper.Told) (start : ℕ) : Type 0 where
+-- these entries are commands of statements
+abbrev pub AreCommandsOf : List (Result Statement Cause) → List Noted → Type 0
+AreCommandsOf statements more = All (λ (n : Noted). IsCommandOf statements n.entry) more
+
+-- it is the command of a statement behind those whose commands these entries are
+abbrev pub IsCommandBehind : List (Result Statement Cause) → List Noted → Entry → Type 0
+IsCommandBehind statements more e =
+    (before after : List (Result Statement Cause)) × (s : Result Statement Cause) × (statements ≡ before ++ s ∷ after) × IsCommandOf (s ∷ []) e × AreCommandsOf before more
+
+-- A disk and a keeper tell, and it is so of what they tell. The entries past those at the start are commands of the statements that ran. What is
+-- begun was begun at the start, or is the command of a statement behind theirs.
+pub record AreCrashSafe (ran : List (Result Statement Cause)) (disk : Option Told) (clock : ℕ) (annals : Option keeper.Told) (first : keeper.Told) (start : ℕ) : Type 0 where
   pub told : Told
   pub kept : keeper.Told
   pub disk_is : disk ≡ Some told
   pub annals_is : annals ≡ Some kept
   pub safe : IsCrashSafe told clock kept.list kept.begun first.list start
-  pub begun : (e : Entry) → kept.begun ≡ Some e → (first.begun ≡ Some e) ⊎ IsCommandOf statements e
+  pub more : List Noted
+  pub more_is : kept.list ≡ first.list ++ more
+  pub added : AreCommandsOf ran more
+  pub begun : (e : Entry) → kept.begun ≡ Some e → (first.begun ≡ Some e) ⊎ IsCommandBehind ran more e
 
 -- the same, where what is begun has left nothing
 pub record AreCalm (disk : Option Told) (clock : ℕ) (annals : Option keeper.Told) (first : keeper.Told) (start : ℕ) : Type 0 where
@@ -90,8 +104,8 @@ pub record AreCalm (disk : Option Told) (clock : ℕ) (annals : Option keeper.To
 abbrev pub StandsForKept : {F : Type 0} → (F → Option Files) → Option keeper.Told → CoreStore F → Type 0
 StandsForKept files_of annals store = ForSome annals (λ (kept : keeper.Told). CoreStands files_of (entries_of kept.list) store)
 
--- A store over a disk and a keeper: a crash leaves all that was noted. As long as the disk's count of faults is the one at opening, what
+-- A store over a disk and a keeper, behind statements that ran: a crash leaves all that was noted. As long as the disk's count of faults is the one at opening, what
 -- is begun has left nothing, and the store stands for the list.
-pub record KeepsThroughCrashes {F : Type 0} (files_of : F → Option Files) (statements : List (Result Statement Cause)) (store : CoreStore F) (failed : ℕ) (disk : Option Told) (clock : ℕ) (annals : Option keeper.Told) (first : keeper.Told) (start : ℕ) : Type 0 where
-  pub safe : AreCrashSafe statements disk clock annals first start
+pub record KeepsThroughCrashes {F : Type 0} (files_of : F → Option Files) (ran : List (Result Statement Cause)) (store : CoreStore F) (failed : ℕ) (disk : Option Told) (clock : ℕ) (annals : Option keeper.Told) (first : keeper.Told) (start : ℕ) : Type 0 where
+  pub safe : AreCrashSafe ran disk clock annals first start
   pub calm : failed ≡ store.opened → AreCalm disk clock annals first start × StandsForKept files_of annals store

@@ -3,12 +3,16 @@ use Rattle.std.specs.Prelude.{◌≡◌, ◌⊎◌, ℕ, ◌≤◌, List, [], Al
 use Rattle.std.specs.Map.{keys_of}
 use Rattle.std.specs.Option.{ForSome}
 use Rattle.mt_base.specs.declared.partition.Partition.TheVariants.{Whole}
+use Rattle.mt_values.specs.declared.schema.Schema.{Schema}
 use Rattle.mt_values.specs.RootNames.{create_name, part_name}
+use Rattle.mt_values.specs.Values.{Row}
 use Rattle.mt_outside.specs.Disk.{Told, names_of}
+use Rattle.mt_outside.specs.Files.{Files}
 use Rattle.mt_model.specs.History.{History, IsTableSchema}
 use Rattle.part_name.specs.declared.part.PartName.{PartName}
 use Rattle.part_name.specs.PartNames.{IsPartName, part_text}
 use Rattle.part_reader.specs.declared.reading.Part.{Part}
+use Rattle.part_reader.specs.Parts.{PartHolds}
 use Rattle.part_set.specs.declared.kept.Kept.{Kept}
 use Rattle.part_set.specs.Sets.{parts_of}
 use Rattle.root_log.specs.declared.store.CoreStore.{CoreStore}
@@ -48,6 +52,14 @@ NamesFit store told = All (IsNameUnder store) (keys_of (names_of told))
 abbrev pub NamesFitUnlessRisen : {F : Type 0} → ℕ → Option Told → CoreStore F → Type 0
 NamesFitUnlessRisen failed told store = failed ≡ store.opened → ForSome told (NamesFit store)
 
--- the root stands for a history, where the disk tells it
+-- the disk tells a root that stands for a history
 abbrev pub RootStands : Option Told → History → Type 0
-RootStands told h = ForSome told (λ t. Stands (names_of t) h)
+RootStands told h = (t : Told) × (told ≡ Some t) × Stands (names_of t) h
+
+-- a part holds rows of a table with this schema
+abbrev pub HoldsRows : {F : Type 0} → (F → Option Files) → Schema → Kept (Part F) → Type 0
+HoldsRows files_of schema kept = (rows : List Row) × PartHolds files_of schema kept.part rows
+
+-- each part of a table of the store holds rows of it, whatever history they are of: none of its files is damaged
+abbrev pub HasSoundParts : {F : Type 0} → (F → Option Files) → CoreStore F → Type 0
+HasSoundParts files_of store = (table : List ℕ) (t : Table) → table_at store table ≡ Some t → All (HoldsRows files_of t.schema) (parts_of store.set table)

@@ -1,5 +1,5 @@
 // A command added to the disk, to what the keeper tells and to the store.
-ghost use Rattle.std.specs.Prelude.{◌≡◌, ◌≢◌, ◌+◌, ◌-◌, ◌<◌, ◌≤◌, ◌^◌, ℕ, IsSome, IsTrue, List, Option, Some, None, IfErr, IfOk, IfSome, IsErrOf, IsNone, IsOk, OnErr, OnOk, length, Result};
+ghost use Rattle.std.specs.Prelude.{◌≡◌, ◌≢◌, ◌+◌, ◌-◌, ◌<◌, ◌≤◌, ◌^◌, ◌∷◌, ◌++◌, [], ℕ, IsSome, IsTrue, List, Option, Some, None, IfErr, IfOk, IfSome, IsErrOf, IsNone, IsOk, OnErr, OnOk, length, Result};
 ghost use Rattle.std.specs.BTreeMap.{Updates, get, insert_entry};
 ghost use Rattle.std.specs.Cmp.Lexicographic.{slice_cmp};
 ghost use Rattle.std.specs.Option.{ForSome, option_map};
@@ -25,7 +25,7 @@ ghost use Rattle.table_core.specs.Steps.{entered};
 ghost use Rattle.root_log.specs.Commits.{EntersSealed, EntersTable, IsCause, IsOutside, Notes, SameList, SameStore, cause_of, entry_of, fresh_part, fresh_table, IsSealedOf, insert_into, insert_of_block, refused_by_disk, refuses_create, refuses_part, stopped_by, whole_parts};
 ghost use Rattle.root_log.specs.Crashes.{IsCommandOf, KeepsThroughCrashes};
 ghost use Rattle.root_log.specs.Entries.{EntryHolds};
-ghost use Rattle.root_log.specs.Soundness.{IsSound, NamesFitUnlessRisen, RootStands};
+ghost use Rattle.root_log.specs.Soundness.{HasSoundParts, IsSound, NamesFitUnlessRisen, RootStands};
 ghost use Rattle.root_log.specs.Stores.{CoreStands, table_at};
 ghost use Rattle.root_log.specs.declared.store.Table.{Table as Made};
 
@@ -346,10 +346,11 @@ pub fn commit_create<D: Disk, A: Annals>(
     ensures stands { (h : History) → CoreStands D.Arm.Dir.files h store.old → OnOk result (CoreStands D.Arm.Dir.files (entered h session (command.Create create)) store.new) }
     ensures root_stands { (h : History) (files : Files) → CoreStands D.Arm.Dir.files h store.old → RootStands (D.told disk.old) h
         → sealed.files ≡ Some files → EntryHolds create.table create.schema files → OnOk result (RootStands (D.told disk.new) (entered h session (command.Create create))) }
-    ensures through_crashes { (statements : List (Result Statement Cause)) (first : Told) (start : ℕ) (files : Files) → sealed.files ≡ Some files → EntryHolds create.table create.schema files
-        → IsCommandOf statements (entry_of session (command.Create create))
-        → KeepsThroughCrashes D.Arm.Dir.files statements store.old (D.failed disk.old) (D.told disk.old) (D.clock disk.old) (A.told annals.old) first start
-        → KeepsThroughCrashes D.Arm.Dir.files statements store.new (D.failed disk.new) (D.told disk.new) (D.clock disk.new) (A.told annals.new) first start }
+    ensures through_crashes { (ran : List (Result Statement Cause)) (statement : Result Statement Cause) (first : Told) (start : ℕ) (files : Files) → sealed.files ≡ Some files → EntryHolds create.table create.schema files
+        → IsCommandOf (statement ∷ []) (entry_of session (command.Create create))
+        → KeepsThroughCrashes D.Arm.Dir.files ran store.old (D.failed disk.old) (D.told disk.old) (D.clock disk.old) (A.told annals.old) first start
+        → KeepsThroughCrashes D.Arm.Dir.files (ran ++ statement ∷ []) store.new (D.failed disk.new) (D.told disk.new) (D.clock disk.new) (A.told annals.new) first start }
+    ensures held { HasSoundParts D.Arm.Dir.files store.old → HasSoundParts D.Arm.Dir.files store.new }
     ensures unchanged { IfErr result (λ r. r.cause ≢ Refused.Disk → D.told disk.new ≡ D.told disk.old) }
     ensures store { IsSound store.new }
     ensures names { NamesFitUnlessRisen (D.failed disk.new) (D.told disk.new) store.new }
@@ -471,10 +472,11 @@ pub fn commit_part<D: Disk, A: Annals>(
     ensures root_stands { (h : History) (t : Made) → CoreStands D.Arm.Dir.files h store.old → RootStands (D.told disk.old) h
         → table_at store.old table.now ≡ Some t → IsSealedOf t.schema block part.sealed.files part.loaded
         → OnOk result (RootStands (D.told disk.new) (entered h session (insert_of_block table.now block))) }
-    ensures through_crashes { (t : Made) (statements : List (Result Statement Cause)) (first : Told) (start : ℕ) → table_at store.old table.now ≡ Some t → IsSealedOf t.schema block part.sealed.files part.loaded
-        → IsCommandOf statements (entry_of session (insert_of_block table.now block))
-        → KeepsThroughCrashes D.Arm.Dir.files statements store.old (D.failed disk.old) (D.told disk.old) (D.clock disk.old) (A.told annals.old) first start
-        → KeepsThroughCrashes D.Arm.Dir.files statements store.new (D.failed disk.new) (D.told disk.new) (D.clock disk.new) (A.told annals.new) first start }
+    ensures through_crashes { (t : Made) (ran : List (Result Statement Cause)) (statement : Result Statement Cause) (first : Told) (start : ℕ) → table_at store.old table.now ≡ Some t → IsSealedOf t.schema block part.sealed.files part.loaded
+        → IsCommandOf (statement ∷ []) (entry_of session (insert_of_block table.now block))
+        → KeepsThroughCrashes D.Arm.Dir.files ran store.old (D.failed disk.old) (D.told disk.old) (D.clock disk.old) (A.told annals.old) first start
+        → KeepsThroughCrashes D.Arm.Dir.files (ran ++ statement ∷ []) store.new (D.failed disk.new) (D.told disk.new) (D.clock disk.new) (A.told annals.new) first start }
+    ensures held { (t : Made) → table_at store.old table.now ≡ Some t → IsSealedOf t.schema block part.sealed.files part.loaded → HasSoundParts D.Arm.Dir.files store.old → HasSoundParts D.Arm.Dir.files store.new }
     ensures unchanged { IfErr result (λ r. r.cause ≢ Refused.Disk → D.told disk.new ≡ D.told disk.old) }
     ensures store { IsSound store.new }
     ensures names { NamesFitUnlessRisen (D.failed disk.new) (D.told disk.new) store.new }

@@ -15,7 +15,7 @@ ghost use Rattle.root_log.specs.Keeping.{IsBadNameAt, IsDamageOfSet, IsNamedRoot
 ghost use Rattle.root_log.specs.Names.{AreNamesOf, IsFirstBadText, creates_in};
 ghost use Rattle.root_log.specs.Opening.{IsNotDamaged, IsRootDamage, TellsDamage};
 ghost use Rattle.root_log.specs.Roots.{Stands};
-ghost use Rattle.root_log.specs.Soundness.{IsSound, NamesFit};
+ghost use Rattle.root_log.specs.Soundness.{HasSoundParts, IsSound, NamesFit};
 ghost use Rattle.root_log.specs.Stores.{CoreStands, StoreOf};
 
 use crate::keeping::{Root, keep_root};
@@ -168,6 +168,7 @@ pub fn open<D: Disk>(
     ensures damaged { (told : Told) → D.told disk.old ≡ Some told → IfErr result (TellsDamage (names_of told)) }
     ensures exact { (told : Told) (damage : Damage) → D.told disk.old ≡ Some told → IsRootDamage (names_of told) damage → OnOk result ⊥ }
     ensures sound { IfOk result IsSound }
+    ensures held { (told : Told) → D.told disk.old ≡ Some told → IfOk result (HasSoundParts D.Arm.Dir.files) }
     ensures names { (told : Told) → D.told disk.old ≡ Some told → IfOk result (λ store. NamesFit store told) }
     ensures opened { IfOk result (λ store. store.opened ≡ D.failed disk.old) }
     ensures told { D.told disk.new ≡ D.told disk.old }

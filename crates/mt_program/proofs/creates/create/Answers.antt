@@ -2,7 +2,9 @@ use Rattle.std.proofs.Common.{◌≡◌, ◌<◌, ◌^◌, ◌++◌, ◌∷◌, 
 use Rattle.mt_values.specs.declared.command.Command.TheVariants as command
 use Rattle.mt_values.specs.declared.statement.Statement.TheVariants as statement
 use Rattle.mt_model.specs.Reply.{create_turn, ok_line}
+use Rattle.mt_model.proofs.Causes.{text_is_cause, undamaged_line}
 use Rattle.mt_model.proofs.Tables.{schema_is}
+use Rattle.mt_model.specs.Refusals.{is_damage}
 use Rattle.root_log.specs.Commits.{IsCause, Notes, refuses_create}
 use Rattle.root_log.specs.Entries.{EntryHolds}
 use Rattle.root_log.specs.Soundness.{RootStands}
@@ -12,9 +14,11 @@ use Rattle.mt_program.specs.Commits.{entry_files}
 use Rattle.mt_program.proofs.Accepting.{accepts_nothing, entry_of, kept_same, same_kept}
 use Rattle.mt_program.proofs.Creating.{created_accepts, entry_holds, turn_free}
 use Rattle.mt_program.proofs.Refusing.{create_failed, create_refused}
+use Rattle.part_set.proofs.Items.{item_first}
 use Rattle.root_log.proofs.SameStores.{stands_same}
 use Rattle.mt_program.proofs.Standing.{no_table, tables_made}
 use Rattle.mt_program.proofs.Stopping.{create_not_committed, line_of_stage, nothing_shown_to_create, root_unless_disk}
+use Rattle.mt_program.proofs.Undamaged.{commit_line, line_of, stage_line}
 use Rattle.mt_program.proofs.creates.create.Goals as goal
 
 -- what it says is refused
@@ -100,31 +104,45 @@ returns-in_ok-refused_line-in-Err-commit_create-clause-answers g c = λ kept is 
 
 -- what a crash leaves
 pub returns-in-Ok-commit_create-clause-through_crashes : goal.returns-in-Ok-commit_create-clause-through_crashes
-returns-in-Ok-commit_create-clause-through_crashes g c = λ statements first start tells has keeps.
+returns-in-Ok-commit_create-clause-through_crashes g c = λ ran first start tells was keeps.
     let text = c.args.text.now in
     let schema = c.in-Ok.schema in
     let says = sym c.in_ok-resolved.ensures ∙ c.in-Ok.is in
     let few = subst (λ (t : List ℕ). length t < 2 ^ 32) c.as_slice.ensures c.in-Ok-seal_entry.ensures.few in
     let holds = subst (λ (t : List ℕ). EntryHolds t schema (entry_files text.text)) (sym c.in_ok-table.ensures) (entry_holds text schema c.requires.written says few) in
-    c.commit_create.ensures.through_crashes statements first start (entry_files text.text) (c.in-Ok-seal_entry.ensures.files tells ∙ ap (λ (t : List ℕ). Some (entry_files t)) c.as_slice.ensures) holds
-    (refl, (statement.Create text, has, (c.in_ok-table.ensures, says))) keeps
+    c.commit_create.ensures.through_crashes ran (Ok (statement.Create text)) first start (entry_files text.text) (c.in-Ok-seal_entry.ensures.files tells ∙ ap (λ (t : List ℕ). Some (entry_files t)) c.as_slice.ensures) holds
+    (refl, (statement.Create text, item_first (Ok (statement.Create text)) [], (c.in_ok-table.ensures, says))) was
 
 pub returns-in_ok-refused_line-in-Err-commit_create-clause-through_crashes : goal.returns-in_ok-refused_line-in-Err-commit_create-clause-through_crashes
-returns-in_ok-refused_line-in-Err-commit_create-clause-through_crashes g c = λ statements first start tells has keeps.
+returns-in_ok-refused_line-in-Err-commit_create-clause-through_crashes g c = λ ran first start tells was keeps.
     let text = c.args.text.now in
     let schema = c.in-Ok.schema in
     let says = sym c.in_ok-resolved.ensures ∙ c.in-Ok.is in
     let few = subst (λ (t : List ℕ). length t < 2 ^ 32) c.as_slice.ensures c.in-Ok-seal_entry.ensures.few in
     let holds = subst (λ (t : List ℕ). EntryHolds t schema (entry_files text.text)) (sym c.in_ok-table.ensures) (entry_holds text schema c.requires.written says few) in
-    c.commit_create.ensures.through_crashes statements first start (entry_files text.text) (c.in-Ok-seal_entry.ensures.files tells ∙ ap (λ (t : List ℕ). Some (entry_files t)) c.as_slice.ensures) holds
-    (refl, (statement.Create text, has, (c.in_ok-table.ensures, says))) keeps
+    c.commit_create.ensures.through_crashes ran (Ok (statement.Create text)) first start (entry_files text.text) (c.in-Ok-seal_entry.ensures.files tells ∙ ap (λ (t : List ℕ). Some (entry_files t)) c.as_slice.ensures) holds
+    (refl, (statement.Create text, item_first (Ok (statement.Create text)) [], (c.in_ok-table.ensures, says))) was
 
 pub returns-in_err-refused_line-in-Err-commit_create-clause-through_crashes : goal.returns-in_err-refused_line-in-Err-commit_create-clause-through_crashes
-returns-in_err-refused_line-in-Err-commit_create-clause-through_crashes g c = λ statements first start tells has keeps.
+returns-in_err-refused_line-in-Err-commit_create-clause-through_crashes g c = λ ran first start tells was keeps.
     let text = c.args.text.now in
     let schema = c.in-Ok.schema in
     let says = sym c.in_ok-resolved.ensures ∙ c.in-Ok.is in
     let few = subst (λ (t : List ℕ). length t < 2 ^ 32) c.as_slice.ensures c.in-Ok-seal_entry.ensures.few in
     let holds = subst (λ (t : List ℕ). EntryHolds t schema (entry_files text.text)) (sym c.in_ok-table.ensures) (entry_holds text schema c.requires.written says few) in
-    c.commit_create.ensures.through_crashes statements first start (entry_files text.text) (c.in-Ok-seal_entry.ensures.files tells ∙ ap (λ (t : List ℕ). Some (entry_files t)) c.as_slice.ensures) holds
-    (refl, (statement.Create text, has, (c.in_ok-table.ensures, says))) keeps
+    c.commit_create.ensures.through_crashes ran (Ok (statement.Create text)) first start (entry_files text.text) (c.in-Ok-seal_entry.ensures.files tells ∙ ap (λ (t : List ℕ). Some (entry_files t)) c.as_slice.ensures) holds
+    (refl, (statement.Create text, item_first (Ok (statement.Create text)) [], (c.in_ok-table.ensures, says))) was
+
+-- the reply does not tell of damage
+pub returns-in-Err-clause-undamaged : goal.returns-in-Err-clause-undamaged
+returns-in-Err-clause-undamaged g c =
+    line_of _ c.in-Err.refusal c.in_ok-refusal_line-in-Err.ensures (undamaged_line c.in-Err.refusal (text_is_cause c.args.text.now c.in-Err.refusal (sym c.in_ok-resolved.ensures ∙ c.in-Err.is)))
+
+pub returns-in-Err-seal_entry-clause-undamaged : goal.returns-in-Err-seal_entry-clause-undamaged
+returns-in-Err-seal_entry-clause-undamaged g c = stage_line c.in-Err-seal_entry.error _ c.in_ok-stage_line-in-Err-seal_entry.ensures
+
+pub returns-in-Ok-commit_create-clause-undamaged : goal.returns-in-Ok-commit_create-clause-undamaged
+returns-in-Ok-commit_create-clause-undamaged g c = ap is_damage c.in_ok-reply.ensures
+
+pub returns-in_ok-refused_line-in-Err-commit_create-clause-undamaged : goal.returns-in_ok-refused_line-in-Err-commit_create-clause-undamaged
+returns-in_ok-refused_line-in-Err-commit_create-clause-undamaged g c = commit_line c.args.text.now.table c.in-Err-commit_create.returned.cause _ c.in_ok-refused_line-in-Err-commit_create.ensures.line

@@ -1,4 +1,4 @@
-use Rattle.std.proofs.Common.{◌≡◌, ◌≤◌, ◌<◌, ℕ, List, Option, Some, Ok, Err, Result, Bool, true, false, length, refl, sym, ap, ◌∙◌, subst, arith}
+use Rattle.std.proofs.Common.{◌≡◌, [], ◌≤◌, ◌<◌, ℕ, List, Option, Some, Ok, Err, Result, Bool, true, false, length, refl, sym, ap, ◌∙◌, subst, arith}
 use Rattle.mt_base.specs.declared.partition.Partition.TheVariants.{Whole}
 use Rattle.tsv_rows.specs.Stops.{Refuses}
 use Rattle.mt_values.specs.declared.row_fault.DataFault.{DataFault}
@@ -12,7 +12,7 @@ use Rattle.part_set.specs.Sets.{parts_of}
 use Rattle.table_core.specs.Numbers.{same_partition}
 use Rattle.mt_model.specs.declared.refusal.Refusal.TheVariants as refusal
 use Rattle.mt_model.specs.History.{IsInsertInto, column_types, inserts}
-use Rattle.mt_model.specs.Refusals.{refusal_line, refusal_of_data}
+use Rattle.mt_model.specs.Refusals.{is_damage, refusal_line, refusal_of_data}
 use Rattle.mt_model.specs.Reply.{ok_line}
 use Rattle.root_log.specs.declared.store.Table.{Table}
 use Rattle.root_log.specs.Commits.{insert_into, whole_parts}
@@ -22,9 +22,11 @@ use Rattle.mt_program.proofs.Accepting.{accepts_nothing, kept_same, length_histo
 use Rattle.mt_program.proofs.Inserting.{empty_accepted, inserted_accepts, no_such_table, not_empty, rows_read, rows_refused, turn_free}
 use Rattle.mt_program.proofs.Refusing.{insert_failed, insert_refused}
 use Rattle.mt_model.specs.Reply.{rows_or_refused}
+use Rattle.part_set.proofs.Items.{item_first}
 use Rattle.root_log.proofs.SameStores.{stands_same}
 use Rattle.mt_program.proofs.Standing.{drawn_is, no_table, parts_made, table_schema}
 use Rattle.mt_program.proofs.Stopping.{filtered, insert_not_committed, line_of_stage, nothing_shown, root_unless_disk}
+use Rattle.mt_program.proofs.Undamaged.{commit_line, data_line, stage_line}
 use Rattle.mt_program.proofs.inserts.insert.Goals as goal
 
 -- what was read, by the types and the bytes that were handed over
@@ -173,25 +175,54 @@ returns-clause-answers g c = λ kept is tells stands.
 
 -- what a crash leaves
 pub returns-in-Ok-commit_part-clause-through_crashes : goal.returns-in-Ok-commit_part-clause-through_crashes
-returns-in-Ok-commit_part-clause-through_crashes g c = λ statements first start tells has keeps.
+returns-in-Ok-commit_part-clause-through_crashes g c = λ ran first start tells was keeps.
     let text = c.args.text.now in
     let found = c.in-Some.found.now in
     let read = by_table c.deref.result.now (column_types found.schema) c.as_slice.result.now text.lines text.ended (Ok c.in-Ok.block.rows) (c.deref.ensures.value ∙ c.in_ok-types.ensures) c.as_slice.ensures c.in-Ok.ensures.rows in
-    c.commit_part.ensures.through_crashes found statements first start (sym c.in-Some.ensures.value) (c.in-Ok-seal_block.ensures.sealed tells)
-    (refl, (statement.Insert text, has, (found.schema, c.in-Ok.block.rows, ap rows_or_refused read, (refl, refl, refl)))) keeps
+    c.commit_part.ensures.through_crashes found ran (Ok (statement.Insert text)) first start (sym c.in-Some.ensures.value) (c.in-Ok-seal_block.ensures.sealed tells)
+    (refl, (statement.Insert text, item_first (Ok (statement.Insert text)) [], (found.schema, c.in-Ok.block.rows, ap rows_or_refused read, (refl, refl, refl)))) was
 
 pub returns-clause-through_crashes : goal.returns-clause-through_crashes
-returns-clause-through_crashes g c = λ statements first start tells has keeps.
+returns-clause-through_crashes g c = λ ran first start tells was keeps.
     let text = c.args.text.now in
     let found = c.in-Some.found.now in
     let read = by_table c.deref.result.now (column_types found.schema) c.as_slice.result.now text.lines text.ended (Ok c.in-Ok.block.rows) (c.deref.ensures.value ∙ c.in_ok-types.ensures) c.as_slice.ensures c.in-Ok.ensures.rows in
-    c.commit_part.ensures.through_crashes found statements first start (sym c.in-Some.ensures.value) (c.in-Ok-seal_block.ensures.sealed tells)
-    (refl, (statement.Insert text, has, (found.schema, c.in-Ok.block.rows, ap rows_or_refused read, (refl, refl, refl)))) keeps
+    c.commit_part.ensures.through_crashes found ran (Ok (statement.Insert text)) first start (sym c.in-Some.ensures.value) (c.in-Ok-seal_block.ensures.sealed tells)
+    (refl, (statement.Insert text, item_first (Ok (statement.Insert text)) [], (found.schema, c.in-Ok.block.rows, ap rows_or_refused read, (refl, refl, refl)))) was
 
 pub returns-in_err-refused_line-in-Err-commit_part-clause-through_crashes : goal.returns-in_err-refused_line-in-Err-commit_part-clause-through_crashes
-returns-in_err-refused_line-in-Err-commit_part-clause-through_crashes g c = λ statements first start tells has keeps.
+returns-in_err-refused_line-in-Err-commit_part-clause-through_crashes g c = λ ran first start tells was keeps.
     let text = c.args.text.now in
     let found = c.in-Some.found.now in
     let read = by_table c.deref.result.now (column_types found.schema) c.as_slice.result.now text.lines text.ended (Ok c.in-Ok.block.rows) (c.deref.ensures.value ∙ c.in_ok-types.ensures) c.as_slice.ensures c.in-Ok.ensures.rows in
-    c.commit_part.ensures.through_crashes found statements first start (sym c.in-Some.ensures.value) (c.in-Ok-seal_block.ensures.sealed tells)
-    (refl, (statement.Insert text, has, (found.schema, c.in-Ok.block.rows, ap rows_or_refused read, (refl, refl, refl)))) keeps
+    c.commit_part.ensures.through_crashes found ran (Ok (statement.Insert text)) first start (sym c.in-Some.ensures.value) (c.in-Ok-seal_block.ensures.sealed tells)
+    (refl, (statement.Insert text, item_first (Ok (statement.Insert text)) [], (found.schema, c.in-Ok.block.rows, ap rows_or_refused read, (refl, refl, refl)))) was
+
+-- the reply does not tell of damage
+pub returns-in_default-clause-undamaged : goal.returns-in_default-clause-undamaged
+returns-in_default-clause-undamaged g c = ap is_damage c.in_ok-refusal_line.ensures
+
+pub returns-in-Err-Refused-clause-undamaged : goal.returns-in-Err-Refused-clause-undamaged
+returns-in-Err-Refused-clause-undamaged g c = ap is_damage (c.in_ok-refusal_line-in-Err-Refused.ensures ∙ ap refusal_line c.of_data-why.ensures) ∙ data_line _
+
+pub returns-then-is_empty-clause-undamaged : goal.returns-then-is_empty-clause-undamaged
+returns-then-is_empty-clause-undamaged g c = ap is_damage c.in_ok-ok_line.ensures
+
+pub returns-in-Err-clause-undamaged : goal.returns-in-Err-clause-undamaged
+returns-in-Err-clause-undamaged g c = stage_line c.in-Err.error _ c.in_ok-stage_line-in-Err.ensures
+
+pub returns-in-Ok-commit_part-clause-undamaged : goal.returns-in-Ok-commit_part-clause-undamaged
+returns-in-Ok-commit_part-clause-undamaged g c = ap is_damage c.in_ok-reply.ensures
+
+pub returns-clause-undamaged : goal.returns-clause-undamaged
+returns-clause-undamaged g c = commit_line c.args.text.now.table c.in-Err-commit_part.returned.cause _ c.in_ok-refused_line-in-Err-commit_part.ensures.line
+
+-- the parts of the store hold rows
+pub returns-in-Ok-commit_part-clause-held : goal.returns-in-Ok-commit_part-clause-held
+returns-in-Ok-commit_part-clause-held g c = λ tells held. c.commit_part.ensures.held c.in-Some.found.now (sym c.in-Some.ensures.value) (c.in-Ok-seal_block.ensures.sealed tells) held
+
+pub returns-clause-held : goal.returns-clause-held
+returns-clause-held g c = λ tells held. c.commit_part.ensures.held c.in-Some.found.now (sym c.in-Some.ensures.value) (c.in-Ok-seal_block.ensures.sealed tells) held
+
+pub returns-in_err-refused_line-in-Err-commit_part-clause-held : goal.returns-in_err-refused_line-in-Err-commit_part-clause-held
+returns-in_err-refused_line-in-Err-commit_part-clause-held g c = λ tells held. c.commit_part.ensures.held c.in-Some.found.now (sym c.in-Some.ensures.value) (c.in-Ok-seal_block.ensures.sealed tells) held

@@ -1,10 +1,14 @@
-use Rattle.std.proofs.Common.{◌≡◌, All, List, ℕ, Err, length, map, take, sym, ap, ◌∙◌, subst, arith}
+use Rattle.std.proofs.Common.{◌≡◌, All, List, ℕ, Err, length, map, slice_get, take, refl, sym, ap, ◌∙◌, subst, arith}
 use Rattle.std.proofs.lemmas.List.{length-map, take_all}
+use Rattle.std.specs.Option.{option_map}
+use Rattle.std.proofs.lemmas.Option.{slice_get-map}
+use Rattle.mt_values.specs.declared.value.ColType.{ColType}
 use Rattle.mt_values.specs.Grid.{Cells}
 use Rattle.mt_model.specs.History.{column_types}
 use Rattle.part_reader.proofs.Holding.{holds_at}
 use Rattle.mt_program.specs.Selects.{rows_kept}
 use Rattle.mt_program.proofs.Selecting.{part_at, rows_next, values_all, values_next}
+use Rattle.mt_program.proofs.Undamaged.{item_at}
 use Rattle.mt_program.proofs.selects.read_parts.Goals as goal
 
 -- as many columns as before
@@ -47,3 +51,19 @@ returns-clause-values g c = λ schema rows hold within have empty.
 pub returns-clause-even : goal.returns-clause-even
 returns-clause-even g c = λ zero.
     subst (λ ps. All (λ (x : Cells). length x.values ≡ rows_kept ps) c.loop-kept.columns) (take_all c.loop-kept.kept-index c.args.parts.now c.loop-kept-test.false) (c.loop-kept.invariant.even zero)
+
+pub returns-in-Err-clause-damaged : goal.returns-in-Err-clause-damaged
+returns-in-Err-clause-damaged g c =
+    let why = c.in-Err.ensures.damaged in
+    let col_type = λ (x : Cells). x.col_type in
+    record {
+      kept = c.kept-item.result;
+      there = item_at c.args.parts.now c.loop-kept.kept-index c.kept-item.result c.loop-kept-test.true c.kept-item.is;
+      name_is = refl;
+      at = why.at;
+      number = why.number;
+      col_type = why.column.col_type;
+      number_is = why.number_is;
+      type_is = ap (λ (ts : List ColType). slice_get ts why.at) (sym c.loop-kept.invariant.types) ∙ (slice_get-map col_type c.loop-kept.columns why.at ∙ ap (option_map col_type) why.column_is);
+      explained = why.explained;
+    }

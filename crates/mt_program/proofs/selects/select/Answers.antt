@@ -4,11 +4,16 @@ use Rattle.mt_values.specs.Grid.{Cells, grid_of, rows_of}
 use Rattle.mt_outside.specs.declared.disk.DiskError.TheVariants as failure
 use Rattle.mt_model.specs.declared.refusal.Refusal.TheVariants as refusal
 use Rattle.mt_model.specs.History.{column_types}
-use Rattle.mt_model.specs.Refusals.{refusal_line}
+use Rattle.mt_model.specs.Refusals.{is_damage, refusal_line}
 use Rattle.mt_model.specs.Reply.{selected_places}
 use Rattle.part_reader.specs.Faults.{IsNoDamage}
 use Rattle.mt_program.specs.Answers.{history}
-use Rattle.mt_program.specs.Selects.{ArePlacesOf, PartsHold, Printed, joined, values_at}
+use Rattle.mt_program.specs.Selects.{ArePlacesOf, ExplainsParts, PartsHold, Printed, joined, values_at}
+use Rattle.std.proofs.lemmas.Bool.{false≢true}
+use Rattle.part_reader.specs.declared.reading.PartFault.{PartFault}
+use Rattle.part_set.specs.Sets.{parts_of}
+use Rattle.mt_model.proofs.Causes.{selected_is_cause, undamaged_line}
+use Rattle.mt_program.proofs.Undamaged.{all_hold, line_of, stage_line, tells_of_damage}
 use Rattle.mt_program.proofs.Accepting.{added_nothing, length_history, whole_front}
 use Rattle.mt_program.proofs.Refusing.{select_failed, select_refused}
 use Rattle.mt_program.proofs.Selecting.{columns_are, empty_even, empty_many, joined_typed, lent_back, no_columns, projected, rows_counted, selected_below, selects, typed_have_all}
@@ -112,3 +117,59 @@ returns-clause-answers g c = λ kept stands n disk f.
       selects (history kept) text table.schema c.in-Ok.places (joined held.rows) (grid_of new c.in-Some-count_rows.rows) (length kept.list) c.in_ok-print.field-0.items (whole_front kept) there chosen held.partly rows_are here,
       added_nothing kept,
     )
+
+-- the reply does not tell of damage
+pub returns-in_default-clause-undamaged : goal.returns-in_default-clause-undamaged
+returns-in_default-clause-undamaged g c = λ held. ap is_damage c.in_ok-refusal_line.ensures
+
+pub returns-in-Err-clause-undamaged : goal.returns-in-Err-clause-undamaged
+returns-in-Err-clause-undamaged g c = λ held.
+    let chosen = ap (λ (cs : List Column). selected_places cs c.args.text.now.columns) (sym c.as_slice.ensures) ∙ (sym c.in_ok-selected.ensures ∙ c.in-Err.is) in
+    line_of _ c.in-Err.refusal c.in_ok-refusal_line-in-Err.ensures (undamaged_line c.in-Err.refusal (selected_is_cause c.in-Some.table.now.schema.columns c.args.text.now.columns c.in-Err.refusal chosen))
+
+pub returns-in-Err-default-Fault-clause-undamaged : goal.returns-in-Err-default-Fault-clause-undamaged
+returns-in-Err-default-Fault-clause-undamaged g c = λ held. stage_line failure.Fault _ c.in_ok-stage_line-in-Err-default-Fault.ensures
+
+pub returns-in-Err-default-Damaged-clause-undamaged : goal.returns-in-Err-default-Damaged-clause-undamaged
+returns-in-Err-default-Damaged-clause-undamaged g c = λ held.
+    let files = g.R.Dir.Dir.files in
+    let table = c.in-Some.table.now in
+    let hold = all_hold files table.schema (parts_of c.args.store.now.set c.args.text.now.table) (held c.args.text.now.table table (sym c.in-Some.ensures.value)) in
+    let chosen = ap (λ (cs : List Column). selected_places cs c.args.text.now.columns) (sym c.as_slice.ensures) ∙ (sym c.in_ok-selected.ensures ∙ c.in-Ok.is) in
+    let within = selected_below table.schema c.args.text.now.columns c.in-Ok.places chosen in
+    let types = ap (map (λ (x : Cells). x.col_type)) c.deref_mut.ensures.value ∙ (c.in_ok-columns.ensures.types ∙ ap (λ ps. filter_map (slice_get (column_types table.schema)) ps) (c.as_slice-2.ensures ∙ sym c.as_slice-3.ensures)) in
+    let sound = c.in-Err-default-Damaged.ensures.sound table.schema hold.0 (subst (λ ps. PartsHold files table.schema ps hold.0) (sym c.parts-parts.ensures.parts) hold.1)
+    (subst (ArePlacesOf table.schema) (sym c.as_slice-3.ensures) within) types in
+    absurd (subst IsNoDamage c.in-Err-default-Damaged.field-0-1-is sound)
+
+pub returns-clause-undamaged : goal.returns-clause-undamaged
+returns-clause-undamaged g c = λ held. ap is_damage c.in_ok-print.ensures.reply_is
+
+-- what it tells where it does
+pub returns-in_default-clause-damaged : goal.returns-in_default-clause-damaged
+returns-in_default-clause-damaged g c = λ bad. absurd (false≢true (sym (ap is_damage c.in_ok-refusal_line.ensures) ∙ bad))
+
+pub returns-in-Err-clause-damaged : goal.returns-in-Err-clause-damaged
+returns-in-Err-clause-damaged g c = λ bad.
+    let chosen = ap (λ (cs : List Column). selected_places cs c.args.text.now.columns) (sym c.as_slice.ensures) ∙ (sym c.in_ok-selected.ensures ∙ c.in-Err.is) in
+    let none = line_of _ c.in-Err.refusal c.in_ok-refusal_line-in-Err.ensures (undamaged_line c.in-Err.refusal (selected_is_cause c.in-Some.table.now.schema.columns c.args.text.now.columns c.in-Err.refusal chosen)) in
+    absurd (false≢true (sym none ∙ bad))
+
+pub returns-in-Err-default-Fault-clause-damaged : goal.returns-in-Err-default-Fault-clause-damaged
+returns-in-Err-default-Fault-clause-damaged g c = λ bad. absurd (false≢true (sym (stage_line failure.Fault _ c.in_ok-stage_line-in-Err-default-Fault.ensures) ∙ bad))
+
+pub returns-in-Err-default-Damaged-clause-damaged : goal.returns-in-Err-default-Damaged-clause-damaged
+returns-in-Err-default-Damaged-clause-damaged g c = λ bad.
+    let files = g.R.Dir.Dir.files in
+    let store = c.args.store.now in
+    let text = c.args.text.now in
+    let table = c.in-Some.table.now in
+    let chosen = ap (λ (cs : List Column). selected_places cs text.columns) (sym c.as_slice.ensures) ∙ (sym c.in_ok-selected.ensures ∙ c.in-Ok.is) in
+    let types = ap (map (λ (x : Cells). x.col_type)) c.deref_mut.ensures.value ∙ (c.in_ok-columns.ensures.types ∙ ap (λ ps. filter_map (slice_get (column_types table.schema)) ps) c.as_slice-2.ensures) in
+    tells_of_damage files store text _ table c.in-Ok.places (sym c.in-Some.ensures.value) chosen
+    c.parts-parts.result.now c.as_slice-3.result.now (map (λ (x : Cells). x.col_type) c.deref_mut.result.now) c.parts-parts.ensures.parts c.as_slice-3.ensures types
+    c.in-Err-default-Damaged.part c.in-Err-default-Damaged.file _ _ _ (subst (λ (w : PartFault). ExplainsParts files c.parts-parts.result.now c.as_slice-3.result.now (map (λ (x : Cells). x.col_type) c.deref_mut.result.now) c.in-Err-default-Damaged.part w) c.in-Err-default-Damaged.field-0-1-is c.in-Err-default-Damaged.ensures.damaged)
+    c.in_ok-damaged-in-Err-default-Damaged.ensures
+
+pub returns-clause-damaged : goal.returns-clause-damaged
+returns-clause-damaged g c = λ bad. absurd (false≢true (sym (ap is_damage c.in_ok-print.ensures.reply_is) ∙ bad))

@@ -1,11 +1,12 @@
-use Rattle.std.proofs.Common.{Err, Ok, sym, ap, ◌∙◌, subst}
-use Rattle.std.specs.List.{Contains as HasItem}
-use Rattle.mt_model.specs.Refusals.{refusal_line}
+use Rattle.std.proofs.Common.{◌∷◌, ◌++◌, [], Err, Ok, sym, ap, ◌∙◌, subst}
+use Rattle.mt_model.specs.Refusals.{is_damage, refusal_line}
 use Rattle.mt_program.specs.Answers.{Accepts, Answers}
 use Rattle.mt_program.specs.Serving.{Item}
+use Rattle.root_log.specs.Crashes.{KeepsThroughCrashes}
 use Rattle.mt_program.proofs.Accepting.{accepts_nothing, kept_same}
 use Rattle.mt_program.proofs.Refusing.{text_refused}
 use Rattle.mt_program.proofs.Selecting.{selected_answers}
+use Rattle.mt_program.proofs.Undamaged.{cause_line}
 use Rattle.mt_program.proofs.serving.answer.Goals as goal
 
 pub returns-in-Ok-Select-clause-answers : goal.returns-in-Ok-Select-clause-answers
@@ -31,9 +32,17 @@ returns-in_ok-refusal_line-in-Err-clause-answers g c = λ kept is tells stands.
 
 -- what a crash leaves
 pub returns-in-Ok-Create-clause-through_crashes : goal.returns-in-Ok-Create-clause-through_crashes
-returns-in-Ok-Create-clause-through_crashes g c = λ statements first start tells has keeps.
-    c.create.ensures.through_crashes statements first start tells (subst (λ (s : Item). HasItem statements s) (c.in-Ok-Create.is ∙ ap Ok c.in-Ok-Create.field-0-is) has) keeps
+returns-in-Ok-Create-clause-through_crashes g c = λ ran first start tells was keeps.
+    let is = c.in-Ok-Create.is ∙ ap Ok c.in-Ok-Create.field-0-is in
+    subst (λ (s : Item). KeepsThroughCrashes g.D.Arm.Dir.Dir.files (ran ++ s ∷ []) c.create.new.store (g.D.Disk.failed c.create.new.disk) (g.D.Disk.told c.create.new.disk) (g.D.Disk.clock c.create.new.disk) (g.A.Annals.told c.create.new.annals) first start) (sym is)
+    (c.create.ensures.through_crashes ran first start tells was (subst (λ (s : Item). KeepsThroughCrashes g.D.Arm.Dir.Dir.files (ran ++ s ∷ []) c.args.store.now (g.D.Disk.failed c.args.disk.now) (g.D.Disk.told c.args.disk.now) (g.D.Disk.clock c.args.disk.now) (g.A.Annals.told c.args.annals.now) first start) is keeps))
 
 pub returns-in-Ok-Insert-clause-through_crashes : goal.returns-in-Ok-Insert-clause-through_crashes
-returns-in-Ok-Insert-clause-through_crashes g c = λ statements first start tells has keeps.
-    c.insert.ensures.through_crashes statements first start tells (subst (λ (s : Item). HasItem statements s) (c.in-Ok-Insert.is ∙ ap Ok c.in-Ok-Insert.field-0-is) has) keeps
+returns-in-Ok-Insert-clause-through_crashes g c = λ ran first start tells was keeps.
+    let is = c.in-Ok-Insert.is ∙ ap Ok c.in-Ok-Insert.field-0-is in
+    subst (λ (s : Item). KeepsThroughCrashes g.D.Arm.Dir.Dir.files (ran ++ s ∷ []) c.insert.new.store (g.D.Disk.failed c.insert.new.disk) (g.D.Disk.told c.insert.new.disk) (g.D.Disk.clock c.insert.new.disk) (g.A.Annals.told c.insert.new.annals) first start) (sym is)
+    (c.insert.ensures.through_crashes ran first start tells was (subst (λ (s : Item). KeepsThroughCrashes g.D.Arm.Dir.Dir.files (ran ++ s ∷ []) c.args.store.now (g.D.Disk.failed c.args.disk.now) (g.D.Disk.told c.args.disk.now) (g.D.Disk.clock c.args.disk.now) (g.A.Annals.told c.args.annals.now) first start) is keeps))
+
+-- the reply does not tell of damage
+pub returns-in_ok-refusal_line-in-Err-clause-undamaged : goal.returns-in_ok-refusal_line-in-Err-clause-undamaged
+returns-in_ok-refusal_line-in-Err-clause-undamaged g c = λ held. ap is_damage (c.in_ok-refusal_line-in-Err.ensures ∙ ap refusal_line c.of_cause.ensures) ∙ cause_line c.in-Err.cause

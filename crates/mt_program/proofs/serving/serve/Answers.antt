@@ -1,12 +1,11 @@
-use Rattle.std.proofs.Common.{◌∙◌, refl, sym, subst, arith, ◌+◌, List, drop}
-use Rattle.std.specs.List.{Contains as HasItem}
-use Rattle.part_set.proofs.Items.{item_first}
-use Rattle.part_set.proofs.Orphans.{item_more}
+use Rattle.std.proofs.Common.{◌∙◌, ◌∷◌, ◌++◌, [], refl, sym, subst, arith, ◌+◌, drop}
 use Rattle.mt_values.specs.Script.{statements_of}
 use Rattle.mt_program.proofs.ServedScripts.{served_none, served_all, served_so_far, served_unanswered, served_more, served_cut, no_statement, nothing_left, one_statement, is_written, Found, Used, used_within}
-use Rattle.mt_program.proofs.Crashing.{left_for_crashes}
+use Rattle.root_log.proofs.CrashDone.{keeps_more}
+use Rattle.mt_program.proofs.Crashing.{left_behind, one_more}
 use Rattle.mt_program.specs.Answers.{Accepts}
-use Rattle.mt_program.specs.Serving.{Item, Served}
+use Rattle.mt_program.specs.Serving.{Served}
+use Rattle.mt_program.proofs.Undamaged.{tallied_undamaged}
 use Rattle.mt_program.proofs.serving.serve.Goals as goal
 
 pub statements-init : goal.statements-init
@@ -17,8 +16,9 @@ statements-init g c = record {
   tells = refl;
   served = λ kept is tells stands settled. served_none g.D.Arm.Dir.Dir.files kept c.args.script.now c.args.store.now.opened (g.D.Disk.failed c.args.disk.now) (g.D.Arm.Arm.failed c.args.arm.now) c.none-tally.result c.args.store.now
       (g.A.Annals.told c.args.annals.now) (g.D.Disk.told c.args.disk.now) (g.K.Sink.written c.args.sink.now) is c.none-tally.ensures.refused c.none-tally.ensures.damaged stands settled;
-  rest = λ item has. has;
-  keeps = λ first start tells keeps. keeps;
+  held = λ tells held. held;
+  undamaged = λ tells held. c.none-tally.ensures.damaged;
+  keeps = λ first start tells keeps. ([], refl, keeps);
   within = omega arith;
   disk_later = omega arith;
   arm_later = omega arith;
@@ -94,15 +94,18 @@ statements-preserved g c = record {
       c.in-Ok-Some.found.1 c.in-Ok-Some.found.0 left c.answer.new.store (g.A.Annals.told c.answer.new.annals) (g.D.Disk.told c.answer.new.disk) c.in-Ok.reply.items (g.K.Sink.written c.write_all.new.sink) a (rw c.deref.ensures.value at c.in-Ok-write_all.ensures.all) in
       subst (λ t. Served files kept c.args.script.now c.args.store.now.opened disk arm (c.statements.at + c.in-Ok-Some.found.1) t c.answer.new.store (g.A.Annals.told c.answer.new.annals) (g.D.Disk.told c.answer.new.disk) (g.K.Sink.written c.args.sink.now) (g.K.Sink.written c.write_all.new.sink))
       (sym (rw c.deref-in-statements.ensures.value at c.with-tally.ensures)) more;
-  rest = λ item has.
-      let found = subst (λ o. Found c.args.script.now c.statements.at o) c.in-Ok-Some.field-0-is c.in-Ok-Some.ensures.found in
-      let left = one_statement c.args.script.now c.statements.at c.in-Ok-Some.found.1 c.in-Ok-Some.found.0 found in
-      c.statements.invariant.rest item (subst (λ (items : List Item). HasItem items item) (sym left) (item_more c.in-Ok-Some.found.0 item (statements_of (drop (c.statements.at + c.in-Ok-Some.found.1) c.args.script.now)) has));
+  held = λ tells held. c.in-Ok.ensures.held (c.statements.invariant.tells ∙ tells) (c.statements.invariant.held tells held);
+  undamaged = λ tells held.
+      let reply = c.in-Ok.ensures.undamaged (c.statements.invariant.held tells held) in
+      tallied_undamaged c.statements.tally c.in-Ok.reply.items c.with-tally.result (rw c.deref-in-statements.ensures.value at c.with-tally.ensures) (c.statements.invariant.undamaged tells held) reply;
   keeps = λ first start tells keeps.
       let found = subst (λ o. Found c.args.script.now c.statements.at o) c.in-Ok-Some.field-0-is c.in-Ok-Some.ensures.found in
       let left = one_statement c.args.script.now c.statements.at c.in-Ok-Some.found.1 c.in-Ok-Some.found.0 found in
-      let has = subst (λ (items : List Item). HasItem items c.in-Ok-Some.found.0) (sym left) (item_first c.in-Ok-Some.found.0 (statements_of (drop (c.statements.at + c.in-Ok-Some.found.1) c.args.script.now))) in
-      c.in-Ok.ensures.through_crashes (statements_of c.args.script.now) first start (c.statements.invariant.tells ∙ tells) (c.statements.invariant.rest c.in-Ok-Some.found.0 has) (c.statements.invariant.keeps first start tells keeps);
+      let was = c.statements.invariant.keeps first start tells keeps in (
+        was.0 ++ c.in-Ok-Some.found.0 ∷ [],
+        one_more c.args.script.now was.0 _ c.in-Ok-Some.found.0 _ was.1 left,
+        c.in-Ok.ensures.through_crashes was.0 first start (c.statements.invariant.tells ∙ tells) was.2 (keeps_more was.0 (c.in-Ok-Some.found.0 ∷ []) was.2),
+      );
   within = used_within c.args.script.now c.statements.at c.in-Ok-Some.found.1 c.statements.invariant.within (subst (λ o. Used c.args.script.now c.statements.at o) c.in-Ok-Some.field-0-is c.in-Ok-Some.ensures.used).1;
   disk_later = omega arith;
   arm_later = omega arith;
@@ -117,26 +120,39 @@ returns-clause-run g c = λ kept is tells stands settled.
 
 -- what a crash leaves
 pub returns-in-Ok-None-clause-through_crashes : goal.returns-in-Ok-None-clause-through_crashes
-returns-in-Ok-None-clause-through_crashes g c = λ first start tells keeps. left_for_crashes c.statements.invariant.opened (c.statements.invariant.keeps first start tells keeps)
+returns-in-Ok-None-clause-through_crashes g c = λ first start tells keeps.
+    let was = c.statements.invariant.keeps first start tells keeps in
+    left_behind (statements_of c.args.script.now) (statements_of (drop c.statements.at c.args.script.now)) was.1 c.statements.invariant.opened was.2
 
 pub returns-in-Err-clause-through_crashes : goal.returns-in-Err-clause-through_crashes
-returns-in-Err-clause-through_crashes g c = λ first start tells keeps. left_for_crashes c.statements.invariant.opened (c.statements.invariant.keeps first start tells keeps)
+returns-in-Err-clause-through_crashes g c = λ first start tells keeps.
+    let was = c.statements.invariant.keeps first start tells keeps in
+    left_behind (statements_of c.args.script.now) (statements_of (drop c.statements.at c.args.script.now)) was.1 c.statements.invariant.opened was.2
 
 pub returns-in-Err-answer-clause-through_crashes : goal.returns-in-Err-answer-clause-through_crashes
 returns-in-Err-answer-clause-through_crashes g c = λ first start tells keeps.
     let found = subst (λ o. Found c.args.script.now c.statements.at o) c.in-Ok-Some.field-0-is c.in-Ok-Some.ensures.found in
     let left = one_statement c.args.script.now c.statements.at c.in-Ok-Some.found.1 c.in-Ok-Some.found.0 found in
-    let has = subst (λ (items : List Item). HasItem items c.in-Ok-Some.found.0) (sym left) (item_first c.in-Ok-Some.found.0 (statements_of (drop (c.statements.at + c.in-Ok-Some.found.1) c.args.script.now))) in
-    left_for_crashes (c.in-Err-answer.ensures.opened ∙ c.statements.invariant.opened)
-    (c.in-Err-answer.ensures.through_crashes (statements_of c.args.script.now) first start (c.statements.invariant.tells ∙ tells) (c.statements.invariant.rest c.in-Ok-Some.found.0 has) (c.statements.invariant.keeps first start tells keeps))
+    let was = c.statements.invariant.keeps first start tells keeps in
+    left_behind (statements_of c.args.script.now) (statements_of (drop (c.statements.at + c.in-Ok-Some.found.1) c.args.script.now)) (one_more c.args.script.now was.0 _ c.in-Ok-Some.found.0 _ was.1 left)
+    (c.in-Err-answer.ensures.opened ∙ c.statements.invariant.opened) (c.in-Err-answer.ensures.through_crashes was.0 first start (c.statements.invariant.tells ∙ tells) was.2 (keeps_more was.0 (c.in-Ok-Some.found.0 ∷ []) was.2))
 
 pub returns-in-Err-write_all-clause-through_crashes : goal.returns-in-Err-write_all-clause-through_crashes
 returns-in-Err-write_all-clause-through_crashes g c = λ first start tells keeps.
     let found = subst (λ o. Found c.args.script.now c.statements.at o) c.in-Ok-Some.field-0-is c.in-Ok-Some.ensures.found in
     let left = one_statement c.args.script.now c.statements.at c.in-Ok-Some.found.1 c.in-Ok-Some.found.0 found in
-    let has = subst (λ (items : List Item). HasItem items c.in-Ok-Some.found.0) (sym left) (item_first c.in-Ok-Some.found.0 (statements_of (drop (c.statements.at + c.in-Ok-Some.found.1) c.args.script.now))) in
-    left_for_crashes (c.in-Ok.ensures.opened ∙ c.statements.invariant.opened)
-    (c.in-Ok.ensures.through_crashes (statements_of c.args.script.now) first start (c.statements.invariant.tells ∙ tells) (c.statements.invariant.rest c.in-Ok-Some.found.0 has) (c.statements.invariant.keeps first start tells keeps))
+    let was = c.statements.invariant.keeps first start tells keeps in
+    left_behind (statements_of c.args.script.now) (statements_of (drop (c.statements.at + c.in-Ok-Some.found.1) c.args.script.now)) (one_more c.args.script.now was.0 _ c.in-Ok-Some.found.0 _ was.1 left)
+    (c.in-Ok.ensures.opened ∙ c.statements.invariant.opened) (c.in-Ok.ensures.through_crashes was.0 first start (c.statements.invariant.tells ∙ tells) was.2 (keeps_more was.0 (c.in-Ok-Some.found.0 ∷ []) was.2))
 
 pub returns-clause-through_crashes : goal.returns-clause-through_crashes
-returns-clause-through_crashes g c = λ first start tells keeps. left_for_crashes c.statements.invariant.opened (c.statements.invariant.keeps first start tells keeps)
+returns-clause-through_crashes g c = λ first start tells keeps.
+    let was = c.statements.invariant.keeps first start tells keeps in
+    left_behind (statements_of c.args.script.now) (statements_of (drop c.statements.at c.args.script.now)) was.1 c.statements.invariant.opened was.2
+
+-- no reply told of damage
+pub returns-in-Ok-None-clause-undamaged : goal.returns-in-Ok-None-clause-undamaged
+returns-in-Ok-None-clause-undamaged g c = λ tells held. c.statements.invariant.undamaged tells held
+
+pub returns-clause-undamaged : goal.returns-clause-undamaged
+returns-clause-undamaged g c = λ tells held. c.statements.invariant.undamaged tells held

@@ -1,12 +1,11 @@
 -- the statements up to the place were answered
-use Rattle.std.proofs.Common.{◌≡◌, ◌≤◌, ◌-◌, ℕ, Some, true, drop, length}
-use Rattle.std.specs.List.{Contains as HasItem}
+use Rattle.std.proofs.Common.{◌≡◌, ◌++◌, [], List, ◌≤◌, ◌-◌, ℕ, Some, true, false, drop, length}
 use Rattle.mt_values.specs.Annals.{Told}
 use Rattle.mt_values.specs.Script.{statements_of}
 use Rattle.mt_program.specs.Answers.{history}
 use Rattle.mt_program.specs.Serving.{Item, Served}
 use Rattle.root_log.specs.Crashes.{KeepsThroughCrashes}
-use Rattle.root_log.specs.Soundness.{IsSound, NamesFitUnlessRisen, RootStands}
+use Rattle.root_log.specs.Soundness.{HasSoundParts, IsSound, NamesFitUnlessRisen, RootStands}
 use Rattle.root_log.specs.Stores.{CoreStands}
 use Rattle.mt_program.proofs.serving.serve.Given as goal
 
@@ -24,10 +23,12 @@ invariant-statements g l =
       tells : g.D.Arm.Arm.tells l.arm ≡ g.D.Arm.Arm.tells l.initial.arm;
       served : (kept : Told) → told l.initial.annals ≡ Some kept → g.D.Arm.Arm.tells l.initial.arm ≡ true → CoreStands files (history kept) l.initial.store → RootStands (g.D.Disk.told l.initial.disk) (history kept)
           → Served files kept l.script l.initial.store.opened (faults l.disk) (arm_faults l.arm) l.at l.tally l.store (told l.annals) (g.D.Disk.told l.disk) (written l.initial.sink) (written l.sink);
-      rest : (item : Item) → HasItem (statements_of (drop l.at l.script)) item → HasItem (statements_of l.script) item;
+      held : g.D.Arm.Arm.tells l.initial.arm ≡ true → HasSoundParts files l.initial.store → HasSoundParts files l.store;
+      undamaged : g.D.Arm.Arm.tells l.initial.arm ≡ true → HasSoundParts files l.initial.store → l.tally.damaged ≡ false;
       keeps : (first : Told) (start : ℕ) → g.D.Arm.Arm.tells l.initial.arm ≡ true
-          → KeepsThroughCrashes files (statements_of l.script) l.initial.store (faults l.initial.disk) (g.D.Disk.told l.initial.disk) (g.D.Disk.clock l.initial.disk) (told l.initial.annals) first start
-          → KeepsThroughCrashes files (statements_of l.script) l.store (faults l.disk) (g.D.Disk.told l.disk) (g.D.Disk.clock l.disk) (told l.annals) first start;
+          → KeepsThroughCrashes files [] l.initial.store (faults l.initial.disk) (g.D.Disk.told l.initial.disk) (g.D.Disk.clock l.initial.disk) (told l.initial.annals) first start
+          → (ran : List Item) × (statements_of l.script ≡ ran ++ statements_of (drop l.at l.script))
+          × KeepsThroughCrashes files ran l.store (faults l.disk) (g.D.Disk.told l.disk) (g.D.Disk.clock l.disk) (told l.annals) first start;
       within : l.at ≤ length l.script;
       disk_later : faults l.initial.disk ≤ faults l.disk;
       arm_later : arm_faults l.initial.arm ≤ arm_faults l.arm;

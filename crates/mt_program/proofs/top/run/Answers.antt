@@ -1,4 +1,4 @@
-use Rattle.std.proofs.Common.{◌∙◌, ◌≡◌, ◌⊎◌, ◌≤◌, ℕ, sym, subst}
+use Rattle.std.proofs.Common.{◌∙◌, ◌≡◌, ◌⊎◌, ◌≤◌, ℕ, inl, refl, sym, subst}
 use Rattle.mt_model.specs.Outside.{Counts}
 use Rattle.root_log.proofs.CrashSafe.{safe_at_start}
 use Rattle.mt_program.specs.Headline.{Leaves, NothingRan, ReadRun, RunBy}
@@ -61,6 +61,9 @@ pub returns-clause-sound : goal.returns-clause-sound
 returns-clause-sound g c = λ kept root told is stands bad.
     c.run_opened-ended.ensures.sound kept root told is stands (same_number c.run_opened-ended.result status.Damaged (sym c.number-status-2.ensures ∙ bad))
 
+pub returns-clause-damaged : goal.returns-clause-damaged
+returns-clause-damaged g c = λ root told bad. c.run_opened-ended.ensures.damaged root told (same_number c.run_opened-ended.result status.Damaged (sym c.number-status-2.ensures ∙ bad))
+
 pub returns-clause-whole : goal.returns-clause-whole
 returns-clause-whole g c = λ script left low.
     c.run_opened-ended.ensures.whole script left (at_most_one_is c.run_opened-ended.result (subst (λ n. n ≤ 1) c.number-status-2.ensures low))
@@ -85,3 +88,10 @@ returns-clause-complete g c = λ kept now script before starts there nothing rea
     (λ is. none_refused (g.D.Disk.told c.run_opened-ended.new.disk) (g.D.Disk.failed c.args.disk) (g.D.Disk.failed c.run_opened-ended.new.disk) kept now script before (g.A.Annals.told c.run_opened-ended.new.annals) (g.K.Sink.written c.run_opened-ended.new.sink) (is_command c.args.words.now)
     done.later disk there nothing
     (subst (λ (s : Status). Leaves (RunBy s (g.D.Disk.told c.run_opened-ended.new.disk) counts) kept script before (g.A.Annals.told c.run_opened-ended.new.annals) (g.K.Sink.written c.run_opened-ended.new.sink)) is left)))
+
+-- what a crash leaves once the names that were read are settled
+pub returns-then-not-is_command_line-clause-settles : goal.returns-then-not-is_command_line-clause-settles
+returns-then-not-is_command_line-clause-settles g c = λ kept told is known some all. inl (record { names = refl; list = refl; output = refl })
+
+pub returns-clause-settles : goal.returns-clause-settles
+returns-clause-settles g c = λ kept told is known some all. c.run_opened-ended.ensures.settles kept told is known some all

@@ -1,4 +1,4 @@
-use Rattle.std.proofs.Common.{◌≡◌, ◌⊎◌, ◌≤◌, ◌<◌, ℕ, true, false, Option, Err, inl, inr, ◌∙◌, sym, ap, subst, nat_lt, arith}
+use Rattle.std.proofs.Common.{◌≡◌, ◌⊎◌, ◌≤◌, ◌<◌, ℕ, true, false, Option, Err, inl, inr, ◌+◌, refl, ◌∙◌, sym, ap, subst, nat_lt, arith}
 use Rattle.std.specs.Prelude.{is_some}
 use Rattle.std.proofs.lemmas.Bool.Decides.{nat_tests}
 use Rattle.mt_outside.specs.Causes.{Rose}
@@ -16,6 +16,7 @@ use Rattle.root_log.proofs.CrashSafe.{safe_at_start, safe_opened}
 use Rattle.mt_program.specs.Crashes.{LeavesOfScript}
 use Rattle.mt_program.proofs.Crashing.{left_moved, nothing_of_script}
 use Rattle.mt_program.proofs.Heading.{answered_calm, answered_served, disk_fault, early_leaves, ended_early, error_early, error_undamaged, leaves_all, not_damaged, not_words, read_fault, root_told, too_long, write_fault}
+use Rattle.mt_program.proofs.Undamaged.{met_damage}
 use Rattle.mt_program.proofs.top.run_opened.Goals as goal
 
 -- the count of faults can't rise
@@ -83,6 +84,12 @@ returns-clause-sound g c = λ kept names told is stands bad.
     let here = c.in-Ok.ensures.told ∙ (c.start.ensures.told ∙ is) in
     let tells = c.in-Ok.ensures.tells ∙ ap is_some (c.start.ensures.told ∙ is) in
     not_damaged (nat_lt c.faults-opened.result c.faults.result) c.run_root-ended.result (c.run_root-ended.ensures.sound kept names told here stands tells) (sym c.status_at_end.ensures ∙ bad)
+
+pub returns-clause-damaged : goal.returns-clause-damaged
+returns-clause-damaged g c = λ names is bad.
+    let here = c.in-Ok.ensures.told ∙ (c.start.ensures.told ∙ is) in
+    let tells = c.in-Ok.ensures.tells ∙ ap is_some (c.start.ensures.told ∙ is) in
+    met_damage (root.names_of names) (nat_lt c.faults-opened.result c.faults.result) c.run_root-ended.result (c.run_root-ended.ensures.damaged names here tells) (sym c.status_at_end.ensures ∙ bad)
 
 pub returns-clause-whole : goal.returns-clause-whole
 returns-clause-whole g c = λ script left done.
@@ -168,3 +175,34 @@ returns-clause-crashes g c = λ kept told is known all.
     let root_later = c.run_root-ended.ensures.disk_later in
     let back_later = c.take_back.ensures.later in
     left_moved c.take_back.ensures.told c.take_back.ensures.clock (λ same. omega (arith, same, start_later, arm_later, root_later, back_later)) from_opened
+
+-- what a crash leaves once the names that were read are settled
+pub returns-then-opened-clause-settles : goal.returns-then-opened-clause-settles
+returns-then-opened-clause-settles g c = λ kept told is known some all. inl (record { names = refl; list = refl; output = refl })
+
+pub returns-in-Err-clause-settles : goal.returns-in-Err-clause-settles
+returns-in-Err-clause-settles g c = λ kept told is known some all. inl (record { names = c.start.ensures.told; list = refl; output = refl })
+
+pub returns-in-Err-arm-clause-settles : goal.returns-in-Err-arm-clause-settles
+returns-in-Err-arm-clause-settles g c = λ kept told is known some all. inl (record { names = c.in-Err-arm.ensures.told ∙ c.start.ensures.told; list = refl; output = refl })
+
+pub returns-clause-settles : goal.returns-clause-settles
+returns-clause-settles g c = λ kept told is known some all.
+    let here = c.in-Ok.ensures.told ∙ (c.start.ensures.told ∙ known) in
+    let tells = c.in-Ok.ensures.tells ∙ ap is_some (c.start.ensures.told ∙ known) in
+    let mark : g.D.Disk.clock c.arm.new.self ≡ g.D.Disk.clock c.args.disk.now = c.in-Ok.ensures.clock ∙ c.start.ensures.clock in
+    let left = c.run_root-ended.ensures.settles kept told is here tells some (subst (λ m. AllStand told (m + 1) (history kept)) (sym mark) all) in
+    let disk = c.run_root-ended.new.disk in
+    let annals = g.A.Annals.told c.run_root-ended.new.annals in
+    let out = g.K.Sink.written c.run_root-ended.new.sink in
+    elim left [
+      | inl same ↦ inl (record { names = c.take_back.ensures.told ∙ (same.names ∙ (c.in-Ok.ensures.told ∙ c.start.ensures.told)); list = same.list; output = same.output })
+      | inr leaves ↦ (
+          let from_start = subst (λ m. LeavesOfScript (g.S.Source.left c.args.source.now) c.faults-opened.result (g.D.Disk.failed disk) (g.D.Disk.told disk) (g.D.Disk.clock disk) annals kept (m + 1)) mark leaves in
+          let from_opened = subst (λ m. LeavesOfScript (g.S.Source.left c.args.source.now) m (g.D.Disk.failed disk) (g.D.Disk.told disk) (g.D.Disk.clock disk) annals kept (g.D.Disk.clock c.args.disk.now + 1)) c.faults-opened.ensures from_start in
+          let start_later = c.start.ensures.cause.later in
+          let arm_later = c.in-Ok.ensures.cause.later in
+          let root_later = c.run_root-ended.ensures.disk_later in
+          let back_later = c.take_back.ensures.later in
+          inr (left_moved c.take_back.ensures.told c.take_back.ensures.clock (λ same. omega arith) from_opened))
+    ]

@@ -1,10 +1,13 @@
-use Rattle.std.proofs.Common.{◌∙◌, subst, refl}
+use Rattle.std.proofs.Common.{[], ◌∙◌, ◌+◌, ℕ, None, subst, refl, sym, inl, inr}
+use Rattle.mt_outside.specs.Disk.{names_of}
 use Rattle.mt_program.specs.Answers.{history}
 use Rattle.mt_program.specs.Endings.{LeftBy}
-use Rattle.root_log.proofs.CrashSafe.{stands_as_read}
+use Rattle.root_log.specs.Crashes.{IsCrashSafe}
+use Rattle.root_log.proofs.CrashSafe.{safe_at_start, stands_as_read}
 use Rattle.mt_program.proofs.Crashing.{keeps_opened, nothing_of_script}
 use Rattle.mt_program.proofs.Heading.{root_told, writes_damage, writes_nothing}
 use Rattle.mt_program.proofs.Reopened.{reopened, sound_reopened, stands_reopened}
+use Rattle.mt_program.proofs.Undamaged.{not_opened}
 use Rattle.mt_program.proofs.top.run_root.Goals as goal
 
 -- the root was not opened
@@ -40,11 +43,14 @@ returns-clause-leaves g c = λ kept names script told is stands tells left.
     (g.K.Sink.written c.args.sink.now) (g.K.Sink.written c.run_script.new.sink)) c.in-Ok.ensures.told (c.run_script.ensures.leaves kept script told (c.in-Ok.ensures.tells ∙ tells) left core root_stands)
 
 pub returns-clause-sound : goal.returns-clause-sound
-returns-clause-sound g c = λ kept names told is stands tells.
-    let files = g.D.Arm.Dir.Dir.files in
-    let root_stands = root_told (g.D.Disk.told c.open.new.disk) names (history kept) (c.in-Ok.ensures.told ∙ is) stands in
-    let core = stands_reopened c.in-Ok.store c.args.opened files (history kept) (c.in-Ok.ensures.stands names (history kept) is stands) in
-    c.run_script.ensures.sound kept told (c.in-Ok.ensures.tells ∙ tells) core root_stands
+returns-clause-sound g c = λ kept names told is stands tells. c.run_script.ensures.undamaged (c.in-Ok.ensures.tells ∙ tells) (c.in-Ok.ensures.held names is)
+
+-- damage was met only where the root is damaged
+pub returns-in-Err-clause-damaged : goal.returns-in-Err-clause-damaged
+returns-in-Err-clause-damaged g c = λ names is tells. not_opened (names_of names) c.in-Err.fault c.failed_root.result (c.in-Err.ensures.damaged names is) c.failed_root.ensures.damaged
+
+pub returns-clause-damaged : goal.returns-clause-damaged
+returns-clause-damaged g c = λ names is tells. inl (c.run_script.ensures.undamaged (c.in-Ok.ensures.tells ∙ tells) (c.in-Ok.ensures.held names is))
 
 -- what a crash leaves
 pub returns-in-Err-clause-crashes : goal.returns-in-Err-clause-crashes
@@ -58,4 +64,25 @@ returns-clause-crashes g c = λ kept told is known tells all.
     let core = stands_reopened c.in-Ok.store c.args.opened files (history kept) (c.in-Ok.ensures.stands told (history kept) known (stands_as_read told start (history kept) all)) in
     let keeps = keeps_opened told kept (g.D.Disk.told c.open.new.disk) (g.D.Disk.clock c.open.new.disk) start (g.A.Annals.told c.args.annals.now) (c.in-Ok.ensures.told ∙ known) is (c.in-Ok.ensures.crashes told kept.list known all)
     files (reopened c.in-Ok.store c.args.opened) (g.D.Disk.failed c.open.new.disk) core in
-    c.run_script.ensures.through_crashes kept start (c.in-Ok.ensures.tells ∙ tells) keeps
+    c.run_script.ensures.through_crashes kept start (c.in-Ok.ensures.tells ∙ tells) (keeps [])
+
+-- what a crash leaves once the names that were read are settled
+pub returns-in-Err-clause-settles : goal.returns-in-Err-clause-settles
+returns-in-Err-clause-settles g c = λ kept told is known tells some all.
+    let stands = stands_as_read told (g.D.Disk.clock c.args.disk.now + 1) (history kept) all in
+    inl (record {
+      names = c.in-Err.ensures.told;
+      list = refl;
+      output = writes_nothing c.in-Err.fault c.failed_root.result (g.K.Sink.failed c.args.sink.now) (g.K.Sink.failed c.failed_root.new.sink) (g.K.Sink.written c.args.sink.now) (g.K.Sink.written c.failed_root.new.sink)
+          (c.in-Err.ensures.stands told (history kept) known stands) c.failed_root.ensures.writes;
+    })
+
+pub returns-clause-settles : goal.returns-clause-settles
+returns-clause-settles g c = λ kept told is known tells some all.
+    let files = g.D.Arm.Dir.Dir.files in
+    let start = g.D.Disk.clock c.args.disk.now + 1 in
+    let core = stands_reopened c.in-Ok.store c.args.opened files (history kept) (c.in-Ok.ensures.stands told (history kept) known (stands_as_read told start (history kept) all)) in
+    let safe = subst (λ (m : ℕ). IsCrashSafe told m kept.list None kept.list start) (sym (c.in-Ok.ensures.settled told known some)) (safe_at_start told start kept.list all) in
+    let keeps = keeps_opened told kept (g.D.Disk.told c.open.new.disk) (g.D.Disk.clock c.open.new.disk) start (g.A.Annals.told c.args.annals.now) (c.in-Ok.ensures.told ∙ known) is safe
+    files (reopened c.in-Ok.store c.args.opened) (g.D.Disk.failed c.open.new.disk) core in
+    inr (c.run_script.ensures.through_crashes kept start (c.in-Ok.ensures.tells ∙ tells) (keeps []))

@@ -1,17 +1,16 @@
 use Rattle.std.proofs.Common.{◌∙◌, ◌<◌, ◌^◌, sym, subst, List, ℕ, length}
 use Rattle.mt_program.specs.Endings.{IsEarly}
 use Rattle.mt_program.specs.Serving.{ServedBy}
-use Rattle.mt_values.specs.Script.{statements_of}
 use Rattle.mt_program.proofs.Crashing.{unread}
-use Rattle.mt_program.proofs.Heading.{all_read, nothing_left, sound_served, stop_early, stop_undamaged}
+use Rattle.mt_program.proofs.Heading.{all_read, nothing_left, stop_early, stop_undamaged}
 use Rattle.mt_program.proofs.top.run_script.Goals as goal
 
 -- the script was not read
 pub returns-in-Err-clause-early : goal.returns-in-Err-clause-early
 returns-in-Err-clause-early g c = subst IsEarly (sym c.failed_reading.ensures) (stop_early c.in-Err.stop)
 
-pub returns-in-Err-clause-sound : goal.returns-in-Err-clause-sound
-returns-in-Err-clause-sound g c = λ kept told tells stands settled bad. stop_undamaged c.in-Err.stop (sym c.failed_reading.ensures ∙ bad)
+pub returns-in-Err-clause-undamaged : goal.returns-in-Err-clause-undamaged
+returns-in-Err-clause-undamaged g c = λ tells held bad. stop_undamaged c.in-Err.stop (sym c.failed_reading.ensures ∙ bad)
 
 -- it was served
 pub returns-clause-leaves : goal.returns-clause-leaves
@@ -25,11 +24,6 @@ returns-clause-leaves g c = λ kept script told tells left stands settled.
     let before = g.K.Sink.written c.args.sink.now in
     let after = g.K.Sink.written c.serve-ending.new.sink in
     subst (λ (ys : List ℕ). ServedBy c.serve-ending.result kept ys c.args.store.now.opened disk arm now root before after) (c.deref.ensures.value ∙ text) served
-
-pub returns-clause-sound : goal.returns-clause-sound
-returns-clause-sound g c = λ kept told tells stands settled.
-    sound_served kept c.deref.result.now c.args.store.now.opened (g.D.Disk.failed c.serve-ending.new.disk) (g.D.Arm.Arm.failed c.serve-ending.new.arm) (g.A.Annals.told c.serve-ending.new.annals) (g.D.Disk.told c.serve-ending.new.disk)
-    (g.K.Sink.written c.args.sink.now) (g.K.Sink.written c.serve-ending.new.sink) c.serve-ending.result (c.serve-ending.ensures.run kept told tells stands settled)
 
 pub returns-clause-whole : goal.returns-clause-whole
 returns-clause-whole g c = λ script left.
@@ -50,5 +44,5 @@ returns-clause-through_crashes g c = λ first start tells keeps.
     record {
       text = c.deref.result.now;
       text_is = λ script left. c.deref.ensures.value ∙ all_read script c.in-Ok.text.items (g.S.Source.left c.args.source.now) (g.S.Source.left c.read_all.new.source) left all.0 all.1;
-      leaves = c.serve-ending.ensures.through_crashes first start tells (keeps (statements_of c.deref.result.now));
+      leaves = c.serve-ending.ensures.through_crashes first start tells keeps;
     }

@@ -1,4 +1,4 @@
-use Rattle.std.proofs.Common.{◌≡◌, ◌<◌, ℕ, List, Some, None, Err, length, refl, sym, ap, ◌∙◌, subst}
+use Rattle.std.proofs.Common.{◌≡◌, ◌∷◌, [], ◌<◌, ℕ, List, Some, None, Err, length, refl, sym, ap, ◌∙◌, subst}
 use Rattle.std.specs.Option.{ForSome, option_map}
 use Rattle.mt_values.specs.declared.command.Command.TheVariants as command
 use Rattle.mt_values.specs.declared.command.Entry.{Entry}
@@ -10,9 +10,11 @@ use Rattle.root_log.specs.Crashes.{entries_of}
 use Rattle.root_log.specs.Soundness.{NamesFit}
 use Rattle.root_log.specs.Stores.{table_at}
 use Rattle.root_log.proofs.CrashCommits.{grows_by_table}
+use Rattle.root_log.proofs.CrashDone.{keeps_more}
 use Rattle.root_log.proofs.CrashTurns.{kept_committed, kept_failed, kept_untouched, unrisen}
 use Rattle.root_log.proofs.Entering.{stands_created}
 use Rattle.root_log.proofs.FreeNames.{entry_free, made_fits}
+use Rattle.root_log.proofs.Holding.{held_made, held_same}
 use Rattle.root_log.proofs.Leaving.{cause_shown, disk_fault, disk_memory, none_shown, outside_disk, same_tables, shown_absent, shown_calm, shown_few, shown_other, taken_out}
 use Rattle.root_log.proofs.Rooted.{root_made}
 use Rattle.root_log.proofs.Sounding.{names_kept, sound_made, sound_same}
@@ -127,12 +129,15 @@ returns-clause-root_stands g c = λ h files s stands is holds.
     (absent g c) (few g c) c.requires.schema c.requires.named is holds (returns-clause-root g c)
 
 -- what a crash leaves
+pub returns-in-Some-clause-through_crashes : goal.returns-in-Some-clause-through_crashes
+returns-in-Some-clause-through_crashes g c = λ ran statement first start files is holds of keeps. keeps_more ran (statement ∷ []) keeps
+
 pub returns-in-Err-clause-through_crashes : goal.returns-in-Err-clause-through_crashes
-returns-in-Err-clause-through_crashes g c = λ statements first start files is holds of keeps.
-    kept_untouched g.D.Arm.Dir.Dir.files statements c.args.store.now _ first start _ _ _ _ _ _ _ (returns-in-Err-clause-same g c) refl refl c.in-Err.ensures.told keeps
+returns-in-Err-clause-through_crashes g c = λ ran statement first start files is holds of keeps.
+    kept_untouched g.D.Arm.Dir.Dir.files ran statement c.args.store.now _ first start _ _ _ _ _ _ _ (returns-in-Err-clause-same g c) refl refl c.in-Err.ensures.told keeps
 
 pub returns-in-Err-commit-clause-through_crashes : goal.returns-in-Err-commit-clause-through_crashes
-returns-in-Err-commit-clause-through_crashes g c = λ statements first start files is holds of keeps.
+returns-in-Err-commit-clause-through_crashes g c = λ ran statement first start files is holds of keeps.
     let store = c.args.store.now in
     let table = c.args.create.table in
     let none = none_shown (λ n. refuses_create store table n) _ _ _ c.refuse_create.ensures c.faults.ensures c.in_default.is in
@@ -145,18 +150,28 @@ returns-in-Err-commit-clause-through_crashes g c = λ statements first start fil
     let unless = unrisen c.of_disk-cause.result store.opened (g.D.Disk.failed c.args.disk.now) (g.D.Disk.failed c.commit.new.disk) (g.D.Disk.told c.args.disk.now) (g.D.Disk.told c.commit.new.disk)
     c.requires.opened c.requires.below c.in-Err-commit.ensures.cause.later (returns-in-Err-commit-clause-rose g c)
     (λ other. c.in-Err-commit.ensures.memory (ap Err (disk_memory c.in-Err-commit.error c.of_disk-cause.result c.of_disk-cause.ensures other))) in
-    kept_failed g.D.Arm.Dir.Dir.files statements store _ first start (g.D.Disk.clock c.args.disk.now) (create_name table) c.args.sealed.files files e _ _ _ _ is calm.0
+    kept_failed g.D.Arm.Dir.Dir.files ran statement store _ first start (g.D.Disk.clock c.args.disk.now) (create_name table) c.args.sealed.files files e _ _ _ _ is keeps.safe calm.0
     (grows_by_table g.D.Arm.Dir.Dir.files store (entries_of calm.0.kept.list) c.args.session (calm.1 calm.0.kept calm.0.annals_is) files (c.in-Err-commit.ensures.sealed files is) c.args.create
     (shown_absent store table _ none) (shown_few store table _ none) c.requires.schema c.requires.named holds)
     _ _ of c.in-Err-commit.ensures.mark_err may begun (returns-in-Err-commit-clause-same g c) calm.1 unless
 
 pub returns-clause-through_crashes : goal.returns-clause-through_crashes
-returns-clause-through_crashes g c = λ statements first start files is holds of keeps.
+returns-clause-through_crashes g c = λ ran statement first start files is holds of keeps.
     let store = c.args.store.now in
     let table = c.args.create.table in
     let calm = keeps.calm (shown_calm store table _ (none g c) c.requires.opened) in
     let e : Entry = record { session = c.args.session; command = command.Create c.args.create } in
-    kept_committed g.D.Arm.Dir.Dir.files statements store _ first start (g.D.Disk.clock c.args.disk.now) (create_name table) c.args.sealed.files files e _ _ _ _ is calm.0
+    kept_committed g.D.Arm.Dir.Dir.files ran statement store _ first start (g.D.Disk.clock c.args.disk.now) (create_name table) c.args.sealed.files files e _ _ _ _ is keeps.safe calm.0
     (grows_by_table g.D.Arm.Dir.Dir.files store (entries_of calm.0.kept.list) c.args.session (calm.1 calm.0.kept calm.0.annals_is) files (c.in-Ok-commit.ensures.sealed files is) c.args.create
     (absent g c) (few g c) c.requires.schema c.requires.named holds)
-    _ _ c.in-Ok-commit.ensures.settled (returns-clause-root g c) (returns-clause-annals g c) (returns-clause-stands g c (entries_of calm.0.kept.list) (calm.1 calm.0.kept calm.0.annals_is))
+    _ _ of c.in-Ok-commit.ensures.settled (returns-clause-root g c) (returns-clause-annals g c) (returns-clause-stands g c (entries_of calm.0.kept.list) (calm.1 calm.0.kept calm.0.annals_is))
+
+-- the parts hold rows
+pub returns-in-Err-clause-held : goal.returns-in-Err-clause-held
+returns-in-Err-clause-held g c = λ held. held_same g.D.Arm.Dir.Dir.files c.args.store.now _ (returns-in-Err-clause-same g c) held
+
+pub returns-in-Err-commit-clause-held : goal.returns-in-Err-commit-clause-held
+returns-in-Err-commit-clause-held g c = λ held. held_same g.D.Arm.Dir.Dir.files c.args.store.now _ (returns-in-Err-commit-clause-same g c) held
+
+pub returns-clause-held : goal.returns-clause-held
+returns-clause-held g c = λ held. held_made g.D.Arm.Dir.Dir.files c.args.store.now _ _ _ (returns-clause-enters g c) c.requires.store held

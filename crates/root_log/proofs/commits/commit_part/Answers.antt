@@ -1,4 +1,4 @@
-use Rattle.std.proofs.Common.{◌≡◌, ◌+◌, ◌<◌, ℕ, List, Some, None, Err, refl, sym, ap, ◌∙◌, subst, arith}
+use Rattle.std.proofs.Common.{◌≡◌, ◌∷◌, [], ◌+◌, ◌<◌, ℕ, List, Some, None, Err, refl, sym, ap, ◌∙◌, subst, arith}
 use Rattle.std.specs.Option.{ForSome, option_map}
 use Rattle.mt_values.specs.declared.command.Entry.{Entry}
 use Rattle.mt_values.specs.Annals.{Told, began, noted}
@@ -16,8 +16,10 @@ use Rattle.root_log.specs.Soundness.{NamesFit}
 use Rattle.root_log.specs.Stores.{table_at}
 use Rattle.root_log.proofs.Behind.{PartIsAdded, enters_part, none_meets}
 use Rattle.root_log.proofs.CrashCommits.{grows_by_part}
+use Rattle.root_log.proofs.CrashDone.{keeps_more}
 use Rattle.root_log.proofs.CrashTurns.{kept_committed, kept_failed, kept_untouched, unrisen}
 use Rattle.root_log.proofs.FreeNames.{added_fits, fresh_named, part_free}
+use Rattle.root_log.proofs.Holding.{held_added, held_same}
 use Rattle.root_log.proofs.Inserted.{stands_inserted}
 use Rattle.root_log.proofs.Leaving.{disk_fault, disk_memory, none_shown, shown_number, shown_part_calm}
 use Rattle.root_log.proofs.Rooted.{root_added}
@@ -119,12 +121,15 @@ pub returns-in-Ok-enter_part-clause-names : goal.returns-in-Ok-enter_part-clause
 returns-in-Ok-enter_part-clause-names g c = λ _. added_fits _ _ _ _ _ (added g c) _ _ _ _ (small g c) (fit g c) (published g c)
 
 -- what a crash leaves
+pub returns-in-Some-clause-through_crashes : goal.returns-in-Some-clause-through_crashes
+returns-in-Some-clause-through_crashes g c = λ u ran statement first start at is of keeps. keeps_more ran (statement ∷ []) keeps
+
 pub returns-in-Err-clause-through_crashes : goal.returns-in-Err-clause-through_crashes
-returns-in-Err-clause-through_crashes g c = λ u statements first start at is of keeps.
-    kept_untouched g.D.Arm.Dir.Dir.files statements c.args.store.now _ first start _ _ _ _ _ _ _ (record { tables = refl; parts = c.in-Err.ensures.parts; length_is = refl; opened_is = refl }) refl refl c.in-Err.ensures.told keeps
+returns-in-Err-clause-through_crashes g c = λ u ran statement first start at is of keeps.
+    kept_untouched g.D.Arm.Dir.Dir.files ran statement c.args.store.now _ first start _ _ _ _ _ _ _ (record { tables = refl; parts = c.in-Err.ensures.parts; length_is = refl; opened_is = refl }) refl refl c.in-Err.ensures.told keeps
 
 pub returns-in-Err-commit-clause-through_crashes : goal.returns-in-Err-commit-clause-through_crashes
-returns-in-Err-commit-clause-through_crashes g c = λ u statements first start at is of keeps.
+returns-in-Err-commit-clause-through_crashes g c = λ u ran statement first start at is of keeps.
     let store = c.args.store.now in
     let table = c.args.table.now in
     let t : Table = c.index.result.now in
@@ -141,13 +146,13 @@ returns-in-Err-commit-clause-through_crashes g c = λ u statements first start a
     c.requires.opened c.requires.below c.in-Err-commit.ensures.cause.later
     (λ disk. c.in-Err-commit.ensures.cause.failed (ap Err (disk_fault c.in-Err-commit.error c.of_disk-cause.result c.of_disk-cause.ensures disk)))
     (λ other. c.in-Err-commit.ensures.memory (ap Err (disk_memory c.in-Err-commit.error c.of_disk-cause.result c.of_disk-cause.ensures other))) in
-    kept_failed g.D.Arm.Dir.Dir.files statements store _ first start (g.D.Disk.clock c.args.disk.now) (part_name table (part_text (fresh_part (t.drawn + 1)))) c.args.part.sealed.files here.files e _ _ _ _ here.sealed_are calm.0
+    kept_failed g.D.Arm.Dir.Dir.files ran statement store _ first start (g.D.Disk.clock c.args.disk.now) (part_name table (part_text (fresh_part (t.drawn + 1)))) c.args.part.sealed.files here.files e _ _ _ _ here.sealed_are keeps.safe calm.0
     (grows_by_part g.D.Arm.Dir.Dir.files store (entries_of calm.0.kept.list) c.args.session (calm.1 calm.0.kept calm.0.annals_is) here.files (c.in-Err-commit.ensures.sealed here.files here.sealed_are) table t c.args.block c.index.ensures
     (shown_number store table _ t.drawn none) (c.requires.rows t c.index.ensures) here.holds)
     _ _ of c.in-Err-commit.ensures.mark_err may begun (record { tables = refl; parts = c.in-Ok.ensures.parts; length_is = refl; opened_is = refl }) calm.1 unless
 
 pub returns-in-Ok-enter_part-clause-through_crashes : goal.returns-in-Ok-enter_part-clause-through_crashes
-returns-in-Ok-enter_part-clause-through_crashes g c = λ u statements first start at is of keeps.
+returns-in-Ok-enter_part-clause-through_crashes g c = λ u ran statement first start at is of keeps.
     let store = c.args.store.now in
     let table = c.args.table.now in
     let t : Table = c.index.result.now in
@@ -158,7 +163,24 @@ returns-in-Ok-enter_part-clause-through_crashes g c = λ u statements first star
     let notes : g.A.Annals.told c.commit.new.annals ≡ option_map (λ (x : Told). noted mark (began e x)) (g.A.Annals.told c.args.annals.now) =
     c.in-Ok-commit.ensures.annals
     ∙ (ap (λ (x : Entry). option_map (λ (y : Told). noted mark (began x y)) (g.A.Annals.told c.prepare_part.new.annals)) c.in-Ok.ensures.entry ∙ ap (option_map (λ (y : Told). noted mark (began e y))) c.in-Ok.ensures.told) in
-    kept_committed g.D.Arm.Dir.Dir.files statements store _ first start (g.D.Disk.clock c.args.disk.now) (part_name table (part_text (fresh_part (t.drawn + 1)))) c.args.part.sealed.files here.files e _ _ _ _ here.sealed_are calm.0
+    kept_committed g.D.Arm.Dir.Dir.files ran statement store _ first start (g.D.Disk.clock c.args.disk.now) (part_name table (part_text (fresh_part (t.drawn + 1)))) c.args.part.sealed.files here.files e _ _ _ _ here.sealed_are keeps.safe calm.0
     (grows_by_part g.D.Arm.Dir.Dir.files store (entries_of calm.0.kept.list) c.args.session (calm.1 calm.0.kept calm.0.annals_is) here.files (c.in-Ok-commit.ensures.sealed here.files here.sealed_are) table t c.args.block c.index.ensures
     (small g c) (c.requires.rows t c.index.ensures) here.holds)
-    _ _ c.in-Ok-commit.ensures.settled (published g c) notes (returns-in-Ok-enter_part-clause-stands g c (entries_of calm.0.kept.list) u (calm.1 calm.0.kept calm.0.annals_is) at is)
+    _ _ of c.in-Ok-commit.ensures.settled (published g c) notes (returns-in-Ok-enter_part-clause-stands g c (entries_of calm.0.kept.list) u (calm.1 calm.0.kept calm.0.annals_is) at is)
+
+-- the parts hold rows
+pub returns-in-Err-clause-held : goal.returns-in-Err-clause-held
+returns-in-Err-clause-held g c = λ u at is held.
+    held_same g.D.Arm.Dir.Dir.files c.args.store.now (record { tables = c.args.store.now.tables; set = c.prepare_part.new.set; length = c.args.store.now.length; opened = c.args.store.now.opened })
+    (record { tables = refl; parts = c.in-Err.ensures.parts; length_is = refl; opened_is = refl }) held
+
+pub returns-in-Err-commit-clause-held : goal.returns-in-Err-commit-clause-held
+returns-in-Err-commit-clause-held g c = λ u at is held.
+    held_same g.D.Arm.Dir.Dir.files c.args.store.now (record { tables = c.args.store.now.tables; set = c.prepare_part.new.set; length = c.args.store.now.length; opened = c.args.store.now.opened })
+    (record { tables = refl; parts = c.in-Ok.ensures.parts; length_is = refl; opened_is = refl }) held
+
+pub returns-in-Ok-enter_part-clause-held : goal.returns-in-Ok-enter_part-clause-held
+returns-in-Ok-enter_part-clause-held g c = λ u at is held.
+    let t : Table = c.index.result.now in
+    let here : IsSealedOf t.schema c.args.block c.args.part.sealed.files c.args.part.loaded = subst (λ (x : Table). IsSealedOf x.schema c.args.block c.args.part.sealed.files c.args.part.loaded) (sym (same g c u at)) is in
+    held_added g.D.Arm.Dir.Dir.files c.args.store.now c.enter_part.new.store c.args.table.now t c.args.block c.args.part.sealed.files c.args.part.loaded here (sealed g c) held

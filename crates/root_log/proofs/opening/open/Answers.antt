@@ -4,10 +4,13 @@ use Rattle.std.proofs.lemmas.List.{nil_from_length}
 use Rattle.std.proofs.lemmas.Option.{MatchOption-at_some}
 use Rattle.mt_outside.specs.Disk.{names_of}
 use Rattle.part_set.specs.Visible.{HasNoOrphan}
+use Rattle.part_set.specs.declared.root_name.RootName.{RootName}
+use Rattle.root_log.specs.Damage.{DamagedAt}
 use Rattle.root_log.specs.Names.{IsFirstBadText}
 use Rattle.root_log.specs.Opening.{IsNotDamaged, TellsDamage}
 use Rattle.root_log.proofs.CrashSafe.{safe_opened}
 use Rattle.root_log.proofs.Fitting.{fits_store}
+use Rattle.root_log.proofs.Holding.{held_opened}
 use Rattle.root_log.proofs.NamesTold.{told_first}
 use Rattle.root_log.proofs.NextNames.{are_read}
 use Rattle.root_log.proofs.Opened.{is_zero, no_names, nothing_told, stands_undamaged}
@@ -86,3 +89,13 @@ returns-clause-crashes g c = λ told list known all. safe_opened told _ (g.D.Dis
   | then-not-is_empty+in_ok-sync_names w ↦ inr (search rules)
   | else-not-is_empty w ↦ inl (search rules)
 ])
+
+-- no part is damaged
+pub returns-clause-held : goal.returns-clause-held
+returns-clause-held g c = λ told known.
+    let are = MatchOption-at_some _ _ told known c.in_ok-list.ensures.names in
+    let root = c.in_ok-root.root in
+    let store = c.in_ok-store.ensures.store told (c.in_ok-list.ensures.told ∙ known) in
+    let same = one_reading (names_of told) root.names.items store.read (are_read root c.in_ok-root.ensures.named told (c.in_ok-root.ensures.texts ∙ are)) store.are in
+    held_opened g.D.Arm.Dir.Dir.files (names_of told) c.in_ok-store.store store c.in_ok-store.ensures.sound
+    (λ place f bad. c.in_ok-store.ensures.undamaged told place f (c.in_ok-list.ensures.told ∙ known) (subst (λ (read : List RootName). DamagedAt (names_of told) read place f) (sym same) bad))
