@@ -1,65 +1,62 @@
 // One folder, from its making to its removal.
-use disk_real::{RealArm, RealDir, RealDisk, System};
+use disk_real::{RealArm, RealDir, RealDisk, RealStage, System};
 use mt_base::Seq;
-use mt_outside::{Arm, Disk, Stage};
+use mt_outside::{Arm, Disk, DiskError, Stage};
 use mt_values::{FileId, Name};
 use std::alloc::{AllocGlobal, Global};
 use std::fs;
 use std::process::Abort;
 use std::test::Fail;
 
-// The names of the disk, one a line.
-fn listed(alloc: Global, disk: &mut RealDisk<HostRuntime>) -> Result<Vec<u8>, Fail> {
-    let mut text = Vec::new(alloc);
-    for name in disk.list(alloc)? {
-        text.extend_from_slice(name.as_slice())?;
-        text.push(b'\n')?;
-    }
-    Ok(text)
-}
-
-// The bytes of a file from a place on, at most eight of them.
-fn bytes_at<R: System + Send>(
-    alloc: Global,
-    arm: &mut RealArm<R>,
-    dir: &RealDir,
-    file: FileId,
-    at: u64,
-) -> Result<Vec<u8>, Fail> {
-    let mut buf = [0; 8];
-    let count = arm.read(dir, file, at, &mut buf)?;
-    Ok(Vec::from_slice(alloc, &buf[..count])?)
-}
-
-// Publishes a folder of two files from the second of two stages; the first is given up.
-fn publish(
-    alloc: Global,
-    disk: &mut RealDisk<HostRuntime>,
-    arm: &mut RealArm<HostRuntime>,
-    name: &Name,
-) -> Result<RealDir, Fail> {
-    let mut given_up = arm.stage(alloc)?;
-    given_up.append(FileId::Entry, b"none")?;
-    arm.abandon(given_up);
+// Begins a stage and gives it up.
+fn give_up(alloc: Global, arm: &mut RealArm<HostRuntime>) -> Result<(), DiskError> {
     let mut stage = arm.stage(alloc)?;
+    let done = stage.append(FileId::Entry, b"none");
+    arm.abandon(stage);
+    done
+}
+
+// Writes and syncs two files, and syncs one that is not there.
+fn fill(stage: &mut RealStage<HostRuntime>) -> Result<(), DiskError> {
     stage.append(FileId::Entry, b"CREATE ")?;
     stage.append(FileId::Column(0), &[1, 2])?;
     stage.append(FileId::Entry, b"TABLE t")?;
     stage.sync(FileId::Entry)?;
     stage.sync(FileId::Column(0))?;
-    stage.sync(FileId::Marks)?;
-    let dir = disk.publish(alloc, stage, name)?;
-    disk.sync_names()?;
-    Ok(dir)
+    stage.sync(FileId::Marks)
 }
 
-// What is read of the folder, and what lies in it.
-fn check_files<R: System + Send + AllocGlobal + Abort>(
+// Publishes a folder of two files.
+fn publish(
+    alloc: Global,
+    disk: &mut RealDisk<HostRuntime>,
+    arm: &mut RealArm<HostRuntime>,
+    name: &Name,
+) -> Result<RealDir, DiskError> {
+    let mut stage = arm.stage(alloc)?;
+    fill(&mut stage)?;
+    disk.publish(alloc, stage, name)
+}
+
+// The disk has one name.
+fn check_names<R: System + Send + AllocGlobal + Abort>(
+    rt: &R,
+    disk: &mut RealDisk<R>,
+) -> Result<(), Fail> {
+    let names = disk.list(rt.alloc())?;
+    assert_eq!(rt; names.len(), 1);
+    for name in &names {
+        assert_eq!(rt; name.as_slice(), b"t.create".as_slice());
+    }
+    Ok(())
+}
+
+// What is read of the folder, at most eight bytes of each place.
+fn check_reads<R: System + Send + Abort>(
     rt: &R,
     arm: &mut RealArm<R>,
     dir: &RealDir,
 ) -> Result<(), Fail> {
-    let alloc = rt.alloc();
     for (file, at, want) in [
         (FileId::Entry, 0, b"CREATE T".as_slice()),
         (FileId::Entry, 8, b"ABLE t".as_slice()),
@@ -68,13 +65,44 @@ fn check_files<R: System + Send + AllocGlobal + Abort>(
         (FileId::Column(0), u64::MAX, b"".as_slice()),
         (FileId::Column(1), 0, b"".as_slice()),
     ] {
-        assert_eq!(rt; bytes_at(alloc, arm, dir, file, at)?.as_slice(), want);
+        let mut buf = [0; 8];
+        let count = arm.read(dir, file, at, &mut buf)?;
+        assert_eq!(rt; &buf[..count], want);
     }
-    let entry = fs::read(rt, "root/t.create/entry.bin")?;
-    assert_eq!(rt; entry.as_slice(), b"CREATE TABLE t".as_slice());
-    let column = fs::read(rt, "root/t.create/c0.bin")?;
-    assert_eq!(rt; column.as_slice(), [1, 2].as_slice());
     Ok(())
+}
+
+// A file of the system has these bytes.
+fn check_file<R: System + AllocGlobal + Abort>(
+    rt: &R,
+    path: &str,
+    want: &[u8],
+) -> Result<(), Fail> {
+    let bytes = fs::read(rt, path)?;
+    assert_eq!(rt; bytes.as_slice(), want);
+    Ok(())
+}
+
+// What is read of the folder, and what lies in it.
+fn check_files<R: System + Send + AllocGlobal + Abort>(
+    rt: &R,
+    arm: &mut RealArm<R>,
+    dir: &RealDir,
+) -> Result<(), Fail> {
+    check_reads(rt, arm, dir)?;
+    check_file(rt, "root/t.create/entry.bin", b"CREATE TABLE t")?;
+    check_file(rt, "root/t.create/c0.bin", &[1, 2])
+}
+
+// The same of the folder that is opened anew.
+fn check_opened<R: System + Send + AllocGlobal + Abort>(
+    rt: &R,
+    disk: &mut RealDisk<R>,
+    arm: &mut RealArm<R>,
+    name: &Name,
+) -> Result<(), Fail> {
+    let dir = disk.open(rt.alloc(), name)?;
+    check_files(rt, arm, &dir)
 }
 
 // What can't be done once the folder is removed: three faults of the disk, and one of the arm.
@@ -94,6 +122,23 @@ fn check_faults<R: System + Send + AllocGlobal + Abort>(
     Ok(())
 }
 
+// What is found of a folder that was published, up to its removal and behind it.
+fn check_folder<R: System + Send + AllocGlobal + Abort>(
+    rt: &R,
+    disk: &mut RealDisk<R>,
+    arm: &mut RealArm<R>,
+    dir: &RealDir,
+    name: &Name,
+) -> Result<(), Fail> {
+    disk.sync_names()?;
+    check_names(rt, disk)?;
+    check_files(rt, arm, dir)?;
+    check_opened(rt, disk, arm, name)?;
+    disk.remove(name)?;
+    disk.sync_names()?;
+    check_faults(rt, disk, arm, dir, name)
+}
+
 #[test]
 fn a_folder_is_published_read_and_removed(rt: HostRuntime) -> Result<(), Fail> {
     let alloc = rt.alloc();
@@ -101,14 +146,9 @@ fn a_folder_is_published_read_and_removed(rt: HostRuntime) -> Result<(), Fail> {
     disk.start("root")?;
     let name = Seq::from_slice(alloc, b"t.create")?;
     let mut arm = disk.arm(alloc)?;
+    give_up(alloc, &mut arm)?;
     let dir = publish(alloc, &mut disk, &mut arm, &name)?;
-    let names = listed(alloc, &mut disk)?;
-    assert_eq!(rt; names.as_slice(), b"t.create\n".as_slice());
-    check_files(&rt, &mut arm, &dir)?;
-    check_files(&rt, &mut arm, &disk.open(alloc, &name)?)?;
-    disk.remove(&name)?;
-    disk.sync_names()?;
-    check_faults(&rt, &mut disk, &mut arm, &dir, &name)?;
+    check_folder(&rt, &mut disk, &mut arm, &dir, &name)?;
     disk.take_back(arm);
     assert_eq!(rt; (disk.mark(), disk.faults()), (2, 4));
     Ok(())

@@ -1,3 +1,0 @@
-// Whole runs: what they print, and what they print of scripts that differ by one byte.
-mod changes;
-mod replies;
