@@ -1,15 +1,13 @@
 -- What is left for a crash, from opening to the end of a run.
 use Rattle.std.proofs.Common.{◌≡◌, ◌++◌, ◌∷◌, ℕ, List, [], Option, Some, None, inl, refl, sym, ◌∙◌, subst, ap, append-nil, append_assoc}
-use Rattle.std.proofs.lemmas.List.Elements.{All-nil}
-use Rattle.mt_values.specs.declared.annals.Noted.{Noted}
 use Rattle.mt_values.specs.Annals.{Told}
 use Rattle.mt_values.specs.Script.{statements_of}
 use Rattle.mt_outside.specs.Disk as root
 use Rattle.mt_outside.specs.Files.{Files}
 use Rattle.root_log.specs.declared.store.CoreStore.{CoreStore}
-use Rattle.root_log.specs.Crashes.{AreCalm, AreCrashSafe, IsCommandOf, IsCrashSafe, KeepsThroughCrashes, entries_of}
+use Rattle.root_log.specs.Crashes.{AreCalm, AreCrashSafe, IsCrashSafe, KeepsThroughCrashes, entries_of}
 use Rattle.root_log.specs.Stores.{CoreStands}
-use Rattle.root_log.proofs.CrashDone.{keeps_more}
+use Rattle.root_log.proofs.CrashDone.{keeps_more, no_commands}
 use Rattle.root_log.proofs.CrashSafe.{safe_begun}
 use Rattle.mt_program.specs.Crashes.{LeavesForCrashes, LeavesOfScript}
 use Rattle.mt_program.specs.Serving.{Item}
@@ -56,7 +54,7 @@ module _ (told : root.Told) (kept : Told) (disk : Option root.Told) (clock start
     safe = safe_begun told clock kept.list kept.begun kept.list start safe;
     more = [];
     more_is = sym (append-nil kept.list);
-    added = All-nil (λ (n : Noted). IsCommandOf statements n.entry);
+    added = no_commands statements;
     begun = λ e is. inl is;
   }
 

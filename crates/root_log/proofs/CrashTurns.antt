@@ -5,7 +5,6 @@ use Rattle.std.specs.Cmp.Lexicographic.{slice_cmp}
 use Rattle.std.specs.Option.{option_map}
 use Rattle.std.specs.Ordering.{nat_cmp}
 use Rattle.std.proofs.lemmas.List.{map_push}
-use Rattle.std.proofs.lemmas.List.Elements.{All-push}
 use Rattle.mt_values.specs.declared.annals.Noted.{Noted}
 use Rattle.mt_values.specs.declared.command.Entry.{Entry}
 use Rattle.mt_values.specs.declared.statement.Cause.{Cause}
@@ -24,7 +23,7 @@ use Rattle.root_log.specs.Commits.{SameStore}
 use Rattle.root_log.specs.Crashes.{AreCrashSafe, AreCalm, IsCommandBehind, IsCommandOf, KeepsThroughCrashes, StandsForKept, entries_of}
 use Rattle.root_log.specs.Roots.{Stands}
 use Rattle.root_log.specs.Stores.{CoreStands}
-use Rattle.root_log.proofs.CrashDone.{command_last, commands_more, safe_more}
+use Rattle.root_log.proofs.CrashDone.{commands_more, commands_push, safe_more}
 use Rattle.root_log.proofs.CrashSafe.{safe_begun, safe_noted, safe_published}
 use Rattle.root_log.proofs.SameStores.{stands_same}
 
@@ -114,7 +113,7 @@ module _ {F : Type 0} (files_of : F → Option Files) (ran : List (Result Statem
               safe = safe_begun settled.told (clock + 1) settled.kept.list settled.kept.begun first.list start settled.settled;
               more = was.more ++ last ∷ [];
               more_is = ap (λ (ns : List Noted). ns ++ last ∷ []) list_was ∙ append_assoc first.list was.more (last ∷ []);
-              added = All-push (λ (n : Noted). IsCommandOf behind n.entry) was.more last (commands_more ran (statement ∷ []) was.more was.added) (command_last ran statement e of);
+              added = commands_push ran statement was.more last was.added of;
               begun = λ x is. let none = is in cc;
             };
             calm = λ _. (settled, committed_stands notes_then stands);

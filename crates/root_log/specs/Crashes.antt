@@ -1,5 +1,5 @@
 -- What a crash leaves of a root while commands are added to it (docs/definitions.md, "Crashes").
-use Rattle.std.specs.Prelude.{◌≡◌, ◌⊎◌, ℕ, ◌+◌, ◌≤◌, List, [], ◌∷◌, ◌++◌, length, map, take, slice_get, All, Option, Some, None, Result, Ok}
+use Rattle.std.specs.Prelude.{◌≡◌, ◌⊎◌, ℕ, ◌+◌, ◌≤◌, List, [], ◌∷◌, ◌++◌, length, map, take, slice_get, Option, Some, None, Result, Ok}
 use Rattle.std.specs.List.{Contains as HasItem}
 use Rattle.std.specs.Option.{ForSome}
 use Rattle.mt_values.specs.declared.annals.Noted.{Noted}
@@ -70,9 +70,12 @@ IsCommandBy (statement.Select s) c = ⊥
 abbrev pub IsCommandOf : List (Result Statement Cause) → Entry → Type 0
 IsCommandOf statements e = (e.session ≡ 0) × ((s : Statement) × HasItem statements (Ok s) × IsCommandBy s e.command)
 
--- these entries are commands of statements
-abbrev pub AreCommandsOf : List (Result Statement Cause) → List Noted → Type 0
-AreCommandsOf statements more = All (λ (n : Noted). IsCommandOf statements n.entry) more
+-- these entries are commands of statements, in the statements' order, and each of a statement of its own
+unfoldable pub AreCommandsOf : List (Result Statement Cause) → List Noted → Type 0
+AreCommandsOf [] entries = entries ≡ []
+AreCommandsOf (s ∷ statements) entries =
+    AreCommandsOf statements entries
+    ⊎ ((n : Noted) × (more : List Noted) × (entries ≡ n ∷ more) × IsCommandOf (s ∷ []) n.entry × AreCommandsOf statements more)
 
 -- it is the command of a statement behind those whose commands these entries are
 abbrev pub IsCommandBehind : List (Result Statement Cause) → List Noted → Entry → Type 0
