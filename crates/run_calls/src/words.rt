@@ -1,24 +1,21 @@
-// Words of cases: numbers, types, and whether a text ended.
+// Words of cases: types, and numbers with commas between them.
 ghost use Rattle.std.specs.Prelude.{◌<◌, ◌↔◌, All, IsTrue};
 
-use crate::stop::Stop;
 use mt_values::ColType;
+use run_memory::{Trouble, short_number};
 use std::alloc::Global;
 
-pub fn number(word: &str) -> Result<u32, Stop> {
-    word.parse::<u32>().ok().ok_or(Stop::Malformed)
-}
-
-/// Numbers with blanks between them.
-pub fn numbers(alloc: Global, words: &str) -> Result<Vec<u32>, Stop> {
+/// Numbers with commas between them.
+pub fn numbers_of(alloc: Global, words: &str) -> Result<Vec<u32>, Trouble> {
     let mut numbers = Vec::new(alloc);
-    for word in words.split_whitespace() {
-        numbers.push(number(word)?)?;
+    for word in words.split(',') {
+        numbers.push(short_number(word)?)?;
     }
     Ok(numbers)
 }
 
-pub fn col_type(word: &str) -> Result<ColType, Stop> {
+/// The type of this name.
+pub fn type_of(word: &str) -> Result<ColType, Trouble> {
     match word {
         "UInt8" => Ok(ColType::UInt8),
         "UInt16" => Ok(ColType::UInt16),
@@ -29,25 +26,7 @@ pub fn col_type(word: &str) -> Result<ColType, Stop> {
         "Int32" => Ok(ColType::Int32),
         "Int64" => Ok(ColType::Int64),
         "String" => Ok(ColType::Text),
-        _ => Err(Stop::Malformed),
-    }
-}
-
-/// Types with blanks between them.
-pub fn col_types(alloc: Global, words: &str) -> Result<Vec<ColType>, Stop> {
-    let mut types = Vec::new(alloc);
-    for word in words.split_whitespace() {
-        types.push(col_type(word)?)?;
-    }
-    Ok(types)
-}
-
-/// Whether a text ended, or more of it may come.
-pub fn ending(word: &str) -> Result<bool, Stop> {
-    match word {
-        "ended" => Ok(true),
-        "open" => Ok(false),
-        _ => Err(Stop::Malformed),
+        _ => Err(Trouble("no such type")),
     }
 }
 

@@ -1,177 +1,151 @@
-// What the lines set up: the root, the script, and what the last run left.
-use crate::setting::{Setting, damaged_root, file_of};
-use crate::text::{bytes_of, first_word, no_words, number_of, words_of};
-use crate::trouble::Trouble;
-use mt_values::FileId;
-use run_memory::{FIRST, File, Folder, Left, column_files, disk_of, entry_file, manifest_file};
+// What lines set up, and the lines that run.
+use crate::root::Root;
+use crate::runs::run_over;
+use crate::script::Script;
+use crate::setting::Setting;
+use mt_values::Name;
+use run_memory::{Outside, Trouble, first_word, number_of, shown, statements, told};
 use std::alloc::{AllocError, Global};
+use std::sync::Wait;
+use std::thread::Threads;
 
-/// What the lines before the next run have set up.
+/// What the lines before the next run have set up, what the last run left, and what is printed of a line.
 #[derive(Drop)]
 pub struct Bench {
     pub alloc: Global,
-    /// The words of a run for which no others are set up.
-    usual_words: Vec<String>,
-    pub root: Vec<Folder>,
-    /// The pieces of the script.
-    pub script: Vec<Vec<u8>>,
+    pub out: String,
+    pub root: Root,
+    pub script: Script,
     pub setting: Setting,
-    pub left: Option<Left>,
+    pub outside: Outside,
 }
 
-// The words of a command line.
-fn usual_words(alloc: Global) -> Result<Vec<String>, AllocError> {
-    let mut words = Vec::new(alloc);
-    for word in ["mergetree", "--path", "d"] {
-        words.push(String::from_str(alloc, word)?)?;
+// All that the plain program tells of a script, of which the status is that of another run.
+fn plain_told(alloc: Global, status: u8, script: &[u8]) -> Result<String, Trouble> {
+    let statements = statements(alloc, script)?;
+    let plain = mt_plain::run(alloc, &statements)?;
+    told(alloc, status, &plain.history, &plain.out).map_err(Trouble::from)
+}
+
+// Adds names with blanks in front.
+fn add_names(alloc: Global, out: &mut String, names: &[Name]) -> Result<(), AllocError> {
+    for name in names {
+        let text = shown(alloc, name.as_slice())?;
+        write!(out, " {text}")?;
     }
-    Ok(words)
-}
-
-// Puts a file into a folder, in place of one with its number.
-fn put_file(folder: &mut Folder, file: File) -> Result<(), AllocError> {
-    let id = file.id;
-    folder.files.retain(|other| other.id != id);
-    folder.files.push(file)?;
     Ok(())
-}
-
-// The files of a part of so many rows in these columns.
-fn part_files(alloc: Global, rows: u64, columns: &str) -> Result<Vec<File>, Trouble> {
-    let columns = words_of(alloc, columns)?;
-    let count = u32::try_from(columns.len()).or(Err(Trouble::Form))?;
-    let mut files = column_files(alloc, &columns)?;
-    files.push(manifest_file(alloc, FIRST, rows, count, &columns)?)?;
-    Ok(files)
-}
-
-// The manifest that these words give.
-fn manifest_of(alloc: Global, rest: &str) -> Result<File, Trouble> {
-    let (first, rest) = first_word(rest);
-    let (rows, rest) = first_word(rest);
-    let (count, marked) = first_word(rest);
-    let rows = number_of(rows)?;
-    let count = u32::try_from(number_of(count)?).or(Err(Trouble::Form))?;
-    let first = bytes_of(alloc, first)?;
-    let marked = words_of(alloc, marked)?;
-    Ok(manifest_file(alloc, &first, rows, count, &marked)?)
 }
 
 impl Bench {
     /// An empty root, and no script.
-    pub fn new(alloc: Global) -> Result<Bench, AllocError> {
+    pub fn new(alloc: Global) -> Result<Bench, Trouble> {
+        let setting = Setting::new(alloc)?;
+        let outside = Outside::new(alloc)?;
+        let folders = Vec::new(alloc);
+        let bytes = Vec::new(alloc);
         Ok(Bench {
             alloc,
-            usual_words: usual_words(alloc)?,
-            root: Vec::new(alloc),
-            script: Vec::new(alloc),
-            setting: Setting::new(alloc),
-            left: None,
+            out: String::new(alloc),
+            root: Root { alloc, folders },
+            script: Script { alloc, bytes },
+            setting,
+            outside,
         })
     }
 
-    /// The words of the next run.
-    pub fn words(&self) -> &[String] {
-        match &self.setting.words {
-            Some(words) => words,
-            None => &self.usual_words,
+    // Makes what the next run finds: the root as it was set up, with the damaged files, of which the listed calls fail.
+    fn begin(&mut self) -> Result<(), Trouble> {
+        let setting = &self.setting;
+        self.outside.fill(&self.root.folders, &setting.damages)?;
+        self.outside.plan(&setting.failing_calls, setting.stop)
+    }
+
+    // Tells how the last run ended.
+    fn tell_answer(&mut self, title: &str) -> Result<(), Trouble> {
+        let answer = self.outside.answer()?;
+        writeln!(self.out, "  {title}{answer}").map_err(Trouble::from)
+    }
+
+    // Runs the script as it was set up, over what is there.
+    fn go<R: Threads + Wait + Sync>(&mut self, rt: &R) -> Result<(), Trouble> {
+        run_over(rt, &mut self.outside, &self.setting, &self.script.bytes)
+    }
+
+    /// Runs the script over the root.
+    pub fn run<R: Threads + Wait + Sync>(&mut self, rt: &R, rest: &str) -> Result<(), Trouble> {
+        self.script.set_any(rest)?;
+        self.begin()?;
+        self.go(rt)?;
+        self.tell_answer("")
+    }
+
+    /// Runs the script over the root, and says whether the root is as it was.
+    pub fn probe<R: Threads + Wait + Sync>(&mut self, rt: &R, rest: &str) -> Result<(), Trouble> {
+        self.script.set_any(rest)?;
+        self.begin()?;
+        let before = self.outside.root()?;
+        self.go(rt)?;
+        let is_kept = self.outside.root()? == before;
+        self.tell_answer(if is_kept {
+            "root kept, "
+        } else {
+            "root changed, "
+        })
+    }
+
+    /// Runs the script over what the last run left, with its keeper.
+    pub fn again<R: Threads + Wait + Sync>(&mut self, rt: &R, rest: &str) -> Result<(), Trouble> {
+        self.script.set_any(rest)?;
+        self.go(rt)?;
+        self.tell_answer("")
+    }
+
+    // All that a run of the script over an empty disk tells.
+    fn told_alone<R: Threads + Wait + Sync>(
+        &mut self,
+        rt: &R,
+        by_bytes: bool,
+    ) -> Result<String, Trouble> {
+        self.outside.clear()?;
+        self.setting.by_bytes = by_bytes;
+        self.go(rt)?;
+        self.outside.told().map_err(Trouble::from)
+    }
+
+    /// Runs the script over an empty disk, in whole pieces and by single bytes, and by the plain program.
+    pub fn check<R: Threads + Wait + Sync>(&mut self, rt: &R, rest: &str) -> Result<(), Trouble> {
+        self.script.set_any(rest)?;
+        let by_bytes = self.told_alone(rt, true)?;
+        let whole = self.told_alone(rt, false)?;
+        let plain = plain_told(self.alloc, self.outside.status, &self.script.bytes)?;
+        self.tell_answer(if by_bytes == whole && plain == whole {
+            "three alike, "
+        } else {
+            "not alike, "
+        })
+    }
+
+    /// Tells the names of the root that the last run left.
+    pub fn names(&mut self) -> Result<(), Trouble> {
+        let names = self.outside.names()?;
+        write!(self.out, "  {} names", names.len())?;
+        add_names(self.alloc, &mut self.out, &names)?;
+        self.out.push('\n').map_err(Trouble::from)
+    }
+
+    /// Crashes, and leaves the image of a choice.
+    pub fn crash(&mut self, rest: &str) -> Result<(), Trouble> {
+        let choice = number_of(rest)?;
+        self.outside.crash(choice)
+    }
+
+    /// Runs the script so many times over the root, with one read, write or call failing in turn.
+    pub fn each<R: Threads + Wait + Sync>(&mut self, rt: &R, rest: &str) -> Result<(), Trouble> {
+        let (what, count) = first_word(rest);
+        for number in 0..number_of(count)? {
+            self.setting.fail_at(what, number)?;
+            self.run(rt, "")?;
         }
-    }
-
-    /// The whole script.
-    pub fn script(&self) -> Result<Vec<u8>, AllocError> {
-        self.script.concat(self.alloc)
-    }
-
-    /// What the next run finds: the root as it was set up, of which the listed calls fail.
-    pub fn begin(&self) -> Result<Left, Trouble> {
-        let alloc = self.alloc;
-        let root = damaged_root(alloc, &self.root, &self.setting.damages)?;
-        let mut disk = disk_of(alloc, &root)?;
-        disk.fail(&self.setting.failing_calls)?;
-        if let Some(calls) = self.setting.stop {
-            disk.stop_after(calls);
-        }
-        Ok(Left::of(alloc, disk))
-    }
-
-    // Whether the root has a folder of this name.
-    fn has(&self, name: &[u8]) -> bool {
-        self.root
-            .iter()
-            .any(|folder| folder.name.as_slice() == name)
-    }
-
-    // Adds a folder of a name that is not there.
-    fn add_folder(&mut self, name: Vec<u8>, files: Vec<File>) -> Result<(), Trouble> {
-        if self.has(&name) {
-            return Err(Trouble::Twice);
-        }
-        self.root.push(Folder { name, files })?;
         Ok(())
-    }
-
-    // Puts a file into the folder of a name.
-    fn add_file(&mut self, name: &[u8], file: File) -> Result<(), Trouble> {
-        for folder in self.root.iter_mut() {
-            if folder.name.as_slice() == name {
-                put_file(folder, file)?;
-                return Ok(());
-            }
-        }
-        Err(Trouble::Absent)
-    }
-
-    /// A root without names, which no run left.
-    pub fn clear(&mut self, rest: &str) -> Result<(), Trouble> {
-        no_words(rest)?;
-        self.root.clear();
-        self.left = None;
-        Ok(())
-    }
-
-    /// A folder without files.
-    pub fn folder(&mut self, rest: &str) -> Result<(), Trouble> {
-        let name = bytes_of(self.alloc, rest)?;
-        self.add_folder(name, Vec::new(self.alloc))
-    }
-
-    /// A folder with the entry of a text.
-    pub fn entry(&mut self, rest: &str) -> Result<(), Trouble> {
-        let (name, text) = first_word(rest);
-        let name = bytes_of(self.alloc, name)?;
-        let file = entry_file(self.alloc, &bytes_of(self.alloc, text)?)?;
-        self.add_folder(name, Vec::from_array(self.alloc, [file])?)
-    }
-
-    /// A folder with files of columns, and the manifest of so many rows in them.
-    pub fn part(&mut self, rest: &str) -> Result<(), Trouble> {
-        let (name, rest) = first_word(rest);
-        let (rows, columns) = first_word(rest);
-        let files = part_files(self.alloc, number_of(rows)?, columns)?;
-        self.add_folder(bytes_of(self.alloc, name)?, files)
-    }
-
-    /// A manifest with these first bytes and numbers and with the marks of these files, in a folder that is there.
-    pub fn manifest(&mut self, rest: &str) -> Result<(), Trouble> {
-        let (name, rest) = first_word(rest);
-        let manifest = manifest_of(self.alloc, rest)?;
-        self.add_file(&bytes_of(self.alloc, name)?, manifest)
-    }
-
-    /// A file with these bytes, in a folder that is there.
-    pub fn file(&mut self, rest: &str) -> Result<(), Trouble> {
-        let (name, rest) = first_word(rest);
-        let (file, bytes) = first_word(rest);
-        let id = file_of(file).ok_or(Trouble::Form)?;
-        let bytes = bytes_of(self.alloc, bytes)?;
-        let name = bytes_of(self.alloc, name)?;
-        self.add_file(&name, File { id, bytes })
-    }
-
-    /// Whether the folder of a name has a file.
-    pub fn has_file(&self, name: &[u8], file: FileId) -> bool {
-        self.root.iter().any(|folder| folder.name.as_slice() == name
-            && folder.files.iter().any(|one| one.id == file))
     }
 }

@@ -1,219 +1,143 @@
 // What is set up for the next run alone: its words and streams, the calls that fail, and damaged files.
-use crate::text::{first_word, number_of};
-use crate::trouble::Trouble;
+use crate::root::file_of;
 use disk_mem::{CallKind, Listed};
-use mt_values::FileId;
-use run_memory::{File, Folder, Streams};
+use run_memory::{Change, Damage, Trouble, bytes_of, first_word, number_of, short_number};
 use std::alloc::{AllocError, Global};
-
-/// How a file is damaged.
-#[derive(Clone, Copy)]
-pub enum Change {
-    Missing,
-    Empty,
-    Cut,
-    Longer,
-    First,
-    Middle,
-    Last,
-}
-
-impl Change {
-    /// The change of this name.
-    pub fn of(word: &str) -> Option<Change> {
-        match word {
-            "missing" => Some(Change::Missing),
-            "empty" => Some(Change::Empty),
-            "cut" => Some(Change::Cut),
-            "longer" => Some(Change::Longer),
-            "first" => Some(Change::First),
-            "middle" => Some(Change::Middle),
-            "last" => Some(Change::Last),
-            _ => None,
-        }
-    }
-}
-
-/// The file of a folder that is damaged, and how.
-#[derive(Drop)]
-pub struct Damage {
-    pub name: Vec<u8>,
-    pub id: FileId,
-    pub change: Change,
-}
 
 /// What is set up for the next run alone.
 #[derive(Drop)]
 pub struct Setting {
-    pub words: Option<Vec<String>>,
+    pub alloc: Global,
+    /// The words of the command line.
+    pub words: Vec<String>,
+    /// Whether each read gives one byte, and each write takes one.
     pub by_bytes: bool,
-    pub failing_reads: Vec<u64>,
-    pub failing_writes: Vec<u64>,
+    /// The numbers of the read and of the write that fail, from 0.
+    pub failing_read: Option<u64>,
+    pub failing_write: Option<u64>,
     pub failing_calls: Vec<Listed>,
+    /// After how many calls the disk stops.
     pub stop: Option<u64>,
     pub damages: Vec<Damage>,
 }
 
-impl Setting {
-    /// Streams in whole pieces, and nothing that fails.
-    pub fn new(alloc: Global) -> Setting {
-        Setting {
-            words: None,
-            by_bytes: false,
-            failing_reads: Vec::new(alloc),
-            failing_writes: Vec::new(alloc),
-            failing_calls: Vec::new(alloc),
-            stop: None,
-            damages: Vec::new(alloc),
-        }
-    }
-
-    /// The streams of a run of a script.
-    pub fn streams<'a>(&'a self, script: &'a [u8]) -> Streams<'a> {
-        Streams {
-            script,
-            by_bytes: self.by_bytes,
-            failing_reads: &self.failing_reads,
-            failing_writes: &self.failing_writes,
-        }
-    }
-}
-
-/// The file of this name in a folder.
-pub fn file_of(word: &str) -> Option<FileId> {
-    match word {
-        "entry.bin" => Some(FileId::Entry),
-        "manifest.bin" => Some(FileId::Manifest),
-        "marks.bin" => Some(FileId::Marks),
-        "primary.bin" => Some(FileId::Primary),
-        _ => {
-            let front = word.strip_suffix(".bin")?;
-            match front.strip_prefix("c") {
-                Some(number) => Some(FileId::Column(number.parse::<u32>().ok()?)),
-                None => Some(FileId::Skip(front.strip_prefix("s")?.parse::<u32>().ok()?)),
-            }
-        }
-    }
-}
-
 // The kind of call of this name.
-fn kind_of(word: &str) -> Option<CallKind> {
+fn kind_of(word: &str) -> Result<CallKind, Trouble> {
     match word {
-        "start" => Some(CallKind::Start),
-        "arm" => Some(CallKind::Arm),
-        "list" => Some(CallKind::List),
-        "open" => Some(CallKind::Open),
-        "publish" => Some(CallKind::Publish),
-        "remove" => Some(CallKind::Remove),
-        "sync-names" => Some(CallKind::SyncNames),
-        "stage" => Some(CallKind::Stage),
-        "read" => Some(CallKind::Read),
-        "append" => Some(CallKind::Append),
-        "sync" => Some(CallKind::Sync),
-        _ => None,
+        "start" => Ok(CallKind::Start),
+        "arm" => Ok(CallKind::Arm),
+        "list" => Ok(CallKind::List),
+        "open" => Ok(CallKind::Open),
+        "publish" => Ok(CallKind::Publish),
+        "remove" => Ok(CallKind::Remove),
+        "sync-names" => Ok(CallKind::SyncNames),
+        "stage" => Ok(CallKind::Stage),
+        "read" => Ok(CallKind::Read),
+        "append" => Ok(CallKind::Append),
+        "sync" => Ok(CallKind::Sync),
+        _ => Err(Trouble("no such call")),
     }
 }
 
-// A number of 32 bits.
-fn short_number(word: &str) -> Result<u32, Trouble> {
-    u32::try_from(number_of(word)?).or(Err(Trouble::Form))
-}
-
-// The number of an arm or a stage: none where the word is a dash.
-fn object_number(word: &str) -> Result<Option<u32>, Trouble> {
-    if word == "-" {
-        return Ok(None);
-    }
-    Ok(Some(short_number(word)?))
-}
-
-/// The call that these words name: an arm, a stage, a kind and a number.
-pub fn listed_of(text: &str) -> Result<Listed, Trouble> {
+// The call that these words name: an arm, a stage, a kind and a number. An arm or a stage that is none is written as a dash.
+fn listed_of(text: &str) -> Result<Listed, Trouble> {
     let (arm, rest) = first_word(text);
     let (stage, rest) = first_word(rest);
     let (kind, number) = first_word(rest);
+    let kind = kind_of(kind)?;
+    let number = short_number(number)?;
     Ok(Listed {
-        arm: object_number(arm)?,
-        stage: object_number(stage)?,
-        kind: kind_of(kind).ok_or(Trouble::Form)?,
-        number: short_number(number)?,
+        arm: arm.parse::<u32>().ok(),
+        stage: stage.parse::<u32>().ok(),
+        kind,
+        number,
     })
 }
 
-// Turns the lowest bit of the byte at a place.
-fn turn(bytes: &mut [u8], place: usize) {
-    if let Some(byte) = bytes.get_mut(place) {
-        *byte ^= 1;
+// The change of a word with a number behind it, where it takes one.
+fn change_of(text: &str) -> Result<Change, Trouble> {
+    let (word, number) = first_word(text);
+    let number = number.parse::<usize>().unwrap_or(0);
+    match word {
+        "missing" => Ok(Change::Missing),
+        "longer" => Ok(Change::Longer),
+        "cut" => Ok(Change::Cut(number)),
+        "turned" => Ok(Change::Turned(number)),
+        _ => Err(Trouble("no such change")),
     }
 }
 
-// Damages a file.
-fn change_file(file: &mut File, change: Change) -> Result<(), AllocError> {
-    let bytes = &mut file.bytes;
-    let last = bytes.len().saturating_sub(1);
-    match change {
-        // The folder has its bytes as another file.
-        Change::Missing => file.id = FileId::Skip(0),
-        Change::Empty => bytes.clear(),
-        Change::Cut => bytes.truncate(last),
-        Change::Longer => bytes.push(0)?,
-        Change::First => turn(bytes, 0),
-        Change::Middle => turn(bytes, last / 2),
-        Change::Last => turn(bytes, last),
-    }
-    Ok(())
-}
-
-// A copy of a file of a folder, damaged where it is listed.
-fn damaged_file(
-    alloc: Global,
-    name: &[u8],
-    file: &File,
-    damages: &[Damage],
-) -> Result<File, AllocError> {
-    let bytes = Vec::from_slice(alloc, &file.bytes)?;
-    let mut copy = File { id: file.id, bytes };
-    for damage in damages {
-        if damage.name.as_slice() == name && damage.id == file.id {
-            change_file(&mut copy, damage.change)?;
+// The words of a command line. No word is written `""`.
+fn texts_of(alloc: Global, text: &str) -> Result<Vec<String>, AllocError> {
+    let mut words = Vec::new(alloc);
+    if !text.is_empty() {
+        for word in text.split(' ') {
+            let word = if word == "\"\"" { "" } else { word };
+            words.push(String::from_str(alloc, word)?)?;
         }
     }
-    Ok(copy)
+    Ok(words)
 }
 
-// A copy of the files of a folder, damaged where they are listed.
-fn damaged_files(
-    alloc: Global,
-    folder: &Folder,
-    damages: &[Damage],
-) -> Result<Vec<File>, AllocError> {
-    let mut files = Vec::new(alloc);
-    for file in &folder.files {
-        files.push(damaged_file(alloc, &folder.name, file, damages)?)?;
+impl Setting {
+    /// The usual words, streams in whole pieces, and nothing that fails.
+    pub fn new(alloc: Global) -> Result<Setting, AllocError> {
+        Ok(Setting {
+            alloc,
+            words: texts_of(alloc, "mergetree --path d")?,
+            by_bytes: false,
+            failing_read: None,
+            failing_write: None,
+            failing_calls: Vec::new(alloc),
+            stop: None,
+            damages: Vec::new(alloc),
+        })
     }
-    Ok(files)
-}
 
-// A copy of a folder, with its damaged files.
-fn damaged_folder(
-    alloc: Global,
-    folder: &Folder,
-    damages: &[Damage],
-) -> Result<Folder, AllocError> {
-    let files = damaged_files(alloc, folder, damages)?;
-    let name = Vec::from_slice(alloc, &folder.name)?;
-    Ok(Folder { name, files })
-}
-
-/// A copy of a root, with its damaged files.
-pub fn damaged_root(
-    alloc: Global,
-    root: &[Folder],
-    damages: &[Damage],
-) -> Result<Vec<Folder>, AllocError> {
-    let mut copy = Vec::new(alloc);
-    for folder in root {
-        copy.push(damaged_folder(alloc, folder, damages)?)?;
+    /// A file of the root that is damaged, and how.
+    pub fn damage(&mut self, rest: &str) -> Result<(), Trouble> {
+        let (name, rest) = first_word(rest);
+        let (file, change) = first_word(rest);
+        let id = file_of(file)?;
+        let change = change_of(change)?;
+        let name = bytes_of(self.alloc, name)?;
+        self.damages.push(Damage { name, id, change })?;
+        Ok(())
     }
-    Ok(copy)
+
+    /// A call that fails.
+    pub fn fail(&mut self, rest: &str) -> Result<(), Trouble> {
+        let listed = listed_of(rest)?;
+        self.failing_calls.push(listed)?;
+        Ok(())
+    }
+
+    /// The read or the write of a number fails, or the disk stops after so many calls.
+    pub fn fail_at(&mut self, what: &str, number: u64) -> Result<(), Trouble> {
+        match what {
+            "read" => self.failing_read = Some(number),
+            "write" => self.failing_write = Some(number),
+            "stop" => self.stop = Some(number),
+            _ => return Err(Trouble("nothing of this name can fail")),
+        }
+        Ok(())
+    }
+
+    /// The same of a number in decimal digits.
+    pub fn fail_next(&mut self, what: &str, number: &str) -> Result<(), Trouble> {
+        let number = number_of(number)?;
+        self.fail_at(what, number)
+    }
+
+    /// Streams by single bytes.
+    pub fn by_bytes(&mut self) -> Result<(), Trouble> {
+        self.by_bytes = true;
+        Ok(())
+    }
+
+    /// The words of the command line.
+    pub fn set_words(&mut self, rest: &str) -> Result<(), Trouble> {
+        self.words = texts_of(self.alloc, rest)?;
+        Ok(())
+    }
 }

@@ -1,14 +1,16 @@
-//! The outside in memory for whole runs: roots that a run begins with, runs over them, and what is left behind them.
+//! What the programs of cases share: how their lines write bytes, roots that a run begins with, and the outside in memory.
 #![tactic(auto)]
 
-mod images;
-mod not_run;
+mod damages;
+mod outside;
 mod roots;
-mod runs;
+mod scripts;
+mod text;
+mod trouble;
 
-pub use images::{ALL_KEPT, choices};
-pub use not_run::NotRun;
-pub use roots::{
-    FIRST, File, Folder, column_files, disk_of, entry_file, manifest_file, names_left, root_left,
-};
-pub use runs::{Ended, Left, Streams, calm, run_over, shown};
+pub use damages::{Change, Damage};
+pub use outside::{Outside, told};
+pub use roots::{FIRST, File, Folder, column_files, entry_file, manifest_file};
+pub use scripts::statements;
+pub use text::{bytes_of, first_word, marked, number_of, short_number, shown, words_of};
+pub use trouble::Trouble;
