@@ -1,5 +1,6 @@
 -- Bytes are read in one way: no two values of a type begin one text, so no two lists of values do.
-use Rattle.std.proofs.Common.{◌≡◌, ℕ, suc, ◌+◌, ◌%◌, ◌^◌, ◌<◌, ◌≤◌, ℤ, List, [], ◌∷◌, ◌++◌, ◌⊎◌, All, refl, sym, ap, ap₂, ◌∙◌, inl, inr, length, length-append, take, drop, append_assoc, append-nil, arith, FitsSigned}
+use Rattle.std.proofs.Common.{◌≡◌, ℕ, suc, ◌+◌, ◌%◌, ◌^◌, ◌<◌, ◌≤◌, ℤ, List, [], ◌∷◌, ◌++◌, ◌⊎◌, All, refl, sym, ap, ap₂, ◌∙◌, inl, inr, length, length-append, take, drop, append_assoc, append-nil, arith, FitsSigned, subst}
+use Rattle.std.specs.Prelude.{⊤}
 use Rattle.std.proofs.Math.Facts.{Fits-of_z}
 use Rattle.std.proofs.lemmas.Bool.{cases_lt}
 use Rattle.std.proofs.lemmas.Int.{to_z-of_z}
@@ -9,10 +10,12 @@ use Rattle.std.proofs.lemmas.Nat.{from_le_bytes-to_le_bytes_2, from_le_bytes-to_
 use mir.Val.{bits}
 use Rattle.std.specs.Int.{Width, w8, w16, w32, w64, to_le_bytes, from_le_bytes, cast_unsigned, cast_signed}
 use Rattle.mt_values.specs.declared.value.ColType.{ColType}
+use Rattle.mt_values.specs.declared.value.ColType.TheVariants as type
 use Rattle.mt_values.specs.declared.value.Value.{Value}
 use Rattle.mt_values.specs.declared.value.Value.TheVariants.{UInt8, UInt16, UInt32, UInt64, Int8, Int16, Int32, Int64, Text}
 use Rattle.mt_values.specs.ColumnBytes.{column_bytes, value_bytes, leb128}
 use Rattle.column_file.specs.Faults.{IsFirstFault, IsStuck}
+use Rattle.mt_values.specs.Values.{type_of}
 use Rattle.column_file.specs.Spellings.{IsOfType, IsSpelling}
 use Rattle.column_file.proofs.Groups.{groups_apart}
 
@@ -58,6 +61,33 @@ text_apart x y r s e =
     let t = groups_apart 9 (length x) (length y) (x ++ r) (y ++ s) (sym (append_assoc (leb128 (length x)) x r) ∙ e ∙ append_assoc (leb128 (length y)) y s) in
     fronts_apart x y r s t.0 t.1
 
+-- two types are one; of two others this is false by its cases alone
+abbrev pub Alike : ColType → ColType → Type 0
+Alike type.UInt8 type.UInt8 = ⊤
+Alike type.UInt16 type.UInt16 = ⊤
+Alike type.UInt32 type.UInt32 = ⊤
+Alike type.UInt64 type.UInt64 = ⊤
+Alike type.Int8 type.Int8 = ⊤
+Alike type.Int16 type.Int16 = ⊤
+Alike type.Int32 type.Int32 = ⊤
+Alike type.Int64 type.Int64 = ⊤
+Alike type.Text type.Text = ⊤
+Alike t u = ⊥
+
+alike : (t : ColType) → Alike t t
+alike type.UInt8 = tt
+alike type.UInt16 = tt
+alike type.UInt32 = tt
+alike type.UInt64 = tt
+alike type.Int8 = tt
+alike type.Int16 = tt
+alike type.Int32 = tt
+alike type.Int64 = tt
+alike type.Text = tt
+
+one_type : (t u : ColType) → t ≡ u → Alike t u
+one_type t u e = subst (Alike t) e (alike t)
+
 -- bytes begin with at most one value of a type, and one text follows it
 pub value_apart : (t : ColType) (x y : Value) (r s : List ℕ) → IsOfType t x → IsOfType t y → value_bytes x ++ r ≡ value_bytes y ++ s → (x ≡ y) × (r ≡ s)
 value_apart t (UInt8 m) (UInt8 n) r s p q e = (cc, cc)
@@ -77,7 +107,7 @@ value_apart t (Int64 m) (Int64 n) r s p q e =
     let h = eight_apart (cast_unsigned w64 m) (cast_unsigned w64 n) r s (fits_unsigned w64 m p.1) (fits_unsigned w64 n q.1) e in
     (ap Int64 (same_signed w64 m n p.1 q.1 h.0), h.1)
 value_apart t (Text x) (Text y) r s p q e = let h = text_apart x y r s e in (ap Text h.0, h.1)
-value_apart t x y r s p q e = absurd cc
+value_apart t x y r s p q e = absurd (one_type (type_of x) (type_of y) (p.0 ∙ sym q.0))
 
 -- ---- lists of values
 

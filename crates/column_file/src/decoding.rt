@@ -8,7 +8,7 @@ ghost use Rattle.column_file.specs.Spellings.{Begins, GainsAll, GainsFront, IsOf
 
 use crate::cells::first_cell;
 use crate::faults::FormatFault;
-use mt_base::Seq;
+use mt_base::NoMemory;
 use mt_values::{Cell, ColType, ColumnData, Value};
 use std::alloc::Global;
 
@@ -64,16 +64,21 @@ pub fn decode_granule(
     ensures spelled { (values : List Value) → IsSpelling col_type count bytes.now values → MatchResult result (λ v. v.items ≡ values) (λ e. e ≡ FormatFault.NoMemory) }
     ensures fault { IfErr result (Explains col_type count bytes.now) }
 {
-    // No value takes less than a byte.
-    let mut values = Seq::with_capacity(alloc, count.min(bytes.len()))?;
-    let mut at = 0;
-    for _value in 0..count {
-        let (cell, size) = cell_at(col_type, bytes, at)?;
-        values.push(cell.to_value(alloc)?)?;
-        at += size;
+    let column = decode_column(alloc, col_type, bytes, count)?;
+    Ok(values_of(alloc, &column)?)
+}
+
+/// The values of a column, each by itself.
+///
+/// `NoMemory` where a growth was refused.
+fn values_of(alloc: Global, column: &ColumnData) -> Result<Vec<Value>, NoMemory>
+    ensures { IfOk result (λ v. v.items ≡ column.now.values) }
+{
+    let mut values = Vec::with_capacity(alloc, column.len())?;
+    for place in 0..column.len() {
+        values.push(column.at(place).to_value(alloc)?)?;
     }
-    end_at(bytes, at)?;
-    Ok(values.into_vec())
+    Ok(values)
 }
 
 /// The value that begins at a place of the bytes, and how many bytes spell it.

@@ -14,7 +14,7 @@ use mt_values::{Block, Bytes, ColumnData};
 use std::alloc::Global;
 
 /// The bytes of a column's file, and the place of each granule in them.
-#[derive(Debug, Drop)]
+#[derive(Drop)]
 pub struct ColumnBytes {
     pub bytes: Bytes,
     /// Where each granule begins in the bytes, counted from 0, and last the number of bytes.

@@ -3,7 +3,7 @@ use mt_base::NoMemory;
 use thiserror::Error;
 
 /// Why bytes were not read as what they should spell, as the values of a column.
-#[derive(Clone, Copy, Debug, PartialEq, Eq, Error)]
+#[derive(Clone, Copy, Debug, Error)]
 pub enum FormatFault {
     /// A growth was refused.
     #[error("out of memory")]

@@ -86,3 +86,21 @@ reads_front old pieces piece place n p buf ready_is within at count copied =
           ∙ (ap (λ (bytes : List ℕ). bytes ++ concat (drop_first n (ready old))) (sym copied) ∙ ap (λ (ps : List (List ℕ)). take n buf ++ concat ps) (sym after)))),
       (λ none room. ap concat after ∙ ap (λ (ps : List (List ℕ)). concat (drop_first n ps)) (ready_none old (omega (arith, ap length first_is)))),
     )
+
+-- what a read at the end gives
+pub given_none : (old : List (List ℕ)) (pieces : List (Vec ℕ Global)) (piece place : ℕ) (buf : List ℕ) → left_pieces pieces piece place ≡ ready old → length pieces ≤ piece
+    → (0 ≡ min (length buf) (length (first (ready old)))) × (left_pieces pieces piece place ≡ drop_first 0 (ready old))
+given_none old pieces piece place buf at past =
+    let none : ready old ≡ [] = sym at ∙ left_pieces_end pieces piece place past in
+    let zero : length (first (ready old)) ≡ 0 = ap (λ (ps : List (List ℕ)). length (first ps)) none in
+    (omega (arith, zero), at ∙ sym (drop_first-zero (ready old)))
+
+-- how many bytes a read gives, and which pieces are left
+pub given_front : (old : List (List ℕ)) (pieces : List (Vec ℕ Global)) (piece place n : ℕ) (p : Vec ℕ Global) (buf : List ℕ)
+    → left_pieces pieces piece place ≡ ready old → piece < length pieces → p ≡ get_or pieces piece p → n ≡ min (length buf) (length (drop place p.items))
+    → (n ≡ min (length buf) (length (first (ready old)))) × (left_pieces pieces piece (place + n) ≡ drop_first n (ready old))
+given_front old pieces piece place n p buf ready_is within at count =
+    let first_is : first (ready old) ≡ drop place p.items = ap first (sym ready_is ∙ left_pieces_at pieces piece place p within at) in (
+      count ∙ ap (λ (bytes : List ℕ). min (length buf) (length bytes)) (sym first_is),
+      drop_first-add place n (map (λ (v : Vec ℕ Global). v.items) (drop piece pieces)) ∙ ap (drop_first n) ready_is,
+    )

@@ -101,7 +101,7 @@ impl Annals for KeptAnnals {
 }
 
 /// Counts what is noted, keeps no entry and tells nothing.
-#[derive(Debug, Drop)]
+#[derive(Drop)]
 pub struct CountedAnnals {
     count: u64,
 }

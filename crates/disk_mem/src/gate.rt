@@ -2,7 +2,7 @@
 use mt_outside::{Gate, Point, Who};
 
 /// A gate that does nothing.
-#[derive(Clone, Copy, Debug, PartialEq, Eq)]
+#[derive(Clone, Copy)]
 pub struct OpenGate;
 
 impl Gate for OpenGate {

@@ -7,7 +7,7 @@ use mt_base::{NoMemory, Seq};
 use std::alloc::Global;
 
 /// What a call that can fail is.
-#[derive(Clone, Copy, Debug, PartialEq, Eq)]
+#[derive(Clone, Copy)]
 pub enum CallKind {
     /// Calls of the disk.
     Start,
@@ -26,7 +26,7 @@ pub enum CallKind {
 }
 
 /// A call that is to fail.
-#[derive(Clone, Copy, Debug, PartialEq, Eq)]
+#[derive(Clone, Copy)]
 pub struct Listed {
     /// The number of the `arm` call, from 0, that made the arm whose call it is, or whose stage's. None: it is a call of the disk itself.
     pub arm: Option<u32>,
@@ -38,7 +38,7 @@ pub struct Listed {
 }
 
 /// Which calls of an object fail.
-#[derive(Debug, Drop)]
+#[derive(Drop)]
 pub struct Plan {
     /// Which object it is: a disk has neither number, an arm no stage's.
     pub arm: Option<u64>,
@@ -207,7 +207,7 @@ impl Plan {
 }
 
 /// The calls of a disk, which may stop.
-#[derive(Debug, Drop)]
+#[derive(Drop)]
 pub struct DiskCalls {
     pub plan: Plan,
     /// How many more calls pass, where the disk is to stop.

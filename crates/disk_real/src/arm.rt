@@ -3,6 +3,7 @@ ghost use Rattle.std.specs.Prelude.{◌≡◌, ◌≤◌, ℕ, IfOk, length};
 
 use crate::counts::{Faults, draw};
 use crate::folder::{RealDir, RealStage, file_path};
+use crate::names::owned;
 use crate::system::{System, is_folder, open_to_read, read_at};
 use mt_base::NoMemory;
 use mt_outside::{Arm, DiskError, Stage};
@@ -42,10 +43,19 @@ impl<R> Model for RealArm<R> {
 
 impl<R: System> RealArm<R> {
     /// An arm of which no call was made.
-    pub(crate) fn new(rt: R, alloc: Global, root: String, number: u64) -> RealArm<R>
-        ensures { result ≡ 0 }
+    pub(crate) fn new(
+        rt: &R,
+        alloc: Global,
+        root: &str,
+        number: u64,
+    ) -> Result<RealArm<R>, DiskError>
+        ensures { IfOk result (λ a. a ≡ 0) }
     {
-        RealArm {
+        let root = owned(alloc, root)?;
+        let Ok(rt) = rt.clone() else {
+            return Err(DiskError::NoMemory);
+        };
+        Ok(RealArm {
             rt,
             alloc,
             root,
@@ -53,7 +63,7 @@ impl<R: System> RealArm<R> {
             stages: 0,
             kept: None,
             faults: Faults::none(),
-        }
+        })
     }
 
     // Makes the folder `.stage_<arm>_<stage>` of the root.
@@ -69,28 +79,26 @@ impl<R: System> RealArm<R> {
         RealStage::new(rt, alloc, path)
     }
 
-    // The file that is kept where it is this one, or else the file opened anew. None where it is not there.
-    fn file(&mut self, dir: &RealDir, file: FileId) -> Result<Option<Opened>, DiskError>
-        ensures { self.new ≡ self.old }
-    {
-        let path = file_path(self.alloc, dir.path(), file)?;
-        if let Some(opened) = self.kept.take() {
-            if opened.folder == dir.number() && opened.path == path {
-                return Ok(Some(opened));
-            }
-        }
-        match open_to_read(&self.rt, &path)? {
-            Some(handle) => Ok(Some(Opened {
-                folder: dir.number(),
-                path,
-                handle,
-            })),
-            None if is_folder(&self.rt, dir.path()) => Ok(None),
-            None => Err(DiskError::Fault),
+    // Whether this is the file that is kept.
+    fn keeps(&self, dir: &RealDir, path: &String) -> bool {
+        match &self.kept {
+            Some(opened) => opened.folder == dir.number() && opened.path == *path,
+            None => false,
         }
     }
 
-    // Reads the bytes of a file from a place on. A folder that is gone is a fault.
+    // Keeps this file open, if it is there. A folder that is gone is a fault.
+    fn keep(&mut self, dir: &RealDir, file: FileId) -> Result<(), DiskError>
+        ensures { self.new ≡ self.old }
+    {
+        let path = file_path(self.alloc, dir.path(), file)?;
+        if !self.keeps(dir, &path) {
+            self.kept = open_in(&self.rt, dir, path)?;
+        }
+        Ok(())
+    }
+
+    // Reads the bytes of a file from a place on. After an error it is not kept.
     fn read_file(
         &mut self,
         dir: &RealDir,
@@ -101,12 +109,27 @@ impl<R: System> RealArm<R> {
         ensures same { self.new ≡ self.old }
         ensures bound { IfOk result (λ n. n ≤ length buf.new) }
     {
-        let Some(opened) = self.file(dir, file)? else {
+        self.keep(dir, file)?;
+        let Some(opened) = self.kept.take() else {
             return Ok(0);
         };
         let count = read_at(&opened.handle, at, buf)?;
         self.kept = Some(opened);
         Ok(count)
+    }
+}
+
+// Opens a file of a folder to be read, or answers that it is not there.
+fn open_in<R: System>(rt: &R, dir: &RealDir, path: String) -> Result<Option<Opened>, DiskError> {
+    match open_to_read(rt, &path) {
+        Ok(Some(handle)) => Ok(Some(Opened {
+            folder: dir.number(),
+            path,
+            handle,
+        })),
+        Ok(None) if is_folder(rt, dir.path()) => Ok(None),
+        Ok(None) => Err(DiskError::Fault),
+        Err(error) => Err(error),
     }
 }
 

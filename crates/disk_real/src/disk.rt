@@ -1,12 +1,12 @@
 // A folder of the system as a disk.
-ghost use Rattle.std.specs.Prelude.{◌≡◌, IfOk};
+ghost use Rattle.std.specs.Prelude.{◌≡◌, ◌<◌, IfOk, IsErrOf};
 
 use crate::arm::RealArm;
 use crate::counts::{Faults, draw};
 use crate::folder::{RealDir, RealStage};
-use crate::names::{path_in, root_name};
+use crate::names::{owned, path_in, root_name};
 use crate::system::{
-    System, is_folder, names_in, remove_folder, rename, settle_folder, sync_folder,
+    System, is_folder, names_in, publish_folder, settle_folder, sync_folder, take_away,
 };
 use mt_base::NoMemory;
 use mt_outside::{Arm, Disk, DiskError, Stage};
@@ -80,12 +80,8 @@ impl<R: System> RealDisk<R> {
         ensures same { self.new ≡ self.old }
         ensures none_failed { IfOk result (λ a. a ≡ 0) }
     {
-        let root = owned(alloc, self.root()?)?;
         let number = draw(&mut self.arms)?;
-        match self.rt.clone() {
-            Ok(rt) => Ok(RealArm::new(rt, alloc, root, number)),
-            Err(_) => Err(DiskError::NoMemory),
-        }
+        RealArm::new(&self.rt, alloc, self.root()?, number)
     }
 
     // The path of the folder that has this name.
@@ -100,8 +96,8 @@ impl<R: System> RealDisk<R> {
     fn find(&mut self, alloc: Global, name: &Name) -> Result<RealDir, DiskError>
         ensures { self.new ≡ self.old }
     {
-        let path = self.path_of(alloc, name)?;
         let number = draw(&mut self.dirs)?;
+        let path = self.path_of(alloc, name)?;
         if is_folder(&self.rt, &path) {
             Ok(RealDir::new(path, number))
         } else {
@@ -109,19 +105,22 @@ impl<R: System> RealDisk<R> {
         }
     }
 
-    // Gives a stage a name.
+    // Gives a stage a name, if none of its calls had failed.
     fn give(
         &mut self,
         alloc: Global,
         stage: &RealStage<R>,
         name: &Name,
     ) -> Result<RealDir, DiskError>
-        ensures { self.new ≡ self.old }
+        ensures same { self.new ≡ self.old }
+        ensures failed { 0 < stage.now → IsErrOf result DiskError.Fault }
     {
-        let path = self.path_of(alloc, name)?;
+        if stage.has_failed() {
+            return Err(DiskError::Fault);
+        }
         let number = draw(&mut self.dirs)?;
-        sync_folder(&self.rt, stage.path())?;
-        rename(&self.rt, stage.path(), &path)?;
+        let path = self.path_of(alloc, name)?;
+        publish_folder(&self.rt, stage.path(), &path)?;
         Ok(RealDir::new(path, number))
     }
 
@@ -129,18 +128,11 @@ impl<R: System> RealDisk<R> {
     fn cut(&mut self, name: &Name) -> Result<(), DiskError>
         ensures { self.new ≡ self.old }
     {
-        let path = self.path_of(self.alloc, name)?;
         let number = draw(&mut self.removals)?;
+        let path = self.path_of(self.alloc, name)?;
         let hidden = removed_path(self.alloc, &self.root, number)?;
-        remove_folder(&self.rt, self.alloc, &hidden)?;
-        rename(&self.rt, &path, &hidden)?;
-        sync_folder(&self.rt, &self.root)?;
-        remove_folder(&self.rt, self.alloc, &hidden)
+        take_away(&self.rt, self.alloc, &self.root, &path, &hidden)
     }
-}
-
-fn owned(alloc: Global, text: &str) -> Result<String, NoMemory> {
-    Ok(String::from_str(alloc, text)?)
 }
 
 fn removed_path(alloc: Global, root: &str, number: u64) -> Result<String, NoMemory> {
@@ -191,14 +183,9 @@ impl<R: System + Send> Disk for RealDisk<R> {
         stage: RealStage<R>,
         name: &Name,
     ) -> Result<RealDir, DiskError> {
-        let given = if stage.faults() > 0 {
-            Err(DiskError::Fault)
-        } else {
-            self.give(alloc, &stage, name)
-        };
+        let given = self.give(alloc, &stage, name);
         if given.is_err() {
-            let removed = stage.remove();
-            let _ = self.faults.note(removed);
+            let _ = self.faults.note(stage.remove());
         }
         self.faults.note(given)
     }

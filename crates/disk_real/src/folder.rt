@@ -1,5 +1,5 @@
 // Folders of the root: one that is being made, and one that is done.
-ghost use Rattle.std.specs.Prelude.{◌≡◌, ℕ, IfOk, string_bytes};
+ghost use Rattle.std.specs.Prelude.{◌≡◌, ◌<◌, ◌↔◌, ℕ, IfOk, IsTrue, string_bytes};
 
 use crate::counts::Faults;
 use crate::names::{file_name, path_in};
@@ -109,6 +109,13 @@ impl<R: System> RealStage<R> {
         &self.path
     }
 
+    /// Whether one of its calls has failed.
+    pub(crate) fn has_failed(&self) -> bool
+        ensures { IsTrue result ↔ 0 < self.now }
+    {
+        self.faults.count > 0
+    }
+
     /// Removes the folder with its files, where it is there. It takes no memory, since no folder lies in it.
     pub(crate) fn remove(&self) -> Result<(), DiskError> {
         remove_folder(&self.rt, self.alloc, &self.path)
@@ -146,7 +153,7 @@ impl<R: System> RealStage<R> {
         let Some(handle) = self.file(file, false)? else {
             return Ok(());
         };
-        sync_file(&handle)?;
+        sync_file(&self.rt, &handle)?;
         self.kept = Some((file, handle));
         Ok(())
     }

@@ -1,5 +1,5 @@
 // Names of files and folders, and their paths.
-ghost use Rattle.std.specs.Prelude.{◌≡◌, ◌++◌, IfOk, IfSome, IsTrue, codes, string_bytes};
+ghost use Rattle.std.specs.Prelude.{◌≡◌, ◌++◌, IfOk, IfSome, IsTrue, codes, decimal, string_bytes};
 ghost use Rattle.std.specs.List.{list_all};
 ghost use Rattle.disk_real.specs.Names.{file_name, is_name_byte, is_root_name};
 
@@ -12,15 +12,28 @@ use std::alloc::Global;
 pub fn file_name(alloc: Global, file: FileId) -> Result<String, NoMemory>
     ensures { IfOk result (λ name. string_bytes name ≡ file_name file) }
 {
-    let name = match file {
-        FileId::Entry => String::from_str(alloc, "entry.bin")?,
-        FileId::Manifest => String::from_str(alloc, "manifest.bin")?,
-        FileId::Marks => String::from_str(alloc, "marks.bin")?,
-        FileId::Primary => String::from_str(alloc, "primary.bin")?,
-        FileId::Skip(number) => format!(in alloc; "s{number}.bin")?,
-        FileId::Column(number) => format!(in alloc; "c{number}.bin")?,
-    };
-    Ok(name)
+    match file {
+        FileId::Entry => owned(alloc, "entry.bin"),
+        FileId::Manifest => owned(alloc, "manifest.bin"),
+        FileId::Marks => owned(alloc, "marks.bin"),
+        FileId::Primary => owned(alloc, "primary.bin"),
+        FileId::Skip(number) => numbered(alloc, "s", number),
+        FileId::Column(number) => numbered(alloc, "c", number),
+    }
+}
+
+/// A copy of a text.
+pub(crate) fn owned(alloc: Global, text: &str) -> Result<String, NoMemory>
+    ensures { IfOk result (λ copy. string_bytes copy ≡ text.now) }
+{
+    Ok(String::from_str(alloc, text)?)
+}
+
+// The name of a file with a number.
+fn numbered(alloc: Global, letter: &str, number: u32) -> Result<String, NoMemory>
+    ensures { IfOk result (λ name. string_bytes name ≡ letter.now ++ decimal number ++ codes ".bin") }
+{
+    Ok(format!(in alloc; "{letter}{number}.bin")?)
 }
 
 // A letter, a digit, an underscore or a dot.

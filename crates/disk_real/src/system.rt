@@ -1,16 +1,16 @@
 // Calls of the system on folders and files, each of whose errors is a fault.
 ghost use Rattle.std.specs.Prelude.{◌≤◌, length, IfOk};
 
-use crate::tries::{read_whole, tried};
+use crate::tries::{MOST_TRIES, interrupted, read_whole};
 use mt_base::Seq;
 use mt_outside::DiskError;
 use mt_values::Name;
-use std::alloc::Global;
+use std::alloc::{AllocError, Global};
 use std::fs::{File, Files, OpenOptions};
+use std::io;
 use std::io::{ErrorKind, Read};
 use std::os::unix::fs::FileExt;
 use std::path::Path;
-use std::{fs, io};
 
 /// What the real disk asks of a runtime: files and folders. The runtime of a program is one.
 pub trait System: Files<File = File> + Clone + Drop {}
@@ -19,6 +19,9 @@ impl<R: Files<File = File> + Clone + Drop> System for R {}
 
 /// The last place that a file of the system may have.
 const LAST_PLACE: u64 = (1 << 63) - 1;
+
+// How many bytes of the names in a folder are read at once, of which each has 255 at most.
+const NAMES_ROOM: usize = 4096;
 
 /// Each error of the system is a fault.
 pub(crate) fn fault(_error: io::Error) -> DiskError {
@@ -42,34 +45,85 @@ fn parent_of(path: &str) -> &str {
     }
 }
 
+// A call of the system that answers nothing.
+#[derive(Clone, Copy)]
+enum Order<'a> {
+    MakeFolder(&'a str),
+    // Opens a folder, which fails where it can't be read.
+    OpenFolder(&'a str),
+    RemoveFolder(Global, &'a str),
+    Rename(&'a str, &'a str),
+    // Makes sure that a crash leaves what is open as it is.
+    Settle(&'a File),
+}
+
+// Makes a call once.
+fn perform_once<R: System>(rt: &R, order: Order) -> io::Result<()> {
+    match order {
+        Order::MakeFolder(path) => rt.create_dir(path),
+        Order::OpenFolder(path) => rt.open_dir(path).map(drop),
+        Order::RemoveFolder(alloc, path) => rt.remove_dir_all(alloc, path),
+        Order::Rename(from, to) => rt.rename(from, to),
+        Order::Settle(file) => file.sync_all(),
+    }
+}
+
+// Makes a call, and makes it again where it was interrupted.
+fn perform<R: System>(rt: &R, order: Order) -> io::Result<()> {
+    for _ in 0..MOST_TRIES {
+        match perform_once(rt, order) {
+            Err(error) if error.kind() == ErrorKind::Interrupted => {}
+            outcome => return outcome,
+        }
+    }
+    Err(interrupted())
+}
+
+// Opens a file, and tries again where that was interrupted.
+fn open<R: System>(rt: &R, path: &str, options: &OpenOptions) -> io::Result<File> {
+    for _ in 0..MOST_TRIES {
+        match rt.open_file(options, path) {
+            Err(error) if error.kind() == ErrorKind::Interrupted => {}
+            outcome => return outcome,
+        }
+    }
+    Err(interrupted())
+}
+
+// Opens a file or a folder to be read.
+fn open_readable<R: System>(rt: &R, path: &str) -> io::Result<File> {
+    let mut options = OpenOptions::new();
+    options.read(true);
+    open(rt, path, &options)
+}
+
 /// Makes a folder where it is not there, and makes sure that a crash does not take it away again. Its parents are not made.
 pub(crate) fn settle_folder<R: System>(rt: &R, path: &str) -> Result<(), DiskError> {
-    match tried(|| rt.create_dir(path)) {
+    match perform(rt, Order::MakeFolder(path)) {
         Ok(()) => sync_folder(rt, parent_of(path))?,
         Err(error) if error.kind() == ErrorKind::AlreadyExists => {}
         Err(error) => return Err(fault(error)),
     }
-    match tried(|| rt.open_dir(path)) {
-        Ok(_) => Ok(()),
-        Err(error) => Err(fault(error)),
-    }
+    perform(rt, Order::OpenFolder(path)).map_err(fault)
 }
 
 /// Makes an empty folder, in place of what an earlier run left there.
 pub(crate) fn make_folder<R: System>(rt: &R, alloc: Global, path: &str) -> Result<(), DiskError> {
     remove_folder(rt, alloc, path)?;
-    tried(|| rt.create_dir(path)).map_err(fault)
+    perform(rt, Order::MakeFolder(path)).map_err(fault)
 }
 
 /// Makes sure that a crash leaves the names in a folder as they are.
 pub(crate) fn sync_folder<R: System>(rt: &R, path: &str) -> Result<(), DiskError> {
-    let folder = tried(|| File::open(rt, path)).map_err(fault)?;
-    tried(|| folder.sync_all()).map_err(fault)
+    match open_readable(rt, path) {
+        Ok(folder) => sync_file(rt, &folder),
+        Err(error) => Err(fault(error)),
+    }
 }
 
 /// Removes a folder with its files, where it is there. It takes memory only where there are folders in it.
 pub(crate) fn remove_folder<R: System>(rt: &R, alloc: Global, path: &str) -> Result<(), DiskError> {
-    match tried(|| rt.remove_dir_all(alloc, path)) {
+    match perform(rt, Order::RemoveFolder(alloc, path)) {
         Ok(()) => Ok(()),
         Err(error) if error.kind() == ErrorKind::NotFound => Ok(()),
         Err(error) => Err(memory_or_fault(error)),
@@ -77,28 +131,72 @@ pub(crate) fn remove_folder<R: System>(rt: &R, alloc: Global, path: &str) -> Res
 }
 
 /// Gives a folder another name.
-pub(crate) fn rename<R: System>(rt: &R, from: &str, to: &str) -> Result<(), DiskError> {
-    tried(|| rt.rename(from, to)).map_err(fault)
+fn rename<R: System>(rt: &R, from: &str, to: &str) -> Result<(), DiskError> {
+    perform(rt, Order::Rename(from, to)).map_err(fault)
+}
+
+/// Settles the names in a folder, and gives it another name.
+pub(crate) fn publish_folder<R: System>(rt: &R, from: &str, to: &str) -> Result<(), DiskError> {
+    sync_folder(rt, from)?;
+    rename(rt, from, to)
+}
+
+/// Gives a folder of the root another name, and once that is settled removes it with its files.
+pub(crate) fn take_away<R: System>(
+    rt: &R,
+    alloc: Global,
+    root: &str,
+    path: &str,
+    hidden: &str,
+) -> Result<(), DiskError> {
+    remove_folder(rt, alloc, hidden)?;
+    rename(rt, path, hidden)?;
+    sync_folder(rt, root)?;
+    remove_folder(rt, alloc, hidden)
 }
 
 /// Whether there is a folder.
 pub(crate) fn is_folder<R: System>(rt: &R, path: &str) -> bool {
-    match tried(|| rt.metadata(path)) {
-        Ok(metadata) => metadata.is_dir(),
-        Err(_) => false,
+    for _ in 0..MOST_TRIES {
+        match rt.metadata(path) {
+            Err(error) if error.kind() == ErrorKind::Interrupted => {}
+            Err(_) => return false,
+            Ok(metadata) => return metadata.is_dir(),
+        }
     }
+    false
+}
+
+// Adds a name.
+fn push_name(alloc: Global, name: &[u8], names: &mut Vec<Name>) -> Result<(), AllocError> {
+    names.push(Seq::of(Vec::from_slice(alloc, name)?))?;
+    Ok(())
+}
+
+// Adds those of the names that do not begin with a dot. A NUL ends each.
+fn push_names(alloc: Global, ended: &[u8], names: &mut Vec<Name>) -> io::Result<()> {
+    let Ok(text) = str::from_utf8(ended) else {
+        return Err(io::Error::from(ErrorKind::InvalidFilename));
+    };
+    for name in text.split_terminator('\0') {
+        if !name.starts_with('.') {
+            push_name(alloc, name.as_bytes(), names)?;
+        }
+    }
+    Ok(())
 }
 
 // The names in a folder that do not begin with a dot, in no order.
 fn read_names<R: System>(rt: &R, alloc: Global, path: &str) -> io::Result<Vec<Name>> {
-    let rt = (rt.clone()?, alloc);
+    let mut folder = rt.open_dir(path)?;
     let mut names = Vec::new(alloc);
-    for entry in fs::read_dir(&rt, path)? {
-        let entry = entry?;
-        let name = entry.file_name().as_bytes();
-        if !name.starts_with(b".") {
-            names.push(Seq::of(Vec::from_slice(alloc, name)?))?;
+    let mut room = [0u8; NAMES_ROOM];
+    for _ in 0..u64::MAX {
+        let count = folder.read(&mut room)?;
+        if count == 0 {
+            break;
         }
+        push_names(alloc, &room[..count], &mut names)?;
     }
     Ok(names)
 }
@@ -109,9 +207,17 @@ pub(crate) fn names_in<R: System>(
     alloc: Global,
     path: &str,
 ) -> Result<Vec<Name>, DiskError> {
-    let mut names = tried(|| read_names(rt, alloc, path)).map_err(memory_or_fault)?;
-    names.sort_unstable();
-    Ok(names)
+    for _ in 0..MOST_TRIES {
+        match read_names(rt, alloc, path) {
+            Err(error) if error.kind() == ErrorKind::Interrupted => {}
+            Err(error) => return Err(memory_or_fault(error)),
+            Ok(mut names) => {
+                names.sort_unstable();
+                return Ok(names);
+            }
+        }
+    }
+    Err(DiskError::Fault)
 }
 
 /// Opens a file to be written at its end, or answers that it is not there. It is made first where that is asked.
@@ -122,12 +228,12 @@ pub(crate) fn open_at_end<R: System>(
 ) -> Result<Option<File>, DiskError> {
     let mut options = OpenOptions::new();
     options.append(true).create(make);
-    opened(tried(|| options.open(rt, path)))
+    opened(open(rt, path, &options))
 }
 
 /// Opens a file to be read, or answers that it is not there.
 pub(crate) fn open_to_read<R: System>(rt: &R, path: &str) -> Result<Option<File>, DiskError> {
-    opened(tried(|| File::open(rt, path)))
+    opened(open_readable(rt, path))
 }
 
 fn opened(file: io::Result<File>) -> Result<Option<File>, DiskError> {
@@ -139,8 +245,8 @@ fn opened(file: io::Result<File>) -> Result<Option<File>, DiskError> {
 }
 
 /// Makes sure that a crash leaves a file as it is.
-pub(crate) fn sync_file(file: &File) -> Result<(), DiskError> {
-    tried(|| file.sync_all()).map_err(fault)
+pub(crate) fn sync_file<R: System>(rt: &R, file: &File) -> Result<(), DiskError> {
+    perform(rt, Order::Settle(file)).map_err(fault)
 }
 
 // A file from a place on.

@@ -9,24 +9,9 @@ use std::io::{ErrorKind, Read, Write};
 /// How often a call is tried that is interrupted each time.
 pub const MOST_TRIES: u32 = 16;
 
-// What a call that was interrupted each time answers.
-fn interrupted() -> io::Error {
+/// What a call that was interrupted each time answers.
+pub(crate) fn interrupted() -> io::Error {
     io::Error::from(ErrorKind::Interrupted)
-}
-
-/// Makes a call, and makes it again where it was interrupted.
-pub(crate) fn tried<T: Drop, F: Fn() -> io::Result<T>>(call: F) -> io::Result<T>
-where
-    F: Drop,
-    requires { F.IsAlwaysCallable call }
-{
-    for _ in 0..MOST_TRIES {
-        match call() {
-            Err(error) if error.kind() == ErrorKind::Interrupted => {}
-            outcome => return outcome,
-        }
-    }
-    Err(interrupted())
 }
 
 /// One read. Nothing was read after an error.

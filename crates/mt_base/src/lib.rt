@@ -4,9 +4,11 @@
 mod memory;
 mod partition;
 mod seq;
+mod text;
 mod twin;
 
 pub use memory::NoMemory;
 pub use partition::Partition;
 pub use seq::Seq;
+pub use text::joined;
 pub use twin::{Rows, Twin};

@@ -1,6 +1,7 @@
 -- The places of names, one name after another, and why a CREATE is refused.
-use Rattle.std.proofs.Common.{◌≡◌, ℕ, ◌+◌, ◌<◌, ◌≤◌, true, false, cond, List, [], ◌∷◌, ◌++◌, Option, Some, None, Result, Ok, Err, length, drop, get_or, refl, sym, ap, ◌∙◌, append_assoc, arith, nat_le}
+use Rattle.std.proofs.Common.{◌≡◌, ℕ, ◌+◌, ◌<◌, ◌≤◌, true, false, cond, List, [], ◌∷◌, ◌++◌, Option, Some, None, Result, Ok, Err, length, drop, get_or, refl, sym, ap, ◌∙◌, append_assoc, append-nil, arith, nat_le}
 use Rattle.std.proofs.lemmas.Bool.Decides.{nat_tests}
+use Rattle.std.proofs.Math.ListN.{drop_of_length-le}
 use Rattle.std.proofs.lemmas.List.{drop_more}
 use Rattle.std.specs.Result.{result_err}
 use Rattle.mt_values.specs.declared.schema.Column.{Column}
@@ -36,13 +37,42 @@ onto_err : (place : ℕ) (r : Result (List ℕ) Refusal) → result_err (place_o
 onto_err place (Ok places) = refl
 onto_err place (Err why) = refl
 
-pub unknown_more : (columns : List Column) (names : List (List ℕ)) (i : ℕ) (d : List ℕ) (place : ℕ) → i < length names → place_of columns (get_or names i d) ≡ Some place
+unknown_more : (columns : List Column) (names : List (List ℕ)) (i : ℕ) (d : List ℕ) (place : ℕ) → i < length names → place_of columns (get_or names i d) ≡ Some place
     → result_err (places_of columns (drop (i + 1) names)) ≡ result_err (places_of columns (drop i names))
 unknown_more columns names i d place below is = sym (ap result_err (step columns names i d (Some place) below is) ∙ onto_err place (places_of columns (drop (i + 1) names)))
 
-pub unknown_found : (columns : List Column) (names : List (List ℕ)) (i : ℕ) (d : List ℕ) → i < length names → place_of columns (get_or names i d) ≡ None
+unknown_found : (columns : List Column) (names : List (List ℕ)) (i : ℕ) (d : List ℕ) → i < length names → place_of columns (get_or names i d) ≡ None
     → result_err (places_of columns (drop i names)) ≡ Some (refusal.NoColumn (get_or names i d))
 unknown_found columns names i d below is = ap result_err (step columns names i d None below is)
+
+-- ---- one name after another, as loops go over them
+
+-- a name that is a column's decides nothing
+pub known_at : (columns : List Column) (names : List (List ℕ)) (i : ℕ) (name : List ℕ) (place : ℕ) → i < length names → name ≡ get_or names i name → Some place ≡ place_of columns name
+    → result_err (places_of columns (drop (i + 1) names)) ≡ result_err (places_of columns (drop i names))
+known_at columns names i name place below is found = unknown_more columns names i name place below (ap (place_of columns) (sym is) ∙ sym found)
+
+pub unknown_at : (columns : List Column) (names : List (List ℕ)) (i : ℕ) (name : List ℕ) → i < length names → name ≡ get_or names i name → None ≡ place_of columns name
+    → result_err (places_of columns (drop i names)) ≡ Some (refusal.NoColumn name)
+unknown_at columns names i name below is none = unknown_found columns names i name below (ap (place_of columns) (sym is) ∙ sym none) ∙ ap (λ n. Some (refusal.NoColumn n)) (sym is)
+
+-- the place of a name stands behind those before it
+pub place_at : (columns : List Column) (names : List (List ℕ)) (i : ℕ) (name : List ℕ) (places : List ℕ) (place : ℕ) → i < length names → name ≡ get_or names i name → Some place ≡ place_of columns name
+    → behind (places ++ place ∷ []) (places_of columns (drop (i + 1) names)) ≡ behind places (places_of columns (drop i names))
+place_at columns names i name places place below is found =
+    sym (ap (behind places) (step columns names i name (Some place) below (ap (place_of columns) (sym is) ∙ sym found)) ∙ behind_onto places place (places_of columns (drop (i + 1) names)))
+
+pub no_place_at : (columns : List Column) (names : List (List ℕ)) (i : ℕ) (name : List ℕ) (places : List ℕ) → i < length names → name ≡ get_or names i name → None ≡ place_of columns name
+    → behind places (places_of columns (drop i names)) ≡ Err (refusal.NoColumn name)
+no_place_at columns names i name places below is none =
+    ap (behind places) (step columns names i name None below (ap (place_of columns) (sym is) ∙ sym none)) ∙ ap (λ n. Err (refusal.NoColumn n)) (sym is)
+
+-- behind the last name all is found
+pub no_name_left : (columns : List Column) (names : List (List ℕ)) (i : ℕ) (places : List ℕ) → length names ≤ i → behind places (places_of columns (drop i names)) ≡ Ok places
+no_name_left columns names i places end = ap (λ ns. behind places (places_of columns ns)) (drop_of_length-le names end) ∙ ap Ok (append-nil places)
+
+pub none_unknown : (columns : List Column) (names : List (List ℕ)) (i : ℕ) → length names ≤ i → result_err (places_of columns (drop i names)) ≡ None
+none_unknown columns names i end = ap (λ ns. result_err (places_of columns ns)) (drop_of_length-le names end)
 
 -- ---- the schema of a CREATE
 

@@ -1,5 +1,5 @@
 // The lines of replies.
-ghost use Rattle.std.specs.Prelude.{◌≡◌, ◌++◌, IfOk, OnOk, codes};
+ghost use Rattle.std.specs.Prelude.{◌≡◌, ◌++◌, IfOk, codes};
 ghost use Rattle.mt_model.specs.Refusals as refusals;
 ghost use Rattle.mt_model.specs.Reply as reply;
 
@@ -42,7 +42,7 @@ fn refusal_text(alloc: Global, refusal: &Refusal) -> Result<Vec<u8>, NoMemory>
     ensures { IfOk result (λ text. text.items ≡ refusals.refusal_text refusal.now) }
 {
     match refusal {
-        Refusal::Grammar(place) => Ok(format!(in alloc; "E01 {place}")?.into_bytes()),
+        Refusal::Grammar(place) => numbered(alloc, b"E01", *place as u64),
         Refusal::NoTable(table) => named(alloc, b"E02", table),
         Refusal::TableExists(table) => named(alloc, b"E03", table),
         Refusal::NoColumn(column) => named(alloc, b"E04", column),
@@ -52,45 +52,45 @@ fn refusal_text(alloc: Global, refusal: &Refusal) -> Result<Vec<u8>, NoMemory>
             line,
             found,
             wanted,
-        } => numbered(alloc, b"E07", *line as u64, *found as u64, *wanted as u64),
+        } => numbered_thrice(alloc, b"E07", *line as u64, *found as u64, *wanted as u64),
         Refusal::Field { line, field } => {
-            Ok(format!(in alloc; "E08 {line} {field}")?.into_bytes())
+            numbered_twice(alloc, b"E08", *line as u64, *field as u64)
         }
-        Refusal::Past(bound) => bound_line(alloc, *bound),
-        Refusal::Full { room, accepted } => room_line(alloc, *room, *accepted),
-        Refusal::Unended { rows } => Ok(format!(in alloc; "E13 {rows}")?.into_bytes()),
-        Refusal::Failed => Ok(Vec::from_slice(alloc, b"E15")?),
-        Refusal::Unsettled { accepted } => Ok(format!(in alloc; "E16 {accepted}")?.into_bytes()),
+        Refusal::Past(bound) => text_of(alloc, bound_text(*bound)),
+        Refusal::Full { room, accepted } => numbered(alloc, room_text(*room), *accepted as u64),
+        Refusal::Unended { rows } => numbered(alloc, b"E13", *rows as u64),
+        Refusal::Failed => text_of(alloc, b"E15"),
+        Refusal::Unsettled { accepted } => numbered(alloc, b"E16", *accepted as u64),
         Refusal::Stopped {
             opened,
             now,
             accepted,
-        } => numbered(alloc, b"E17", *opened, *now, *accepted as u64),
+        } => numbered_thrice(alloc, b"E17", *opened, *now, *accepted as u64),
         Refusal::Damaged { table, part, file } => damaged(alloc, table, part, file),
     }
 }
 
 /// The line of a bound that would be passed, without its line feed.
-fn bound_line(alloc: Global, bound: Bound) -> Result<Vec<u8>, NoMemory>
-    ensures { IfOk result (λ text. text.items ≡ codes "E12 " ++ refusals.bound_text bound) }
+fn bound_text(bound: Bound) -> &'static [u8]
+    ensures { result.now ≡ codes "E12 " ++ refusals.bound_text bound }
 {
     match bound {
-        Bound::Tables => Ok(Vec::from_slice(alloc, b"E12 tables 64")?),
-        Bound::Columns => Ok(Vec::from_slice(alloc, b"E12 columns 64")?),
-        Bound::Name => Ok(Vec::from_slice(alloc, b"E12 name 64")?),
-        Bound::Statement => Ok(Vec::from_slice(alloc, b"E12 statement 1048576")?),
-        Bound::Value => Ok(Vec::from_slice(alloc, b"E12 value 1048576")?),
-        Bound::Rows => Ok(Vec::from_slice(alloc, b"E12 rows 1048576")?),
+        Bound::Tables => b"E12 tables 64",
+        Bound::Columns => b"E12 columns 64",
+        Bound::Name => b"E12 name 64",
+        Bound::Statement => b"E12 statement 1048576",
+        Bound::Value => b"E12 value 1048576",
+        Bound::Rows => b"E12 rows 1048576",
     }
 }
 
-/// The line of a bound that is met at a command's turn, without its line feed.
-fn room_line(alloc: Global, room: Room, accepted: usize) -> Result<Vec<u8>, NoMemory>
-    ensures { IfOk result (λ text. text.items ≡ codes "E12 " ++ refusals.room_text room ++ refusals.and_number accepted) }
+/// The front of the line of a bound that is met at a command's turn, before its last number.
+fn room_text(room: Room) -> &'static [u8]
+    ensures { result.now ≡ codes "E12 " ++ refusals.room_text room }
 {
     match room {
-        Room::Parts => Ok(format!(in alloc; "E12 parts 3000 {accepted}")?.into_bytes()),
-        Room::Numbers => Ok(format!(in alloc; "E12 numbers 4294967295 {accepted}")?.into_bytes()),
+        Room::Parts => b"E12 parts 3000",
+        Room::Numbers => b"E12 numbers 4294967295",
     }
 }
 
@@ -98,14 +98,32 @@ fn room_line(alloc: Global, room: Room, accepted: usize) -> Result<Vec<u8>, NoMe
 fn damaged(alloc: Global, table: &Name, part: &Name, file: &Name) -> Result<Vec<u8>, NoMemory>
     ensures { IfOk result (λ text. text.items ≡ codes "E19" ++ refusals.and_name table.now ++ refusals.and_name part.now ++ refusals.and_name file.now) }
 {
-    let mut text = named(alloc, b"E19", table)?;
-    push_name(&mut text, part)?;
-    push_name(&mut text, file)?;
-    Ok(text)
+    with_name(with_name(named(alloc, b"E19", table)?, part)?, file)
+}
+
+/// A text of its own.
+fn text_of(alloc: Global, text: &[u8]) -> Result<Vec<u8>, NoMemory>
+    ensures { IfOk result (λ copy. copy.items ≡ text.now) }
+{
+    Ok(Vec::from_slice(alloc, text)?)
+}
+
+/// A number behind a head.
+fn numbered(alloc: Global, head: &[u8], number: u64) -> Result<Vec<u8>, NoMemory>
+    ensures { IfOk result (λ text. text.items ≡ head.now ++ refusals.and_number number) }
+{
+    with_number(alloc, text_of(alloc, head)?, number)
+}
+
+/// Two numbers behind a head.
+fn numbered_twice(alloc: Global, head: &[u8], first: u64, second: u64) -> Result<Vec<u8>, NoMemory>
+    ensures { IfOk result (λ text. text.items ≡ head.now ++ refusals.and_number first ++ refusals.and_number second) }
+{
+    with_number(alloc, numbered(alloc, head, first)?, second)
 }
 
 /// Three numbers behind a head.
-fn numbered(
+fn numbered_thrice(
     alloc: Global,
     head: &[u8],
     first: u64,
@@ -114,36 +132,29 @@ fn numbered(
 ) -> Result<Vec<u8>, NoMemory>
     ensures { IfOk result (λ text. text.items ≡ head.now ++ refusals.and_number first ++ refusals.and_number second ++ refusals.and_number third) }
 {
-    let mut text = Vec::from_slice(alloc, head)?;
-    push_number(alloc, &mut text, first)?;
-    push_number(alloc, &mut text, second)?;
-    push_number(alloc, &mut text, third)?;
-    Ok(text)
+    with_number(alloc, numbered_twice(alloc, head, first, second)?, third)
 }
 
-/// Adds a number, behind a blank.
-fn push_number(alloc: Global, text: &mut Vec<u8>, number: u64) -> Result<(), NoMemory>
-    ensures { OnOk result (text.new.items ≡ text.old.items ++ refusals.and_number number) }
+/// The text with a number at its end, behind a blank.
+fn with_number(alloc: Global, mut text: Vec<u8>, number: u64) -> Result<Vec<u8>, NoMemory>
+    ensures { IfOk result (λ whole. whole.items ≡ text.items ++ refusals.and_number number) }
 {
-    let digits = format!(in alloc; " {number}")?;
-    text.extend_from_slice(digits.as_bytes())?;
-    Ok(())
+    text.extend_from_slice(format!(in alloc; " {number}")?.as_bytes())?;
+    Ok(text)
 }
 
 /// A name behind a head.
 fn named(alloc: Global, head: &[u8], name: &Name) -> Result<Vec<u8>, NoMemory>
     ensures { IfOk result (λ text. text.items ≡ head.now ++ refusals.and_name name.now) }
 {
-    let mut text = Vec::from_slice(alloc, head)?;
-    push_name(&mut text, name)?;
-    Ok(text)
+    with_name(text_of(alloc, head)?, name)
 }
 
-/// Adds a name, behind a blank.
-fn push_name(text: &mut Vec<u8>, name: &Name) -> Result<(), NoMemory>
-    ensures { OnOk result (text.new.items ≡ text.old.items ++ refusals.and_name name.now) }
+/// The text with a name at its end, behind a blank.
+fn with_name(mut text: Vec<u8>, name: &Name) -> Result<Vec<u8>, NoMemory>
+    ensures { IfOk result (λ whole. whole.items ≡ text.items ++ refusals.and_name name.now) }
 {
     text.push(b' ')?;
     text.extend_from_slice(name.as_slice())?;
-    Ok(())
+    Ok(text)
 }

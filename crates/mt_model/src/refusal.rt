@@ -2,7 +2,7 @@
 use mt_values::{Cause, DataFault, Name, RowFault};
 
 /// A rule of schemas that a CREATE breaks.
-#[derive(Clone, Copy, Debug, PartialEq, Eq)]
+#[derive(Clone, Copy)]
 pub enum Reason {
     /// Two columns have one name.
     DoubleColumn,
@@ -11,7 +11,7 @@ pub enum Reason {
 }
 
 /// A quantity that has a bound.
-#[derive(Clone, Copy, Debug, PartialEq, Eq)]
+#[derive(Clone, Copy)]
 pub enum Bound {
     /// The tables of a root.
     Tables,
@@ -28,7 +28,7 @@ pub enum Bound {
 }
 
 /// A quantity with a bound that is met in the turn of an INSERT's command.
-#[derive(Clone, Copy, Debug, PartialEq, Eq)]
+#[derive(Clone, Copy)]
 pub enum Room {
     /// The active parts of a partition.
     Parts,
@@ -37,7 +37,7 @@ pub enum Room {
 }
 
 /// Why a statement is refused. Each variant has a line of its own among the replies.
-#[derive(Debug, Drop)]
+#[derive(Drop)]
 pub enum Refusal {
     /// The text is no statement of the grammar: the place of the first fault.
     Grammar(usize),

@@ -8,7 +8,7 @@ ghost use Rattle.mt_model.specs.Reply as reply;
 
 use crate::refusal::{Bound, Reason, Refusal};
 use mt_base::{NoMemory, Seq, Twin};
-use mt_values::{Column, CreateText, Name, Schema, Selected, all_places};
+use mt_values::{Column, CreateText, Name, Schema, Selected, all_places, has_name};
 use std::alloc::Global;
 
 /// The most columns that a table may have.
@@ -63,7 +63,6 @@ pub fn selected_columns(
 }
 
 /// The refusal by the first name that is no column's.
-#[tactic(auto, using(crate::proofs::Naming::unknown_more, crate::proofs::Naming::unknown_found))]
 fn unknown_column(
     alloc: Global,
     columns: &[Column],
@@ -72,15 +71,14 @@ fn unknown_column(
     ensures { IfOk result (λ found. found ≡ result_err (reply.places_of columns.now names.now)) }
 {
     for name in names {
-        if find_column(columns, name).is_none() {
+        let Some(_place) = find_column(columns, name) else {
             return Ok(Some(Refusal::NoColumn(name.twin(alloc)?)));
-        }
+        };
     }
     Ok(None)
 }
 
 /// The places of the columns of these names, or the first name that is no column's.
-#[tactic(auto, using(crate::proofs::Naming::behind_none, crate::proofs::Naming::behind_onto))]
 fn places_of(
     alloc: Global,
     columns: &[Column],
@@ -91,10 +89,10 @@ fn places_of(
 {
     let mut places = Seq::new(alloc);
     for name in names {
-        match find_column(columns, name) {
-            Some(place) => places.push(place as u32)?,
-            None => return Ok(Err(Refusal::NoColumn(name.twin(alloc)?))),
-        }
+        let Some(place) = find_column(columns, name) else {
+            return Ok(Err(Refusal::NoColumn(name.twin(alloc)?)));
+        };
+        places.push(place as u32)?;
     }
     Ok(Ok(places))
 }
@@ -130,13 +128,6 @@ fn double_column(alloc: Global, columns: &[Column]) -> Result<Option<Refusal>, N
     Ok(None)
 }
 
-/// Whether one of the columns has the name.
-fn has_name(columns: &[Column], name: &Name) -> bool
-    ensures { result ≡ list_any (λ column. same_bytes column.name name.now) columns.now }
-{
-    columns.iter().any(|column| column.name == *name)
-}
-
 /// The refusal by the first mention in a key that repeats an earlier one.
 fn double_key(alloc: Global, names: &[Name]) -> Result<Option<Refusal>, NoMemory>
     ensures { IfOk result (λ found. found ≡ first_repeat same_bytes reply.double_key_at 0 [] names.now) }
@@ -154,5 +145,5 @@ fn double_key(alloc: Global, names: &[Name]) -> Result<Option<Refusal>, NoMemory
 fn is_among(names: &[Name], name: &Name) -> bool
     ensures { result ≡ list_any (λ other. same_bytes other name.now) names.now }
 {
-    names.iter().any(|other| *other == *name)
+    names.contains(name)
 }

@@ -13,7 +13,7 @@ use std::alloc::Global;
 use thiserror::Error;
 
 /// Why a call on a disk, an arm or a stage did not do its work.
-#[derive(Clone, Copy, Debug, PartialEq, Eq, Error)]
+#[derive(Clone, Copy, Debug, Error)]
 pub enum DiskError {
     /// The outside failed. The object's count of faults rose in this call, or stands at its type's end.
     #[error("the disk failed")]
@@ -47,14 +47,14 @@ pub struct Written {
 pub type Files = Seq<Written>;
 
 /// What changes the names of a disk. `F` stands for a folder.
-#[derive(Debug, Drop)]
+#[derive(Drop)]
 pub enum Change<F> {
     Publish(Name, F),
     Remove(Name),
 }
 
 /// A change, with the disk's mark when it was made.
-#[derive(Debug, Drop)]
+#[derive(Drop)]
 pub struct Stamped<F> {
     pub clock: u64,
     pub change: Change<F>,

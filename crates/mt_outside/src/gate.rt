@@ -1,7 +1,7 @@
 // Where a test may hold a session or a merger.
 
 /// Who passes a gate.
-#[derive(Clone, Copy, Debug, PartialEq, Eq)]
+#[derive(Clone, Copy)]
 pub enum Who {
     /// The session with this number; 0 is the script's own.
     Session(u64),
@@ -10,7 +10,7 @@ pub enum Who {
 }
 
 /// Where a gate is passed. No pass is made while a lock is held.
-#[derive(Clone, Copy, Debug, PartialEq, Eq)]
+#[derive(Clone, Copy)]
 pub enum Point {
     /// A statement is about to be run.
     StatementStart,

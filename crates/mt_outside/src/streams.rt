@@ -7,12 +7,12 @@ ghost use Rattle.mt_outside.specs.Causes.{HasCause};
 use thiserror::Error;
 
 /// A read failed.
-#[derive(Clone, Copy, Debug, PartialEq, Eq, Error)]
+#[derive(Clone, Copy, Debug, Error)]
 #[error("a read failed")]
 pub struct ReadFault;
 
 /// A write failed.
-#[derive(Clone, Copy, Debug, PartialEq, Eq, Error)]
+#[derive(Clone, Copy, Debug, Error)]
 #[error("a write failed")]
 pub struct WriteFault;
 

@@ -55,6 +55,29 @@ added i h row rows is = by (rows_of_insert i h) (unmerged_turn i.table h) refl r
     by (Ok (x ∷ xs)) (Some why) e f is = cc
     by (Ok (x ∷ xs)) None e f is = record { read = e ∙ is; turn = f }
 
+-- its table or its data refuses it, or its turn does
+abbrev pub IsUnadded : InsertText → History → Refusal → Type 0
+IsUnadded i h why = (rows_of_insert i h ≡ Err why) ⊎ ((row : Row) × (rows : List Row) × (rows_of_insert i h ≡ Ok (row ∷ rows)) × (unmerged_turn i.table h ≡ Some why))
+
+pub unadded : (i : InsertText) (h : History) (why : Refusal) → inserted i h ≡ Err why → IsUnadded i h why
+unadded i h why is = by (rows_of_insert i h) (unmerged_turn i.table h) refl refl is
+  where
+    by : (r : Result (List Row) Refusal) (o : Option Refusal) → rows_of_insert i h ≡ r → unmerged_turn i.table h ≡ o → rows_at_turn o r ≡ Err why → IsUnadded i h why
+    by (Err other) o e f is = inl (e ∙ is)
+    by (Ok []) o e f is = cc
+    by (Ok (x ∷ xs)) None e f is = cc
+    by (Ok (x ∷ xs)) (Some other) e f is = let same : other ≡ why = cc in inr (x, xs, e, f ∙ ap Some same)
+
+-- no rows were read where none are added
+pub none_read : (i : InsertText) (h : History) → inserted i h ≡ Ok [] → rows_of_insert i h ≡ Ok []
+none_read i h is = by (rows_of_insert i h) (unmerged_turn i.table h) refl is
+  where
+    by : (r : Result (List Row) Refusal) (o : Option Refusal) → rows_of_insert i h ≡ r → rows_at_turn o r ≡ Ok [] → rows_of_insert i h ≡ Ok []
+    by (Err why) o e is = cc
+    by (Ok []) o e is = e
+    by (Ok (x ∷ xs)) None e is = cc
+    by (Ok (x ∷ xs)) (Some why) e is = cc
+
 -- the rows of a table that is there
 rows_of_table : (i : InsertText) (h : History) (schema : Schema) → schema_of i.table h ≡ Some schema → rows_of_insert i h ≡ rows_or_refused (inserted_rows (column_types schema) i.lines i.ended)
 rows_of_table i h schema there = ap (rows_for i) there

@@ -1,5 +1,6 @@
 -- What one statement comes to, run behind the last entry of a history, over an outside without faults.
 use Rattle.std.proofs.Common.{◌≡◌, ℕ, ◌+◌, ◌-◌, ◌<◌, ◌≤◌, List, [], ◌∷◌, ◌++◌, Some, None, Result, Ok, Err, length, take, All, refl, sym, ap, subst, ◌∙◌, inl, inr, arith, length-append}
+use Rattle.std.specs.Prelude.{IfOk}
 use Rattle.std.proofs.lemmas.List.{take-append-le, take_all}
 use Rattle.std.proofs.lemmas.List.Elements.{All-append}
 use Rattle.mt_values.specs.declared.command.Entry.{Entry}
@@ -19,13 +20,13 @@ use Rattle.mt_model.specs.declared.refusal.Refusal.TheVariants as refusal
 use Rattle.mt_model.specs.History.{History, IsLegal, schema_of, inserts}
 use Rattle.mt_model.specs.Refusals.{refusal_line}
 use Rattle.mt_model.specs.Reply.{ok_line, create_turn, rows_of_insert, insert_turn, columns_for, columns_of_select}
-use Rattle.mt_model.specs.Session.{AddsNothing, RefusedAs, CreateRefused, TakesStatement, Takes, SessionRun}
+use Rattle.mt_model.specs.Session.{AddsNothing, RefusedAs, CreateRefused, InsertRefused, TakesStatement, Takes, SessionRun}
 use Rattle.mt_model.specs.Script.{ScriptRun}
 use Rattle.mt_model.proofs.Growing.{stays, adds_last, run_more, run_append}
 use Rattle.mt_model.proofs.Histories.{legal_push}
 use Rattle.mt_model.proofs.Tables.{create_allowed, insert_allowed}
-use Rattle.mt_plain.specs.Plain.{calm, created, IsInserted, Grows}
-use Rattle.mt_plain.proofs.Accepted.{IsUnmade, made, unmade, added}
+use Rattle.mt_plain.specs.Plain.{calm, created, inserted, IsInserted, Grows}
+use Rattle.mt_plain.proofs.Accepted.{IsUnmade, IsUnadded, made, unmade, added, unadded, none_read}
 
 whole : (h : History) → take (length h) h ≡ h
 whole h = take_all (length h) h (omega arith)
@@ -35,6 +36,10 @@ before_last h e = let back : length h + 1 - 1 ≡ length h = omega arith in rw b
 
 here : (h : History) → AddsNothing h 0 (length h) (length h)
 here h = stays h 0 (length h) (omega arith)
+
+pub when_ok : {A E : Type 0} (r : Result A E) (P Q : A → Type 0) → ((x : A) → P x → Q x) → IfOk r P → IfOk r Q
+when_ok (Ok x) P Q then held = then x held
+when_ok (Err e) P Q then held = tt
 
 -- ---- histories
 
@@ -127,6 +132,30 @@ pub inserted_legal : (h new : History) (i : InsertText) (block : Grid) (table : 
 inserted_legal h new i block table is some named new_is legal =
     let e : List ℕ → Entry = λ t. record { session = 0; command = command.Insert (record { table = t; partition = Whole; block = block }) } in
     subst IsLegal (sym (new_is ∙ ap (λ t. h ++ e t ∷ []) named)) (legal_push h (e i.table) legal (insert_allowed h i.table is.schema block is.there some is.types is.typed is.values))
+
+-- an INSERT without rows
+pub empty_takes : (h : History) (i : InsertText) (block : Grid) (reply : List ℕ) → IsInserted i h block → length block.rows ≡ 0 → reply ≡ ok_line (length h) → TakesStatement calm h 0 (statement.Insert i) (length h) (length h) reply
+empty_takes h i block reply is none reply_is = by block.rows is.rows none
+  where
+    by : (rows : List Row) → inserted i h ≡ Ok rows → length rows ≡ 0 → TakesStatement calm h 0 (statement.Insert i) (length h) (length h) reply
+    by [] read zero = inr (inl (reply_is, here h, subst (λ (x : History). rows_of_insert i x ≡ Ok []) (sym (whole h)) (none_read i h read)))
+    by (row ∷ rows) read zero = absurd (omega arith)
+
+pub uninserted_takes : (h : History) (i : InsertText) (why : Refusal) (reply : List ℕ) → inserted i h ≡ Err why → reply ≡ refusal_line why → TakesStatement calm h 0 (statement.Insert i) (length h) (length h) reply
+uninserted_takes h i why reply is line = inr (inr (by (unadded i h why is)))
+  where
+    by : IsUnadded i h why → InsertRefused calm h 0 i (length h) (length h) reply
+    by (inl text) = inl (why, subst (λ (x : History). rows_of_insert i x ≡ Err why) (sym (whole h)) text, refused_here h why reply line)
+    by (inr (row, rows, read, turn)) = inr (inr (inl (
+      row,
+      rows,
+      why,
+      subst (λ (x : History). rows_of_insert i x ≡ Ok (row ∷ rows)) (sym (whole h)) read,
+      inserts i.table h,
+      subst (λ (x : History). inserts i.table h ≤ inserts i.table x) (sym (whole h)) (omega arith),
+      subst (λ (x : History). insert_turn (inserts i.table h) i.table x ≡ Some why) (sym (whole h)) turn,
+      refused_here h why reply line,
+    )))
 
 -- ---- SELECT
 

@@ -23,7 +23,7 @@ use mt_values::{
 use std::alloc::Global;
 
 /// The accepted commands of a run, and what it printed.
-#[derive(Debug, Drop)]
+#[derive(Drop)]
 pub struct Outcome {
     pub history: Vec<Entry>,
     pub out: Vec<u8>,

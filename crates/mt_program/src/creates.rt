@@ -11,10 +11,10 @@ ghost use Rattle.root_log.specs.Soundness.{HasSoundParts, IsSound, NamesFitUnles
 ghost use Rattle.root_log.specs.Stores.{CoreStands};
 ghost use Rattle.mt_program.specs.Answers.{Answers, history};
 
-use crate::commits::{give_back, seal_entry};
-use crate::stopped::{refused_line, stage_line, unsettled_line};
+use crate::commits::{give_back, replies_behind, seal_entry};
+use crate::stopped::{refused_line, stage_line};
 use mt_base::{NoMemory, Twin};
-use mt_model::{ok_line, refusal_line, resolve};
+use mt_model::{refusal_line, resolve};
 use mt_outside::{Arm, Disk};
 use mt_values::{Annals, Create, CreateText};
 use root_log::{CoreStore, commit_create};
@@ -56,11 +56,7 @@ pub fn create<D: Disk, A: Annals>(
         Ok(schema) => schema,
         Err(refusal) => return Ok(refusal_line(alloc, &refusal)?),
     };
-    let Some(length) = store.length.checked_add(1) else {
-        return Err(NoMemory);
-    };
-    let reply = ok_line(alloc, length)?;
-    let unsettled = unsettled_line(alloc)?;
+    let replies = replies_behind(alloc, store.length)?;
     let table = text.table.twin(alloc)?;
     let sealed = match seal_entry(alloc, arm, text.text.as_slice()) {
         Ok(sealed) => sealed,
@@ -68,9 +64,10 @@ pub fn create<D: Disk, A: Annals>(
     };
     let made = Create { table, schema };
     match commit_create(alloc, store, disk, annals, 0, made, sealed) {
-        Ok(()) => Ok(reply),
+        Ok(()) => Ok(replies.accepted),
         Err(returned) => {
             give_back(arm, returned.back);
+            let unsettled = replies.unsettled;
             Ok(refused_line(alloc, &text.table, returned.cause, unsettled)?)
         }
     }

@@ -1,25 +1,29 @@
 // Running an INSERT.
-ghost use Rattle.std.specs.Prelude.{◌≡◌, ◌∷◌, ◌++◌, [], ◌-◌, ◌<◌, ◌≤◌, ◌^◌, Ok, Some, true, false, IfOk, OnOk, List, ℕ, Result};
+ghost use Rattle.std.specs.Prelude.{◌≡◌, ◌∷◌, ◌++◌, [], ◌-◌, ◌<◌, ◌≤◌, ◌^◌, Ok, Some, true, false, IfErr, IfOk, OnOk, List, ℕ, Result};
 ghost use Rattle.mt_values.specs.declared.statement.Cause.{Cause};
 ghost use Rattle.mt_values.specs.declared.statement.Statement.{Statement};
 ghost use Rattle.mt_values.specs.declared.statement.Statement.TheVariants as statement;
 ghost use Rattle.mt_values.specs.Annals.{Told};
 ghost use Rattle.mt_values.specs.Grid.{AreRowsOf};
+ghost use Rattle.mt_values.specs.Rows.{inserted_rows};
+ghost use Rattle.mt_values.specs.Values.{AreValues};
 ghost use Rattle.mt_outside.specs.DiskCauses.{HasDiskCause};
 ghost use Rattle.mt_model.specs.History.{IsTableSchema, column_types};
-ghost use Rattle.mt_model.specs.Refusals.{is_damage};
+ghost use Rattle.mt_model.specs.Refusals.{is_damage, refusal_line, refusal_of_data};
+ghost use Rattle.tsv_rows.specs.Stops.{Refuses};
 ghost use Rattle.root_log.specs.Commits.{IsSealedOf};
 ghost use Rattle.root_log.specs.Crashes.{KeepsThroughCrashes};
 ghost use Rattle.root_log.specs.Soundness.{HasSoundParts, IsSound, NamesFitUnlessRisen};
 ghost use Rattle.root_log.specs.Stores.{CoreStands};
 ghost use Rattle.mt_program.specs.Answers.{Answers, history};
 
-use crate::commits::give_back;
-use crate::stopped::{refused_line, stage_line, unsettled_line};
-use mt_base::{NoMemory, Twin};
+use crate::commits::{give_back, replies_behind};
+use crate::refusals::no_table_line;
+use crate::stopped::{refused_line, stage_line};
+use mt_base::NoMemory;
 use mt_model::{Refusal, ok_line, refusal_line};
 use mt_outside::{Arm, Disk, DiskError};
-use mt_values::{Annals, Block, ColType, InsertText, Schema};
+use mt_values::{Annals, Block, ColType, DataFault, InsertText, Schema};
 use part_writer::{SealedPart, write_part};
 use root_log::{CoreStore, commit_part};
 use std::alloc::Global;
@@ -34,6 +38,25 @@ pub fn types_of_columns(alloc: Global, schema: &Schema) -> Result<Vec<ColType>, 
         types.push(column.col_type)?;
     }
     Ok(types)
+}
+
+/// The rows of an INSERT, as they read for a table's columns, or why they are refused.
+fn read_block(alloc: Global, schema: &Schema, text: &InsertText) -> Result<Block, ReadStop>
+    ensures rows { IfOk result (λ block. inserted_rows (column_types schema.now) text.now.lines text.now.ended ≡ Ok block.rows) }
+    ensures types { IfOk result (λ block. block.types ≡ column_types schema.now) }
+    ensures values { IfOk result (λ block. AreValues block.rows) }
+    ensures refused { IfErr result (Refuses (inserted_rows (column_types schema.now) text.now.lines text.now.ended)) }
+{
+    let types = types_of_columns(alloc, schema)?;
+    read_rows(alloc, &types, text.lines.as_slice(), text.ended)
+}
+
+/// The reply to an INSERT whose rows are refused.
+fn data_line(alloc: Global, fault: DataFault) -> Result<Vec<u8>, NoMemory>
+    ensures { IfOk result (λ line. line.items ≡ refusal_line (refusal_of_data fault)) }
+{
+    let why = Refusal::of_data(fault);
+    Ok(refusal_line(alloc, &why)?)
 }
 
 /// The files of a block as a part of a table, sealed: its rows in the order of the key, those of equal keys as they came.
@@ -90,35 +113,26 @@ pub fn insert<D: Disk, A: Annals>(
     ensures arm_later { D.Arm.failed arm.old ≤ D.Arm.failed arm.new }
 {
     let Some(found) = store.tables.get(&text.table) else {
-        let name = text.table.twin(alloc)?;
-        let why = Refusal::NoTable(name);
-        return Ok(refusal_line(alloc, &why)?);
+        return Ok(no_table_line(alloc, &text.table)?);
     };
-    let types = types_of_columns(alloc, &found.schema)?;
-    let block = match read_rows(alloc, &types, text.lines.as_slice(), text.ended) {
+    let block = match read_block(alloc, &found.schema, text) {
         Ok(block) => block,
         Err(ReadStop::NoMemory) => return Err(NoMemory),
-        Err(ReadStop::Refused(fault)) => {
-            let why = Refusal::of_data(fault);
-            return Ok(refusal_line(alloc, &why)?);
-        }
+        Err(ReadStop::Refused(fault)) => return Ok(data_line(alloc, fault)?),
     };
     if block.is_empty() {
         return Ok(ok_line(alloc, store.length)?);
     }
-    let Some(length) = store.length.checked_add(1) else {
-        return Err(NoMemory);
-    };
-    let reply = ok_line(alloc, length)?;
-    let unsettled = unsettled_line(alloc)?;
+    let replies = replies_behind(alloc, store.length)?;
     let part = match seal_block(alloc, arm, &found.schema, &block) {
         Ok(part) => part,
         Err(error) => return Ok(stage_line(alloc, error)?),
     };
     match commit_part(alloc, store, disk, annals, 0, &text.table, part, block) {
-        Ok(()) => Ok(reply),
+        Ok(()) => Ok(replies.accepted),
         Err(returned) => {
             give_back(arm, returned.back.map(|part| part.sealed));
+            let unsettled = replies.unsettled;
             Ok(refused_line(alloc, &text.table, returned.cause, unsettled)?)
         }
     }

@@ -9,12 +9,14 @@ ghost use Rattle.mt_model.specs.Refusals.{is_damage, refusal_line};
 ghost use Rattle.part_name.specs.PartNames.{part_text};
 ghost use Rattle.part_reader.specs.Faults.{IsNoDamage};
 ghost use Rattle.root_log.specs.Soundness.{HasSoundParts, IsSound};
-ghost use Rattle.root_log.specs.Stores.{CoreStands};
+ghost use Rattle.root_log.specs.Stores.{CoreStands, table_at};
+ghost use Rattle.part_set.specs.Sets.{parts_of};
+ghost use Rattle.mt_model.specs.Reply.{selected_places};
 ghost use Rattle.mt_program.specs.Answers.{history};
 ghost use Rattle.mt_program.specs.Names.{file_name};
 ghost use Rattle.mt_program.specs.Selects.{ArePlacesOf, ExplainsParts, HaveTypes, PartsHold, Printed, Selected, TellsOfDamage, joined, rows_kept, values_at};
 
-use crate::refusals::file_name;
+use crate::refusals::{file_name, no_table_line};
 use crate::stopped::stage_line;
 use mt_base::{NoMemory, Seq, Twin};
 use mt_model::{Refusal, refusal_line, rows_line, selected_columns};
@@ -23,7 +25,7 @@ use mt_values::{Block, ColumnData, FileId, Schema, SelectText, all_places};
 use part_name::{PartName, text as part_text};
 use part_reader::{Part, PartFault, read_columns};
 use part_set::Kept;
-use root_log::CoreStore;
+use root_log::{CoreStore, Table};
 use std::alloc::Global;
 use tsv_rows::write_rows;
 
@@ -130,6 +132,39 @@ fn print(
     Ok(reply)
 }
 
+/// The rows of a table, so many, of the columns at these places, which are the selected ones.
+///
+/// `NoMemory` where a growth was refused.
+fn read_places<R: Arm>(
+    alloc: Global,
+    store: &CoreStore<R::Dir>,
+    arm: &mut R,
+    text: &SelectText,
+    table: &Table,
+    places: &[u32],
+    rows: usize,
+) -> Result<Vec<u8>, NoMemory>
+    requires store { IsSound store.now }
+    requires table { table_at store.now text.now.table ≡ Some table.now }
+    requires places { selected_places table.now.schema.columns text.now.columns ≡ Ok places.now }
+    requires rows { rows ≡ rows_kept (parts_of store.now.set text.now.table) }
+    requires few { rows < 2 ^ 32 }
+    ensures answers { (kept : Told) → CoreStands R.Dir.files (history kept) store.now → IfOk result (λ reply. Selected kept text.now (R.failed arm.new) store.now.opened reply.items) }
+    ensures undamaged { HasSoundParts R.Dir.files store.now → IfOk result (λ reply. is_damage reply.items ≡ false) }
+    ensures damaged { IfOk result (λ reply. is_damage reply.items ≡ true → TellsOfDamage R.Dir.files store.now text.now reply.items) }
+    ensures tells { R.tells arm.new ≡ R.tells arm.old }
+    ensures later { R.failed arm.old ≤ R.failed arm.new }
+{
+    let parts = store.set.parts(&text.table);
+    let mut columns = empty_columns(alloc, &table.schema, places)?;
+    match read_parts(alloc, arm, parts, places, &mut columns) {
+        Ok(()) => Ok(print(alloc, store.length, columns, rows)?),
+        Err((_, PartFault::NoMemory)) => Err(NoMemory),
+        Err((_, PartFault::Fault)) => Ok(stage_line(alloc, DiskError::Fault)?),
+        Err((part, PartFault::Damaged { file, .. })) => Ok(damaged(alloc, text, &part, file)?),
+    }
+}
+
 /// The rows of a table, of the selected columns, sorted by these from left to right, unless the SELECT is refused.
 ///
 /// `NoMemory` where a growth was refused.
@@ -148,28 +183,16 @@ pub fn select<R: Arm, G: Gate>(
     ensures later { R.failed arm.old ≤ R.failed arm.new }
 {
     let Some(table) = store.tables.get(&text.table) else {
-        let name = text.table.twin(alloc)?;
-        let why = Refusal::NoTable(name);
-        return Ok(refusal_line(alloc, &why)?);
+        return Ok(no_table_line(alloc, &text.table)?);
     };
     let selected = selected_columns(alloc, table.schema.columns.as_slice(), &text.columns)?;
     let places = match selected {
         Ok(places) => places,
         Err(refusal) => return Ok(refusal_line(alloc, &refusal)?),
     };
-    let parts = store.set.parts(&text.table);
-    let Some(rows) = count_rows(parts) else {
+    let Some(rows) = count_rows(store.set.parts(&text.table)) else {
         return Err(NoMemory);
     };
     gate.pass(Who::Session(0), Point::ScanStart);
-    let mut columns = empty_columns(alloc, &table.schema, places.as_slice())?;
-    match read_parts(alloc, arm, parts, places.as_slice(), &mut columns) {
-        Ok(()) => {}
-        Err((_, PartFault::NoMemory)) => return Err(NoMemory),
-        Err((_, PartFault::Fault)) => return Ok(stage_line(alloc, DiskError::Fault)?),
-        Err((part, PartFault::Damaged { file, .. })) => {
-            return Ok(damaged(alloc, text, &part, file)?);
-        }
-    }
-    Ok(print(alloc, store.length, columns, rows)?)
+    read_places(alloc, store, arm, text, table, places.as_slice(), rows)
 }

@@ -30,7 +30,7 @@ use sql_read::{Next, next_statement};
 use std::alloc::Global;
 
 /// What the replies so far said.
-#[derive(Clone, Copy, Debug, PartialEq, Eq)]
+#[derive(Clone, Copy)]
 pub struct Tally {
     /// A statement was refused for what the script says.
     pub refused: bool,
@@ -39,7 +39,7 @@ pub struct Tally {
 }
 
 /// How a script ended.
-#[derive(Clone, Copy, Debug, PartialEq, Eq)]
+#[derive(Clone, Copy)]
 pub enum Ending {
     /// All statements were answered. What the replies said.
     Done(Tally),

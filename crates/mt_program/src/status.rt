@@ -3,7 +3,7 @@ ghost use Rattle.std.specs.Prelude.{◌≡◌, Bool};
 ghost use Rattle.mt_program.specs.Headline.{number_of};
 
 /// How a run ends: by what ends it early, or else, at the script's end, by damage before a disk's fault before a refusal.
-#[derive(Clone, Copy, Debug, PartialEq, Eq)]
+#[derive(Clone, Copy)]
 pub enum Status {
     /// All statements were answered, none was refused.
     Done,

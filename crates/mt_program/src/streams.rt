@@ -11,7 +11,7 @@ use std::alloc::{AllocError, Global};
 pub const MOST_BYTES: usize = 1 << 40;
 
 /// Why a script was not read to its end.
-#[derive(Clone, Copy, Debug, PartialEq, Eq)]
+#[derive(Clone, Copy)]
 pub enum ReadStop {
     NoMemory,
     /// A read failed.

@@ -1,6 +1,7 @@
 -- The values of a column are all of its type.
-use Rattle.std.proofs.Common.{◌≡◌, ℕ, Some, refl, sym, ap, ◌∙◌, List, All, map, slice_get}
-use Rattle.std.proofs.lemmas.Option.{get_or_from_slice_get, slice_get_within}
+use Rattle.std.proofs.Common.{◌≡◌, ℕ, ◌<◌, Some, refl, sym, ap, ◌∙◌, List, All, map, slice_get, get_or, length, option_map, arith, Vec, vec_len}
+use Rattle.std.proofs.lemmas.List.{length-map}
+use Rattle.std.proofs.lemmas.Option.{get_or_from_slice_get, slice_get_within, slice_get-map, slice_get_read}
 use Rattle.mt_values.specs.declared.value.ColType.{ColType}
 use Rattle.mt_values.specs.declared.value.Value.{Value}
 use Rattle.mt_values.specs.declared.value.Value.TheVariants as value
@@ -28,3 +29,18 @@ AreOfType-cells_of (cells.Text s) = typed_map value.Text _ (λ x. refl) s
 -- a value of a column is of the column's type
 pub typed_at : (cells : Cells) (a : ℕ) (v : Value) → AreOfType cells → slice_get cells.values a ≡ Some v → type_of v ≡ cells.col_type
 typed_at cells a v typed e = ap type_of (sym (get_or_from_slice_get cells.values a v v e)) ∙ typed a v (slice_get_within cells.values a v e)
+
+-- a place within a column of these items is within the items
+pub within_items : {X : Type 0} (f : X → Value) (t : ColType) (xs : List X) (cells : Cells) (place : ℕ) → cells ≡ record { col_type = t; values = map f xs } → place < length cells.values → place < length xs
+within_items f t xs cells place is h = omega (arith, ap (λ (c : Cells). length c.values) is, length-map xs f)
+
+-- the same, as the vector counts them
+pub within_vector : {X A : Type 0} (f : X → Value) (t : ColType) (v : Vec X A) (cells : Cells) (place : ℕ) → cells ≡ record { col_type = t; values = map f v.items } → place < length cells.values → place < vec_len v
+within_vector f t v cells place is h = omega (arith, within_items f t v.items cells place is h, v.ok.0)
+
+-- what is read of the items is the column's value
+pub value_read : {X : Type 0} (f : X → Value) (t : ColType) (xs : List X) (x : X) (cells : Cells) (place : ℕ) → cells ≡ record { col_type = t; values = map f xs } → place < length cells.values → x ≡ get_or xs place x → slice_get cells.values place ≡ Some (f x)
+value_read f t xs x cells place is h e =
+    ap (λ (c : Cells). slice_get c.values place) is
+    ∙ slice_get-map f xs place
+    ∙ ap (option_map f) (slice_get_read xs (length xs) place x refl (within_items f t xs cells place is h) e)

@@ -8,7 +8,7 @@ use mt_base::NoMemory;
 use std::alloc::Global;
 
 /// A command that was accepted, with the disk's mark when its commit ended.
-#[derive(Debug, Drop)]
+#[derive(Drop)]
 pub struct Noted {
     pub entry: Entry,
     pub mark: u64,

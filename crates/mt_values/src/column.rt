@@ -52,6 +52,73 @@ impl Cells {
             Cells::Text(texts) => texts.len(),
         }
     }
+
+    /// The value at a place, counted from 0.
+    fn at(&self, place: usize) -> Cell<'_>
+        requires { place < length (cells_of self.now).values }
+        ensures { slice_get (cells_of self.now).values place ≡ Some (value_of result) }
+    {
+        match self {
+            Cells::UInt8(v) => Cell::UInt8(v[place]),
+            Cells::UInt16(v) => Cell::UInt16(v[place]),
+            Cells::UInt32(v) => Cell::UInt32(v[place]),
+            Cells::UInt64(v) => Cell::UInt64(v[place]),
+            Cells::Int8(v) => Cell::Int8(v[place]),
+            Cells::Int16(v) => Cell::Int16(v[place]),
+            Cells::Int32(v) => Cell::Int32(v[place]),
+            Cells::Int64(v) => Cell::Int64(v[place]),
+            Cells::Text(texts) => Cell::Text(texts.at(place)),
+        }
+    }
+
+    /// Adds a value at the end.
+    ///
+    /// `NoMemory` where a growth was refused; the column stays as it was.
+    fn push(&mut self, cell: Cell) -> Result<(), NoMemory>
+        requires { type_of (value_of cell) ≡ (cells_of self.old).col_type }
+        ensures ok { OnOk result (cells_of self.new ≡ record (cells_of self.old) { values = (cells_of self.old).values ++ value_of cell.entry ∷ [] }) }
+        ensures err { OnErr result (cells_of self.new ≡ cells_of self.old) }
+    {
+        // A cell of another type does not come, so the second arms add nothing.
+        match self {
+            Cells::UInt8(v) => match cell {
+                Cell::UInt8(n) => push_number(v, n),
+                _ => Ok(()),
+            },
+            Cells::UInt16(v) => match cell {
+                Cell::UInt16(n) => push_number(v, n),
+                _ => Ok(()),
+            },
+            Cells::UInt32(v) => match cell {
+                Cell::UInt32(n) => push_number(v, n),
+                _ => Ok(()),
+            },
+            Cells::UInt64(v) => match cell {
+                Cell::UInt64(n) => push_number(v, n),
+                _ => Ok(()),
+            },
+            Cells::Int8(v) => match cell {
+                Cell::Int8(n) => push_number(v, n),
+                _ => Ok(()),
+            },
+            Cells::Int16(v) => match cell {
+                Cell::Int16(n) => push_number(v, n),
+                _ => Ok(()),
+            },
+            Cells::Int32(v) => match cell {
+                Cell::Int32(n) => push_number(v, n),
+                _ => Ok(()),
+            },
+            Cells::Int64(v) => match cell {
+                Cell::Int64(n) => push_number(v, n),
+                _ => Ok(()),
+            },
+            Cells::Text(texts) => match cell {
+                Cell::Text(bytes) => texts.push(bytes),
+                _ => Ok(()),
+            },
+        }
+    }
 }
 
 impl Model for ColumnData {
@@ -120,17 +187,7 @@ impl ColumnData {
         requires { place < length self.now.values }
         ensures { slice_get self.now.values place ≡ Some (value_of result) }
     {
-        match &self.cells {
-            Cells::UInt8(v) => Cell::UInt8(v[place]),
-            Cells::UInt16(v) => Cell::UInt16(v[place]),
-            Cells::UInt32(v) => Cell::UInt32(v[place]),
-            Cells::UInt64(v) => Cell::UInt64(v[place]),
-            Cells::Int8(v) => Cell::Int8(v[place]),
-            Cells::Int16(v) => Cell::Int16(v[place]),
-            Cells::Int32(v) => Cell::Int32(v[place]),
-            Cells::Int64(v) => Cell::Int64(v[place]),
-            Cells::Text(texts) => Cell::Text(texts.at(place)),
-        }
+        self.cells.at(place)
     }
 
     /// Adds a value at the end.
@@ -152,19 +209,7 @@ impl ColumnData {
         ensures ok { OnOk result (self.new ≡ record self.old { values = self.old.values ++ value_of cell.entry ∷ [] }) }
         ensures err { OnErr result (self.new ≡ self.old) }
     {
-        match (&mut self.cells, cell) {
-            (Cells::UInt8(v), Cell::UInt8(n)) => v.push(n)?,
-            (Cells::UInt16(v), Cell::UInt16(n)) => v.push(n)?,
-            (Cells::UInt32(v), Cell::UInt32(n)) => v.push(n)?,
-            (Cells::UInt64(v), Cell::UInt64(n)) => v.push(n)?,
-            (Cells::Int8(v), Cell::Int8(n)) => v.push(n)?,
-            (Cells::Int16(v), Cell::Int16(n)) => v.push(n)?,
-            (Cells::Int32(v), Cell::Int32(n)) => v.push(n)?,
-            (Cells::Int64(v), Cell::Int64(n)) => v.push(n)?,
-            (Cells::Text(texts), Cell::Text(bytes)) => texts.push(bytes)?,
-            _ => {}
-        }
-        Ok(())
+        self.cells.push(cell)
     }
 
     /// Adds a text at the end of a column of texts.
@@ -177,4 +222,15 @@ impl ColumnData {
     {
         self.push_cell(Cell::Text(text))
     }
+}
+
+/// Adds a number at the end of a vector.
+///
+/// `NoMemory` where a growth was refused; the vector stays as it was.
+fn push_number<T: Copy>(numbers: &mut Vec<T>, number: T) -> Result<(), NoMemory>
+    ensures ok { OnOk result (numbers.new.items ≡ numbers.old.items ++ number ∷ []) }
+    ensures err { OnErr result (numbers.new.items ≡ numbers.old.items) }
+{
+    numbers.push(number)?;
+    Ok(())
 }

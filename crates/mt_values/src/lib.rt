@@ -30,7 +30,7 @@ pub use mt_base::Partition;
 pub use name::{FileId, Name};
 pub use order::{cmp_key, cmp_value, orders_are_exact, orders_are_total};
 pub use row_fault::{DataFault, FieldFault, RowFault};
-pub use schema::{Column, Schema, SchemaFault};
+pub use schema::{Column, Schema, SchemaFault, has_name};
 pub use script::Place;
 pub use sorting::all_places;
 pub use statement::{Cause, CreateText, InsertText, SelectText, Selected, Slip, Statement};

@@ -11,14 +11,14 @@ pub struct FileMark {
 }
 
 /// What a part's manifest says: its number of rows, and the size and digest of each other file, in their order.
-#[derive(Debug, Drop)]
+#[derive(Drop)]
 pub struct Manifest {
     pub rows: u64,
     pub files: Seq<FileMark>,
 }
 
 /// What is kept of a part in memory, beside its folder.
-#[derive(Debug, Drop)]
+#[derive(Drop)]
 pub struct Loaded {
     pub manifest: Manifest,
 }

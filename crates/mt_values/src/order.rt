@@ -4,14 +4,15 @@ ghost use Rattle.std.specs.Cmp.{IsTotalOrder};
 ghost use Rattle.mt_values.specs.declared.value.Value.{Value};
 ghost use Rattle.mt_values.specs.Order.{value_cmp, key_cmp, row_cmp, HasPlaces, IsExact};
 
-use crate::{Row, Schema, Value};
+use crate::sorting::cmp_cells;
+use crate::{Cell, Row, Schema, Value};
 use std::cmp::Ordering;
 
 /// The order of two values: numbers as numbers, texts by bytes.
 pub fn cmp_value(a: &Value, b: &Value) -> Ordering
     ensures { result ≡ value_cmp a.now b.now }
 {
-    a.cmp(b)
+    cmp_cells(Cell::of(a), Cell::of(b))
 }
 
 /// The order of two rows by the sorting key.

@@ -3,7 +3,7 @@
 use mt_base::NoMemory;
 
 /// Why a field is no value of its column.
-#[derive(Clone, Copy, Debug, PartialEq, Eq)]
+#[derive(Clone, Copy, Debug)]
 pub enum FieldFault {
     /// It is no value of the column's type.
     NotOfType,
@@ -12,7 +12,7 @@ pub enum FieldFault {
 }
 
 /// Why a line is no row. Lines count the rows of data from 1, fields those of a line from 1.
-#[derive(Clone, Copy, Debug, PartialEq, Eq)]
+#[derive(Clone, Copy, Debug)]
 pub enum RowFault {
     /// A growth was refused.
     NoMemory,
@@ -43,7 +43,7 @@ impl From<NoMemory> for RowFault {
 }
 
 /// Why data is not the rows of an INSERT.
-#[derive(Clone, Copy, Debug, PartialEq, Eq)]
+#[derive(Clone, Copy, Debug)]
 pub enum DataFault {
     /// A line is no row, and each line before it is one.
     Row(RowFault),

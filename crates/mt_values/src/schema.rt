@@ -22,7 +22,7 @@ pub struct Schema {
 }
 
 /// The first rule that a schema breaks, by the order of these variants.
-#[derive(Clone, Copy, Debug, PartialEq, Eq)]
+#[derive(Clone, Copy)]
 pub enum SchemaFault {
     /// There is no column.
     NoColumns,
@@ -67,7 +67,7 @@ fn double_column(columns: &[Column]) -> Option<SchemaFault>
 }
 
 /// Whether one of the columns has the name.
-fn has_name(columns: &[Column], name: &Name) -> bool
+pub fn has_name(columns: &[Column], name: &Name) -> bool
     ensures { result ≡ list_any (λ column. pointwise nat_eq column.name name.now) columns.now }
 {
     columns.iter().any(|column| column.name == *name)

@@ -1,7 +1,7 @@
 // Where a byte of a script stands.
 
 /// Where a byte of a statement's text stands.
-#[derive(Clone, Copy, Debug, PartialEq, Eq)]
+#[derive(Clone, Copy, PartialEq, Eq)]
 pub enum Place {
     Outside,
     InString,

@@ -3,7 +3,7 @@ use crate::{Bytes, Column, Name};
 use mt_base::Seq;
 
 /// A statement of a script, with its data.
-#[derive(Debug, Drop)]
+#[derive(Drop)]
 pub enum Statement {
     Create(CreateText),
     Insert(InsertText),
@@ -11,7 +11,7 @@ pub enum Statement {
 }
 
 /// Why a text is refused as it is read.
-#[derive(Clone, Copy, Debug, PartialEq, Eq)]
+#[derive(Clone, Copy)]
 pub enum Cause {
     /// It is no statement of the grammar. With the token at this place no statement goes on, or the byte there begins no
     /// token, or the input ends there. Bytes are counted from 0 at the statement's first.
@@ -23,7 +23,7 @@ pub enum Cause {
 }
 
 /// Why a token can't stand where it does.
-#[derive(Clone, Copy, Debug, PartialEq, Eq)]
+#[derive(Clone, Copy)]
 pub enum Slip {
     /// No statement of the grammar goes on with it.
     Wrong,
@@ -32,7 +32,7 @@ pub enum Slip {
 }
 
 /// A CREATE TABLE. Its names are as they were written.
-#[derive(Debug, Drop)]
+#[derive(Drop)]
 pub struct CreateText {
     /// The statement's bytes, from its first token up to its semicolon.
     pub text: Bytes,
@@ -43,7 +43,7 @@ pub struct CreateText {
 }
 
 /// An INSERT with the bytes of its data.
-#[derive(Debug, Drop)]
+#[derive(Drop)]
 pub struct InsertText {
     pub table: Name,
     /// The lines of its data, each with its line feed; where the input ended before the data did, also what was left of it.
@@ -53,7 +53,7 @@ pub struct InsertText {
 }
 
 /// The columns that a SELECT names.
-#[derive(Debug, Drop)]
+#[derive(Drop)]
 pub enum Selected {
     /// `*`
     All,
@@ -61,7 +61,7 @@ pub enum Selected {
 }
 
 /// A SELECT. Its names are as they were written.
-#[derive(Debug, Drop)]
+#[derive(Drop)]
 pub struct SelectText {
     pub columns: Selected,
     pub table: Name,

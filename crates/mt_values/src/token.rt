@@ -2,7 +2,7 @@
 use crate::Bytes;
 
 /// A token of one or two bytes that is no word, number or string.
-#[derive(Clone, Copy, Debug, PartialEq, Eq)]
+#[derive(Clone, Copy, PartialEq, Eq)]
 pub enum Symbol {
     /// `(`
     Open,
@@ -33,7 +33,7 @@ pub enum Symbol {
 }
 
 /// A token of a statement.
-#[derive(Debug, Drop)]
+#[derive(Drop)]
 pub enum Token {
     /// A letter or `_`, and the letters, digits and `_` after it.
     Word(Bytes),
@@ -47,7 +47,7 @@ pub enum Token {
 }
 
 /// A token, and the place of its first byte in the statement, from 0.
-#[derive(Debug, Drop)]
+#[derive(Drop)]
 pub struct Placed {
     pub at: usize,
     pub token: Token,

@@ -21,7 +21,7 @@ pub enum ColType {
 }
 
 /// One value of a row. Numbers are ordered as numbers, texts by their bytes.
-#[derive(Debug, Drop, PartialEq, Eq, PartialOrd, Ord)]
+#[derive(Drop, PartialEq, Eq)]
 pub enum Value {
     UInt8(u8),
     UInt16(u16),

@@ -68,3 +68,18 @@ last_both front rest text none parts n None small fits is = absurd (no_bar_in fr
 last_both front rest text none parts n (Some m) small fits is =
     let pieces = same_pieces (decimal n) front (decimal m) rest (decimal_no_bar n small) none (is ∙ sym parts) in
     (m, refl, fits, pieces.0, pieces.1)
+
+-- ---- what a read says of what was spelled
+
+-- a text that is read as nothing spells nothing
+pub none_read : {X Y : Type 0} (x : X) → None ≡ Some x → Y
+none_read x e = absurd cc
+
+pub same_read : {X : Type 0} (x y : X) → Some x ≡ Some y → x ≡ y
+same_read x y e = cc
+
+pub alone_read : (level n : ℕ) (mutation : Option ℕ) → Some level ≡ Some n → mutation ≡ None → ◌≡◌ {A = Option (ℕ × Option ℕ)} (Some (level, None)) (Some (n, mutation))
+alone_read level n mutation e none = cc
+
+pub both_read : (level found n m : ℕ) (mutation : Option ℕ) → Some level ≡ Some n → Some found ≡ Some m → mutation ≡ Some m → ◌≡◌ {A = Option (ℕ × Option ℕ)} (Some (level, Some found)) (Some (n, mutation))
+both_read level found n m mutation e f some = cc

@@ -2,7 +2,7 @@
 use mt_base::Partition;
 
 /// The name of a part: the partition and the blocks whose rows it has, and what was done to them.
-#[derive(Clone, Copy, Debug, PartialEq, Eq)]
+#[derive(Clone, Copy, PartialEq, Eq)]
 pub struct PartName {
     pub partition: Partition,
     /// The least number of its blocks, from 1.

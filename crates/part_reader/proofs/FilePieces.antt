@@ -1,5 +1,6 @@
 -- The bytes of a file that is read piece by piece.
-use Rattle.std.proofs.Common.{◌≡◌, ℕ, ◌+◌, ◌≤◌, List, ◌++◌, Option, Some, IfSome, sym, ap, ap₂, ◌∙◌, subst, length, take, drop, arith, length-take}
+use Rattle.std.proofs.Common.{◌≡◌, ℕ, ◌+◌, ◌<◌, ◌≤◌, List, ◌++◌, Option, Some, IfSome, sym, ap, ap₂, ◌∙◌, subst, length, take, drop, arith, length-take}
+use Rattle.std.proofs.lemmas.List.{take_all}
 use Rattle.std.proofs.Math.Seq.{take-add}
 use Rattle.mt_values.specs.declared.name.FileId.{FileId}
 use Rattle.mt_outside.specs.Files.{Files, bytes_of, ReadsAt}
@@ -12,3 +13,11 @@ piece_more told files file at place count next front buf new known reads bound h
     let n : next ≡ at + count = omega (arith, length-take count buf) in
     let piece : take count (drop at bytes) ≡ take count buf = ap (λ p. take count (drop p bytes)) (sym here) ∙ sym read.bytes_are in
     ap (λ m. take m bytes) n ∙ take-add at count bytes ∙ ap₂ ◌++◌ so_far piece ∙ sym e
+
+-- where nothing is left, all was read
+pub piece_last : (told : Option Files) (files : Files) (file : FileId) (at place count : ℕ) (front buf : List ℕ) → told ≡ Some files → IfSome told (λ fs. ReadsAt (bytes_of file fs) place count buf) → count ≡ 0 → 0 < length buf → place ≡ at → take at (bytes_of file files) ≡ front → front ≡ bytes_of file files
+piece_last told files file at place count front buf known reads none some here so_far =
+    let bytes = bytes_of file files in
+    let read : ReadsAt bytes place count buf = subst (λ o. IfSome o (λ fs. ReadsAt (bytes_of file fs) place count buf)) known reads in
+    let past : length bytes ≤ at = omega (arith, read.count_is) in
+    sym so_far ∙ take_all at bytes past

@@ -47,7 +47,7 @@ pub const NO_MARK: FileMark = FileMark {
 };
 
 /// Why a part was not read.
-#[derive(Clone, Copy, Debug, PartialEq, Eq, Error)]
+#[derive(Clone, Copy, Debug, Error)]
 pub enum PartFault {
     /// The arm failed.
     #[error("the disk failed")]

@@ -1,5 +1,5 @@
 -- What a set has of a table after one table's shelf was changed.
-use Rattle.std.proofs.Common.{◌≡◌, ◌≢◌, ℕ, ◌<◌, Bool, true, false, List, Option, refl, sym, ap, ◌∙◌, subst, inl, inr, ◌⊎◌}
+use Rattle.std.proofs.Common.{◌≡◌, ◌≢◌, ℕ, ◌<◌, Bool, true, false, List, Option, Some, Result, Ok, Err, refl, sym, ap, ◌∙◌, subst, inl, inr, ◌⊎◌}
 use Rattle.std.specs.BTreeMap.{BTreeMap, UpdatesBy, get, is_at}
 use Rattle.std.specs.Cmp.{Equal-is}
 use Rattle.std.specs.Cmp.Lexicographic.{slice_cmp}
@@ -9,7 +9,9 @@ use Rattle.std.proofs.lemmas.Map.Lookups.{exact_bytes}
 use Rattle.part_set.specs.declared.kept.Kept.{Kept}
 use Rattle.part_set.specs.Parts.{IsInBlockOrder}
 use Rattle.part_set.specs.Shelf.{Shelf}
-use Rattle.part_set.specs.Sets.{parts_on, room_on}
+use Rattle.std.specs.Result.{OnErr, OnOk}
+use Rattle.mt_base.specs.declared.memory.NoMemory.{NoMemory}
+use Rattle.part_set.specs.Sets.{IsPut, parts_on, room_on, shelf_of}
 
 pub true_or_false : (b : Bool) → (b ≡ true) ⊎ (b ≡ false)
 true_or_false true = inl refl
@@ -60,3 +62,21 @@ module _ {P : Type 0} (base old new : BTreeMap (List ℕ) (Shelf P)) (table key 
 -- room on an equal shelf
 pub room_same : {P : Type 0} (o p : Option (Shelf P)) → o ≡ p → 0 < room_on p → 0 < room_on o
 room_same {P} o p same room = subst (λ (q : Option (Shelf P)). 0 < room_on q) (sym same) room
+
+-- ---- after a shelf was put, or was not
+
+module _ {P : Type 0} (old new : BTreeMap (List ℕ) (Shelf P)) (table : List ℕ) (shelf : Shelf P) where
+  -- all other tables have theirs
+  pub put_other : (r : Result (Unit {0}) NoMemory) → OnOk r (IsPut old new table shelf) → OnErr r ((t : List ℕ) → shelf_of new t ≡ shelf_of old t) → (t : List ℕ) → t ≢ table → shelf_of new t ≡ shelf_of old t
+  put_other (Ok u) ok err t apart = other_shelf old new table (Some shelf) ok t apart
+  put_other (Err e) ok err t apart = err t
+
+  -- where the shelf has what the table had, all tables have what they had
+  pub put_parts : (r : Result (Unit {0}) NoMemory) → OnOk r (IsPut old new table shelf) → OnErr r ((t : List ℕ) → shelf_of new t ≡ shelf_of old t) → shelf.parts ≡ parts_on (shelf_of old table) → (t : List ℕ) → parts_on (shelf_of new t) ≡ parts_on (shelf_of old t)
+  put_parts (Ok u) ok err same t = all_parts old new table (Some shelf) ok same t
+  put_parts (Err e) ok err same t = ap parts_on (err t)
+
+  -- likewise their room
+  pub put_room : (r : Result (Unit {0}) NoMemory) → OnOk r (IsPut old new table shelf) → OnErr r ((t : List ℕ) → shelf_of new t ≡ shelf_of old t) → 0 < shelf.room → (t : List ℕ) → 0 < room_on (shelf_of old t) → 0 < room_on (shelf_of new t)
+  put_room (Ok u) ok err room t had = all_room old new table (Some shelf) ok (λ was. room) t had
+  put_room (Err e) ok err room t had = subst (λ (o : Option (Shelf P)). 0 < room_on o) (sym (err t)) had

@@ -1,5 +1,5 @@
 -- A name of the root is its table's name, a dot, and what stands behind it.
-use Rattle.std.proofs.Common.{◌≡◌, ◌≢◌, ℕ, Bool, true, false, not, ◌&&◌, List, [], ◌∷◌, ◌++◌, refl, sym, ap, ◌∙◌, append_assoc, get_or, Option, Some, arith, codes}
+use Rattle.std.proofs.Common.{◌≡◌, ◌≢◌, ℕ, Bool, true, false, not, ◌&&◌, List, [], ◌∷◌, ◌++◌, refl, sym, ap, ◌∙◌, append_assoc, get_or, Option, Some, None, arith, codes}
 use Rattle.std.specs.List.{list_all}
 use Rattle.std.proofs.lemmas.List.Elements.{All-nil, All-cons}
 use Rattle.mt_values.specs.Grammar.{is_reserved}
@@ -77,3 +77,11 @@ pub only_part : (n : RootName) (front rest : List ℕ) (found : Option PartName)
 only_part (Create table) front rest found named same behind other read = absurd (other (sym behind))
 only_part (Part part) front rest found named same behind other read =
     (part.name, read part.name named.1 behind, ap (λ (t : List ℕ). Part (record { table = t; name = part.name })) same)
+
+-- none was read
+pub no_part : (p : PartName) → None ≡ Some p → ⊥
+no_part p e = cc
+
+-- the part that was read, with the table that was read
+pub part_is : (n : RootName) (table front : List ℕ) (name p : PartName) → table ≡ front → Some name ≡ Some p → n ≡ Part (record { table = front; name = p }) → Some (Part (record { table = table; name = name })) ≡ Some n
+part_is n table front name p same read is = cc

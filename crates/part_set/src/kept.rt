@@ -7,7 +7,7 @@ use part_name::PartName;
 use std::alloc::Global;
 
 /// The name of a part, and what is kept for it.
-#[derive(Debug, Drop)]
+#[derive(Drop)]
 pub struct Kept<P> {
     pub name: PartName,
     pub part: P,
@@ -23,7 +23,7 @@ impl<P: Twin> Twin for Kept<P> {
 }
 
 /// A table as it was when it was pinned: what is added later is not in it.
-#[derive(Debug, Drop)]
+#[derive(Drop)]
 pub struct Snap<P> {
     pub schema: Schema,
     /// The table's parts, in block order.

@@ -13,7 +13,7 @@ use part_name::PartName;
 use std::alloc::Global;
 
 /// A name of the root.
-#[derive(Debug, Drop)]
+#[derive(Drop)]
 pub enum RootName {
     /// The table with this name.
     Create(Name),
@@ -22,7 +22,7 @@ pub enum RootName {
 }
 
 /// A part of a table.
-#[derive(Debug, Drop)]
+#[derive(Drop)]
 pub struct TablePart {
     pub table: Name,
     pub name: PartName,

@@ -18,7 +18,7 @@ use mt_values::Name;
 use std::alloc::Global;
 
 /// Why the names of the root make no set. A name is told by its place among them.
-#[derive(Clone, Copy, Debug, PartialEq, Eq)]
+#[derive(Clone, Copy)]
 pub enum SetFault {
     NoMemory,
     /// The first part whose table is not there, or to which a mutation was applied.

@@ -1,7 +1,7 @@
 // The parts of all tables.
 ghost use Rattle.std.specs.Prelude.{◌≡◌, ◌≢◌, ◌↔◌, ℕ, List, [], IfOk, IsOk, OnOk, OnErr, IsTrue};
 ghost use Rattle.part_set.specs.Parts.{AreNeighbours, HasName, IsAdded, IsInBlockOrder, NoneMeets};
-ghost use Rattle.part_set.specs.Sets.{HasRoom, parts_of};
+ghost use Rattle.part_set.specs.Sets.{HasRoom, IsPut, parts_of, shelf_of};
 
 use crate::shelf::TableParts;
 use crate::{Kept, Snap};
@@ -73,8 +73,7 @@ impl<P: Drop> PartSet<P> {
         }
         let mut parts = TableParts::new(alloc);
         parts.reserve()?;
-        self.tables.insert(table.twin(alloc)?, parts)?;
-        Ok(())
+        self.put(alloc, table, parts)
     }
 
     /// Adds a part to a table, at its place. Takes no memory where there is room.
@@ -100,8 +99,7 @@ impl<P: Drop> PartSet<P> {
         }
         let mut parts = TableParts::new(alloc);
         parts.add(name, part)?;
-        self.tables.insert(table.twin(alloc)?, parts)?;
-        Ok(())
+        self.put(alloc, table, parts)
     }
 
     /// The table gets these parts in place of its own.
@@ -113,9 +111,8 @@ impl<P: Drop> PartSet<P> {
         table: &Name,
         parts: TableParts<P>,
     ) -> Result<(), NoMemory>
-        ensures ok { OnOk result (parts_of self.new table.now ≡ parts.parts) }
-        ensures others { (t : List ℕ) → t ≢ table.now → parts_of self.new t ≡ parts_of self.old t }
-        ensures err { OnErr result ((t : List ℕ) → parts_of self.new t ≡ parts_of self.old t) }
+        ensures ok { OnOk result (IsPut self.old.tables self.new.tables table.now parts) }
+        ensures err { OnErr result ((t : List ℕ) → shelf_of self.new.tables t ≡ shelf_of self.old.tables t) }
     {
         self.tables.insert(table.twin(alloc)?, parts)?;
         Ok(())

@@ -19,6 +19,28 @@ use Rattle.root_log.specs.Crashes.{AllStand, Begins, HoldsFirst, IsCrashSafe, Is
 use Rattle.root_log.specs.Roots.{Stands}
 use Rattle.root_log.proofs.CrashNames.{image_rise}
 
+-- ---- numbers, and options that are equal
+
+squeezed : (m k n : ℕ) → m ≡ n → m ≤ k → k ≤ n → k ≡ n
+squeezed m k n all low high = omega (arith, all, low, high)
+
+one_more : (m n : ℕ) → m ≤ n → m ≤ n + 1
+one_more m n low = omega (arith, low)
+
+same_least : (m n : ℕ) → m ≡ n → m ≤ n
+same_least m n same = omega (arith, same)
+
+last_place : (at count old : ℕ) → old ≤ at → at < count → count ≡ old + 1 → at ≡ old
+last_place at count old low high is = omega (arith, low, high, is)
+
+some_one : {X : Type 0} (x y : X) → Some x ≡ Some y → x ≡ y
+some_one x y same = cc
+
+none_some : {A : Type 0} (e : Entry) → None ≡ Some e → A
+none_some e is = absurd cc
+
+-- ---- what a crash leaves
+
 -- a crash since the mark as it stands is a crash now
 now_is_image : (told : Told) (clock : ℕ) (names : Names) → Since told clock clock names → Image told clock names
 now_is_image told clock names left =
@@ -69,7 +91,7 @@ begun_too m list begun names held = by held.1
   where
     by : IsFirstOf m list None held.0 → HoldsFirst m list begun names
     by (inl first) = (held.0, inl first, held.2)
-    by (inr all) = let none = all.1 in cc
+    by (inr all) = none_some all.0 all.1
 
 pub safe_begun : (told : Told) (clock : ℕ) (list : List Noted) (begun : Option Entry) (first : List Noted) (start : ℕ) → IsCrashSafe told clock list None first start → IsCrashSafe told clock list begun first start
 safe_begun told clock list begun first start safe = record {
@@ -111,9 +133,9 @@ module _ (told : Told) (clock : ℕ) (list first : List Noted) (start : ℕ) (sa
     where
       by : IsFirstOf m list None held.0 → Stands names (entries_of list)
       by (inl first) =
-          let count : first.0 ≡ length list = (let low = first.1 in let high = first.2 in omega (arith, low, high, all)) in
+          let count : first.0 ≡ length list = squeezed m first.0 (length list) all first.1 first.2 in
           subst (Stands names) (first.3 ∙ (ap (λ (n : ℕ). take n (entries_of list)) count ∙ all_entries list)) held.2
-      by (inr begun) = let none = begun.1 in cc
+      by (inr begun) = none_some begun.0 begun.1
 
   -- whatever a crash now leaves stands for the list
   pub safe_now : (names : Names) → Image told clock names → Stands names (entries_of list)
@@ -130,7 +152,7 @@ module _ (told : Told) (clock : ℕ) (list first : List Noted) (start : ℕ) (sa
     stamped = stamped_sync told clock safe.stamped;
     begins = safe.begins;
     at_start = safe.at_start;
-    past = λ m mark behind. let past = safe.past m mark behind in omega (arith, past);
+    past = λ m mark behind. one_more mark clock (safe.past m mark behind);
     images = λ m mark names behind left. elim (since-sync told clock mark names left) [
       | inl old ↦ safe.images m mark names behind old
       | inr image ↦ safe.images m mark names behind (image_is_since told clock mark names (safe.past m mark behind) (image_synced told clock names safe.stamped image))
@@ -195,9 +217,9 @@ module _ (told : Told) (clock : ℕ) (list first : List Noted) (start : ℕ) (sa
       | inl old ↦ inl (inr (later.0, later.1, later.2, later.3, sym (slice_get-append_front list (last ∷ []) later.0 old) ∙ later.4, later.5))
       | inr new ↦ (
           let within = slice_get_within (list ++ last ∷ []) later.0 later.1 later.4 in
-          let place : later.0 ≡ length list = omega (arith, new, within, count_last) in
+          let place = last_place later.0 (length (list ++ last ∷ [])) (length list) new within count_last in
           let same : Some last ≡ Some later.1 = sym (slice_get-append_seam list last) ∙ subst (λ (n : ℕ). slice_get (list ++ last ∷ []) n ≡ Some later.1) place later.4 in
-          let is : last ≡ later.1 = cc in
+          let is = some_one last later.1 same in
           inr (later.3 ∙ ap (λ n. n + 1) place, later.5 ∙ sym (ap (λ (x : Noted). x.mark) is)))
     ]
 
@@ -209,16 +231,14 @@ module _ (told : Told) (clock : ℕ) (list first : List Noted) (start : ℕ) (sa
       where
         by : IsFirstOf m list (Some e) held.0 → IsFirstOf m (list ++ last ∷ []) None held.0
         by (inl first) =
-            let most = first.2 in
-            let count = length-map list (λ (n : Noted). n.entry) in
-            let fits : first.0 ≤ length (entries_of list) = omega (arith, most, count) in
-            inl (first.0, first.1, omega (arith, most, count_last), first.3 ∙ sym (ap (take first.0) entries_last ∙ take-append-le first.0 (entries_of list) (e ∷ []) fits))
+            let fits = subst (λ (n : ℕ). first.0 ≤ n) (sym (length-map list (λ (n : Noted). n.entry))) first.2 in
+            inl (first.0, first.1, subst (λ (n : ℕ). first.0 ≤ n) (sym count_last) (one_more first.0 (length list) first.2), first.3 ∙ sym (ap (take first.0) entries_last ∙ take-append-le first.0 (entries_of list) (e ∷ []) fits))
         by (inr all) =
-            let same : e ≡ all.0 = (let is = all.1 in cc) in
-            inl (length list + 1, omega (arith, few), omega (arith, count_last), all.2 ∙ (ap (λ (x : Entry). entries_of list ++ x ∷ []) (sym same) ∙ sym all_last))
+            let same = some_one e all.0 all.1 in
+            inl (length list + 1, one_more m (length list) few, same_least _ _ (sym count_last), all.2 ∙ (ap (λ (x : Entry). entries_of list ++ x ∷ []) (sym same) ∙ sym all_last))
 
     holds_last : (m : ℕ) (names : Names) → m ≤ length list + 1 → Stands names (entries_of list ++ e ∷ []) → HoldsFirst m (list ++ last ∷ []) None names
-    holds_last m names few stands = (entries_of list ++ e ∷ [], inl (length list + 1, few, omega (arith, count_last), sym all_last), stands)
+    holds_last m names few stands = (entries_of list ++ e ∷ [], inl (length list + 1, few, same_least _ _ (sym count_last), sym all_last), stands)
 
     -- and it is noted with that mark
     pub safe_noted : IsCrashSafe published (clock + 1) (list ++ last ∷ []) None first start
@@ -227,20 +247,19 @@ module _ (told : Told) (clock : ℕ) (list first : List Noted) (start : ℕ) (sa
       begins = (safe.begins.0 ++ last ∷ [], ap (λ (ns : List Noted). ns ++ last ∷ []) safe.begins.1 ∙ append_assoc first safe.begins.0 (last ∷ []));
       at_start = same_start;
       past = λ m mark behind. elim (behind_last m mark behind) [
-        | inl old ↦ (let past = safe.past m mark old in omega (arith, past))
-        | inr new ↦ (let is = new.1 in omega (arith, is))
+        | inl old ↦ one_more mark clock (safe.past m mark old)
+        | inr new ↦ same_least _ _ new.1
       ];
       images = λ m mark names behind left. elim (behind_last m mark behind) [
         | inl old ↦ (
             let few = within_list base start list m mark least old in
             elim (since-sync published clock mark names left) [
               | inl before ↦ longer m names few (safe_published.images m mark names old before)
-              | inr image ↦ holds_last m names (omega (arith, few)) (settled_with_it names image)
+              | inr image ↦ holds_last m names (one_more m (length list) few) (settled_with_it names image)
             ])
         | inr new ↦ (
-            let few = new.0 in
             let image = now_is_image published (clock + 1) names (subst (λ (c : ℕ). Since published (clock + 1) c names) new.1 left) in
-            holds_last m names (omega (arith, few)) (settled_with_it names image))
+            holds_last m names (same_least _ _ new.0) (settled_with_it names image))
       ];
     }
 

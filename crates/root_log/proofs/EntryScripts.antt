@@ -22,29 +22,17 @@ first_read : (table script rest : List ℕ) (s : Statement) → next_statement s
 first_read table script rest s next =
     ap (schema_by_items table) (statements_of_step script ∙ (ap (statement_and statements_of) next ∙ ap (λ (items : List (Result Statement Cause)). Ok s ∷ items) (statements_of_step rest)))
 
-behind_read : (table : List ℕ) (s : Statement) (o : Option Step) → is_some o ≡ true → schema_by_items table (Ok s ∷ statement_and statements_of o) ≡ None
+pub behind_read : (table : List ℕ) (s : Statement) (o : Option Step) → is_some o ≡ true → schema_by_items table (Ok s ∷ statement_and statements_of o) ≡ None
 behind_read table s None more = absurd cc
 behind_read table s (Some found) more = refl
 
-alone_read : (table : List ℕ) (s : Statement) (o : Option Step) → is_some o ≡ false → schema_by_items table (Ok s ∷ statement_and statements_of o) ≡ schema_by table s
+pub alone_read : (table : List ℕ) (s : Statement) (o : Option Step) → is_some o ≡ false → schema_by_items table (Ok s ∷ statement_and statements_of o) ≡ schema_by table s
 alone_read table s None none = refl
 alone_read table s (Some found) none = absurd cc
 
 -- the bytes of a script from a place on, as a slice has them
 sliced : (script : List ℕ) (at : ℕ) → take (length script - at) (drop at script) ≡ drop at script
 sliced script at = take_all (length script - at) (drop at script) (omega (arith, length-drop at script))
-
--- nor does one with a second statement
-pub more_read : (table script : List ℕ) (used : ℕ) (s : Statement) → next_statement script ≡ Some (Ok s, drop used script) → is_some (next_statement (take (length script - used) (drop used script))) ≡ true
-    → schema_by_items table (statements_of script) ≡ None
-more_read table script used s next more =
-    first_read table script (drop used script) s next ∙ behind_read table s (next_statement (drop used script)) (ap (λ (t : List ℕ). is_some (next_statement t)) (sym (sliced script used)) ∙ more)
-
--- one with a statement alone gives what that gives
-pub one_read : (table script : List ℕ) (used : ℕ) (s : Statement) → next_statement script ≡ Some (Ok s, drop used script) → is_some (next_statement (take (length script - used) (drop used script))) ≡ false
-    → schema_by_items table (statements_of script) ≡ schema_by table s
-one_read table script used s next none =
-    first_read table script (drop used script) s next ∙ alone_read table s (next_statement (drop used script)) (ap (λ (t : List ℕ). is_some (next_statement t)) (sym (sliced script used)) ∙ none)
 
 -- the schema that is found is that of the entry
 pub entry_found : (table bytes text : List ℕ) → IsEntryOf bytes text → (found : Option Schema) → found ≡ schema_of_entry table text → IfSome found (λ schema. IsEntryWith table schema bytes)
@@ -59,6 +47,12 @@ entry_read table text other schema same reads found is = is ∙ (ap (schema_of_e
 pub read_on : {F : Type 0} (r : Result (Option Schema) F) (x y : Option Schema) → IfOk r (λ found. found ≡ x) → y ≡ x → IfOk r (λ found. found ≡ y)
 read_on (Ok found) x y is same = is ∙ sym same
 read_on (Err f) x y is same = tt
+
+-- what a script gives by its first statement is what this gives with what stands behind it
+pub read_alone : {F : Type 0} (r : Result (Option Schema) F) (table script : List ℕ) (used : ℕ) (s : Statement) → next_statement script ≡ Some (Ok s, drop used script)
+    → IfOk r (λ found. found ≡ schema_by_items table (Ok s ∷ statement_and statements_of (next_statement (take (length script - used) (drop used script))))) → IfOk r (λ found. found ≡ schema_by_items table (statements_of script))
+read_alone r table script used s next is =
+    read_on r _ _ is (first_read table script (drop used script) s next ∙ ap (λ (t : List ℕ). schema_by_items table (Ok s ∷ statement_and statements_of (next_statement t))) (sym (sliced script used)))
 
 pub told_entry : {F : Type 0} (r : Result (Option Schema) F) (table bytes text : List ℕ) → IsEntryOf bytes text → IfOk r (λ found. found ≡ schema_of_entry table text) → IfOk r (λ found. IfSome found (λ schema. IsEntryWith table schema bytes))
 told_entry (Ok found) table bytes text entry is = entry_found table bytes text entry found is

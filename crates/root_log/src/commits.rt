@@ -1,5 +1,5 @@
 // A command added to the disk, to what the keeper tells and to the store.
-ghost use Rattle.std.specs.Prelude.{◌≡◌, ◌≢◌, ◌+◌, ◌-◌, ◌<◌, ◌≤◌, ◌^◌, ◌∷◌, ◌++◌, [], ℕ, IsSome, IsTrue, List, Option, Some, None, IfErr, IfOk, IfSome, IsErrOf, IsNone, IsOk, OnErr, OnOk, length, Result};
+ghost use Rattle.std.specs.Prelude.{◌≡◌, ◌≢◌, ◌+◌, ◌-◌, ◌<◌, ◌≤◌, ◌^◌, ◌∷◌, ◌++◌, [], ℕ, IsSome, IsTrue, List, Option, Some, None, IfErr, IfOk, IfSome, IsErrOf, IsNone, OnErr, OnOk, length, Result};
 ghost use Rattle.std.specs.BTreeMap.{Updates, get, insert_entry};
 ghost use Rattle.std.specs.Cmp.Lexicographic.{slice_cmp};
 ghost use Rattle.std.specs.Option.{ForSome, option_map};
@@ -29,6 +29,7 @@ ghost use Rattle.root_log.specs.Soundness.{HasSoundParts, IsSound, NamesFitUnles
 ghost use Rattle.root_log.specs.Stores.{CoreStands, table_at};
 ghost use Rattle.root_log.specs.declared.store.Table.{Table as Made};
 
+use crate::keeping::put_table;
 use crate::{CoreStore, Table};
 use mt_base::{NoMemory, Partition, Twin};
 use mt_outside::{Arm, Disk, DiskError};
@@ -51,7 +52,7 @@ const MOST_PARTS: usize = 3000;
 const LAST_NUMBER: u32 = 4_294_967_295;
 
 /// Which room is full.
-#[derive(Clone, Copy, Debug)]
+#[derive(Clone, Copy)]
 pub enum Limit {
     /// As many tables were made as may be.
     Tables,
@@ -62,7 +63,7 @@ pub enum Limit {
 }
 
 /// Why a command was not committed.
-#[derive(Clone, Copy, Debug)]
+#[derive(Clone, Copy)]
 pub enum Refused {
     /// A growth was refused.
     NoMemory,
@@ -155,10 +156,18 @@ fn refuse_part<F>(store: &CoreStore<F>, table: &Name, drawn: u32, now: u64) -> O
 struct Ready {
     // The name of the root.
     name: Name,
+    // The table's.
     table: Name,
-    entry: Entry,
     // The length of the history behind it.
     length: u64,
+}
+
+// The name of the root under which a table's entry stands.
+fn name_of_table(alloc: Global, table: &Name) -> Result<Name, NoMemory>
+    ensures { IfOk result (λ name. name ≡ create_name table.now) }
+{
+    let root_name = RootName::Create(table.twin(alloc)?);
+    spell_name(alloc, &root_name)
 }
 
 // Takes all memory of a CREATE. The table is entered, to be taken out again where the commit fails.
@@ -168,17 +177,15 @@ fn prepare_create<A: Annals>(
     alloc: Global,
     tables: &mut BTreeMap<Name, Table>,
     annals: &mut A,
-    session: u64,
-    create: Create,
+    create: &Create,
     before: u64,
 ) -> Result<Ready, NoMemory>
-    requires { get (slice_cmp nat_cmp) tables.old create.table ≡ None }
-    ensures name { IfOk result (λ r. r.name ≡ create_name create.table) }
-    ensures table { IfOk result (λ r. r.table ≡ create.table) }
-    ensures entry { IfOk result (λ r. r.entry ≡ entry_of session (command.Create create)) }
+    requires { get (slice_cmp nat_cmp) tables.old create.now.table ≡ None }
+    ensures name { IfOk result (λ r. r.name ≡ create_name create.now.table) }
+    ensures table { IfOk result (λ r. r.table ≡ create.now.table) }
     ensures length { IfOk result (λ r. r.length ≡ before + 1) }
-    ensures entries { OnOk result (tables.new.entries ≡ insert_entry (slice_cmp nat_cmp) tables.old.entries create.table (fresh_table create.schema)) }
-    ensures updates { OnOk result (Updates (slice_cmp nat_cmp) tables.old tables.new create.table (Some (fresh_table create.schema))) }
+    ensures entries { OnOk result (tables.new.entries ≡ insert_entry (slice_cmp nat_cmp) tables.old.entries create.now.table (fresh_table create.now.schema)) }
+    ensures updates { OnOk result (Updates (slice_cmp nat_cmp) tables.old tables.new create.now.table (Some (fresh_table create.now.schema))) }
     ensures count { OnOk result (length tables.new.entries ≡ length tables.old.entries + 1) }
     ensures err { OnErr result (tables.new.entries ≡ tables.old.entries) }
     ensures room { OnOk result (A.has_room annals.new) }
@@ -187,30 +194,27 @@ fn prepare_create<A: Annals>(
     let Some(length) = before.checked_add(1) else {
         return Err(NoMemory);
     };
-    let table = create.table.twin(alloc)?;
-    let root_name = RootName::Create(create.table.twin(alloc)?);
-    let name = spell_name(alloc, &root_name)?;
-    let key = create.table.twin(alloc)?;
-    let schema = create.schema.twin(alloc)?;
     annals.reserve(alloc)?;
-    tables.insert(key, Table { schema, drawn: 0 })?;
-    let command = Command::Create(create);
-    let entry = Entry { session, command };
+    let name = name_of_table(alloc, &create.table)?;
+    let table = create.table.twin(alloc)?;
+    let schema = create.schema.twin(alloc)?;
+    put_table(alloc, tables, &table, schema)?;
     Ok(Ready {
         name,
         table,
-        entry,
         length,
     })
 }
 
-// What a part's commit takes with it: no memory is wanted for it any more.
-struct ReadyPart {
-    // The name of the root.
-    name: Name,
-    entry: Entry,
-    // The length of the history behind it.
-    length: u64,
+// The name of the root under which the part with this number of a table stands.
+fn name_of_table_part(alloc: Global, table: &Name, number: u32) -> Result<Name, NoMemory>
+    ensures { IfOk result (λ name. name ≡ part_name table.now (part_text (fresh_part number))) }
+{
+    let root_name = RootName::Part(TablePart {
+        table: table.twin(alloc)?,
+        name: name_of_part(number),
+    });
+    spell_name(alloc, &root_name)
 }
 
 // Takes all memory of the part with this number of a table. No part is added yet.
@@ -220,14 +224,12 @@ fn prepare_part<P: Drop, A: Annals>(
     alloc: Global,
     set: &mut PartSet<P>,
     annals: &mut A,
-    session: u64,
     table: &Name,
     number: u32,
-    block: Block,
     before: u64,
-) -> Result<ReadyPart, NoMemory>
+) -> Result<Ready, NoMemory>
     ensures name { IfOk result (λ r. r.name ≡ part_name table.now (part_text (fresh_part number))) }
-    ensures entry { IfOk result (λ r. r.entry ≡ entry_of session (insert_of_block table.now block)) }
+    ensures table { IfOk result (λ r. r.table ≡ table.now) }
     ensures length { IfOk result (λ r. r.length ≡ before + 1) }
     ensures parts { (t : List ℕ) → parts_of set.new t ≡ parts_of set.old t }
     ensures place { OnOk result (HasRoom set.new table.now) }
@@ -237,23 +239,13 @@ fn prepare_part<P: Drop, A: Annals>(
     let Some(length) = before.checked_add(1) else {
         return Err(NoMemory);
     };
-    let root_name = RootName::Part(TablePart {
-        table: table.twin(alloc)?,
-        name: name_of_part(number),
-    });
-    let name = spell_name(alloc, &root_name)?;
-    let table_name = table.twin(alloc)?;
     set.reserve(alloc, table)?;
     annals.reserve(alloc)?;
-    let command = Command::Insert(Insert {
-        table: table_name,
-        partition: Partition::Whole,
-        block,
-    });
-    let entry = Entry { session, command };
-    Ok(ReadyPart {
+    let name = name_of_table_part(alloc, table, number)?;
+    let table = table.twin(alloc)?;
+    Ok(Ready {
         name,
-        entry,
+        table,
         length,
     })
 }
@@ -361,7 +353,7 @@ pub fn commit_create<D: Disk, A: Annals>(
         return Err(Returned { cause, back });
     }
     let before = store.length;
-    let ready = match prepare_create(alloc, &mut store.tables, annals, session, create, before) {
+    let ready = match prepare_create(alloc, &mut store.tables, annals, &create, before) {
         Ok(ready) => ready,
         Err(_) => {
             let back = Some(sealed);
@@ -372,19 +364,27 @@ pub fn commit_create<D: Disk, A: Annals>(
     let Ready {
         name,
         table,
-        entry,
         length,
     } = ready;
-    match commit(alloc, disk, annals, sealed, &name, entry) {
-        Ok(_) => {}
+    let command = Command::Create(create);
+    match commit(
+        alloc,
+        disk,
+        annals,
+        sealed,
+        &name,
+        Entry { session, command },
+    ) {
+        Ok(_) => {
+            store.length = length;
+            Ok(())
+        }
         Err(error) => {
             store.tables.remove(&table);
             let cause = Refused::of_disk(error);
-            return Err(Returned { cause, back: None });
+            Err(Returned { cause, back: None })
         }
     }
-    store.length = length;
-    Ok(())
 }
 
 // The table draws a number.
@@ -399,9 +399,7 @@ fn draw(tables: &mut BTreeMap<Name, Table>, table: &Name, number: u32)
     found.drawn = number;
 }
 
-// Enters a part with the number that its table draws now. Takes no memory where there is room.
-//
-// `NoMemory` where a growth was refused.
+// Enters a part with the number that its table draws now, where there is room for it.
 fn enter_part<F: Drop>(
     alloc: Global,
     store: &mut CoreStore<F>,
@@ -409,22 +407,24 @@ fn enter_part<F: Drop>(
     number: u32,
     part: Part<F>,
     after: u64,
-) -> Result<(), NoMemory>
-    requires { NoneMeets (parts_of store.old.set table.now) (fresh_part number) }
-    ensures room { HasRoom store.old.set table.now → IsOk result }
-    ensures added { OnOk result (IsAdded (parts_of store.old.set table.now) (record { name = fresh_part number; part = part }) (parts_of store.new.set table.now)) }
-    ensures ordered { OnOk result (IsInBlockOrder (parts_of store.new.set table.now)) }
-    ensures others { OnOk result ((t : List ℕ) → t ≢ table.now → parts_of store.new.set t ≡ parts_of store.old.set t) }
+)
+    requires fresh { NoneMeets (parts_of store.old.set table.now) (fresh_part number) }
+    requires room { HasRoom store.old.set table.now }
+    ensures added { IsAdded (parts_of store.old.set table.now) (record { name = fresh_part number; part = part }) (parts_of store.new.set table.now) }
+    ensures ordered { IsInBlockOrder (parts_of store.new.set table.now) }
+    ensures others { (t : List ℕ) → t ≢ table.now → parts_of store.new.set t ≡ parts_of store.old.set t }
     ensures updates { (t : Made) → table_at store.old table.now ≡ Some t
-        → OnOk result (Updates (slice_cmp nat_cmp) store.old.tables store.new.tables table.now (Some (record { schema = t.schema; drawn = number }))) }
-    ensures count { OnOk result (length store.new.tables.entries ≡ length store.old.tables.entries) }
-    ensures length { OnOk result (store.new.length ≡ after) }
+        → Updates (slice_cmp nat_cmp) store.old.tables store.new.tables table.now (Some (record { schema = t.schema; drawn = number })) }
+    ensures count { length store.new.tables.entries ≡ length store.old.tables.entries }
+    ensures length { store.new.length ≡ after }
     ensures opened { store.new.opened ≡ store.old.opened }
 {
-    store.set.add(alloc, table, name_of_part(number), part)?;
+    match store.set.add(alloc, table, name_of_part(number), part) {
+        Ok(()) => {}
+        Err(_) => unreachable!(),
+    }
     draw(&mut store.tables, table, number);
     store.length = after;
-    Ok(())
 }
 
 /// Commits a block whose part was sealed: its name is published and settled, the keeper notes it, and the store has the part.
@@ -489,16 +489,7 @@ pub fn commit_part<D: Disk, A: Annals>(
     }
     let number = drawn + 1;
     let before = store.length;
-    let ready = match prepare_part(
-        alloc,
-        &mut store.set,
-        annals,
-        session,
-        table,
-        number,
-        block,
-        before,
-    ) {
+    let ready = match prepare_part(alloc, &mut store.set, annals, table, number, before) {
         Ok(ready) => ready,
         Err(_) => {
             let back = Some(part);
@@ -506,13 +497,25 @@ pub fn commit_part<D: Disk, A: Annals>(
             return Err(Returned { cause, back });
         }
     };
-    let ReadyPart {
+    let Ready {
         name,
-        entry,
+        table: into,
         length,
     } = ready;
+    let command = Command::Insert(Insert {
+        table: into,
+        partition: Partition::Whole,
+        block,
+    });
     let SealedPart { sealed, loaded } = part;
-    let dir = match commit(alloc, disk, annals, sealed, &name, entry) {
+    let dir = match commit(
+        alloc,
+        disk,
+        annals,
+        sealed,
+        &name,
+        Entry { session, command },
+    ) {
         Ok(dir) => dir,
         Err(error) => {
             let cause = Refused::of_disk(error);
@@ -520,11 +523,6 @@ pub fn commit_part<D: Disk, A: Annals>(
         }
     };
     let part = Part::of(dir, loaded);
-    match enter_part(alloc, store, table, number, part, length) {
-        Ok(()) => Ok(()),
-        Err(_) => {
-            let cause = Refused::NoMemory;
-            Err(Returned { cause, back: None })
-        }
-    }
+    enter_part(alloc, store, table, number, part, length);
+    Ok(())
 }

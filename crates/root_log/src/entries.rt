@@ -1,7 +1,7 @@
 // The entries of tables.
-ghost use Rattle.std.specs.Prelude.{◌≡◌, ◌≤◌, IfOk, IfSome, IsErrOf, Some, is_some};
+ghost use Rattle.std.specs.Prelude.{◌≡◌, ◌≤◌, ◌∷◌, IfOk, IfSome, IsErrOf, Ok, Some, is_some};
 ghost use Rattle.mt_values.specs.declared.schema.Schema.{Schema};
-ghost use Rattle.mt_values.specs.Script.{next_statement, statements_of};
+ghost use Rattle.mt_values.specs.Script.{next_statement, statement_and, statements_of};
 ghost use Rattle.mt_outside.specs.Causes.{Rose};
 ghost use Rattle.mt_outside.specs.Files.{Files};
 ghost use Rattle.mt_model.specs.History.{IsTableSchema};
@@ -43,18 +43,30 @@ fn has_statement(alloc: Global, script: &[u8]) -> Result<bool, NoMemory>
     }
 }
 
+// The schema that a statement gives a table, where no other stands behind it.
+#[tactic(auto, using(crate::proofs::EntryScripts::alone_read, crate::proofs::EntryScripts::behind_read, crate::proofs::EntryScripts::read_on))]
+fn schema_alone(
+    alloc: Global,
+    table: &Name,
+    statement: &Statement,
+    behind: &[u8],
+) -> Result<Option<Schema>, NoMemory>
+    ensures { IfOk result (λ found. found ≡ schema_by_items table.now (Ok statement.now ∷ statement_and statements_of (next_statement behind.now))) }
+{
+    match has_statement(alloc, behind) {
+        Ok(false) => schema_by(alloc, table, statement),
+        Ok(true) => Ok(None),
+        Err(error) => Err(error),
+    }
+}
+
 // The schema that the one statement of a script gives a table: none where the script has no statement or more of them.
-#[tactic(auto, using(crate::proofs::EntryScripts::more_read, crate::proofs::EntryScripts::one_read, crate::proofs::EntryScripts::none_read, crate::proofs::EntryScripts::refused_read, crate::proofs::EntryScripts::read_on))]
+#[tactic(auto, using(crate::proofs::EntryScripts::none_read, crate::proofs::EntryScripts::refused_read))]
 fn schema_in(alloc: Global, table: &Name, script: &[u8]) -> Result<Option<Schema>, NoMemory>
     ensures { IfOk result (λ found. found ≡ schema_by_items table.now (statements_of script.now)) }
 {
     match next_statement(alloc, script, true) {
-        Next::Found(statement, used) => {
-            if has_statement(alloc, &script[used..])? {
-                return Ok(None);
-            }
-            schema_by(alloc, table, &statement)
-        }
+        Next::Found(statement, used) => schema_alone(alloc, table, &statement, &script[used..]),
         Next::Refused(_, _) => Ok(None),
         Next::End => Ok(None),
         Next::NeedMore => Err(NoMemory),

@@ -1,6 +1,6 @@
 // The store that the names of a root make, one name after the other.
-ghost use Rattle.std.specs.Prelude.{◌≡◌, ◌≢◌, ◌≤◌, ◌<◌, ◌+◌, ◌++◌, ◌∷◌, ◌⊎◌, ⊤, [], ℕ, IfErr, IfOk, IsErrOf, IsSome, List, OnOk, Some, None, length, map, take};
-ghost use Rattle.std.specs.BTreeMap.{IsOrdered, Updates};
+ghost use Rattle.std.specs.Prelude.{◌≡◌, ◌≢◌, ◌≤◌, ◌<◌, ◌+◌, ◌++◌, ◌∷◌, ◌⊎◌, ⊤, [], ℕ, IfErr, IfOk, IsErrOf, IsSome, List, OnErr, OnOk, Some, None, length, map, take};
+ghost use Rattle.std.specs.BTreeMap.{IsOrdered, Updates, get, insert_entry};
 ghost use Rattle.std.specs.Cmp.Lexicographic.{slice_cmp};
 ghost use Rattle.std.specs.List.{sum_by};
 ghost use Rattle.std.specs.Option.{ForSome};
@@ -40,14 +40,19 @@ pub struct Root {
     pub shown: PartSet<()>,
 }
 
-// A table gets this schema, and no number is drawn.
-fn put_table(
+/// A table gets this schema, and no number is drawn.
+///
+/// `NoMemory` where a growth was refused; the tables are as they were.
+pub fn put_table(
     alloc: Global,
     tables: &mut BTreeMap<Name, Table>,
     table: &Name,
     schema: Schema,
 ) -> Result<(), NoMemory>
-    ensures { OnOk result (Updates (slice_cmp nat_cmp) tables.old tables.new table.now (Some (fresh_table schema))) }
+    ensures updates { OnOk result (Updates (slice_cmp nat_cmp) tables.old tables.new table.now (Some (fresh_table schema))) }
+    ensures entries { OnOk result (tables.new.entries ≡ insert_entry (slice_cmp nat_cmp) tables.old.entries table.now (fresh_table schema)) }
+    ensures count { get (slice_cmp nat_cmp) tables.old table.now ≡ None → OnOk result (length tables.new.entries ≡ length tables.old.entries + 1) }
+    ensures err { OnErr result (tables.new.entries ≡ tables.old.entries) }
 {
     tables.insert(table.twin(alloc)?, Table { schema, drawn: 0 })?;
     Ok(())

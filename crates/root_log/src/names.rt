@@ -17,7 +17,7 @@ use std::alloc::Global;
 const MOST_TABLES: usize = 65536;
 
 /// Why the names of a root are not read.
-#[derive(Clone, Copy, Debug, PartialEq, Eq)]
+#[derive(Clone, Copy)]
 pub enum NameFault {
     NoMemory,
     /// The place of the first name that is none of the grammar, or is a table's behind too many of them.

@@ -28,7 +28,7 @@ use std::alloc::Global;
 use std::cmp::Ordering;
 
 /// What keeps a root from being opened. Of each kind the first name in byte order is told, of two names the first pair.
-#[derive(Debug, Drop)]
+#[derive(Drop)]
 pub enum Damage {
     /// A name that is none of the grammar, or a table's behind 65,536 others, or not above the one in front of it.
     Name(Name),
@@ -42,7 +42,7 @@ pub enum Damage {
 }
 
 /// Why a root was not opened.
-#[derive(Debug, Drop)]
+#[derive(Drop)]
 pub enum OpenFault {
     /// A growth was refused.
     NoMemory,

@@ -11,7 +11,7 @@ use std::alloc::Global;
 use std::collections::BTreeMap;
 
 /// A table: its schema, and the greatest number that a command of it has drawn, 0 for none.
-#[derive(Debug, Drop)]
+#[derive(Drop)]
 pub struct Table {
     pub schema: Schema,
     pub drawn: u32,

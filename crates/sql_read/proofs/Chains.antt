@@ -8,7 +8,7 @@ use Rattle.mt_values.specs.Grammar.{ends}
 use Rattle.mt_values.specs.Readers.{Reader, Part}
 use Rattle.sql_read.specs.declared.cursor.Stop.{Stop}
 use Rattle.sql_read.specs.declared.cursor.Stop.TheVariants as stop
-use Rattle.sql_read.specs.Reads.{Ends, IsRead, Reads}
+use Rattle.sql_read.specs.Reads.{Ends, IsRead, Reads, ReadsEnd}
 
 -- the rest of a part is read by another part
 pub reads_rest : {X : Type 0} (whole part : Part Statement X) (from mid : List Placed) → ((next : X → Reader Statement) → whole next from ≡ part next mid) → (r : Result X Stop) (to : List Placed) → Reads part mid r to → Reads whole from r to
@@ -43,3 +43,36 @@ end_stops reader s from mid along (stop.Slip f) to read = along ∙ read s
 -- a statement stops at its end
 pub is_read_end : (reader : Reader Statement) (s : Statement) (from mid : List Placed) → reader from ≡ ends s mid → (e : Stop) (to : List Placed) → Ends mid (Err e) to → (r : Result Statement Stop) → IsErrAnd r (λ y. y ≡ e) → IsRead reader from r to
 is_read_end reader s from mid along e to read r is = let p = err_from_is_err_and r is in rw (p.1, p.2) (end_stops reader s from mid along e to read)
+
+last_stops : {X : Type 0} (reader : Reader Statement) (part : Part Statement X) (make : X → Statement) (from mid : List Placed) →
+    reader from ≡ part (λ x. ends (make x)) mid → (e : Stop) (to : List Placed) → ReadsEnd part mid (Err e) to → IsRead reader from (Err e) to
+last_stops reader part make from mid along stop.NoMemory to read = tt
+last_stops reader part make from mid along (stop.Slip f) to read = along ∙ read make
+
+-- a statement stops in its last part
+pub is_read_last : {X : Type 0} (reader : Reader Statement) (part : Part Statement X) (make : X → Statement) (from mid : List Placed) →
+    reader from ≡ part (λ x. ends (make x)) mid → (e : Stop) (to : List Placed) → ReadsEnd part mid (Err e) to → (r : Result Statement Stop) → IsErrAnd r (λ y. y ≡ e) → IsRead reader from r to
+is_read_last reader part make from mid along e to read r is = let p = err_from_is_err_and r is in rw (p.1, p.2) (last_stops reader part make from mid along e to read)
+
+part_stops : {X Z : Type 0} (whole : Part Statement X) (part : Part Statement Z) (follow : (X → Reader Statement) → Z → Reader Statement) (from mid : List Placed) →
+    ((next : X → Reader Statement) → whole next from ≡ part (follow next) mid) → (e : Stop) (to : List Placed) → Reads part mid (Err e) to → ReadsEnd whole from (Err e) to
+part_stops whole part follow from mid along stop.NoMemory to read = tt
+part_stops whole part follow from mid along (stop.Slip s) to read = λ make. along (λ x. ends (make x)) ∙ read (follow (λ x. ends (make x)))
+
+-- the last part of a statement stops where a part of it stops
+pub last_part_stop : {X Z : Type 0} (whole : Part Statement X) (part : Part Statement Z) (follow : (X → Reader Statement) → Z → Reader Statement) (from mid : List Placed) →
+    ((next : X → Reader Statement) → whole next from ≡ part (follow next) mid) → (e : Stop) (to : List Placed) → Reads part mid (Err e) to → (r : Result X Stop) → IsErrAnd r (λ y. y ≡ e) → ReadsEnd whole from r to
+last_part_stop whole part follow from mid along e to read r is = let p = err_from_is_err_and r is in rw (p.1, p.2) (part_stops whole part follow from mid along e to read)
+
+last_end_stops : {X : Type 0} (whole : Part Statement X) (x : X) (from mid : List Placed) → ((next : X → Reader Statement) → whole next from ≡ next x mid) → (e : Stop) (to : List Placed) → Ends mid (Err e) to → ReadsEnd whole from (Err e) to
+last_end_stops whole x from mid along stop.NoMemory to read = tt
+last_end_stops whole x from mid along (stop.Slip f) to read = λ make. along (λ y. ends (make y)) ∙ read (make x)
+
+-- the last part of a statement stops at the statement's end
+pub last_end_stop : {X : Type 0} (whole : Part Statement X) (x : X) (from mid : List Placed) → ((next : X → Reader Statement) → whole next from ≡ next x mid) → (e : Stop) (to : List Placed) → Ends mid (Err e) to → (r : Result X Stop) → IsErrAnd r (λ y. y ≡ e) → ReadsEnd whole from r to
+last_end_stop whole x from mid along e to read r is = let p = err_from_is_err_and r is in rw (p.1, p.2) (last_end_stops whole x from mid along e to read)
+
+-- the statement's end was read behind its last part
+pub last_ends : (whole : Part Statement (Unit {0})) (from mid : List Placed) → ((next : Unit {0} → Reader Statement) → whole next from ≡ next tt mid) → (r : Result (Unit {0}) Stop) (to : List Placed) → Ends mid r to → ReadsEnd whole from r to
+last_ends whole from mid along (Ok u) to read = λ make. along (λ y. ends (make y)) ∙ read (make tt)
+last_ends whole from mid along (Err e) to read = last_end_stops whole tt from mid along e to read

@@ -8,6 +8,7 @@ pub mod Growth
 pub mod Keywords
 pub mod Lines
 pub mod Listed
+pub mod Nexts
 pub mod Pieces
 pub mod Sections
 pub mod Skipping

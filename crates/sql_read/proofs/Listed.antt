@@ -9,8 +9,7 @@ use Rattle.mt_values.specs.Grammar.{is_symbol, the, name, plain, one_name, colum
 use Rattle.mt_values.specs.Readers.{Reader, Test, Part, taken, expect, either, choose, listed_within}
 use Rattle.sql_read.specs.declared.cursor.Stop.{Stop}
 use Rattle.sql_read.specs.declared.cursor.Stop.TheVariants as stop
-use Rattle.sql_read.specs.Reads.{Reads, first_is}
-use Rattle.sql_read.proofs.Choices.{choose_this, choose_other}
+use Rattle.sql_read.specs.Reads.{Reads, Skips}
 
 -- a part takes at least one token: readers that agree on fewer tokens than these are the same behind it
 abbrev pub TakesToken : {S X : Type 0} → Part S X → Type 0
@@ -82,24 +81,9 @@ module _ {X : Type 0} (item : Part Statement X) (takes : TakesToken item) (front
       listed_step (is_symbol symbol.Comma) (the symbol.Comma) item takes front next from
       ∙ read (listed_behind (is_symbol symbol.Comma) (the symbol.Comma) item (items_from item) front next)
 
-  -- no comma follows the item
-  pub items_end : first_is (is_symbol symbol.Comma) mid ≡ false → Reads (items_from item front) from (Ok (front ++ x ∷ [])) mid
-  items_end no_comma = λ next. behind next ∙ choose_other (is_symbol symbol.Comma) (expect (the symbol.Comma) (λ y. items_from item (front ++ x ∷ []) next)) (next (front ++ x ∷ [])) mid no_comma
-
-  -- a comma follows it
-  pub items_more : first_is (is_symbol symbol.Comma) mid ≡ true → (u : Unit {0}) (to : List Placed) → Reads (expect (the symbol.Comma)) mid (Ok u) to → (next : List X → Reader Statement) → items_from item (front ++ x ∷ []) next to ≡ items_from item front next from
-  items_more comma u to comma_read = λ next.
-      sym (behind next
-      ∙ (choose_this (is_symbol symbol.Comma) (expect (the symbol.Comma) (λ y. items_from item (front ++ x ∷ []) next)) (next (front ++ x ∷ [])) mid comma
-      ∙ comma_read (λ y. items_from item (front ++ x ∷ []) next)))
-
-  -- a comma is refused
-  pub items_cut : first_is (is_symbol symbol.Comma) mid ≡ true → (e : Stop) (to : List Placed) → Reads (expect (the symbol.Comma)) mid (Err e) to → Reads (items_from item front) from (Err e) to
-  items_cut comma stop.NoMemory to comma_read = tt
-  items_cut comma (stop.Slip s) to comma_read = λ next.
-      behind next
-      ∙ (choose_this (is_symbol symbol.Comma) (expect (the symbol.Comma) (λ y. items_from item (front ++ x ∷ []) next)) (next (front ++ x ∷ [])) mid comma
-      ∙ comma_read (λ y. items_from item (front ++ x ∷ []) next))
+  -- the list goes on where a comma follows the item
+  pub items_next : (comma : Bool) (to : List Placed) → Skips (is_symbol symbol.Comma) mid comma to → (next : List X → Reader Statement) → items_from item front next from ≡ either comma (items_from item (front ++ x ∷ []) next) (next (front ++ x ∷ [])) to
+  items_next comma to skips next = behind next ∙ skips (λ y. items_from item (front ++ x ∷ []) next) (next (front ++ x ∷ []))
 
 -- an item is refused
 pub items_stop : {X : Type 0} (item : Part Statement X) → TakesToken item → (front : List X) (from : List Placed) (e : Stop) (to : List Placed) → Reads item from (Err e) to → Reads (items_from item front) from (Err e) to

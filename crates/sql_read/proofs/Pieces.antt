@@ -1,5 +1,5 @@
 -- What a string says, piece by piece. Each piece takes at least one byte, so the bound of the definition cuts nothing off.
-use Rattle.std.proofs.Common.{◌≡◌, ℕ, zero, suc, ◌+◌, ◌<◌, ◌≤◌, Bool, true, false, cond, ◌==◌, List, [], ◌∷◌, ◌++◌, length, drop, Option, Some, None, refl, ap, arith, add-one, ◌∙◌, sym, subst, append-nil, length-drop}
+use Rattle.std.proofs.Common.{◌≡◌, ℕ, zero, suc, ◌+◌, ◌<◌, ◌≤◌, Bool, true, false, cond, ◌==◌, List, [], ◌∷◌, ◌++◌, length, get_or, drop, Option, Some, None, refl, ap, arith, add-one, ◌∙◌, sym, subst, append-nil, length-drop}
 use Rattle.std.specs.Option.{option_and_then}
 use Rattle.mt_values.specs.Escapes.{escape_of}
 use Rattle.mt_values.specs.Tokens.{begins_with, byte_onto, escape_onto, quote_behind, string_within}
@@ -109,3 +109,29 @@ piece_leaves (b ∷ bs) =
 pub piece_shorter : (b : ℕ) (rest : Bor (List ℕ)) (text : List ℕ) → IsFirst (Byte b rest) text → length rest.now < length text
 unfolding rest_alone
 piece_shorter b rest text first = subst (ShorterThan (length text)) (sym (first rest_alone)) (piece_leaves text)
+
+-- ---- what it is, by its first byte
+
+module _ (more : List ℕ → Option (List ℕ × List ℕ)) where
+  -- there is none
+  pub piece_none : (text : List ℕ) → length text < 1 → None ≡ string_from more text
+  piece_none [] less = refl
+  piece_none (b ∷ bs) less = absurd (omega arith)
+
+  -- a quote
+  pub piece_quote : (text : List ℕ) → 1 ≤ length text → get_or text 0 0 ≡ 39 → string_from more text ≡ quote_behind more (drop 1 text)
+  piece_quote [] some is = absurd (omega arith)
+  piece_quote (b ∷ bs) some is = rw is refl
+
+  -- a backslash
+  pub piece_slash : (text : List ℕ) → 1 ≤ length text → get_or text 0 0 ≡ 92 → string_from more text ≡ option_and_then (escape_onto more) (escape_of (drop 1 text))
+  piece_slash [] some is = absurd (omega arith)
+  piece_slash (b ∷ bs) some is = rw is refl
+
+  byte_cases : (quote slash : Bool) (x y z : Option (List ℕ × List ℕ)) → quote ≡ false → slash ≡ false → cond quote x (cond slash y z) ≡ z
+  byte_cases quote slash x y z p q = rw (p, q) refl
+
+  -- another byte
+  pub piece_byte : (text : List ℕ) → 1 ≤ length text → (get_or text 0 0 == 39) ≡ false → (get_or text 0 0 == 92) ≡ false → string_from more text ≡ byte_onto (get_or text 0 0) (more (drop 1 text))
+  piece_byte [] some no_quote no_slash = absurd (omega arith)
+  piece_byte (b ∷ bs) some no_quote no_slash = byte_cases (b == 39) (b == 92) (quote_behind more bs) (option_and_then (escape_onto more) (escape_of bs)) (byte_onto b (more bs)) no_quote no_slash

@@ -1,12 +1,13 @@
 -- The tokens of a text, one at a time.
-use Rattle.std.proofs.Common.{◌≡◌, ℕ, ◌-◌, ◌<◌, false, eqb, List, [], ◌∷◌, ◌++◌, length, refl, arith, ◌∙◌, sym, ap, append_assoc}
+use Rattle.std.proofs.Common.{◌≡◌, ℕ, ◌-◌, ◌+◌, ◌<◌, ◌≤◌, ◌==◌, true, false, eqb, get_or, drop, List, [], ◌∷◌, ◌++◌, length, refl, arith, ◌∙◌, sym, ap, append_assoc}
+use Rattle.std.specs.Char.{is_ascii_digit}
 use Rattle.mt_values.specs.declared.token.Placed.{Placed}
 use Rattle.mt_values.specs.declared.token.Token.{Token}
 use Rattle.mt_values.specs.declared.token.Token.TheVariants as token
-use Rattle.mt_values.specs.Tokens.{behind, is_space, token_from, unless_stray, tokens_from, tokens_of}
+use Rattle.mt_values.specs.Tokens.{behind, is_space, starts_word, string_within, symbol_token, text_token, token_from, unless_stray, tokens_from, tokens_of}
 use Rattle.mt_values.proofs.Bounds.{behind_short}
 use Rattle.mt_values.proofs.TokenBounds.{tokens_left, tokens_left_step, token_leaves}
-use Rattle.sql_read.specs.FirstTokens.{first_token}
+use Rattle.sql_read.specs.FirstTokens.{digits_token, first_token, word_token}
 
 -- the tokens of what is left of a text of this size, whose first token stands first
 abbrev pub tokens_here : ℕ → List ℕ → List Placed
@@ -53,3 +54,23 @@ module _ (front : List Placed) (size : ℕ) (t : Token) (rest more : List ℕ) (
       by : (r : List ℕ) → 0 < length r → (t, more) ≡ first_token r → length (behind is_space false more) < length r
       by [] some found = absurd (omega arith)
       by (b ∷ bs) some found = let same : more ≡ (token_from b bs).1 = ap (λ (f : Token × List ℕ). f.1) found in omega (arith, token_leaves b bs, ap (length {A = ℕ}) same, behind_short is_space false more)
+
+-- ---- the first token, by its first byte
+
+pub first_word : (text : List ℕ) → 1 ≤ length text → starts_word (get_or text 0 0) ≡ true → word_token text ≡ first_token text
+first_word [] some is = absurd (omega arith)
+first_word (b ∷ bs) some is = rw is refl
+
+pub first_digits : (text : List ℕ) → 1 ≤ length text → starts_word (get_or text 0 0) ≡ false → is_ascii_digit (get_or text 0 0) ≡ true → digits_token text ≡ first_token text
+first_digits [] some no_word is = absurd (omega arith)
+first_digits (b ∷ bs) some no_word is = rw (no_word, is) refl
+
+pub first_quoted : (text : List ℕ) → 1 ≤ length text → starts_word (get_or text 0 0) ≡ false → is_ascii_digit (get_or text 0 0) ≡ false → get_or text 0 0 ≡ 39 →
+    text_token (string_within (length (drop 1 text) + 1) (drop 1 text)) ≡ first_token text
+first_quoted [] some no_word no_digit is = absurd (omega arith)
+first_quoted (b ∷ bs) some no_word no_digit is = rw (no_word, no_digit, is) refl
+
+pub first_symbol : (text : List ℕ) → 1 ≤ length text → starts_word (get_or text 0 0) ≡ false → is_ascii_digit (get_or text 0 0) ≡ false → (get_or text 0 0 == 39) ≡ false →
+    symbol_token (get_or text 0 0) (drop 1 text) ≡ first_token text
+first_symbol [] some no_word no_digit no_quote = absurd (omega arith)
+first_symbol (b ∷ bs) some no_word no_digit no_quote = rw (no_word, no_digit, no_quote) refl

@@ -10,9 +10,9 @@ use Rattle.mt_values.specs.Tokens.{is_keyword}
 abbrev pub engine_part : {S : Type 0} → Part S (Unit {0})
 engine_part next = engine (next tt)
 
--- CREATE TABLE name
-abbrev pub created_table : {S : Type 0} → Part S (List ℕ)
-created_table next = expect (keyword (codes "CREATE")) (λ _. expect (keyword (codes "TABLE")) (λ _. expect name next))
+-- two keywords and a name, as CREATE TABLE name
+abbrev pub table_behind : {S : Type 0} → List ℕ → List ℕ → Part S (List ℕ)
+table_behind first second next = expect (keyword first) (λ _. expect (keyword second) (λ _. expect name next))
 
 -- "(" element { "," element } ")"
 abbrev pub created_columns : {S : Type 0} → Part S (List Column)
@@ -22,11 +22,11 @@ created_columns next = expect (the symbol.Open) (λ _. list_of column (λ column
 abbrev pub created_key : {S : Type 0} → Part S (List (List ℕ))
 created_key next = expect (keyword (codes "ENGINE")) (λ _. expect (the symbol.Equal) (λ _. engine (clauses next)))
 
--- INSERT INTO name
-abbrev pub inserted_table : {S : Type 0} → Part S (List ℕ)
-inserted_table next = expect (keyword (codes "INSERT")) (λ _. expect (keyword (codes "INTO")) (λ _. expect name next))
-
 -- [ FORMAT format ]
 abbrev pub inserted_format : {S : Type 0} → Part S (Unit {0})
 inserted_format next =
     choose (is_word (is_keyword (codes "FORMAT"))) (expect (keyword (codes "FORMAT")) (λ _. expect format next)) (next tt)
+
+-- FROM name
+abbrev pub selected_table : {S : Type 0} → Part S (List ℕ)
+selected_table next = expect (keyword (codes "FROM")) (λ _. expect name next)

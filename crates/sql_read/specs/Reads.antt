@@ -3,8 +3,8 @@ use Rattle.std.specs.Prelude.{◌≡◌, Bool, false, List, [], ◌∷◌, Resul
 use Rattle.mt_values.specs.declared.statement.Statement.{Statement}
 use Rattle.mt_values.specs.declared.token.Placed.{Placed}
 use Rattle.mt_values.specs.declared.token.Token.{Token}
-use Rattle.mt_values.specs.Grammar.{ends}
-use Rattle.mt_values.specs.Readers.{Reader, Part}
+use Rattle.mt_values.specs.Grammar.{ends, passing}
+use Rattle.mt_values.specs.Readers.{Reader, Part, choose, either, expect}
 use Rattle.sql_read.specs.declared.cursor.Stop.{Stop}
 use Rattle.sql_read.specs.declared.cursor.Stop.TheVariants as stop
 
@@ -20,6 +20,10 @@ Reads {X} part from (Ok x) to = (next : X → Reader Statement) → part next fr
 Reads {X} part from (Err (stop.Slip s)) to = (next : X → Reader Statement) → part next from ≡ Err (s, to)
 Reads {X} part from (Err stop.NoMemory) to = Unit {0}
 
+-- Behind a token that may be left out, where it passes a test: a production goes the one way where it was taken, and else the other.
+abbrev pub Skips : (Token → Bool) → List Placed → Bool → List Placed → Type 0
+Skips test from taken to = (this : Unit {0} → Reader Statement) (other : Reader Statement) → choose test (expect (λ t. passing (test t)) this) other from ≡ either taken (this tt) other to
+
 -- the end of a statement was read: whichever it is, it is read there; or it is refused there
 abbrev pub Ends : List Placed → Result (Unit {0}) Stop → List Placed → Type 0
 Ends from (Ok u) to = (s : Statement) → ends s from ≡ Ok s
@@ -31,3 +35,9 @@ abbrev pub IsRead : Reader Statement → List Placed → Result Statement Stop �
 IsRead reader from (Ok s) to = reader from ≡ Ok s
 IsRead reader from (Err (stop.Slip f)) to = reader from ≡ Err (f, to)
 IsRead reader from (Err stop.NoMemory) to = Unit {0}
+
+-- the last part of a statement was read with the statement's end, whichever statement is made of it; or it is refused there
+abbrev pub ReadsEnd : {X : Type 0} → Part Statement X → List Placed → Result X Stop → List Placed → Type 0
+ReadsEnd {X} part from (Ok x) to = (make : X → Statement) → part (λ y. ends (make y)) from ≡ Ok (make x)
+ReadsEnd {X} part from (Err (stop.Slip f)) to = (make : X → Statement) → part (λ y. ends (make y)) from ≡ Err (f, to)
+ReadsEnd {X} part from (Err stop.NoMemory) to = Unit {0}

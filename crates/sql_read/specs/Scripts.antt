@@ -2,6 +2,7 @@
 use Rattle.std.specs.Prelude.{◌≡◌, ℕ, ◌+◌, ◌<◌, ◌≤◌, Bool, true, false, ◌||◌, List, length, take, drop, Option, Some, None, Result, Ok, Err, if◌then◌else◌}
 use Rattle.std.specs.List.{list_all, prefix_len}
 use Rattle.std.specs.Option.{option_map}
+use Rattle.mt_base.specs.declared.memory.NoMemory.{NoMemory}
 use Rattle.mt_values.specs.declared.statement.Cause.{Cause}
 use Rattle.mt_values.specs.declared.statement.Statement.{Statement}
 use Rattle.mt_values.specs.Tokens.{is_space}
@@ -20,11 +21,15 @@ parts_at text place = option_map (λ k. (take k text, drop (k + 1) text)) place
 abbrev pub data_in : List ℕ → Extent → Data
 data_in text e = record { lines = take e.lines text; ended = e.ended; rest = drop e.used text }
 
+-- what a part of a script is, by what its text is
+abbrev pub line_said : Section → Result Statement Cause → Result Statement Cause
+line_said s found =
+    if list_all is_space s.line.now then found
+    else refused_behind (length s.text.now + 1 + prefix_len is_space s.line.now) found
+
 -- the statement that a part of a script is, or why it is refused
 abbrev pub section_said : Section → Result Statement Cause
-section_said s =
-    if list_all is_space s.line.now then statement_of s.text.now s.terminated s.lines.now s.ended
-    else refused_behind (length s.text.now + 1 + prefix_len is_space s.line.now) (statement_of s.text.now s.terminated s.lines.now s.ended)
+section_said s = line_said s (statement_of s.text.now s.terminated s.lines.now s.ended)
 
 -- so many bytes of a script are some, and no more than it has
 abbrev pub IsUsed : List ℕ → ℕ → Type 0
@@ -40,3 +45,9 @@ IsNext script ended (next.Refused c used) =
 IsNext script ended next.NeedMore = (ended ≡ false) × (has_whole script ≡ false)
 IsNext script ended next.End = (ended ≡ true) × (next_statement script ≡ None)
 IsNext script ended next.NoMemory = Unit {0}
+
+-- what a script begins with, by what was found in so many bytes of it
+abbrev pub next_of : Result (Result Statement Cause) NoMemory → ℕ → Next
+next_of (Ok (Ok s)) used = next.Found s used
+next_of (Ok (Err c)) used = next.Refused c used
+next_of (Err e) used = next.NoMemory

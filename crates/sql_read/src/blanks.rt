@@ -4,7 +4,7 @@ ghost use Rattle.mt_values.specs.Tokens.{behind, begins_with, is_space};
 ghost use Rattle.sql_read.specs.Blanks.{is_skipped, comment_behind};
 
 /// What may be skipped beside comments.
-#[derive(Clone, Copy, Debug, PartialEq, Eq)]
+#[derive(Clone, Copy)]
 pub enum Skipped {
     /// Space, tab, line feed and carriage return.
     Blanks,

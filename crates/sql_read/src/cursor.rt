@@ -1,10 +1,10 @@
 // What is left of a statement's tokens, read from the left.
-ghost use Rattle.std.specs.Prelude.{◌≡◌, ◌<◌, Bool, length, OnOk, codes};
+ghost use Rattle.std.specs.Prelude.{◌≡◌, ◌<◌, ◌≤◌, Bool, length, OnOk, codes};
 ghost use Rattle.mt_values.specs.declared.token.Token.{Token};
 ghost use Rattle.mt_values.specs.Grammar.{exactly, fits_name, format, is_format, is_reserved, is_symbol, is_word, keyword, name, passing, plain, same_bytes, the, type_named};
 ghost use Rattle.mt_values.specs.Readers.{expect};
 ghost use Rattle.mt_values.specs.Tokens.{is_keyword};
-ghost use Rattle.sql_read.specs.Reads.{Reads, first_is};
+ghost use Rattle.sql_read.specs.Reads.{Reads, Skips, first_is};
 
 use mt_base::{NoMemory, Twin};
 use mt_values::{ColType, Name, Placed, Slip, Symbol, Token};
@@ -15,7 +15,7 @@ use std::marker::Model;
 const NAME_LIMIT: usize = 64;
 
 /// Why reading stopped.
-#[derive(Clone, Copy, Debug, PartialEq, Eq)]
+#[derive(Clone, Copy)]
 pub enum Stop {
     /// What was read found no room.
     NoMemory,
@@ -38,11 +38,11 @@ impl From<NoMemory> for Stop {
 fn is_format(word: &[u8]) -> bool
     ensures { result ≡ is_format word.now }
 {
-    word == b"TabSeparated".as_slice() || word == b"TSV".as_slice()
+    same_bytes(word, b"TabSeparated") || same_bytes(word, b"TSV")
 }
 
 /// What is left of the tokens of a statement. Contracts see the list of them.
-#[derive(Debug, Drop)]
+#[derive(Drop)]
 pub struct Cursor<'a> {
     rest: &'a [Placed],
 }
@@ -84,35 +84,42 @@ fn fits_name(name: &[u8]) -> bool
     name.len() <= NAME_LIMIT
 }
 
+// Whether both are the same bytes.
+fn same_bytes(a: &[u8], b: &[u8]) -> bool
+    ensures { result ≡ same_bytes a.now b.now }
+{
+    a == b
+}
+
 // The type that is written so.
 fn type_named(word: &[u8]) -> Result<ColType, Slip>
     ensures { result ≡ type_named word.now }
 {
-    if word == b"UInt8".as_slice() {
+    if same_bytes(word, b"UInt8") {
         return Ok(ColType::UInt8);
     }
-    if word == b"UInt16".as_slice() {
+    if same_bytes(word, b"UInt16") {
         return Ok(ColType::UInt16);
     }
-    if word == b"UInt32".as_slice() {
+    if same_bytes(word, b"UInt32") {
         return Ok(ColType::UInt32);
     }
-    if word == b"UInt64".as_slice() {
+    if same_bytes(word, b"UInt64") {
         return Ok(ColType::UInt64);
     }
-    if word == b"Int8".as_slice() {
+    if same_bytes(word, b"Int8") {
         return Ok(ColType::Int8);
     }
-    if word == b"Int16".as_slice() {
+    if same_bytes(word, b"Int16") {
         return Ok(ColType::Int16);
     }
-    if word == b"Int32".as_slice() {
+    if same_bytes(word, b"Int32") {
         return Ok(ColType::Int32);
     }
-    if word == b"Int64".as_slice() {
+    if same_bytes(word, b"Int64") {
         return Ok(ColType::Int64);
     }
-    if word == b"String".as_slice() {
+    if same_bytes(word, b"String") {
         return Ok(ColType::Text);
     }
     Err(Slip::Wrong)
@@ -165,7 +172,7 @@ impl<'a> Cursor<'a> {
     {
         match self.rest {
             [first, ..] => match &first.token {
-                Token::Word(word) => written == word.as_slice(),
+                Token::Word(word) => same_bytes(written, word.as_slice()),
                 _ => false,
             },
             [] => false,
@@ -183,6 +190,34 @@ impl<'a> Cursor<'a> {
             },
             [] => false,
         }
+    }
+
+    // Takes the next token where it passes, a test of which is given, and says whether it did.
+    fn skip_if(&mut self, passes: bool) -> bool
+        ensures way { (test : Token → Bool) → passes ≡ first_is test self.old → Skips test self.old result self.new }
+        ensures no_more { length self.new ≤ length self.old }
+    {
+        if passes {
+            if let [_, more @ ..] = self.rest {
+                self.rest = more;
+            }
+        }
+        passes
+    }
+
+    /// Takes this symbol where it comes next, and says whether it did.
+    pub fn skip(&mut self, symbol: Symbol) -> bool
+        ensures way { Skips (is_symbol symbol) self.old result self.new }
+        ensures no_more { length self.new ≤ length self.old }
+    {
+        self.skip_if(self.at_symbol(symbol))
+    }
+
+    /// Takes this keyword where it comes next, in any case of its letters, and says whether it did.
+    pub fn skip_keyword(&mut self, wanted: &[u8]) -> bool
+        ensures { Skips (is_word (is_keyword wanted.now)) self.old result self.new }
+    {
+        self.skip_if(self.at_keyword(wanted))
     }
 
     // Takes the next token, which must pass: a test of it is given.

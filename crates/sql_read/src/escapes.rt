@@ -1,7 +1,7 @@
 // What a backslash and the bytes behind it stand for, and what a string says.
 ghost use Rattle.std.specs.Prelude.{◌≡◌, ◌<◌, ◌+◌, length, ℕ, List, Option, IfOk, IfSome};
 ghost use Rattle.mt_values.specs.Escapes.{escape_byte, escape_of, hex_digit, hex_pair};
-ghost use Rattle.mt_values.specs.Tokens.{string_within};
+ghost use Rattle.mt_values.specs.Tokens.{quote_behind, string_within};
 ghost use Rattle.sql_read.specs.Strings.{byte_shown, said_by, string_from, string_shown};
 
 use crate::blanks::begins_with;
@@ -10,7 +10,7 @@ use mt_values::Bytes;
 use std::alloc::Global;
 
 /// What the first bytes of the rest of a string are.
-#[derive(Clone, Copy, Debug)]
+#[derive(Clone, Copy)]
 enum Piece<'a> {
     /// They say a byte, and this follows them.
     Byte(u8, &'a [u8]),
@@ -80,6 +80,17 @@ fn escape(text: &[u8]) -> Option<(u8, &[u8])>
     }
 }
 
+// What a quote is in a string, by what follows it: two of them say one.
+fn quote(more: &[u8]) -> Piece<'_>
+    ensures { (rest : List ℕ → Option (List ℕ × List ℕ)) → said_by rest result ≡ quote_behind rest more.now }
+{
+    if begins_with(b'\'', more) {
+        Piece::Byte(b'\'', &more[1..])
+    } else {
+        Piece::End(more)
+    }
+}
+
 // The first bytes of the rest of a string.
 fn first_piece(text: &[u8]) -> Piece<'_>
     ensures { (more : List ℕ → Option (List ℕ × List ℕ)) → said_by more result ≡ string_from more text.now }
@@ -88,10 +99,7 @@ fn first_piece(text: &[u8]) -> Piece<'_>
         return Piece::Faulty;
     };
     if *byte == b'\'' {
-        return match more {
-            [b'\'', rest @ ..] => Piece::Byte(b'\'', rest),
-            _ => Piece::End(more),
-        };
+        return quote(more);
     }
     if *byte == b'\\' {
         return match escape(more) {

@@ -1,6 +1,9 @@
 // Statements from their texts.
-ghost use Rattle.std.specs.Prelude.{◌≡◌, Bool, IfOk};
-ghost use Rattle.mt_values.specs.Grammar.{cause_at, is_behind_limit, place_of_first, refused_at, statement_of, statement_reader};
+ghost use Rattle.std.specs.Prelude.{◌≡◌, Bool, Err, IfOk, List, Ok, length};
+ghost use Rattle.mt_values.specs.Grammar.{cause_at, is_behind_limit, place_of_first, refused_at, statement_of, statement_read, statement_reader};
+ghost use Rattle.mt_values.specs.Readers.{Reader};
+ghost use Rattle.mt_values.specs.declared.statement.Statement.{Statement};
+ghost use Rattle.mt_values.specs.declared.token.Placed.{Placed};
 ghost use Rattle.sql_read.specs.Reads.{IsRead};
 
 use crate::cursor::{Cursor, Stop};
@@ -72,6 +75,45 @@ fn refused_at(size: usize, slip: Slip, place: usize) -> Cause
     }
 }
 
+// A statement whose text has this size, where it may be so long.
+fn in_limit(size: usize, statement: Statement) -> Result<Statement, Cause>
+    ensures { result ≡ statement_read size (Ok statement) }
+{
+    if STATEMENT_LIMIT < size {
+        Err(Cause::LongStatement)
+    } else {
+        Ok(statement)
+    }
+}
+
+// Why the text of this size is no statement, where reading stopped in front of the rest of its tokens.
+fn refused(size: usize, stop: Stop, rest: &[Placed]) -> Result<Result<Statement, Cause>, NoMemory>
+    ensures { (reader : Reader Statement) (tokens : List Placed) → IsRead reader tokens (Err stop) rest.now
+        → IfOk result (λ said. said ≡ statement_read size (reader tokens)) }
+{
+    match stop {
+        Stop::NoMemory => Err(NoMemory),
+        Stop::Slip(slip) => Ok(Err(refused_at(size, slip, place_of_first(size, rest)))),
+    }
+}
+
+// The statement that these tokens of a text are, or why the text is refused.
+fn said_by(
+    alloc: Global,
+    tokens: &[Placed],
+    text: &[u8],
+    lines: &[u8],
+    ended: bool,
+) -> Result<Result<Statement, Cause>, NoMemory>
+    ensures { IfOk result (λ said. said ≡ statement_read (length text.now) (statement_reader text.now lines.now ended tokens.now)) }
+{
+    let mut cursor = Cursor::new(tokens);
+    match read(alloc, &mut cursor, text, lines, ended) {
+        Ok(statement) => Ok(in_limit(text.len(), statement)),
+        Err(stop) => refused(text.len(), stop, cursor.rest()),
+    }
+}
+
 /// The statement that a text is, from its first token up to the semicolon that ends it, where one does (`terminated`),
 /// with its data: the bytes of the data's lines, and whether the line that ends data came. Or why the text is refused:
 ///
@@ -89,20 +131,6 @@ pub fn statement(
 ) -> Result<Result<Statement, Cause>, NoMemory>
     ensures { IfOk result (λ found. found ≡ statement_of text.now terminated lines.now ended) }
 {
-    let size = text.len();
     let tokens = tokens_and_end(alloc, text, terminated)?;
-    let mut cursor = Cursor::new(&tokens);
-    match read(alloc, &mut cursor, text, lines, ended) {
-        Ok(statement) => {
-            if STATEMENT_LIMIT < size {
-                return Ok(Err(Cause::LongStatement));
-            }
-            Ok(Ok(statement))
-        }
-        Err(Stop::NoMemory) => Err(NoMemory),
-        Err(Stop::Slip(slip)) => {
-            let place = place_of_first(size, cursor.rest());
-            Ok(Err(refused_at(size, slip, place)))
-        }
-    }
+    said_by(alloc, &tokens, text, lines, ended)
 }

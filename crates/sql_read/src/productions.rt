@@ -1,19 +1,20 @@
 // The productions of the grammar, each of which takes its tokens from the left.
-ghost use Rattle.std.specs.Prelude.{◌≡◌, ◌<◌, ◌∷◌, [], Bool, IfOk, OnOk, length};
+ghost use Rattle.std.specs.Prelude.{◌<◌, ◌∷◌, [], Bool, List, OnOk, length};
+ghost use Rattle.mt_values.specs.declared.token.Placed.{Placed};
 ghost use Rattle.mt_values.specs.Grammar.{clauses, column, create, insert, key, list_of, one_name, select, selection};
-ghost use Rattle.sql_read.specs.Parts.{created_columns, created_key, created_table, engine_part, inserted_format, inserted_table};
-ghost use Rattle.sql_read.specs.Reads.{Ends, IsRead, Reads};
+ghost use Rattle.sql_read.specs.Parts.{created_columns, created_key, engine_part, inserted_format, selected_table, table_behind};
+ghost use Rattle.sql_read.specs.Reads.{Ends, IsRead, Reads, ReadsEnd};
 
 use crate::cursor::{Cursor, Stop};
-use mt_base::{NoMemory, Seq};
+use mt_base::Seq;
 use mt_values::{
     Column, CreateText, InsertText, Name, SelectText, Selected, Slip, Statement, Symbol,
 };
 use std::alloc::Global;
 
 // The list of one name.
-fn only(alloc: Global, name: Name) -> Result<Seq<Name>, NoMemory>
-    ensures { IfOk result (λ names. names ≡ name ∷ []) }
+fn only(alloc: Global, name: Name) -> Result<Seq<Name>, Stop>
+    ensures { (tokens : List Placed) → Reads (λ next. next (name ∷ [])) tokens result tokens }
 {
     let mut names = Seq::new(alloc);
     names.push(name)?;
@@ -39,10 +40,9 @@ impl Cursor<'_> {
         'columns: loop {
             let column = self.column(alloc)?;
             columns.push(column)?;
-            if !self.at_symbol(Symbol::Comma) {
+            if !self.skip(Symbol::Comma) {
                 return Ok(columns);
             }
-            self.symbol(Symbol::Comma)?;
         }
     }
 
@@ -54,10 +54,9 @@ impl Cursor<'_> {
         'names: loop {
             let name = self.name(alloc)?;
             names.push(name)?;
-            if !self.at_symbol(Symbol::Comma) {
+            if !self.skip(Symbol::Comma) {
                 return Ok(names);
             }
-            self.symbol(Symbol::Comma)?;
         }
     }
 
@@ -65,14 +64,13 @@ impl Cursor<'_> {
     fn key(&mut self, alloc: Global) -> Result<Seq<Name>, Stop>
         ensures { Reads key self.old result self.new }
     {
-        if self.at_symbol(Symbol::Open) {
-            self.symbol(Symbol::Open)?;
+        if self.skip(Symbol::Open) {
             let names = self.names(alloc)?;
             self.symbol(Symbol::Close)?;
             return Ok(names);
         }
         let name = self.name(alloc)?;
-        Ok(only(alloc, name)?)
+        only(alloc, name)
     }
 
     // clauses = ORDER BY key
@@ -89,10 +87,9 @@ impl Cursor<'_> {
         ensures { Reads engine_part self.old result self.new }
     {
         self.exactly(b"MergeTree")?;
-        if !self.at_symbol(Symbol::Open) {
+        if !self.skip(Symbol::Open) {
             return Ok(());
         }
-        self.symbol(Symbol::Open)?;
         self.symbol(Symbol::Close)
     }
 
@@ -100,8 +97,7 @@ impl Cursor<'_> {
     fn selection(&mut self, alloc: Global) -> Result<Selected, Stop>
         ensures { Reads selection self.old result self.new }
     {
-        if self.at_symbol(Symbol::Star) {
-            self.symbol(Symbol::Star)?;
+        if self.skip(Symbol::Star) {
             return Ok(Selected::All);
         }
         let names = self.names(alloc)?;
@@ -119,12 +115,12 @@ impl Cursor<'_> {
         Ok(())
     }
 
-    // CREATE TABLE name
-    fn created_table(&mut self, alloc: Global) -> Result<Name, Stop>
-        ensures { Reads created_table self.old result self.new }
+    // Two keywords and a name, as CREATE TABLE name.
+    fn table_behind(&mut self, alloc: Global, first: &[u8], second: &[u8]) -> Result<Name, Stop>
+        ensures { Reads (table_behind first.now second.now) self.old result self.new }
     {
-        self.keyword(b"CREATE")?;
-        self.keyword(b"TABLE")?;
+        self.keyword(first)?;
+        self.keyword(second)?;
         self.name(alloc)
     }
 
@@ -148,31 +144,32 @@ impl Cursor<'_> {
         self.clauses(alloc)
     }
 
-    // INSERT INTO name
-    fn inserted_table(&mut self, alloc: Global) -> Result<Name, Stop>
-        ensures { Reads inserted_table self.old result self.new }
+    // [ FORMAT format ], and the statement's end
+    fn inserted_format(&mut self) -> Result<(), Stop>
+        ensures { ReadsEnd inserted_format self.old result self.new }
     {
-        self.keyword(b"INSERT")?;
-        self.keyword(b"INTO")?;
-        self.name(alloc)
+        if !self.skip_keyword(b"FORMAT") {
+            return self.end();
+        }
+        self.format()?;
+        self.end()
     }
 
-    // [ FORMAT format ]
-    fn inserted_format(&mut self) -> Result<(), Stop>
-        ensures { Reads inserted_format self.old result self.new }
+    // FROM name, and the statement's end
+    fn selected_table(&mut self, alloc: Global) -> Result<Name, Stop>
+        ensures { ReadsEnd selected_table self.old result self.new }
     {
-        if !self.at_keyword(b"FORMAT") {
-            return Ok(());
-        }
-        self.keyword(b"FORMAT")?;
-        self.format()
+        self.keyword(b"FROM")?;
+        let table = self.name(alloc)?;
+        self.end()?;
+        Ok(table)
     }
 
     /// A CREATE of this text. Its bytes and its names are copied, once.
     pub fn create(&mut self, alloc: Global, text: &[u8]) -> Result<Statement, Stop>
         ensures { IsRead (create text.now) self.old result self.new }
     {
-        let table = self.created_table(alloc)?;
+        let table = self.table_behind(alloc, b"CREATE", b"TABLE")?;
         let columns = self.created_columns(alloc)?;
         let key = self.created_key(alloc)?;
         self.end()?;
@@ -189,9 +186,8 @@ impl Cursor<'_> {
     pub fn insert(&mut self, alloc: Global, lines: &[u8], ended: bool) -> Result<Statement, Stop>
         ensures { IsRead (insert lines.now ended) self.old result self.new }
     {
-        let table = self.inserted_table(alloc)?;
+        let table = self.table_behind(alloc, b"INSERT", b"INTO")?;
         self.inserted_format()?;
-        self.end()?;
         let lines = Seq::from_slice(alloc, lines)?;
         Ok(Statement::Insert(InsertText {
             table,
@@ -206,9 +202,7 @@ impl Cursor<'_> {
     {
         self.keyword(b"SELECT")?;
         let columns = self.selection(alloc)?;
-        self.keyword(b"FROM")?;
-        let table = self.name(alloc)?;
-        self.end()?;
+        let table = self.selected_table(alloc)?;
         Ok(Statement::Select(SelectText { columns, table }))
     }
 }

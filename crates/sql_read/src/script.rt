@@ -5,7 +5,7 @@ ghost use Rattle.std.specs.List.{list_all, prefix_len};
 ghost use Rattle.mt_values.specs.Tokens.{is_space};
 ghost use Rattle.mt_values.specs.Grammar.{takes_data};
 ghost use Rattle.mt_values.specs.Script.{behind_line, complete_or_cut, data_ended, data_of, ended_from, ends_at, ends_data, has_whole, is_line_byte, is_whole, line_from, line_rest, place_behind, takes_next, with_line_rest};
-ghost use Rattle.sql_read.specs.Scripts.{IsNext, data_in, parts_at, section_said};
+ghost use Rattle.sql_read.specs.Scripts.{IsNext, data_in, line_said, next_of, parts_at, section_said};
 
 use crate::blanks::{Skipped, begins_with, behind, is_space, skipped_len};
 use crate::cursor::is_keyword;
@@ -16,7 +16,7 @@ use mt_values::{Cause, Place, Statement};
 use std::alloc::Global;
 
 /// What a script begins with.
-#[derive(Debug, Drop)]
+#[derive(Drop)]
 pub enum Next {
     /// A statement, and how many bytes of the script it takes, with what stands before it and with its data.
     Found(Statement, usize),
@@ -32,7 +32,7 @@ pub enum Next {
 }
 
 /// How much of a text is data.
-#[derive(Clone, Copy, Debug, PartialEq, Eq)]
+#[derive(Clone, Copy)]
 struct Extent {
     /// The bytes of the lines of data, which stand first.
     lines: usize,
@@ -45,7 +45,7 @@ struct Extent {
 }
 
 /// The part of a script that its first statement takes.
-#[derive(Clone, Copy, Debug)]
+#[derive(Clone, Copy)]
 struct Section<'a> {
     /// The statement's text.
     text: &'a [u8],
@@ -88,7 +88,6 @@ fn ends_at(place: Place, byte: u8) -> bool
 }
 
 // The place of the semicolon that ends the statement which a text begins with; none where it has no end.
-#[tactic(auto, using(crate::proofs::TextParts::ended_more, crate::proofs::TextParts::ended_here, crate::proofs::TextParts::ended_none))]
 fn statement_end(text: &[u8]) -> Option<usize>
     ensures parts { parts_at text.now result ≡ ended_from Place.Outside text.now }
     ensures within { IfSome result (λ end. end < length text.now) }
@@ -119,7 +118,6 @@ pub fn takes_next(taken: bool, byte: u8) -> bool
 
 /// The place of the line feed that ends the line of data which a text begins with: the first that no backslash takes.
 /// None where no line feed ends the line. Takes no memory.
-#[tactic(auto, using(crate::proofs::TextParts::line_more, crate::proofs::TextParts::line_here, crate::proofs::TextParts::line_none))]
 pub fn line_end(text: &[u8]) -> Option<usize>
     ensures parts { option_map (λ k. (take k text.now, drop (k + 1) text.now)) result
         ≡ line_from false text.now }
@@ -271,6 +269,18 @@ fn first_section(script: &[u8]) -> Section<'_>
     }
 }
 
+// What a part of a script is, by what its text is: only blanks may stand behind its semicolon on the line.
+fn with_line(section: &Section, found: Result<Statement, Cause>) -> Result<Statement, Cause>
+    ensures { result ≡ line_said section.now found }
+{
+    let statement = found?;
+    if are_blank(section.line) {
+        return Ok(statement);
+    }
+    let place = section.text.len() + 1 + spaces_len(section.line);
+    Err(Cause::Grammar(place))
+}
+
 // The statement that a part of a script is, or why it is refused.
 fn read_section(alloc: Global, section: &Section) -> Result<Result<Statement, Cause>, NoMemory>
     ensures { IfOk result (λ found. found ≡ section_said section.now) }
@@ -282,15 +292,17 @@ fn read_section(alloc: Global, section: &Section) -> Result<Result<Statement, Ca
         section.lines,
         section.ended,
     )?;
-    if are_blank(section.line) {
-        return Ok(found);
-    }
+    Ok(with_line(section, found))
+}
+
+// What a script begins with, by what was found in so many bytes of it.
+fn next_of(found: Result<Result<Statement, Cause>, NoMemory>, used: usize) -> Next
+    ensures { result ≡ next_of found used }
+{
     match found {
-        Ok(_) => {
-            let place = section.text.len() + 1 + spaces_len(section.line);
-            Ok(Err(Cause::Grammar(place)))
-        }
-        Err(cause) => Ok(Err(cause)),
+        Ok(Ok(statement)) => Next::Found(statement, used),
+        Ok(Err(cause)) => Next::Refused(cause, used),
+        Err(_) => Next::NoMemory,
     }
 }
 
@@ -308,12 +320,8 @@ pub fn next_statement(alloc: Global, script: &[u8], ended: bool) -> Next
         return if ended { Next::End } else { Next::NeedMore };
     }
     let section = first_section(text);
-    if !ended && !section.whole {
+    if !(ended || section.whole) {
         return Next::NeedMore;
     }
-    match read_section(alloc, &section) {
-        Ok(Ok(statement)) => Next::Found(statement, skipped + section.used),
-        Ok(Err(cause)) => Next::Refused(cause, skipped + section.used),
-        Err(_) => Next::NoMemory,
-    }
+    next_of(read_section(alloc, &section), skipped + section.used)
 }

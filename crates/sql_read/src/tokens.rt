@@ -1,10 +1,10 @@
 // The tokens of a statement.
-ghost use Rattle.std.specs.Prelude.{◌≡◌, ◌≤◌, ◌∷◌, ◌++◌, [], Bool, IfOk, length};
+ghost use Rattle.std.specs.Prelude.{◌≡◌, ◌≤◌, ◌+◌, ◌∷◌, ◌++◌, [], Bool, IfOk, length};
 ghost use Rattle.std.specs.Char.{is_ascii_digit};
 ghost use Rattle.std.specs.List.{prefix_len};
 ghost use Rattle.mt_values.specs.Grammar.{tokens_and_end};
-ghost use Rattle.mt_values.specs.Tokens.{byte_symbol, in_word, number_token, pair_symbol, starts_word, symbol_token, tokens_of, word_begins};
-ghost use Rattle.sql_read.specs.FirstTokens.{first_token, token_shown};
+ghost use Rattle.mt_values.specs.Tokens.{byte_symbol, in_word, pair_symbol, starts_word, string_within, symbol_token, text_token, tokens_of, word_begins};
+ghost use Rattle.sql_read.specs.FirstTokens.{digits_token, first_token, token_shown, word_token};
 
 use crate::blanks::{Skipped, behind};
 use crate::escapes::string;
@@ -52,15 +52,36 @@ fn word_begins(text: &[u8]) -> bool
     }
 }
 
-// The token of a run of digits, and what follows it.
-fn number<'a>(alloc: Global, digits: &[u8], rest: &'a [u8]) -> Result<(Token, &'a [u8]), NoMemory>
-    ensures { IfOk result (λ found. token_shown found ≡ number_token digits.now rest.now) }
+// The word that a text begins with, and what follows it.
+fn word(alloc: Global, text: &[u8]) -> Result<(Token, &[u8]), NoMemory>
+    ensures { IfOk result (λ found. token_shown found ≡ word_token text.now) }
 {
+    let len = word_len(text);
+    let word = Seq::from_slice(alloc, &text[..len])?;
+    Ok((Token::Word(word), &text[len..]))
+}
+
+// The number that a text begins with, and what follows it.
+fn number(alloc: Global, text: &[u8]) -> Result<(Token, &[u8]), NoMemory>
+    ensures { IfOk result (λ found. token_shown found ≡ digits_token text.now) }
+{
+    let len = digits_len(text);
+    let rest = &text[len..];
     if word_begins(rest) {
         return Ok((Token::Stray, rest));
     }
-    let digits = Seq::from_slice(alloc, digits)?;
+    let digits = Seq::from_slice(alloc, &text[..len])?;
     Ok((Token::Number(digits), rest))
+}
+
+// The token of a string, of which the text behind its first quote is given, and what follows it.
+fn quoted(alloc: Global, text: &[u8]) -> Result<(Token, &[u8]), NoMemory>
+    ensures { IfOk result (λ found. token_shown found ≡ text_token (string_within (length text.now + 1) text.now)) }
+{
+    match string(alloc, text)? {
+        Some((said, rest)) => Ok((Token::Text(said), rest)),
+        None => Ok((Token::Stray, &[])),
+    }
 }
 
 // The symbol that two bytes are.
@@ -118,19 +139,13 @@ fn first_token(alloc: Global, text: &[u8]) -> Result<(Token, &[u8]), NoMemory>
         return Ok((Token::Stray, text));
     };
     if starts_word(*byte) {
-        let len = word_len(text);
-        let word = Seq::from_slice(alloc, &text[..len])?;
-        return Ok((Token::Word(word), &text[len..]));
+        return word(alloc, text);
     }
     if byte.is_ascii_digit() {
-        let len = digits_len(text);
-        return number(alloc, &text[..len], &text[len..]);
+        return number(alloc, text);
     }
     if *byte == b'\'' {
-        return match string(alloc, more)? {
-            Some((said, rest)) => Ok((Token::Text(said), rest)),
-            None => Ok((Token::Stray, &[])),
-        };
+        return quoted(alloc, more);
     }
     Ok(symbol(*byte, more))
 }
@@ -146,11 +161,11 @@ pub fn tokens(alloc: Global, text: &[u8]) -> Result<Vec<Placed>, NoMemory>
     'tokens: while !rest.is_empty() {
         let at = text.len() - rest.len();
         let (token, more) = first_token(alloc, rest)?;
-        if let Token::Stray = token {
-            found.push(Placed { at, token })?;
+        let is_last = matches!(token, Token::Stray);
+        found.push(Placed { at, token })?;
+        if is_last {
             return Ok(found);
         }
-        found.push(Placed { at, token })?;
         rest = behind(Skipped::Blanks, more);
     }
     Ok(found)

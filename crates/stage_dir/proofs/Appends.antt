@@ -1,14 +1,15 @@
 -- A file that is written where it was not there.
-use Rattle.std.proofs.Common.{◌≡◌, ◌≢◌, ℕ, Bool, true, false, cond, ◌||◌, List, [], ◌∷◌, ◌++◌, Option, Some, None, refl, sym, ap, ◌∙◌}
+use Rattle.std.proofs.Common.{◌≡◌, ◌≢◌, ℕ, ◌<◌, zero, suc, Bool, true, false, cond, ◌||◌, List, [], ◌∷◌, ◌++◌, length, get_or, Option, Some, None, refl, sym, ap, ◌∙◌, subst, arith}
 use Rattle.std.specs.Option.{option_map, ForSome}
 use Rattle.std.proofs.lemmas.List.{map_push}
+use Rattle.std.proofs.lemmas.List.Quantifiers.{all_pairs_push}
 use Rattle.std.proofs.lemmas.Bool.{eq-eqb, eqb-true}
 use Rattle.mt_values.specs.declared.name.FileId.{FileId}
 use Rattle.mt_values.specs.declared.name.FileId.TheVariants as file
 use Rattle.mt_values.specs.Files.{same_file}
 use Rattle.mt_outside.specs.declared.disk.Written.{Written}
 use Rattle.mt_outside.specs.Files.{Files, appended, bytes_of}
-use Rattle.stage_dir.specs.Stages.{has_file, names_in, settled, written}
+use Rattle.stage_dir.specs.Stages.{EachOnce, has_file, names_in, settled, written}
 
 -- a file is the same as itself
 pub same_file-self : (f : FileId) → same_file f f ≡ true
@@ -46,6 +47,16 @@ appended_new file bytes [] new = refl
 appended_new file bytes (w ∷ ws) new =
     let parts = neither (same_file w.file file) (has_file file (names_in ws)) new in
     rw parts.0 (ap (λ (rest : Files). w ∷ rest) (appended_new file bytes ws parts.1))
+
+-- none of the files is one that is not there
+none_is : (names : List FileId) (file : FileId) → has_file file names ≡ false → (k : ℕ) (d : FileId) → k < length names → same_file (get_or names k d) file ≡ false
+none_is [] file new k d below = absurd (omega arith)
+none_is (name ∷ names) file new zero d below = (neither (same_file name file) (has_file file names) new).0
+none_is (name ∷ names) file new (suc k) d below = none_is names file (neither (same_file name file) (has_file file names) new).1 k d (omega arith)
+
+-- it stands there once, as the others do
+pub once_more : (names after : List FileId) (file : FileId) → EachOnce names → has_file file names ≡ false → after ≡ names ++ file ∷ [] → EachOnce after
+once_more names after file once new after_is = subst EachOnce (sym after_is) (all_pairs_push (λ f g. same_file f g ≡ false) names file once (none_is names file new))
 
 module _ (old new : Option Files) (names : List FileId) (file : FileId) (bytes : List ℕ) where
   -- what is told once a file was written

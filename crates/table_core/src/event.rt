@@ -3,7 +3,7 @@ use mt_base::Seq;
 use mt_values::{Create, Insert, Name, Row};
 
 /// A command that a session gives: it is accepted, or refused.
-#[derive(Debug, Drop)]
+#[derive(Drop)]
 pub enum Accept {
     /// A session gives a CREATE.
     Create { session: u64, create: Create },
@@ -12,7 +12,7 @@ pub enum Accept {
 }
 
 /// Where a crash comes.
-#[derive(Debug, Drop)]
+#[derive(Drop)]
 pub enum Crash {
     /// Between two events.
     Between,
@@ -21,7 +21,7 @@ pub enum Crash {
 }
 
 /// What may happen.
-#[derive(Debug, Drop)]
+#[derive(Drop)]
 pub enum Event {
     /// A command is accepted, or refused.
     Accept(Accept),
@@ -34,7 +34,7 @@ pub enum Event {
 }
 
 /// Why an event is refused.
-#[derive(Clone, Copy, Debug, PartialEq, Eq)]
+#[derive(Clone, Copy)]
 pub enum Guard {
     /// There is no such table.
     NoTable,
@@ -49,7 +49,7 @@ pub enum Guard {
 }
 
 /// What an event gives.
-#[derive(Debug, Drop)]
+#[derive(Drop)]
 pub enum Outcome {
     /// The command is in the history, which has now this length.
     Accepted { length: usize },

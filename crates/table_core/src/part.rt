@@ -5,7 +5,7 @@ use part_name::PartName;
 use std::alloc::Global;
 
 /// A part of a table, with its rows.
-#[derive(Debug, Drop)]
+#[derive(Drop)]
 pub struct CorePart {
     pub table: Name,
     pub name: PartName,
@@ -13,7 +13,7 @@ pub struct CorePart {
 }
 
 /// The parts of a table as they stood at a length of the history, in block order.
-#[derive(Debug, Drop)]
+#[derive(Drop)]
 pub struct Snapshot {
     pub table: Name,
     pub parts: Seq<CorePart>,

@@ -71,12 +71,9 @@ fn meet_crash(alloc: Global, store: &mut Store, crash: Crash) -> Result<(), NoMe
     ensures err { OnErr result (core_of store.new ≡ core_of store.old) }
     ensures store { IsStore store.new }
 {
-    let Crash::Within { accept, done } = crash else {
+    let Crash::Within { accept, done: true } = crash else {
         return Ok(());
     };
-    if !done {
-        return Ok(());
-    }
     decide(alloc, store, accept)?;
     Ok(())
 }

@@ -74,19 +74,8 @@ impl Store {
         ensures snapshots { OnOk result (self.new.snapshots.items ≡ self.old.snapshots.items) }
         ensures err { OnErr result (SameStore self.old self.new) }
     {
-        let key = create.table.twin(alloc)?.into_vec();
-        let schema = create.schema.twin(alloc)?;
-        let parts = Seq::new(alloc);
-        let last = 0;
         self.entries.reserve(1)?;
-        self.tables.insert(
-            key,
-            Table {
-                schema,
-                parts,
-                last,
-            },
-        )?;
+        add_table(alloc, &mut self.tables, &create)?;
         let command = Command::Create(create);
         self.entries.push_reserved(Entry { session, command });
         Ok(())
@@ -116,6 +105,33 @@ impl Store {
         self.entries.push_reserved(Entry { session, command });
         Ok(())
     }
+}
+
+/// Adds the table of a CREATE behind the others.
+///
+/// `NoMemory` where a growth was refused; the tables stay as they were.
+fn add_table(
+    alloc: Global,
+    tables: &mut IndexMap<Vec<u8>, Table>,
+    create: &Create,
+) -> Result<(), NoMemory>
+    requires { All (IsNotNamed create.now.table) tables.old.entries }
+    ensures ok { OnOk result (AddsTable create.now tables.old.entries tables.new.entries) }
+    ensures err { OnErr result (tables.new.entries ≡ tables.old.entries) }
+{
+    let schema = create.schema.twin(alloc)?;
+    let key = create.table.twin(alloc)?.into_vec();
+    let parts = Seq::new(alloc);
+    let last = 0;
+    tables.insert(
+        key,
+        Table {
+            schema,
+            parts,
+            last,
+        },
+    )?;
+    Ok(())
 }
 
 /// Adds a part to a table, whose number is the last that was drawn.

@@ -2,12 +2,11 @@
 use Rattle.std.proofs.Common.{◌≡◌, ◌≢◌, ℕ, zero, suc, ◌+◌, ◌≤◌, Bool, true, false, cond, ◌==◌, List, [], ◌∷◌, ◌++◌, length, drop, slice_get, Some, None, Result, Ok, Err, refl, sym, ap, ◌∙◌, arith, append_assoc, append-nil}
 use Rattle.std.proofs.lemmas.Bool.Decides.{nat_tests}
 use Rattle.std.proofs.lemmas.List.{drop_all}
-use Rattle.mt_values.specs.declared.row_fault.FieldFault.{FieldFault}
 use Rattle.mt_values.specs.declared.row_fault.RowFault.{RowFault}
 use Rattle.mt_values.specs.declared.row_fault.RowFault.TheVariants as row_fault
 use Rattle.mt_values.specs.declared.value.ColType.{ColType}
 use Rattle.mt_values.specs.declared.value.Value.{Value}
-use Rattle.mt_values.specs.Rows.{at_field, fault_of_field, fields_from, row_of_fields, row_of_line, value_of_field, value_onto}
+use Rattle.mt_values.specs.Rows.{at_field, fields_from, row_of_fields, row_of_line, value_of_field, value_onto}
 use Rattle.mt_values.specs.Values.{Row}
 use Rattle.tsv_rows.specs.Fields.{EndFields, pieces_from}
 use Rattle.tsv_rows.specs.Stops.{fault_of_count}
@@ -89,11 +88,11 @@ module _ (types : List ColType) (fields : List (List ℕ)) (line i : ℕ) (t : C
       ∙ ap (fronted_ok row) (sym (rest_is ∙ ap (λ r. value_onto (at_field line (i + 1) r) rest) (sym read) ∙ value_front v rest))
 
   -- the field has a fault
-  pub row_refused : (row : Row) (fault : FieldFault) → Err fault ≡ value_of_field t f →
-      Err (fault_of_field line (i + 1) fault) ≡ fronted_ok row (row_of_fields line (i + 1) (drop i types) (drop i fields))
-  row_refused row fault read =
+  pub row_faulty : (row : Row) (fault : RowFault) → at_field line (i + 1) (value_of_field t f) ≡ Err fault →
+      Err fault ≡ fronted_ok row (row_of_fields line (i + 1) (drop i types) (drop i fields))
+  row_faulty row fault read =
       let rest = row_of_fields line (i + 1 + 1) (drop (i + 1) types) (drop (i + 1) fields) in
-      sym (ap (fronted_ok row) (rest_is ∙ ap (λ r. value_onto (at_field line (i + 1) r) rest) (sym read)))
+      sym (ap (fronted_ok row) (rest_is ∙ ap (λ r. value_onto r rest) read))
 
 -- no value stands yet
 pub row_begin : (types : List ColType) (line : ℕ) (text ends : List ℕ) → EndFields text ends → length ends ≡ length types →

@@ -1,5 +1,5 @@
 -- The fields of a line, marked by the places where they end, byte by byte.
-use Rattle.std.proofs.Common.{◌≡◌, ℕ, zero, suc, ◌+◌, ◌-◌, ◌<◌, ◌≤◌, Bool, true, false, not, cond, ◌&&◌, ◌==◌, List, [], ◌∷◌, ◌++◌, length, get_or, slice_get, take, drop, fold, Option, Some, None, if◌then◌else◌, refl, sym, ap, ap₂, ◌∙◌, arith, length-append, length-drop, length-take-le}
+use Rattle.std.proofs.Common.{◌≡◌, ℕ, zero, suc, ◌+◌, ◌-◌, ◌<◌, ◌≤◌, Bool, true, false, not, cond, ◌&&◌, ◌==◌, List, [], ◌∷◌, ◌++◌, length, get_or, slice_get, take, drop, fold, Option, Some, None, if◌then◌else◌, refl, sym, ap, ap₂, subst, ◌∙◌, arith, length-append, length-drop, length-take-le}
 use Rattle.std.proofs.lemmas.Bool.Decides.{nat_tests}
 use Rattle.std.proofs.lemmas.List.{take_more, take_all, drop-append-le, take-append-le}
 use Rattle.mt_values.specs.Script.{takes_next, line_from}
@@ -7,6 +7,11 @@ use Rattle.mt_values.specs.Rows.{onto_first, fields_from}
 use Rattle.mt_values.proofs.Fronts.{parted, parted_none}
 use Rattle.sql_read.proofs.TextParts.{line_more, line_here, line_none}
 use Rattle.tsv_rows.specs.Fields.{pieces_from, EndsRise, EndFields, line_at, line_found, marked}
+
+-- it is a line feed, where those are looked for
+pub feed_told : (lines : Bool) (b : ℕ) → (lines && b == 10) ≡ true → (lines ≡ true) × (b ≡ 10)
+feed_told true b told = (refl, grind (arith, nat_tests))
+feed_told false b told = absurd cc
 
 -- ---- one byte more of a line
 
@@ -227,6 +232,12 @@ module _ (text : List ℕ) (lines : Bool) (ends : List ℕ) (taken : Bool) (at :
   -- the fields of what is marked
   pub marked_fields : at ≤ length text → EndFields (take at text) (ends ++ at ∷ [])
   marked_fields within = record { fields = marked_to.fields; rise = rw (length-take-le at text within) marked_to.rise }
+
+  -- the fields of all that there is
+  pub whole_fields : at ≤ length text → length text ≤ at → EndFields text (ends ++ length text ∷ [])
+  whole_fields within past =
+      let end : at ≡ length text = omega arith in
+      subst (λ (n : ℕ). EndFields text (ends ++ n ∷ [])) end (subst (λ (t : List ℕ). EndFields t (ends ++ at ∷ [])) (take_all at text past) (marked_fields within))
 
   none_by : (l : Bool) → length text ≤ at → parted (take at text) (line_beyond l taken (drop at text)) ≡ None
   none_by false past = refl

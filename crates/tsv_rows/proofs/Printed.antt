@@ -1,6 +1,6 @@
 -- The text of values and rows, piece by piece.
 use Rattle.std.proofs.Common.{◌≡◌, ℕ, zero, suc, ◌+◌, ◌-◌, ◌<◌, ◌≤◌, List, [], ◌∷◌, ◌++◌, All, refl, sym, ap, ap₂, ◌∙◌, length, get_or, take, drop, slice_get, arith, append_assoc, append-nil, flat_map, length-drop}
-use Rattle.std.proofs.lemmas.List.{take_more, get_or-drop, get_or_default}
+use Rattle.std.proofs.lemmas.List.{take_all, take_more, get_or-drop, get_or_default}
 use Rattle.std.proofs.lemmas.List.Concat.{flat_map-append}
 use Rattle.std.proofs.lemmas.List.Elements.{All-head, All-tail}
 use Rattle.std.specs.List.{cons_option}
@@ -39,6 +39,20 @@ module _ (text before out : List ℕ) (start at : ℕ) (within : start ≤ at) (
       ap (λ bs. out ++ bs) run_more ∙ sym (append_assoc out (take (at - start) (drop start text)) (get_or text at 0 ∷ []))
       ∙ ap₂ (λ a b. a ++ b) printed plain ∙ append_assoc before (flat_map escaped (take at text)) (escaped (get_or text at 0))
       ∙ ap (λ bs. before ++ bs) (sym one_more)
+
+  -- an escape stands for it
+  pub run_ends : (letter : ℕ) (mid new : List ℕ) → mid ≡ out ++ take (at - start) (drop start text) → new ≡ mid ++ 92 ∷ letter ∷ [] → 92 ∷ letter ∷ [] ≡ escaped (get_or text at 0) →
+      new ++ take (at + 1 - (at + 1)) (drop (at + 1) text) ≡ before ++ flat_map escaped (take (at + 1) text)
+  run_ends letter mid new first second escape =
+      let none : at + 1 - (at + 1) ≡ 0 = omega arith in
+      ap (λ n. new ++ take n (drop (at + 1) text)) none ∙ append-nil new ∙ second ∙ ap₂ (λ a b. a ++ b) (first ∙ printed) escape
+      ∙ append_assoc before (flat_map escaped (take at text)) (escaped (get_or text at 0)) ∙ ap (λ bs. before ++ bs) (sym one_more)
+
+-- the last run goes up to the end
+pub run_last : (text before out new : List ℕ) (start at : ℕ) → at ≡ length text → out ++ take (at - start) (drop start text) ≡ before ++ flat_map escaped (take at text) →
+    new ≡ out ++ take (length text - start) (drop start text) → new ≡ before ++ flat_map escaped text
+run_last text before out new start at end printed last =
+    last ∙ ap (λ n. out ++ take (n - start) (drop start text)) (sym end) ∙ printed ∙ ap (λ bs. before ++ flat_map escaped bs) (take_all at text (omega arith))
 
 -- ---- rows
 

@@ -45,22 +45,28 @@ pub fn write_text(text: &[u8], out: &mut Vec<u8>) -> Result<(), NoMemory>
     Ok(())
 }
 
+// Adds bytes as they are.
+fn write_bytes(bytes: &[u8], out: &mut Vec<u8>) -> Result<(), NoMemory>
+    ensures { OnOk result (out.new.items ≡ out.old.items ++ bytes.now) }
+{
+    Ok(out.extend_from_slice(bytes)?)
+}
+
 // Adds a value as a field.
 fn write_cell(cell: Cell, buffer: &mut Buffer, out: &mut Vec<u8>) -> Result<(), NoMemory>
     ensures { OnOk result (out.new.items ≡ out.old.items ++ field (value_of cell.entry)) }
 {
     match cell {
-        Cell::UInt8(n) => out.extend_from_slice(buffer.format(n).as_bytes())?,
-        Cell::UInt16(n) => out.extend_from_slice(buffer.format(n).as_bytes())?,
-        Cell::UInt32(n) => out.extend_from_slice(buffer.format(n).as_bytes())?,
-        Cell::UInt64(n) => out.extend_from_slice(buffer.format(n).as_bytes())?,
-        Cell::Int8(n) => out.extend_from_slice(buffer.format(n).as_bytes())?,
-        Cell::Int16(n) => out.extend_from_slice(buffer.format(n).as_bytes())?,
-        Cell::Int32(n) => out.extend_from_slice(buffer.format(n).as_bytes())?,
-        Cell::Int64(n) => out.extend_from_slice(buffer.format(n).as_bytes())?,
-        Cell::Text(text) => return write_text(text, out),
+        Cell::UInt8(n) => write_bytes(buffer.format(n).as_bytes(), out),
+        Cell::UInt16(n) => write_bytes(buffer.format(n).as_bytes(), out),
+        Cell::UInt32(n) => write_bytes(buffer.format(n).as_bytes(), out),
+        Cell::UInt64(n) => write_bytes(buffer.format(n).as_bytes(), out),
+        Cell::Int8(n) => write_bytes(buffer.format(n).as_bytes(), out),
+        Cell::Int16(n) => write_bytes(buffer.format(n).as_bytes(), out),
+        Cell::Int32(n) => write_bytes(buffer.format(n).as_bytes(), out),
+        Cell::Int64(n) => write_bytes(buffer.format(n).as_bytes(), out),
+        Cell::Text(text) => write_text(text, out),
     }
-    Ok(())
 }
 
 // Adds the tab that stands before each field but the first.

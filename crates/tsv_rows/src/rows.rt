@@ -1,7 +1,7 @@
 // From lines to rows: one row, and the lines of an INSERT's data as a block.
 ghost use Rattle.std.specs.Prelude.{◌≡◌, ◌≢◌, [], All, IfErr, IfOk, Ok, Err, length, map, false};
 ghost use Rattle.mt_values.specs.Grid.{Grid};
-ghost use Rattle.mt_values.specs.Rows.{fault_of_field, inserted_rows, row_of_line};
+ghost use Rattle.mt_values.specs.Rows.{at_field, fault_of_field, inserted_rows, row_of_line, value_of_field};
 ghost use Rattle.mt_values.specs.Values.{AreValues, IsValue};
 ghost use Rattle.mt_values.specs.declared.row_fault.RowFault.TheVariants as row_fault;
 ghost use Rattle.mt_values.specs.declared.schema.Column.{Column};
@@ -11,14 +11,14 @@ ghost use Rattle.tsv_rows.specs.Stops.{Refuses, fault_of_count};
 
 use crate::fields::{cell_of_field, field_at, mark_fields};
 use mt_base::{NoMemory, Seq};
-use mt_values::{Block, ColType, ColumnData, DataFault, FieldFault, Row, RowFault, Schema};
+use mt_values::{Block, ColType, ColumnData, DataFault, FieldFault, Row, RowFault, Schema, Value};
 use std::alloc::Global;
 
 /// An INSERT has no more rows than this.
 const MOST_ROWS: usize = 1_048_576;
 
 /// Why reading an INSERT's data gave no rows.
-#[derive(Clone, Copy, Debug, PartialEq, Eq)]
+#[derive(Clone, Copy)]
 pub enum ReadStop {
     /// A growth was refused.
     NoMemory,
@@ -61,6 +61,24 @@ fn fault_of_field(line: usize, place: usize, fault: FieldFault) -> RowFault
     }
 }
 
+// The value of the field at a place in its line, from 1, or the line's fault.
+fn read_value(
+    alloc: Global,
+    col_type: ColType,
+    field: &[u8],
+    line: usize,
+    place: usize,
+    said: &mut Vec<u8>,
+) -> Result<Value, RowFault>
+    ensures value { IfOk result (λ v. Ok v ≡ value_of_field col_type field.now) }
+    ensures fault { IfErr result (λ fault. fault ≢ RowFault.NoMemory → at_field line place (value_of_field col_type field.now) ≡ Err fault) }
+{
+    match cell_of_field(col_type, field, said)? {
+        Ok(cell) => Ok(cell.to_value(alloc)?),
+        Err(fault) => Err(fault_of_field(line, place, fault)),
+    }
+}
+
 /// The row that a line is, or why it is none. The line stands without its line feed, and counts from 1.
 ///
 /// `RowFault::NoMemory` where a growth was refused. Else the fault is that of the number of fields, or of the first
@@ -76,14 +94,12 @@ pub fn read_row(alloc: Global, schema: &Schema, text: &[u8], line: usize) -> Res
     if let Some(fault) = fault_of_count(line, ends.len(), columns.len()) {
         return Err(fault);
     }
-    let mut said = Vec::new(alloc);
     let mut row = Seq::with_capacity(alloc, columns.len())?;
+    let mut said = Vec::new(alloc);
     for (place, column) in columns.iter().enumerate() {
         let field = field_at(text, &ends, place);
-        match cell_of_field(column.col_type, field, &mut said)? {
-            Ok(cell) => row.push(cell.to_value(alloc)?)?,
-            Err(fault) => return Err(fault_of_field(line, place + 1, fault)),
-        }
+        let value = read_value(alloc, column.col_type, field, line, place + 1, &mut said)?;
+        row.push(value)?;
     }
     Ok(row)
 }

@@ -1,8 +1,8 @@
-use Rattle.std.proofs.Common.{◌≡◌, ℕ, ◌+◌, ◌<◌, arith, length, ap, subst, ◌∙◌}
+use Rattle.std.proofs.Common.{◌≡◌, ℕ, ◌+◌, ◌<◌, arith, Err, length, ap, subst, ◌∙◌}
 use Rattle.mt_model.specs.History.{History}
 use Rattle.mt_model.specs.Reply.{ok_line}
-use Rattle.mt_plain.specs.Plain.{IsInserted}
-use Rattle.mt_plain.proofs.Steps.{inserted_takes, inserted_legal}
+use Rattle.mt_plain.specs.Plain.{IsInserted, inserted}
+use Rattle.mt_plain.proofs.Steps.{when_ok, inserted_takes, inserted_legal, empty_takes, uninserted_takes}
 use Rattle.mt_plain.proofs.running.step_insert.Goals as goal
 
 pub returns-in_ok-add_insert-in-Ok-clause-takes : goal.returns-in_ok-add_insert-in-Ok-clause-takes
@@ -22,3 +22,19 @@ returns-in_ok-add_insert-in-Ok-clause-legal c =
     let there : IsInserted c.args.insert.now h c.in-Ok.block = subst (λ (x : History). IsInserted c.args.insert.now x c.in-Ok.block) c.deref.ensures.value given in
     let some : 0 < length c.in-Ok.block.rows = omega arith in
     inserted_legal h c.add_insert.new.history.items c.args.insert.now c.in-Ok.block c.in_ok-table-in-Ok.table there some c.in_ok-table-in-Ok.ensures c.in_ok-add_insert-in-Ok.ensures.ok
+
+pub returns-then-len-eq0-clause-takes : goal.returns-then-len-eq0-clause-takes
+returns-then-len-eq0-clause-takes c =
+    let h = c.args.history.now.items in
+    let given = rw c.in-Ok.is at c.in_ok-block.ensures in
+    let there : IsInserted c.args.insert.now h c.in-Ok.block = subst (λ (x : History). IsInserted c.args.insert.now x c.in-Ok.block) c.deref.ensures.value given in
+    let none : length c.in-Ok.block.rows ≡ 0 = omega arith in
+    let count : c.len-then-len-eq0.result ≡ length h = omega arith in
+    when_ok c.ok_line.result (λ line. line.items ≡ ok_line c.len-then-len-eq0.result) _ (λ line is. empty_takes h c.args.insert.now c.in-Ok.block line.items there none (is ∙ ap ok_line count)) c.ok_line.ensures
+
+pub returns-in_ok-line-in-Err-clause-takes : goal.returns-in_ok-line-in-Err-clause-takes
+returns-in_ok-line-in-Err-clause-takes c =
+    let h = c.args.history.now.items in
+    let given = rw c.in-Err.is at c.in_ok-block.ensures in
+    let why : inserted c.args.insert.now h ≡ Err c.in-Err.refusal = subst (λ (x : History). inserted c.args.insert.now x ≡ Err c.in-Err.refusal) c.deref.ensures.value given in
+    uninserted_takes h c.args.insert.now c.in-Err.refusal c.in_ok-line-in-Err.line.items why c.in_ok-line-in-Err.ensures

@@ -1,7 +1,7 @@
 use Rattle.std.proofs.Common.{◌≡◌, ◌<◌, ◌^◌, ◌++◌, ◌∷◌, [], List, ℕ, Some, None, Ok, Err, length, refl, sym, ap, ◌∙◌, subst, arith}
 use Rattle.mt_values.specs.declared.command.Command.TheVariants as command
 use Rattle.mt_values.specs.declared.statement.Statement.TheVariants as statement
-use Rattle.mt_model.specs.Reply.{create_turn, ok_line}
+use Rattle.mt_model.specs.Reply.{create_turn}
 use Rattle.mt_model.proofs.Causes.{text_is_cause, undamaged_line}
 use Rattle.mt_model.proofs.Tables.{schema_is}
 use Rattle.mt_model.specs.Refusals.{is_damage}
@@ -67,11 +67,11 @@ returns-in-Ok-commit_create-clause-answers g c = λ kept is tells stands.
     let made = tables_made files h store stands text.table in
     let turn : create_turn text.table h ≡ None = turn_free text.table h (no_table files h store stands text.table free.0) (omega (arith, made, free.1)) in
     let entry = λ (t : List ℕ). entry_of (command.Create (record { table = t; schema = schema })) in
-    created_accepts files text schema kept mark store.opened (g.D.Disk.failed c.commit_create.new.disk) (g.D.Arm.Arm.failed c.seal_entry.new.arm) store.length c.commit_create.new.store c.in_ok-reply.reply.items old told was now
+    created_accepts files text schema kept mark store.opened (g.D.Disk.failed c.commit_create.new.disk) (g.D.Arm.Arm.failed c.seal_entry.new.arm) store.length c.commit_create.new.store c.in_ok-replies.replies.accepted.items old told was now
     stands.length_is says turn is
     (subst (λ (t : List ℕ). Notes mark (entry t) old told) name done.annals)
     (subst (λ (t : List ℕ). CoreStands files (h ++ entry t ∷ []) c.commit_create.new.store) name (done.stands h stands))
-    (c.in_ok-reply.ensures ∙ ap ok_line c.in-Some.ensures.1)
+    c.in_ok-replies.ensures.accepted
     (λ root.
     let sealed = c.in-Ok-seal_entry.ensures.files tells in
     let few = subst (λ (t : List ℕ). length t < 2 ^ 32) c.as_slice.ensures c.in-Ok-seal_entry.ensures.few in
@@ -142,7 +142,7 @@ pub returns-in-Err-seal_entry-clause-undamaged : goal.returns-in-Err-seal_entry-
 returns-in-Err-seal_entry-clause-undamaged g c = stage_line c.in-Err-seal_entry.error _ c.in_ok-stage_line-in-Err-seal_entry.ensures
 
 pub returns-in-Ok-commit_create-clause-undamaged : goal.returns-in-Ok-commit_create-clause-undamaged
-returns-in-Ok-commit_create-clause-undamaged g c = ap is_damage c.in_ok-reply.ensures
+returns-in-Ok-commit_create-clause-undamaged g c = ap is_damage c.in_ok-replies.ensures.accepted
 
 pub returns-in_ok-refused_line-in-Err-commit_create-clause-undamaged : goal.returns-in_ok-refused_line-in-Err-commit_create-clause-undamaged
 returns-in_ok-refused_line-in-Err-commit_create-clause-undamaged g c = commit_line c.args.text.now.table c.in-Err-commit_create.returned.cause _ c.in_ok-refused_line-in-Err-commit_create.ensures.line

@@ -1,4 +1,4 @@
-use Rattle.std.proofs.Common.{◌≡◌, [], ◌≤◌, ◌<◌, ℕ, List, Option, Some, Ok, Err, Result, Bool, true, false, length, refl, sym, ap, ◌∙◌, subst, arith}
+use Rattle.std.proofs.Common.{◌≡◌, [], ◌≤◌, ◌<◌, ℕ, List, Option, Some, Ok, Err, true, false, length, refl, sym, ap, ◌∙◌, subst, arith}
 use Rattle.mt_base.specs.declared.partition.Partition.TheVariants.{Whole}
 use Rattle.tsv_rows.specs.Stops.{Refuses}
 use Rattle.mt_values.specs.declared.row_fault.DataFault.{DataFault}
@@ -7,7 +7,7 @@ use Rattle.mt_values.specs.declared.statement.Statement.TheVariants as statement
 use Rattle.mt_values.specs.declared.value.ColType.{ColType}
 use Rattle.mt_values.specs.Grid.{AreRowsOf, Grid}
 use Rattle.mt_values.specs.Rows.{inserted_rows}
-use Rattle.mt_values.specs.Values.{AreValues, Row}
+use Rattle.mt_values.specs.Values.{AreValues}
 use Rattle.part_set.specs.Sets.{parts_of}
 use Rattle.table_core.specs.Numbers.{same_partition}
 use Rattle.mt_model.specs.declared.refusal.Refusal.TheVariants as refusal
@@ -29,12 +29,6 @@ use Rattle.mt_program.proofs.Stopping.{filtered, insert_not_committed, line_of_s
 use Rattle.mt_program.proofs.Undamaged.{commit_line, data_line, stage_line}
 use Rattle.mt_program.proofs.inserts.insert.Goals as goal
 
--- what was read, by the types and the bytes that were handed over
-by_table : (types wanted : List ColType) (lines text : List ℕ) (ended : Bool) (r : Result (List Row) DataFault) → types ≡ wanted → lines ≡ text
-    → inserted_rows types lines ended ≡ r → inserted_rows wanted text ended ≡ r
-by_table types wanted lines text ended r same bytes is =
-    sym (ap (λ ts. inserted_rows ts lines ended) same ∙ ap (λ ls. inserted_rows wanted ls ended) bytes) ∙ is
-
 -- a block of rows of a table is an INSERT into it
 rows_of_table : (schema : Schema) (table : List ℕ) (block : Grid) → 0 < length block.rows → block.types ≡ column_types schema → AreRowsOf block.types block.rows → AreValues block.rows
     → IsInsertInto schema (insert_into table block)
@@ -54,7 +48,7 @@ returns-in_default-clause-answers g c = λ kept is tells stands.
     let none = no_table files (history kept) c.args.store.now stands c.args.text.now.table (sym c.in_default.ensures.value) in
     accepts_nothing files kept (Ok (statement.Insert c.args.text.now)) c.args.store.now.opened (g.D.Disk.failed c.args.disk.now) (g.D.Arm.Arm.failed c.args.arm.now) _ c.args.store.now (g.A.Annals.told c.args.annals.now) root root
     (kept_same kept (g.A.Annals.told c.args.annals.now) is) stands
-    (λ n f. insert_refused n kept _ c.args.text.now (refusal.NoTable c.args.text.now.table) (no_such_table c.args.text.now (history kept) none) (c.in_ok-refusal_line.ensures ∙ ap (λ m. refusal_line (refusal.NoTable m)) c.in_ok-name.ensures))
+    (λ n f. insert_refused n kept _ c.args.text.now (refusal.NoTable c.args.text.now.table) (no_such_table c.args.text.now (history kept) none) c.in_ok-no_table_line.ensures)
     (λ calm before. before)
 
 -- the data is refused
@@ -64,12 +58,11 @@ returns-in-Err-Refused-clause-answers g c = λ kept is tells stands.
     let root = g.D.Disk.told c.args.disk.now in
     let found = c.in-Some.found.now in
     let there = table_schema files (history kept) c.args.store.now stands c.args.text.now.table found (sym c.in-Some.ensures.value) in
-    let told = subst (λ e. Refuses (inserted_rows c.deref.result.now c.as_slice.result.now c.args.text.now.ended) e) c.in-Err-Refused.field-0-is c.in-Err-Refused.ensures.refused in
-    let read = by_table c.deref.result.now (column_types found.schema) c.as_slice.result.now c.args.text.now.lines c.args.text.now.ended (Err c.in-Err-Refused.fault) (c.deref.ensures.value ∙ c.in_ok-types.ensures) c.as_slice.ensures told in
+    let read = subst (Refuses (inserted_rows (column_types found.schema) c.args.text.now.lines c.args.text.now.ended)) c.in-Err-Refused.field-0-is c.in-Err-Refused.ensures.refused in
     accepts_nothing files kept (Ok (statement.Insert c.args.text.now)) c.args.store.now.opened (g.D.Disk.failed c.args.disk.now) (g.D.Arm.Arm.failed c.args.arm.now) _ c.args.store.now (g.A.Annals.told c.args.annals.now) root root
     (kept_same kept (g.A.Annals.told c.args.annals.now) is) stands
     (λ n f. insert_refused n kept _ c.args.text.now (refusal_of_data c.in-Err-Refused.fault) (rows_refused c.args.text.now (history kept) found.schema there c.in-Err-Refused.fault read)
-    (c.in_ok-refusal_line-in-Err-Refused.ensures ∙ ap refusal_line (c.of_data-why.ensures ∙ ap refusal_of_data c.in-Err-Refused.fault-is)))
+    (c.in_ok-data_line-in-Err-Refused.ensures ∙ ap (λ (f : DataFault). refusal_line (refusal_of_data f)) c.in-Err-Refused.fault-is))
     (λ calm before. before)
 
 -- there are no rows
@@ -79,7 +72,7 @@ returns-then-is_empty-clause-answers g c = λ kept is tells stands.
     let root = g.D.Disk.told c.args.disk.now in
     let found = c.in-Some.found.now in
     let there = table_schema files (history kept) c.args.store.now stands c.args.text.now.table found (sym c.in-Some.ensures.value) in
-    let read = by_table c.deref.result.now (column_types found.schema) c.as_slice.result.now c.args.text.now.lines c.args.text.now.ended (Ok c.in-Ok.block.rows) (c.deref.ensures.value ∙ c.in_ok-types.ensures) c.as_slice.ensures c.in-Ok.ensures.rows in
+    let read = c.in-Ok.ensures.rows in
     let none = c.is_empty.ensures.0 c.if-is_empty.true in
     accepts_nothing files kept (Ok (statement.Insert c.args.text.now)) c.args.store.now.opened (g.D.Disk.failed c.args.disk.now) (g.D.Arm.Arm.failed c.args.arm.now) _ c.args.store.now (g.A.Annals.told c.args.annals.now) root root
     (kept_same kept (g.A.Annals.told c.args.annals.now) is) stands
@@ -99,7 +92,7 @@ returns-in-Err-clause-answers g c = λ kept is tells stands.
     let arm = g.D.Arm.Arm.failed c.seal_block.new.arm in
     let found = c.in-Some.found.now in
     let there = table_schema files (history kept) c.args.store.now stands c.args.text.now.table found (sym c.in-Some.ensures.value) in
-    let read = by_table c.deref.result.now (column_types found.schema) c.as_slice.result.now c.args.text.now.lines c.args.text.now.ended (Ok c.in-Ok.block.rows) (c.deref.ensures.value ∙ c.in_ok-types.ensures) c.as_slice.ensures c.in-Ok.ensures.rows in
+    let read = c.in-Ok.ensures.rows in
     let some = not_empty c.in-Ok.block.rows (λ none. let yes = c.is_empty.ensures.1 none in let bad : true ≡ false = sym yes ∙ c.if-is_empty.false in cc) in
     accepts_nothing files kept (Ok (statement.Insert c.args.text.now)) opened disk arm _ c.args.store.now (g.A.Annals.told c.args.annals.now) root root
     (kept_same kept (g.A.Annals.told c.args.annals.now) is) stands
@@ -116,7 +109,7 @@ commit_part-requires-clause-rows g c κs within = λ t there.
     let same = one_table (table_at c.args.store.now c.args.text.now.table) found t (sym c.in-Some.ensures.value) there in
     let some = not_empty c.in-Ok.block.rows (λ none. let yes = c.is_empty.ensures.1 none in let bad : true ≡ false = sym yes ∙ c.if-is_empty.false in cc) in
     subst (λ (x : Table). IsInsertInto x.schema (insert_into c.args.text.now.table c.in-Ok.block)) same
-    (rows_of_table found.schema c.args.text.now.table c.in-Ok.block some (c.in-Ok.ensures.types ∙ (c.deref.ensures.value ∙ c.in_ok-types.ensures)) c.in-Ok-seal_block.ensures.typed c.in-Ok.ensures.values)
+    (rows_of_table found.schema c.args.text.now.table c.in-Ok.block some c.in-Ok.ensures.types c.in-Ok-seal_block.ensures.typed c.in-Ok.ensures.values)
 
 -- the part was added
 pub returns-in-Ok-commit_part-clause-answers : goal.returns-in-Ok-commit_part-clause-answers
@@ -128,7 +121,7 @@ returns-in-Ok-commit_part-clause-answers g c = λ kept is tells stands.
     let found = c.in-Some.found.now in
     let at = sym c.in-Some.ensures.value in
     let there = table_schema files h store stands text.table found at in
-    let read = by_table c.deref.result.now (column_types found.schema) c.as_slice.result.now text.lines text.ended (Ok c.in-Ok.block.rows) (c.deref.ensures.value ∙ c.in_ok-types.ensures) c.as_slice.ensures c.in-Ok.ensures.rows in
+    let read = c.in-Ok.ensures.rows in
     let some = not_empty c.in-Ok.block.rows (λ none. let yes = c.is_empty.ensures.1 none in let bad : true ≡ false = sym yes ∙ c.if-is_empty.false in cc) in
     let done = c.in-Ok-commit_part.ensures in
     let before = g.D.Disk.failed c.args.disk.now in
@@ -140,14 +133,14 @@ returns-in-Ok-commit_part-clause-answers g c = λ kept is tells stands.
     let merged : count ≤ inserts text.table h = omega (arith, most, fewer) in
     let sealed = c.in-Ok-seal_block.ensures.sealed tells in
     inserted_accepts files text kept (g.D.Disk.clock c.commit_part.new.disk) store.opened (g.D.Disk.failed c.commit_part.new.disk) (g.D.Arm.Arm.failed c.seal_block.new.arm) store.length count c.in-Ok.block c.commit_part.new.store
-    c.in_ok-reply.reply.items (g.A.Annals.told c.args.annals.now) (g.A.Annals.told c.commit_part.new.annals) (g.D.Disk.told c.args.disk.now) (g.D.Disk.told c.commit_part.new.disk)
+    c.in_ok-replies.replies.accepted.items (g.A.Annals.told c.args.annals.now) (g.A.Annals.told c.commit_part.new.annals) (g.D.Disk.told c.args.disk.now) (g.D.Disk.told c.commit_part.new.disk)
     stands.length_is (rows_read text h found.schema there c.in-Ok.block.rows read) some merged (turn_free text.table h count found.drawn drawn free.0 free.1) is done.annals (done.stands h found stands at sealed)
-    (c.in_ok-reply.ensures ∙ ap ok_line c.in-Some-checked_add.ensures.1)
+    c.in_ok-replies.ensures.accepted
     (λ root. done.root_stands h found stands root at sealed)
 
 -- it was not
-pub returns-clause-answers : goal.returns-clause-answers
-returns-clause-answers g c = λ kept is tells stands.
+pub returns-in_ok-refused_line-in-Err-commit_part-clause-answers : goal.returns-in_ok-refused_line-in-Err-commit_part-clause-answers
+returns-in_ok-refused_line-in-Err-commit_part-clause-answers g c = λ kept is tells stands.
     let files = g.D.Arm.Dir.Dir.files in
     let store = c.args.store.now in
     let text = c.args.text.now in
@@ -155,7 +148,7 @@ returns-clause-answers g c = λ kept is tells stands.
     let found = c.in-Some.found.now in
     let at = sym c.in-Some.ensures.value in
     let there = table_schema files h store stands text.table found at in
-    let read = by_table c.deref.result.now (column_types found.schema) c.as_slice.result.now text.lines text.ended (Ok c.in-Ok.block.rows) (c.deref.ensures.value ∙ c.in_ok-types.ensures) c.as_slice.ensures c.in-Ok.ensures.rows in
+    let read = c.in-Ok.ensures.rows in
     let some = not_empty c.in-Ok.block.rows (λ none. let yes = c.is_empty.ensures.1 none in let bad : true ≡ false = sym yes ∙ c.if-is_empty.false in cc) in
     let ended = c.in-Err-commit_part.ensures in
     let cause = c.in-Err-commit_part.returned.cause in
@@ -178,15 +171,15 @@ pub returns-in-Ok-commit_part-clause-through_crashes : goal.returns-in-Ok-commit
 returns-in-Ok-commit_part-clause-through_crashes g c = λ ran first start tells was keeps.
     let text = c.args.text.now in
     let found = c.in-Some.found.now in
-    let read = by_table c.deref.result.now (column_types found.schema) c.as_slice.result.now text.lines text.ended (Ok c.in-Ok.block.rows) (c.deref.ensures.value ∙ c.in_ok-types.ensures) c.as_slice.ensures c.in-Ok.ensures.rows in
+    let read = c.in-Ok.ensures.rows in
     c.commit_part.ensures.through_crashes found ran (Ok (statement.Insert text)) first start (sym c.in-Some.ensures.value) (c.in-Ok-seal_block.ensures.sealed tells)
     (refl, (statement.Insert text, item_first (Ok (statement.Insert text)) [], (found.schema, c.in-Ok.block.rows, ap rows_or_refused read, (refl, refl, refl)))) was
 
-pub returns-clause-through_crashes : goal.returns-clause-through_crashes
-returns-clause-through_crashes g c = λ ran first start tells was keeps.
+pub returns-in_ok-refused_line-in-Err-commit_part-clause-through_crashes : goal.returns-in_ok-refused_line-in-Err-commit_part-clause-through_crashes
+returns-in_ok-refused_line-in-Err-commit_part-clause-through_crashes g c = λ ran first start tells was keeps.
     let text = c.args.text.now in
     let found = c.in-Some.found.now in
-    let read = by_table c.deref.result.now (column_types found.schema) c.as_slice.result.now text.lines text.ended (Ok c.in-Ok.block.rows) (c.deref.ensures.value ∙ c.in_ok-types.ensures) c.as_slice.ensures c.in-Ok.ensures.rows in
+    let read = c.in-Ok.ensures.rows in
     c.commit_part.ensures.through_crashes found ran (Ok (statement.Insert text)) first start (sym c.in-Some.ensures.value) (c.in-Ok-seal_block.ensures.sealed tells)
     (refl, (statement.Insert text, item_first (Ok (statement.Insert text)) [], (found.schema, c.in-Ok.block.rows, ap rows_or_refused read, (refl, refl, refl)))) was
 
@@ -194,16 +187,16 @@ pub returns-in_err-refused_line-in-Err-commit_part-clause-through_crashes : goal
 returns-in_err-refused_line-in-Err-commit_part-clause-through_crashes g c = λ ran first start tells was keeps.
     let text = c.args.text.now in
     let found = c.in-Some.found.now in
-    let read = by_table c.deref.result.now (column_types found.schema) c.as_slice.result.now text.lines text.ended (Ok c.in-Ok.block.rows) (c.deref.ensures.value ∙ c.in_ok-types.ensures) c.as_slice.ensures c.in-Ok.ensures.rows in
+    let read = c.in-Ok.ensures.rows in
     c.commit_part.ensures.through_crashes found ran (Ok (statement.Insert text)) first start (sym c.in-Some.ensures.value) (c.in-Ok-seal_block.ensures.sealed tells)
     (refl, (statement.Insert text, item_first (Ok (statement.Insert text)) [], (found.schema, c.in-Ok.block.rows, ap rows_or_refused read, (refl, refl, refl)))) was
 
 -- the reply does not tell of damage
 pub returns-in_default-clause-undamaged : goal.returns-in_default-clause-undamaged
-returns-in_default-clause-undamaged g c = ap is_damage c.in_ok-refusal_line.ensures
+returns-in_default-clause-undamaged g c = ap is_damage c.in_ok-no_table_line.ensures
 
 pub returns-in-Err-Refused-clause-undamaged : goal.returns-in-Err-Refused-clause-undamaged
-returns-in-Err-Refused-clause-undamaged g c = ap is_damage (c.in_ok-refusal_line-in-Err-Refused.ensures ∙ ap refusal_line c.of_data-why.ensures) ∙ data_line _
+returns-in-Err-Refused-clause-undamaged g c = ap is_damage c.in_ok-data_line-in-Err-Refused.ensures ∙ data_line _
 
 pub returns-then-is_empty-clause-undamaged : goal.returns-then-is_empty-clause-undamaged
 returns-then-is_empty-clause-undamaged g c = ap is_damage c.in_ok-ok_line.ensures
@@ -212,17 +205,17 @@ pub returns-in-Err-clause-undamaged : goal.returns-in-Err-clause-undamaged
 returns-in-Err-clause-undamaged g c = stage_line c.in-Err.error _ c.in_ok-stage_line-in-Err.ensures
 
 pub returns-in-Ok-commit_part-clause-undamaged : goal.returns-in-Ok-commit_part-clause-undamaged
-returns-in-Ok-commit_part-clause-undamaged g c = ap is_damage c.in_ok-reply.ensures
+returns-in-Ok-commit_part-clause-undamaged g c = ap is_damage c.in_ok-replies.ensures.accepted
 
-pub returns-clause-undamaged : goal.returns-clause-undamaged
-returns-clause-undamaged g c = commit_line c.args.text.now.table c.in-Err-commit_part.returned.cause _ c.in_ok-refused_line-in-Err-commit_part.ensures.line
+pub returns-in_ok-refused_line-in-Err-commit_part-clause-undamaged : goal.returns-in_ok-refused_line-in-Err-commit_part-clause-undamaged
+returns-in_ok-refused_line-in-Err-commit_part-clause-undamaged g c = commit_line c.args.text.now.table c.in-Err-commit_part.returned.cause _ c.in_ok-refused_line-in-Err-commit_part.ensures.line
 
 -- the parts of the store hold rows
 pub returns-in-Ok-commit_part-clause-held : goal.returns-in-Ok-commit_part-clause-held
 returns-in-Ok-commit_part-clause-held g c = λ tells held. c.commit_part.ensures.held c.in-Some.found.now (sym c.in-Some.ensures.value) (c.in-Ok-seal_block.ensures.sealed tells) held
 
-pub returns-clause-held : goal.returns-clause-held
-returns-clause-held g c = λ tells held. c.commit_part.ensures.held c.in-Some.found.now (sym c.in-Some.ensures.value) (c.in-Ok-seal_block.ensures.sealed tells) held
+pub returns-in_ok-refused_line-in-Err-commit_part-clause-held : goal.returns-in_ok-refused_line-in-Err-commit_part-clause-held
+returns-in_ok-refused_line-in-Err-commit_part-clause-held g c = λ tells held. c.commit_part.ensures.held c.in-Some.found.now (sym c.in-Some.ensures.value) (c.in-Ok-seal_block.ensures.sealed tells) held
 
 pub returns-in_err-refused_line-in-Err-commit_part-clause-held : goal.returns-in_err-refused_line-in-Err-commit_part-clause-held
 returns-in_err-refused_line-in-Err-commit_part-clause-held g c = λ tells held. c.commit_part.ensures.held c.in-Some.found.now (sym c.in-Some.ensures.value) (c.in-Ok-seal_block.ensures.sealed tells) held

@@ -1,5 +1,5 @@
 use Rattle.std.proofs.Common.{◌∙◌, arith}
-use Rattle.part_reader.proofs.FilePieces.{piece_more}
+use Rattle.part_reader.proofs.FilePieces.{piece_more, piece_last}
 use Rattle.part_reader.proofs.files.read_file.Goals as goal
 
 pub loop-read-preserved : goal.loop-read-preserved
@@ -9,3 +9,7 @@ loop-read-preserved g c = record {
   tells = c.in_ok-count.ensures.tells ∙ c.loop-read.invariant.tells;
   later = omega (arith, c.in_ok-count.ensures.cause.later);
 }
+
+pub returns-then-count-eq0-clause-bytes : goal.returns-then-count-eq0-clause-bytes
+returns-then-count-eq0-clause-bytes g c = λ files known.
+    piece_last (g.R.Dir.Dir.files c.args.dir.now) files c.args.file _ _ _ _ _ known c.in_ok-count.ensures.bytes c.if-count-eq0.true (omega arith) c.len.ensures (c.loop-read.invariant.read files known)

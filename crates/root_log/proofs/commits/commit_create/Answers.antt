@@ -52,35 +52,35 @@ pub returns-in-Err-clause-store : goal.returns-in-Err-clause-store
 returns-in-Err-clause-store g c = sound_same _ _ (same_tables c.args.store.now _ c.in-Err.ensures.err refl refl refl) c.requires.store
 
 -- it was not committed
-pub returns-in-Err-commit-clause-cause : goal.returns-in-Err-commit-clause-cause
-returns-in-Err-commit-clause-cause g c =
+pub returns-clause-cause : goal.returns-clause-cause
+returns-clause-cause g c =
     cause_shown (λ n. refuses_create c.args.store.now c.args.create.table n) _ _ _ c.refuse_create.ensures c.faults.ensures None _ c.in_default.is
     (outside_disk c.in-Err-commit.error c.of_disk-cause.result c.of_disk-cause.ensures)
 
-pub returns-in-Err-commit-clause-rose : goal.returns-in-Err-commit-clause-rose
-returns-in-Err-commit-clause-rose g c = λ disk. c.in-Err-commit.ensures.cause.failed (ap Err (disk_fault c.in-Err-commit.error c.of_disk-cause.result c.of_disk-cause.ensures disk))
+pub returns-clause-rose : goal.returns-clause-rose
+returns-clause-rose g c = λ disk. c.in-Err-commit.ensures.cause.failed (ap Err (disk_fault c.in-Err-commit.error c.of_disk-cause.result c.of_disk-cause.ensures disk))
 
-pub returns-in-Err-commit-clause-published : goal.returns-in-Err-commit-clause-published
-returns-in-Err-commit-clause-published g c = λ none.
+pub returns-clause-published : goal.returns-clause-published
+returns-clause-published g c = λ none.
     subst (λ (n : List ℕ). MayPut (g.D.Disk.clock c.args.disk.now) n c.args.sealed.files (g.D.Disk.told c.args.disk.now) (g.D.Disk.told c.commit.new.disk)) c.in-Ok.ensures.name c.in-Err-commit.ensures.left
 
-pub returns-in-Err-commit-clause-same : goal.returns-in-Err-commit-clause-same
-returns-in-Err-commit-clause-same g c =
+pub returns-clause-same : goal.returns-clause-same
+returns-clause-same g c =
     let key = c.args.create.table in
     let absent = shown_absent c.args.store.now key c.faults.result (sym c.refuse_create.ensures ∙ c.in_default.is) in
     same_tables _ _ (taken_out c.args.store.now.tables.entries _ _ key _ (fresh_table c.args.create.schema) absent c.in-Ok.ensures.entries c.in-Ok.ensures.table c.remove.ensures.entries) refl refl refl
 
-pub returns-in-Err-commit-clause-store : goal.returns-in-Err-commit-clause-store
-returns-in-Err-commit-clause-store g c = sound_same _ _ (returns-in-Err-commit-clause-same g c) c.requires.store
+pub returns-clause-store : goal.returns-clause-store
+returns-clause-store g c = sound_same _ _ (returns-clause-same g c) c.requires.store
 
-pub returns-in-Err-commit-clause-names : goal.returns-in-Err-commit-clause-names
-returns-in-Err-commit-clause-names g c =
-    names_kept c.args.store.now _ (returns-in-Err-commit-clause-same g c) (g.D.Disk.failed c.args.disk.now) _ (g.D.Disk.told c.args.disk.now) _ c.of_disk-cause.result
-    c.requires.opened c.requires.below c.in-Err-commit.ensures.cause.later (returns-in-Err-commit-clause-rose g c)
+pub returns-clause-names : goal.returns-clause-names
+returns-clause-names g c =
+    names_kept c.args.store.now _ (returns-clause-same g c) (g.D.Disk.failed c.args.disk.now) _ (g.D.Disk.told c.args.disk.now) _ c.of_disk-cause.result
+    c.requires.opened c.requires.below c.in-Err-commit.ensures.cause.later (returns-clause-rose g c)
     (λ other. c.in-Err-commit.ensures.memory (ap Err (disk_memory c.in-Err-commit.error c.of_disk-cause.result c.of_disk-cause.ensures other))) c.requires.names
 
 -- it was
-module _ (g : _) (c : goal.After-drop-name-inside-2 g) where
+module _ (g : _) (c : goal.After-drop-name-inside g) where
   none : refuses_create c.args.store.now c.args.create.table (g.D.Disk.failed c.args.disk.now) ≡ None
   none = none_shown (λ n. refuses_create c.args.store.now c.args.create.table n) _ _ _ c.refuse_create.ensures c.faults.ensures c.in_default.is
 
@@ -94,39 +94,37 @@ module _ (g : _) (c : goal.After-drop-name-inside-2 g) where
   fit : ForSome (g.D.Disk.told c.args.disk.now) (NamesFit c.args.store.now)
   fit = c.requires.names (shown_calm c.args.store.now c.args.create.table _ none c.requires.opened)
 
-pub returns-clause-cause : goal.returns-clause-cause
-returns-clause-cause g c =
+pub returns-in-Ok-commit-clause-cause : goal.returns-in-Ok-commit-clause-cause
+returns-in-Ok-commit-clause-cause g c =
     cause_shown (λ n. refuses_create c.args.store.now c.args.create.table n) _ _ _ c.refuse_create.ensures c.faults.ensures None _ c.in_default.is tt
 
-pub returns-clause-root : goal.returns-clause-root
-returns-clause-root g c =
+pub returns-in-Ok-commit-clause-root : goal.returns-in-Ok-commit-clause-root
+returns-in-Ok-commit-clause-root g c =
     c.in-Ok-commit.ensures.disk ∙ ap (λ (n : List ℕ). put (g.D.Disk.clock c.args.disk.now) n c.args.sealed.files (g.D.Disk.told c.args.disk.now)) c.in-Ok.ensures.name
 
-pub returns-clause-annals : goal.returns-clause-annals
-returns-clause-annals g c =
+pub returns-in-Ok-commit-clause-annals : goal.returns-in-Ok-commit-clause-annals
+returns-in-Ok-commit-clause-annals g c =
     let mark = g.D.Disk.clock c.commit.new.disk in
-    c.in-Ok-commit.ensures.annals
-    ∙ (ap (λ (e : Entry). option_map (λ (t : Told). noted mark (began e t)) (g.A.Annals.told c.prepare_create.new.annals)) c.in-Ok.ensures.entry
-    ∙ ap (option_map (λ (t : Told). noted mark (began (record { session = c.args.session; command = command.Create c.args.create }) t))) c.in-Ok.ensures.told)
+    c.in-Ok-commit.ensures.annals ∙ ap (option_map (λ (t : Told). noted mark (began (record { session = c.args.session; command = command.Create c.args.create }) t))) c.in-Ok.ensures.told
 
-pub returns-clause-enters : goal.returns-clause-enters
-returns-clause-enters g c =
+pub returns-in-Ok-commit-clause-enters : goal.returns-in-Ok-commit-clause-enters
+returns-in-Ok-commit-clause-enters g c =
     record { absent = absent g c; updates = c.in-Ok.ensures.updates; count = c.in-Ok.ensures.count; set_is = refl; length_is = c.in-Ok.ensures.length; opened_is = refl }
 
-pub returns-clause-stands : goal.returns-clause-stands
-returns-clause-stands g c = λ h s.
-    stands_created g.D.Arm.Dir.Dir.files h c.args.store.now _ c.args.session c.args.create s (returns-clause-enters g c) c.requires.schema (few g c)
+pub returns-in-Ok-commit-clause-stands : goal.returns-in-Ok-commit-clause-stands
+returns-in-Ok-commit-clause-stands g c = λ h s.
+    stands_created g.D.Arm.Dir.Dir.files h c.args.store.now _ c.args.session c.args.create s (returns-in-Ok-commit-clause-enters g c) c.requires.schema (few g c)
 
-pub returns-clause-store : goal.returns-clause-store
-returns-clause-store g c = sound_made _ _ _ _ (returns-clause-enters g c) c.requires.schema c.requires.store
+pub returns-in-Ok-commit-clause-store : goal.returns-in-Ok-commit-clause-store
+returns-in-Ok-commit-clause-store g c = sound_made _ _ _ _ (returns-in-Ok-commit-clause-enters g c) c.requires.schema c.requires.store
 
-pub returns-clause-names : goal.returns-clause-names
-returns-clause-names g c = λ _. made_fits _ _ _ _ (returns-clause-enters g c) _ _ _ _ (fit g c) (returns-clause-root g c)
+pub returns-in-Ok-commit-clause-names : goal.returns-in-Ok-commit-clause-names
+returns-in-Ok-commit-clause-names g c = λ _. made_fits _ _ _ _ (returns-in-Ok-commit-clause-enters g c) _ _ _ _ (fit g c) (returns-in-Ok-commit-clause-root g c)
 
-pub returns-clause-root_stands : goal.returns-clause-root_stands
-returns-clause-root_stands g c = λ h files s stands is holds.
+pub returns-in-Ok-commit-clause-root_stands : goal.returns-in-Ok-commit-clause-root_stands
+returns-in-Ok-commit-clause-root_stands g c = λ h files s stands is holds.
     root_made g.D.Arm.Dir.Dir.files c.args.store.now h c.args.session (g.D.Disk.clock c.args.disk.now) (g.D.Disk.told c.args.disk.now) _ s stands (fit g c) c.args.create c.args.sealed.files files
-    (absent g c) (few g c) c.requires.schema c.requires.named is holds (returns-clause-root g c)
+    (absent g c) (few g c) c.requires.schema c.requires.named is holds (returns-in-Ok-commit-clause-root g c)
 
 -- what a crash leaves
 pub returns-in-Some-clause-through_crashes : goal.returns-in-Some-clause-through_crashes
@@ -136,27 +134,25 @@ pub returns-in-Err-clause-through_crashes : goal.returns-in-Err-clause-through_c
 returns-in-Err-clause-through_crashes g c = λ ran statement first start files is holds of keeps.
     kept_untouched g.D.Arm.Dir.Dir.files ran statement c.args.store.now _ first start _ _ _ _ _ _ _ (returns-in-Err-clause-same g c) refl refl c.in-Err.ensures.told keeps
 
-pub returns-in-Err-commit-clause-through_crashes : goal.returns-in-Err-commit-clause-through_crashes
-returns-in-Err-commit-clause-through_crashes g c = λ ran statement first start files is holds of keeps.
+pub returns-clause-through_crashes : goal.returns-clause-through_crashes
+returns-clause-through_crashes g c = λ ran statement first start files is holds of keeps.
     let store = c.args.store.now in
     let table = c.args.create.table in
     let none = none_shown (λ n. refuses_create store table n) _ _ _ c.refuse_create.ensures c.faults.ensures c.in_default.is in
     let calm = keeps.calm (shown_calm store table _ none c.requires.opened) in
     let e : Entry = record { session = c.args.session; command = command.Create c.args.create } in
-    let begun =
-    c.in-Err-commit.ensures.begun
-    ∙ (ap (λ (x : Entry). option_map (began x) (g.A.Annals.told c.prepare_create.new.annals)) c.in-Ok.ensures.entry ∙ ap (option_map (began e)) c.in-Ok.ensures.told) in
+    let begun = c.in-Err-commit.ensures.begun ∙ ap (option_map (began e)) c.in-Ok.ensures.told in
     let may = subst (λ (n : List ℕ). MayPut (g.D.Disk.clock c.args.disk.now) n c.args.sealed.files (g.D.Disk.told c.args.disk.now) (g.D.Disk.told c.commit.new.disk)) c.in-Ok.ensures.name c.in-Err-commit.ensures.left in
     let unless = unrisen c.of_disk-cause.result store.opened (g.D.Disk.failed c.args.disk.now) (g.D.Disk.failed c.commit.new.disk) (g.D.Disk.told c.args.disk.now) (g.D.Disk.told c.commit.new.disk)
-    c.requires.opened c.requires.below c.in-Err-commit.ensures.cause.later (returns-in-Err-commit-clause-rose g c)
+    c.requires.opened c.requires.below c.in-Err-commit.ensures.cause.later (returns-clause-rose g c)
     (λ other. c.in-Err-commit.ensures.memory (ap Err (disk_memory c.in-Err-commit.error c.of_disk-cause.result c.of_disk-cause.ensures other))) in
     kept_failed g.D.Arm.Dir.Dir.files ran statement store _ first start (g.D.Disk.clock c.args.disk.now) (create_name table) c.args.sealed.files files e _ _ _ _ is keeps.safe calm.0
     (grows_by_table g.D.Arm.Dir.Dir.files store (entries_of calm.0.kept.list) c.args.session (calm.1 calm.0.kept calm.0.annals_is) files (c.in-Err-commit.ensures.sealed files is) c.args.create
     (shown_absent store table _ none) (shown_few store table _ none) c.requires.schema c.requires.named holds)
-    _ _ of c.in-Err-commit.ensures.mark_err may begun (returns-in-Err-commit-clause-same g c) calm.1 unless
+    _ _ of c.in-Err-commit.ensures.mark_err may begun (returns-clause-same g c) calm.1 unless
 
-pub returns-clause-through_crashes : goal.returns-clause-through_crashes
-returns-clause-through_crashes g c = λ ran statement first start files is holds of keeps.
+pub returns-in-Ok-commit-clause-through_crashes : goal.returns-in-Ok-commit-clause-through_crashes
+returns-in-Ok-commit-clause-through_crashes g c = λ ran statement first start files is holds of keeps.
     let store = c.args.store.now in
     let table = c.args.create.table in
     let calm = keeps.calm (shown_calm store table _ (none g c) c.requires.opened) in
@@ -164,14 +160,14 @@ returns-clause-through_crashes g c = λ ran statement first start files is holds
     kept_committed g.D.Arm.Dir.Dir.files ran statement store _ first start (g.D.Disk.clock c.args.disk.now) (create_name table) c.args.sealed.files files e _ _ _ _ is keeps.safe calm.0
     (grows_by_table g.D.Arm.Dir.Dir.files store (entries_of calm.0.kept.list) c.args.session (calm.1 calm.0.kept calm.0.annals_is) files (c.in-Ok-commit.ensures.sealed files is) c.args.create
     (absent g c) (few g c) c.requires.schema c.requires.named holds)
-    _ _ of c.in-Ok-commit.ensures.settled (returns-clause-root g c) (returns-clause-annals g c) (returns-clause-stands g c (entries_of calm.0.kept.list) (calm.1 calm.0.kept calm.0.annals_is))
+    _ _ of c.in-Ok-commit.ensures.settled (returns-in-Ok-commit-clause-root g c) (returns-in-Ok-commit-clause-annals g c) (returns-in-Ok-commit-clause-stands g c (entries_of calm.0.kept.list) (calm.1 calm.0.kept calm.0.annals_is))
 
 -- the parts hold rows
 pub returns-in-Err-clause-held : goal.returns-in-Err-clause-held
 returns-in-Err-clause-held g c = λ held. held_same g.D.Arm.Dir.Dir.files c.args.store.now _ (returns-in-Err-clause-same g c) held
 
-pub returns-in-Err-commit-clause-held : goal.returns-in-Err-commit-clause-held
-returns-in-Err-commit-clause-held g c = λ held. held_same g.D.Arm.Dir.Dir.files c.args.store.now _ (returns-in-Err-commit-clause-same g c) held
-
 pub returns-clause-held : goal.returns-clause-held
-returns-clause-held g c = λ held. held_made g.D.Arm.Dir.Dir.files c.args.store.now _ _ _ (returns-clause-enters g c) c.requires.store held
+returns-clause-held g c = λ held. held_same g.D.Arm.Dir.Dir.files c.args.store.now _ (returns-clause-same g c) held
+
+pub returns-in-Ok-commit-clause-held : goal.returns-in-Ok-commit-clause-held
+returns-in-Ok-commit-clause-held g c = λ held. held_made g.D.Arm.Dir.Dir.files c.args.store.now _ _ _ (returns-in-Ok-commit-clause-enters g c) c.requires.store held

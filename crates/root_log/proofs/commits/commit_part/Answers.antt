@@ -1,4 +1,4 @@
-use Rattle.std.proofs.Common.{◌≡◌, ◌∷◌, [], ◌+◌, ◌<◌, ℕ, List, Some, None, Err, refl, sym, ap, ◌∙◌, subst, arith}
+use Rattle.std.proofs.Common.{◌≡◌, ◌∷◌, [], ◌+◌, ◌<◌, ℕ, List, Option, Some, None, Err, refl, sym, ap, ◌∙◌, subst, arith}
 use Rattle.std.specs.Option.{ForSome, option_map}
 use Rattle.mt_values.specs.declared.command.Entry.{Entry}
 use Rattle.mt_values.specs.Annals.{Told, began, noted}
@@ -9,8 +9,11 @@ use Rattle.part_reader.specs.declared.reading.Part.{Part}
 use Rattle.part_set.specs.declared.kept.Kept.{Kept}
 use Rattle.part_set.specs.Parts.{IsAdded, NoneMeets}
 use Rattle.part_set.specs.Sets.{parts_of}
+use Rattle.root_log.specs.declared.commits.Refused.{Refused}
+use Rattle.root_log.specs.declared.commits.Refused.TheVariants as refused
+use Rattle.root_log.specs.declared.store.CoreStore.{CoreStore}
 use Rattle.root_log.specs.declared.store.Table.{Table}
-use Rattle.root_log.specs.Commits.{EntersSealed, IsSealedOf, entry_of, fresh_part, insert_of_block, refuses_part}
+use Rattle.root_log.specs.Commits.{EntersSealed, IsCause, IsSealedOf, entry_of, fresh_part, insert_of_block, refuses_part}
 use Rattle.root_log.specs.Crashes.{entries_of}
 use Rattle.root_log.specs.Soundness.{NamesFit}
 use Rattle.root_log.specs.Stores.{table_at}
@@ -21,9 +24,9 @@ use Rattle.root_log.proofs.CrashTurns.{kept_committed, kept_failed, kept_untouch
 use Rattle.root_log.proofs.FreeNames.{added_fits, fresh_named, part_free}
 use Rattle.root_log.proofs.Holding.{held_added, held_same}
 use Rattle.root_log.proofs.Inserted.{stands_inserted}
-use Rattle.root_log.proofs.Leaving.{disk_fault, disk_memory, none_shown, shown_number, shown_part_calm}
+use Rattle.root_log.proofs.Leaving.{cause_shown, disk_fault, disk_memory, none_shown, outside_disk, shown_number, shown_part_calm, shown_part_other}
 use Rattle.root_log.proofs.Rooted.{root_added}
-use Rattle.root_log.proofs.Sounding.{sound_added, sound_same}
+use Rattle.root_log.proofs.Sounding.{names_kept, sound_added, sound_same}
 use Rattle.root_log.proofs.Updated.{one_some}
 use Rattle.root_log.proofs.commits.commit_part.Goals as goal
 
@@ -36,22 +39,60 @@ commit-requires-clause-free g c κs within = λ root is.
     ap (λ n. files_at n (names_of root)) c.in-Ok.ensures.name
     ∙ part_free c.args.store.now root (c.requires.names still root is) c.args.table.now t (fresh_part (t.drawn + 1)) c.index.ensures (fresh_named t.drawn small) (omega arith)
 
-pub enter_part-requires : goal.enter_part-requires
-enter_part-requires g c =
+pub enter_part-requires-clause-fresh : goal.enter_part-requires-clause-fresh
+enter_part-requires-clause-fresh g c =
     let t : Table = c.index.result.now in
     subst (λ (ks : List (Kept (Part g.row.D-Arm-Dir.Denot))). NoneMeets ks (fresh_part (t.drawn + 1))) (sym (c.in-Ok.ensures.parts c.args.table.now))
     (none_meets (parts_of c.args.store.now.set c.args.table.now) t.drawn (c.requires.store.tables c.args.table.now t c.index.ensures).ends)
 
+-- the store shows why
+
+-- what is shown of the table that was read is shown of the one that is there
+shown_of : {F : Type 0} (store : CoreStore F) (table : List ℕ) (count : ℕ) (t u : Table) (cause : Option Refused) → table_at store table ≡ Some t → table_at store table ≡ Some u
+    → IsCause (refuses_part store table t.drawn count) cause → IsCause (refuses_part store table u.drawn count) cause
+shown_of store table count t u cause read at shown = subst (λ (x : Table). IsCause (refuses_part store table x.drawn count) cause) (one_some (table_at store table) t u read at) shown
+
+pub returns-in-Some-clause-cause : goal.returns-in-Some-clause-cause
+returns-in-Some-clause-cause g c = λ u at.
+    let t : Table = c.index.result.now in
+    shown_of c.args.store.now c.args.table.now (g.D.Disk.failed c.args.disk.now) t u (Some c.in-Some.cause) c.index.ensures at (cause_shown (λ n. refuses_part c.args.store.now c.args.table.now t.drawn n) _ _ _ c.refuse_part.ensures c.faults.ensures (Some c.in-Some.cause) _ c.in-Some.is refl)
+
+pub returns-in-Some-clause-rose : goal.returns-in-Some-clause-rose
+returns-in-Some-clause-rose g c = λ disk. absurd (shown_part_other c.args.store.now c.args.table.now c.faults.result c.index.result.now.drawn c.in-Some.cause (sym c.refuse_part.ensures ∙ c.in-Some.is) disk)
+
+pub returns-in-Some-clause-faulted : goal.returns-in-Some-clause-faulted
+returns-in-Some-clause-faulted g c = λ disk. absurd (shown_part_other c.args.store.now c.args.table.now c.faults.result c.index.result.now.drawn c.in-Some.cause (sym c.refuse_part.ensures ∙ c.in-Some.is) disk)
+
 -- there was no memory
+pub returns-in-Err-clause-cause : goal.returns-in-Err-clause-cause
+returns-in-Err-clause-cause g c = λ u at.
+    let t : Table = c.index.result.now in
+    shown_of c.args.store.now c.args.table.now (g.D.Disk.failed c.args.disk.now) t u (Some refused.NoMemory) c.index.ensures at (cause_shown (λ n. refuses_part c.args.store.now c.args.table.now t.drawn n) _ _ _ c.refuse_part.ensures c.faults.ensures None _ c.in_default.is tt)
+
 pub returns-in-Err-clause-store : goal.returns-in-Err-clause-store
 returns-in-Err-clause-store g c = sound_same c.args.store.now _ (record { tables = refl; parts = c.in-Err.ensures.parts; length_is = refl; opened_is = refl }) c.requires.store
 
 -- it was not committed
+pub returns-in-Err-commit-clause-cause : goal.returns-in-Err-commit-clause-cause
+returns-in-Err-commit-clause-cause g c = λ u at.
+    let t : Table = c.index.result.now in
+    shown_of c.args.store.now c.args.table.now (g.D.Disk.failed c.args.disk.now) t u (Some c.of_disk-cause.result) c.index.ensures at (cause_shown (λ n. refuses_part c.args.store.now c.args.table.now t.drawn n) _ _ _ c.refuse_part.ensures c.faults.ensures None _ c.in_default.is
+    (outside_disk c.in-Err-commit.error c.of_disk-cause.result c.of_disk-cause.ensures))
+
+pub returns-in-Err-commit-clause-rose : goal.returns-in-Err-commit-clause-rose
+returns-in-Err-commit-clause-rose g c = λ disk. c.in-Err-commit.ensures.cause.failed (ap Err (disk_fault c.in-Err-commit.error c.of_disk-cause.result c.of_disk-cause.ensures disk))
+
+pub returns-in-Err-commit-clause-names : goal.returns-in-Err-commit-clause-names
+returns-in-Err-commit-clause-names g c =
+    names_kept c.args.store.now _ (record { tables = refl; parts = c.in-Ok.ensures.parts; length_is = refl; opened_is = refl }) (g.D.Disk.failed c.args.disk.now) _ (g.D.Disk.told c.args.disk.now) _ c.of_disk-cause.result
+    c.requires.opened c.requires.below c.in-Err-commit.ensures.cause.later (returns-in-Err-commit-clause-rose g c)
+    (λ other. c.in-Err-commit.ensures.memory (ap Err (disk_memory c.in-Err-commit.error c.of_disk-cause.result c.of_disk-cause.ensures other))) c.requires.names
+
 pub returns-in-Err-commit-clause-store : goal.returns-in-Err-commit-clause-store
 returns-in-Err-commit-clause-store g c = sound_same c.args.store.now _ (record { tables = refl; parts = c.in-Ok.ensures.parts; length_is = refl; opened_is = refl }) c.requires.store
 
 -- it was
-module _ (g : _) (c : goal.After-drop-name-inside-in-Ok-enter_part g) where
+module _ (g : _) (c : goal.After-drop-name-inside-2 g) where
   abbrev t : Table
   t = c.index.result.now
 
@@ -71,13 +112,13 @@ module _ (g : _) (c : goal.After-drop-name-inside-in-Ok-enter_part g) where
   added : PartIsAdded c.args.table.now c.of-part.result t c.args.store.now c.enter_part.new.store
   added = record {
     there = c.index.ensures;
-    updates = c.in-Ok-enter_part.ensures.updates t c.index.ensures;
-    count = c.in-Ok-enter_part.ensures.count;
+    updates = c.enter_part.ensures.updates t c.index.ensures;
+    count = c.enter_part.ensures.count;
     added = subst (λ (ks : List (Kept (Part g.row.D-Arm-Dir.Denot))). IsAdded ks (record { name = fresh_part (t.drawn + 1); part = c.of-part.result }) (parts_of c.enter_part.new.store.set c.args.table.now))
-        (c.in-Ok.ensures.parts c.args.table.now) c.in-Ok-enter_part.ensures.added;
-    ordered = c.in-Ok-enter_part.ensures.ordered;
-    others = λ u apart. c.in-Ok-enter_part.ensures.others u apart ∙ c.in-Ok.ensures.parts u;
-    length_is = c.in-Ok-enter_part.ensures.length ∙ c.in-Ok.ensures.length;
+        (c.in-Ok.ensures.parts c.args.table.now) c.enter_part.ensures.added;
+    ordered = c.enter_part.ensures.ordered;
+    others = λ u apart. c.enter_part.ensures.others u apart ∙ c.in-Ok.ensures.parts u;
+    length_is = c.enter_part.ensures.length ∙ c.in-Ok.ensures.length;
     opened_is = c.enter_part.ensures.opened;
   }
 
@@ -94,31 +135,36 @@ module _ (g : _) (c : goal.After-drop-name-inside-in-Ok-enter_part g) where
   same : (u : Table) → table_at c.args.store.now c.args.table.now ≡ Some u → t ≡ u
   same u at = one_some (table_at c.args.store.now c.args.table.now) t u c.index.ensures at
 
-pub returns-in-Ok-enter_part-clause-enters : goal.returns-in-Ok-enter_part-clause-enters
-returns-in-Ok-enter_part-clause-enters g c = λ u at.
+pub returns-clause-enters : goal.returns-clause-enters
+returns-clause-enters g c = λ u at.
     subst (λ (x : Table). EntersSealed g.D.Arm.Dir.Dir.files c.args.part.sealed.files c.args.part.loaded c.args.table.now x c.args.store.now c.enter_part.new.store) (same g c u at) (sealed g c)
 
-pub returns-in-Ok-enter_part-clause-stands : goal.returns-in-Ok-enter_part-clause-stands
-returns-in-Ok-enter_part-clause-stands g c = λ h u s at is.
+pub returns-clause-cause : goal.returns-clause-cause
+returns-clause-cause g c = λ u at.
+    let t : Table = c.index.result.now in
+    shown_of c.args.store.now c.args.table.now (g.D.Disk.failed c.args.disk.now) t u None c.index.ensures at (cause_shown (λ n. refuses_part c.args.store.now c.args.table.now t.drawn n) _ _ _ c.refuse_part.ensures c.faults.ensures None _ c.in_default.is tt)
+
+pub returns-clause-stands : goal.returns-clause-stands
+returns-clause-stands g c = λ h u s at is.
     let t : Table = c.index.result.now in
     let here : IsSealedOf t.schema c.args.block c.args.part.sealed.files c.args.part.loaded =
     subst (λ (x : Table). IsSealedOf x.schema c.args.block c.args.part.sealed.files c.args.part.loaded) (sym (same g c u at)) is in
     stands_inserted g.D.Arm.Dir.Dir.files h c.args.store.now c.enter_part.new.store c.args.session c.args.table.now t c.args.block c.args.part.sealed.files c.args.part.loaded s
     (c.requires.rows t c.index.ensures) here (sealed g c)
 
-pub returns-in-Ok-enter_part-clause-root_stands : goal.returns-in-Ok-enter_part-clause-root_stands
-returns-in-Ok-enter_part-clause-root_stands g c = λ h u s stands at is.
+pub returns-clause-root_stands : goal.returns-clause-root_stands
+returns-clause-root_stands g c = λ h u s stands at is.
     let t : Table = c.index.result.now in
     let here : IsSealedOf t.schema c.args.block c.args.part.sealed.files c.args.part.loaded =
     subst (λ (x : Table). IsSealedOf x.schema c.args.block c.args.part.sealed.files c.args.part.loaded) (sym (same g c u at)) is in
     root_added g.D.Arm.Dir.Dir.files c.args.store.now h c.args.session (g.D.Disk.clock c.args.disk.now) (g.D.Disk.told c.args.disk.now) (g.D.Disk.told c.commit.new.disk) s stands (fit g c)
     c.args.table.now t c.args.block c.args.part.sealed.files c.args.part.loaded c.index.ensures (small g c) (c.requires.rows t c.index.ensures) here (published g c)
 
-pub returns-in-Ok-enter_part-clause-store : goal.returns-in-Ok-enter_part-clause-store
-returns-in-Ok-enter_part-clause-store g c = sound_added _ _ _ _ _ (added g c) c.requires.store
+pub returns-clause-store : goal.returns-clause-store
+returns-clause-store g c = sound_added _ _ _ _ _ (added g c) c.requires.store
 
-pub returns-in-Ok-enter_part-clause-names : goal.returns-in-Ok-enter_part-clause-names
-returns-in-Ok-enter_part-clause-names g c = λ _. added_fits _ _ _ _ _ (added g c) _ _ _ _ (small g c) (fit g c) (published g c)
+pub returns-clause-names : goal.returns-clause-names
+returns-clause-names g c = λ _. added_fits _ _ _ _ _ (added g c) _ _ _ _ (small g c) (fit g c) (published g c)
 
 -- what a crash leaves
 pub returns-in-Some-clause-through_crashes : goal.returns-in-Some-clause-through_crashes
@@ -140,7 +186,7 @@ returns-in-Err-commit-clause-through_crashes g c = λ u ran statement first star
     let e : Entry = entry_of c.args.session (insert_of_block table c.args.block) in
     let begun =
     c.in-Err-commit.ensures.begun
-    ∙ (ap (λ (x : Entry). option_map (began x) (g.A.Annals.told c.prepare_part.new.annals)) c.in-Ok.ensures.entry ∙ ap (option_map (began e)) c.in-Ok.ensures.told) in
+    ∙ (ap (λ (u : List ℕ). option_map (began (entry_of c.args.session (insert_of_block u c.args.block))) (g.A.Annals.told c.prepare_part.new.annals)) c.in-Ok.ensures.table ∙ ap (option_map (began e)) c.in-Ok.ensures.told) in
     let may = subst (λ (n : List ℕ). MayPut (g.D.Disk.clock c.args.disk.now) n c.args.part.sealed.files (g.D.Disk.told c.args.disk.now) (g.D.Disk.told c.commit.new.disk)) c.in-Ok.ensures.name c.in-Err-commit.ensures.left in
     let unless = unrisen c.of_disk-cause.result store.opened (g.D.Disk.failed c.args.disk.now) (g.D.Disk.failed c.commit.new.disk) (g.D.Disk.told c.args.disk.now) (g.D.Disk.told c.commit.new.disk)
     c.requires.opened c.requires.below c.in-Err-commit.ensures.cause.later
@@ -151,8 +197,8 @@ returns-in-Err-commit-clause-through_crashes g c = λ u ran statement first star
     (shown_number store table _ t.drawn none) (c.requires.rows t c.index.ensures) here.holds)
     _ _ of c.in-Err-commit.ensures.mark_err may begun (record { tables = refl; parts = c.in-Ok.ensures.parts; length_is = refl; opened_is = refl }) calm.1 unless
 
-pub returns-in-Ok-enter_part-clause-through_crashes : goal.returns-in-Ok-enter_part-clause-through_crashes
-returns-in-Ok-enter_part-clause-through_crashes g c = λ u ran statement first start at is of keeps.
+pub returns-clause-through_crashes : goal.returns-clause-through_crashes
+returns-clause-through_crashes g c = λ u ran statement first start at is of keeps.
     let store = c.args.store.now in
     let table = c.args.table.now in
     let t : Table = c.index.result.now in
@@ -162,11 +208,11 @@ returns-in-Ok-enter_part-clause-through_crashes g c = λ u ran statement first s
     let mark = g.D.Disk.clock c.commit.new.disk in
     let notes : g.A.Annals.told c.commit.new.annals ≡ option_map (λ (x : Told). noted mark (began e x)) (g.A.Annals.told c.args.annals.now) =
     c.in-Ok-commit.ensures.annals
-    ∙ (ap (λ (x : Entry). option_map (λ (y : Told). noted mark (began x y)) (g.A.Annals.told c.prepare_part.new.annals)) c.in-Ok.ensures.entry ∙ ap (option_map (λ (y : Told). noted mark (began e y))) c.in-Ok.ensures.told) in
+    ∙ (ap (λ (u : List ℕ). option_map (λ (y : Told). noted mark (began (entry_of c.args.session (insert_of_block u c.args.block)) y)) (g.A.Annals.told c.prepare_part.new.annals)) c.in-Ok.ensures.table ∙ ap (option_map (λ (y : Told). noted mark (began e y))) c.in-Ok.ensures.told) in
     kept_committed g.D.Arm.Dir.Dir.files ran statement store _ first start (g.D.Disk.clock c.args.disk.now) (part_name table (part_text (fresh_part (t.drawn + 1)))) c.args.part.sealed.files here.files e _ _ _ _ here.sealed_are keeps.safe calm.0
     (grows_by_part g.D.Arm.Dir.Dir.files store (entries_of calm.0.kept.list) c.args.session (calm.1 calm.0.kept calm.0.annals_is) here.files (c.in-Ok-commit.ensures.sealed here.files here.sealed_are) table t c.args.block c.index.ensures
     (small g c) (c.requires.rows t c.index.ensures) here.holds)
-    _ _ of c.in-Ok-commit.ensures.settled (published g c) notes (returns-in-Ok-enter_part-clause-stands g c (entries_of calm.0.kept.list) u (calm.1 calm.0.kept calm.0.annals_is) at is)
+    _ _ of c.in-Ok-commit.ensures.settled (published g c) notes (returns-clause-stands g c (entries_of calm.0.kept.list) u (calm.1 calm.0.kept calm.0.annals_is) at is)
 
 -- the parts hold rows
 pub returns-in-Err-clause-held : goal.returns-in-Err-clause-held
@@ -179,8 +225,8 @@ returns-in-Err-commit-clause-held g c = λ u at is held.
     held_same g.D.Arm.Dir.Dir.files c.args.store.now (record { tables = c.args.store.now.tables; set = c.prepare_part.new.set; length = c.args.store.now.length; opened = c.args.store.now.opened })
     (record { tables = refl; parts = c.in-Ok.ensures.parts; length_is = refl; opened_is = refl }) held
 
-pub returns-in-Ok-enter_part-clause-held : goal.returns-in-Ok-enter_part-clause-held
-returns-in-Ok-enter_part-clause-held g c = λ u at is held.
+pub returns-clause-held : goal.returns-clause-held
+returns-clause-held g c = λ u at is held.
     let t : Table = c.index.result.now in
     let here : IsSealedOf t.schema c.args.block c.args.part.sealed.files c.args.part.loaded = subst (λ (x : Table). IsSealedOf x.schema c.args.block c.args.part.sealed.files c.args.part.loaded) (sym (same g c u at)) is in
     held_added g.D.Arm.Dir.Dir.files c.args.store.now c.enter_part.new.store c.args.table.now t c.args.block c.args.part.sealed.files c.args.part.loaded here (sealed g c) held

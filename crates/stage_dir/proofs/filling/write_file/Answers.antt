@@ -1,10 +1,22 @@
-use Rattle.std.proofs.Common.{◌≡◌, ◌++◌, ◌∷◌, [], List, ap, ◌∙◌}
+use Rattle.std.proofs.Common.{◌≡◌, ◌++◌, ◌∷◌, [], List, false, ap, ◌∙◌}
 use Rattle.std.specs.Option.{option_map}
 use Rattle.mt_values.specs.declared.name.FileId.{FileId}
 use Rattle.mt_outside.specs.Files.{appended}
-use Rattle.stage_dir.specs.Stages.{Filling}
-use Rattle.stage_dir.proofs.Appends.{told_written, intact_written}
+use Rattle.stage_dir.specs.Stages.{Filling, has_file}
+use Rattle.stage_dir.proofs.Appends.{once_more, told_written, intact_written}
 use Rattle.stage_dir.proofs.filling.write_file.Goals as goal
+
+pub invariant_of-stage-in_err-append : goal.invariant_of-stage-in_err-append
+invariant_of-stage-in_err-append g c =
+    let seen : c.stage.inside.names ≡ c.args.stage.now.names = ap (λ (f : Filling). f.names) c.stage.view_is in
+    let new : has_file c.args.file c.stage.inside.names ≡ false = ap (has_file c.args.file) seen ∙ c.requires.new in
+    once_more c.stage.inside.names c.push.new.self c.args.file c.stage.invariant new c.in_ok-push.ensures.ok
+
+pub invariant_of-stage-2 : goal.invariant_of-stage-2
+invariant_of-stage-2 g c =
+    let seen : c.stage.inside.names ≡ c.args.stage.now.names = ap (λ (f : Filling). f.names) c.stage.view_is in
+    let new : has_file c.args.file c.stage.inside.names ≡ false = ap (has_file c.args.file) seen ∙ c.requires.new in
+    once_more c.stage.inside.names c.push.new.self c.args.file c.stage.invariant new c.in_ok-push.ensures.ok
 
 pub returns-clause-files : goal.returns-clause-files
 returns-clause-files g c =

@@ -1,5 +1,5 @@
 use Rattle.std.proofs.Common.{arith}
-use Rattle.tsv_rows.proofs.Printed.{run_goes_on}
+use Rattle.tsv_rows.proofs.Printed.{run_ends, run_goes_on, run_last}
 use Rattle.tsv_rows.proofs.printing.write_text.Goals as goal
 
 pub loop-at-preserved-in_default : goal.loop-at-preserved-in_default
@@ -9,3 +9,18 @@ loop-at-preserved-in_default c =
       within = omega arith;
       printed = run_goes_on c.args.text.now c.args.out.now.items c.loop-at.out.items c.loop-at.start c.loop-at.at invariant.within c.loop-at-test.true invariant.printed c.in_default.ensures;
     }
+
+pub loop-at-preserved : goal.loop-at-preserved
+loop-at-preserved c =
+    let invariant = c.loop-at.invariant in
+    record {
+      within = omega arith;
+      printed =
+          run_ends c.args.text.now c.args.out.now.items c.loop-at.out.items c.loop-at.start c.loop-at.at invariant.within c.loop-at-test.true invariant.printed c.in-Some.letter c.extend_from_slice.new.self.items
+          c.extend_from_slice-in-loop-at.new.self.items c.in_ok-extend_from_slice.ensures.items c.in_ok-extend_from_slice-2.ensures.items c.in-Some.ensures;
+    }
+
+pub returns : goal.returns
+returns c =
+    let invariant = c.loop-at.invariant in
+    run_last c.args.text.now c.args.out.now.items c.loop-at.out.items c.extend_from_slice-2.new.self.items c.loop-at.start c.loop-at.at (omega arith) invariant.printed c.in_ok-extend_from_slice-3.ensures.items

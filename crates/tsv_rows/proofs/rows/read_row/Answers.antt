@@ -1,20 +1,20 @@
-use Rattle.std.proofs.Common.{◌≡◌, ◌≢◌, ◌∙◌, ◌<◌, ◌^◌, Some, Ok, Err, List, ℕ, All, [], ◌∷◌, ◌++◌, sym, ap, ap₂, false, map, length, get_or, slice_get, arith}
+use Rattle.std.proofs.Common.{◌≡◌, ◌≢◌, ◌∙◌, ◌<◌, ◌^◌, Some, Ok, Err, List, ℕ, All, sym, ap, ap₂, false, map, length, get_or, slice_get, arith}
 use Rattle.std.proofs.lemmas.List.{length-map}
 use Rattle.std.proofs.lemmas.List.Elements.{All-from_get_or}
 use Rattle.std.proofs.lemmas.Option.{slice_get-get_or, slice_get-map}
+use Rattle.std.proofs.lemmas.Result.{err_from_is_err_and}
 use Rattle.std.specs.Option.{option_map}
-use Rattle.mt_values.specs.Cells.{value_of}
-use Rattle.mt_values.specs.Rows.{fields_from, row_of_line, value_of_field}
+use Rattle.mt_values.specs.Rows.{fields_from, row_of_line}
 use Rattle.mt_values.specs.Values.{IsValue}
 use Rattle.mt_values.specs.declared.row_fault.RowFault.TheVariants as row_fault
 use Rattle.mt_values.specs.declared.schema.Column.{Column}
 use Rattle.mt_values.specs.declared.value.ColType.{ColType}
 use Rattle.mt_values.proofs.RowValues.{AreBytes, if_ok, row_values}
 use Rattle.tsv_rows.specs.Fields.{EndFields}
-use Rattle.tsv_rows.proofs.LineRows.{other_count, same_count, row_begin, row_miscounted, row_more, row_refused, row_whole}
+use Rattle.tsv_rows.proofs.LineRows.{other_count, same_count, row_begin, row_miscounted, row_more, row_faulty, row_whole}
 use Rattle.tsv_rows.proofs.Marking.{whole_marked}
 use Rattle.tsv_rows.proofs.rows.read_row.Goals as goal
-use Rattle.tsv_rows.proofs.rows.read_row.Goals.{After-len, In_ok-cell, After-drop-ends-2}
+use Rattle.tsv_rows.proofs.rows.read_row.Goals.{After-len, After-read_value, After-drop-ends-2}
 
 types : After-len → List ColType
 types c = map (λ (column : Column). column.col_type) c.args.schema.now.columns
@@ -49,7 +49,7 @@ loop-place-init c =
     rw c.in_ok-row.ensures (row_begin (types d) c.args.line c.args.text.now c.mark_fields.new.ends.items (ends d) same)
 
 -- the type at the place of the loop
-type_at : (c : In_ok-cell) → slice_get (map (λ (column : Column). column.col_type) c.args.schema.now.columns) c.loop-place.place ≡ Some c.index-columns-place.result.col_type
+type_at : (c : After-read_value) → slice_get (map (λ (column : Column). column.col_type) c.args.schema.now.columns) c.loop-place.place ≡ Some c.index-columns-place.result.col_type
 type_at c =
     let columns = c.args.schema.now.columns in
     let column = c.index-columns-place.result in
@@ -59,27 +59,27 @@ type_at c =
     slice_get-map (λ (d : Column). d.col_type) columns c.loop-place.place
     ∙ ap (option_map (λ (d : Column). d.col_type)) (slice_get-get_or columns c.loop-place.place column within ∙ ap Some (sym is))
 
-pub returns-in-Err-clause-fault : goal.returns-in-Err-clause-fault
-returns-in-Err-clause-fault c =
-    let d = (goal.at.returns-in-Err-clause-fault c).In_ok-cell in
+pub returns-in_err-value-clause-fault : goal.returns-in_err-value-clause-fault
+returns-in_err-value-clause-fault c =
+    let d = (goal.at.returns-in_err-value-clause-fault c).After-read_value in
     let types = map (λ (column : Column). column.col_type) c.args.schema.now.columns in
     let fields = fields_from false c.args.text.now in
     let field : slice_get fields c.loop-place.place ≡ Some c.field_at-field.result.now = c.field_at-field.ensures in
-    let read : Err c.in-Err.fault ≡ value_of_field c.index-columns-place.result.col_type c.field_at-field.result.now = rw c.in-Err.is at c.in_ok-cell.ensures in
-    let told = row_refused types fields c.args.line c.loop-place.place c.index-columns-place.result.col_type c.field_at-field.result.now (type_at d) field c.loop-place.row c.in-Err.fault read in
-    λ some. sym (ap Err c.fault_of_field.ensures ∙ told ∙ c.loop-place.invariant)
+    let p = err_from_is_err_and c.from_residual-in_err-value.result c.from_residual-in_err-value.ensures.1 in
+    rw (p.1, p.2)
+    (λ some.
+    sym
+    (row_faulty types fields c.args.line c.loop-place.place c.index-columns-place.result.col_type c.field_at-field.result.now (type_at d) field c.loop-place.row c.in_err-value.field-0.0 (c.in_err-value.ensures.fault some)
+    ∙ c.loop-place.invariant))
 
 pub loop-place-preserved : goal.loop-place-preserved
 loop-place-preserved c =
-    let d = (goal.at.loop-place-preserved c).In_ok-cell in
+    let d = (goal.at.loop-place-preserved c).After-read_value in
     let types = map (λ (column : Column). column.col_type) c.args.schema.now.columns in
     let fields = fields_from false c.args.text.now in
-    let v = value_of c.in-Ok.cell in
     let field : slice_get fields c.loop-place.place ≡ Some c.field_at-field.result.now = c.field_at-field.ensures in
-    let read : Ok v ≡ value_of_field c.index-columns-place.result.col_type c.field_at-field.result.now = rw c.in-Ok.is at c.in_ok-cell.ensures in
-    let pushed : c.push.new.self ≡ c.loop-place.row ++ c.in_ok-to_value-in-Ok.field-0 ∷ [] = c.in_ok-push-in-Ok.ensures.ok in
-    rw (pushed, c.in_ok-to_value-in-Ok.ensures)
-    (row_more types fields c.args.line c.loop-place.place c.index-columns-place.result.col_type c.field_at-field.result.now (type_at d) field c.loop-place.row v read ∙ c.loop-place.invariant)
+    rw c.in_ok-push.ensures.ok
+    (row_more types fields c.args.line c.loop-place.place c.index-columns-place.result.col_type c.field_at-field.result.now (type_at d) field c.loop-place.row c.in_ok-value.value c.in_ok-value.ensures.value ∙ c.loop-place.invariant)
 
 pub returns-clause-values : goal.returns-clause-values
 returns-clause-values c =

@@ -1,8 +1,7 @@
 use Rattle.std.proofs.Common.{refl}
-use Rattle.part_set.proofs.Maps.{other_parts, told_here}
+use Rattle.part_set.proofs.Maps.{told_here}
 use Rattle.part_set.proofs.set.PartSet.put.Goals as goal
 
-pub returns-clause-others : goal.returns-clause-others
-returns-clause-others g c =
-    let updates = told_here c.args.self.now.tables c.args.self.now.tables c.insert.new.self c.args.table.now c.in_ok-twin.field-0 _ refl c.in_ok-twin.ensures c.in_ok-insert.ensures.updates in
-    other_parts c.args.self.now.tables c.insert.new.self c.args.table.now _ updates
+pub returns-clause-ok : goal.returns-clause-ok
+returns-clause-ok g c =
+    told_here c.args.self.now.tables c.args.self.now.tables c.insert.new.self c.args.table.now c.in_ok-twin.field-0 _ refl c.in_ok-twin.ensures c.in_ok-insert.ensures.updates

@@ -1,9 +1,9 @@
-use Rattle.std.proofs.Common.{◌≡◌, ◌∙◌, sym, true, false, [], ◌∷◌, ◌++◌, Ok, Err}
+use Rattle.std.proofs.Common.{◌∙◌, sym, true, false, Err}
 use Rattle.std.proofs.lemmas.Result.{err_from_is_err_and}
 use Rattle.mt_values.specs.declared.token.Symbol.TheVariants as symbol
 use Rattle.mt_values.specs.Grammar.{column, is_symbol, list_of}
-use Rattle.sql_read.specs.Reads.{first_is}
-use Rattle.sql_read.proofs.Listed.{column_takes, items_from, items_end, items_more, items_cut, items_stop, Reads_along}
+use Rattle.sql_read.specs.Reads.{Skips}
+use Rattle.sql_read.proofs.Listed.{column_takes, items_from, items_next, items_stop, Reads_along}
 use Rattle.sql_read.proofs.cursor.Cursor.columns.Goals as goal
 
 pub returns-in_err-column : goal.returns-in_err-column
@@ -13,25 +13,18 @@ returns-in_err-column c =
     (Reads_along (items_from column c.columns.columns) (list_of column) c.columns.self c.args.self.now (Err c.in_err-column.field-0.0) c.column.new.self c.columns.invariant
     (items_stop column column_takes c.columns.columns c.columns.self c.in_err-column.field-0.0 c.column.new.self c.in_err-column.ensures.read))
 
-pub returns-then-not-at_symbol : goal.returns-then-not-at_symbol
-returns-then-not-at_symbol c =
-    let no_comma : first_is (is_symbol symbol.Comma) c.column.new.self ≡ false = sym c.at_symbol.ensures ∙ c.if-not-at_symbol.true in
+pub returns-then-not-skip : goal.returns-then-not-skip
+returns-then-not-skip c =
+    let none : Skips (is_symbol symbol.Comma) c.column.new.self false c.skip.new.self = rw c.if-not-skip.true at c.skip.ensures.way in
     rw c.in_ok-push.ensures.ok
-    (Reads_along (items_from column c.columns.columns) (list_of column) c.columns.self c.args.self.now (Ok (c.columns.columns ++ c.in_ok-column.column ∷ [])) c.column.new.self c.columns.invariant
-    (items_end column column_takes c.columns.columns c.columns.self c.column.new.self c.in_ok-column.column c.in_ok-column.ensures.read no_comma))
+    (λ next.
+    sym (c.columns.invariant next)
+    ∙ items_next column column_takes c.columns.columns c.columns.self c.column.new.self c.in_ok-column.column c.in_ok-column.ensures.read false c.skip.new.self none next)
 
 pub columns-preserved : goal.columns-preserved
 columns-preserved c =
-    let comma : first_is (is_symbol symbol.Comma) c.column.new.self ≡ true = sym c.at_symbol.ensures ∙ c.if-not-at_symbol.false in
+    let comma : Skips (is_symbol symbol.Comma) c.column.new.self true c.skip.new.self = rw c.if-not-skip.false at c.skip.ensures.way in
     rw c.in_ok-push.ensures.ok
     (λ next.
-    items_more column column_takes c.columns.columns c.columns.self c.column.new.self c.in_ok-column.column c.in_ok-column.ensures.read comma c.in_ok-symbol.field-0 c.symbol.new.self c.in_ok-symbol.ensures.read next
+    sym (items_next column column_takes c.columns.columns c.columns.self c.column.new.self c.in_ok-column.column c.in_ok-column.ensures.read true c.skip.new.self comma next)
     ∙ c.columns.invariant next)
-
-pub returns-in_err-symbol : goal.returns-in_err-symbol
-returns-in_err-symbol c =
-    let p = err_from_is_err_and c.from_residual-in_err-symbol.result c.from_residual-in_err-symbol.ensures.1 in
-    let comma : first_is (is_symbol symbol.Comma) c.column.new.self ≡ true = sym c.at_symbol.ensures ∙ c.if-not-at_symbol.false in
-    rw (p.1, p.2)
-    (Reads_along (items_from column c.columns.columns) (list_of column) c.columns.self c.args.self.now (Err c.in_err-symbol.field-0.0) c.symbol.new.self c.columns.invariant
-    (items_cut column column_takes c.columns.columns c.columns.self c.column.new.self c.in_ok-column.column c.in_ok-column.ensures.read comma c.in_err-symbol.field-0.0 c.symbol.new.self c.in_err-symbol.ensures.read))

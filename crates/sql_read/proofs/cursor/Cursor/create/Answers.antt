@@ -1,19 +1,19 @@
-use Rattle.std.proofs.Common.{◌∙◌, refl}
+use Rattle.std.proofs.Common.{◌∙◌, refl, codes}
 use Rattle.mt_values.specs.declared.statement.Statement.TheVariants as statement
 use Rattle.mt_values.specs.Grammar.{create}
-use Rattle.sql_read.specs.Parts.{created_columns, created_key, created_table}
+use Rattle.sql_read.specs.Parts.{created_columns, created_key, table_behind}
 use Rattle.sql_read.proofs.Chains.{is_read_stop, is_read_end}
 use Rattle.sql_read.proofs.cursor.Cursor.create.Goals as goal
 
 pub returns-in_err-table : goal.returns-in_err-table
 returns-in_err-table c =
-    is_read_stop (create c.args.text.now) created_table _ c.args.self.now c.args.self.now
+    is_read_stop (create c.args.text.now) (table_behind (codes "CREATE") (codes "TABLE")) _ c.args.self.now c.args.self.now
     (refl)
-    c.in_err-table.field-0.0 c.created_table.new.self c.in_err-table.ensures _ c.from_residual.ensures.1
+    c.in_err-table.field-0.0 c.table_behind.new.self c.in_err-table.ensures _ c.from_residual.ensures.1
 
 pub returns-in_err-columns : goal.returns-in_err-columns
 returns-in_err-columns c =
-    is_read_stop (create c.args.text.now) created_columns _ c.args.self.now c.created_table.new.self
+    is_read_stop (create c.args.text.now) created_columns _ c.args.self.now c.table_behind.new.self
     (c.in_ok-table.ensures _)
     c.in_err-columns.field-0.0 c.created_columns.new.self c.in_err-columns.ensures _ c.from_residual-in_err-columns.ensures.1
 

@@ -1,23 +1,20 @@
-use Rattle.std.proofs.Common.{◌≡◌, ◌∙◌, sym, true}
+use Rattle.std.proofs.Common.{◌∙◌, true, false}
 use Rattle.mt_values.specs.declared.token.Symbol.TheVariants as symbol
 use Rattle.mt_values.specs.Grammar.{is_symbol, the}
 use Rattle.mt_values.specs.Readers.{expect}
 use Rattle.sql_read.specs.Parts.{engine_part}
-use Rattle.sql_read.specs.Reads.{first_is}
-use Rattle.sql_read.proofs.Chains.{reads_rest, reads_stop}
-use Rattle.sql_read.proofs.Choices.{engine_opens}
+use Rattle.sql_read.specs.Reads.{Skips}
+use Rattle.sql_read.proofs.Chains.{reads_rest}
 use Rattle.sql_read.proofs.cursor.Cursor.engine.Goals as goal
 
-pub returns-in_err-symbol : goal.returns-in_err-symbol
-returns-in_err-symbol c =
-    let opens : first_is (is_symbol symbol.Open) c.exactly.new.self ≡ true = sym c.at_symbol.ensures ∙ c.if-not-at_symbol.false in
-    reads_stop engine_part (expect (the symbol.Open)) (λ next u. expect (the symbol.Close) (λ v. next tt)) c.args.self.now c.exactly.new.self
-    (λ next. c.in_ok-exactly.ensures.read _ ∙ engine_opens (next tt) c.exactly.new.self opens)
-    c.in_err-symbol.field-0.0 c.symbol.new.self c.in_err-symbol.ensures.read _ c.from_residual-in_err-symbol.ensures.1
+pub returns-then-not-skip : goal.returns-then-not-skip
+returns-then-not-skip c =
+    let none : Skips (is_symbol symbol.Open) c.exactly.new.self false c.skip.new.self = rw c.if-not-skip.true at c.skip.ensures.way in
+    λ next. c.in_ok-exactly.ensures.read _ ∙ none (λ u. expect (the symbol.Close) (λ v. next tt)) (next tt)
 
 pub returns : goal.returns
 returns c =
-    let opens : first_is (is_symbol symbol.Open) c.exactly.new.self ≡ true = sym c.at_symbol.ensures ∙ c.if-not-at_symbol.false in
-    reads_rest engine_part (expect (the symbol.Close)) c.args.self.now c.symbol.new.self
-    (λ next. c.in_ok-exactly.ensures.read _ ∙ (engine_opens (next tt) c.exactly.new.self opens ∙ c.in_ok-symbol.ensures.read _))
-    c.symbol-2.result c.symbol-2.new.self c.symbol-2.ensures.read
+    let opens : Skips (is_symbol symbol.Open) c.exactly.new.self true c.skip.new.self = rw c.if-not-skip.false at c.skip.ensures.way in
+    reads_rest engine_part (expect (the symbol.Close)) c.args.self.now c.skip.new.self
+    (λ next. c.in_ok-exactly.ensures.read _ ∙ opens (λ u. expect (the symbol.Close) (λ v. next tt)) (next tt))
+    c.symbol.result c.symbol.new.self c.symbol.ensures.read

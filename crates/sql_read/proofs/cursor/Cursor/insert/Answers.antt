@@ -1,28 +1,22 @@
-use Rattle.std.proofs.Common.{◌∙◌, refl}
+use Rattle.std.proofs.Common.{◌∙◌, refl, codes}
 use Rattle.mt_values.specs.declared.statement.Statement.TheVariants as statement
-use Rattle.mt_values.specs.Grammar.{ends, insert}
-use Rattle.sql_read.specs.Parts.{inserted_format, inserted_table}
-use Rattle.sql_read.proofs.Chains.{is_read_stop, is_read_end}
+use Rattle.mt_values.specs.Grammar.{insert}
+use Rattle.sql_read.specs.Parts.{inserted_format, table_behind}
+use Rattle.sql_read.proofs.Chains.{is_read_last, is_read_stop}
 use Rattle.sql_read.proofs.cursor.Cursor.insert.Goals as goal
 
 pub returns-in_err-table : goal.returns-in_err-table
 returns-in_err-table c =
-    is_read_stop (insert c.args.lines.now c.args.ended) inserted_table _ c.args.self.now c.args.self.now
+    is_read_stop (insert c.args.lines.now c.args.ended) (table_behind (codes "INSERT") (codes "INTO")) _ c.args.self.now c.args.self.now
     (refl)
-    c.in_err-table.field-0.0 c.inserted_table.new.self c.in_err-table.ensures _ c.from_residual.ensures.1
+    c.in_err-table.field-0.0 c.table_behind.new.self c.in_err-table.ensures _ c.from_residual.ensures.1
 
 pub returns-in_err-inserted_format : goal.returns-in_err-inserted_format
 returns-in_err-inserted_format c =
-    is_read_stop (insert c.args.lines.now c.args.ended) inserted_format (λ u. ends (statement.Insert (record { table = c.in_ok-table.table; lines = c.args.lines.now; ended = c.args.ended }))) c.args.self.now c.inserted_table.new.self
+    is_read_last (insert c.args.lines.now c.args.ended) inserted_format (λ u. statement.Insert (record { table = c.in_ok-table.table; lines = c.args.lines.now; ended = c.args.ended })) c.args.self.now c.table_behind.new.self
     (c.in_ok-table.ensures _)
     c.in_err-inserted_format.field-0.0 c.inserted_format.new.self c.in_err-inserted_format.ensures _ c.from_residual-in_err-inserted_format.ensures.1
 
-pub returns-in_err-end : goal.returns-in_err-end
-returns-in_err-end c =
-    is_read_end (insert c.args.lines.now c.args.ended) (statement.Insert (record { table = c.in_ok-table.table; lines = c.args.lines.now; ended = c.args.ended })) c.args.self.now c.inserted_format.new.self
-    (c.in_ok-table.ensures _ ∙ c.in_ok-inserted_format.ensures (λ u. ends (statement.Insert (record { table = c.in_ok-table.table; lines = c.args.lines.now; ended = c.args.ended }))))
-    c.in_err-end.field-0.0 c.end.new.self c.in_err-end.ensures _ c.from_residual-in_err-end.ensures.1
-
 pub returns : goal.returns
 returns c =
-    rw c.in_ok-lines.ensures (c.in_ok-table.ensures _ ∙ (c.in_ok-inserted_format.ensures (λ u. ends (statement.Insert (record { table = c.in_ok-table.table; lines = c.args.lines.now; ended = c.args.ended }))) ∙ c.in_ok-end.ensures (statement.Insert (record { table = c.in_ok-table.table; lines = c.args.lines.now; ended = c.args.ended }))))
+    rw c.in_ok-lines.ensures (c.in_ok-table.ensures _ ∙ c.in_ok-inserted_format.ensures (λ u. statement.Insert (record { table = c.in_ok-table.table; lines = c.args.lines.now; ended = c.args.ended })))

@@ -1,23 +1,25 @@
-use Rattle.std.proofs.Common.{◌≡◌, ◌∙◌, sym, true, codes}
-use Rattle.mt_values.specs.Grammar.{format, is_word, keyword}
+use Rattle.std.proofs.Common.{◌∙◌, true, false, codes}
+use Rattle.mt_values.specs.Grammar.{format, is_word}
 use Rattle.mt_values.specs.Readers.{expect}
 use Rattle.mt_values.specs.Tokens.{is_keyword}
 use Rattle.sql_read.specs.Parts.{inserted_format}
-use Rattle.sql_read.specs.Reads.{first_is}
-use Rattle.sql_read.proofs.Chains.{reads_rest, reads_stop}
-use Rattle.sql_read.proofs.Choices.{format_written}
+use Rattle.sql_read.specs.Reads.{Skips}
+use Rattle.sql_read.proofs.Chains.{last_ends, last_part_stop}
 use Rattle.sql_read.proofs.cursor.Cursor.inserted_format.Goals as goal
 
-pub returns-in_err-keyword : goal.returns-in_err-keyword
-returns-in_err-keyword c =
-    let written : first_is (is_word (is_keyword (codes "FORMAT"))) c.args.self.now ≡ true = sym c.at_keyword.ensures ∙ c.if-not-at_keyword.false in
-    reads_stop inserted_format (expect (keyword (codes "FORMAT"))) (λ next u. expect format next) c.args.self.now c.args.self.now
-    (λ next. format_written next c.args.self.now written)
-    c.in_err-keyword.field-0.0 c.keyword.new.self c.in_err-keyword.ensures.read _ c.from_residual.ensures.1
+pub returns-then-not-skip_keyword : goal.returns-then-not-skip_keyword
+returns-then-not-skip_keyword c =
+    let none : Skips (is_word (is_keyword (codes "FORMAT"))) c.args.self.now false c.skip_keyword.new.self = rw c.if-not-skip_keyword.true at c.skip_keyword.ensures in
+    last_ends inserted_format c.args.self.now c.skip_keyword.new.self (λ next. none (λ u. expect format next) (next tt)) c.end.result c.end.new.self c.end.ensures
+
+pub returns-in_err-format : goal.returns-in_err-format
+returns-in_err-format c =
+    let written : Skips (is_word (is_keyword (codes "FORMAT"))) c.args.self.now true c.skip_keyword.new.self = rw c.if-not-skip_keyword.false at c.skip_keyword.ensures in
+    last_part_stop inserted_format (expect format) (λ next u. next tt) c.args.self.now c.skip_keyword.new.self
+    (λ next. written (λ u. expect format next) (next tt))
+    c.in_err-format.field-0.0 c.format.new.self c.in_err-format.ensures.read _ c.from_residual.ensures.1
 
 pub returns : goal.returns
 returns c =
-    let written : first_is (is_word (is_keyword (codes "FORMAT"))) c.args.self.now ≡ true = sym c.at_keyword.ensures ∙ c.if-not-at_keyword.false in
-    reads_rest inserted_format (expect format) c.args.self.now c.keyword.new.self
-    (λ next. format_written next c.args.self.now written ∙ c.in_ok-keyword.ensures.read _)
-    c.format.result c.format.new.self c.format.ensures.read
+    let written : Skips (is_word (is_keyword (codes "FORMAT"))) c.args.self.now true c.skip_keyword.new.self = rw c.if-not-skip_keyword.false at c.skip_keyword.ensures in
+    last_ends inserted_format c.args.self.now c.format.new.self (λ next. written (λ u. expect format next) (next tt) ∙ c.in_ok-format.ensures.read next) c.end-2.result c.end-2.new.self c.end-2.ensures

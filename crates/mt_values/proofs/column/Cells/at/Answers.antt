@@ -1,0 +1,41 @@
+use Rattle.std.proofs.Common.{ap}
+use Rattle.mt_values.specs.declared.value.Value.TheVariants as value
+use Rattle.mt_values.specs.Columns.{cells_of}
+use Rattle.mt_values.proofs.Columns.{value_read, within_vector}
+use Rattle.mt_values.proofs.column.Cells.at.Goals as goal
+
+pub index-requires : goal.index-requires
+index-requires c = within_vector value.UInt8 _ c.in-UInt8.v _ _ (ap cells_of c.in-UInt8.is) c.requires
+
+pub returns-in-UInt8 : goal.returns-in-UInt8
+returns-in-UInt8 c = value_read value.UInt8 _ c.in-UInt8.v.items _ _ _ (ap cells_of c.in-UInt8.is) c.requires c.index.ensures
+
+pub index-requires-in-UInt16 : goal.index-requires-in-UInt16
+index-requires-in-UInt16 c = within_vector value.UInt16 _ c.in-UInt16.v _ _ (ap cells_of c.in-UInt16.is) c.requires
+
+pub returns-in-UInt16 : goal.returns-in-UInt16
+returns-in-UInt16 c = value_read value.UInt16 _ c.in-UInt16.v.items _ _ _ (ap cells_of c.in-UInt16.is) c.requires c.index-in-UInt16.ensures
+
+pub index-requires-in-UInt32 : goal.index-requires-in-UInt32
+index-requires-in-UInt32 c = within_vector value.UInt32 _ c.in-UInt32.v _ _ (ap cells_of c.in-UInt32.is) c.requires
+
+pub returns-in-UInt32 : goal.returns-in-UInt32
+returns-in-UInt32 c = value_read value.UInt32 _ c.in-UInt32.v.items _ _ _ (ap cells_of c.in-UInt32.is) c.requires c.index-in-UInt32.ensures
+
+pub index-requires-in-UInt64 : goal.index-requires-in-UInt64
+index-requires-in-UInt64 c = within_vector value.UInt64 _ c.in-UInt64.v _ _ (ap cells_of c.in-UInt64.is) c.requires
+
+pub returns-in-UInt64 : goal.returns-in-UInt64
+returns-in-UInt64 c = value_read value.UInt64 _ c.in-UInt64.v.items _ _ _ (ap cells_of c.in-UInt64.is) c.requires c.index-in-UInt64.ensures
+
+pub index-requires-in-Int8 : goal.index-requires-in-Int8
+index-requires-in-Int8 c = within_vector value.Int8 _ c.in-Int8.v _ _ (ap cells_of c.in-Int8.is) c.requires
+
+pub index-requires-in-Int16 : goal.index-requires-in-Int16
+index-requires-in-Int16 c = within_vector value.Int16 _ c.in-Int16.v _ _ (ap cells_of c.in-Int16.is) c.requires
+
+pub index-requires-in-Int32 : goal.index-requires-in-Int32
+index-requires-in-Int32 c = within_vector value.Int32 _ c.in-Int32.v _ _ (ap cells_of c.in-Int32.is) c.requires
+
+pub index-requires-in-Int64 : goal.index-requires-in-Int64
+index-requires-in-Int64 c = within_vector value.Int64 _ c.in-Int64.v _ _ (ap cells_of c.in-Int64.is) c.requires
