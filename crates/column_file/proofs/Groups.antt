@@ -1,9 +1,10 @@
 -- Groups of seven bits: what a number's are, how they are written and read, and that no two numbers begin one text.
-use Rattle.std.proofs.Common.{◌≡◌, ℕ, zero, suc, ◌+◌, ◌-◌, ◌*◌, ◌/◌, ◌%◌, ◌^◌, ◌<◌, ◌≤◌, Bool, true, false, List, [], ◌∷◌, ◌++◌, refl, sym, ap, ◌∙◌, cond, ltb, subst, append_assoc, arith, inl, inr, ◌⊎◌, length, length-append}
+use Rattle.std.proofs.Common.{◌≡◌, ℕ, zero, suc, ◌+◌, ◌-◌, ◌*◌, ◌/◌, ◌%◌, ◌^◌, ◌<◌, ◌≤◌, Bool, true, false, List, [], ◌∷◌, ◌++◌, refl, sym, ap, ◌∙◌, cond, ltb, subst, append_assoc, arith, inl, inr, ◌⊎◌, length, length-append, ap₂, add-one, drop}
 use Rattle.std.proofs.lemmas.Bool.{cases_lt}
 use Rattle.std.proofs.lemmas.Bool.Decides.{nat_tests}
 use Rattle.std.proofs.lemmas.Nat.{shr_below}
 use Rattle.mt_values.specs.ColumnBytes.{groups_within}
+use Rattle.column_file.specs.Spellings.{Begins}
 
 choose : {X : Type 0} (b c : Bool) (x y : X) → b ≡ c → cond b x y ≡ cond c x y
 choose b c x y e = ap (λ d. cond d x y) e
@@ -112,3 +113,17 @@ goes_on k j n b bs rest up large e = either (cases_lt n 128)
     either (inr h) =
         let f : b ∷ bs ≡ (n % 128 + 128) ∷ (groups_within j (n / 128) ++ rest) = e ∙ ap (λ l. l ++ rest) (groups_within-high k j n up h) in
         (h, cc, cc)
+
+-- a first group with the groups of a number that is not 0 is a greater number's
+pub groups_more : (k high size first number : ℕ) (rest bytes : List ℕ) → 0 < k → 128 ≤ first → first < 256 → 0 < high → number ≡ high * 128 + first % 128 → bytes ≡ first ∷ rest →
+    Begins (groups_within (k - 1) high) size rest → Begins (groups_within k number) (size + 1) bytes
+groups_more k high size first number rest bytes some large byte more sum is begins =
+    let lowest : number % 128 + 128 ≡ first = omega arith in
+    let higher : number / 128 ≡ high = omega arith in
+    let all : groups_within k number ≡ first ∷ groups_within (k - 1) high =
+    groups_within-high k (k - 1) number (omega arith) (omega arith) ∙ ap₂ (λ a n. a ∷ groups_within (k - 1) n) lowest higher in
+    let behind : drop (size + 1) bytes ≡ drop size rest = ap (drop (size + 1)) is ∙ ap (λ n. drop n (first ∷ rest)) (add-one size) in
+    record {
+      size_is = omega (arith, ap length all, begins.size_is);
+      parted = is ∙ ap (λ l. first ∷ l) begins.parted ∙ sym (ap₂ (λ l r. l ++ r) all behind);
+    }

@@ -8,7 +8,6 @@ ghost use Rattle.column_file.specs.Spellings.{Begins, GainsAll, GainsFront, IsOf
 
 use crate::cells::first_cell;
 use crate::faults::FormatFault;
-use mt_base::NoMemory;
 use mt_values::{Cell, ColType, ColumnData, Value};
 use std::alloc::Global;
 
@@ -65,18 +64,19 @@ pub fn decode_granule(
     ensures fault { IfErr result (Explains col_type count bytes.now) }
 {
     let column = decode_column(alloc, col_type, bytes, count)?;
-    Ok(values_of(alloc, &column)?)
+    values_of(alloc, &column)
 }
 
 /// The values of a column, each by itself.
 ///
 /// `NoMemory` where a growth was refused.
-fn values_of(alloc: Global, column: &ColumnData) -> Result<Vec<Value>, NoMemory>
-    ensures { IfOk result (λ v. v.items ≡ column.now.values) }
+fn values_of(alloc: Global, column: &ColumnData) -> Result<Vec<Value>, FormatFault>
+    ensures { MatchResult result (λ v. v.items ≡ column.now.values) (λ e. e ≡ FormatFault.NoMemory) }
 {
-    let mut values = Vec::with_capacity(alloc, column.len())?;
-    for place in 0..column.len() {
-        values.push(column.at(place).to_value(alloc)?)?;
+    let count = column.len();
+    let mut values = Vec::with_capacity(alloc, count)?;
+    for place in 0..count {
+        values.push_reserved(column.at(place).to_value(alloc)?);
     }
     Ok(values)
 }

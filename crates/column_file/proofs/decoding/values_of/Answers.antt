@@ -14,6 +14,11 @@ more all values place value is here =
 pub loop-place-preserved : goal.loop-place-preserved
 loop-place-preserved c =
     let values = c.loop-place.values.items in
-    c.in_ok-push.ensures.items
-    ∙ ap (λ v. values ++ v ∷ []) c.in_ok-to_value.ensures
-    ∙ more c.args.column.now.values values c.loop-place.place (value_of c.at.result) c.loop-place.invariant c.at.ensures
+    record {
+      values =
+          c.push_reserved.ensures.items
+          ∙ ap (λ v. values ++ v ∷ []) c.in_ok-to_value.ensures
+          ∙ more c.args.column.now.values values c.loop-place.place (value_of c.at.result) c.loop-place.invariant.values c.at.ensures;
+      count = c.push_reserved.ensures.len ∙ ap (λ n. n + 1) c.loop-place.invariant.count;
+      room = c.push_reserved.ensures.capacity ∙ c.loop-place.invariant.room;
+    }

@@ -1,4 +1,5 @@
 use Rattle.std.proofs.Common.{◌≡◌, [], ◌∷◌, ◌++◌, All, filter_map, slice_get, min, length, ap, ◌∙◌}
+use Rattle.std.proofs.lemmas.Result.{err_from_is_err_and}
 use Rattle.std.specs.Slice.Iter.{chunks_rest, chunks_size}
 use Rattle.mt_values.specs.ColumnBytes.{column_bytes}
 use Rattle.mt_values.specs.Values.{FitsType}
@@ -29,15 +30,22 @@ loop-granule-preserved c =
           c.in_ok-push_cells.ensures.bytes c.in_ok-push_cells.ensures.encodable (c.in_ok-push.ensures.ok ∙ ap (λ n. c.loop-granule.marks ++ n ∷ []) c.len-begun.ensures);
     }
 
+-- want of memory
+pub returns-in_err-bytes : goal.returns-in_err-bytes
+returns-in_err-bytes c = let p = err_from_is_err_and c.from_residual.result c.from_residual.ensures.1 in rw p.1 (record { bytes = tt; marks = tt; encodable = tt })
+
+pub returns-in_err-push_cells : goal.returns-in_err-push_cells
+returns-in_err-push_cells c = let p = err_from_is_err_and c.from_residual-in_err-push_cells.result c.from_residual-in_err-push_cells.ensures.1 in rw p.1 (record { bytes = tt; marks = tt; encodable = tt })
+
+pub returns-in_err-push : goal.returns-in_err-push
+returns-in_err-push c = let p = err_from_is_err_and c.from_residual-in_err-push.result c.from_residual-in_err-push.ensures.1 in rw p.1 (record { bytes = tt; marks = tt; encodable = tt })
+
+pub returns-in_err-push-2 : goal.returns-in_err-push-2
+returns-in_err-push-2 c = let p = err_from_is_err_and c.from_residual-in_err-push-2.result c.from_residual-in_err-push-2.ensures.1 in rw p.1 (record { bytes = tt; marks = tt; encodable = tt })
+
 -- all granules are written at the end
 all : (c : goal.In_ok-push-2) → (c.loop-granule.bytes ≡ column_bytes (filter_map (slice_get c.args.cells.now.values) c.args.order.now)) × (c.push-2.new.self ≡ marks_of c.args.granularity (filter_map (slice_get c.args.cells.now.values) c.args.order.now)) × All FitsType (filter_map (slice_get c.args.cells.now.values) c.args.order.now)
 all c = written_all c.args.cells.now.values c.args.order.now c.args.granularity _ _ _ c.push-2.new.self c.loop-granule.invariant.written c.in-None.ensures.steps.1.0 c.requires.places c.requires.granularity (c.in_ok-push-2.ensures.ok ∙ ap (λ n. c.loop-granule.marks ++ n ∷ []) c.len.ensures)
 
-pub returns-clause-bytes : goal.returns-clause-bytes
-returns-clause-bytes c = (all c).0
-
-pub returns-clause-marks : goal.returns-clause-marks
-returns-clause-marks c = (all c).1
-
-pub returns-clause-encodable : goal.returns-clause-encodable
-returns-clause-encodable c = (all c).2
+pub returns : goal.returns
+returns c = record { bytes = (all c).0; marks = (all c).1; encodable = (all c).2 }
