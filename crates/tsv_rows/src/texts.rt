@@ -2,7 +2,7 @@
 ghost use Rattle.std.specs.Prelude.{◌≡◌, ◌≤◌, ◌<◌, ◌+◌, ◌^◌, IfOk, IfSome, length, drop};
 ghost use Rattle.std.specs.List.{prefix_len};
 ghost use Rattle.std.specs.Option.{option_map};
-ghost use Rattle.mt_values.specs.Escapes.{escape_byte, escape_of, hex_digit};
+ghost use Rattle.mt_values.specs.Escapes.{escape_byte, escape_of, hex_byte, hex_digit};
 ghost use Rattle.mt_values.specs.Rows.{unescaped};
 ghost use Rattle.tsv_rows.specs.Texts.{byte_said, if_fits, is_no_backslash};
 
@@ -19,6 +19,15 @@ fn hex_digit(byte: u8) -> Option<u8>
         b'A'..=b'F' => Some(byte - 55),
         _ => None,
     }
+}
+
+// The byte that two hexadecimal digits say; none where one of them is no digit.
+fn hex_byte(high: u8, low: u8) -> Option<u8>
+    ensures { result ≡ hex_byte (hex_digit high) (hex_digit low) }
+{
+    let high = hex_digit(high)?;
+    let low = hex_digit(low)?;
+    Some(16 * high + low)
 }
 
 // The byte that a backslash and this byte stand for.
@@ -46,7 +55,7 @@ fn escape(behind: &[u8]) -> Option<(u8, usize)>
 {
     match behind {
         [] | [b'N', ..] => None,
-        [b'x', high, low, ..] => Some((16 * hex_digit(*high)? + hex_digit(*low)?, 3)),
+        [b'x', high, low, ..] => Some((hex_byte(*high, *low)?, 3)),
         [b'x', ..] => None,
         [byte, ..] => Some((escape_byte(*byte), 1)),
     }

@@ -1,8 +1,19 @@
 use Rattle.std.proofs.Common.{◌≡◌, ◌&&◌, ◌==◌, not, Bool, true, false, refl, get_or, arith, sym, ◌∙◌}
 use Rattle.std.proofs.lemmas.Bool.Decides.{nat_tests}
+use Rattle.std.proofs.lemmas.Result.{err_from_is_err_and}
 use Rattle.mt_values.specs.Script.{takes_next}
 use Rattle.tsv_rows.proofs.Marking.{feed_told, marked_feed, marked_fields, marked_more, marked_none, marked_tab, marked_whole, whole_fields}
 use Rattle.tsv_rows.proofs.fields.mark_fields.Goals as goal
+
+-- want of memory
+pub returns-in_err-push : goal.returns-in_err-push
+returns-in_err-push c = let p = err_from_is_err_and c.from_residual.result c.from_residual.ensures.1 in rw p.1 (record { line = tt; within = tt; fields = tt })
+
+pub returns-in_err-push-2 : goal.returns-in_err-push-2
+returns-in_err-push-2 c = let p = err_from_is_err_and c.from_residual-in_err-push-2.result c.from_residual-in_err-push-2.ensures.1 in rw p.1 (record { line = tt; within = tt; fields = tt })
+
+pub returns-in_err-push-3 : goal.returns-in_err-push-3
+returns-in_err-push-3 c = let p = err_from_is_err_and c.from_residual-in_err-push-3.result c.from_residual-in_err-push-3.ensures.1 in rw p.1 (record { line = tt; within = tt; fields = tt })
 
 never : (l : Bool) → (l && false) ≡ false
 never false = refl

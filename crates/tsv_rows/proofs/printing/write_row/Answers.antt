@@ -1,8 +1,19 @@
 use Rattle.std.proofs.Common.{◌≡◌, ◌++◌, ◌+◌, ◌∷◌, [], ◌∙◌, sym, ap, arith, take, length-take-le}
 use Rattle.std.proofs.lemmas.List.{take_more}
+use Rattle.std.proofs.lemmas.Result.{err_from_is_err_and}
 use Rattle.mt_values.specs.Printing.{field}
 use Rattle.tsv_rows.proofs.Printed.{printed_push}
 use Rattle.tsv_rows.proofs.printing.write_row.Goals as goal
+
+-- want of memory
+pub returns-in_err-write_tab : goal.returns-in_err-write_tab
+returns-in_err-write_tab c = let p = err_from_is_err_and c.from_residual.result c.from_residual.ensures.1 in rw p.1 tt
+
+pub returns-in_err-write_cell : goal.returns-in_err-write_cell
+returns-in_err-write_cell c = let p = err_from_is_err_and c.from_residual-in_err-write_cell.result c.from_residual-in_err-write_cell.ensures.1 in rw p.1 tt
+
+pub returns-in_err-push : goal.returns-in_err-push
+returns-in_err-push c = let p = err_from_is_err_and c.from_residual-in_err-push.result c.from_residual-in_err-push.ensures.1 in rw p.1 tt
 
 pub loop-index-preserved : goal.loop-index-preserved
 loop-index-preserved c =

@@ -1,6 +1,7 @@
 use Rattle.std.proofs.Common.{◌≡◌, ◌<◌, ◌++◌, ◌+◌, ◌∷◌, [], Some, All, ℕ, ◌∙◌, sym, ap, arith, get_or, slice_get, take, length, length-take-le}
 use Rattle.std.proofs.lemmas.List.{get_or_default}
 use Rattle.std.proofs.lemmas.List.Elements.{All-take}
+use Rattle.std.proofs.lemmas.Result.{err_from_is_err_and}
 use Rattle.mt_values.specs.Cells.{value_of}
 use Rattle.mt_values.specs.Grid.{column_of}
 use Rattle.mt_values.specs.Printing.{selected}
@@ -9,6 +10,16 @@ use Rattle.mt_values.proofs.OrderBy.{all_reach, value_at}
 use Rattle.tsv_rows.proofs.Printed.{length-selected, printed_push}
 use Rattle.tsv_rows.proofs.printing.write_row_at.Goals as goal
 use Rattle.tsv_rows.proofs.printing.write_row_at.Goals.{After-column}
+
+-- want of memory
+pub returns-in_err-write_tab : goal.returns-in_err-write_tab
+returns-in_err-write_tab c = let p = err_from_is_err_and c.from_residual.result c.from_residual.ensures.1 in rw p.1 tt
+
+pub returns-in_err-write_cell : goal.returns-in_err-write_cell
+returns-in_err-write_cell c = let p = err_from_is_err_and c.from_residual-in_err-write_cell.result c.from_residual-in_err-write_cell.ensures.1 in rw p.1 tt
+
+pub returns-in_err-push : goal.returns-in_err-push
+returns-in_err-push c = let p = err_from_is_err_and c.from_residual-in_err-push.result c.from_residual-in_err-push.ensures.1 in rw p.1 tt
 
 -- the block has a column at this place
 below : (c : After-column) → get_or c.args.columns.now c.loop-index.index 0 < length c.args.block.now.types

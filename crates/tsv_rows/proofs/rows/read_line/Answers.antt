@@ -1,9 +1,14 @@
 use Rattle.std.proofs.Common.{◌≡◌, ◌<◌, ◌∙◌, Some, Ok, Err, sym, ap, subst, false, slice_get, length, arith}
+use Rattle.std.proofs.lemmas.Result.{err_from_is_err_and}
 use Rattle.mt_values.specs.Rows.{fields_from}
 use Rattle.tsv_rows.specs.Columns.{with_field}
 use Rattle.tsv_rows.proofs.LineColumns.{columns_begin, columns_miscounted, columns_more, columns_refused}
 use Rattle.tsv_rows.proofs.LineRows.{same_count, other_count}
 use Rattle.tsv_rows.proofs.rows.read_line.Goals as goal
+
+-- want of memory
+pub returns-in_err-fault : goal.returns-in_err-fault
+returns-in_err-fault c = let p = err_from_is_err_and c.from_residual.result c.from_residual.ensures.1 in rw p.1 tt
 
 pub returns-in-Some : goal.returns-in-Some
 returns-in-Some c =

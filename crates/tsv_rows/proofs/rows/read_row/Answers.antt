@@ -1,4 +1,4 @@
-use Rattle.std.proofs.Common.{◌≡◌, ◌≢◌, ◌∙◌, ◌<◌, ◌^◌, Some, Ok, Err, List, ℕ, All, sym, ap, ap₂, false, map, length, get_or, slice_get, arith}
+use Rattle.std.proofs.Common.{◌≡◌, ◌≢◌, refl, ◌∙◌, ◌<◌, ◌^◌, Some, Ok, Err, List, ℕ, All, sym, ap, ap₂, false, map, length, get_or, slice_get, arith}
 use Rattle.std.proofs.lemmas.List.{length-map}
 use Rattle.std.proofs.lemmas.List.Elements.{All-from_get_or}
 use Rattle.std.proofs.lemmas.Option.{slice_get-get_or, slice_get-map}
@@ -16,6 +16,22 @@ use Rattle.tsv_rows.proofs.Marking.{whole_marked}
 use Rattle.tsv_rows.proofs.rows.read_row.Goals as goal
 use Rattle.tsv_rows.proofs.rows.read_row.Goals.{After-len, After-read_value, After-drop-ends-2}
 
+-- want of memory says nothing of the line
+pub returns-in_err-mark_fields : goal.returns-in_err-mark_fields
+returns-in_err-mark_fields c =
+    let p = err_from_is_err_and c.from_residual.result c.from_residual.ensures.1 in
+    rw (p.1, p.2) (record { row = tt; fault = λ some. absurd (some refl); values = tt })
+
+pub returns-in_err-row : goal.returns-in_err-row
+returns-in_err-row c =
+    let p = err_from_is_err_and c.from_residual-in_err-row.result c.from_residual-in_err-row.ensures.1 in
+    rw (p.1, p.2) (record { row = tt; fault = λ some. absurd (some refl); values = tt })
+
+pub returns-in_err-push : goal.returns-in_err-push
+returns-in_err-push c =
+    let p = err_from_is_err_and c.from_residual-in_err-push.result c.from_residual-in_err-push.ensures.1 in
+    rw (p.1, p.2) (record { row = tt; fault = λ some. absurd (some refl); values = tt })
+
 types : After-len → List ColType
 types c = map (λ (column : Column). column.col_type) c.args.schema.now.columns
 
@@ -29,16 +45,20 @@ ends c = whole_marked c.args.text.now c.mark_fields.new.ends.items c.in_ok-mark_
 count : (c : After-len) → c.len.result ≡ length c.mark_fields.new.ends.items
 count c = let o = c.mark_fields.new.ends.ok.0 in omega arith
 
-pub returns-in-Some-clause-fault : goal.returns-in-Some-clause-fault
+pub returns-in-Some : goal.returns-in-Some
 unfolding types
-returns-in-Some-clause-fault c =
-    let d = (goal.at.returns-in-Some-clause-fault c).After-len in
+returns-in-Some c =
+    let d = (goal.at.returns-in-Some c).After-len in
     let wanted = length c.as_slice-columns.result.now in
     let told = other_count c.args.line c.len.result wanted c.in-Some.fault c.in-Some.ensures in
     let other : length c.mark_fields.new.ends.items ≢ length (types d) = λ e. told.0 (count d ∙ e ∙ size d) in
     let same : row_fault.Fields c.args.line (length c.mark_fields.new.ends.items) (length (types d)) ≡ c.in-Some.fault =
     ap₂ (row_fault.Fields c.args.line) (sym (count d)) (size d) ∙ sym told.1 in
-    λ some. sym (row_miscounted (types d) c.args.line c.args.text.now c.mark_fields.new.ends.items (ends d) other) ∙ ap Err same
+    record {
+      row = tt;
+      fault = λ some. sym (row_miscounted (types d) c.args.line c.args.text.now c.mark_fields.new.ends.items (ends d) other) ∙ ap Err same;
+      values = tt;
+    }
 
 pub loop-place-init : goal.loop-place-init
 unfolding types
@@ -59,18 +79,19 @@ type_at c =
     slice_get-map (λ (d : Column). d.col_type) columns c.loop-place.place
     ∙ ap (option_map (λ (d : Column). d.col_type)) (slice_get-get_or columns c.loop-place.place column within ∙ ap Some (sym is))
 
-pub returns-in_err-value-clause-fault : goal.returns-in_err-value-clause-fault
-returns-in_err-value-clause-fault c =
-    let d = (goal.at.returns-in_err-value-clause-fault c).After-read_value in
+pub returns-in_err-value : goal.returns-in_err-value
+returns-in_err-value c =
+    let d = (goal.at.returns-in_err-value c).After-read_value in
     let types = map (λ (column : Column). column.col_type) c.args.schema.now.columns in
     let fields = fields_from false c.args.text.now in
     let field : slice_get fields c.loop-place.place ≡ Some c.field_at-field.result.now = c.field_at-field.ensures in
     let p = err_from_is_err_and c.from_residual-in_err-value.result c.from_residual-in_err-value.ensures.1 in
     rw (p.1, p.2)
-    (λ some.
-    sym
-    (row_faulty types fields c.args.line c.loop-place.place c.index-columns-place.result.col_type c.field_at-field.result.now (type_at d) field c.loop-place.row c.in_err-value.field-0.0 (c.in_err-value.ensures.fault some)
-    ∙ c.loop-place.invariant))
+    (record {
+      row = tt;
+      fault = λ some. sym (row_faulty types fields c.args.line c.loop-place.place c.index-columns-place.result.col_type c.field_at-field.result.now (type_at d) field c.loop-place.row c.in_err-value.field-0.0 (c.in_err-value.ensures.fault some) ∙ c.loop-place.invariant);
+      values = tt;
+    })
 
 pub loop-place-preserved : goal.loop-place-preserved
 loop-place-preserved c =
@@ -81,11 +102,15 @@ loop-place-preserved c =
     rw c.in_ok-push.ensures.ok
     (row_more types fields c.args.line c.loop-place.place c.index-columns-place.result.col_type c.field_at-field.result.now (type_at d) field c.loop-place.row c.in_ok-value.value c.in_ok-value.ensures.value ∙ c.loop-place.invariant)
 
-pub returns-clause-values : goal.returns-clause-values
-returns-clause-values c =
+pub returns : goal.returns
+returns c =
     let types = map (λ (column : Column). column.col_type) c.args.schema.now.columns in
     let fields = fields_from false c.args.text.now in
     let all : length types ≡ length c.as_slice-columns.result.now = length-map c.args.schema.now.columns (λ (column : Column). column.col_type) ∙ ap length (sym c.as_slice-columns.ensures) in
     let read : Ok c.loop-place.row ≡ row_of_line types c.args.line c.args.text.now = row_whole types fields c.args.line c.loop-place.place c.loop-place.row (omega arith) ∙ c.loop-place.invariant in
     let bytes : AreBytes c.args.text.now = All-from_get_or (λ (b : ℕ). b < 2 ^ 8) c.args.text.now 0 (λ i h. omega (arith, c.type_inv.text i)) in
-    if_ok (All IsValue) (row_of_line types c.args.line c.args.text.now) c.loop-place.row (sym read) (row_values types c.args.line c.args.text.now bytes)
+    record {
+      row = sym read;
+      fault = tt;
+      values = if_ok (All IsValue) (row_of_line types c.args.line c.args.text.now) c.loop-place.row (sym read) (row_values types c.args.line c.args.text.now bytes);
+    }

@@ -1,13 +1,14 @@
 use Rattle.std.proofs.Common.{◌≡◌, ◌+◌, ◌-◌, ◌<◌, ◌^◌, ◌∙◌, ◌++◌, Some, None, Ok, List, ℕ, false, sym, ap, append-nil, arith, length, take, drop, length-drop}
 use Rattle.std.proofs.lemmas.List.{take_rest, take_all, drop-drop, drop_all}
 use Rattle.std.proofs.lemmas.List.Elements.{All-from_get_or}
+use Rattle.std.proofs.lemmas.Result.{err_from_is_err_and}
 use Rattle.mt_values.specs.Grid.{Cells, Grid}
 use Rattle.mt_values.specs.Rows.{inserted_rows, row_of_line}
 use Rattle.mt_values.specs.Script.{line_from}
 use Rattle.mt_values.specs.Values.{AreValues}
 use Rattle.mt_values.proofs.RowValues.{AreBytes, if_ok, inserted_values}
 use Rattle.tsv_rows.specs.Columns.{types_in, when_read, with_row}
-use Rattle.tsv_rows.proofs.DataRows.{no_lines, lines_end, lines_many, lines_refused, lines_more}
+use Rattle.tsv_rows.proofs.DataRows.{no_lines, lines_end, lines_unended, lines_many, lines_refused, lines_more}
 use Rattle.tsv_rows.proofs.rows.read_rows.Goals as goal
 use Rattle.tsv_rows.proofs.rows.read_rows.Goals.{In-Some, In_ok-fault, In_default, After-of_columns}
 
@@ -30,22 +31,50 @@ read_is c =
     let size : c.lines.at + c.in-Some.len - c.lines.at ≡ c.in-Some.len = omega arith in
     rw (size, c.deref_mut.ensures.value) at c.in_ok-fault.ensures
 
+-- want of memory says nothing of the data
+pub returns-in_err-columns : goal.returns-in_err-columns
+returns-in_err-columns c =
+    let p = err_from_is_err_and c.from_residual.result c.from_residual.ensures.1 in
+    rw (p.1, p.2) (record { rows = tt; types = tt; values = tt; refused = tt })
+
+pub returns-in_err-len : goal.returns-in_err-len
+returns-in_err-len c =
+    let p = err_from_is_err_and c.from_residual-in_err-len.result c.from_residual-in_err-len.ensures.1 in
+    rw (p.1, p.2) (record { rows = tt; types = tt; values = tt; refused = tt })
+
+pub returns-in_err-fault : goal.returns-in_err-fault
+returns-in_err-fault c =
+    let p = err_from_is_err_and c.from_residual-in_err-fault.result c.from_residual-in_err-fault.ensures.1 in
+    rw (p.1, p.2) (record { rows = tt; types = tt; values = tt; refused = tt })
+
 pub lines-init : goal.lines-init
 lines-init c = record { kept = rw c.in_ok-columns.ensures (no_lines c.args.types.now c.args.lines.now c.args.ended); within = omega arith }
 
-pub returns-then-count-ge-MOST_ROWS-clause-refused : goal.returns-then-count-ge-MOST_ROWS-clause-refused
-returns-then-count-ge-MOST_ROWS-clause-refused c =
-    let d = (goal.at.returns-then-count-ge-MOST_ROWS-clause-refused c).In-Some in
+pub returns-then-count-ge-MOST_ROWS : goal.returns-then-count-ge-MOST_ROWS
+returns-then-count-ge-MOST_ROWS c =
+    let d = (goal.at.returns-then-count-ge-MOST_ROWS c).In-Some in
     let text = drop c.lines.at c.args.lines.now in
-    lines_many c.args.types.now c.args.lines.now c.args.ended text c.lines.columns.items c.lines.count c.lines.invariant.kept (take c.in-Some.len text) (drop (c.in-Some.len + 1) text) (found d)
-    c.if-count-ge-MOST_ROWS.true
+    record {
+      rows = tt;
+      types = tt;
+      values = tt;
+      refused =
+          lines_many c.args.types.now c.args.lines.now c.args.ended text c.lines.columns.items c.lines.count c.lines.invariant.kept (take c.in-Some.len text) (drop (c.in-Some.len + 1) text) (found d)
+          c.if-count-ge-MOST_ROWS.true;
+    }
 
-pub returns-in-Err-clause-refused : goal.returns-in-Err-clause-refused
-returns-in-Err-clause-refused c =
-    let d = (goal.at.returns-in-Err-clause-refused c).In_ok-fault in
+pub returns-in-Err : goal.returns-in-Err
+returns-in-Err c =
+    let d = (goal.at.returns-in-Err c).In_ok-fault in
     let text = drop c.lines.at c.args.lines.now in
-    lines_refused c.args.types.now c.args.lines.now c.args.ended text c.lines.columns.items c.lines.count c.lines.invariant.kept (take c.in-Some.len text) (drop (c.in-Some.len + 1) text)
-    (found (goal.at.returns-in-Err-clause-refused c).In-Some) c.if-count-ge-MOST_ROWS.false c.in-Err.fault (rw c.in-Err.is at (read_is d))
+    record {
+      rows = tt;
+      types = tt;
+      values = tt;
+      refused =
+          lines_refused c.args.types.now c.args.lines.now c.args.ended text c.lines.columns.items c.lines.count c.lines.invariant.kept (take c.in-Some.len text) (drop (c.in-Some.len + 1) text)
+          (found (goal.at.returns-in-Err c).In-Some) c.if-count-ge-MOST_ROWS.false c.in-Err.fault (rw c.in-Err.is at (read_is d));
+    }
 
 pub lines-preserved : goal.lines-preserved
 lines-preserved c =
@@ -76,12 +105,30 @@ rows_are c none =
     lines_end c.args.types.now c.args.lines.now c.args.ended text c.lines.columns.items c.lines.count c.lines.invariant.kept c.if-not-ended.false none
     ∙ ap (λ (g : Grid). Ok g.rows) (sym c.of_columns.ensures)
 
-pub returns-clause-rows : goal.returns-clause-rows
-returns-clause-rows c = rows_are (goal.at.returns-clause-rows c).After-of_columns (last (goal.at.returns-clause-rows c).In_default)
+pub returns-then-not-ended : goal.returns-then-not-ended
+returns-then-not-ended c =
+    let text = drop c.lines.at c.args.lines.now in
+    record {
+      rows = tt;
+      types = tt;
+      values = tt;
+      refused =
+          lines_unended c.args.types.now c.args.lines.now c.args.ended text c.lines.columns.items c.lines.count c.lines.invariant.kept c.if-not-ended.true
+          (last (goal.at.returns-then-not-ended c).In_default);
+    }
 
-pub returns-clause-values : goal.returns-clause-values
-returns-clause-values c =
+pub of_columns-requires-clause-even : goal.of_columns-requires-clause-even
+of_columns-requires-clause-even c = c.lines.invariant.kept.even
+
+pub returns : goal.returns
+returns c =
     let types = c.args.types.now in
     let lines = c.args.lines.now in
     let bytes : AreBytes lines = All-from_get_or (λ (b : ℕ). b < 2 ^ 8) lines 0 (λ i h. omega (arith, c.type_inv.lines i)) in
-    if_ok AreValues (inserted_rows types lines c.args.ended) c.of_columns.result.rows (rows_are (goal.at.returns-clause-values c).After-of_columns (last (goal.at.returns-clause-values c).In_default)) (inserted_values types lines c.args.ended bytes)
+    let rows = rows_are (goal.at.returns c).After-of_columns (last (goal.at.returns c).In_default) in
+    record {
+      rows = rows;
+      types = ap (λ (g : Grid). g.types) c.of_columns.ensures ∙ c.lines.invariant.kept.typed;
+      values = if_ok AreValues (inserted_rows types lines c.args.ended) c.of_columns.result.rows rows (inserted_values types lines c.args.ended bytes);
+      refused = tt;
+    }

@@ -1,10 +1,18 @@
 use Rattle.std.proofs.Common.{◌≡◌, ◌+◌, ◌-◌, ◌<◌, ◌≤◌, ◌++◌, arith, take, drop, length, length-drop}
 use Rattle.std.proofs.lemmas.List.{take_rest}
 use Rattle.std.specs.List.{prefix_len}
+use Rattle.std.proofs.lemmas.Result.{err_from_is_err_and}
 use Rattle.tsv_rows.specs.Texts.{is_no_backslash}
 use Rattle.tsv_rows.proofs.Unescaping.{run_ends, escape_refused, escape_read}
 use Rattle.tsv_rows.proofs.texts.unescape.Goals as goal
 use Rattle.tsv_rows.proofs.texts.unescape.Goals.{In_ok-extend_from_slice}
+
+-- want of memory
+pub returns-in_err-extend_from_slice : goal.returns-in_err-extend_from_slice
+returns-in_err-extend_from_slice c = let p = err_from_is_err_and c.from_residual.result c.from_residual.ensures.1 in rw p.1 tt
+
+pub returns-in_err-push : goal.returns-in_err-push
+returns-in_err-push c = let p = err_from_is_err_and c.from_residual-in_err-push.result c.from_residual-in_err-push.ensures.1 in rw p.1 tt
 
 run : (c : In_ok-extend_from_slice) → c.plain_len-plain.result ≡ prefix_len is_no_backslash (drop c.loop-at.at c.args.text.now)
 run c = rw take_rest at c.plain_len-plain.ensures.value
