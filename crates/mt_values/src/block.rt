@@ -1,5 +1,5 @@
 // Rows, kept by columns.
-ghost use Rattle.std.specs.Prelude.{◌≡◌, ◌<◌, ◌^◌, ◌↔◌, [], Some, All, IfOk, IsTrue, length, slice_get};
+ghost use Rattle.std.specs.Prelude.{◌≡◌, ◌<◌, ◌^◌, ◌↔◌, ◌++◌, [], Some, All, IfOk, IsTrue, OnOk, length, slice_get};
 ghost use Rattle.mt_values.specs.Grid.{AreRowsOf, Cells, HaveTypeAt, IsOrderBy, column_of, grid_of};
 
 use crate::column::ColumnData;
@@ -60,7 +60,9 @@ impl Block {
     {
         let mut columns = Vec::with_capacity(alloc, types.len())?;
         for (place, col_type) in types.iter().enumerate() {
-            columns.push(column_from_rows(alloc, *col_type, rows, place)?)?;
+            let mut column = ColumnData::new(alloc, *col_type);
+            push_values(&mut column, rows, place)?;
+            columns.push_reserved(column);
         }
         Ok(Block::of_columns(columns, rows.len()))
     }
@@ -138,21 +140,15 @@ impl Block {
     }
 }
 
-/// The column of the values that the rows have at a place.
+/// Adds the values that the rows have at a place to a column.
 ///
-/// `NoMemory` where a growth was refused.
-fn column_from_rows(
-    alloc: Global,
-    col_type: ColType,
-    rows: &[Row],
-    place: usize,
-) -> Result<ColumnData, NoMemory>
-    requires { HaveTypeAt place col_type rows.now }
-    ensures { IfOk result (λ c. c ≡ record { col_type = col_type; values = column_of place rows.now }) }
+/// `NoMemory` where a growth was refused; some of the first values may have been added then.
+fn push_values(column: &mut ColumnData, rows: &[Row], place: usize) -> Result<(), NoMemory>
+    requires { HaveTypeAt place column.old.col_type rows.now }
+    ensures { OnOk result (column.new ≡ record column.old { values = column.old.values ++ column_of place rows.now }) }
 {
-    let mut column = ColumnData::new(alloc, col_type);
     for row in rows {
         column.push_cell(Cell::of(row.at(place)))?;
     }
-    Ok(column)
+    Ok(())
 }

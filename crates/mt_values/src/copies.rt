@@ -1,5 +1,5 @@
 // Equal copies of what tables are made of.
-use crate::{ColType, Column, Create, Schema, Value};
+use crate::{ColType, Column, Schema, Value};
 use mt_base::{NoMemory, Twin};
 use std::alloc::Global;
 
@@ -39,15 +39,6 @@ impl Twin for Schema {
         Ok(Schema {
             columns: self.columns.twin(alloc)?,
             key: self.key.twin(alloc)?,
-        })
-    }
-}
-
-impl Twin for Create {
-    fn twin(&self, alloc: Global) -> Result<Self, NoMemory> {
-        Ok(Create {
-            table: self.table.twin(alloc)?,
-            schema: self.schema.twin(alloc)?,
         })
     }
 }

@@ -3,7 +3,7 @@
 use mt_base::NoMemory;
 
 /// Why a field is no value of its column.
-#[derive(Clone, Copy, Debug)]
+#[derive(Clone, Copy)]
 pub enum FieldFault {
     /// It is no value of the column's type.
     NotOfType,
@@ -43,7 +43,7 @@ impl From<NoMemory> for RowFault {
 }
 
 /// Why data is not the rows of an INSERT.
-#[derive(Clone, Copy, Debug)]
+#[derive(Clone, Copy)]
 pub enum DataFault {
     /// A line is no row, and each line before it is one.
     Row(RowFault),

@@ -1,7 +1,11 @@
--- a column for each type gone over
-use Rattle.std.proofs.Common.{◌≡◌, take}
+-- a column for each type gone over, and room for the others
+use Rattle.std.proofs.Common.{◌≡◌, length, take, vec_len, vec_capacity}
 use Rattle.mt_values.proofs.Grids.{columns_from}
 use Rattle.mt_values.proofs.block.Block.from_rows.Given as goal
 
 abbrev pub invariant-loop-place : goal.invariant-loop-place
-invariant-loop-place l = l.columns.items ≡ columns_from 0 (take l.place l.types) l.rows
+invariant-loop-place l = record {
+  made : l.columns.items ≡ columns_from 0 (take l.place l.types) l.rows;
+  count : vec_len l.columns ≡ l.place;
+  room : vec_capacity l.columns ≡ length l.types;
+}
