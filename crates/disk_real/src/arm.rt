@@ -110,12 +110,14 @@ impl<R: System> RealArm<R> {
         ensures bound { IfOk result (λ n. n ≤ length buf.new) }
     {
         self.keep(dir, file)?;
-        let Some(opened) = self.kept.take() else {
-            return Ok(0);
+        let count = match &self.kept {
+            Some(opened) => read_at(&opened.handle, at, buf),
+            None => return Ok(0),
         };
-        let count = read_at(&opened.handle, at, buf)?;
-        self.kept = Some(opened);
-        Ok(count)
+        if count.is_err() {
+            self.kept = None;
+        }
+        count
     }
 }
 

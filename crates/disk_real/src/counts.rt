@@ -1,5 +1,5 @@
 // Counts of failed calls, and numbers that are drawn.
-ghost use Rattle.std.specs.Prelude.{◌≡◌, ◌+◌, ◌<◌, ◌≤◌, IfOk, OnErr};
+ghost use Rattle.std.specs.Prelude.{◌≡◌, ◌+◌, ◌<◌, ◌≤◌, IfOk, IsErrOf, OnErr, OnOk, true, false};
 ghost use Rattle.mt_outside.specs.Causes.{Rose};
 ghost use Rattle.mt_outside.specs.DiskCauses.{HasDiskCause};
 ghost use Rattle.disk_real.specs.Counts.{next, counted};
@@ -39,6 +39,20 @@ impl Faults {
             self.raise();
         }
         outcome
+    }
+
+    /// Answers a call that has no other error than a fault. Where it was not done, one more call has failed.
+    pub fn finish(&mut self, done: bool) -> Result<(), DiskError>
+        ensures ok { OnOk result (done ≡ true) }
+        ensures err { OnErr result (done ≡ false) }
+        ensures takes_none { IsErrOf result DiskError.NoMemory → ⊥ }
+        ensures cause { HasDiskCause self.old.count self.new.count result }
+    {
+        if done {
+            return Ok(());
+        }
+        self.raise();
+        Err(DiskError::Fault)
     }
 
     /// Takes over the count of an object that is given up: where calls of it had failed, one more has failed here.

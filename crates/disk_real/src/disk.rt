@@ -67,28 +67,23 @@ impl<R: System> RealDisk<R> {
         Ok(())
     }
 
-    // The path of the folder, once it is started.
-    fn root(&self) -> Result<&str, DiskError> {
-        if self.root.is_empty() {
-            return Err(DiskError::Fault);
-        }
-        Ok(&self.root)
-    }
-
     // An arm with a number of its own.
     fn make_arm(&mut self, alloc: Global) -> Result<RealArm<R>, DiskError>
         ensures same { self.new ≡ self.old }
         ensures none_failed { IfOk result (λ a. a ≡ 0) }
     {
+        if self.root.is_empty() {
+            return Err(DiskError::Fault);
+        }
         let number = draw(&mut self.arms)?;
-        RealArm::new(&self.rt, alloc, self.root()?, number)
+        RealArm::new(&self.rt, alloc, &self.root, number)
     }
 
     // The path of the folder that has this name.
     fn path_of(&self, alloc: Global, name: &Name) -> Result<String, DiskError> {
         match root_name(name) {
-            Some(name) => Ok(path_in(alloc, self.root()?, name)?),
-            None => Err(DiskError::Fault),
+            Some(name) if !self.root.is_empty() => Ok(path_in(alloc, &self.root, name)?),
+            _ => Err(DiskError::Fault),
         }
     }
 
@@ -128,15 +123,19 @@ impl<R: System> RealDisk<R> {
     fn cut(&mut self, name: &Name) -> Result<(), DiskError>
         ensures { self.new ≡ self.old }
     {
-        let number = draw(&mut self.removals)?;
         let path = self.path_of(self.alloc, name)?;
-        let hidden = removed_path(self.alloc, &self.root, number)?;
+        let hidden = self.removed_path()?;
         take_away(&self.rt, self.alloc, &self.root, &path, &hidden)
     }
-}
 
-fn removed_path(alloc: Global, root: &str, number: u64) -> Result<String, NoMemory> {
-    Ok(format!(in alloc; "{root}/.removed_{number}")?)
+    // The path that the folder of the next name to be removed gets.
+    fn removed_path(&mut self) -> Result<String, DiskError>
+        ensures { self.new ≡ self.old }
+    {
+        let number = draw(&mut self.removals)?;
+        let root = &self.root;
+        Ok(format!(in self.alloc; "{root}/.removed_{number}").map_err(NoMemory::from)?)
+    }
 }
 
 impl<R: System + Send> Disk for RealDisk<R> {
@@ -192,20 +191,16 @@ impl<R: System + Send> Disk for RealDisk<R> {
 
     /// The folder is first given a name that `list` leaves out. Once that is settled it is removed with its files. Where memory is refused that is a fault.
     fn remove(&mut self, name: &Name) -> Result<(), DiskError> {
-        if self.cut(name).is_err() {
-            self.faults.raise();
-            return Err(DiskError::Fault);
-        }
-        Ok(())
+        let gone = self.cut(name).is_ok();
+        self.faults.finish(gone)
     }
 
     fn sync_names(&mut self) -> Result<(), DiskError> {
-        if self.clock == u64::MAX || sync_folder(&self.rt, &self.root).is_err() {
-            self.faults.raise();
-            return Err(DiskError::Fault);
+        let settled = self.clock < u64::MAX && sync_folder(&self.rt, &self.root).is_ok();
+        if settled {
+            self.clock += 1;
         }
-        self.clock += 1;
-        Ok(())
+        self.faults.finish(settled)
     }
 
     fn mark(&self) -> u64 {

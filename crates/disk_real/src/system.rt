@@ -167,9 +167,11 @@ pub(crate) fn is_folder<R: System>(rt: &R, path: &str) -> bool {
     false
 }
 
-// Adds a name.
-fn push_name(alloc: Global, name: &[u8], names: &mut Vec<Name>) -> Result<(), AllocError> {
-    names.push(Seq::of(Vec::from_slice(alloc, name)?))?;
+// Adds a name, unless it begins with a dot.
+fn push_name(alloc: Global, name: &str, names: &mut Vec<Name>) -> Result<(), AllocError> {
+    if !name.starts_with('.') {
+        names.push(Seq::of(Vec::from_slice(alloc, name.as_bytes())?))?;
+    }
     Ok(())
 }
 
@@ -179,26 +181,28 @@ fn push_names(alloc: Global, ended: &[u8], names: &mut Vec<Name>) -> io::Result<
         return Err(io::Error::from(ErrorKind::InvalidFilename));
     };
     for name in text.split_terminator('\0') {
-        if !name.starts_with('.') {
-            push_name(alloc, name.as_bytes(), names)?;
-        }
+        push_name(alloc, name, names)?;
     }
     Ok(())
 }
 
-// The names in a folder that do not begin with a dot, in no order.
-fn read_names<R: System>(rt: &R, alloc: Global, path: &str) -> io::Result<Vec<Name>> {
+// Adds the names in a folder that do not begin with a dot, in no order. After an error some of them may have been added.
+fn read_names<R: System>(
+    rt: &R,
+    alloc: Global,
+    path: &str,
+    names: &mut Vec<Name>,
+) -> io::Result<()> {
     let mut folder = rt.open_dir(path)?;
-    let mut names = Vec::new(alloc);
     let mut room = [0u8; NAMES_ROOM];
     for _ in 0..u64::MAX {
         let count = folder.read(&mut room)?;
         if count == 0 {
             break;
         }
-        push_names(alloc, &room[..count], &mut names)?;
+        push_names(alloc, &room[..count], names)?;
     }
-    Ok(names)
+    Ok(())
 }
 
 /// The names in a folder that do not begin with a dot, in the order of their bytes.
@@ -207,11 +211,13 @@ pub(crate) fn names_in<R: System>(
     alloc: Global,
     path: &str,
 ) -> Result<Vec<Name>, DiskError> {
+    let mut names = Vec::new(alloc);
     for _ in 0..MOST_TRIES {
-        match read_names(rt, alloc, path) {
+        names.clear();
+        match read_names(rt, alloc, path, &mut names) {
             Err(error) if error.kind() == ErrorKind::Interrupted => {}
             Err(error) => return Err(memory_or_fault(error)),
-            Ok(mut names) => {
+            Ok(()) => {
                 names.sort_unstable();
                 return Ok(names);
             }
