@@ -25,7 +25,7 @@ use Rattle.disk_mem.specs.Images.{loses, has_happened, happened, lost_file, left
 abbrev zeros_of : Written → Written
 zeros_of w = record { file = w.file; bytes = replicate (length w.bytes / 2) 0; synced = false }
 
-kept_file : (w : Written) → w.synced ≡ true → lost_file w ≡ w
+pub kept_file : (w : Written) → w.synced ≡ true → lost_file w ≡ w
 kept_file w is = cond-true w.synced w (zeros_of w) is
 
 lost_file-file : (w : Written) → (lost_file w).file ≡ w.file

@@ -1,12 +1,12 @@
 // What a crash may leave of a disk in memory.
 ghost use Rattle.std.specs.Prelude.{◌≡◌, ◌+◌, ◌/◌, ◌<◌, ◌≤◌, ◌++◌, ◌∷◌, [], None, IfOk, OnOk, length, map, replicate};
-ghost use Rattle.mt_outside.specs.Disk.{Image, changed, names_after, names_of, before_clock, at_clock};
+ghost use Rattle.mt_outside.specs.Disk.{Image, names_after, names_of, before_clock, at_clock};
 ghost use Rattle.disk_mem.specs.Counts.{next};
 ghost use Rattle.disk_mem.specs.Plan.{fresh};
 ghost use Rattle.disk_mem.specs.Images.{loses, has_happened, happened, lost_file, left_files, left_stamped, image_told};
 
 use crate::folder::MemDir;
-use crate::root::Root;
+use crate::root::{Root, make};
 use mt_base::{NoMemory, Seq, Twin};
 use mt_outside::{Change, Files, Stamped, Written};
 use mt_values::Name;
@@ -94,35 +94,35 @@ fn left_stamped(
     }
 }
 
-// The changes that were settled before the mark stood there.
+// Adds the changes that were settled before the mark stood there.
 fn settled(
     alloc: Global,
     changes: &[Stamped<MemDir>],
     clock: u64,
     lose: bool,
-) -> Result<Vec<Stamped<MemDir>>, NoMemory>
-    ensures { IfOk result (λ v. v.items ≡ map (left_stamped lose) (before_clock clock changes.now)) }
+    left: &mut Vec<Stamped<MemDir>>,
+) -> Result<(), NoMemory>
+    ensures { OnOk result (left.new.items ≡ left.old.items ++ map (left_stamped lose) (before_clock clock changes.now)) }
 {
-    let mut left = Vec::new(alloc);
     for stamped in changes {
         if stamped.clock < clock {
             left.push(left_stamped(alloc, stamped, lose)?)?;
         }
     }
-    Ok(left)
+    Ok(())
 }
 
-// Those of the changes at the mark that have happened.
+// Adds those of the changes at the mark that have happened.
 fn unsettled(
     alloc: Global,
     changes: &[Stamped<MemDir>],
     clock: u64,
     choice: u64,
     lose: bool,
-) -> Result<Vec<Stamped<MemDir>>, NoMemory>
-    ensures { IfOk result (λ v. v.items ≡ map (left_stamped lose) (happened choice 0 (at_clock clock changes.now))) }
+    left: &mut Vec<Stamped<MemDir>>,
+) -> Result<(), NoMemory>
+    ensures { OnOk result (left.new.items ≡ left.old.items ++ map (left_stamped lose) (happened choice 0 (at_clock clock changes.now))) }
 {
-    let mut left = Vec::new(alloc);
     let mut number = 0usize;
     for stamped in changes {
         if stamped.clock == clock {
@@ -132,27 +132,7 @@ fn unsettled(
             number += 1;
         }
     }
-    Ok(left)
-}
-
-// Makes a change.
-fn make(
-    alloc: Global,
-    names: &mut BTreeMap<Name, MemDir>,
-    change: &Change<MemDir>,
-) -> Result<(), NoMemory>
-    ensures { OnOk result (names.new.entries ≡ changed names.old.entries change.now) }
-{
-    match change {
-        Change::Publish(name, dir) => {
-            names.insert(name.twin(alloc)?, dir.hold()?)?;
-            Ok(())
-        }
-        Change::Remove(name) => {
-            let _ = names.remove(name);
-            Ok(())
-        }
-    }
+    Ok(())
 }
 
 // The names after these changes.
@@ -175,9 +155,9 @@ impl Root {
         ensures later { IfOk result (λ r. self.now.clock ≤ r.clock) }
     {
         let lose = loses(choice);
-        let mut changes = settled(alloc, &self.changes, self.clock, lose)?;
-        let mut rest = unsettled(alloc, &self.changes, self.clock, choice, lose)?;
-        changes.append(&mut rest)?;
+        let mut changes = Vec::new(alloc);
+        settled(alloc, &self.changes, self.clock, lose, &mut changes)?;
+        unsettled(alloc, &self.changes, self.clock, choice, lose, &mut changes)?;
         let names = names_by(alloc, &changes)?;
         changes.reserve(names.len())?;
         let clock = self.clock.saturating_add(1);

@@ -1,7 +1,7 @@
 // The names of a disk in memory, with every change that led to them.
 ghost use Rattle.std.specs.Prelude.{◌≡◌, ◌+◌, ◌≤◌, ◌++◌, ◌∷◌, [], Some, IfOk, OnOk, OnErr, IsSome, is_some, map, vec_len, vec_capacity};
 ghost use Rattle.std.specs.BTreeMap.{btree_map_len};
-ghost use Rattle.mt_outside.specs.Disk.{names_after, files_at};
+ghost use Rattle.mt_outside.specs.Disk.{changed, names_after, files_at};
 
 use crate::folder::MemDir;
 use mt_base::{NoMemory, Twin};
@@ -32,6 +32,37 @@ fn names_in(alloc: Global, names: &BTreeMap<Name, MemDir>) -> Result<Vec<Name>, 
     Ok(list)
 }
 
+/// Makes a change.
+///
+/// `NoMemory` where a growth was refused; the names stay as they were.
+pub fn make(
+    alloc: Global,
+    names: &mut BTreeMap<Name, MemDir>,
+    change: &Change<MemDir>,
+) -> Result<(), NoMemory>
+    ensures ok { OnOk result (names.new.entries ≡ changed names.old.entries change.now) }
+    ensures err { OnErr result (names.new.entries ≡ names.old.entries) }
+    ensures few { btree_map_len names.new ≤ btree_map_len names.old + 1 }
+{
+    match change {
+        Change::Publish(name, dir) => {
+            names.insert(name.twin(alloc)?, dir.hold()?)?;
+            Ok(())
+        }
+        Change::Remove(name) => {
+            let _ = names.remove(name);
+            Ok(())
+        }
+    }
+}
+
+// The change that gives a folder a name.
+fn published(alloc: Global, name: &Name, dir: &MemDir) -> Result<Change<MemDir>, NoMemory>
+    ensures { IfOk result (λ change. change ≡ Change.Publish name.now dir.now) }
+{
+    Ok(Change::Publish(name.twin(alloc)?, dir.hold()?))
+}
+
 impl Root {
     /// No name. Takes no memory.
     pub fn new(alloc: Global) -> Root
@@ -58,15 +89,11 @@ impl Root {
         let names = self.names.len();
         self.changes.reserve(names + 2)?;
         let dir = MemDir::new(alloc, files)?;
-        let told = dir.hold()?;
-        let given = dir.hold()?;
-        let key = name.twin(alloc)?;
-        let name = name.twin(alloc)?;
-        self.names.insert(key, dir)?;
+        let change = published(alloc, name, &dir)?;
+        make(alloc, &mut self.names, &change)?;
         let clock = self.clock;
-        let change = Change::Publish(name, told);
         self.changes.push_reserved(Stamped { clock, change });
-        Ok(given)
+        Ok(dir)
     }
 
     /// Takes a name away that is there. Takes no memory.
