@@ -70,7 +70,7 @@ impl<S: Stage> Open<S> {
     pub fn has(&self, file: FileId) -> bool
         ensures { result ≡ has_file file self.now.names }
     {
-        self.names.as_slice().iter().any(|name| name.is(file))
+        is_among(self.names.as_slice(), file)
     }
 
     /// The stage, to be given up. Takes no memory.
@@ -93,6 +93,18 @@ impl<S: Stage> Sealed<S> {
         let Sealed { stage } = self;
         stage
     }
+}
+
+// Whether the file is one of these.
+fn is_among(names: &[FileId], file: FileId) -> bool
+    ensures { result ≡ has_file file names.now }
+{
+    for name in names {
+        if name.is(file) {
+            return true;
+        }
+    }
+    false
 }
 
 /// Writes a file that was not written yet, with these bytes. Where there are none it is an empty file.
