@@ -81,16 +81,26 @@ pub fn spell_name(alloc: Global, name: &RootName) -> Result<Name, NoMemory>
     ensures { IfOk result (λ text. text ≡ root_text name.now) }
 {
     match name {
-        RootName::Create(table) => {
-            let mut text = Seq::from_slice(alloc, table.as_slice())?;
-            text.extend(b".create".as_slice())?;
-            Ok(text)
-        }
-        RootName::Part(part) => {
-            let mut text = Seq::from_slice(alloc, part.table.as_slice())?;
-            text.extend(b".part_".as_slice())?;
-            text.extend(part_name::text(alloc, &part.name)?.as_slice())?;
-            Ok(text)
-        }
+        RootName::Create(table) => spell_behind(alloc, table, b".create"),
+        RootName::Part(part) => spell_part(alloc, part),
     }
+}
+
+// The bytes of a table's name, and these behind it.
+fn spell_behind(alloc: Global, table: &Name, more: &[u8]) -> Result<Name, NoMemory>
+    ensures { IfOk result (λ text. text ≡ table.now ++ more.now) }
+{
+    let mut text = Seq::from_slice(alloc, table.as_slice())?;
+    text.extend(more)?;
+    Ok(text)
+}
+
+// The bytes of the name of a part.
+fn spell_part(alloc: Global, part: &TablePart) -> Result<Name, NoMemory>
+    ensures { IfOk result (λ text. text ≡ root_text (RootName.Part part.now)) }
+{
+    let name = part_name::text(alloc, &part.name)?;
+    let mut text = spell_behind(alloc, &part.table, b".part_")?;
+    text.extend(name.as_slice())?;
+    Ok(text)
 }

@@ -44,7 +44,12 @@ fn in_word(byte: u8) -> bool
 fn all_in_word(bytes: &[u8]) -> bool
     ensures { result ≡ list_all in_word bytes.now }
 {
-    bytes.iter().all(|byte| in_word(*byte))
+    for byte in bytes {
+        if !in_word(*byte) {
+            return false;
+        }
+    }
+    true
 }
 
 // Whether the bytes are one word.

@@ -1,0 +1,7 @@
+use Rattle.std.proofs.Common.{◌≡◌, true, false, refl}
+use Rattle.part_set.proofs.pass.stand_of.Goals as goal
+
+pub returns-then-meet : goal.returns-then-meet
+returns-then-meet c =
+    rw (← c.in-Some.ensures.value)
+    (c.if-meet.ensures.0 refl, (λ covered. let never : false ≡ true = c.if-contains.ensures.1 covered in cc))
