@@ -1,6 +1,7 @@
 -- What a commit that failed leaves.
 use Rattle.std.proofs.Common.{◌≡◌, ◌≢◌, ℕ, List, [], ◌∷◌, Option, Some, None, Bool, true, false, cond, is_some, nat_le, nat_lt, length, ◌<◌, ◌≤◌, ◌⊎◌, arith, refl, sym, ap, ◌∙◌, subst, inl, inr}
 use Rattle.std.specs.BTreeMap.{insert_entry, is_at}
+use Rattle.std.specs.Bool.{then_some}
 use Rattle.std.specs.Cmp.{IsTotalOrder}
 use Rattle.std.specs.Cmp.Lexicographic.{slice_cmp}
 use Rattle.std.specs.Map.{lookup, remove_entry}
@@ -20,6 +21,11 @@ use Rattle.root_log.specs.declared.commits.Refused.TheVariants as refused
 use Rattle.root_log.specs.declared.store.CoreStore.{CoreStore}
 use Rattle.root_log.specs.Commits.{IsCause, IsOutside, SameStore, refused_by_disk, refuses_create, refuses_part, whole_parts}
 use Rattle.root_log.specs.Stores.{table_at}
+
+-- what is shown where a test passes
+pub shown_then : {X : Type 0} (b : Bool) (x : X) → then_some b x ≡ cond b (Some x) None
+shown_then true x = refl
+shown_then false x = refl
 
 -- a new entry that is taken out again
 put_and_removed : {K X : Type 0} (cmp : K → K → Ordering) → IsTotalOrder cmp → (es : List (K × X)) (k : K) (v : X) → lookup (is_at (cmp k)) es ≡ None → remove_entry (is_at (cmp k)) (insert_entry cmp es k v) ≡ es

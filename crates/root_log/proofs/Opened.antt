@@ -1,9 +1,9 @@
 -- What is told of the texts of a root's names.
-use Rattle.std.proofs.Common.{◌≡◌, ℕ, ◌+◌, ◌-◌, ◌<◌, ◌≤◌, true, List, [], ◌∷◌, length, map, filter, get_or, refl, sym, ap, ap₂, ◌∙◌, subst, arith, Option, Some, None, IsSomeAnd}
+use Rattle.std.proofs.Common.{◌≡◌, ℕ, ◌+◌, ◌-◌, ◌<◌, ◌≤◌, Bool, true, List, [], ◌∷◌, length, map, filter, get_or, refl, sym, ap, ap₂, ◌∙◌, subst, arith, Option, Some, None, IsSomeAnd}
 use Rattle.std.specs.Bool.{◌==◌}
 use Rattle.std.proofs.lemmas.Bool.Decides.{nat_tests}
 use Rattle.std.proofs.lemmas.Cmp.{nat_list_cmp_total}
-use Rattle.std.proofs.lemmas.List.{get_or_read}
+use Rattle.std.proofs.lemmas.List.{get_or_read, nil_from_length}
 use Rattle.std.proofs.lemmas.Map.Keys.{Less-from_sorted, sorted_from_all_adjacent}
 use Rattle.std.proofs.lemmas.Option.{slice_get-map, slice_get_within}
 use Rattle.std.specs.Cmp.Lexicographic.{slice_cmp}
@@ -139,5 +139,11 @@ pub no_names : (names : Names) → map (λ (n : List ℕ × Files). n.0) names �
 no_names [] none = refl
 no_names (n ∷ names) none = absurd cc
 
-pub is_zero : (n : ℕ) → (n == 0) ≡ true → n ≡ 0
+is_zero : (n : ℕ) → (n == 0) ≡ true → n ≡ 0
 is_zero n is = grind (arith, nat_tests)
+
+-- a list that is tested to be empty has no item
+pub no_items : {X : Type 0} (xs : List X) (test : Bool) → test ≡ (length xs == 0) → test ≡ true → xs ≡ []
+no_items xs test is empty =
+    let zero : length xs ≡ 0 = is_zero (length xs) (sym is ∙ empty) in
+    nil_from_length xs (omega arith)

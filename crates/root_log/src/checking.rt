@@ -78,8 +78,10 @@ fn check_files<R: Arm>(
     ensures fault { IsErrOf result PartFault.Fault → Rose (R.failed arm.old) (R.failed arm.new) }
 {
     let part = open_part(alloc, dir, schema, arm)?;
-    check_part(alloc, &part, schema, arm)?;
-    Ok(part)
+    match check_part(alloc, &part, schema, arm) {
+        Ok(()) => Ok(part),
+        Err(fault) => Err(fault),
+    }
 }
 
 /// A part of a table with this schema: its folder is opened, and each of its files checked.

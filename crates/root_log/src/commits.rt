@@ -1,13 +1,14 @@
 // A command added to the disk, to what the keeper tells and to the store.
 ghost use Rattle.std.specs.Prelude.{◌≡◌, ◌≢◌, ◌+◌, ◌-◌, ◌<◌, ◌≤◌, ◌^◌, ◌∷◌, ◌++◌, [], ℕ, IsSome, IsTrue, List, Option, Some, None, IfErr, IfOk, IfSome, IsErrOf, IsNone, OnErr, OnOk, length, Result};
-ghost use Rattle.std.specs.BTreeMap.{Updates, get, insert_entry};
+ghost use Rattle.std.specs.BTreeMap.{Updates, get, insert_entry, is_at};
 ghost use Rattle.std.specs.Cmp.Lexicographic.{slice_cmp};
+ghost use Rattle.std.specs.Map.{remove_entry};
 ghost use Rattle.std.specs.Option.{ForSome, option_map};
 ghost use Rattle.std.specs.Ordering.{nat_cmp};
 ghost use Rattle.mt_values.specs.declared.command.Command.TheVariants as command;
 ghost use Rattle.mt_values.specs.declared.statement.Cause.{Cause};
 ghost use Rattle.mt_values.specs.declared.statement.Statement.{Statement};
-ghost use Rattle.mt_values.specs.Annals.{Told, began};
+ghost use Rattle.mt_values.specs.Annals.{Told, began, noted};
 ghost use Rattle.mt_values.specs.RootNames.{create_name, part_name};
 ghost use Rattle.part_name.specs.PartNames.{part_text};
 ghost use Rattle.part_set.specs.RootNames.{is_table};
@@ -100,10 +101,7 @@ pub struct Returned<S> {
 fn refuse_stopped(opened: u64, now: u64) -> Option<Refused>
     ensures { result ≡ stopped_by opened now }
 {
-    if opened < now {
-        return Some(Refused::Stopped { opened, now });
-    }
-    None
+    (opened < now).then_some(Refused::Stopped { opened, now })
 }
 
 // What the store and the disk's count show against a CREATE.
@@ -263,6 +261,27 @@ fn name_of_part(number: u32) -> PartName
     }
 }
 
+// Settles the name that was published, and notes the command that is begun. The keeper has room for it.
+fn settle<D: Disk, A: Annals>(disk: &mut D, annals: &mut A) -> Result<(), DiskError>
+    requires room { A.has_room annals.old }
+    requires begun { ForSome (A.told annals.old) (λ t. IsSome t.begun) }
+    ensures annals { OnOk result (A.told annals.new ≡ option_map (noted (D.clock disk.new)) (A.told annals.old)) }
+    ensures annals_err { OnErr result (A.told annals.new ≡ A.told annals.old) }
+    ensures clock { OnOk result (D.clock disk.new ≡ D.clock disk.old + 1) }
+    ensures clock_err { OnErr result (D.clock disk.new ≡ D.clock disk.old) }
+    ensures told { D.told disk.new ≡ D.told disk.old }
+    ensures takes_none { IsErrOf result DiskError.NoMemory → ⊥ }
+    ensures cause { HasDiskCause (D.failed disk.old) (D.failed disk.new) result }
+{
+    match disk.sync_names() {
+        Ok(()) => {
+            annals.note(disk.mark());
+            Ok(())
+        }
+        Err(error) => Err(error),
+    }
+}
+
 // Publishes what was sealed, settles it and notes the command. The keeper has room for it.
 //
 // After an error the keeper tells the same list; after a fault the name is there or not.
@@ -293,9 +312,19 @@ fn commit<D: Disk, A: Annals>(
         Ok(dir) => dir,
         Err(error) => return Err(error),
     };
-    disk.sync_names()?;
-    annals.note(disk.mark());
-    Ok(dir)
+    match settle(disk, annals) {
+        Ok(()) => Ok(dir),
+        Err(error) => Err(error),
+    }
+}
+
+// A CREATE was not committed: its table is taken out again.
+fn take_out(tables: &mut BTreeMap<Name, Table>, table: &Name, error: DiskError) -> Refused
+    ensures cause { result ≡ refused_by_disk error }
+    ensures entries { tables.new.entries ≡ remove_entry (is_at (slice_cmp nat_cmp table.now)) tables.old.entries }
+{
+    tables.remove(table);
+    Refused::of_disk(error)
 }
 
 /// Commits a CREATE whose entry was sealed: its name is published and settled, the keeper notes it, and the store has the table.
@@ -380,8 +409,7 @@ pub fn commit_create<D: Disk, A: Annals>(
             Ok(())
         }
         Err(error) => {
-            store.tables.remove(&table);
-            let cause = Refused::of_disk(error);
+            let cause = take_out(&mut store.tables, &table, error);
             Err(Returned { cause, back: None })
         }
     }

@@ -1,5 +1,5 @@
 // The store that the names of a root make, one name after the other.
-ghost use Rattle.std.specs.Prelude.{◌≡◌, ◌≢◌, ◌≤◌, ◌<◌, ◌+◌, ◌++◌, ◌∷◌, ◌⊎◌, ⊤, [], ℕ, IfErr, IfOk, IsErrOf, IsSome, List, OnErr, OnOk, Some, None, length, map, take};
+ghost use Rattle.std.specs.Prelude.{◌≡◌, ◌≢◌, ◌≤◌, ◌<◌, ◌+◌, ◌++◌, ◌∷◌, ◌⊎◌, ◌↔◌, ⊤, [], ℕ, IfErr, IfOk, IsErrOf, IsSome, IsTrue, List, OnErr, OnOk, Some, None, length, map, take};
 ghost use Rattle.std.specs.BTreeMap.{IsOrdered, Updates, get, insert_entry};
 ghost use Rattle.std.specs.Cmp.Lexicographic.{slice_cmp};
 ghost use Rattle.std.specs.List.{sum_by};
@@ -122,6 +122,14 @@ fn keep_part<D: Disk>(
     Ok(())
 }
 
+// Whether a part is visible among the names of a root.
+fn shows(root: &Root, part: &TablePart) -> bool
+    requires { IsNamedRoot root.now }
+    ensures { IsTrue result ↔ IsVisible root.now.names.items part.now }
+{
+    root.shown.has(&part.table, &part.name)
+}
+
 // The store gets what the name at a place is: a table, or a part where it is visible. The files of hidden parts are not read.
 fn keep_name<D: Disk>(
     alloc: Global,
@@ -152,7 +160,7 @@ fn keep_name<D: Disk>(
     match &root.names[place] {
         RootName::Create(table) => keep_table(alloc, disk, arm, store, text, table),
         RootName::Part(part) => {
-            if root.shown.has(&part.table, &part.name) {
+            if shows(root, part) {
                 keep_part(alloc, disk, arm, store, text, part)
             } else {
                 Ok(())

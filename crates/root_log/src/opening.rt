@@ -1,10 +1,11 @@
 // A root opened: its names read, its entries and its visible parts checked, and the store that is kept of it.
-ghost use Rattle.std.specs.Prelude.{◌≡◌, ◌≢◌, ◌⊎◌, ◌+◌, ◌<◌, ◌≤◌, [], ℕ, IfErr, IfNone, IfOk, IfSome, IsErrOf, IsNone, List, MatchResult, None, OnOk, Some, length, map};
+ghost use Rattle.std.specs.Prelude.{◌≡◌, ◌≢◌, ◌⊎◌, ◌+◌, ◌<◌, ◌≤◌, [], ℕ, IfErr, IfNone, IfOk, IfSome, IsErrOf, IsNone, List, MatchResult, None, OnErr, OnOk, Some, length, map};
 ghost use Rattle.std.specs.Cmp.Lexicographic.{slice_cmp};
 ghost use Rattle.std.specs.List.Sorted.{IsStrictlySortedBy};
 ghost use Rattle.std.specs.Ordering.{nat_cmp};
 ghost use Rattle.mt_values.specs.declared.annals.Noted.{Noted};
 ghost use Rattle.mt_outside.specs.Causes.{Rose};
+ghost use Rattle.mt_outside.specs.DiskCauses.{HasDiskCause};
 ghost use Rattle.mt_outside.specs.Disk.{Names, Told, names_of};
 ghost use Rattle.mt_model.specs.History.{History};
 ghost use Rattle.part_set.specs.NameOrder.{Rise};
@@ -154,6 +155,20 @@ fn read_root(alloc: Global, texts: Vec<Name>) -> Result<Root, OpenFault>
     }
 }
 
+// Settles the names, where there are any.
+fn settle<D: Disk>(disk: &mut D, texts: &[Name]) -> Result<(), DiskError>
+    ensures settled { texts.now ≢ [] → OnOk result (D.clock disk.new ≡ D.clock disk.old + 1) }
+    ensures mark { (D.clock disk.new ≡ D.clock disk.old) ⊎ (D.clock disk.new ≡ D.clock disk.old + 1) }
+    ensures mark_err { OnErr result (D.clock disk.new ≡ D.clock disk.old) }
+    ensures told { D.told disk.new ≡ D.told disk.old }
+    ensures cause { HasDiskCause (D.failed disk.old) (D.failed disk.new) result }
+{
+    if texts.is_empty() {
+        return Ok(());
+    }
+    disk.sync_names()
+}
+
 /// Opens the root: reads its names, reads each entry and checks each file of each visible part, and settles the names that it read.
 ///
 /// `Damaged` exactly where something keeps the root from being opened, which it tells: never where the root stands for a history.
@@ -183,8 +198,6 @@ pub fn open<D: Disk>(
     let opened = disk.faults();
     let root = read_root(alloc, disk.list(alloc)?)?;
     let store = keep_root(alloc, disk, arm, &root, opened)?;
-    if !root.texts.is_empty() {
-        disk.sync_names()?;
-    }
+    settle(disk, &root.texts)?;
     Ok(store)
 }

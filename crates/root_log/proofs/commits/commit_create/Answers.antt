@@ -1,11 +1,11 @@
-use Rattle.std.proofs.Common.{◌≡◌, ◌∷◌, [], ◌<◌, ℕ, List, Some, None, Err, length, refl, sym, ap, ◌∙◌, subst}
+use Rattle.std.proofs.Common.{◌≡◌, ◌∷◌, [], ◌<◌, ℕ, List, Option, Some, None, Err, length, le_refl, refl, sym, ap, ◌∙◌, subst}
 use Rattle.std.specs.Option.{ForSome, option_map}
 use Rattle.mt_values.specs.declared.command.Command.TheVariants as command
 use Rattle.mt_values.specs.declared.command.Entry.{Entry}
 use Rattle.mt_values.specs.Annals.{Told, began, noted}
 use Rattle.mt_values.specs.RootNames.{create_name}
 use Rattle.mt_outside.specs.Disk.{MayPut, files_at, names_of, put}
-use Rattle.root_log.specs.Commits.{fresh_table, refuses_create}
+use Rattle.root_log.specs.Commits.{SameList, fresh_table, refuses_create}
 use Rattle.root_log.specs.Crashes.{entries_of}
 use Rattle.root_log.specs.Soundness.{NamesFit}
 use Rattle.root_log.specs.Stores.{table_at}
@@ -18,6 +18,7 @@ use Rattle.root_log.proofs.Holding.{held_made, held_same}
 use Rattle.root_log.proofs.Leaving.{cause_shown, disk_fault, disk_memory, none_shown, outside_disk, same_tables, shown_absent, shown_calm, shown_few, shown_other, taken_out}
 use Rattle.root_log.proofs.Rooted.{root_made}
 use Rattle.root_log.proofs.Sounding.{names_kept, sound_made, sound_same}
+use Rattle.root_log.proofs.SameLists.{no_disk, not_none, same_list}
 use Rattle.root_log.proofs.commits.commit_create.Goals as goal
 
 pub commit-requires-clause-free : goal.commit-requires-clause-free
@@ -55,10 +56,10 @@ returns-in-Err-clause-store g c = sound_same _ _ (same_tables c.args.store.now _
 pub returns-clause-cause : goal.returns-clause-cause
 returns-clause-cause g c =
     cause_shown (λ n. refuses_create c.args.store.now c.args.create.table n) _ _ _ c.refuse_create.ensures c.faults.ensures None _ c.in_default.is
-    (outside_disk c.in-Err-commit.error c.of_disk-cause.result c.of_disk-cause.ensures)
+    (outside_disk c.in-Err-commit.error c.take_out-cause.result c.take_out-cause.ensures.cause)
 
 pub returns-clause-rose : goal.returns-clause-rose
-returns-clause-rose g c = λ disk. c.in-Err-commit.ensures.cause.failed (ap Err (disk_fault c.in-Err-commit.error c.of_disk-cause.result c.of_disk-cause.ensures disk))
+returns-clause-rose g c = λ disk. c.in-Err-commit.ensures.cause.failed (ap Err (disk_fault c.in-Err-commit.error c.take_out-cause.result c.take_out-cause.ensures.cause disk))
 
 pub returns-clause-published : goal.returns-clause-published
 returns-clause-published g c = λ none.
@@ -68,16 +69,16 @@ pub returns-clause-same : goal.returns-clause-same
 returns-clause-same g c =
     let key = c.args.create.table in
     let absent = shown_absent c.args.store.now key c.faults.result (sym c.refuse_create.ensures ∙ c.in_default.is) in
-    same_tables _ _ (taken_out c.args.store.now.tables.entries _ _ key _ (fresh_table c.args.create.schema) absent c.in-Ok.ensures.entries c.in-Ok.ensures.table c.remove.ensures.entries) refl refl refl
+    same_tables _ _ (taken_out c.args.store.now.tables.entries _ _ key _ (fresh_table c.args.create.schema) absent c.in-Ok.ensures.entries c.in-Ok.ensures.table c.take_out-cause.ensures.entries) refl refl refl
 
 pub returns-clause-store : goal.returns-clause-store
 returns-clause-store g c = sound_same _ _ (returns-clause-same g c) c.requires.store
 
 pub returns-clause-names : goal.returns-clause-names
 returns-clause-names g c =
-    names_kept c.args.store.now _ (returns-clause-same g c) (g.D.Disk.failed c.args.disk.now) _ (g.D.Disk.told c.args.disk.now) _ c.of_disk-cause.result
+    names_kept c.args.store.now _ (returns-clause-same g c) (g.D.Disk.failed c.args.disk.now) _ (g.D.Disk.told c.args.disk.now) _ c.take_out-cause.result
     c.requires.opened c.requires.below c.in-Err-commit.ensures.cause.later (returns-clause-rose g c)
-    (λ other. c.in-Err-commit.ensures.memory (ap Err (disk_memory c.in-Err-commit.error c.of_disk-cause.result c.of_disk-cause.ensures other))) c.requires.names
+    (λ other. c.in-Err-commit.ensures.memory (ap Err (disk_memory c.in-Err-commit.error c.take_out-cause.result c.take_out-cause.ensures.cause other))) c.requires.names
 
 -- it was
 module _ (g : _) (c : goal.After-drop-name-inside g) where
@@ -143,9 +144,9 @@ returns-clause-through_crashes g c = λ ran statement first start files is holds
     let e : Entry = record { session = c.args.session; command = command.Create c.args.create } in
     let begun = c.in-Err-commit.ensures.begun ∙ ap (option_map (began e)) c.in-Ok.ensures.told in
     let may = subst (λ (n : List ℕ). MayPut (g.D.Disk.clock c.args.disk.now) n c.args.sealed.files (g.D.Disk.told c.args.disk.now) (g.D.Disk.told c.commit.new.disk)) c.in-Ok.ensures.name c.in-Err-commit.ensures.left in
-    let unless = unrisen c.of_disk-cause.result store.opened (g.D.Disk.failed c.args.disk.now) (g.D.Disk.failed c.commit.new.disk) (g.D.Disk.told c.args.disk.now) (g.D.Disk.told c.commit.new.disk)
+    let unless = unrisen c.take_out-cause.result store.opened (g.D.Disk.failed c.args.disk.now) (g.D.Disk.failed c.commit.new.disk) (g.D.Disk.told c.args.disk.now) (g.D.Disk.told c.commit.new.disk)
     c.requires.opened c.requires.below c.in-Err-commit.ensures.cause.later (returns-clause-rose g c)
-    (λ other. c.in-Err-commit.ensures.memory (ap Err (disk_memory c.in-Err-commit.error c.of_disk-cause.result c.of_disk-cause.ensures other))) in
+    (λ other. c.in-Err-commit.ensures.memory (ap Err (disk_memory c.in-Err-commit.error c.take_out-cause.result c.take_out-cause.ensures.cause other))) in
     kept_failed g.D.Arm.Dir.Dir.files ran statement store _ first start (g.D.Disk.clock c.args.disk.now) (create_name table) c.args.sealed.files files e _ _ _ _ is keeps.safe calm.0
     (grows_by_table g.D.Arm.Dir.Dir.files store (entries_of calm.0.kept.list) c.args.session (calm.1 calm.0.kept calm.0.annals_is) files (c.in-Err-commit.ensures.sealed files is) c.args.create
     (shown_absent store table _ none) (shown_few store table _ none) c.requires.schema c.requires.named holds)
@@ -171,3 +172,215 @@ returns-clause-held g c = λ held. held_same g.D.Arm.Dir.Dir.files c.args.store.
 
 pub returns-in-Ok-commit-clause-held : goal.returns-in-Ok-commit-clause-held
 returns-in-Ok-commit-clause-held g c = λ held. held_made g.D.Arm.Dir.Dir.files c.args.store.now _ _ _ (returns-in-Ok-commit-clause-enters g c) c.requires.store held
+
+-- what was sealed comes back
+pub returns-in-Some-clause-later : goal.returns-in-Some-clause-later
+returns-in-Some-clause-later g c = le_refl _
+
+pub returns-in-Some-clause-back : goal.returns-in-Some-clause-back
+returns-in-Some-clause-back g c = refl
+
+pub returns-in-Some-clause-unpublished : goal.returns-in-Some-clause-unpublished
+returns-in-Some-clause-unpublished g c = refl
+
+pub returns-in-Some-clause-given : goal.returns-in-Some-clause-given
+returns-in-Some-clause-given g c = λ none. absurd (not_none none)
+
+pub returns-in-Some-clause-annals_err : goal.returns-in-Some-clause-annals_err
+returns-in-Some-clause-annals_err g c = same_list _ _ refl
+
+pub returns-in-Some-clause-list_back : goal.returns-in-Some-clause-list_back
+returns-in-Some-clause-list_back g c = refl
+
+pub returns-in-Some-clause-begun : goal.returns-in-Some-clause-begun
+returns-in-Some-clause-begun g c = λ none. absurd (not_none none)
+
+pub returns-in-Some-clause-mark_err : goal.returns-in-Some-clause-mark_err
+returns-in-Some-clause-mark_err g c = refl
+
+pub returns-in-Some-clause-mark : goal.returns-in-Some-clause-mark
+returns-in-Some-clause-mark g c = tt
+
+pub returns-in-Some-clause-annals : goal.returns-in-Some-clause-annals
+returns-in-Some-clause-annals g c = tt
+
+pub returns-in-Some-clause-unchanged : goal.returns-in-Some-clause-unchanged
+returns-in-Some-clause-unchanged g c = λ other. refl
+
+pub returns-in-Some-clause-opened : goal.returns-in-Some-clause-opened
+returns-in-Some-clause-opened g c = refl
+
+pub returns-in-Some-clause-published : goal.returns-in-Some-clause-published
+returns-in-Some-clause-published g c = λ none. absurd (not_none none)
+
+pub returns-in-Some-clause-root : goal.returns-in-Some-clause-root
+returns-in-Some-clause-root g c = tt
+
+pub returns-in-Some-clause-enters : goal.returns-in-Some-clause-enters
+returns-in-Some-clause-enters g c = tt
+
+pub returns-in-Some-clause-stands : goal.returns-in-Some-clause-stands
+returns-in-Some-clause-stands g c = λ h s. tt
+
+pub returns-in-Some-clause-root_stands : goal.returns-in-Some-clause-root_stands
+returns-in-Some-clause-root_stands g c = λ h files s stands is holds. tt
+
+pub returns-in-Some-clause-held : goal.returns-in-Some-clause-held
+returns-in-Some-clause-held g c = λ held. held
+
+pub returns-in-Some-clause-store : goal.returns-in-Some-clause-store
+returns-in-Some-clause-store g c = c.requires.store
+
+pub returns-in-Some-clause-names : goal.returns-in-Some-clause-names
+returns-in-Some-clause-names g c = c.requires.names
+
+pub returns-in-Err-clause-later : goal.returns-in-Err-clause-later
+returns-in-Err-clause-later g c = le_refl _
+
+pub returns-in-Err-clause-back : goal.returns-in-Err-clause-back
+returns-in-Err-clause-back g c = refl
+
+pub returns-in-Err-clause-unpublished : goal.returns-in-Err-clause-unpublished
+returns-in-Err-clause-unpublished g c = refl
+
+pub returns-in-Err-clause-given : goal.returns-in-Err-clause-given
+returns-in-Err-clause-given g c = λ none. absurd (not_none none)
+
+pub returns-in-Err-clause-annals_err : goal.returns-in-Err-clause-annals_err
+returns-in-Err-clause-annals_err g c = same_list _ _ c.in-Err.ensures.told
+
+pub returns-in-Err-clause-list_back : goal.returns-in-Err-clause-list_back
+returns-in-Err-clause-list_back g c = c.in-Err.ensures.told
+
+pub returns-in-Err-clause-begun : goal.returns-in-Err-clause-begun
+returns-in-Err-clause-begun g c = λ none. absurd (not_none none)
+
+pub returns-in-Err-clause-mark_err : goal.returns-in-Err-clause-mark_err
+returns-in-Err-clause-mark_err g c = refl
+
+pub returns-in-Err-clause-mark : goal.returns-in-Err-clause-mark
+returns-in-Err-clause-mark g c = tt
+
+pub returns-in-Err-clause-annals : goal.returns-in-Err-clause-annals
+returns-in-Err-clause-annals g c = tt
+
+pub returns-in-Err-clause-unchanged : goal.returns-in-Err-clause-unchanged
+returns-in-Err-clause-unchanged g c = λ other. refl
+
+pub returns-in-Err-clause-opened : goal.returns-in-Err-clause-opened
+returns-in-Err-clause-opened g c = refl
+
+pub returns-in-Err-clause-published : goal.returns-in-Err-clause-published
+returns-in-Err-clause-published g c = λ none. absurd (not_none none)
+
+pub returns-in-Err-clause-root : goal.returns-in-Err-clause-root
+returns-in-Err-clause-root g c = tt
+
+pub returns-in-Err-clause-enters : goal.returns-in-Err-clause-enters
+returns-in-Err-clause-enters g c = tt
+
+pub returns-in-Err-clause-stands : goal.returns-in-Err-clause-stands
+returns-in-Err-clause-stands g c = λ h s. tt
+
+pub returns-in-Err-clause-root_stands : goal.returns-in-Err-clause-root_stands
+returns-in-Err-clause-root_stands g c = λ h files s stands is holds. tt
+
+pub returns-in-Err-clause-rose : goal.returns-in-Err-clause-rose
+returns-in-Err-clause-rose g c = λ disk. absurd (no_disk disk)
+
+pub returns-in-Err-clause-faulted : goal.returns-in-Err-clause-faulted
+returns-in-Err-clause-faulted g c = λ disk. absurd (no_disk disk)
+
+-- it was given to the disk
+pub returns-clause-later : goal.returns-clause-later
+returns-clause-later g c = c.in-Err-commit.ensures.cause.later
+
+pub returns-clause-back : goal.returns-clause-back
+returns-clause-back g c = tt
+
+pub returns-clause-unpublished : goal.returns-clause-unpublished
+returns-clause-unpublished g c = tt
+
+pub returns-clause-faulted : goal.returns-clause-faulted
+returns-clause-faulted g c = λ disk. refl
+
+pub returns-clause-list_back : goal.returns-clause-list_back
+returns-clause-list_back g c = tt
+
+pub returns-clause-mark_err : goal.returns-clause-mark_err
+returns-clause-mark_err g c = c.in-Err-commit.ensures.mark_err
+
+pub returns-clause-annals_err : goal.returns-clause-annals_err
+returns-clause-annals_err g c = subst (λ (o : Option Told). SameList o (g.A.Annals.told c.commit.new.annals)) c.in-Ok.ensures.told c.in-Err-commit.ensures.annals_err
+
+pub returns-clause-given : goal.returns-clause-given
+returns-clause-given g c = λ none. outside_disk c.in-Err-commit.error c.take_out-cause.result c.take_out-cause.ensures.cause
+
+pub returns-clause-unchanged : goal.returns-clause-unchanged
+returns-clause-unchanged g c = λ other. c.in-Err-commit.ensures.memory (ap Err (disk_memory c.in-Err-commit.error c.take_out-cause.result c.take_out-cause.ensures.cause other))
+
+pub returns-clause-root : goal.returns-clause-root
+returns-clause-root g c = tt
+
+pub returns-clause-mark : goal.returns-clause-mark
+returns-clause-mark g c = tt
+
+pub returns-clause-annals : goal.returns-clause-annals
+returns-clause-annals g c = tt
+
+pub returns-clause-enters : goal.returns-clause-enters
+returns-clause-enters g c = tt
+
+pub returns-clause-stands : goal.returns-clause-stands
+returns-clause-stands g c = λ h s. tt
+
+pub returns-clause-root_stands : goal.returns-clause-root_stands
+returns-clause-root_stands g c = λ h files s stands is holds. tt
+
+pub returns-clause-opened : goal.returns-clause-opened
+returns-clause-opened g c = refl
+
+pub returns-in-Ok-commit-clause-rose : goal.returns-in-Ok-commit-clause-rose
+returns-in-Ok-commit-clause-rose g c = tt
+
+pub returns-in-Ok-commit-clause-later : goal.returns-in-Ok-commit-clause-later
+returns-in-Ok-commit-clause-later g c = c.in-Ok-commit.ensures.cause.later
+
+pub returns-in-Ok-commit-clause-back : goal.returns-in-Ok-commit-clause-back
+returns-in-Ok-commit-clause-back g c = tt
+
+pub returns-in-Ok-commit-clause-unpublished : goal.returns-in-Ok-commit-clause-unpublished
+returns-in-Ok-commit-clause-unpublished g c = tt
+
+pub returns-in-Ok-commit-clause-faulted : goal.returns-in-Ok-commit-clause-faulted
+returns-in-Ok-commit-clause-faulted g c = tt
+
+pub returns-in-Ok-commit-clause-given : goal.returns-in-Ok-commit-clause-given
+returns-in-Ok-commit-clause-given g c = tt
+
+pub returns-in-Ok-commit-clause-same : goal.returns-in-Ok-commit-clause-same
+returns-in-Ok-commit-clause-same g c = tt
+
+pub returns-in-Ok-commit-clause-annals_err : goal.returns-in-Ok-commit-clause-annals_err
+returns-in-Ok-commit-clause-annals_err g c = tt
+
+pub returns-in-Ok-commit-clause-list_back : goal.returns-in-Ok-commit-clause-list_back
+returns-in-Ok-commit-clause-list_back g c = tt
+
+pub returns-in-Ok-commit-clause-begun : goal.returns-in-Ok-commit-clause-begun
+returns-in-Ok-commit-clause-begun g c = tt
+
+pub returns-in-Ok-commit-clause-mark_err : goal.returns-in-Ok-commit-clause-mark_err
+returns-in-Ok-commit-clause-mark_err g c = tt
+
+pub returns-in-Ok-commit-clause-mark : goal.returns-in-Ok-commit-clause-mark
+returns-in-Ok-commit-clause-mark g c = c.in-Ok-commit.ensures.settled
+
+pub returns-in-Ok-commit-clause-unchanged : goal.returns-in-Ok-commit-clause-unchanged
+returns-in-Ok-commit-clause-unchanged g c = tt
+
+pub returns-in-Ok-commit-clause-published : goal.returns-in-Ok-commit-clause-published
+returns-in-Ok-commit-clause-published g c = tt
+
+pub returns-in-Ok-commit-clause-opened : goal.returns-in-Ok-commit-clause-opened
+returns-in-Ok-commit-clause-opened g c = refl

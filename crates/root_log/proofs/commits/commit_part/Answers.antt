@@ -1,4 +1,4 @@
-use Rattle.std.proofs.Common.{◌≡◌, ◌∷◌, [], ◌+◌, ◌<◌, ℕ, List, Option, Some, None, Err, refl, sym, ap, ◌∙◌, subst, arith}
+use Rattle.std.proofs.Common.{◌≡◌, ◌∷◌, [], ◌+◌, ◌<◌, ℕ, List, Option, Some, None, Err, le_refl, refl, sym, ap, ◌∙◌, subst, arith}
 use Rattle.std.specs.Option.{ForSome, option_map}
 use Rattle.mt_values.specs.declared.command.Entry.{Entry}
 use Rattle.mt_values.specs.Annals.{Told, began, noted}
@@ -13,7 +13,7 @@ use Rattle.root_log.specs.declared.commits.Refused.{Refused}
 use Rattle.root_log.specs.declared.commits.Refused.TheVariants as refused
 use Rattle.root_log.specs.declared.store.CoreStore.{CoreStore}
 use Rattle.root_log.specs.declared.store.Table.{Table}
-use Rattle.root_log.specs.Commits.{EntersSealed, IsCause, IsSealedOf, entry_of, fresh_part, insert_of_block, refuses_part}
+use Rattle.root_log.specs.Commits.{EntersSealed, IsCause, IsSealedOf, SameList, entry_of, fresh_part, insert_of_block, refuses_part}
 use Rattle.root_log.specs.Crashes.{entries_of}
 use Rattle.root_log.specs.Soundness.{NamesFit}
 use Rattle.root_log.specs.Stores.{table_at}
@@ -28,6 +28,7 @@ use Rattle.root_log.proofs.Leaving.{cause_shown, disk_fault, disk_memory, none_s
 use Rattle.root_log.proofs.Rooted.{root_added}
 use Rattle.root_log.proofs.Sounding.{names_kept, sound_added, sound_same}
 use Rattle.root_log.proofs.Updated.{one_some}
+use Rattle.root_log.proofs.SameLists.{no_disk, not_none, same_list}
 use Rattle.root_log.proofs.commits.commit_part.Goals as goal
 
 pub commit-requires-clause-free : goal.commit-requires-clause-free
@@ -230,3 +231,212 @@ returns-clause-held g c = λ u at is held.
     let t : Table = c.index.result.now in
     let here : IsSealedOf t.schema c.args.block c.args.part.sealed.files c.args.part.loaded = subst (λ (x : Table). IsSealedOf x.schema c.args.block c.args.part.sealed.files c.args.part.loaded) (sym (same g c u at)) is in
     held_added g.D.Arm.Dir.Dir.files c.args.store.now c.enter_part.new.store c.args.table.now t c.args.block c.args.part.sealed.files c.args.part.loaded here (sealed g c) held
+
+-- what was sealed comes back
+pub returns-in-Some-clause-later : goal.returns-in-Some-clause-later
+returns-in-Some-clause-later g c = le_refl _
+
+pub returns-in-Some-clause-back : goal.returns-in-Some-clause-back
+returns-in-Some-clause-back g c = refl
+
+pub returns-in-Some-clause-unpublished : goal.returns-in-Some-clause-unpublished
+returns-in-Some-clause-unpublished g c = refl
+
+pub returns-in-Some-clause-given : goal.returns-in-Some-clause-given
+returns-in-Some-clause-given g c = λ none. absurd (not_none none)
+
+pub returns-in-Some-clause-annals_err : goal.returns-in-Some-clause-annals_err
+returns-in-Some-clause-annals_err g c = same_list _ _ refl
+
+pub returns-in-Some-clause-list_back : goal.returns-in-Some-clause-list_back
+returns-in-Some-clause-list_back g c = refl
+
+pub returns-in-Some-clause-begun : goal.returns-in-Some-clause-begun
+returns-in-Some-clause-begun g c = λ none. absurd (not_none none)
+
+pub returns-in-Some-clause-mark_err : goal.returns-in-Some-clause-mark_err
+returns-in-Some-clause-mark_err g c = refl
+
+pub returns-in-Some-clause-mark : goal.returns-in-Some-clause-mark
+returns-in-Some-clause-mark g c = tt
+
+pub returns-in-Some-clause-annals : goal.returns-in-Some-clause-annals
+returns-in-Some-clause-annals g c = tt
+
+pub returns-in-Some-clause-unchanged : goal.returns-in-Some-clause-unchanged
+returns-in-Some-clause-unchanged g c = λ other. refl
+
+pub returns-in-Some-clause-opened : goal.returns-in-Some-clause-opened
+returns-in-Some-clause-opened g c = refl
+
+pub returns-in-Some-clause-published : goal.returns-in-Some-clause-published
+returns-in-Some-clause-published g c = λ t at none. absurd (not_none none)
+
+pub returns-in-Some-clause-root : goal.returns-in-Some-clause-root
+returns-in-Some-clause-root g c = λ t at. tt
+
+pub returns-in-Some-clause-enters : goal.returns-in-Some-clause-enters
+returns-in-Some-clause-enters g c = λ t at. tt
+
+pub returns-in-Some-clause-stands : goal.returns-in-Some-clause-stands
+returns-in-Some-clause-stands g c = λ h t s at is. tt
+
+pub returns-in-Some-clause-root_stands : goal.returns-in-Some-clause-root_stands
+returns-in-Some-clause-root_stands g c = λ h t s stands at is. tt
+
+pub returns-in-Some-clause-held : goal.returns-in-Some-clause-held
+returns-in-Some-clause-held g c = λ t at is held. held
+
+pub returns-in-Some-clause-store : goal.returns-in-Some-clause-store
+returns-in-Some-clause-store g c = c.requires.store
+
+pub returns-in-Some-clause-names : goal.returns-in-Some-clause-names
+returns-in-Some-clause-names g c = c.requires.names
+
+pub returns-in-Err-clause-later : goal.returns-in-Err-clause-later
+returns-in-Err-clause-later g c = le_refl _
+
+pub returns-in-Err-clause-back : goal.returns-in-Err-clause-back
+returns-in-Err-clause-back g c = refl
+
+pub returns-in-Err-clause-unpublished : goal.returns-in-Err-clause-unpublished
+returns-in-Err-clause-unpublished g c = refl
+
+pub returns-in-Err-clause-given : goal.returns-in-Err-clause-given
+returns-in-Err-clause-given g c = λ none. absurd (not_none none)
+
+pub returns-in-Err-clause-annals_err : goal.returns-in-Err-clause-annals_err
+returns-in-Err-clause-annals_err g c = same_list _ _ c.in-Err.ensures.told
+
+pub returns-in-Err-clause-list_back : goal.returns-in-Err-clause-list_back
+returns-in-Err-clause-list_back g c = c.in-Err.ensures.told
+
+pub returns-in-Err-clause-begun : goal.returns-in-Err-clause-begun
+returns-in-Err-clause-begun g c = λ none. absurd (not_none none)
+
+pub returns-in-Err-clause-mark_err : goal.returns-in-Err-clause-mark_err
+returns-in-Err-clause-mark_err g c = refl
+
+pub returns-in-Err-clause-mark : goal.returns-in-Err-clause-mark
+returns-in-Err-clause-mark g c = tt
+
+pub returns-in-Err-clause-annals : goal.returns-in-Err-clause-annals
+returns-in-Err-clause-annals g c = tt
+
+pub returns-in-Err-clause-unchanged : goal.returns-in-Err-clause-unchanged
+returns-in-Err-clause-unchanged g c = λ other. refl
+
+pub returns-in-Err-clause-opened : goal.returns-in-Err-clause-opened
+returns-in-Err-clause-opened g c = refl
+
+pub returns-in-Err-clause-published : goal.returns-in-Err-clause-published
+returns-in-Err-clause-published g c = λ t at none. absurd (not_none none)
+
+pub returns-in-Err-clause-root : goal.returns-in-Err-clause-root
+returns-in-Err-clause-root g c = λ t at. tt
+
+pub returns-in-Err-clause-enters : goal.returns-in-Err-clause-enters
+returns-in-Err-clause-enters g c = λ t at. tt
+
+pub returns-in-Err-clause-stands : goal.returns-in-Err-clause-stands
+returns-in-Err-clause-stands g c = λ h t s at is. tt
+
+pub returns-in-Err-clause-root_stands : goal.returns-in-Err-clause-root_stands
+returns-in-Err-clause-root_stands g c = λ h t s stands at is. tt
+
+pub returns-in-Err-clause-rose : goal.returns-in-Err-clause-rose
+returns-in-Err-clause-rose g c = λ disk. absurd (no_disk disk)
+
+pub returns-in-Err-clause-faulted : goal.returns-in-Err-clause-faulted
+returns-in-Err-clause-faulted g c = λ disk. absurd (no_disk disk)
+
+-- it was given to the disk
+pub returns-in-Err-commit-clause-later : goal.returns-in-Err-commit-clause-later
+returns-in-Err-commit-clause-later g c = c.in-Err-commit.ensures.cause.later
+
+pub returns-in-Err-commit-clause-back : goal.returns-in-Err-commit-clause-back
+returns-in-Err-commit-clause-back g c = tt
+
+pub returns-in-Err-commit-clause-unpublished : goal.returns-in-Err-commit-clause-unpublished
+returns-in-Err-commit-clause-unpublished g c = tt
+
+pub returns-in-Err-commit-clause-faulted : goal.returns-in-Err-commit-clause-faulted
+returns-in-Err-commit-clause-faulted g c = λ disk. refl
+
+pub returns-in-Err-commit-clause-list_back : goal.returns-in-Err-commit-clause-list_back
+returns-in-Err-commit-clause-list_back g c = tt
+
+pub returns-in-Err-commit-clause-mark_err : goal.returns-in-Err-commit-clause-mark_err
+returns-in-Err-commit-clause-mark_err g c = c.in-Err-commit.ensures.mark_err
+
+pub returns-in-Err-commit-clause-annals_err : goal.returns-in-Err-commit-clause-annals_err
+returns-in-Err-commit-clause-annals_err g c = subst (λ (o : Option Told). SameList o (g.A.Annals.told c.commit.new.annals)) c.in-Ok.ensures.told c.in-Err-commit.ensures.annals_err
+
+pub returns-in-Err-commit-clause-given : goal.returns-in-Err-commit-clause-given
+returns-in-Err-commit-clause-given g c = λ none. outside_disk c.in-Err-commit.error c.of_disk-cause.result c.of_disk-cause.ensures
+
+pub returns-in-Err-commit-clause-unchanged : goal.returns-in-Err-commit-clause-unchanged
+returns-in-Err-commit-clause-unchanged g c = λ other. c.in-Err-commit.ensures.memory (ap Err (disk_memory c.in-Err-commit.error c.of_disk-cause.result c.of_disk-cause.ensures other))
+
+pub returns-in-Err-commit-clause-root : goal.returns-in-Err-commit-clause-root
+returns-in-Err-commit-clause-root g c = λ t at. tt
+
+pub returns-in-Err-commit-clause-mark : goal.returns-in-Err-commit-clause-mark
+returns-in-Err-commit-clause-mark g c = tt
+
+pub returns-in-Err-commit-clause-annals : goal.returns-in-Err-commit-clause-annals
+returns-in-Err-commit-clause-annals g c = tt
+
+pub returns-in-Err-commit-clause-enters : goal.returns-in-Err-commit-clause-enters
+returns-in-Err-commit-clause-enters g c = λ t at. tt
+
+pub returns-in-Err-commit-clause-stands : goal.returns-in-Err-commit-clause-stands
+returns-in-Err-commit-clause-stands g c = λ h t s at is. tt
+
+pub returns-in-Err-commit-clause-root_stands : goal.returns-in-Err-commit-clause-root_stands
+returns-in-Err-commit-clause-root_stands g c = λ h t s stands at is. tt
+
+pub returns-in-Err-commit-clause-opened : goal.returns-in-Err-commit-clause-opened
+returns-in-Err-commit-clause-opened g c = refl
+
+pub returns-clause-rose : goal.returns-clause-rose
+returns-clause-rose g c = tt
+
+pub returns-clause-later : goal.returns-clause-later
+returns-clause-later g c = c.in-Ok-commit.ensures.cause.later
+
+pub returns-clause-back : goal.returns-clause-back
+returns-clause-back g c = tt
+
+pub returns-clause-unpublished : goal.returns-clause-unpublished
+returns-clause-unpublished g c = tt
+
+pub returns-clause-faulted : goal.returns-clause-faulted
+returns-clause-faulted g c = tt
+
+pub returns-clause-given : goal.returns-clause-given
+returns-clause-given g c = tt
+
+pub returns-clause-same : goal.returns-clause-same
+returns-clause-same g c = tt
+
+pub returns-clause-annals_err : goal.returns-clause-annals_err
+returns-clause-annals_err g c = tt
+
+pub returns-clause-list_back : goal.returns-clause-list_back
+returns-clause-list_back g c = tt
+
+pub returns-clause-begun : goal.returns-clause-begun
+returns-clause-begun g c = tt
+
+pub returns-clause-mark_err : goal.returns-clause-mark_err
+returns-clause-mark_err g c = tt
+
+pub returns-clause-mark : goal.returns-clause-mark
+returns-clause-mark g c = c.in-Ok-commit.ensures.settled
+
+pub returns-clause-unchanged : goal.returns-clause-unchanged
+returns-clause-unchanged g c = tt
+
+pub returns-clause-published : goal.returns-clause-published
+returns-clause-published g c = λ t at. tt

@@ -1,6 +1,4 @@
-use Rattle.std.proofs.Common.{◌≡◌, ◌∙◌, ◌+◌, List, ℕ, [], sym, subst, inl, inr, rules, arith}
-use Rattle.std.specs.Vec.{vec_len}
-use Rattle.std.proofs.lemmas.List.{nil_from_length}
+use Rattle.std.proofs.Common.{◌≡◌, ◌≢◌, ◌⊎◌, ◌∙◌, ◌+◌, List, ℕ, [], ap, le_refl, le_trans, refl, sym, subst, inl, rules}
 use Rattle.std.proofs.lemmas.Option.{MatchOption-at_some}
 use Rattle.mt_outside.specs.Disk.{names_of}
 use Rattle.part_set.specs.Visible.{HasNoOrphan}
@@ -13,12 +11,11 @@ use Rattle.root_log.proofs.Fitting.{fits_store}
 use Rattle.root_log.proofs.Holding.{held_opened}
 use Rattle.root_log.proofs.NamesTold.{told_first}
 use Rattle.root_log.proofs.NextNames.{are_read}
-use Rattle.root_log.proofs.Opened.{is_zero, no_names, nothing_told, stands_undamaged}
+use Rattle.root_log.proofs.Opened.{no_names, nothing_told, stands_undamaged}
 use Rattle.root_log.proofs.Readings.{one_reading}
 use Rattle.root_log.proofs.Rising.{told_rise}
 use Rattle.root_log.proofs.Standing.{core_stands}
 use Rattle.root_log.proofs.opening.open.Goals as goal
-use Rattle.root_log.proofs.opening.open.Goals.{then-not-is_empty+in_ok-sync_names, else-not-is_empty}
 
 pub returns-in_err-root-clause-stands : goal.returns-in_err-root-clause-stands
 returns-in_err-root-clause-stands g c = λ told h known s.
@@ -61,15 +58,8 @@ returns-clause-names g c = λ told known.
 pub returns-clause-settled : goal.returns-clause-settled
 returns-clause-settled g c = λ told known some.
     let are = MatchOption-at_some _ _ told known c.in_ok-list.ensures.names in
-    elim c.if-not-is_empty.branch [
-      | then-not-is_empty+in_ok-sync_names w ↦ search rules
-      | else-not-is_empty w ↦ (
-          let texts = c.in_ok-root.root.texts in
-          let empty : vec_len texts ≡ 0 = is_zero (vec_len texts) (sym c.is_empty.ensures ∙ w.if-not-is_empty.false) in
-          let none : texts.items ≡ [] = nil_from_length texts.items (omega (arith, empty, texts.ok.0)) in
-          absurd {A = g.D.Disk.clock c.if-not-is_empty.disk ≡ g.D.Disk.clock c.args.disk.now + 1} (some (no_names (names_of told) (sym are ∙ (sym c.in_ok-root.ensures.texts ∙ none))))
-          )
-    ]
+    let texts : c.deref.result.now ≢ [] = λ none. some (no_names (names_of told) (sym are ∙ (sym c.in_ok-root.ensures.texts ∙ (sym c.deref.ensures.value ∙ none)))) in
+    c.in_ok-settle.ensures.settled texts ∙ ap (λ n. n + 1) (c.in_ok-store.ensures.clock ∙ c.in_ok-list.ensures.clock)
 
 -- what a crash leaves
 pub returns-in_err-list-clause-crashes : goal.returns-in_err-list-clause-crashes
@@ -81,14 +71,13 @@ returns-in_err-root-clause-crashes g c = λ told list known all. safe_opened tol
 pub returns-in_err-store-clause-crashes : goal.returns-in_err-store-clause-crashes
 returns-in_err-store-clause-crashes g c = λ told list known all. safe_opened told _ _ list all (inl (c.in_err-store.ensures.clock ∙ c.in_ok-list.ensures.clock))
 
-pub returns-in_err-sync_names-clause-crashes : goal.returns-in_err-sync_names-clause-crashes
-returns-in_err-sync_names-clause-crashes g c = λ told list known all. safe_opened told _ _ list all (inl (c.in_err-sync_names.ensures.clock_err ∙ (c.in_ok-store.ensures.clock ∙ c.in_ok-list.ensures.clock)))
+pub returns-in_err-settle-clause-crashes : goal.returns-in_err-settle-clause-crashes
+returns-in_err-settle-clause-crashes g c = λ told list known all. safe_opened told _ _ list all (inl (c.in_err-settle.ensures.mark_err ∙ (c.in_ok-store.ensures.clock ∙ c.in_ok-list.ensures.clock)))
 
 pub returns-clause-crashes : goal.returns-clause-crashes
-returns-clause-crashes g c = λ told list known all. safe_opened told _ (g.D.Disk.clock c.if-not-is_empty.disk) list all (elim c.if-not-is_empty.branch [
-  | then-not-is_empty+in_ok-sync_names w ↦ inr (search rules)
-  | else-not-is_empty w ↦ inl (search rules)
-])
+returns-clause-crashes g c = λ told list known all.
+    let now = g.D.Disk.clock c.settle.new.disk in
+    safe_opened told _ now list all (subst (λ (mark : ℕ). (now ≡ mark) ⊎ (now ≡ mark + 1)) (c.in_ok-store.ensures.clock ∙ c.in_ok-list.ensures.clock) c.in_ok-settle.ensures.mark)
 
 -- no part is damaged
 pub returns-clause-held : goal.returns-clause-held
@@ -99,3 +88,94 @@ returns-clause-held g c = λ told known.
     let same = one_reading (names_of told) root.names.items store.read (are_read root c.in_ok-root.ensures.named told (c.in_ok-root.ensures.texts ∙ are)) store.are in
     held_opened g.D.Arm.Dir.Dir.files (names_of told) c.in_ok-store.store store c.in_ok-store.ensures.sound
     (λ place f bad. c.in_ok-store.ensures.undamaged told place f (c.in_ok-list.ensures.told ∙ known) (subst (λ (read : List RootName). DamagedAt (names_of told) read place f) (sym same) bad))
+
+-- what the disk tells stays
+pub returns-in_err-list-clause-tells : goal.returns-in_err-list-clause-tells
+returns-in_err-list-clause-tells g c = refl
+
+pub returns-in_err-list-clause-arm_later : goal.returns-in_err-list-clause-arm_later
+returns-in_err-list-clause-arm_later g c = le_refl _
+
+pub returns-in_err-list-clause-told : goal.returns-in_err-list-clause-told
+returns-in_err-list-clause-told g c = c.in_err-list.ensures.told
+
+pub returns-in_err-list-clause-later : goal.returns-in_err-list-clause-later
+returns-in_err-list-clause-later g c = c.in_err-list.ensures.cause.later
+
+pub returns-in_err-list-clause-mark : goal.returns-in_err-list-clause-mark
+returns-in_err-list-clause-mark g c = inl (c.in_err-list.ensures.clock)
+
+pub returns-in_err-root-clause-tells : goal.returns-in_err-root-clause-tells
+returns-in_err-root-clause-tells g c = refl
+
+pub returns-in_err-root-clause-arm_later : goal.returns-in_err-root-clause-arm_later
+returns-in_err-root-clause-arm_later g c = le_refl _
+
+pub returns-in_err-root-clause-told : goal.returns-in_err-root-clause-told
+returns-in_err-root-clause-told g c = c.in_ok-list.ensures.told
+
+pub returns-in_err-root-clause-later : goal.returns-in_err-root-clause-later
+returns-in_err-root-clause-later g c = c.in_ok-list.ensures.cause.later
+
+pub returns-in_err-root-clause-mark : goal.returns-in_err-root-clause-mark
+returns-in_err-root-clause-mark g c = inl (c.in_ok-list.ensures.clock)
+
+pub returns-in_err-store-clause-tells : goal.returns-in_err-store-clause-tells
+returns-in_err-store-clause-tells g c = c.in_err-store.ensures.tells
+
+pub returns-in_err-store-clause-arm_later : goal.returns-in_err-store-clause-arm_later
+returns-in_err-store-clause-arm_later g c = c.in_err-store.ensures.arm_later
+
+pub returns-in_err-store-clause-told : goal.returns-in_err-store-clause-told
+returns-in_err-store-clause-told g c = c.in_err-store.ensures.told ∙ c.in_ok-list.ensures.told
+
+pub returns-in_err-store-clause-later : goal.returns-in_err-store-clause-later
+returns-in_err-store-clause-later g c = le_trans c.in_ok-list.ensures.cause.later c.in_err-store.ensures.later
+
+pub returns-in_err-store-clause-mark : goal.returns-in_err-store-clause-mark
+returns-in_err-store-clause-mark g c = inl (c.in_err-store.ensures.clock ∙ c.in_ok-list.ensures.clock)
+
+pub returns-in_err-settle-clause-tells : goal.returns-in_err-settle-clause-tells
+returns-in_err-settle-clause-tells g c = c.in_ok-store.ensures.tells
+
+pub returns-in_err-settle-clause-arm_later : goal.returns-in_err-settle-clause-arm_later
+returns-in_err-settle-clause-arm_later g c = c.in_ok-store.ensures.arm_later
+
+pub returns-in_err-settle-clause-told : goal.returns-in_err-settle-clause-told
+returns-in_err-settle-clause-told g c = c.in_err-settle.ensures.told ∙ (c.in_ok-store.ensures.told ∙ c.in_ok-list.ensures.told)
+
+pub returns-in_err-settle-clause-later : goal.returns-in_err-settle-clause-later
+returns-in_err-settle-clause-later g c = le_trans (le_trans c.in_ok-list.ensures.cause.later c.in_ok-store.ensures.later) c.in_err-settle.ensures.cause.later
+
+pub returns-in_err-settle-clause-mark : goal.returns-in_err-settle-clause-mark
+returns-in_err-settle-clause-mark g c = inl (c.in_err-settle.ensures.mark_err ∙ (c.in_ok-store.ensures.clock ∙ c.in_ok-list.ensures.clock))
+
+pub returns-clause-tells : goal.returns-clause-tells
+returns-clause-tells g c = c.in_ok-store.ensures.tells
+
+pub returns-clause-arm_later : goal.returns-clause-arm_later
+returns-clause-arm_later g c = c.in_ok-store.ensures.arm_later
+
+pub returns-clause-told : goal.returns-clause-told
+returns-clause-told g c = c.in_ok-settle.ensures.told ∙ (c.in_ok-store.ensures.told ∙ c.in_ok-list.ensures.told)
+
+pub returns-clause-later : goal.returns-clause-later
+returns-clause-later g c = le_trans (le_trans c.in_ok-list.ensures.cause.later c.in_ok-store.ensures.later) c.in_ok-settle.ensures.cause.later
+
+pub returns-clause-mark : goal.returns-clause-mark
+returns-clause-mark g c =
+    let now = g.D.Disk.clock c.settle.new.disk in
+    subst (λ (mark : ℕ). (now ≡ mark) ⊎ (now ≡ mark + 1)) (c.in_ok-store.ensures.clock ∙ c.in_ok-list.ensures.clock) c.in_ok-settle.ensures.mark
+
+-- what was read is the store
+pub returns-clause-store : goal.returns-clause-store
+returns-clause-store g c = λ told known. c.in_ok-store.ensures.store told (c.in_ok-list.ensures.told ∙ known)
+
+pub returns-clause-damaged : goal.returns-clause-damaged
+returns-clause-damaged g c = λ told known. tt
+
+pub returns-clause-sound : goal.returns-clause-sound
+returns-clause-sound g c = c.in_ok-store.ensures.sound
+
+pub returns-clause-fault : goal.returns-clause-fault
+returns-clause-fault g c = tt
