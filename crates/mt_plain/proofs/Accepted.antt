@@ -1,5 +1,8 @@
 -- What a statement gives at the end of a history: its text or its table refuses it, or else its turn, or neither.
-use Rattle.std.proofs.Common.{◌≡◌, ◌⊎◌, ℕ, ◌<◌, ◌^◌, List, [], ◌∷◌, Option, Some, None, Result, Ok, Err, length, All, refl, ap, ◌∙◌, inl, inr, arith}
+use Rattle.std.proofs.Common.{◌≡◌, ◌⊎◌, ◌↔◌, ℕ, zero, suc, ◌<◌, ◌≤◌, ◌^◌, Bool, true, false, Decides, nat_eq, List, [], ◌∷◌, Option, Some, None, Result, Ok, Err, length, All, refl, sym, ap, subst, ◌∙◌, inl, inr, arith}
+use Rattle.std.specs.Option.{is_some, option_copied}
+use Rattle.std.proofs.lemmas.Bool.Decides.{Decides-eqb, nat_tests}
+use denote.Bor.{Bor}
 use Rattle.mt_values.specs.declared.schema.Schema.{Schema}
 use Rattle.mt_values.specs.declared.statement.CreateText.{CreateText}
 use Rattle.mt_values.specs.declared.statement.InsertText.{InsertText}
@@ -7,7 +10,9 @@ use Rattle.mt_values.specs.Values.{Row}
 use Rattle.mt_values.specs.Grid.{Grid}
 use Rattle.mt_values.specs.Rows.{inserted_rows}
 use Rattle.mt_model.specs.declared.refusal.Refusal.{Refusal}
-use Rattle.mt_model.specs.History.{History, schema_of, column_types}
+use Rattle.mt_model.specs.declared.refusal.Bound.TheVariants as bound
+use Rattle.mt_model.specs.declared.refusal.Refusal.TheVariants as refusal
+use Rattle.mt_model.specs.History.{History, schema_of, column_types, creates, inserts}
 use Rattle.mt_model.specs.Reply.{unless_refused, schema_of_text, create_turn, rows_or_refused, rows_for, rows_of_insert}
 use Rattle.mt_model.proofs.Ranges.{inserted_values, inserted_typed}
 use Rattle.mt_plain.specs.Plain.{at_turn, created, rows_at_turn, unmerged_turn, inserted, IsInserted}
@@ -38,6 +43,10 @@ unmade c h why is = by (schema_of_text c) (create_turn c.table h) refl refl is
     by (Err other) o e f is = inl (e ∙ is)
     by (Ok schema) None e f is = cc
     by (Ok schema) (Some other) e f is = let same : other ≡ why = cc in inr (schema, e, f ∙ ap Some same)
+
+-- its text refuses it, whatever its turn says
+pub text_refuses : (c : CreateText) (h : History) (text : Result Schema Refusal) (why : Refusal) → text ≡ schema_of_text c → text ≡ Err why → Err why ≡ created c h
+text_refuses c h text why is refused = sym (ap (at_turn (create_turn c.table h)) (sym is ∙ refused))
 
 -- ---- INSERT
 
@@ -100,3 +109,28 @@ block_some i h schema block there types bytes is some turn = record {
   typed = inserted_typed (column_types schema) i.lines i.ended block.rows is;
   values = inserted_values (column_types schema) i.lines i.ended block.rows bytes is;
 }
+
+-- ---- turns
+
+-- a search that found nothing
+pub found_none : {A : Type 0} (found : Option (Bor A)) (there : Option A) → option_copied found ≡ there → false ≡ is_some found → there ≡ None
+found_none None there is none = sym is
+found_none (Some x) there is none = cc
+
+pub table_free : (table : List ℕ) (h : History) (count : ℕ) → schema_of table h ≡ None → count ≡ creates h → count < 64 → None ≡ create_turn table h
+table_free table h count none is few = rw none (grind (arith, nat_tests))
+
+pub tables_full : (table : List ℕ) (h : History) (count : ℕ) → schema_of table h ≡ None → count ≡ creates h → 64 ≤ count → Some (refusal.Past bound.Tables) ≡ create_turn table h
+tables_full table h count none is many = rw none (grind (arith, nat_tests))
+
+pub part_left : (table : List ℕ) (h : History) (count : ℕ) → count ≡ inserts table h → count < 3000 → None ≡ unmerged_turn table h
+part_left table h count is few = grind (arith, nat_tests)
+
+-- ---- blocks without rows
+
+pub no_rows : (count rows : ℕ) → count ≡ rows → Decides (nat_eq count 0) (rows ≡ 0)
+no_rows count rows is = subst (λ (n : ℕ). Decides (nat_eq count 0) (n ≡ 0)) is (Decides-eqb count 0)
+
+pub some_rows : (none : Bool) (rows : ℕ) → (none ≡ true) ↔ (rows ≡ 0) → none ≡ false → 0 < rows
+some_rows none zero says is = let e : none ≡ true = says.1 refl in cc
+some_rows none (suc n) says is = omega arith

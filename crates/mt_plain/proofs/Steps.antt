@@ -19,13 +19,14 @@ use Rattle.mt_model.specs.declared.refusal.Refusal.{Refusal}
 use Rattle.mt_model.specs.declared.refusal.Refusal.TheVariants as refusal
 use Rattle.mt_model.specs.History.{History, IsLegal, schema_of, inserts}
 use Rattle.mt_model.specs.Refusals.{refusal_line}
-use Rattle.mt_model.specs.Reply.{ok_line, create_turn, rows_of_insert, insert_turn, columns_for, columns_of_select}
+use Rattle.mt_model.specs.Answer.{Answer}
+use Rattle.mt_model.specs.Reply.{ok_line, create_turn, rows_of_insert, insert_turn, columns_for, columns_of_select, selected_places}
 use Rattle.mt_model.specs.Session.{AddsNothing, RefusedAs, CreateRefused, InsertRefused, TakesStatement, Takes, SessionRun}
 use Rattle.mt_model.specs.Script.{ScriptRun}
 use Rattle.mt_model.proofs.Growing.{stays, adds_last, run_more, run_append}
 use Rattle.mt_model.proofs.Histories.{legal_push}
 use Rattle.mt_model.proofs.Tables.{create_allowed, insert_allowed}
-use Rattle.mt_plain.specs.Plain.{calm, created, inserted, IsInserted, Grows}
+use Rattle.mt_plain.specs.Plain.{calm, created, inserted, IsInserted, IsReply, Grows}
 use Rattle.mt_plain.proofs.Accepted.{IsUnmade, IsUnadded, made, unmade, added, unadded, none_read}
 
 whole : (h : History) → take (length h) h ≡ h
@@ -164,6 +165,23 @@ unselected_takes h t why reply is line = inr (inl (why, subst (λ (x : History).
 
 pub no_table_takes : (h : History) (t : SelectText) (reply : List ℕ) → schema_of t.table h ≡ None → reply ≡ refusal_line (refusal.NoTable t.table) → TakesStatement calm h 0 (statement.Select t) (length h) (length h) reply
 no_table_takes h t reply none line = unselected_takes h t (refusal.NoTable t.table) reply (ap (columns_for t) none) line
+
+pub select_takes : (h : History) (t : SelectText) (schema : Schema) (columns reply : List ℕ) → schema_of t.table h ≡ Some schema → selected_places schema.columns t.columns ≡ Ok columns → IsReply h t.table schema columns reply → TakesStatement calm h 0 (statement.Select t) (length h) (length h) reply
+select_takes h t schema columns reply there selected is = inl (
+  record {
+    schema = schema;
+    columns = columns;
+    lines = is.lines;
+    there = subst (λ (x : History). schema_of t.table x ≡ Some schema) (sym (whole h)) there;
+    selected = selected;
+    answer = subst (λ (x : History). Answer x t.table schema columns is.lines) (sym (whole h)) is.answer;
+    reply_is = is.is;
+  },
+  here h,
+)
+
+pub no_columns_take : (h : History) (t : SelectText) (schema : Schema) (why : Refusal) (reply : List ℕ) → schema_of t.table h ≡ Some schema → selected_places schema.columns t.columns ≡ Err why → reply ≡ refusal_line why → TakesStatement calm h 0 (statement.Select t) (length h) (length h) reply
+no_columns_take h t schema why reply there none line = unselected_takes h t why reply (ap (columns_for t) there ∙ none) line
 
 -- ---- scripts
 

@@ -1,5 +1,5 @@
 -- What the plain program sorts by, what it accepts at the end of a history, and what it adds to one.
-use Rattle.std.specs.Prelude.{◌≡◌, ℕ, List, [], ◌∷◌, ◌++◌, All, Option, Some, Result, Ok, Err}
+use Rattle.std.specs.Prelude.{◌≡◌, ℕ, List, [], ◌∷◌, ◌++◌, All, Option, Some, Result, Ok, Err, length}
 use Rattle.std.specs.declared.cmp.Ordering.{Ordering}
 use Rattle.mt_values.specs.Values.{Row, AreValues}
 use Rattle.mt_values.specs.Grid.{Grid, AreRowsOf}
@@ -10,8 +10,9 @@ use Rattle.mt_values.specs.declared.statement.CreateText.{CreateText}
 use Rattle.mt_values.specs.declared.statement.InsertText.{InsertText}
 use Rattle.mt_model.specs.declared.refusal.Refusal.{Refusal}
 use Rattle.mt_model.specs.History.{History, schema_of, inserts, column_types}
+use Rattle.mt_model.specs.Answer.{Answer}
 use Rattle.mt_model.specs.Outside.{Counts}
-use Rattle.mt_model.specs.Reply.{unless_refused, schema_of_text, create_turn, rows_of_insert, insert_turn}
+use Rattle.mt_model.specs.Reply.{unless_refused, schema_of_text, create_turn, rows_of_insert, rows_reply, insert_turn}
 use Rattle.mt_plain.specs.declared.sorting.Order.{Order}
 use Rattle.mt_plain.specs.declared.sorting.Order.TheVariants as order
 
@@ -55,6 +56,12 @@ pub record IsInserted (i : InsertText) (h : History) (block : Grid) : Type 0 whe
   pub types : block.types ≡ column_types schema
   pub typed : AreRowsOf (column_types schema) block.rows
   pub values : AreValues block.rows
+
+-- the reply answers a SELECT of these columns from a table of this schema behind the whole history
+pub record IsReply (h : History) (table : List ℕ) (schema : Schema) (columns : List ℕ) (reply : List ℕ) : Type 0 where
+  pub lines : List (List ℕ)
+  pub answer : Answer h table schema columns lines
+  pub is : reply ≡ rows_reply lines (length h)
 
 -- the history stayed or grew, and what was added is session 0's
 pub record Grows (old new : History) : Type 0 where

@@ -18,9 +18,6 @@ const MOST_TABLES: usize = 64;
 /// The fewest INSERTs into a table that leave no room for another part, since nothing is merged.
 const FULL_TABLE: usize = 3000;
 
-/// The fewest INSERTs into a table that leave no number for another.
-const LAST_NUMBER: usize = 4294967295;
-
 /// The schema that a CREATE gives its table, or why it is refused.
 pub fn created_schema(
     alloc: Global,
@@ -29,13 +26,12 @@ pub fn created_schema(
 ) -> Result<Result<Schema, Refusal>, NoMemory>
     ensures { IfOk result (λ schema. schema ≡ created create.now entries.now) }
 {
-    let schema = match resolve(alloc, create)? {
-        Ok(schema) => schema,
-        Err(refusal) => return Ok(Err(refusal)),
-    };
-    match create_turn(alloc, entries, &create.table)? {
-        Some(refusal) => Ok(Err(refusal)),
-        None => Ok(Ok(schema)),
+    match resolve(alloc, create)? {
+        Ok(schema) => match create_turn(alloc, entries, &create.table)? {
+            Some(refusal) => Ok(Err(refusal)),
+            None => Ok(Ok(schema)),
+        },
+        Err(refused) => Ok(Err(refused)),
     }
 }
 
@@ -107,7 +103,7 @@ fn read_block(
     }
 }
 
-/// Why a table has no room for another INSERT with rows.
+/// Why a table has no room for another INSERT with rows. A table that is not full has numbers left for its parts too.
 fn insert_turn(entries: &[Entry], table: &Name) -> Option<Refusal>
     ensures { result ≡ unmerged_turn table.now entries.now }
 {
@@ -115,12 +111,6 @@ fn insert_turn(entries: &[Entry], table: &Name) -> Option<Refusal>
     if count >= FULL_TABLE {
         return Some(Refusal::Full {
             room: Room::Parts,
-            accepted: 0,
-        });
-    }
-    if count >= LAST_NUMBER {
-        return Some(Refusal::Full {
-            room: Room::Numbers,
             accepted: 0,
         });
     }

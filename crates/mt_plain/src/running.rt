@@ -1,14 +1,14 @@
 // Statements, run one after another.
-ghost use Rattle.std.specs.Prelude.{◌≡◌, ◌<◌, ◌++◌, ◌∷◌, [], All, IfOk, OnOk, OnErr, length};
+ghost use Rattle.std.specs.Prelude.{◌≡◌, ◌↔◌, ◌<◌, ◌++◌, ◌∷◌, [], All, IfOk, OnOk, OnErr, Some, length, true};
 ghost use Rattle.mt_values.specs.declared.command.Command.TheVariants as command;
 ghost use Rattle.mt_base.specs.declared.partition.Partition.TheVariants.{Whole};
 ghost use Rattle.mt_values.specs.declared.statement.Statement.TheVariants as statement;
-ghost use Rattle.mt_model.specs.History.{IsLegal};
+ghost use Rattle.mt_model.specs.History.{IsLegal, schema_of};
 ghost use Rattle.mt_model.specs.Refusals as refusals;
 ghost use Rattle.mt_model.specs.Session.{Takes, TakesStatement};
 ghost use Rattle.mt_model.specs.Script.{ScriptRun};
 ghost use Rattle.mt_model.specs.Written.{IsStatementText, IsWritten};
-ghost use Rattle.mt_plain.specs.Plain.{Grows, calm};
+ghost use Rattle.mt_plain.specs.Plain.{Grows, IsReply, calm};
 
 use super::accepting::{created_schema, inserted_block};
 use super::replies::rows_reply;
@@ -61,10 +61,7 @@ pub fn step(
 {
     match statement {
         Ok(statement) => step_statement(alloc, history, statement),
-        Err(cause) => {
-            let line = refused(alloc, Refusal::of_cause(*cause))?;
-            Ok(line)
-        }
+        Err(cause) => refused(alloc, Refusal::of_cause(*cause)),
     }
 }
 
@@ -107,22 +104,24 @@ fn step_create(
     match created_schema(alloc, history, create)? {
         Ok(schema) => {
             let reply = ok_line(alloc, history.len() as u64 + 1)?;
-            let table = create.table.twin(alloc)?;
-            add_create(history, table, schema)?;
+            add_create(alloc, history, &create.table, schema)?;
             Ok(reply)
         }
-        Err(refusal) => {
-            let line = refused(alloc, refusal)?;
-            Ok(line)
-        }
+        Err(refusal) => refused(alloc, refusal),
     }
 }
 
 /// Adds a CREATE of session 0 at the end of a history.
-fn add_create(history: &mut Vec<Entry>, table: Name, schema: Schema) -> Result<(), NoMemory>
-    ensures ok { OnOk result (history.new.items ≡ history.old.items ++ record { session = 0; command = command.Create (record { table = table; schema = schema }) } ∷ []) }
+fn add_create(
+    alloc: Global,
+    history: &mut Vec<Entry>,
+    table: &Name,
+    schema: Schema,
+) -> Result<(), NoMemory>
+    ensures ok { OnOk result (history.new.items ≡ history.old.items ++ record { session = 0; command = command.Create (record { table = table.now; schema = schema }) } ∷ []) }
     ensures err { OnErr result (history.new.items ≡ history.old.items) }
 {
+    let table = table.twin(alloc)?;
     let command = Command::Create(Create { table, schema });
     history.push(Entry {
         session: 0,
@@ -144,26 +143,35 @@ fn step_insert(
 {
     match inserted_block(alloc, history, insert)? {
         Ok(block) => {
-            if block.len() == 0 {
+            if adds_nothing(&block) {
                 return ok_line(alloc, history.len() as u64);
             }
             let reply = ok_line(alloc, history.len() as u64 + 1)?;
-            let table = insert.table.twin(alloc)?;
-            add_insert(history, table, block)?;
+            add_insert(alloc, history, &insert.table, block)?;
             Ok(reply)
         }
-        Err(refusal) => {
-            let line = refused(alloc, refusal)?;
-            Ok(line)
-        }
+        Err(refusal) => refused(alloc, refusal),
     }
 }
 
+/// Whether an INSERT of this block has no entry: the block has no rows.
+fn adds_nothing(block: &Block) -> bool
+    ensures { (result ≡ true) ↔ (length block.now.rows ≡ 0) }
+{
+    block.len() == 0
+}
+
 /// Adds an INSERT of session 0 at the end of a history.
-fn add_insert(history: &mut Vec<Entry>, table: Name, block: Block) -> Result<(), NoMemory>
-    ensures ok { OnOk result (history.new.items ≡ history.old.items ++ record { session = 0; command = command.Insert (record { table = table; partition = Whole; block = block }) } ∷ []) }
+fn add_insert(
+    alloc: Global,
+    history: &mut Vec<Entry>,
+    table: &Name,
+    block: Block,
+) -> Result<(), NoMemory>
+    ensures ok { OnOk result (history.new.items ≡ history.old.items ++ record { session = 0; command = command.Insert (record { table = table.now; partition = Whole; block = block }) } ∷ []) }
     ensures err { OnErr result (history.new.items ≡ history.old.items) }
 {
+    let table = table.twin(alloc)?;
     let partition = Partition::Whole;
     let command = Command::Insert(Insert {
         table,
@@ -181,23 +189,42 @@ fn add_insert(history: &mut Vec<Entry>, table: Name, block: Block) -> Result<(),
 fn step_select(alloc: Global, history: &[Entry], select: &SelectText) -> Result<Vec<u8>, NoMemory>
     ensures { IfOk result (λ reply. TakesStatement calm history.now 0 (statement.Select select.now) (length history.now) (length history.now) reply.items) }
 {
-    let Some(schema) = schema_of(history, &select.table) else {
-        let line = refused(alloc, Refusal::NoTable(select.table.twin(alloc)?))?;
-        return Ok(line);
-    };
+    match schema_of(history, &select.table) {
+        Some(schema) => select_from(alloc, history, select, schema),
+        None => refused(alloc, Refusal::NoTable(select.table.twin(alloc)?)),
+    }
+}
+
+/// Answers a SELECT from a table of this schema.
+fn select_from(
+    alloc: Global,
+    history: &[Entry],
+    select: &SelectText,
+    schema: &Schema,
+) -> Result<Vec<u8>, NoMemory>
+    requires { schema_of select.now.table history.now ≡ Some schema.now }
+    ensures { IfOk result (λ reply. TakesStatement calm history.now 0 (statement.Select select.now) (length history.now) (length history.now) reply.items) }
+{
     let columns = schema.columns.as_slice();
     if columns.len() > u32::MAX as usize {
         return Err(NoMemory);
     }
     match selected_columns(alloc, columns, &select.columns)? {
-        Ok(places) => {
-            let lines = answer(alloc, history, &select.table, schema, places.as_slice())?;
-            let reply = rows_reply(alloc, &lines, history.len() as u64)?;
-            Ok(reply)
-        }
-        Err(refusal) => {
-            let line = refused(alloc, refusal)?;
-            Ok(line)
-        }
+        Ok(places) => select_reply(alloc, history, &select.table, schema, places.as_slice()),
+        Err(refusal) => refused(alloc, refusal),
     }
+}
+
+/// The reply of a SELECT of these columns from a table of this schema.
+fn select_reply(
+    alloc: Global,
+    history: &[Entry],
+    table: &Name,
+    schema: &Schema,
+    columns: &[u32],
+) -> Result<Vec<u8>, NoMemory>
+    ensures { IfOk result (λ reply. IsReply history.now table.now schema.now columns.now reply.items) }
+{
+    let lines = answer(alloc, history, table, schema, columns)?;
+    rows_reply(alloc, &lines, history.len() as u64)
 }

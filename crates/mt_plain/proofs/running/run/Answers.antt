@@ -1,17 +1,36 @@
-use Rattle.std.proofs.Common.{◌≡◌, ℕ, Result, ◌+◌, List, ◌++◌, ◌∷◌, [], length, take, ap, sym, subst, ◌∙◌}
-use Rattle.std.proofs.lemmas.List.{take_more}
+use Rattle.std.proofs.Common.{◌≡◌, ℕ, Result, ◌+◌, List, ◌++◌, ◌∷◌, [], All, arith, length, take, ap, sym, subst, ◌∙◌}
+use Rattle.std.proofs.lemmas.List.{take_all, take_more}
 use Rattle.std.proofs.lemmas.List.Elements.{All-get_or}
+use Rattle.mt_values.specs.declared.command.Entry.{Entry}
 use Rattle.mt_values.specs.declared.statement.Cause.{Cause}
 use Rattle.mt_values.specs.declared.statement.Statement.{Statement}
-use Rattle.mt_model.specs.History.{History}
+use Rattle.mt_model.specs.History.{History, IsLegal}
 use Rattle.mt_model.specs.Session.{SessionRun}
 use Rattle.mt_model.specs.Written.{IsWritten}
 use Rattle.mt_plain.specs.Plain.{calm}
-use Rattle.mt_plain.proofs.Steps.{ran_more, own_more}
+use Rattle.mt_plain.proofs.Steps.{ran_all, ran_more, own_more}
 use Rattle.mt_plain.proofs.running.run.Goals as goal
 
 joined : (h : History) (ss others : List (Result Statement Cause)) (out more : List ℕ) → ss ≡ others → out ≡ more → SessionRun calm h 0 ss 0 (length h) out → SessionRun calm h 0 others 0 (length h) more
 joined h ss others out more e f run = subst (λ (o : List ℕ). SessionRun calm h 0 others 0 (length h) o) f (subst (λ (s : List (Result Statement Cause)). SessionRun calm h 0 s 0 (length h) out) e run)
+
+pub loop-statement-init : goal.loop-statement-init
+loop-statement-init c =
+    let none : c.new-history.result.items ≡ [] = c.new-history.ensures.items in
+    record {
+      ran = (sym (ap length none), c.new-out.ensures.items);
+      own = subst (All (λ (e : Entry). e.session ≡ 0)) (sym none) (λ k d below. absurd (omega arith));
+      legal = λ written. subst IsLegal (sym none) tt;
+    }
+
+pub returns : goal.returns
+returns c =
+    let h = c.loop-statement.history.items in
+    let ss = c.args.statements.now in
+    let out = c.loop-statement.out.items in
+    let all = take_all c.loop-statement.statement-index ss c.loop-statement-test.false in
+    let ran = subst (λ (s : List (Result Statement Cause)). SessionRun calm h 0 s 0 (length h) out) all c.loop-statement.invariant.ran in
+    record { run = ran_all h ss out ran c.loop-statement.invariant.own; legal = c.loop-statement.invariant.legal }
 
 pub loop-statement-preserved : goal.loop-statement-preserved
 loop-statement-preserved c =
