@@ -1,16 +1,23 @@
 -- The part of a script that a statement takes, by the numbers of bytes that were found.
-use Rattle.std.proofs.Common.{◌≡◌, ℕ, ◌+◌, ◌<◌, ◌≤◌, min, Bool, true, false, not, ◌&&◌, cond, ltb, List, [], ◌∷◌, length, take, drop, Some, Result, if◌then◌else◌, refl, arith, ◌∙◌, sym, ap}
+use Rattle.std.proofs.Common.{◌≡◌, ℕ, ◌+◌, ◌<◌, ◌≤◌, min, Bool, true, false, not, ◌&&◌, cond, ltb, List, [], ◌∷◌, length, take, drop, Some, Result, Ok, Err, if◌then◌else◌, refl, arith, ◌∙◌, sym, ap}
 use Rattle.std.proofs.lemmas.Bool.Decides.{nat_tests}
 use Rattle.std.proofs.lemmas.List.{drop_min}
 use Rattle.std.specs.List.{prefix_len, list_all}
+use Rattle.std.specs.Result.{result_and}
 use Rattle.mt_values.specs.declared.script.Place.TheVariants.{Outside}
 use Rattle.mt_values.specs.declared.statement.Cause.{Cause}
+use Rattle.mt_values.specs.declared.statement.Cause.TheVariants as cause
 use Rattle.mt_values.specs.declared.statement.Statement.{Statement}
 use Rattle.mt_values.specs.Tokens.{is_space}
 use Rattle.mt_values.specs.Grammar.{statement_of, takes_data}
 use Rattle.mt_values.specs.Script.{is_line_byte, line_rest, behind_line, data_of, data_ended, with_line_rest, refused_behind, complete_or_cut, ended_from}
 use Rattle.sql_read.specs.declared.script.Extent.{Extent}
 use Rattle.sql_read.specs.Scripts.{data_in}
+
+-- a statement with more than blanks behind its semicolon is refused there, unless its text is refused
+pub and_refused : (place : ℕ) (found : Result Statement Cause) → result_and found (Err (cause.Grammar place)) ≡ refused_behind place found
+and_refused place (Ok statement) = refl
+and_refused place (Err why) = refl
 
 -- the data was found behind the line of the semicolon
 start_is_behind : (behind : List ℕ) (line start : ℕ) → line ≡ prefix_len is_line_byte behind → start ≡ min (line + 1) (length behind) → drop start behind ≡ behind_line behind

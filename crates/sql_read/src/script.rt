@@ -270,15 +270,15 @@ fn first_section(script: &[u8]) -> Section<'_>
 }
 
 // What a part of a script is, by what its text is: only blanks may stand behind its semicolon on the line.
+#[tactic(auto, using(crate::proofs::Sections::and_refused))]
 fn with_line(section: &Section, found: Result<Statement, Cause>) -> Result<Statement, Cause>
     ensures { result ≡ line_said section.now found }
 {
-    let statement = found?;
     if are_blank(section.line) {
-        return Ok(statement);
+        return found;
     }
     let place = section.text.len() + 1 + spaces_len(section.line);
-    Err(Cause::Grammar(place))
+    found.and(Err(Cause::Grammar(place)))
 }
 
 // The statement that a part of a script is, or why it is refused.
