@@ -1,10 +1,12 @@
 // What lines set up, and the lines that run.
-use crate::root::Root;
+use crate::examples::{Example, is_allowed, keep};
+use crate::root::{Root, file_of};
 use crate::runs::run_over;
 use crate::script::Script;
 use crate::setting::Setting;
+use mt_base::Seq;
 use mt_values::Name;
-use run_memory::{Outside, Trouble, first_word, number_of, shown, statements, told};
+use run_memory::{Outside, Trouble, bytes_of, first_word, number_of, shown, statements, told};
 use std::alloc::{AllocError, Global};
 use std::sync::Wait;
 use std::thread::Threads;
@@ -18,6 +20,8 @@ pub struct Bench {
     pub script: Script,
     pub setting: Setting,
     pub outside: Outside,
+    /// The scripts that were named.
+    pub examples: Vec<Example>,
 }
 
 // All that the plain program tells of a script, of which the status is that of another run.
@@ -50,6 +54,7 @@ impl Bench {
             script: Script { alloc, bytes },
             setting,
             outside,
+            examples: Vec::new(alloc),
         })
     }
 
@@ -131,6 +136,37 @@ impl Bench {
         write!(self.out, "  {} names", names.len())?;
         add_names(self.alloc, &mut self.out, &names)?;
         self.out.push('\n').map_err(Trouble::from)
+    }
+
+    /// Tells the bytes of a file that the last run left.
+    pub fn left(&mut self, rest: &str) -> Result<(), Trouble> {
+        let (name, file) = first_word(rest);
+        let id = file_of(file)?;
+        let name = Seq::of(bytes_of(self.alloc, name)?);
+        let bytes = self.outside.file(&name, id)?;
+        let text = shown(self.alloc, &bytes);
+        self.tell_text(text.map_err(Trouble::from))
+    }
+
+    /// Tells what was found.
+    pub fn tell_text(&mut self, found: Result<String, Trouble>) -> Result<(), Trouble> {
+        let text = found?;
+        writeln!(self.out, "  {text}").map_err(Trouble::from)
+    }
+
+    /// Keeps a script under a name.
+    pub fn name_script(&mut self, rest: &str) -> Result<(), Trouble> {
+        keep(self.alloc, &mut self.examples, rest)
+    }
+
+    /// Tells whether a script may leave the history of another one and print a text.
+    pub fn allows(&mut self, rest: &str) -> Result<(), Trouble> {
+        let text = if is_allowed(self.alloc, &self.examples, rest)? {
+            "  true\n"
+        } else {
+            "  false\n"
+        };
+        self.out.push_str(text).map_err(Trouble::from)
     }
 
     /// Crashes, and leaves the image of a choice.

@@ -1,5 +1,6 @@
 // What a line says, and what it comes to.
 use crate::bench::Bench;
+use crate::calls::{block_told, row_told, values_told};
 use crate::setting::Setting;
 use run_memory::{Trouble, first_word};
 use std::alloc::AllocError;
@@ -20,6 +21,7 @@ impl Bench {
             "again" => self.again(rt, rest),
             "check" => self.check(rt, rest),
             "names" => self.names(),
+            "left" => self.left(rest),
             "crash" => self.crash(rest),
             "each" => self.each(rt, rest),
             "crashes" => self.stops(rt, rest, true),
@@ -55,6 +57,11 @@ impl Bench {
             "read" | "write" | "stop" => self.setting.fail_next(word, rest),
             "bytes" => self.setting.by_bytes(),
             "words" => self.setting.set_words(rest),
+            "named" => self.name_script(rest),
+            "allows" => self.allows(rest),
+            "row" => self.tell_text(row_told(self.alloc, rest)),
+            "values" => self.tell_text(values_told(self.alloc, rest)),
+            "block" => self.tell_text(block_told(self.alloc, rest)),
             "script" => self.script.set(rest),
             "add" => self.script.add(rest),
             "repeat" => self.script.repeat(rest),

@@ -36,6 +36,7 @@
 //! - `check [SCRIPT]`: over an empty disk, in whole pieces and by single bytes, and by the plain program: whether all three write and accept
 //!   the same;
 //! - `names`: the names that the last run left, those that are not settled too;
+//! - `left NAME FILE`: the bytes of a file of such a name;
 //! - `crash CHOICE`: a crash behind the last run, by the number of the choice; the commands that were accepted are forgotten;
 //! - `each read COUNT`, `each write COUNT`, `each stop COUNT`: over the root, so many times, with the read or write of each number from 0
 //!   failing, or the disk stopped after so many calls;
@@ -45,11 +46,22 @@
 //!   for each crash its choice, and behind that one for each next run its answer, and behind `then` the answers of the last runs, equal
 //!   ones once. A next run whose line would be that of the one before has none;
 //! - `stops FIRSTS NEXTS SCRIPT`: the same without the first crash.
+//!
+//! What is found without a run:
+//!
+//! - `named NAME SCRIPT`: nothing; the lines behind it cite the script by the name;
+//! - `allows NAME NAME TEXT`: whether a script may leave the history of another one and print the text;
+//! - `row TYPE LINE`: the line that is printed of the row of one column that a line is;
+//! - `values TYPE COUNT BYTES`: how many values are read of the bytes of a column, none where they are none; and the values as a line, or
+//!   where the first fault is;
+//! - `block NUMBER`: how many rows a block without rows has, and one of a row with this number.
 #![tactic(auto)]
 
 mod bench;
+mod calls;
 mod crashes;
 mod directive;
+mod examples;
 mod root;
 mod runs;
 mod script;

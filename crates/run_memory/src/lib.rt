@@ -12,5 +12,5 @@ pub use damages::{Change, Damage};
 pub use outside::{Outside, told};
 pub use roots::{FIRST, File, Folder, column_files, entry_file, manifest_file};
 pub use scripts::statements;
-pub use text::{bytes_of, first_word, marked, number_of, short_number, shown, words_of};
+pub use text::{bytes_of, first_word, number_of, short_number, shown, words_of};
 pub use trouble::Trouble;

@@ -5,8 +5,8 @@ use crate::text::shown;
 use crate::trouble::Trouble;
 use disk_mem::{KeptAnnals, Listed, MemDisk};
 use mt_base::NoMemory;
-use mt_outside::{Disk, DiskError};
-use mt_values::{Entry, Name};
+use mt_outside::{Disk, DiskError, Written};
+use mt_values::{Entry, FileId, Name};
 use std::alloc::{AllocError, Global};
 
 /// Where it is set in a choice, a crash leaves half of each file that was not synced, filled with zeros.
@@ -48,6 +48,32 @@ fn add_folder(
     }
     let dir = disk.open(alloc, name)?;
     write!(text, "({:?} {:?})", name, dir.files()).map_err(Trouble::from)
+}
+
+// The bytes of a file among those of a folder.
+fn bytes_in(alloc: Global, files: &[Written], id: FileId) -> Result<Vec<u8>, Trouble> {
+    for written in files {
+        if written.file == id {
+            return Vec::from_slice(alloc, written.bytes.as_slice()).map_err(Trouble::from);
+        }
+    }
+    Err(Trouble("no such file"))
+}
+
+// The bytes of a file of the folder that has a name.
+fn bytes_under(
+    alloc: Global,
+    disk: &mut MemDisk,
+    name: &Name,
+    id: FileId,
+) -> Result<Vec<u8>, Trouble> {
+    if !disk.holds(name) {
+        return Err(Trouble("no such name"));
+    }
+    match disk.open(alloc, name) {
+        Ok(dir) => bytes_in(alloc, dir.files(), id),
+        Err(error) => Err(Trouble::from(error)),
+    }
 }
 
 // Adds each name of a disk with its files.
@@ -142,6 +168,12 @@ impl Outside {
     /// The names of what the last run left, the unsettled ones too.
     pub fn names(&self) -> Result<Vec<Name>, Trouble> {
         names_of(self.alloc, self.disk()?, ALL_KEPT).map_err(Trouble::from)
+    }
+
+    /// The bytes of a file of such a name.
+    pub fn file(&self, name: &Name, id: FileId) -> Result<Vec<u8>, Trouble> {
+        let mut image = self.disk()?.image(ALL_KEPT)?;
+        bytes_under(self.alloc, &mut image, name, id)
     }
 
     /// These names, each with its files as they are shown for debugging.

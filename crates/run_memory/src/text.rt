@@ -84,8 +84,8 @@ pub fn shown(alloc: Global, bytes: &[u8]) -> Result<String, AllocError> {
     }
 }
 
-/// How many bytes there are, and their digest.
-pub fn marked(alloc: Global, bytes: &[u8]) -> Result<String, AllocError> {
+// How many bytes there are, and their digest.
+fn marked(alloc: Global, bytes: &[u8]) -> Result<String, AllocError> {
     let digest = hex::encode(alloc, mark_of(bytes).digest)?;
     format!(in alloc; "{} bytes, SHA-256 {digest}", bytes.len())
 }

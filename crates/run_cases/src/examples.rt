@@ -1,10 +1,10 @@
-// Scripts with what they may print and the histories that they may leave.
+// Scripts with what they may print and the histories that they may leave, as the plain program's definitions say.
 use mt_plain::{allows, run};
 use mt_values::{Cause, Entry, Statement};
 use run_memory::{Trouble, bytes_of, first_word, statements};
 use std::alloc::Global;
 
-/// A script with a name, which cases cite, and the history that it leaves behind none.
+/// A script with a name, which later lines cite, and the history that it leaves behind none.
 #[derive(Drop)]
 pub struct Example {
     name: String,
@@ -34,22 +34,20 @@ fn example_of(alloc: Global, name: &str, script: &[u8]) -> Result<Example, Troub
     })
 }
 
-/// Keeps a script under a name. Nothing is told of it.
-pub fn keep(alloc: Global, examples: &mut Vec<Example>, rest: &str) -> Result<String, Trouble> {
+/// Keeps a script under a name.
+pub fn keep(alloc: Global, examples: &mut Vec<Example>, rest: &str) -> Result<(), Trouble> {
     let (name, script) = first_word(rest);
     let script = bytes_of(alloc, script)?;
     let example = example_of(alloc, name, &script)?;
-    examples.push(example)?;
-    Ok(String::new(alloc))
+    examples.push(example).map_err(Trouble::from)
 }
 
 /// Whether a script may leave the history of another one and print a text.
-pub fn allowed_told(alloc: Global, examples: &[Example], rest: &str) -> Result<String, Trouble> {
+pub fn is_allowed(alloc: Global, examples: &[Example], rest: &str) -> Result<bool, Trouble> {
     let (script, rest) = first_word(rest);
     let (history, printed) = first_word(rest);
     let script = named(examples, script)?;
     let history = named(examples, history)?;
     let printed = bytes_of(alloc, printed)?;
-    let allowed = allows(alloc, &script.statements, &history.history, &printed)?;
-    format!(in alloc; "{allowed}").map_err(Trouble::from)
+    allows(alloc, &script.statements, &history.history, &printed).map_err(Trouble::from)
 }
