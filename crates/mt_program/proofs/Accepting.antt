@@ -1,5 +1,5 @@
 -- From what a statement did to what its answer says.
-use Rattle.std.proofs.Common.{◌≡◌, ℕ, ◌+◌, false, List, [], ◌∷◌, ◌++◌, length, map, take, refl, sym, ap, ◌∙◌, subst, append-nil, arith, Option, None, Some, Result, length-append}
+use Rattle.std.proofs.Common.{◌≡◌, ℕ, ◌+◌, false, List, [], ◌∷◌, ◌++◌, length, map, take, refl, sym, ap, ◌∙◌, subst, append-nil, arith, Option, None, Some, Ok, Err, Result, Vec, Global, IfOk, IfErr, length-append}
 use Rattle.std.specs.Option.{option_map}
 use Rattle.std.proofs.lemmas.List.{length-map, take_at, take_all, map-append}
 use Rattle.std.proofs.lemmas.List.Elements.{All-cons, All-nil}
@@ -19,7 +19,8 @@ use Rattle.root_log.specs.declared.store.CoreStore.{CoreStore}
 use Rattle.root_log.specs.Commits.{Notes, SameList}
 use Rattle.root_log.specs.Soundness.{RootStands}
 use Rattle.root_log.specs.Stores.{CoreStands}
-use Rattle.mt_program.specs.Answers.{history, Accepts, Foresees, is_unsettled}
+use Rattle.mt_base.specs.declared.memory.NoMemory.{NoMemory}
+use Rattle.mt_program.specs.Answers.{history, Accepts, Answers, Foresees, is_unsettled}
 
 -- the history has as many entries as the keeper's list
 pub length_history : (t : Told) → length (history t) ≡ length t.list
@@ -63,6 +64,18 @@ accepts_nothing files_of kept st opened disk arm reply store (Some now) root_bef
 -- a root that stays as it was
 pub root_same : (reply : List ℕ) (h : History) (old new : Option root.Told) → new ≡ old → is_unsettled reply ≡ false → RootStands old h → RootStands new h
 root_same reply h old new same calm stands = subst (λ (o : Option root.Told). RootStands o h) (sym same) stands
+
+-- A line that is answered as it was formed, where it has what is said of it; else want of memory.
+pub answers_line : {F : Type 0} (files_of : F → Option Files) (kept : Told) (st : Result Statement Cause) (opened disk arm : ℕ) (line : Result (Vec ℕ Global) NoMemory) (store : CoreStore F) (told : Option Told) (root_before now_root : Option root.Told) (P : List ℕ → Type 0)
+    → IfOk line (λ text. P text.items) → SameList (Some kept) told → IfErr line (λ _. now_root ≡ root_before)
+    → ((reply : List ℕ) → P reply → Accepts files_of kept st opened disk arm reply store told root_before now_root) → Answers files_of kept st opened disk arm line store told root_before now_root
+answers_line files_of kept st opened disk arm (Ok text) store told root_before now_root P is same none accepts = accepts text.items is
+answers_line files_of kept st opened disk arm (Err e) store told root_before now_root P is same none accepts = (same, none)
+
+-- a root that nothing was done to
+pub root_is : (line : Result (Vec ℕ Global) NoMemory) (r : Option root.Told) → IfErr line (λ _. r ≡ r)
+root_is (Ok text) r = tt
+root_is (Err e) r = refl
 
 -- a command of the script's own session
 abbrev pub entry_of : Command → Entry

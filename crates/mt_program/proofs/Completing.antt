@@ -9,10 +9,11 @@ use Rattle.mt_outside.specs.Causes.{Rose}
 use Rattle.mt_model.specs.Causes.{NoneMeets}
 use Rattle.mt_model.proofs.Unrefused.{none_refused as calm_script}
 use Rattle.mt_program.specs.Answers.{history}
-use Rattle.mt_program.specs.Headline.{Leaves, NothingRefuses, RunBy, number_of}
+use Rattle.mt_program.specs.Headline.{Leaves, NothingRefuses, RunBy}
+use Rattle.exit_status.specs.Statuses.{number_of}
 use Rattle.mt_program.specs.Streams.{ConsumesMost}
-use Rattle.mt_program.specs.declared.status.Status.{Status}
-use Rattle.mt_program.specs.declared.status.Status.TheVariants as status
+use Rattle.exit_status.specs.declared.status.Status.{Status}
+use Rattle.exit_status.specs.declared.status.Status.TheVariants as status
 
 -- of a status that is none of the others
 pub zero_or_six : (s : Status) → (s ≡ status.NotWords → ⊥) → (s ≡ status.ReadFault → ⊥) → (s ≡ status.WriteFault → ⊥) → (s ≡ status.DiskFault → ⊥) → (s ≡ status.Damaged → ⊥) → (s ≡ status.TooLong → ⊥)

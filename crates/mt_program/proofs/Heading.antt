@@ -23,11 +23,12 @@ use Rattle.mt_program.specs.declared.streams.ReadStop.TheVariants as unread
 use Rattle.mt_program.specs.declared.serving.Ending.{Ending}
 use Rattle.mt_program.specs.declared.serving.Ending.TheVariants as ending
 use Rattle.mt_program.specs.declared.serving.Tally.{Tally}
-use Rattle.mt_program.specs.declared.status.Status.{Status}
-use Rattle.mt_program.specs.declared.status.Status.TheVariants as status
+use Rattle.exit_status.specs.declared.status.Status.{Status}
+use Rattle.exit_status.specs.declared.status.Status.TheVariants as status
 use Rattle.mt_program.specs.Answers.{Foresees, history}
 use Rattle.mt_program.specs.Endings.{IsAnswered, IsEarly, LeftBy, MetNoDamage, settled, status_of, status_of_error, status_of_stop}
-use Rattle.mt_program.specs.Headline.{CutByMemory, CutBySink, Leaves, WholeRunWith, ReadRun, RunWithFaults, NothingRan, RunBy, number_of}
+use Rattle.mt_program.specs.Headline.{CutByMemory, CutBySink, Leaves, WholeRunWith, ReadRun, RunWithFaults, NothingRan, RunBy}
+use Rattle.exit_status.specs.Statuses.{number_of}
 use Rattle.mt_program.specs.Serving.{Item, Ran, ServedAll, ServedFront, ServedCut}
 use Rattle.root_log.specs.declared.opening.Damage.{Damage}
 use Rattle.root_log.specs.declared.opening.OpenFault.{OpenFault}

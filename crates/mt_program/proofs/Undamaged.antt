@@ -47,8 +47,8 @@ use Rattle.mt_program.specs.Serving.{tallied}
 use Rattle.mt_program.specs.Stops.{IsLineOf, IsLineOfStage}
 use Rattle.mt_program.specs.declared.serving.Ending.{Ending}
 use Rattle.mt_program.specs.declared.serving.Tally.{Tally}
-use Rattle.mt_program.specs.declared.status.Status.{Status}
-use Rattle.mt_program.specs.declared.status.Status.TheVariants as status
+use Rattle.exit_status.specs.declared.status.Status.{Status}
+use Rattle.exit_status.specs.declared.status.Status.TheVariants as status
 use Rattle.mt_program.proofs.Heading.{not_damaged}
 
 -- a line by its number

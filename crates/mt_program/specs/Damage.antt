@@ -11,8 +11,8 @@ use Rattle.root_log.specs.declared.opening.OpenFault.TheVariants as fault
 use Rattle.root_log.specs.Opening.{IsRootDamage}
 use Rattle.mt_program.specs.Names.{file_name}
 use Rattle.mt_program.specs.Streams.{AppendsFront}
-use Rattle.mt_program.specs.declared.status.Status.{Status}
-use Rattle.mt_program.specs.declared.status.Status.TheVariants as status
+use Rattle.exit_status.specs.declared.status.Status.{Status}
+use Rattle.exit_status.specs.declared.status.Status.TheVariants as status
 
 -- a root of these names is damaged
 abbrev pub IsDamagedRoot : Names → Type 0

@@ -10,8 +10,8 @@ use Rattle.mt_program.specs.declared.serving.Tally.{Tally}
 use Rattle.mt_program.specs.declared.streams.ReadStop.{ReadStop}
 use Rattle.mt_program.specs.declared.streams.ReadStop.TheVariants as unread
 use Rattle.mt_program.specs.Serving.{ServedBy}
-use Rattle.mt_program.specs.declared.status.Status.{Status}
-use Rattle.mt_program.specs.declared.status.Status.TheVariants as status
+use Rattle.exit_status.specs.declared.status.Status.{Status}
+use Rattle.exit_status.specs.declared.status.Status.TheVariants as status
 
 -- the status of a call on the disk that failed at opening
 abbrev pub status_of_error : DiskError → Status

@@ -9,6 +9,7 @@ use Rattle.mt_model.specs.Causes.{NoneMeets}
 use Rattle.mt_model.specs.History.{History, IsLegal}
 use Rattle.mt_model.specs.Outside.{Counts}
 use Rattle.mt_model.specs.Session.{SessionReplies}
+use Rattle.exit_status.specs.Statuses.{number_of}
 use Rattle.mt_model.specs.Script.{ScriptRun, ScriptReplies, CutRun, CutInReply, FrontRun}
 use Rattle.root_log.specs.Roots.{Stands}
 use Rattle.root_log.specs.Soundness.{RootStands}
@@ -16,20 +17,8 @@ use Rattle.mt_program.specs.Answers.{history}
 use Rattle.mt_program.specs.Damage.{WritesDamage}
 use Rattle.mt_program.specs.Serving.{AreSettled, Item, Tells}
 use Rattle.mt_program.specs.declared.serving.Tally.{Tally}
-use Rattle.mt_program.specs.declared.status.Status.{Status}
-use Rattle.mt_program.specs.declared.status.Status.TheVariants as status
-
--- the number of each status
-abbrev pub number_of : Status → ℕ
-number_of status.Done = 0
-number_of status.Refused = 1
-number_of status.NotWords = 2
-number_of status.ReadFault = 3
-number_of status.WriteFault = 4
-number_of status.DiskFault = 5
-number_of status.NoMemory = 6
-number_of status.Damaged = 7
-number_of status.TooLong = 8
+use Rattle.exit_status.specs.declared.status.Status.{Status}
+use Rattle.exit_status.specs.declared.status.Status.TheVariants as status
 
 -- The statements ran, and all their replies were written. What the replies said. Where none of them says that a commit failed, the
 -- root stands for the list that is told at the end, so that the next run opens it.

@@ -54,21 +54,20 @@ pub fn create<D: Disk, A: Annals>(
     let resolved = resolve(alloc, text)?;
     let schema = match resolved {
         Ok(schema) => schema,
-        Err(refusal) => return Ok(refusal_line(alloc, &refusal)?),
+        Err(refusal) => return refusal_line(alloc, &refusal),
     };
     let replies = replies_behind(alloc, store.length)?;
     let table = text.table.twin(alloc)?;
     let sealed = match seal_entry(alloc, arm, text.text.as_slice()) {
         Ok(sealed) => sealed,
-        Err(error) => return Ok(stage_line(alloc, error)?),
+        Err(error) => return stage_line(alloc, error),
     };
     let made = Create { table, schema };
     match commit_create(alloc, store, disk, annals, 0, made, sealed) {
         Ok(()) => Ok(replies.accepted),
         Err(returned) => {
             give_back(arm, returned.back);
-            let unsettled = replies.unsettled;
-            Ok(refused_line(alloc, &text.table, returned.cause, unsettled)?)
+            refused_line(alloc, &text.table, returned.cause, replies.unsettled)
         }
     }
 }

@@ -56,7 +56,7 @@ fn data_line(alloc: Global, fault: DataFault) -> Result<Vec<u8>, NoMemory>
     ensures { IfOk result (λ line. line.items ≡ refusal_line (refusal_of_data fault)) }
 {
     let why = Refusal::of_data(fault);
-    Ok(refusal_line(alloc, &why)?)
+    refusal_line(alloc, &why)
 }
 
 /// The files of a block as a part of a table, sealed: its rows in the order of the key, those of equal keys as they came.
@@ -113,27 +113,26 @@ pub fn insert<D: Disk, A: Annals>(
     ensures arm_later { D.Arm.failed arm.old ≤ D.Arm.failed arm.new }
 {
     let Some(found) = store.tables.get(&text.table) else {
-        return Ok(no_table_line(alloc, &text.table)?);
+        return no_table_line(alloc, &text.table);
     };
     let block = match read_block(alloc, &found.schema, text) {
         Ok(block) => block,
         Err(ReadStop::NoMemory) => return Err(NoMemory),
-        Err(ReadStop::Refused(fault)) => return Ok(data_line(alloc, fault)?),
+        Err(ReadStop::Refused(fault)) => return data_line(alloc, fault),
     };
     if block.is_empty() {
-        return Ok(ok_line(alloc, store.length)?);
+        return ok_line(alloc, store.length);
     }
     let replies = replies_behind(alloc, store.length)?;
     let part = match seal_block(alloc, arm, &found.schema, &block) {
         Ok(part) => part,
-        Err(error) => return Ok(stage_line(alloc, error)?),
+        Err(error) => return stage_line(alloc, error),
     };
     match commit_part(alloc, store, disk, annals, 0, &text.table, part, block) {
         Ok(()) => Ok(replies.accepted),
         Err(returned) => {
             give_back(arm, returned.back.map(|part| part.sealed));
-            let unsettled = replies.unsettled;
-            Ok(refused_line(alloc, &text.table, returned.cause, unsettled)?)
+            refused_line(alloc, &text.table, returned.cause, replies.unsettled)
         }
     }
 }

@@ -7,13 +7,12 @@ mod inserts;
 mod refusals;
 mod selects;
 mod serving;
-mod status;
 mod stopped;
 mod streams;
 mod top;
 mod words;
 
+pub use exit_status::Status;
 pub use serving::{Ending, Tally};
-pub use status::Status;
 pub use streams::ReadStop;
 pub use top::{Done, run};

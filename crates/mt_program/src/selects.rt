@@ -158,10 +158,10 @@ fn read_places<R: Arm>(
     let parts = store.set.parts(&text.table);
     let mut columns = empty_columns(alloc, &table.schema, places)?;
     match read_parts(alloc, arm, parts, places, &mut columns) {
-        Ok(()) => Ok(print(alloc, store.length, columns, rows)?),
+        Ok(()) => print(alloc, store.length, columns, rows),
         Err((_, PartFault::NoMemory)) => Err(NoMemory),
-        Err((_, PartFault::Fault)) => Ok(stage_line(alloc, DiskError::Fault)?),
-        Err((part, PartFault::Damaged { file, .. })) => Ok(damaged(alloc, text, &part, file)?),
+        Err((_, PartFault::Fault)) => stage_line(alloc, DiskError::Fault),
+        Err((part, PartFault::Damaged { file, .. })) => damaged(alloc, text, &part, file),
     }
 }
 
@@ -183,12 +183,12 @@ pub fn select<R: Arm, G: Gate>(
     ensures later { R.failed arm.old ≤ R.failed arm.new }
 {
     let Some(table) = store.tables.get(&text.table) else {
-        return Ok(no_table_line(alloc, &text.table)?);
+        return no_table_line(alloc, &text.table);
     };
     let selected = selected_columns(alloc, table.schema.columns.as_slice(), &text.columns)?;
     let places = match selected {
         Ok(places) => places,
-        Err(refusal) => return Ok(refusal_line(alloc, &refusal)?),
+        Err(refusal) => return refusal_line(alloc, &refusal),
     };
     let Some(rows) = count_rows(store.set.parts(&text.table)) else {
         return Err(NoMemory);

@@ -127,7 +127,7 @@ pub fn answer<D: Disk, A: Annals, G: Gate>(
         Ok(Statement::Create(text)) => create(alloc, store, disk, arm, annals, &text),
         Ok(Statement::Insert(text)) => insert(alloc, store, disk, arm, annals, &text),
         Ok(Statement::Select(text)) => select(alloc, store, arm, gate, &text),
-        Err(cause) => Ok(refusal_line(alloc, &Refusal::of_cause(cause))?),
+        Err(cause) => refusal_line(alloc, &Refusal::of_cause(cause)),
     }
 }
 

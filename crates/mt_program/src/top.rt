@@ -19,9 +19,9 @@ ghost use Rattle.mt_program.specs.Words.{is_command};
 
 use crate::refusals::damage_line;
 use crate::serving::{Ending, serve};
-use crate::status::Status;
 use crate::streams::{ReadStop, read_all, write_all};
 use crate::words::is_command_line;
+use exit_status::Status;
 use mt_outside::{Arm, Disk, DiskError, Gate, Sink, Source};
 use mt_values::Annals;
 use root_log::{CoreStore, Damage, OpenFault, open};

@@ -1,22 +1,24 @@
+use Rattle.std.proofs.lemmas.Result.{IfErr-weaker, IfOk-weaker}
 use Rattle.std.proofs.Common.{◌≡◌, ◌<◌, ◌^◌, ◌++◌, ◌∷◌, [], List, ℕ, Some, None, Ok, Err, length, refl, sym, ap, ◌∙◌, subst, arith}
 use Rattle.mt_values.specs.declared.command.Command.TheVariants as command
 use Rattle.mt_values.specs.declared.statement.Statement.TheVariants as statement
 use Rattle.mt_model.specs.Reply.{create_turn}
 use Rattle.mt_model.proofs.Causes.{text_is_cause, undamaged_line}
 use Rattle.mt_model.proofs.Tables.{schema_is}
-use Rattle.mt_model.specs.Refusals.{is_damage}
+use Rattle.mt_model.specs.Refusals.{is_damage, refusal_line}
 use Rattle.root_log.specs.Commits.{IsCause, Notes, refuses_create}
 use Rattle.root_log.specs.Entries.{EntryHolds}
 use Rattle.root_log.specs.Soundness.{RootStands}
 use Rattle.root_log.specs.Stores.{CoreStands}
 use Rattle.mt_program.specs.Answers.{history}
 use Rattle.mt_program.specs.Commits.{entry_files}
-use Rattle.mt_program.proofs.Accepting.{accepts_nothing, entry_of, kept_same, same_kept}
+use Rattle.mt_program.proofs.Accepting.{accepts_nothing, answers_line, root_is, entry_of, kept_same, same_kept}
 use Rattle.mt_program.proofs.Creating.{created_accepts, entry_holds, turn_free}
 use Rattle.mt_program.proofs.Refusing.{create_failed, create_refused}
 use Rattle.part_set.proofs.Items.{item_first}
 use Rattle.root_log.proofs.SameStores.{stands_same}
 use Rattle.mt_program.proofs.Standing.{no_table, tables_made}
+use Rattle.mt_program.specs.Stops.{IsLineOf, IsLineOfStage}
 use Rattle.mt_program.proofs.Stopping.{create_not_committed, line_of_stage, nothing_shown_to_create, root_unless_disk}
 use Rattle.mt_program.proofs.Undamaged.{commit_line, line_of, stage_line}
 use Rattle.mt_program.proofs.creates.create.Goals as goal
@@ -24,24 +26,33 @@ use Rattle.mt_program.proofs.creates.create.Goals as goal
 -- what it says is refused
 pub returns-in-Err-clause-answers : goal.returns-in-Err-clause-answers
 returns-in-Err-clause-answers g c = λ kept is tells stands.
+    let files = g.D.Arm.Dir.Dir.files in
     let root = g.D.Disk.told c.args.disk.now in
-    accepts_nothing g.D.Arm.Dir.Dir.files kept (Ok (statement.Create c.args.text.now)) c.args.store.now.opened (g.D.Disk.failed c.args.disk.now) (g.D.Arm.Arm.failed c.args.arm.now) _ c.args.store.now (g.A.Annals.told c.args.annals.now) root root
-    (kept_same kept (g.A.Annals.told c.args.annals.now) is) stands
-    (λ n f. create_refused n kept _ c.args.text.now c.in-Err.refusal (sym c.in_ok-resolved.ensures ∙ c.in-Err.is) c.in_ok-refusal_line-in-Err.ensures)
-    (λ calm before. before)
+    let told = g.A.Annals.told c.args.annals.now in
+    let opened = c.args.store.now.opened in
+    let disk = g.D.Disk.failed c.args.disk.now in
+    let arm = g.D.Arm.Arm.failed c.args.arm.now in
+    let same = kept_same kept told is in
+    answers_line files kept (Ok (statement.Create c.args.text.now)) opened disk arm c.refusal_line.result c.args.store.now told root root (λ reply. reply ≡ refusal_line c.in-Err.refusal) c.refusal_line.ensures same (root_is c.refusal_line.result root)
+    (λ reply line. accepts_nothing files kept (Ok (statement.Create c.args.text.now)) opened disk arm reply c.args.store.now told root root same stands
+    (λ n f. create_refused n kept reply c.args.text.now c.in-Err.refusal (sym c.in_ok-resolved.ensures ∙ c.in-Err.is) line)
+    (λ calm before. before))
 
 -- its entry was not sealed
 pub returns-in-Err-seal_entry-clause-answers : goal.returns-in-Err-seal_entry-clause-answers
 returns-in-Err-seal_entry-clause-answers g c = λ kept is tells stands.
+    let files = g.D.Arm.Dir.Dir.files in
     let root = g.D.Disk.told c.args.disk.now in
+    let told = g.A.Annals.told c.args.annals.now in
     let opened = c.args.store.now.opened in
     let disk = g.D.Disk.failed c.args.disk.now in
     let arm = g.D.Arm.Arm.failed c.seal_entry.new.arm in
-    accepts_nothing g.D.Arm.Dir.Dir.files kept (Ok (statement.Create c.args.text.now)) opened disk arm _ c.args.store.now (g.A.Annals.told c.args.annals.now) root root
-    (kept_same kept (g.A.Annals.told c.args.annals.now) is) stands
-    (λ n f. create_failed n kept _ c.args.text.now c.in-Ok.schema (sym c.in_ok-resolved.ensures ∙ c.in-Ok.is)
-    (line_of_stage opened disk arm (g.D.Arm.Arm.failed c.args.arm.now) c.in-Err-seal_entry.error _ n c.in_ok-stage_line-in-Err-seal_entry.ensures (λ e. c.in-Err-seal_entry.ensures.cause.failed (ap Err e)) f))
-    (λ calm before. before)
+    let same = kept_same kept told is in
+    answers_line files kept (Ok (statement.Create c.args.text.now)) opened disk arm c.stage_line.result c.args.store.now told root root (IsLineOfStage c.in-Err-seal_entry.error) c.stage_line.ensures same (root_is c.stage_line.result root)
+    (λ reply line. accepts_nothing files kept (Ok (statement.Create c.args.text.now)) opened disk arm reply c.args.store.now told root root same stands
+    (λ n f. create_failed n kept reply c.args.text.now c.in-Ok.schema (sym c.in_ok-resolved.ensures ∙ c.in-Ok.is)
+    (line_of_stage opened disk arm (g.D.Arm.Arm.failed c.args.arm.now) c.in-Err-seal_entry.error reply n line (λ e. c.in-Err-seal_entry.ensures.cause.failed (ap Err e)) f))
+    (λ calm before. before))
 
 pub commit_create-requires-clause-schema : goal.commit_create-requires-clause-schema
 commit_create-requires-clause-schema g c κs within = schema_is c.args.text.now c.in-Ok.schema (sym c.in_ok-resolved.ensures ∙ c.in-Ok.is) c.requires.written.key
@@ -79,8 +90,8 @@ returns-in-Ok-commit_create-clause-answers g c = λ kept is tells stands.
     subst (λ (t : List ℕ). RootStands now (h ++ entry t ∷ [])) name (done.root_stands h (entry_files text.text) stands root (sealed ∙ ap (λ (t : List ℕ). Some (entry_files t)) c.as_slice.ensures) holds))
 
 -- it was not
-pub returns-in_ok-refused_line-in-Err-commit_create-clause-answers : goal.returns-in_ok-refused_line-in-Err-commit_create-clause-answers
-returns-in_ok-refused_line-in-Err-commit_create-clause-answers g c = λ kept is tells stands.
+pub returns-in-Err-commit_create-clause-answers : goal.returns-in-Err-commit_create-clause-answers
+returns-in-Err-commit_create-clause-answers g c = λ kept is tells stands.
     let files = g.D.Arm.Dir.Dir.files in
     let store = c.args.store.now in
     let text = c.args.text.now in
@@ -88,19 +99,21 @@ returns-in_ok-refused_line-in-Err-commit_create-clause-answers g c = λ kept is 
     let h = history kept in
     let ended = c.in-Err-commit_create.ensures in
     let cause = c.in-Err-commit_create.returned.cause in
-    let reply = c.in_ok-refused_line-in-Err-commit_create.field-0.items in
-    let line = c.in_ok-refused_line-in-Err-commit_create.ensures.line in
+    let result = c.refused_line.result in
     let was = g.D.Disk.told c.args.disk.now in
     let now = g.D.Disk.told c.commit_create.new.disk in
     let before = g.D.Disk.failed c.args.disk.now in
     let disk = g.D.Disk.failed c.commit_create.new.disk in
     let arm = g.D.Arm.Arm.failed c.give_back.new.arm in
-    accepts_nothing files kept (Ok (statement.Create text)) store.opened disk arm reply c.commit_create.new.store (g.A.Annals.told c.commit_create.new.annals) was now
-    (same_kept kept (g.A.Annals.told c.args.annals.now) (g.A.Annals.told c.commit_create.new.annals) is ended.annals_err)
+    let told = g.A.Annals.told c.commit_create.new.annals in
+    let same = same_kept kept (g.A.Annals.told c.args.annals.now) told is ended.annals_err in
+    answers_line files kept (Ok (statement.Create text)) store.opened disk arm result c.commit_create.new.store told was now (IsLineOf text.table cause) c.refused_line.ensures.line same
+    (IfErr-weaker result _ _ (λ e no. ended.unchanged no) c.refused_line.ensures.disk)
+    (λ reply line. accepts_nothing files kept (Ok (statement.Create text)) store.opened disk arm reply c.commit_create.new.store told was now same
     (stands_same files h store c.commit_create.new.store stands ended.same)
     (λ n f. create_not_committed files store kept stands before disk arm cause reply n f c.requires.opened ended.later ended.rose text c.in-Ok.schema (sym c.in_ok-resolved.ensures ∙ c.in-Ok.is) line
     (subst (λ (t : List ℕ). IsCause (refuses_create store t before) (Some cause)) name ended.cause))
-    (λ calm bef. root_unless_disk text.table cause reply h was now line ended.unchanged calm bef)
+    (λ calm bef. root_unless_disk text.table cause reply h was now line ended.unchanged calm bef))
 
 -- what a crash leaves
 pub returns-in-Ok-commit_create-clause-through_crashes : goal.returns-in-Ok-commit_create-clause-through_crashes
@@ -113,18 +126,8 @@ returns-in-Ok-commit_create-clause-through_crashes g c = λ ran first start tell
     c.commit_create.ensures.through_crashes ran (Ok (statement.Create text)) first start (entry_files text.text) (c.in-Ok-seal_entry.ensures.files tells ∙ ap (λ (t : List ℕ). Some (entry_files t)) c.as_slice.ensures) holds
     (refl, (statement.Create text, item_first (Ok (statement.Create text)) [], (c.in_ok-table.ensures, says))) was
 
-pub returns-in_ok-refused_line-in-Err-commit_create-clause-through_crashes : goal.returns-in_ok-refused_line-in-Err-commit_create-clause-through_crashes
-returns-in_ok-refused_line-in-Err-commit_create-clause-through_crashes g c = λ ran first start tells was keeps.
-    let text = c.args.text.now in
-    let schema = c.in-Ok.schema in
-    let says = sym c.in_ok-resolved.ensures ∙ c.in-Ok.is in
-    let few = subst (λ (t : List ℕ). length t < 2 ^ 32) c.as_slice.ensures c.in-Ok-seal_entry.ensures.few in
-    let holds = subst (λ (t : List ℕ). EntryHolds t schema (entry_files text.text)) (sym c.in_ok-table.ensures) (entry_holds text schema c.requires.written says few) in
-    c.commit_create.ensures.through_crashes ran (Ok (statement.Create text)) first start (entry_files text.text) (c.in-Ok-seal_entry.ensures.files tells ∙ ap (λ (t : List ℕ). Some (entry_files t)) c.as_slice.ensures) holds
-    (refl, (statement.Create text, item_first (Ok (statement.Create text)) [], (c.in_ok-table.ensures, says))) was
-
-pub returns-in_err-refused_line-in-Err-commit_create-clause-through_crashes : goal.returns-in_err-refused_line-in-Err-commit_create-clause-through_crashes
-returns-in_err-refused_line-in-Err-commit_create-clause-through_crashes g c = λ ran first start tells was keeps.
+pub returns-in-Err-commit_create-clause-through_crashes : goal.returns-in-Err-commit_create-clause-through_crashes
+returns-in-Err-commit_create-clause-through_crashes g c = λ ran first start tells was keeps.
     let text = c.args.text.now in
     let schema = c.in-Ok.schema in
     let says = sym c.in_ok-resolved.ensures ∙ c.in-Ok.is in
@@ -135,14 +138,13 @@ returns-in_err-refused_line-in-Err-commit_create-clause-through_crashes g c = λ
 
 -- the reply does not tell of damage
 pub returns-in-Err-clause-undamaged : goal.returns-in-Err-clause-undamaged
-returns-in-Err-clause-undamaged g c =
-    line_of _ c.in-Err.refusal c.in_ok-refusal_line-in-Err.ensures (undamaged_line c.in-Err.refusal (text_is_cause c.args.text.now c.in-Err.refusal (sym c.in_ok-resolved.ensures ∙ c.in-Err.is)))
+returns-in-Err-clause-undamaged g c = IfOk-weaker c.refusal_line.result _ _ (λ line is. line_of line.items c.in-Err.refusal is (undamaged_line c.in-Err.refusal (text_is_cause c.args.text.now c.in-Err.refusal (sym c.in_ok-resolved.ensures ∙ c.in-Err.is)))) c.refusal_line.ensures
 
 pub returns-in-Err-seal_entry-clause-undamaged : goal.returns-in-Err-seal_entry-clause-undamaged
-returns-in-Err-seal_entry-clause-undamaged g c = stage_line c.in-Err-seal_entry.error _ c.in_ok-stage_line-in-Err-seal_entry.ensures
+returns-in-Err-seal_entry-clause-undamaged g c = IfOk-weaker c.stage_line.result _ _ (λ line is. stage_line c.in-Err-seal_entry.error line.items is) c.stage_line.ensures
 
 pub returns-in-Ok-commit_create-clause-undamaged : goal.returns-in-Ok-commit_create-clause-undamaged
 returns-in-Ok-commit_create-clause-undamaged g c = ap is_damage c.in_ok-replies.ensures.accepted
 
-pub returns-in_ok-refused_line-in-Err-commit_create-clause-undamaged : goal.returns-in_ok-refused_line-in-Err-commit_create-clause-undamaged
-returns-in_ok-refused_line-in-Err-commit_create-clause-undamaged g c = commit_line c.args.text.now.table c.in-Err-commit_create.returned.cause _ c.in_ok-refused_line-in-Err-commit_create.ensures.line
+pub returns-in-Err-commit_create-clause-undamaged : goal.returns-in-Err-commit_create-clause-undamaged
+returns-in-Err-commit_create-clause-undamaged g c = IfOk-weaker c.refused_line.result _ _ (λ line is. commit_line c.args.text.now.table c.in-Err-commit_create.returned.cause line.items is) c.refused_line.ensures.line

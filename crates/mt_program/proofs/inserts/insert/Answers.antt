@@ -1,4 +1,5 @@
-use Rattle.std.proofs.Common.{◌≡◌, [], ◌≤◌, ◌<◌, ℕ, List, Option, Some, Ok, Err, true, false, length, refl, sym, ap, ◌∙◌, subst, arith}
+use Rattle.std.proofs.lemmas.Result.{IfErr-weaker, IfOk-weaker}
+use Rattle.std.proofs.Common.{◌≡◌, [], ◌≤◌, ◌<◌, ℕ, List, Option, Some, Ok, Err, true, false, length, refl, sym, ap, ◌∙◌, subst, arith, IfOk}
 use Rattle.mt_base.specs.declared.partition.Partition.TheVariants.{Whole}
 use Rattle.tsv_rows.specs.Stops.{Refuses}
 use Rattle.mt_values.specs.declared.row_fault.DataFault.{DataFault}
@@ -18,13 +19,14 @@ use Rattle.root_log.specs.declared.store.Table.{Table}
 use Rattle.root_log.specs.Commits.{insert_into, whole_parts}
 use Rattle.root_log.specs.Stores.{table_at}
 use Rattle.mt_program.specs.Answers.{history}
-use Rattle.mt_program.proofs.Accepting.{accepts_nothing, kept_same, length_history, same_kept}
+use Rattle.mt_program.proofs.Accepting.{accepts_nothing, answers_line, root_is, kept_same, length_history, same_kept}
 use Rattle.mt_program.proofs.Inserting.{empty_accepted, inserted_accepts, no_such_table, not_empty, rows_read, rows_refused, turn_free}
 use Rattle.mt_program.proofs.Refusing.{insert_failed, insert_refused}
 use Rattle.mt_model.specs.Reply.{rows_or_refused}
 use Rattle.part_set.proofs.Items.{item_first}
 use Rattle.root_log.proofs.SameStores.{stands_same}
 use Rattle.mt_program.proofs.Standing.{drawn_is, no_table, parts_made, table_schema}
+use Rattle.mt_program.specs.Stops.{IsLineOf, IsLineOfStage}
 use Rattle.mt_program.proofs.Stopping.{filtered, insert_not_committed, line_of_stage, nothing_shown, root_unless_disk}
 use Rattle.mt_program.proofs.Undamaged.{commit_line, data_line, stage_line}
 use Rattle.mt_program.proofs.inserts.insert.Goals as goal
@@ -45,39 +47,58 @@ pub returns-in_default-clause-answers : goal.returns-in_default-clause-answers
 returns-in_default-clause-answers g c = λ kept is tells stands.
     let files = g.D.Arm.Dir.Dir.files in
     let root = g.D.Disk.told c.args.disk.now in
+    let told = g.A.Annals.told c.args.annals.now in
+    let opened = c.args.store.now.opened in
+    let disk = g.D.Disk.failed c.args.disk.now in
+    let arm = g.D.Arm.Arm.failed c.args.arm.now in
+    let st = Ok (statement.Insert c.args.text.now) in
+    let same = kept_same kept told is in
     let none = no_table files (history kept) c.args.store.now stands c.args.text.now.table (sym c.in_default.ensures.value) in
-    accepts_nothing files kept (Ok (statement.Insert c.args.text.now)) c.args.store.now.opened (g.D.Disk.failed c.args.disk.now) (g.D.Arm.Arm.failed c.args.arm.now) _ c.args.store.now (g.A.Annals.told c.args.annals.now) root root
-    (kept_same kept (g.A.Annals.told c.args.annals.now) is) stands
-    (λ n f. insert_refused n kept _ c.args.text.now (refusal.NoTable c.args.text.now.table) (no_such_table c.args.text.now (history kept) none) c.in_ok-no_table_line.ensures)
-    (λ calm before. before)
+    answers_line files kept st opened disk arm c.no_table_line.result c.args.store.now told root root (λ reply. reply ≡ refusal_line (refusal.NoTable c.args.text.now.table)) c.no_table_line.ensures same (root_is c.no_table_line.result root)
+    (λ reply line. accepts_nothing files kept st opened disk arm reply c.args.store.now told root root same stands
+    (λ n f. insert_refused n kept reply c.args.text.now (refusal.NoTable c.args.text.now.table) (no_such_table c.args.text.now (history kept) none) line)
+    (λ calm before. before))
 
 -- the data is refused
 pub returns-in-Err-Refused-clause-answers : goal.returns-in-Err-Refused-clause-answers
 returns-in-Err-Refused-clause-answers g c = λ kept is tells stands.
     let files = g.D.Arm.Dir.Dir.files in
     let root = g.D.Disk.told c.args.disk.now in
+    let told = g.A.Annals.told c.args.annals.now in
+    let opened = c.args.store.now.opened in
+    let disk = g.D.Disk.failed c.args.disk.now in
+    let arm = g.D.Arm.Arm.failed c.args.arm.now in
+    let st = Ok (statement.Insert c.args.text.now) in
+    let same = kept_same kept told is in
     let found = c.in-Some.found.now in
     let there = table_schema files (history kept) c.args.store.now stands c.args.text.now.table found (sym c.in-Some.ensures.value) in
     let read = subst (Refuses (inserted_rows (column_types found.schema) c.args.text.now.lines c.args.text.now.ended)) c.in-Err-Refused.field-0-is c.in-Err-Refused.ensures.refused in
-    accepts_nothing files kept (Ok (statement.Insert c.args.text.now)) c.args.store.now.opened (g.D.Disk.failed c.args.disk.now) (g.D.Arm.Arm.failed c.args.arm.now) _ c.args.store.now (g.A.Annals.told c.args.annals.now) root root
-    (kept_same kept (g.A.Annals.told c.args.annals.now) is) stands
-    (λ n f. insert_refused n kept _ c.args.text.now (refusal_of_data c.in-Err-Refused.fault) (rows_refused c.args.text.now (history kept) found.schema there c.in-Err-Refused.fault read)
-    (c.in_ok-data_line-in-Err-Refused.ensures ∙ ap (λ (f : DataFault). refusal_line (refusal_of_data f)) c.in-Err-Refused.fault-is))
-    (λ calm before. before)
+    let fault = c.in-Err-Refused.fault in
+    answers_line files kept st opened disk arm c.data_line.result c.args.store.now told root root (λ reply. reply ≡ refusal_line (refusal_of_data fault))
+    (subst (λ (f : DataFault). IfOk c.data_line.result (λ line. line.items ≡ refusal_line (refusal_of_data f))) c.in-Err-Refused.fault-is c.data_line.ensures) same (root_is c.data_line.result root)
+    (λ reply line. accepts_nothing files kept st opened disk arm reply c.args.store.now told root root same stands
+    (λ n f. insert_refused n kept reply c.args.text.now (refusal_of_data fault) (rows_refused c.args.text.now (history kept) found.schema there fault read) line)
+    (λ calm before. before))
 
 -- there are no rows
 pub returns-then-is_empty-clause-answers : goal.returns-then-is_empty-clause-answers
 returns-then-is_empty-clause-answers g c = λ kept is tells stands.
     let files = g.D.Arm.Dir.Dir.files in
     let root = g.D.Disk.told c.args.disk.now in
+    let told = g.A.Annals.told c.args.annals.now in
+    let opened = c.args.store.now.opened in
+    let disk = g.D.Disk.failed c.args.disk.now in
+    let arm = g.D.Arm.Arm.failed c.args.arm.now in
+    let st = Ok (statement.Insert c.args.text.now) in
+    let same = kept_same kept told is in
     let found = c.in-Some.found.now in
     let there = table_schema files (history kept) c.args.store.now stands c.args.text.now.table found (sym c.in-Some.ensures.value) in
     let read = c.in-Ok.ensures.rows in
     let none = c.is_empty.ensures.0 c.if-is_empty.true in
-    accepts_nothing files kept (Ok (statement.Insert c.args.text.now)) c.args.store.now.opened (g.D.Disk.failed c.args.disk.now) (g.D.Arm.Arm.failed c.args.arm.now) _ c.args.store.now (g.A.Annals.told c.args.annals.now) root root
-    (kept_same kept (g.A.Annals.told c.args.annals.now) is) stands
-    (λ n f. empty_accepted n c.args.text.now kept _ (rows_read c.args.text.now (history kept) found.schema there c.in-Ok.block.rows read ∙ ap Ok none) (c.in_ok-ok_line.ensures ∙ ap ok_line (stands.length_is ∙ length_history kept)))
-    (λ calm before. before)
+    answers_line files kept st opened disk arm c.ok_line.result c.args.store.now told root root (λ reply. reply ≡ ok_line c.args.store.now.length) c.ok_line.ensures same (root_is c.ok_line.result root)
+    (λ reply line. accepts_nothing files kept st opened disk arm reply c.args.store.now told root root same stands
+    (λ n f. empty_accepted n c.args.text.now kept reply (rows_read c.args.text.now (history kept) found.schema there c.in-Ok.block.rows read ∙ ap Ok none) (line ∙ ap ok_line (stands.length_is ∙ length_history kept)))
+    (λ calm before. before))
 
 pub seal_block-requires-clause-schema : goal.seal_block-requires-clause-schema
 seal_block-requires-clause-schema g c κs within = (c.requires.store.tables c.args.text.now.table c.in-Some.found.now (sym c.in-Some.ensures.value)).schema
@@ -87,18 +108,20 @@ pub returns-in-Err-clause-answers : goal.returns-in-Err-clause-answers
 returns-in-Err-clause-answers g c = λ kept is tells stands.
     let files = g.D.Arm.Dir.Dir.files in
     let root = g.D.Disk.told c.args.disk.now in
+    let told = g.A.Annals.told c.args.annals.now in
     let opened = c.args.store.now.opened in
     let disk = g.D.Disk.failed c.args.disk.now in
     let arm = g.D.Arm.Arm.failed c.seal_block.new.arm in
+    let same = kept_same kept told is in
     let found = c.in-Some.found.now in
     let there = table_schema files (history kept) c.args.store.now stands c.args.text.now.table found (sym c.in-Some.ensures.value) in
     let read = c.in-Ok.ensures.rows in
     let some = not_empty c.in-Ok.block.rows (λ none. let yes = c.is_empty.ensures.1 none in let bad : true ≡ false = sym yes ∙ c.if-is_empty.false in cc) in
-    accepts_nothing files kept (Ok (statement.Insert c.args.text.now)) opened disk arm _ c.args.store.now (g.A.Annals.told c.args.annals.now) root root
-    (kept_same kept (g.A.Annals.told c.args.annals.now) is) stands
-    (λ n f. insert_failed n kept _ c.args.text.now c.in-Ok.block.rows some (rows_read c.args.text.now (history kept) found.schema there c.in-Ok.block.rows read)
-    (line_of_stage opened disk arm (g.D.Arm.Arm.failed c.args.arm.now) c.in-Err.error _ n c.in_ok-stage_line-in-Err.ensures (λ e. c.in-Err.ensures.cause.failed (ap Err e)) f))
-    (λ calm before. before)
+    answers_line files kept (Ok (statement.Insert c.args.text.now)) opened disk arm c.stage_line.result c.args.store.now told root root (IsLineOfStage c.in-Err.error) c.stage_line.ensures same (root_is c.stage_line.result root)
+    (λ reply line. accepts_nothing files kept (Ok (statement.Insert c.args.text.now)) opened disk arm reply c.args.store.now told root root same stands
+    (λ n f. insert_failed n kept reply c.args.text.now c.in-Ok.block.rows some (rows_read c.args.text.now (history kept) found.schema there c.in-Ok.block.rows read)
+    (line_of_stage opened disk arm (g.D.Arm.Arm.failed c.args.arm.now) c.in-Err.error reply n line (λ e. c.in-Err.ensures.cause.failed (ap Err e)) f))
+    (λ calm before. before))
 
 one_table : (o : Option Table) (a b : Table) → o ≡ Some a → o ≡ Some b → a ≡ b
 one_table o a b first second = let both : Some a ≡ Some b = sym first ∙ second in cc
@@ -139,8 +162,8 @@ returns-in-Ok-commit_part-clause-answers g c = λ kept is tells stands.
     (λ root. done.root_stands h found stands root at sealed)
 
 -- it was not
-pub returns-in_ok-refused_line-in-Err-commit_part-clause-answers : goal.returns-in_ok-refused_line-in-Err-commit_part-clause-answers
-returns-in_ok-refused_line-in-Err-commit_part-clause-answers g c = λ kept is tells stands.
+pub returns-in-Err-commit_part-clause-answers : goal.returns-in-Err-commit_part-clause-answers
+returns-in-Err-commit_part-clause-answers g c = λ kept is tells stands.
     let files = g.D.Arm.Dir.Dir.files in
     let store = c.args.store.now in
     let text = c.args.text.now in
@@ -152,19 +175,22 @@ returns-in_ok-refused_line-in-Err-commit_part-clause-answers g c = λ kept is te
     let some = not_empty c.in-Ok.block.rows (λ none. let yes = c.is_empty.ensures.1 none in let bad : true ≡ false = sym yes ∙ c.if-is_empty.false in cc) in
     let ended = c.in-Err-commit_part.ensures in
     let cause = c.in-Err-commit_part.returned.cause in
-    let reply = c.in_ok-refused_line-in-Err-commit_part.field-0.items in
-    let line = c.in_ok-refused_line-in-Err-commit_part.ensures.line in
+    let result = c.refused_line.result in
     let was = g.D.Disk.told c.args.disk.now in
     let now = g.D.Disk.told c.commit_part.new.disk in
     let before = g.D.Disk.failed c.args.disk.now in
     let disk = g.D.Disk.failed c.commit_part.new.disk in
     let arm = g.D.Arm.Arm.failed c.give_back.new.arm in
-    accepts_nothing files kept (Ok (statement.Insert text)) store.opened disk arm reply c.commit_part.new.store (g.A.Annals.told c.commit_part.new.annals) was now
-    (same_kept kept (g.A.Annals.told c.args.annals.now) (g.A.Annals.told c.commit_part.new.annals) is ended.annals_err)
+    let told = g.A.Annals.told c.commit_part.new.annals in
+    let st = Ok (statement.Insert text) in
+    let same = same_kept kept (g.A.Annals.told c.args.annals.now) told is ended.annals_err in
+    answers_line files kept st store.opened disk arm result c.commit_part.new.store told was now (IsLineOf text.table cause) c.refused_line.ensures.line same
+    (IfErr-weaker result _ _ (λ e no. ended.unchanged no) c.refused_line.ensures.disk)
+    (λ reply line. accepts_nothing files kept st store.opened disk arm reply c.commit_part.new.store told was now same
     (stands_same files h store c.commit_part.new.store stands ended.same)
     (λ n f. insert_not_committed files store kept stands before disk arm cause reply n f c.requires.opened ended.later ended.rose text found at c.in-Ok.block.rows some
     (rows_read text h found.schema there c.in-Ok.block.rows read) line (ended.cause found at))
-    (λ calm bef. root_unless_disk text.table cause reply h was now line ended.unchanged calm bef)
+    (λ calm bef. root_unless_disk text.table cause reply h was now line ended.unchanged calm bef))
 
 -- what a crash leaves
 pub returns-in-Ok-commit_part-clause-through_crashes : goal.returns-in-Ok-commit_part-clause-through_crashes
@@ -175,16 +201,8 @@ returns-in-Ok-commit_part-clause-through_crashes g c = λ ran first start tells 
     c.commit_part.ensures.through_crashes found ran (Ok (statement.Insert text)) first start (sym c.in-Some.ensures.value) (c.in-Ok-seal_block.ensures.sealed tells)
     (refl, (statement.Insert text, item_first (Ok (statement.Insert text)) [], (found.schema, c.in-Ok.block.rows, ap rows_or_refused read, (refl, refl, refl)))) was
 
-pub returns-in_ok-refused_line-in-Err-commit_part-clause-through_crashes : goal.returns-in_ok-refused_line-in-Err-commit_part-clause-through_crashes
-returns-in_ok-refused_line-in-Err-commit_part-clause-through_crashes g c = λ ran first start tells was keeps.
-    let text = c.args.text.now in
-    let found = c.in-Some.found.now in
-    let read = c.in-Ok.ensures.rows in
-    c.commit_part.ensures.through_crashes found ran (Ok (statement.Insert text)) first start (sym c.in-Some.ensures.value) (c.in-Ok-seal_block.ensures.sealed tells)
-    (refl, (statement.Insert text, item_first (Ok (statement.Insert text)) [], (found.schema, c.in-Ok.block.rows, ap rows_or_refused read, (refl, refl, refl)))) was
-
-pub returns-in_err-refused_line-in-Err-commit_part-clause-through_crashes : goal.returns-in_err-refused_line-in-Err-commit_part-clause-through_crashes
-returns-in_err-refused_line-in-Err-commit_part-clause-through_crashes g c = λ ran first start tells was keeps.
+pub returns-in-Err-commit_part-clause-through_crashes : goal.returns-in-Err-commit_part-clause-through_crashes
+returns-in-Err-commit_part-clause-through_crashes g c = λ ran first start tells was keeps.
     let text = c.args.text.now in
     let found = c.in-Some.found.now in
     let read = c.in-Ok.ensures.rows in
@@ -193,29 +211,26 @@ returns-in_err-refused_line-in-Err-commit_part-clause-through_crashes g c = λ r
 
 -- the reply does not tell of damage
 pub returns-in_default-clause-undamaged : goal.returns-in_default-clause-undamaged
-returns-in_default-clause-undamaged g c = ap is_damage c.in_ok-no_table_line.ensures
+returns-in_default-clause-undamaged g c = IfOk-weaker c.no_table_line.result _ _ (λ line is. ap is_damage is) c.no_table_line.ensures
 
 pub returns-in-Err-Refused-clause-undamaged : goal.returns-in-Err-Refused-clause-undamaged
-returns-in-Err-Refused-clause-undamaged g c = ap is_damage c.in_ok-data_line-in-Err-Refused.ensures ∙ data_line _
+returns-in-Err-Refused-clause-undamaged g c = IfOk-weaker c.data_line.result _ _ (λ line is. ap is_damage is ∙ data_line _) c.data_line.ensures
 
 pub returns-then-is_empty-clause-undamaged : goal.returns-then-is_empty-clause-undamaged
-returns-then-is_empty-clause-undamaged g c = ap is_damage c.in_ok-ok_line.ensures
+returns-then-is_empty-clause-undamaged g c = IfOk-weaker c.ok_line.result _ _ (λ line is. ap is_damage is) c.ok_line.ensures
 
 pub returns-in-Err-clause-undamaged : goal.returns-in-Err-clause-undamaged
-returns-in-Err-clause-undamaged g c = stage_line c.in-Err.error _ c.in_ok-stage_line-in-Err.ensures
+returns-in-Err-clause-undamaged g c = IfOk-weaker c.stage_line.result _ _ (λ line is. stage_line c.in-Err.error _ is) c.stage_line.ensures
 
 pub returns-in-Ok-commit_part-clause-undamaged : goal.returns-in-Ok-commit_part-clause-undamaged
 returns-in-Ok-commit_part-clause-undamaged g c = ap is_damage c.in_ok-replies.ensures.accepted
 
-pub returns-in_ok-refused_line-in-Err-commit_part-clause-undamaged : goal.returns-in_ok-refused_line-in-Err-commit_part-clause-undamaged
-returns-in_ok-refused_line-in-Err-commit_part-clause-undamaged g c = commit_line c.args.text.now.table c.in-Err-commit_part.returned.cause _ c.in_ok-refused_line-in-Err-commit_part.ensures.line
+pub returns-in-Err-commit_part-clause-undamaged : goal.returns-in-Err-commit_part-clause-undamaged
+returns-in-Err-commit_part-clause-undamaged g c = IfOk-weaker c.refused_line.result _ _ (λ line is. commit_line c.args.text.now.table c.in-Err-commit_part.returned.cause _ is) c.refused_line.ensures.line
 
 -- the parts of the store hold rows
 pub returns-in-Ok-commit_part-clause-held : goal.returns-in-Ok-commit_part-clause-held
 returns-in-Ok-commit_part-clause-held g c = λ tells held. c.commit_part.ensures.held c.in-Some.found.now (sym c.in-Some.ensures.value) (c.in-Ok-seal_block.ensures.sealed tells) held
 
-pub returns-in_ok-refused_line-in-Err-commit_part-clause-held : goal.returns-in_ok-refused_line-in-Err-commit_part-clause-held
-returns-in_ok-refused_line-in-Err-commit_part-clause-held g c = λ tells held. c.commit_part.ensures.held c.in-Some.found.now (sym c.in-Some.ensures.value) (c.in-Ok-seal_block.ensures.sealed tells) held
-
-pub returns-in_err-refused_line-in-Err-commit_part-clause-held : goal.returns-in_err-refused_line-in-Err-commit_part-clause-held
-returns-in_err-refused_line-in-Err-commit_part-clause-held g c = λ tells held. c.commit_part.ensures.held c.in-Some.found.now (sym c.in-Some.ensures.value) (c.in-Ok-seal_block.ensures.sealed tells) held
+pub returns-in-Err-commit_part-clause-held : goal.returns-in-Err-commit_part-clause-held
+returns-in-Err-commit_part-clause-held g c = λ tells held. c.commit_part.ensures.held c.in-Some.found.now (sym c.in-Some.ensures.value) (c.in-Ok-seal_block.ensures.sealed tells) held

@@ -1,3 +1,4 @@
+use Rattle.std.proofs.lemmas.Result.{IfOk-weaker}
 use Rattle.std.proofs.Common.{◌≡◌, ◌∙◌, ℕ, List, length, map, sym, ap, refl, subst, inl, All}
 use Rattle.mt_values.specs.Grid.{Cells, grid_of, rows_of}
 use Rattle.mt_outside.specs.declared.disk.DiskError.TheVariants as failure
@@ -28,17 +29,17 @@ read_parts-requires-after_bounds g c κs within = ap length c.deref_mut.ensures.
 
 -- the arm failed
 pub returns-in-Err-default-Fault-clause-answers : goal.returns-in-Err-default-Fault-clause-answers
-returns-in-Err-default-Fault-clause-answers g c = λ kept stands n disk f.
+returns-in-Err-default-Fault-clause-answers g c = λ kept stands.
     let table = c.args.table.now in
     let there = table_schema g.R.Dir.Dir.files (history kept) c.args.store.now stands c.args.text.now.table table c.requires.table in
     let chosen = c.requires.places in
     let rose = c.in-Err-default-Fault.ensures.fault c.in-Err-default-Fault.field-0-1-is in
-    select_failed n kept _ c.args.text.now c.args.places.now (columns_are c.args.text.now (history kept) table.schema there ∙ chosen)
-    (line_of_stage c.args.store.now.opened disk (g.R.Arm.failed c.read_parts.new.arm) (g.R.Arm.failed c.args.arm.now) failure.Fault _ n c.in_ok-stage_line-in-Err-default-Fault.ensures (λ same. rose) f)
+    IfOk-weaker c.stage_line.result _ _ (λ line is n disk f. select_failed n kept line.items c.args.text.now c.args.places.now (columns_are c.args.text.now (history kept) table.schema there ∙ chosen)
+    (line_of_stage c.args.store.now.opened disk (g.R.Arm.failed c.read_parts.new.arm) (g.R.Arm.failed c.args.arm.now) failure.Fault line.items n is (λ same. rose) f)) c.stage_line.ensures
 
 -- a part is not damaged
 pub returns-clause-answers : goal.returns-clause-answers
-returns-clause-answers g c = λ kept stands n disk f.
+returns-clause-answers g c = λ kept stands.
     let files = g.R.Dir.Dir.files in
     let table = c.args.table.now in
     let there = c.requires.table in
@@ -61,7 +62,7 @@ print-requires-clause-even g c =
     subst (All (λ (x : Cells). length x.values ≡ c.args.rows)) (sym back) (subst (λ m. All (λ (x : Cells). length x.values ≡ m) new) (sym count) even)
 
 pub returns-in-Ok-clause-answers : goal.returns-in-Ok-clause-answers
-returns-in-Ok-clause-answers g c = λ kept stands n disk f.
+returns-in-Ok-clause-answers g c = λ kept stands.
     let files = g.R.Dir.Dir.files in
     let store = c.args.store.now in
     let text = c.args.text.now in
@@ -84,16 +85,17 @@ returns-in-Ok-clause-answers g c = λ kept stands n disk f.
     let typed = joined_typed files table.schema c.parts-parts.result.now held.rows hold in
     let rows_are = ap (rows_of new) count ∙ projected new c.args.places.now (joined held.rows) values (typed_have_all table.schema c.args.places.now (joined held.rows) within typed) in
     let place : store.length ≡ length kept.list = stands.length_is ∙ length_history kept in
-    let printed = subst (λ (cs : List Cells). Printed (grid_of cs c.args.rows) store.length c.in_ok-print-in-Ok.field-0.items) back c.in_ok-print-in-Ok.ensures in
-    let here = subst (λ (m : ℕ). Printed (grid_of new c.args.rows) m c.in_ok-print-in-Ok.field-0.items) place printed in
+    IfOk-weaker c.print.result _ _ (λ reply is n disk f.
+    let printed = subst (λ (cs : List Cells). Printed (grid_of cs c.args.rows) store.length reply.items) back is in
+    let here = subst (λ (m : ℕ). Printed (grid_of new c.args.rows) m reply.items) place printed in
     inl (
-      selects (history kept) text table.schema c.args.places.now (joined held.rows) (grid_of new c.args.rows) (length kept.list) c.in_ok-print-in-Ok.field-0.items (whole_front kept) there chosen held.partly rows_are here,
+      selects (history kept) text table.schema c.args.places.now (joined held.rows) (grid_of new c.args.rows) (length kept.list) reply.items (whole_front kept) there chosen held.partly rows_are here,
       added_nothing kept,
-    )
+    )) c.print.ensures
 
 -- the reply does not tell of damage
 pub returns-in-Err-default-Fault-clause-undamaged : goal.returns-in-Err-default-Fault-clause-undamaged
-returns-in-Err-default-Fault-clause-undamaged g c = λ held. stage_line failure.Fault _ c.in_ok-stage_line-in-Err-default-Fault.ensures
+returns-in-Err-default-Fault-clause-undamaged g c = λ held. IfOk-weaker c.stage_line.result _ _ (λ line is. stage_line failure.Fault line.items is) c.stage_line.ensures
 
 pub returns-clause-undamaged : goal.returns-clause-undamaged
 returns-clause-undamaged g c = λ held.
@@ -108,24 +110,24 @@ returns-clause-undamaged g c = λ held.
     absurd (subst IsNoDamage c.in-Err-default-Damaged.field-0-1-is sound)
 
 pub returns-in-Ok-clause-undamaged : goal.returns-in-Ok-clause-undamaged
-returns-in-Ok-clause-undamaged g c = λ held. ap is_damage c.in_ok-print-in-Ok.ensures.reply_is
+returns-in-Ok-clause-undamaged g c = λ held. IfOk-weaker c.print.result _ _ (λ reply is. ap is_damage is.reply_is) c.print.ensures
 
 -- what it tells where it does
 pub returns-in-Err-default-Fault-clause-damaged : goal.returns-in-Err-default-Fault-clause-damaged
-returns-in-Err-default-Fault-clause-damaged g c = λ bad. absurd (false≢true (sym (stage_line failure.Fault _ c.in_ok-stage_line-in-Err-default-Fault.ensures) ∙ bad))
+returns-in-Err-default-Fault-clause-damaged g c = IfOk-weaker c.stage_line.result _ _ (λ line is bad. absurd (false≢true (sym (stage_line failure.Fault line.items is) ∙ bad))) c.stage_line.ensures
 
 pub returns-clause-damaged : goal.returns-clause-damaged
-returns-clause-damaged g c = λ bad.
+returns-clause-damaged g c =
     let files = g.R.Dir.Dir.files in
     let store = c.args.store.now in
     let text = c.args.text.now in
     let table = c.args.table.now in
     let chosen = c.requires.places in
     let types = ap (map (λ (x : Cells). x.col_type)) c.deref_mut.ensures.value ∙ c.in_ok-columns.ensures.types in
-    tells_of_damage files store text _ table c.args.places.now c.requires.table chosen
+    IfOk-weaker c.damaged.result _ _ (λ line is bad. tells_of_damage files store text line.items table c.args.places.now c.requires.table chosen
     c.parts-parts.result.now c.args.places.now (map (λ (x : Cells). x.col_type) c.deref_mut.result.now) c.parts-parts.ensures.parts refl types
     c.in-Err-default-Damaged.part c.in-Err-default-Damaged.file _ _ _ (subst (λ (w : PartFault). ExplainsParts files c.parts-parts.result.now c.args.places.now (map (λ (x : Cells). x.col_type) c.deref_mut.result.now) c.in-Err-default-Damaged.part w) c.in-Err-default-Damaged.field-0-1-is c.in-Err-default-Damaged.ensures.damaged)
-    c.in_ok-damaged-in-Err-default-Damaged.ensures
+    is) c.damaged.ensures
 
 pub returns-in-Ok-clause-damaged : goal.returns-in-Ok-clause-damaged
-returns-in-Ok-clause-damaged g c = λ bad. absurd (false≢true (sym (ap is_damage c.in_ok-print-in-Ok.ensures.reply_is) ∙ bad))
+returns-in-Ok-clause-damaged g c = IfOk-weaker c.print.result _ _ (λ reply is bad. absurd (false≢true (sym (ap is_damage is.reply_is) ∙ bad))) c.print.ensures

@@ -1,9 +1,11 @@
-use Rattle.std.proofs.Common.{◌∷◌, ◌++◌, [], Err, Ok, sym, ap, ◌∙◌, subst}
-use Rattle.mt_model.specs.Refusals.{is_damage, refusal_line}
-use Rattle.mt_program.specs.Answers.{Accepts, Answers}
+use Rattle.std.proofs.lemmas.Result.{IfOk-weaker}
+use Rattle.std.proofs.Common.{◌≡◌, IfOk, ◌∷◌, ◌++◌, [], Err, Ok, sym, ap, ◌∙◌, subst}
+use Rattle.mt_model.specs.declared.refusal.Refusal.{Refusal}
+use Rattle.mt_model.specs.Refusals.{is_damage, refusal_line, refusal_of_cause}
+use Rattle.mt_program.specs.Answers.{Answers}
 use Rattle.mt_program.specs.Serving.{Item}
 use Rattle.root_log.specs.Crashes.{KeepsThroughCrashes}
-use Rattle.mt_program.proofs.Accepting.{accepts_nothing, kept_same}
+use Rattle.mt_program.proofs.Accepting.{accepts_nothing, answers_line, kept_same, root_is}
 use Rattle.mt_program.proofs.Refusing.{text_refused}
 use Rattle.mt_program.proofs.Selecting.{selected_answers}
 use Rattle.mt_program.proofs.Undamaged.{cause_line}
@@ -19,16 +21,21 @@ returns-in-Ok-Select-clause-answers g c = λ kept is tells stands.
     subst (λ st. Answers files kept st c.args.store.now.opened disk arm c.select.result c.args.store.now told root root) (sym (c.in-Ok-Select.is ∙ ap Ok c.in-Ok-Select.field-0-is))
     (selected_answers files kept c.in-Ok-Select.text c.args.store.now.opened disk arm c.select.result c.args.store.now told root is stands (c.select.ensures.answers kept stands))
 
-pub returns-in_ok-refusal_line-in-Err-clause-answers : goal.returns-in_ok-refusal_line-in-Err-clause-answers
-returns-in_ok-refusal_line-in-Err-clause-answers g c = λ kept is tells stands.
+pub returns-in-Err-clause-answers : goal.returns-in-Err-clause-answers
+returns-in-Err-clause-answers g c = λ kept is tells stands.
     let files = g.D.Arm.Dir.Dir.files in
     let disk = g.D.Disk.failed c.args.disk.now in
     let arm = g.D.Arm.Arm.failed c.args.arm.now in
     let told = g.A.Annals.told c.args.annals.now in
     let root = g.D.Disk.told c.args.disk.now in
-    subst (λ st. Accepts files kept st c.args.store.now.opened disk arm c.in_ok-refusal_line-in-Err.field-0.items c.args.store.now told root root) (sym c.in-Err.is)
-    (accepts_nothing files kept (Err c.in-Err.cause) c.args.store.now.opened disk arm _ c.args.store.now told root root (kept_same kept told is) stands
-    (λ n f. text_refused n kept _ c.in-Err.cause (c.in_ok-refusal_line-in-Err.ensures ∙ ap refusal_line c.of_cause.ensures)) (λ calm before. before))
+    let opened = c.args.store.now.opened in
+    let result = c.refusal_line.result in
+    let why = refusal_of_cause c.in-Err.cause in
+    let line = subst (λ (w : Refusal). IfOk result (λ line. line.items ≡ refusal_line w)) c.of_cause.ensures c.refusal_line.ensures in
+    let same = kept_same kept told is in
+    subst (λ st. Answers files kept st opened disk arm result c.args.store.now told root root) (sym c.in-Err.is)
+    (answers_line files kept (Err c.in-Err.cause) opened disk arm result c.args.store.now told root root (λ reply. reply ≡ refusal_line why) line same (root_is result root)
+    (λ reply line. accepts_nothing files kept (Err c.in-Err.cause) opened disk arm reply c.args.store.now told root root same stands (λ n f. text_refused n kept reply c.in-Err.cause line) (λ calm before. before)))
 
 -- what a crash leaves
 pub returns-in-Ok-Create-clause-through_crashes : goal.returns-in-Ok-Create-clause-through_crashes
@@ -44,5 +51,5 @@ returns-in-Ok-Insert-clause-through_crashes g c = λ ran first start tells was k
     (c.insert.ensures.through_crashes ran first start tells was (subst (λ (s : Item). KeepsThroughCrashes g.D.Arm.Dir.Dir.files (ran ++ s ∷ []) c.args.store.now (g.D.Disk.failed c.args.disk.now) (g.D.Disk.told c.args.disk.now) (g.D.Disk.clock c.args.disk.now) (g.A.Annals.told c.args.annals.now) first start) is keeps))
 
 -- the reply does not tell of damage
-pub returns-in_ok-refusal_line-in-Err-clause-undamaged : goal.returns-in_ok-refusal_line-in-Err-clause-undamaged
-returns-in_ok-refusal_line-in-Err-clause-undamaged g c = λ held. ap is_damage (c.in_ok-refusal_line-in-Err.ensures ∙ ap refusal_line c.of_cause.ensures) ∙ cause_line c.in-Err.cause
+pub returns-in-Err-clause-undamaged : goal.returns-in-Err-clause-undamaged
+returns-in-Err-clause-undamaged g c = λ held. IfOk-weaker c.refusal_line.result _ _ (λ line is. ap is_damage (is ∙ ap refusal_line c.of_cause.ensures) ∙ cause_line c.in-Err.cause) c.refusal_line.ensures

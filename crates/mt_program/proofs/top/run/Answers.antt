@@ -3,8 +3,8 @@ use Rattle.mt_model.specs.Outside.{Counts}
 use Rattle.root_log.proofs.CrashSafe.{safe_at_start}
 use Rattle.mt_program.specs.Headline.{Leaves, NothingRan, ReadRun, RunBy}
 use Rattle.mt_program.specs.Words.{is_command}
-use Rattle.mt_program.specs.declared.status.Status.{Status}
-use Rattle.mt_program.specs.declared.status.Status.TheVariants as status
+use Rattle.exit_status.specs.declared.status.Status.{Status}
+use Rattle.exit_status.specs.declared.status.Status.TheVariants as status
 use Rattle.mt_program.proofs.Completing.{none_refused, not_too_long, zero_or_six}
 use Rattle.mt_program.proofs.Crashing.{nothing_of_script}
 use Rattle.mt_program.proofs.Heading.{left_by, leaves_as, nothing_read, same_number, at_most_one_is}

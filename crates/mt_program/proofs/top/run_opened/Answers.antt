@@ -8,8 +8,8 @@ use Rattle.mt_program.specs.Answers.{Foresees, history}
 use Rattle.mt_program.specs.Damage.{WritesDamage, damage_line}
 use Rattle.mt_program.specs.Endings.{IsAnswered}
 use Rattle.mt_program.specs.Headline.{Leaves, RunBy}
-use Rattle.mt_program.specs.declared.status.Status.{Status}
-use Rattle.mt_program.specs.declared.status.Status.TheVariants as status
+use Rattle.exit_status.specs.declared.status.Status.{Status}
+use Rattle.exit_status.specs.declared.status.Status.TheVariants as status
 use Rattle.mt_program.proofs.Counting.{risen_back, some_rose}
 use Rattle.root_log.specs.Crashes.{AllStand}
 use Rattle.root_log.proofs.CrashSafe.{safe_at_start, safe_opened}

@@ -1,6 +1,6 @@
 // How a run ends.
 ghost use Rattle.std.specs.Prelude.{◌≡◌, Bool};
-ghost use Rattle.mt_program.specs.Headline.{number_of};
+ghost use Rattle.exit_status.specs.Statuses.{number_of};
 
 /// How a run ends: by what ends it early, or else, at the script's end, by damage before a disk's fault before a refusal.
 #[derive(Clone, Copy)]
