@@ -1,15 +1,18 @@
 // Why bytes are not read.
 use mt_base::NoMemory;
 use std::alloc::AllocError;
+use thiserror::Error;
 
 /// Why bytes were not read as what they should spell, as the values of a column.
-#[derive(Clone, Copy)]
+#[derive(Clone, Copy, Debug, Error)]
 pub enum FormatFault {
     /// A growth was refused.
+    #[error("out of memory")]
     NoMemory,
     /// The bytes spell nothing of the kind, and this is the place of the first fault, counted from 0. In a
     /// column's bytes it is where a value begins that they don't go on with, or where the last value ends and
     /// they go on.
+    #[error("malformed at byte {place}")]
     Malformed { place: u64 },
 }
 

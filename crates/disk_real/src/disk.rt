@@ -123,19 +123,16 @@ impl<R: System> RealDisk<R> {
     fn cut(&mut self, name: &Name) -> Result<(), DiskError>
         ensures { self.new ≡ self.old }
     {
+        let number = draw(&mut self.removals)?;
         let path = self.path_of(self.alloc, name)?;
-        let hidden = self.removed_path()?;
+        let hidden = removed_path(self.alloc, &self.root, number)?;
         take_away(&self.rt, self.alloc, &self.root, &path, &hidden)
     }
+}
 
-    // The path that the folder of the next name to be removed gets.
-    fn removed_path(&mut self) -> Result<String, DiskError>
-        ensures { self.new ≡ self.old }
-    {
-        let number = draw(&mut self.removals)?;
-        let root = &self.root;
-        Ok(format!(in self.alloc; "{root}/.removed_{number}").map_err(NoMemory::from)?)
-    }
+// The path that the folder of a name gets that is removed.
+fn removed_path(alloc: Global, root: &str, number: u64) -> Result<String, NoMemory> {
+    Ok(format!(in alloc; "{root}/.removed_{number}")?)
 }
 
 impl<R: System + Send> Disk for RealDisk<R> {
