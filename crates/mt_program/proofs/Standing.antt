@@ -11,10 +11,10 @@ use Rattle.mt_model.specs.Partial.{Partly}
 use Rattle.part_reader.specs.declared.reading.Part.{Part}
 use Rattle.part_set.specs.declared.kept.Kept.{Kept}
 use Rattle.part_set.specs.Sets.{parts_of}
-use Rattle.table_core.specs.Numbers.{numbered}
-use Rattle.table_core.specs.Parts.{rows_of_parts}
-use Rattle.table_core.proofs.Counted.{parts_at_most}
-use Rattle.table_core.proofs.Joined.{parts_joined}
+use Rattle.part_history.specs.Numbers.{numbered}
+use Rattle.part_history.specs.Parts.{rows_of_parts}
+use Rattle.part_history.proofs.Counted.{parts_at_most}
+use Rattle.part_history.proofs.Joined.{parts_joined}
 use Rattle.root_log.specs.declared.store.CoreStore.{CoreStore}
 use Rattle.root_log.specs.declared.store.Table.{Table}
 use Rattle.root_log.specs.Stores.{CoreStands, core_parts, table_at}

@@ -12,10 +12,10 @@ use Rattle.mt_model.specs.History.{History}
 use Rattle.mt_model.proofs.Tables.{itself_same}
 use Rattle.part_set.specs.declared.root_name.TablePart.{TablePart}
 use Rattle.part_set.specs.Visible.{Overlap}
-use Rattle.table_core.specs.declared.part.CorePart.{CorePart}
-use Rattle.table_core.specs.Numbers.{same_partition}
-use Rattle.table_core.specs.Parts.{PartStands, has_block, parts_of}
-use Rattle.table_core.proofs.Ranges.{lies_inside}
+use Rattle.part_history.specs.declared.part.CorePart.{CorePart}
+use Rattle.part_history.specs.Numbers.{same_partition}
+use Rattle.part_history.specs.Parts.{PartStands, has_block, parts_of}
+use Rattle.part_history.proofs.Ranges.{lies_inside}
 use Rattle.root_log.specs.Roots.{Stands, named}
 use Rattle.root_log.proofs.Items.{filtered, two_count}
 use Rattle.root_log.proofs.Orphaned.{of_core, part_named}

@@ -22,7 +22,7 @@ use Rattle.part_writer.specs.PartFiles.{column_file_bytes, manifest_of}
 use Rattle.digest_file.specs.Spellings.{IsManifestOf}
 use Rattle.stage_dir.specs.Stages.{AreSealed}
 use Rattle.stage_dir.proofs.Images.{is_synced-sealed}
-use Rattle.table_core.specs.Steps.{entered, next_number}
+use Rattle.part_history.specs.Entered.{entered, next_number}
 use Rattle.root_log.specs.declared.store.CoreStore.{CoreStore}
 use Rattle.root_log.specs.declared.store.Table.{Table}
 use Rattle.root_log.specs.ByteOrder.{AreInByteOrder}

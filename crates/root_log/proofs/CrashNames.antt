@@ -15,8 +15,8 @@ use Rattle.part_name.specs.PartNames.{part_text}
 use Rattle.part_set.specs.declared.root_name.RootName.{RootName}
 use Rattle.part_set.specs.declared.root_name.RootName.TheVariants as root
 use Rattle.part_set.specs.RootNames.{IsRootName, root_text}
-use Rattle.table_core.specs.Numbers.{numbered}
-use Rattle.table_core.specs.Steps.{next_number}
+use Rattle.part_history.specs.Numbers.{numbered}
+use Rattle.part_history.specs.Entered.{next_number}
 use Rattle.root_log.specs.ByteOrder.{AreInByteOrder}
 use Rattle.root_log.specs.Commits.{fresh_part}
 use Rattle.root_log.specs.Roots.{Stands}

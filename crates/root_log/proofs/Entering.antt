@@ -21,11 +21,11 @@ use Rattle.part_reader.specs.Parts.{PartHolds}
 use Rattle.part_set.specs.declared.kept.Kept.{Kept}
 use Rattle.part_set.specs.declared.set.PartSet.{PartSet}
 use Rattle.part_set.specs.Sets.{parts_of}
-use Rattle.table_core.specs.declared.part.CorePart.{CorePart}
-use Rattle.table_core.specs.Numbers.{IsInsertOf, draws, numbered}
-use Rattle.table_core.specs.Parts.{AreInBlockOrder, PartStands, TableStands}
-use Rattle.table_core.specs.Steps.{entered}
-use Rattle.table_core.proofs.Growing.{numbered_more, schema_kept, schema_more, table_kept}
+use Rattle.part_history.specs.declared.part.CorePart.{CorePart}
+use Rattle.part_history.specs.Numbers.{IsInsertOf, draws, numbered}
+use Rattle.part_history.specs.Parts.{AreInBlockOrder, PartStands, TableStands}
+use Rattle.part_history.specs.Entered.{entered}
+use Rattle.part_history.proofs.Growing.{numbered_more, schema_kept, schema_more, table_kept}
 use Rattle.root_log.specs.declared.store.CoreStore.{CoreStore}
 use Rattle.root_log.specs.declared.store.Table.{Table}
 use Rattle.root_log.specs.Commits.{EntersTable, fresh_table}

@@ -25,12 +25,12 @@ use Rattle.part_set.specs.declared.root_name.RootName.TheVariants as root
 use Rattle.part_set.specs.declared.root_name.TablePart.{TablePart}
 use Rattle.part_set.specs.RootNames.{IsRootName, is_table, root_text}
 use Rattle.part_set.specs.Visible.{Covers, HasPart, HasTable, IsVisible}
-use Rattle.table_core.specs.declared.part.CorePart.{CorePart}
-use Rattle.table_core.specs.Numbers.{numbered}
-use Rattle.table_core.specs.Parts.{TableStands, parts_of}
-use Rattle.table_core.specs.Steps.{entered, next_number, part_of_insert}
-use Rattle.table_core.proofs.Apart.{ends_below}
-use Rattle.table_core.proofs.Growing.{drawn_apart, schema_kept, schema_more, table_grown, table_kept}
+use Rattle.part_history.specs.declared.part.CorePart.{CorePart}
+use Rattle.part_history.specs.Numbers.{numbered}
+use Rattle.part_history.specs.Parts.{TableStands, parts_of}
+use Rattle.part_history.specs.Entered.{entered, next_number, part_of_insert}
+use Rattle.part_history.proofs.Apart.{ends_below}
+use Rattle.part_history.proofs.Growing.{drawn_apart, schema_kept, schema_more, table_grown, table_kept}
 use Rattle.root_log.specs.ByteOrder.{AreInByteOrder}
 use Rattle.root_log.specs.Commits.{fresh_part}
 use Rattle.root_log.specs.Entries.{EntryHolds}

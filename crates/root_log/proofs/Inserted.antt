@@ -19,12 +19,12 @@ use Rattle.part_reader.specs.declared.reading.Part.{Part}
 use Rattle.part_reader.specs.Parts.{PartHolds}
 use Rattle.part_set.specs.declared.kept.Kept.{Kept}
 use Rattle.part_set.specs.Sets.{parts_of}
-use Rattle.table_core.specs.declared.part.CorePart.{CorePart}
-use Rattle.table_core.specs.Numbers.{numbered}
-use Rattle.table_core.specs.Parts.{AreInBlockOrder, TableStands}
-use Rattle.table_core.specs.Steps.{entered, part_of_insert}
-use Rattle.table_core.proofs.Growing.{drawn_apart, drawn_here, numbered_more, schema_more, table_grown, table_kept}
-use Rattle.table_core.proofs.Stepping.{order_grown}
+use Rattle.part_history.specs.declared.part.CorePart.{CorePart}
+use Rattle.part_history.specs.Numbers.{numbered}
+use Rattle.part_history.specs.Parts.{AreInBlockOrder, TableStands}
+use Rattle.part_history.specs.Entered.{entered, part_of_insert}
+use Rattle.part_history.proofs.Growing.{drawn_apart, drawn_here, numbered_more, schema_more, table_grown, table_kept}
+use Rattle.part_history.proofs.Ordered.{order_grown}
 use Rattle.root_log.specs.declared.store.CoreStore.{CoreStore}
 use Rattle.root_log.specs.declared.store.Table.{Table}
 use Rattle.root_log.specs.Commits.{EntersSealed, IsSealedOf, fresh_part, insert_into, insert_of_block, part_rows}

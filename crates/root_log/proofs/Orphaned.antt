@@ -13,7 +13,7 @@ use Rattle.part_set.specs.declared.root_name.RootName.TheVariants.{Create, Part}
 use Rattle.part_set.specs.declared.root_name.TablePart.{TablePart}
 use Rattle.part_set.specs.RootNames.{IsRootName}
 use Rattle.part_set.specs.Visible.{Covers, HasPart, HasTable, IsOrphan, IsVisible}
-use Rattle.table_core.specs.declared.part.CorePart.{CorePart}
+use Rattle.part_history.specs.declared.part.CorePart.{CorePart}
 use Rattle.root_log.specs.Roots.{PartIsThere, Stands, named}
 use Rattle.root_log.proofs.Items.{mapped}
 use Rattle.root_log.proofs.Readings.{table_read}

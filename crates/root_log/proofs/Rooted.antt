@@ -15,7 +15,7 @@ use Rattle.mt_outside.specs.Files.{Files}
 use Rattle.mt_model.specs.History.{History, IsInsertInto, IsTableSchema, creates, schema_of}
 use Rattle.part_name.specs.PartNames.{part_text}
 use Rattle.part_set.specs.RootNames.{is_table}
-use Rattle.table_core.specs.Steps.{entered, next_number}
+use Rattle.part_history.specs.Entered.{entered, next_number}
 use Rattle.root_log.specs.declared.store.CoreStore.{CoreStore}
 use Rattle.root_log.specs.declared.store.Table.{Table}
 use Rattle.root_log.specs.Commits.{IsSealedOf, fresh_part, insert_into, insert_of_block, part_rows}

@@ -13,7 +13,7 @@ use Rattle.mt_model.specs.History.{History}
 use Rattle.part_reader.specs.declared.reading.Part.{Part}
 use Rattle.part_reader.specs.Parts.{PartHolds}
 use Rattle.part_set.specs.declared.kept.Kept.{Kept}
-use Rattle.table_core.specs.Parts.{AreInBlockOrder, TableStands}
+use Rattle.part_history.specs.Parts.{AreInBlockOrder, TableStands}
 use Rattle.root_log.specs.declared.store.CoreStore.{CoreStore}
 use Rattle.root_log.specs.declared.store.Table.{Table}
 use Rattle.root_log.specs.Commits.{SameStore}

@@ -43,11 +43,11 @@ use Rattle.part_set.specs.Visible.{HasTable, IsVisible}
 use Rattle.part_set.proofs.Items.{item_first, item_none}
 use Rattle.part_set.proofs.Maps.{found_is}
 use Rattle.part_set.proofs.Orphans.{item_more}
-use Rattle.table_core.specs.declared.part.CorePart.{CorePart}
-use Rattle.table_core.specs.Numbers.{IsInsertOf, lies_within, numbered, same_partition}
-use Rattle.table_core.specs.Parts.{AreInBlockOrder, PartStands, block_cmp, has_block, parts_of, partition_cmp}
-use Rattle.table_core.proofs.Growing.{number_drawn}
-use Rattle.table_core.proofs.Numbered.{all_whole, insert_at}
+use Rattle.part_history.specs.declared.part.CorePart.{CorePart}
+use Rattle.part_history.specs.Numbers.{IsInsertOf, lies_within, numbered, same_partition}
+use Rattle.part_history.specs.Parts.{AreInBlockOrder, PartStands, block_cmp, has_block, parts_of, partition_cmp}
+use Rattle.part_history.proofs.Growing.{number_drawn}
+use Rattle.part_history.proofs.Numbered.{all_whole, insert_at}
 use Rattle.root_log.specs.declared.store.CoreStore.{CoreStore}
 use Rattle.root_log.specs.declared.store.Table.{Table}
 use Rattle.root_log.specs.Roots.{FolderHolds, Stands, named}

@@ -15,10 +15,10 @@ use Rattle.mt_model.proofs.Tables.{same_is}
 use Rattle.part_set.specs.declared.root_name.RootName.{RootName}
 use Rattle.part_set.specs.declared.root_name.TablePart.{TablePart}
 use Rattle.part_set.specs.Visible.{HasPart}
-use Rattle.table_core.specs.declared.part.CorePart.{CorePart}
-use Rattle.table_core.specs.Numbers.{IsInsertOf, numbered}
-use Rattle.table_core.specs.Parts.{has_block, parts_of}
-use Rattle.table_core.proofs.Numbered.{all_whole, insert_at}
+use Rattle.part_history.specs.declared.part.CorePart.{CorePart}
+use Rattle.part_history.specs.Numbers.{IsInsertOf, numbered}
+use Rattle.part_history.specs.Parts.{has_block, parts_of}
+use Rattle.part_history.proofs.Numbered.{all_whole, insert_at}
 use Rattle.root_log.specs.ByteOrder.{AreInByteOrder}
 use Rattle.root_log.specs.Crashes.{AllStand, IsCrashSafe, IsFirstOf, IsMarkBehind, entries_of}
 use Rattle.root_log.specs.Roots.{AreRead, Stands, named}

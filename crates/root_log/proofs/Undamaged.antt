@@ -30,8 +30,8 @@ use Rattle.part_set.specs.declared.root_name.RootName.TheVariants as root
 use Rattle.part_set.specs.declared.root_name.TablePart.{TablePart}
 use Rattle.part_set.specs.RootNames.{root_text}
 use Rattle.part_set.specs.Visible.{IsVisible}
-use Rattle.table_core.specs.Numbers.{numbered}
-use Rattle.table_core.proofs.Numbered.{all_whole, whole_at}
+use Rattle.part_history.specs.Numbers.{numbered}
+use Rattle.part_history.proofs.Numbered.{all_whole, whole_at}
 use Rattle.root_log.specs.Damage.{DamagedAt, IsDamaged, PartDamaged}
 use Rattle.root_log.specs.Entries.{EntryHolds, schema_of_entry}
 use Rattle.root_log.specs.Roots.{FolderHolds, HasFolder, Stands}

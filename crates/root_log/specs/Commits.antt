@@ -24,7 +24,7 @@ use Rattle.part_reader.specs.declared.reading.Part.{Part}
 use Rattle.part_writer.specs.PartFiles.{manifest_of}
 use Rattle.part_set.specs.declared.kept.Kept.{Kept}
 use Rattle.part_set.specs.Sets.{parts_of}
-use Rattle.table_core.specs.Numbers.{same_partition}
+use Rattle.part_history.specs.Numbers.{same_partition}
 use Rattle.root_log.specs.declared.commits.Limit.TheVariants as limit
 use Rattle.root_log.specs.declared.commits.Refused.{Refused}
 use Rattle.root_log.specs.declared.commits.Refused.TheVariants as refused

@@ -18,8 +18,8 @@ use Rattle.part_set.specs.declared.root_name.TablePart.{TablePart}
 use Rattle.part_set.specs.RootNames.{IsRootName, root_text}
 use Rattle.part_set.specs.Visible.{HasPart, HasTable, IsVisible}
 use Rattle.part_writer.specs.PartFiles.{column_file_bytes, manifest_of}
-use Rattle.table_core.specs.declared.part.CorePart.{CorePart}
-use Rattle.table_core.specs.Parts.{PartsStand}
+use Rattle.part_history.specs.declared.part.CorePart.{CorePart}
+use Rattle.part_history.specs.Parts.{PartsStand}
 use Rattle.root_log.specs.Entries.{EntryHolds}
 
 -- a folder holds rows of a table: each of its files has the bytes that are written of them (docs/formats.md, "Parts")

@@ -24,9 +24,9 @@ use Rattle.part_set.specs.Parts.{IsInBlockOrder}
 use Rattle.part_set.specs.RootNames.{root_text}
 use Rattle.part_set.specs.Sets.{parts_of}
 use Rattle.part_set.specs.Visible.{HasTable, IsVisible}
-use Rattle.table_core.specs.declared.part.CorePart.{CorePart}
-use Rattle.table_core.specs.Numbers.{numbered}
-use Rattle.table_core.specs.Parts.{AreInBlockOrder, TableStands}
+use Rattle.part_history.specs.declared.part.CorePart.{CorePart}
+use Rattle.part_history.specs.Numbers.{numbered}
+use Rattle.part_history.specs.Parts.{AreInBlockOrder, TableStands}
 use Rattle.root_log.specs.declared.store.CoreStore.{CoreStore}
 use Rattle.root_log.specs.declared.store.Table.{Table}
 use Rattle.root_log.specs.Entries.{EntryHolds}

@@ -1,12 +1,11 @@
 // What lines set up, and the lines that run.
-use crate::examples::{Example, is_allowed, keep};
-use crate::root::{Root, file_of};
 use crate::runs::run_over;
-use crate::script::Script;
-use crate::setting::Setting;
 use mt_base::Seq;
 use mt_values::Name;
-use run_memory::{Outside, Trouble, bytes_of, first_word, number_of, shown, statements, told};
+use run_memory::{
+    Example, Outside, Root, Script, Setting, Trouble, bytes_of, file_of, first_word, is_allowed,
+    keep, number_of, shown, statements, told,
+};
 use std::alloc::{AllocError, Global};
 use std::sync::Wait;
 use std::thread::Threads;

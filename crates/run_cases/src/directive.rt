@@ -1,8 +1,6 @@
 // What a line says, and what it comes to.
 use crate::bench::Bench;
-use crate::calls::{block_told, row_told, values_told};
-use crate::setting::Setting;
-use run_memory::{Trouble, first_word};
+use run_memory::{Setting, Trouble, block_told, first_word, row_told, values_told};
 use std::alloc::AllocError;
 use std::sync::Wait;
 use std::thread::Threads;

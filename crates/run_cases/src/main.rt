@@ -58,14 +58,9 @@
 #![tactic(auto)]
 
 mod bench;
-mod calls;
 mod crashes;
 mod directive;
-mod examples;
-mod root;
 mod runs;
-mod script;
-mod setting;
 
 use bench::Bench;
 use std::alloc::{AllocError, Global};

@@ -1,8 +1,7 @@
 // Runs over the outside in memory.
-use crate::setting::Setting;
 use disk_mem::{KeptAnnals, MemSink, MemSource, OpenGate};
 use mt_program::run;
-use run_memory::{Outside, Trouble};
+use run_memory::{Outside, Setting, Trouble};
 use std::alloc::{AllocError, Global};
 use std::mem;
 use std::sync::Wait;

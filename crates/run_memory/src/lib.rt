@@ -1,16 +1,27 @@
-//! What the programs of cases share: how their lines write bytes, roots that a run begins with, and the outside in memory.
+//! What the cases of runs stand on: how their lines write bytes, what is set up for a run, the roots that it begins with, and the outside
+//! in memory; scripts with what the definitions allow of them, and calls that no run makes.
 #![tactic(auto)]
 
+mod calls;
 mod damages;
+mod examples;
 mod outside;
+mod root;
 mod roots;
+mod script;
 mod scripts;
+mod setting;
 mod text;
 mod trouble;
 
+pub use calls::{block_told, row_told, values_told};
 pub use damages::{Change, Damage};
+pub use examples::{Example, is_allowed, keep};
 pub use outside::{Outside, told};
-pub use roots::{FIRST, File, Folder, column_files, entry_file, manifest_file};
+pub use root::{Root, file_of};
+pub use roots::{File, Folder};
+pub use script::Script;
 pub use scripts::statements;
-pub use text::{bytes_of, first_word, number_of, short_number, shown, words_of};
+pub use setting::Setting;
+pub use text::{bytes_of, first_word, number_of, shown};
 pub use trouble::Trouble;

@@ -27,16 +27,17 @@ use Rattle.mt_model.specs.Live.{sorted}
 use Rattle.mt_model.proofs.Determined.{key_total}
 use Rattle.mt_model.proofs.SameKeys.{stable_is_sorted}
 use Rattle.mt_model.proofs.Tables.{itself_same, same_is}
-use Rattle.table_core.specs.declared.part.CorePart.{CorePart}
-use Rattle.table_core.specs.declared.part.Snapshot.{Snapshot}
+use Rattle.part_history.specs.declared.part.CorePart.{CorePart}
+use Rattle.table_core.specs.declared.snapshot.Snapshot.{Snapshot}
 use Rattle.table_core.specs.declared.store.Store.{Store}
 use Rattle.table_core.specs.declared.store.Table.{Table}
 use Rattle.table_core.specs.Core.{Core, IsCore}
-use Rattle.table_core.specs.Numbers.{draws, numbered}
-use Rattle.table_core.specs.Parts.{parts_of}
-use Rattle.table_core.specs.Steps.{AcceptsInsert, AddsPart, entered, part_of_insert, snapshot_of}
+use Rattle.part_history.specs.Numbers.{draws, numbered}
+use Rattle.part_history.specs.Parts.{parts_of}
+use Rattle.part_history.specs.Entered.{entered, part_of_insert}
+use Rattle.table_core.specs.Steps.{AcceptsInsert, AddsPart, snapshot_of}
 use Rattle.table_core.specs.Store.{AddsTable, IsNotNamed, IsStore, Named, SameStore, StandsAt, TableKept, core_of, empty_table, name_by, parts_in, table_names, with_part}
-use Rattle.table_core.proofs.Growing.{drawn_apart, drawn_here, numbered_more, schema_kept, schema_more}
+use Rattle.part_history.proofs.Growing.{drawn_apart, drawn_here, numbered_more, schema_kept, schema_more}
 use Rattle.table_core.proofs.Stepping.{create_core, insert_core, take_core}
 use Rattle.table_core.proofs.Stored.{one_value, same_turned, set_here, slice_here}
 

@@ -1,10 +1,4 @@
-pub mod Apart
-pub mod Counted
-pub mod Growing
-pub mod Joined
 pub mod Keeping
-pub mod Numbered
-pub mod Ranges
 pub mod Stepping
 pub mod Stored
 pub mod Telling

@@ -26,15 +26,17 @@ use Rattle.table_core.specs.declared.event.Event.TheVariants as event
 use Rattle.table_core.specs.declared.event.Guard.TheVariants as guard
 use Rattle.table_core.specs.declared.event.Outcome.{Outcome}
 use Rattle.table_core.specs.declared.event.Outcome.TheVariants as outcome
-use Rattle.table_core.specs.declared.part.CorePart.{CorePart}
-use Rattle.table_core.specs.declared.part.Snapshot.{Snapshot}
+use Rattle.part_history.specs.declared.part.CorePart.{CorePart}
+use Rattle.table_core.specs.declared.snapshot.Snapshot.{Snapshot}
 use Rattle.table_core.specs.Core.{Core, IsCore, IsSnapshot}
-use Rattle.table_core.specs.Numbers.{numbered}
-use Rattle.table_core.specs.Parts.{AreInBlockOrder, PartStands, PartsStand, TableStands, block_cmp, partition_cmp, parts_of, rows_of_parts}
-use Rattle.table_core.specs.Steps.{AcceptGives, AcceptsInsert, AddsPart, AreLeftOf, CrashMeets, Gives, MayAccept, MayCome, MayCrash, entered, next_number, part_of_insert, snapshot_of, without_snapshots}
-use Rattle.table_core.proofs.Growing.{drawn_apart, number_drawn, table_grown, table_kept}
-use Rattle.table_core.proofs.Joined.{parts_joined}
-use Rattle.table_core.proofs.Numbered.{all_whole, whole_at}
+use Rattle.part_history.specs.Numbers.{numbered}
+use Rattle.part_history.specs.Parts.{AreInBlockOrder, PartStands, PartsStand, TableStands, block_cmp, partition_cmp, parts_of, rows_of_parts}
+use Rattle.part_history.specs.Entered.{entered, next_number, part_of_insert}
+use Rattle.table_core.specs.Steps.{AcceptGives, AcceptsInsert, AddsPart, AreLeftOf, CrashMeets, Gives, MayAccept, MayCome, MayCrash, snapshot_of, without_snapshots}
+use Rattle.part_history.proofs.Growing.{drawn_apart, number_drawn, table_grown, table_kept}
+use Rattle.part_history.proofs.Joined.{parts_joined}
+use Rattle.part_history.proofs.Ordered.{order_grown}
+use Rattle.part_history.proofs.Numbered.{all_whole, whole_at}
 
 -- ---- one part more
 
@@ -57,26 +59,6 @@ parts_added_apart t part old new a apart =
     let rest : parts_of t (part ∷ a.behind) ≡ parts_of t a.behind = ap (λ b. cond b (part ∷ parts_of t a.behind) (parts_of t a.behind)) apart in
     ap (parts_of t) a.new_is
     ∙ (filter-append f a.front (part ∷ a.behind) ∙ (ap (λ (xs : List CorePart). parts_of t a.front ++ xs) rest ∙ sym (ap (parts_of t) a.old_is ∙ filter-append f a.front a.behind)))
-
-not_below : (a b : ℕ) → b ≤ a → is_lt (nat_cmp a b) ≡ false
-not_below a b le = grind (arith, nat_tests)
-
--- the last part of a table comes behind its others
-last_behind : (h : History) (table : List ℕ) (part p : CorePart) → IsLegal h → part.name.partition ≡ Whole → length (numbered table h) < part.name.min_block → p.table ≡ table → PartStands h p → is_lt (block_cmp part p) ≡ false
-last_behind h table part p legal whole lt own s =
-    let other : p.name.partition ≡ Whole = sym s.least.partition_is ∙ whole_at (numbered p.table h) (p.name.min_block - 1) s.least.insert (all_whole p.table h legal) s.least.there in
-    let upto : p.name.min_block ≤ length (numbered table h) =
-    subst (λ t. p.name.min_block ≤ length (numbered t h)) own (number_drawn p.table p.name.partition p.name.min_block h s.least) in
-    ap₂ (λ a b. is_lt (ordering_then (partition_cmp a b) (nat_cmp part.name.min_block p.name.min_block))) whole other ∙ not_below part.name.min_block p.name.min_block (omega (arith, upto, lt))
-
-order_push : (ps : List CorePart) (part : CorePart) → AreInBlockOrder ps → All (λ (p : CorePart). is_lt (block_cmp part p) ≡ false) ps → AreInBlockOrder (ps ++ part ∷ [])
-order_push ps part up all = IsSortedBy-push (λ x y. is_lt (block_cmp x y)) ps part up (λ d some. all (length ps - 1) d (omega arith))
-
--- an INSERT's part comes behind the others of its table
-pub order_grown : (h : History) (i : Insert) (schema : Schema) (ps : List CorePart) → IsLegal h → i.partition ≡ Whole → TableStands i.table ps h → AreInBlockOrder ps → AreInBlockOrder (ps ++ part_of_insert schema (next_number i.table h) i ∷ [])
-order_grown h i schema ps legal whole stands up =
-    order_push ps (part_of_insert schema (next_number i.table h) i) up
-    (λ k d below. last_behind h i.table (part_of_insert schema (next_number i.table h) i) (get_or ps k d) legal whole (omega arith) (stands.own k d below) (stands.each k d below))
 
 -- ---- snapshots
 

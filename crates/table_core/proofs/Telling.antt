@@ -17,11 +17,11 @@ use Rattle.table_core.specs.declared.event.Guard.{Guard}
 use Rattle.table_core.specs.declared.event.Guard.TheVariants as guard
 use Rattle.table_core.specs.declared.event.Outcome.{Outcome}
 use Rattle.table_core.specs.declared.event.Outcome.TheVariants as outcome
-use Rattle.table_core.specs.declared.part.Snapshot.{Snapshot}
+use Rattle.table_core.specs.declared.snapshot.Snapshot.{Snapshot}
 use Rattle.table_core.specs.Core.{Core, IsCore, IsSnapshot}
 use Rattle.table_core.specs.Runs.{Adds, Comes, HasEntries, IsFrontOf, IsNoCrash, KeepsAccepted, KeepsHistory, KnowsSnapshots, MayRun, NoCrash, ReadsLeft, Runs, TakenAt, TellsLeft, TellsSnapshots, entry_of}
 use Rattle.table_core.specs.Steps.{AcceptGives, AreLeftOf, CrashMeets, Gives, MayCome, snapshot_of, without_snapshots}
-use Rattle.table_core.proofs.Growing.{slice_last, slice_left}
+use Rattle.part_history.proofs.Growing.{slice_last, slice_left}
 use Rattle.table_core.proofs.Stepping.{gives_core, reads_left}
 
 -- ---- one event

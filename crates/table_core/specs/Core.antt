@@ -1,9 +1,9 @@
 -- The state of the core, and what always holds of it (docs/definitions.md, "The core").
 use Rattle.std.specs.Prelude.{◌≤◌, ℕ, List, [], All, IsSome, length, take}
 use Rattle.mt_model.specs.History.{History, IsLegal, schema_of}
-use Rattle.table_core.specs.declared.part.CorePart.{CorePart}
-use Rattle.table_core.specs.declared.part.Snapshot.{Snapshot}
-use Rattle.table_core.specs.Parts.{AreInBlockOrder, PartsStand, TableStands, parts_of}
+use Rattle.part_history.specs.declared.part.CorePart.{CorePart}
+use Rattle.table_core.specs.declared.snapshot.Snapshot.{Snapshot}
+use Rattle.part_history.specs.Parts.{AreInBlockOrder, PartsStand, TableStands, parts_of}
 
 -- the visible parts of all tables, the accepted commands and the snapshots, in order (docs/definitions.md, "The core")
 pub record Core : Type 0 where

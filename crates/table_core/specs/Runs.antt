@@ -12,9 +12,9 @@ use Rattle.table_core.specs.declared.event.Event.{Event}
 use Rattle.table_core.specs.declared.event.Event.TheVariants as event
 use Rattle.table_core.specs.declared.event.Outcome.{Outcome}
 use Rattle.table_core.specs.declared.event.Outcome.TheVariants as outcome
-use Rattle.table_core.specs.declared.part.Snapshot.{Snapshot}
+use Rattle.table_core.specs.declared.snapshot.Snapshot.{Snapshot}
 use Rattle.table_core.specs.Core.{Core}
-use Rattle.table_core.specs.Parts.{rows_of_parts}
+use Rattle.part_history.specs.Parts.{rows_of_parts}
 use Rattle.table_core.specs.Steps.{AreLeftOf, Gives, MayCome, snapshot_of}
 
 -- each event gives the outcome at its place, from the state that those before it left (docs/definitions.md, "The core")

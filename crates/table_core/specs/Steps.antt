@@ -19,11 +19,11 @@ use Rattle.table_core.specs.declared.event.Event.TheVariants as event
 use Rattle.table_core.specs.declared.event.Guard.TheVariants as guard
 use Rattle.table_core.specs.declared.event.Outcome.{Outcome}
 use Rattle.table_core.specs.declared.event.Outcome.TheVariants as outcome
-use Rattle.table_core.specs.declared.part.CorePart.{CorePart}
-use Rattle.table_core.specs.declared.part.Snapshot.{Snapshot}
+use Rattle.part_history.specs.declared.part.CorePart.{CorePart}
+use Rattle.table_core.specs.declared.snapshot.Snapshot.{Snapshot}
 use Rattle.table_core.specs.Core.{Core}
-use Rattle.table_core.specs.Numbers.{numbered}
-use Rattle.table_core.specs.Parts.{parts_of, rows_of_parts}
+use Rattle.part_history.specs.Entered.{entered, next_number, part_of_insert}
+use Rattle.part_history.specs.Parts.{parts_of, rows_of_parts}
 
 -- an accept may come: a CREATE has a schema that a table may have, an INSERT has rows of its table, where there is the table (docs/definitions.md, "The core")
 abbrev pub MayAccept : History → Accept → Type 0
@@ -41,22 +41,6 @@ MayCome h (event.Accept a) = MayAccept h a
 MayCome h (event.TakeSnapshot table) = Unit {0}
 MayCome h (event.ReadSnapshot number) = Unit {0}
 MayCome h (event.Crash c) = MayCrash h c
-
--- the history with one entry more
-abbrev pub entered : History → ℕ → Command → History
-entered h session c = h ++ record { session = session; command = c } ∷ []
-
--- the number that the table's next command draws
-abbrev pub next_number : List ℕ → History → ℕ
-next_number table h = length (numbered table h) + 1
-
--- the part that an INSERT makes: its own number alone, and its rows in the order of the key, those of equal keys as they came (docs/definitions.md, "The core")
-abbrev pub part_of_insert : Schema → ℕ → Insert → CorePart
-part_of_insert schema number i = record {
-  table = i.table;
-  name = record { partition = i.partition; min_block = number; max_block = number; level = 0; mutation = None };
-  rows = sorted (key_cmp schema.key) i.block.rows;
-}
 
 -- one part more, behind all others of its table; the others stay as they were (docs/definitions.md, "The core")
 pub record AddsPart (part : CorePart) (old new : List CorePart) : Type 0 where

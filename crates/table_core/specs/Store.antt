@@ -8,11 +8,11 @@ use Rattle.mt_values.specs.declared.command.Create.{Create}
 use Rattle.mt_values.specs.declared.schema.Schema.{Schema}
 use Rattle.mt_values.specs.Grammar.{same_bytes}
 use Rattle.mt_model.specs.History.{History, schema_of}
-use Rattle.table_core.specs.declared.part.CorePart.{CorePart}
+use Rattle.part_history.specs.declared.part.CorePart.{CorePart}
 use Rattle.table_core.specs.declared.store.Store.{Store}
 use Rattle.table_core.specs.declared.store.Table.{Table}
 use Rattle.table_core.specs.Core.{Core, IsCore}
-use Rattle.table_core.specs.Numbers.{numbered}
+use Rattle.part_history.specs.Numbers.{numbered}
 
 -- a table with its name
 abbrev pub Named : Type 0

@@ -4,17 +4,15 @@
 
 mod event;
 mod laws;
-mod part;
 mod running;
+mod snapshot;
 mod state;
 mod steps;
 mod store;
 
 pub use event::{Accept, Crash, Event, Guard, Outcome};
-pub use laws::{
-    parts_are_at_most_inserts, parts_stand_apart, parts_stand_as_histories_grow,
-    parts_stand_for_live_rows, what_was_accepted_stays, what_was_read_stays,
-};
-pub use part::{CorePart, Snapshot};
+pub use laws::{what_was_accepted_stays, what_was_read_stays};
+pub use part_history::CorePart;
 pub use running::{Done, run};
+pub use snapshot::Snapshot;
 pub use state::{CoreState, step};

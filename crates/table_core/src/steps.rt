@@ -3,8 +3,8 @@ ghost use Rattle.std.specs.Prelude.{◌≡◌, ◌<◌, ◌++◌, All, IfOk, OnE
 ghost use Rattle.mt_values.specs.declared.schema.Schema.{Schema};
 ghost use Rattle.mt_values.specs.Grid.{picked};
 ghost use Rattle.mt_model.specs.History.{IsInsertInto, IsTableSchema, schema_of};
-ghost use Rattle.table_core.specs.Parts.{rows_of_parts};
-ghost use Rattle.table_core.specs.Steps as steps;
+ghost use Rattle.part_history.specs.Parts.{rows_of_parts};
+ghost use Rattle.part_history.specs.Entered as adding;
 ghost use Rattle.table_core.specs.Steps.{AcceptGives, CrashGives, CrashMeets, CreateGives, Gives, InsertGives, MayAccept, MayCome, MayCrash, ReadGives, TakeGives};
 ghost use Rattle.table_core.specs.Store.{IsStore, core_of};
 
@@ -136,7 +136,7 @@ fn part_of_insert(
     insert: &Insert,
 ) -> Result<CorePart, NoMemory>
     requires { All (λ place. place < length insert.now.block.types) schema.now.key }
-    ensures { IfOk result (λ part. part ≡ steps.part_of_insert schema.now number insert.now) }
+    ensures { IfOk result (λ part. part ≡ adding.part_of_insert schema.now number insert.now) }
 {
     let order = insert.block.key_order(alloc, schema)?;
     Ok(CorePart {

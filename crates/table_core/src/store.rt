@@ -4,7 +4,7 @@ ghost use Rattle.indexmap.specs.IndexMap.{set_value_at};
 ghost use Rattle.mt_values.specs.declared.command.Command.TheVariants as command;
 ghost use Rattle.mt_model.specs.History.{schema_of};
 ghost use Rattle.table_core.specs.Core.{empty_core};
-ghost use Rattle.table_core.specs.Steps.{entered};
+ghost use Rattle.part_history.specs.Entered.{entered};
 ghost use Rattle.table_core.specs.Store.{AddsTable, IsNotNamed, IsStore, Named, SameStore, StandsAt, core_of, with_part};
 
 use crate::{CorePart, Snapshot};

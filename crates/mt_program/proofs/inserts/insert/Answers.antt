@@ -10,7 +10,7 @@ use Rattle.mt_values.specs.Grid.{AreRowsOf, Grid}
 use Rattle.mt_values.specs.Rows.{inserted_rows}
 use Rattle.mt_values.specs.Values.{AreValues}
 use Rattle.part_set.specs.Sets.{parts_of}
-use Rattle.table_core.specs.Numbers.{same_partition}
+use Rattle.part_history.specs.Numbers.{same_partition}
 use Rattle.mt_model.specs.declared.refusal.Refusal.TheVariants as refusal
 use Rattle.mt_model.specs.History.{IsInsertInto, column_types, inserts}
 use Rattle.mt_model.specs.Refusals.{is_damage, refusal_line, refusal_of_data}

@@ -1,8 +1,9 @@
 use Rattle.std.proofs.Common.{◌≡◌, ◌+◌, ◌<◌, ◌≤◌, All, is_some, length, refl, sym, ap, ◌∙◌, subst, arith}
 use Rattle.indexmap.specs.IndexMap.{set_value_at}
 use Rattle.table_core.specs.declared.store.Table.{Table}
-use Rattle.table_core.specs.Numbers.{numbered}
-use Rattle.table_core.specs.Steps.{AcceptsInsert, part_of_insert}
+use Rattle.part_history.specs.Numbers.{numbered}
+use Rattle.part_history.specs.Entered.{part_of_insert}
+use Rattle.table_core.specs.Steps.{AcceptsInsert}
 use Rattle.table_core.specs.Store.{core_of, with_part}
 use Rattle.table_core.proofs.Keeping.{at_least, insert_accepted, insert_store, key_fits, last_here, no_table, place_here, read_here, schema_here}
 use Rattle.table_core.proofs.steps.add_rows.Goals as goal

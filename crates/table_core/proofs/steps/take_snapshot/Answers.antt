@@ -1,5 +1,5 @@
 use Rattle.std.proofs.Common.{◌≡◌, length, refl, ap, ◌∙◌, arith}
-use Rattle.table_core.specs.declared.part.Snapshot.{Snapshot}
+use Rattle.table_core.specs.declared.snapshot.Snapshot.{Snapshot}
 use Rattle.table_core.specs.declared.store.Store.{Store}
 use Rattle.table_core.proofs.Keeping.{no_table, read_here, take_is, take_store, take_there}
 use Rattle.table_core.proofs.steps.take_snapshot.Goals as goal

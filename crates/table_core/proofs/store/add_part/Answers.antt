@@ -1,5 +1,5 @@
 use Rattle.std.proofs.Common.{List, ap}
-use Rattle.table_core.specs.declared.part.CorePart.{CorePart}
+use Rattle.part_history.specs.declared.part.CorePart.{CorePart}
 use Rattle.table_core.specs.declared.store.Table.{Table}
 use Rattle.table_core.proofs.store.add_part.Goals as goal
 

@@ -1,5 +1,5 @@
 use Rattle.std.proofs.Common.{List, ap, refl, ◌∙◌}
-use Rattle.table_core.specs.declared.part.Snapshot.{Snapshot}
+use Rattle.table_core.specs.declared.snapshot.Snapshot.{Snapshot}
 use Rattle.indexmap.specs.IndexMap.{set_value_at}
 use Rattle.table_core.specs.Store.{with_part}
 use Rattle.table_core.proofs.Stored.{on_err, one_value, set_same, value_at}

@@ -19,11 +19,11 @@ use Rattle.mt_model.specs.History.{History, IsLegal, schema_of}
 use Rattle.mt_model.specs.Live.{live, of_key}
 use Rattle.mt_model.specs.Partial.{Partly}
 use Rattle.mt_model.proofs.Sorting.{sorted_tail}
-use Rattle.table_core.specs.declared.part.CorePart.{CorePart}
-use Rattle.table_core.specs.Numbers.{IsInsertOf, lies_within, numbered, same_partition, within}
-use Rattle.table_core.specs.Parts.{AreInBlockOrder, PartStands, TableStands, block_cmp, has_block, partition_cmp, rows_of_parts}
-use Rattle.table_core.proofs.Numbered.{all_whole, insert_at, kept, live_numbered, live_within, segment, sorted_by, whole_at, whole_kept}
-use Rattle.table_core.proofs.Ranges.{Climbs, Range, Stays, holds, ranges_joined, segment_all}
+use Rattle.part_history.specs.declared.part.CorePart.{CorePart}
+use Rattle.part_history.specs.Numbers.{IsInsertOf, lies_within, numbered, same_partition, within}
+use Rattle.part_history.specs.Parts.{AreInBlockOrder, PartStands, TableStands, block_cmp, has_block, partition_cmp, rows_of_parts}
+use Rattle.part_history.proofs.Numbered.{all_whole, insert_at, kept, live_numbered, live_within, segment, sorted_by, whole_at, whole_kept}
+use Rattle.part_history.proofs.Ranges.{Climbs, Range, Stays, holds, ranges_joined, segment_all}
 
 -- the blocks of a part
 abbrev range_of : CorePart → Range

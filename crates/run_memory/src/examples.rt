@@ -1,7 +1,9 @@
 // Scripts with what they may print and the histories that they may leave, as the plain program's definitions say.
+use crate::scripts::statements;
+use crate::text::{bytes_of, first_word};
+use crate::trouble::Trouble;
 use mt_plain::{allows, run};
 use mt_values::{Cause, Entry, Statement};
-use run_memory::{Trouble, bytes_of, first_word, statements};
 use std::alloc::Global;
 
 /// A script with a name, which later lines cite, and the history that it leaves behind none.

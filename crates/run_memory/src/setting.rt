@@ -1,7 +1,9 @@
 // What is set up for the next run alone: its words and streams, the calls that fail, and damaged files.
+use crate::damages::{Change, Damage};
 use crate::root::file_of;
+use crate::text::{bytes_of, first_word, number_of, short_number};
+use crate::trouble::Trouble;
 use disk_mem::{CallKind, Listed};
-use run_memory::{Change, Damage, Trouble, bytes_of, first_word, number_of, short_number};
 use std::alloc::{AllocError, Global};
 
 /// What is set up for the next run alone.

@@ -7,13 +7,13 @@ use Rattle.std.proofs.lemmas.Option.{get_or_from_slice_get, slice_get_within}
 use Rattle.mt_base.specs.declared.partition.Partition.TheVariants.{Whole}
 use Rattle.mt_model.specs.History.{History, IsLegal}
 use Rattle.part_name.specs.PartNames.{Before, IsPartName}
-use Rattle.table_core.specs.declared.part.CorePart.{CorePart}
-use Rattle.table_core.specs.Numbers.{IsInsertOf, numbered, same_partition}
-use Rattle.table_core.specs.Parts.{PartStands, TableStands, has_block}
-use Rattle.table_core.specs.Steps.{next_number}
-use Rattle.table_core.proofs.Growing.{number_drawn}
-use Rattle.table_core.proofs.Numbered.{all_whole, insert_at, whole_at}
-use Rattle.table_core.proofs.Ranges.{lies_inside}
+use Rattle.part_history.specs.declared.part.CorePart.{CorePart}
+use Rattle.part_history.specs.Numbers.{IsInsertOf, numbered, same_partition}
+use Rattle.part_history.specs.Parts.{PartStands, TableStands, has_block}
+use Rattle.part_history.specs.Entered.{next_number}
+use Rattle.part_history.proofs.Growing.{number_drawn}
+use Rattle.part_history.proofs.Numbered.{all_whole, insert_at, whole_at}
+use Rattle.part_history.proofs.Ranges.{lies_inside}
 
 -- one part that passes is counted
 count_one : (f : CorePart → Bool) (ps : List CorePart) (i : ℕ) (a : CorePart) → slice_get ps i ≡ Some a → f a ≡ true → 1 ≤ count_by f ps

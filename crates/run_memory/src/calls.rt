@@ -1,8 +1,9 @@
 // Calls that no run makes: the row of a line alone, the values of bytes alone, and a block from rows.
+use crate::text::{bytes_of, first_word, short_number, shown};
+use crate::trouble::Trouble;
 use column_file::{FormatFault, decode_column, decode_granule};
 use mt_base::{NoMemory, Seq};
 use mt_values::{Block, ColType, Column, Schema, Value};
-use run_memory::{Trouble, bytes_of, first_word, short_number, shown};
 use std::alloc::Global;
 use tsv_rows::{read_row, write_row};
 

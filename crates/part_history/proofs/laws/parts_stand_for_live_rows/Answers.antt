@@ -1,5 +1,5 @@
-use Rattle.table_core.proofs.Joined.{parts_joined}
-use Rattle.table_core.proofs.laws.parts_stand_for_live_rows.Goals as goal
+use Rattle.part_history.proofs.Joined.{parts_joined}
+use Rattle.part_history.proofs.laws.parts_stand_for_live_rows.Goals as goal
 
 pub returns : goal.returns
 returns c = λ h table schema parts legal there stands order. parts_joined h table schema legal there parts stands order

@@ -1,8 +1,8 @@
 use Rattle.mt_values.specs.declared.command.Command.TheVariants as command
-use Rattle.table_core.proofs.Growing.{table_grown, table_kept}
-use Rattle.table_core.proofs.Stepping.{order_grown}
+use Rattle.part_history.proofs.Growing.{table_grown, table_kept}
+use Rattle.part_history.proofs.Ordered.{order_grown}
 use Rattle.std.proofs.Common.{refl}
-use Rattle.table_core.proofs.laws.parts_stand_as_histories_grow.Goals as goal
+use Rattle.part_history.proofs.laws.parts_stand_as_histories_grow.Goals as goal
 
 pub returns : goal.returns
 returns c = record {

@@ -1,5 +1,6 @@
 // The script that runs, as lines write it.
-use run_memory::{Trouble, bytes_of, first_word, number_of};
+use crate::text::{bytes_of, first_word, number_of};
+use crate::trouble::Trouble;
 use std::alloc::Global;
 
 /// The script that runs.

@@ -12,7 +12,7 @@ use Rattle.mt_values.specs.Order.{key_cmp}
 use Rattle.mt_values.specs.Values.{Row}
 use Rattle.mt_model.specs.History.{History, IsLegal, IsLegalAfter, IsAllowed}
 use Rattle.mt_model.specs.Live.{live, live_from, rows_after, sorted}
-use Rattle.table_core.specs.Numbers.{draws, in_front_if, is_within, lies_within, numbered, same_partition, within, within_from}
+use Rattle.part_history.specs.Numbers.{draws, in_front_if, is_within, lies_within, numbered, same_partition, within, within_from}
 
 -- the rows that a command adds, in the order of the key
 abbrev pub sorted_by : List ℕ → Command → List Row

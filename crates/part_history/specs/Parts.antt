@@ -14,8 +14,8 @@ use Rattle.mt_values.specs.Values.{Row}
 use Rattle.mt_model.specs.History.{History, schema_of}
 use Rattle.mt_model.specs.Live.{live}
 use Rattle.mt_model.specs.Partial.{Partly}
-use Rattle.table_core.specs.declared.part.CorePart.{CorePart}
-use Rattle.table_core.specs.Numbers.{IsInsertOf, lies_within, same_partition, within}
+use Rattle.part_history.specs.declared.part.CorePart.{CorePart}
+use Rattle.part_history.specs.Numbers.{IsInsertOf, lies_within, same_partition, within}
 
 -- the parts of a table, in their order (docs/definitions.md, "The core")
 abbrev pub parts_of : List ℕ → List CorePart → List CorePart

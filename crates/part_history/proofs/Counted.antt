@@ -8,13 +8,13 @@ use Rattle.std.proofs.lemmas.List.Sums.{sum_by-cons}
 use Rattle.mt_base.specs.declared.partition.Partition.TheVariants.{Whole}
 use Rattle.mt_values.specs.declared.command.Entry.{Entry}
 use Rattle.mt_model.specs.History.{History, IsLegal, inserts, inserts_into}
-use Rattle.table_core.specs.declared.part.CorePart.{CorePart}
-use Rattle.table_core.specs.Numbers.{numbered, same_partition}
-use Rattle.table_core.specs.Parts.{PartStands, TableStands, has_block}
-use Rattle.table_core.proofs.Apart.{whole_part}
-use Rattle.table_core.proofs.Growing.{number_drawn}
-use Rattle.table_core.proofs.Numbered.{all_whole, insert_at}
-use Rattle.table_core.proofs.Ranges.{lies_inside}
+use Rattle.part_history.specs.declared.part.CorePart.{CorePart}
+use Rattle.part_history.specs.Numbers.{numbered, same_partition}
+use Rattle.part_history.specs.Parts.{PartStands, TableStands, has_block}
+use Rattle.part_history.proofs.Apart.{whole_part}
+use Rattle.part_history.proofs.Growing.{number_drawn}
+use Rattle.part_history.proofs.Numbered.{all_whole, insert_at}
+use Rattle.part_history.proofs.Ranges.{lies_inside}
 
 -- each INSERT into a table draws a number
 inserts_numbered : (table : List ℕ) (h : History) → inserts table h ≡ length (numbered table h)

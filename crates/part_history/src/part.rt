@@ -1,4 +1,4 @@
-// Parts with their rows, and snapshots.
+// Parts with their rows.
 use mt_base::{NoMemory, Seq, Twin};
 use mt_values::{Name, Row};
 use part_name::PartName;
@@ -10,14 +10,6 @@ pub struct CorePart {
     pub table: Name,
     pub name: PartName,
     pub rows: Seq<Row>,
-}
-
-/// The parts of a table as they stood at a length of the history, in block order.
-#[derive(Drop)]
-pub struct Snapshot {
-    pub table: Name,
-    pub parts: Seq<CorePart>,
-    pub length: usize,
 }
 
 impl Twin for CorePart {

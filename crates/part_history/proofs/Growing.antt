@@ -21,12 +21,12 @@ use Rattle.mt_model.specs.Live.{live, of_key, sorted}
 use Rattle.mt_model.proofs.Determined.{key_total}
 use Rattle.mt_model.proofs.Sorting.{sorted_rises}
 use Rattle.mt_model.proofs.Tables.{itself_same}
-use Rattle.table_core.specs.declared.part.CorePart.{CorePart}
-use Rattle.table_core.specs.Numbers.{IsInsertOf, draws, is_within, lies_within, numbered, same_partition, within}
-use Rattle.table_core.specs.Parts.{PartStands, TableStands, has_block}
-use Rattle.table_core.specs.Steps.{part_of_insert}
-use Rattle.table_core.proofs.Numbered.{kept, kept_if, live_within, sorted_by}
-use Rattle.table_core.proofs.Ranges.{lies_above, lies_below, lies_inside}
+use Rattle.part_history.specs.declared.part.CorePart.{CorePart}
+use Rattle.part_history.specs.Numbers.{IsInsertOf, draws, is_within, lies_within, numbered, same_partition, within}
+use Rattle.part_history.specs.Parts.{PartStands, TableStands, has_block}
+use Rattle.part_history.specs.Entered.{part_of_insert}
+use Rattle.part_history.proofs.Numbered.{kept, kept_if, live_within, sorted_by}
+use Rattle.part_history.proofs.Ranges.{lies_above, lies_below, lies_inside}
 
 -- ---- lists
 

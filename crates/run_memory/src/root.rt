@@ -1,9 +1,8 @@
 // The root that a run begins with, as lines set it up.
+use crate::roots::{FIRST, File, Folder, column_files, entry_file, manifest_file};
+use crate::text::{bytes_of, first_word, number_of, words_of};
+use crate::trouble::Trouble;
 use mt_values::FileId;
-use run_memory::{
-    FIRST, File, Folder, Trouble, bytes_of, column_files, entry_file, first_word, manifest_file,
-    number_of, words_of,
-};
 use std::alloc::Global;
 
 /// The root that a run begins with.

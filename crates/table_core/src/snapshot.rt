@@ -1,0 +1,12 @@
+// Snapshots.
+use mt_base::Seq;
+use mt_values::Name;
+use part_history::CorePart;
+
+/// The parts of a table as they stood at a length of the history, in block order.
+#[derive(Drop)]
+pub struct Snapshot {
+    pub table: Name,
+    pub parts: Seq<CorePart>,
+    pub length: usize,
+}
