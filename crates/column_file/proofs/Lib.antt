@@ -1,4 +1,3 @@
-pub mod Groups
 pub mod Marked
 pub mod Numbers
 pub mod OneWay

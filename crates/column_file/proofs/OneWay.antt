@@ -17,7 +17,7 @@ use Rattle.mt_values.specs.ColumnBytes.{column_bytes, value_bytes, leb128}
 use Rattle.column_file.specs.Faults.{IsFirstFault, IsStuck}
 use Rattle.mt_values.specs.Values.{type_of}
 use Rattle.column_file.specs.Spellings.{IsOfType, IsSpelling}
-use Rattle.column_file.proofs.Groups.{groups_apart}
+use Rattle.byte_numbers.proofs.Groups.{groups_apart}
 
 -- ---- values
 

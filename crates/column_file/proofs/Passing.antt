@@ -3,10 +3,11 @@ use Rattle.std.proofs.Common.{◌≡◌, ℕ, ◌+◌, ◌<◌, ◌≤◌, List,
 use Rattle.mt_values.specs.declared.value.ColType.{ColType}
 use Rattle.mt_values.specs.declared.value.Value.{Value}
 use Rattle.mt_values.specs.ColumnBytes.{value_bytes}
-use Rattle.column_file.specs.declared.faults.FormatFault.{FormatFault}
-use Rattle.column_file.specs.declared.faults.FormatFault.TheVariants.{NoMemory, Malformed}
+use Rattle.byte_numbers.specs.declared.faults.FormatFault.{FormatFault}
+use Rattle.byte_numbers.specs.declared.faults.FormatFault.TheVariants.{NoMemory, Malformed}
 use Rattle.column_file.specs.Faults.{IsFirstFault, Locates, NoneBegins}
-use Rattle.column_file.specs.Spellings.{Begins, IsOfType, IsSpelling, Spells}
+use Rattle.byte_numbers.specs.Fronts.{Begins}
+use Rattle.column_file.specs.Spellings.{IsOfType, IsSpelling, Spells}
 use Rattle.column_file.proofs.OneWay.{no_spelling}
 use Rattle.column_file.proofs.Reading.{AreRead, LookedFor, read_all, read_more, read_none, read_past, read_stuck, read_within}
 

@@ -7,10 +7,11 @@ use Rattle.mt_values.specs.declared.value.ColType.{ColType}
 use Rattle.mt_values.specs.declared.value.Value.{Value}
 use Rattle.mt_values.specs.ColumnBytes.{column_bytes, value_bytes}
 use Rattle.mt_values.specs.Grid.{Cells}
-use Rattle.column_file.specs.declared.faults.FormatFault.{FormatFault}
-use Rattle.column_file.specs.declared.faults.FormatFault.TheVariants.{NoMemory, Malformed}
+use Rattle.byte_numbers.specs.declared.faults.FormatFault.{FormatFault}
+use Rattle.byte_numbers.specs.declared.faults.FormatFault.TheVariants.{NoMemory, Malformed}
 use Rattle.column_file.specs.Faults.{Explains, IsFirstFault, NoneBegins}
-use Rattle.column_file.specs.Spellings.{Begins, GainsAll, GainsFront, IsFront, IsOfType, IsSpelling, with_values}
+use Rattle.byte_numbers.specs.Fronts.{Begins}
+use Rattle.column_file.specs.Spellings.{GainsAll, GainsFront, IsFront, IsOfType, IsSpelling, with_values}
 use Rattle.column_file.proofs.OneWay.{no_spelling, one_spelling}
 
 -- the bytes up to a place are those of these values

@@ -17,9 +17,11 @@ use Rattle.mt_values.specs.declared.value.Value.{Value}
 use Rattle.mt_values.specs.declared.value.Value.TheVariants.{Text}
 use Rattle.mt_values.specs.ColumnBytes.{column_bytes, leb128, value_bytes}
 use Rattle.column_file.specs.Faults.{NoneBegins}
-use Rattle.column_file.specs.Spellings.{Begins, IsOfType, IsSpelling, Spells, fewest_bytes}
+use Rattle.byte_numbers.specs.Fronts.{Begins}
+use Rattle.column_file.specs.Spellings.{IsOfType, IsSpelling, Spells, fewest_bytes}
 use Rattle.column_file.specs.Tests.{first_size, has_text, number_size, spells, text_size}
-use Rattle.column_file.proofs.Numbers.{AreBytes, length_number, number_begins, number_bytes}
+use Rattle.byte_numbers.proofs.Numbers.{AreBytes}
+use Rattle.column_file.proofs.Numbers.{length_number, number_begins, number_bytes}
 use Rattle.column_file.proofs.OneWay.{value_apart}
 use Rattle.column_file.proofs.TextParts.{text_begins}
 

@@ -6,8 +6,9 @@ use Rattle.mt_values.specs.declared.value.Value.{Value}
 use Rattle.mt_values.specs.declared.value.Value.TheVariants.{Text}
 use Rattle.mt_values.specs.ColumnBytes.{value_bytes, leb128}
 use Rattle.column_file.specs.Faults.{NoneBegins}
-use Rattle.column_file.specs.Spellings.{Begins, IsOfType}
-use Rattle.column_file.proofs.Groups.{groups_apart}
+use Rattle.byte_numbers.specs.Fronts.{Begins}
+use Rattle.column_file.specs.Spellings.{IsOfType}
+use Rattle.byte_numbers.proofs.Groups.{groups_apart}
 
 -- a text at the front has its length there
 text_parted : (bytes x rest : List ℕ) → bytes ≡ value_bytes (Text x) ++ rest → bytes ≡ leb128 (length x) ++ (x ++ rest)

@@ -3,8 +3,8 @@ use Rattle.std.specs.Prelude.{◌≡◌, ◌≢◌, ℕ, ◌<◌, List, [], ◌+
 use Rattle.mt_values.specs.declared.value.ColType.{ColType}
 use Rattle.mt_values.specs.declared.value.Value.{Value}
 use Rattle.mt_values.specs.ColumnBytes.{column_bytes, value_bytes}
-use Rattle.column_file.specs.declared.faults.FormatFault.{FormatFault}
-use Rattle.column_file.specs.declared.faults.FormatFault.TheVariants.{NoMemory, Malformed}
+use Rattle.byte_numbers.specs.declared.faults.FormatFault.{FormatFault}
+use Rattle.byte_numbers.specs.declared.faults.FormatFault.TheVariants.{NoMemory, Malformed}
 use Rattle.column_file.specs.Spellings.{IsFront, IsOfType}
 
 -- the bytes begin with those of no value of the type

@@ -1,5 +1,5 @@
 -- Bytes that spell values of a column (docs/formats.md, "Column files").
-use Rattle.std.specs.Prelude.{◌≡◌, ℕ, List, ◌++◌, length, drop, All}
+use Rattle.std.specs.Prelude.{◌≡◌, ℕ, List, ◌++◌, length, All}
 use Rattle.mt_values.specs.declared.value.ColType.{ColType}
 use Rattle.mt_values.specs.declared.value.ColType.TheVariants as type
 use Rattle.mt_values.specs.declared.value.Value.{Value}
@@ -26,11 +26,6 @@ pub record Spells (t : ColType) (count : ℕ) (bytes : List ℕ) : Type 0 where
 pub record IsFront (t : ColType) (bytes : List ℕ) (values : List Value) (rest : List ℕ) : Type 0 where
   pub typed : All (IsOfType t) values
   pub parted : bytes ≡ column_bytes values ++ rest
-
--- the bytes begin with these, which are so many
-pub record Begins (front : List ℕ) (size : ℕ) (bytes : List ℕ) : Type 0 where
-  pub size_is : size ≡ length front
-  pub parted : bytes ≡ front ++ drop size bytes
 
 -- the fewest bytes that a value of the type takes
 abbrev pub fewest_bytes : ColType → ℕ

@@ -6,10 +6,12 @@ ghost use Rattle.mt_values.specs.ColumnBytes.{leb128, value_bytes};
 ghost use Rattle.mt_values.specs.Values.{FitsType};
 ghost use Rattle.mt_values.specs.declared.value.ColType.TheVariants as type;
 ghost use Rattle.column_file.specs.Faults.{NoneBegins};
-ghost use Rattle.column_file.specs.Spellings.{Begins, IsOfType, fewest_bytes};
+ghost use Rattle.byte_numbers.specs.Fronts.{Begins};
+ghost use Rattle.column_file.specs.Spellings.{IsOfType, fewest_bytes};
 
-use crate::leb128::{push_leb128, read_leb128};
-use byteorder::{ByteOrder, LittleEndian};
+use byte_numbers::{
+    first_u16, first_u32, first_u64, push_leb128, push_u16, push_u32, push_u64, read_leb128,
+};
 use mt_base::NoMemory;
 use mt_values::{Bytes, Cell, ColType};
 
@@ -31,39 +33,6 @@ pub fn push_cell(bytes: &mut Bytes, cell: Cell) -> Result<(), NoMemory>
         Cell::Int64(n) => push_u64(bytes, n.cast_unsigned()),
         Cell::Text(text) => push_text(bytes, text),
     }
-}
-
-/// Adds the two bytes of a number, the lowest first.
-///
-/// `NoMemory` where the growth was refused; the bytes stay as they were.
-fn push_u16(bytes: &mut Bytes, number: u16) -> Result<(), NoMemory>
-    ensures { OnOk result (bytes.new ≡ bytes.old ++ to_le_bytes w16 number) }
-{
-    let mut spelled = [0; 2];
-    LittleEndian::write_u16(&mut spelled, number);
-    bytes.extend(&spelled)
-}
-
-/// Adds the four bytes of a number, the lowest first.
-///
-/// `NoMemory` where the growth was refused; the bytes stay as they were.
-fn push_u32(bytes: &mut Bytes, number: u32) -> Result<(), NoMemory>
-    ensures { OnOk result (bytes.new ≡ bytes.old ++ to_le_bytes w32 number) }
-{
-    let mut spelled = [0; 4];
-    LittleEndian::write_u32(&mut spelled, number);
-    bytes.extend(&spelled)
-}
-
-/// Adds the eight bytes of a number, the lowest first.
-///
-/// `NoMemory` where the growth was refused; the bytes stay as they were.
-fn push_u64(bytes: &mut Bytes, number: u64) -> Result<(), NoMemory>
-    ensures { OnOk result (bytes.new ≡ bytes.old ++ to_le_bytes w64 number) }
-{
-    let mut spelled = [0; 8];
-    LittleEndian::write_u64(&mut spelled, number);
-    bytes.extend(&spelled)
 }
 
 /// Adds the length of a text, and then the text.
@@ -113,40 +82,6 @@ fn first_text(bytes: &[u8]) -> Option<(Cell<'_>, usize)>
     }
     let size = count as usize;
     Some((Cell::Text(&behind[..size]), head + size))
-}
-
-/// The number in the first two bytes.
-fn first_u16(bytes: &[u8]) -> u16
-    requires { 2 ≤ length bytes.now }
-    ensures { to_le_bytes w16 result ≡ take 2 bytes.now }
-{
-    u16::from_le_bytes(front(bytes))
-}
-
-/// The number in the first four bytes.
-fn first_u32(bytes: &[u8]) -> u32
-    requires { 4 ≤ length bytes.now }
-    ensures { to_le_bytes w32 result ≡ take 4 bytes.now }
-{
-    u32::from_le_bytes(front(bytes))
-}
-
-/// The number in the first eight bytes.
-fn first_u64(bytes: &[u8]) -> u64
-    requires { 8 ≤ length bytes.now }
-    ensures { to_le_bytes w64 result ≡ take 8 bytes.now }
-{
-    u64::from_le_bytes(front(bytes))
-}
-
-/// The first bytes, as an array.
-fn front<const N: usize>(bytes: &[u8]) -> [u8; N]
-    requires { N ≤ length bytes.now }
-    ensures { result ≡ take N bytes.now }
-{
-    let mut front = [0; N];
-    front.copy_from_slice(&bytes[..N]);
-    front
 }
 
 /// The fewest bytes that a value of the type takes, which are at least one. A number of the type takes no more.

@@ -7,7 +7,7 @@ ghost use Rattle.column_file.specs.Spellings.{IsSpelling, Spells};
 
 use crate::cells::fewest_bytes;
 use crate::decoding::{cell_at, end_at};
-use crate::faults::FormatFault;
+use byte_numbers::FormatFault;
 use mt_values::ColType;
 
 /// Nothing, where the bytes spell `count` values of the type. Takes no memory.

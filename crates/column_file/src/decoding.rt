@@ -4,10 +4,11 @@ ghost use Rattle.mt_values.specs.Cells.{value_of};
 ghost use Rattle.mt_values.specs.ColumnBytes.{value_bytes};
 ghost use Rattle.mt_values.specs.declared.value.Value.{Value};
 ghost use Rattle.column_file.specs.Faults.{Explains, NoneBegins};
-ghost use Rattle.column_file.specs.Spellings.{Begins, GainsAll, GainsFront, IsOfType, IsSpelling, with_values};
+ghost use Rattle.byte_numbers.specs.Fronts.{Begins};
+ghost use Rattle.column_file.specs.Spellings.{GainsAll, GainsFront, IsOfType, IsSpelling, with_values};
 
 use crate::cells::first_cell;
-use crate::faults::FormatFault;
+use byte_numbers::FormatFault;
 use mt_values::{Cell, ColType, ColumnData, Value};
 use std::alloc::Global;
 

@@ -5,12 +5,10 @@ mod cells;
 mod checking;
 mod decoding;
 mod encoding;
-mod faults;
 mod laws;
-mod leb128;
 
+pub use byte_numbers::FormatFault;
 pub use checking::check_column;
 pub use decoding::{decode_column, decode_granule, decode_onto};
 pub use encoding::{ColumnBytes, encode_column};
-pub use faults::FormatFault;
 pub use laws::{bytes_are_read_in_one_way, granules_are_spelled, spellings_are_tested};

@@ -7,12 +7,12 @@ use Rattle.std.proofs.lemmas.Nat.{from_le_bytes-to_le_bytes_4}
 use Rattle.std.specs.Int.{w32, to_le_bytes, from_le_bytes}
 use Rattle.sha2.specs.Sha256.{sha256}
 use Rattle.sha2.proofs.Facts256.{length-sha256}
-use Rattle.column_file.specs.declared.faults.FormatFault.{FormatFault}
-use Rattle.column_file.specs.declared.faults.FormatFault.TheVariants.{NoMemory, Malformed}
+use Rattle.byte_numbers.specs.declared.faults.FormatFault.{FormatFault}
+use Rattle.byte_numbers.specs.declared.faults.FormatFault.TheVariants.{NoMemory, Malformed}
 use Rattle.digest_file.specs.Faults.{AreBytes, BeginsSome, IsFirstFault, Locates}
 use Rattle.digest_file.specs.Frames.{Fit, IsFrame, IsFrameOf, MissesDigest, Opens, PartAt, framed}
 use Rattle.digest_file.proofs.FirstFaults.{begins_front, fault_at}
-use Rattle.column_file.proofs.Numbers.{number_of_4}
+use Rattle.byte_numbers.proofs.Numbers.{number_of_4}
 use Rattle.digest_file.proofs.Pieces.{bytes_right, fronts_apart, item_in_front, item_behind, longer_has, sha256_bytes}
 
 regroup : (a b c d : List ℕ) → a ++ b ++ c ++ d ≡ a ++ (b ++ (c ++ d))

@@ -13,7 +13,7 @@ use Rattle.digest_file.specs.Faults.{AreBytes}
 use Rattle.digest_file.specs.Frames.{IsFrame, IsFrameOf, framed}
 use Rattle.digest_file.specs.Spellings.{AreMarks, IsManifest, IsManifestOf, IsMark}
 use Rattle.digest_file.proofs.Frames.{one_frame}
-use Rattle.column_file.proofs.Numbers.{number_of_8}
+use Rattle.byte_numbers.proofs.Numbers.{number_of_8}
 use Rattle.digest_file.proofs.Pieces.{bytes_left, bytes_right, fronts_apart}
 
 -- `MTP1`, and the version 1

@@ -1,7 +1,7 @@
 -- Where bytes stop being the bytes of a file of its format (docs/formats.md, "Entries").
 use Rattle.std.specs.Prelude.{◌≡◌, ℕ, ◌+◌, ◌<◌, List, ◌++◌, length, take, All, ◌⊎◌, ⊤}
-use Rattle.column_file.specs.declared.faults.FormatFault.{FormatFault}
-use Rattle.column_file.specs.declared.faults.FormatFault.TheVariants.{NoMemory, Malformed}
+use Rattle.byte_numbers.specs.declared.faults.FormatFault.{FormatFault}
+use Rattle.byte_numbers.specs.declared.faults.FormatFault.TheVariants.{NoMemory, Malformed}
 
 -- each number is one byte
 abbrev pub AreBytes : List ℕ → Type 0

@@ -4,8 +4,8 @@ use Rattle.std.specs.Prelude.{◌≡◌, ℕ, ◌+◌, ◌*◌, ◌^◌, ◌<◌
 use Rattle.std.specs.Int.{w32, to_le_bytes}
 use Rattle.sha2.specs.Sha256.{sha256}
 use Rattle.mt_values.specs.Manifests.{with_digest}
-use Rattle.column_file.specs.declared.faults.FormatFault.{FormatFault}
-use Rattle.column_file.specs.declared.faults.FormatFault.TheVariants.{NoMemory, Malformed}
+use Rattle.byte_numbers.specs.declared.faults.FormatFault.{FormatFault}
+use Rattle.byte_numbers.specs.declared.faults.FormatFault.TheVariants.{NoMemory, Malformed}
 use Rattle.digest_file.specs.Faults.{AreBytes}
 
 -- the bytes before the digest

@@ -4,7 +4,7 @@ ghost use Rattle.sha2.specs.Sha256.{sha256};
 ghost use Rattle.mt_values.specs.Manifests.{IsMarkOf, with_digest};
 ghost use Rattle.digest_file.specs.Frames.{MissesDigest, PartAt};
 
-use column_file::FormatFault;
+use byte_numbers::FormatFault;
 use mt_base::NoMemory;
 use mt_values::{Bytes, FileMark};
 use sha2::{Digest, Sha256};

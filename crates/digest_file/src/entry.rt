@@ -8,8 +8,7 @@ ghost use Rattle.digest_file.specs.Spellings.{IsEntry, IsEntryOf};
 
 use crate::digest::push_digest;
 use crate::frame::parted;
-use crate::numbers::push_u32;
-use column_file::FormatFault;
+use byte_numbers::{FormatFault, push_u32};
 use mt_base::{NoMemory, Seq};
 use std::alloc::Global;
 

@@ -5,8 +5,7 @@ ghost use Rattle.digest_file.specs.Faults.{Locates};
 ghost use Rattle.digest_file.specs.Frames.{IsFrame, IsFrameOf, Opens};
 
 use crate::digest::{check_digest, difference};
-use crate::numbers::first_u32;
-use column_file::FormatFault;
+use byte_numbers::{FormatFault, first_u32};
 
 /// The pieces of a file behind its first bytes.
 #[derive(Drop)]

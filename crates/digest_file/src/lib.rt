@@ -6,7 +6,6 @@ mod entry;
 mod frame;
 mod laws;
 mod manifest;
-mod numbers;
 
 pub use digest::mark_of;
 pub use entry::{entry_bytes, read_entry};

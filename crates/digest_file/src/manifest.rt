@@ -8,8 +8,7 @@ ghost use Rattle.digest_file.specs.Spellings.{AreMarks, IsManifest, IsManifestOf
 
 use crate::digest::push_digest;
 use crate::frame::parted;
-use crate::numbers::{first_u64, front, push_u32, push_u64};
-use column_file::FormatFault;
+use byte_numbers::{FormatFault, first_u64, front, push_u32, push_u64};
 use mt_base::{NoMemory, Seq};
 use mt_values::{Bytes, FileMark, Manifest};
 use std::alloc::Global;

@@ -1,6 +1,7 @@
 use Rattle.std.proofs.Common.{refl}
 use Rattle.column_file.proofs.Passing.{passed_end}
-use Rattle.column_file.proofs.Numbers.{are_bytes, numbers_stuck, numbers_whole}
+use Rattle.byte_numbers.proofs.Numbers.{are_bytes}
+use Rattle.column_file.proofs.Numbers.{numbers_stuck, numbers_whole}
 use Rattle.column_file.proofs.checking.check_numbers.Goals as goal
 
 pub returns-then-whole-count : goal.returns-then-whole-count

@@ -2,8 +2,8 @@ use Rattle.std.proofs.Common.{◌≡◌, ℕ, Option, Some, None, Result, MatchR
 use Rattle.std.proofs.lemmas.List.{take_rest}
 use Rattle.std.specs.Option.{MatchOption, ok_or}
 use Rattle.mt_values.specs.declared.cell.Cell.{Cell}
-use Rattle.column_file.specs.declared.faults.FormatFault.{FormatFault}
-use Rattle.column_file.specs.declared.faults.FormatFault.TheVariants.{Malformed}
+use Rattle.byte_numbers.specs.declared.faults.FormatFault.{FormatFault}
+use Rattle.byte_numbers.specs.declared.faults.FormatFault.TheVariants.{Malformed}
 use Rattle.column_file.proofs.decoding.cell_at.Goals as goal
 
 -- a value that was found, or the error in place of none

@@ -3,8 +3,8 @@ use Rattle.mt_values.specs.declared.value.ColType.{ColType}
 use Rattle.mt_values.specs.declared.value.Value.{Value}
 use Rattle.column_file.specs.Faults.{Explains}
 use Rattle.column_file.specs.Spellings.{IsSpelling}
-use Rattle.column_file.specs.declared.faults.FormatFault.{FormatFault}
-use Rattle.column_file.specs.declared.faults.FormatFault.TheVariants.{NoMemory}
+use Rattle.byte_numbers.specs.declared.faults.FormatFault.{FormatFault}
+use Rattle.byte_numbers.specs.declared.faults.FormatFault.TheVariants.{NoMemory}
 use Rattle.column_file.proofs.decoding.decode_granule.Goals as goal
 
 -- the values of a column, each by itself, or want of memory

@@ -2,7 +2,7 @@ use Rattle.digest_file.specs.Frames.{IsFrame}
 use Rattle.digest_file.specs.Spellings.{IsEntry}
 use Rattle.digest_file.proofs.Entries.{entry_first, entry_from_frame, entry_is_frame, frame_is_entry, one_text}
 use Rattle.digest_file.proofs.FirstFaults.{handed_on, located_none, same_located}
-use Rattle.column_file.proofs.Numbers.{are_bytes}
+use Rattle.byte_numbers.proofs.Numbers.{are_bytes}
 use Rattle.digest_file.proofs.entry.read_entry.Goals as goal
 
 pub returns-in_err-frame-clause-spelled : goal.returns-in_err-frame-clause-spelled

@@ -3,7 +3,7 @@ use Rattle.std.proofs.lemmas.List.{take_rest}
 use Rattle.digest_file.specs.Faults.{Locates}
 use Rattle.digest_file.specs.Frames.{IsFrame}
 use Rattle.digest_file.proofs.Frames.{wrong_first, cut_head, opened}
-use Rattle.column_file.proofs.Numbers.{are_bytes}
+use Rattle.byte_numbers.proofs.Numbers.{are_bytes}
 use Rattle.digest_file.proofs.frame.count_of.Goals as goal
 
 pub returns-in-Some : goal.returns-in-Some

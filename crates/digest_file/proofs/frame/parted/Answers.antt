@@ -3,7 +3,7 @@ use Rattle.digest_file.specs.Faults.{Locates}
 use Rattle.digest_file.specs.Frames.{IsFrame}
 use Rattle.digest_file.proofs.FirstFaults.{handed_on}
 use Rattle.digest_file.proofs.Frames.{opened_cut, opened_missed}
-use Rattle.column_file.proofs.Numbers.{are_bytes}
+use Rattle.byte_numbers.proofs.Numbers.{are_bytes}
 use Rattle.digest_file.proofs.frame.parted.Goals as goal
 
 pub returns-in_err-count : goal.returns-in_err-count

@@ -4,7 +4,7 @@ use Rattle.digest_file.specs.Frames.{IsFrame}
 use Rattle.digest_file.specs.Spellings.{IsManifest}
 use Rattle.digest_file.proofs.FirstFaults.{handed_on, located_explains, located_none, same_located}
 use Rattle.digest_file.proofs.Manifests.{manifest_first, manifest_from_frame, manifest_is_frame, frame_is_manifest, one_manifest}
-use Rattle.column_file.proofs.Numbers.{are_bytes}
+use Rattle.byte_numbers.proofs.Numbers.{are_bytes}
 use Rattle.digest_file.proofs.manifest.read_manifest.Goals as goal
 
 pub returns-in_err-frame-clause-spelled : goal.returns-in_err-frame-clause-spelled

@@ -1,7 +1,7 @@
 -- the groups so far and those of what is left are the number's
 use Rattle.std.proofs.Common.{◌≡◌, ◌-◌, ◌*◌, ◌^◌, ◌<◌, ◌++◌}
 use Rattle.mt_values.specs.ColumnBytes.{groups_within, leb128}
-use Rattle.column_file.proofs.leb128.push_leb128.Given as goal
+use Rattle.byte_numbers.proofs.leb128.push_leb128.Given as goal
 
 abbrev pub invariant-loop-group : goal.invariant-loop-group
 invariant-loop-group l = record {

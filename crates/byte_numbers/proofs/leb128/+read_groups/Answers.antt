@@ -1,6 +1,6 @@
 use Rattle.std.proofs.Common.{◌≡◌, ◌+◌, ◌-◌, ◌/◌, arith, sym, ◌∙◌}
-use Rattle.column_file.proofs.Groups.{nothing_begins, goes_on, groups_apart, groups_more}
-use Rattle.column_file.proofs.leb128.+read_groups.Goals as goal
+use Rattle.byte_numbers.proofs.Groups.{nothing_begins, goes_on, groups_apart, groups_more}
+use Rattle.byte_numbers.proofs.leb128.+read_groups.Goals as goal
 
 pub returns-in_err-first : goal.returns-in_err-first
 returns-in_err-first t c = rw c.from_residual.ensures (λ number rest e.

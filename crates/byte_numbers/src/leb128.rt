@@ -1,7 +1,7 @@
 // Numbers as unsigned LEB128: groups of seven bits, the lowest first, each but the last with 128 added.
 ghost use Rattle.std.specs.Prelude.{◌≡◌, ◌≤◌, ◌^◌, ◌++◌, ℕ, List, MatchOption, OnOk};
 ghost use Rattle.mt_values.specs.ColumnBytes.{groups_within, leb128};
-ghost use Rattle.column_file.specs.Spellings.{Begins};
+ghost use Rattle.byte_numbers.specs.Fronts.{Begins};
 
 use mt_base::NoMemory;
 use mt_values::Bytes;

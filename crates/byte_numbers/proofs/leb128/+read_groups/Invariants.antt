@@ -1,4 +1,4 @@
-use Rattle.column_file.proofs.leb128.+read_groups.Given as goal
+use Rattle.byte_numbers.proofs.leb128.+read_groups.Given as goal
 
 abbrev pub decreases-read_groups : goal.decreases-read_groups
 decreases-read_groups l = l.more

@@ -4,7 +4,7 @@ use Rattle.std.proofs.lemmas.Bool.{cases_lt}
 use Rattle.std.proofs.lemmas.Bool.Decides.{nat_tests}
 use Rattle.std.proofs.lemmas.Nat.{shr_below}
 use Rattle.mt_values.specs.ColumnBytes.{groups_within}
-use Rattle.column_file.specs.Spellings.{Begins}
+use Rattle.byte_numbers.specs.Fronts.{Begins}
 
 choose : {X : Type 0} (b c : Bool) (x y : X) → b ≡ c → cond b x y ≡ cond c x y
 choose b c x y e = ap (λ d. cond d x y) e

@@ -1,12 +1,23 @@
-// Numbers as bytes, the lowest first.
+// Numbers of a fixed width as bytes, the lowest first.
 ghost use Rattle.std.specs.Prelude.{◌≡◌, ◌≤◌, ◌++◌, OnOk, length, take};
-ghost use Rattle.std.specs.Int.{w32, w64, to_le_bytes};
+ghost use Rattle.std.specs.Int.{w16, w32, w64, to_le_bytes};
 
 use byteorder::{ByteOrder, LittleEndian};
 use mt_base::NoMemory;
 use mt_values::Bytes;
 
-/// Adds the four bytes of a number.
+/// Adds the two bytes of a number, the lowest first.
+///
+/// `NoMemory` where the growth was refused; the bytes stay as they were.
+pub fn push_u16(bytes: &mut Bytes, number: u16) -> Result<(), NoMemory>
+    ensures { OnOk result (bytes.new ≡ bytes.old ++ to_le_bytes w16 number) }
+{
+    let mut spelled = [0; 2];
+    LittleEndian::write_u16(&mut spelled, number);
+    bytes.extend(&spelled)
+}
+
+/// Adds the four bytes of a number, the lowest first.
 ///
 /// `NoMemory` where the growth was refused; the bytes stay as they were.
 pub fn push_u32(bytes: &mut Bytes, number: u32) -> Result<(), NoMemory>
@@ -17,7 +28,7 @@ pub fn push_u32(bytes: &mut Bytes, number: u32) -> Result<(), NoMemory>
     bytes.extend(&spelled)
 }
 
-/// Adds the eight bytes of a number.
+/// Adds the eight bytes of a number, the lowest first.
 ///
 /// `NoMemory` where the growth was refused; the bytes stay as they were.
 pub fn push_u64(bytes: &mut Bytes, number: u64) -> Result<(), NoMemory>
@@ -26,6 +37,14 @@ pub fn push_u64(bytes: &mut Bytes, number: u64) -> Result<(), NoMemory>
     let mut spelled = [0; 8];
     LittleEndian::write_u64(&mut spelled, number);
     bytes.extend(&spelled)
+}
+
+/// The number in the first two bytes.
+pub fn first_u16(bytes: &[u8]) -> u16
+    requires { 2 ≤ length bytes.now }
+    ensures { to_le_bytes w16 result ≡ take 2 bytes.now }
+{
+    u16::from_le_bytes(front(bytes))
 }
 
 /// The number in the first four bytes.

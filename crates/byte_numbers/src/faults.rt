@@ -18,7 +18,7 @@ pub enum FormatFault {
 
 impl From<NoMemory> for FormatFault {
     ghost use Rattle.std.specs.Prelude.{◌≡◌};
-    ghost use Rattle.column_file.specs.declared.faults.FormatFault.TheVariants.{NoMemory};
+    ghost use Rattle.byte_numbers.specs.declared.faults.FormatFault.TheVariants.{NoMemory};
 
     ghost from_gives = { λ _ e. e ≡ NoMemory };
 
@@ -29,7 +29,7 @@ impl From<NoMemory> for FormatFault {
 
 impl From<AllocError> for FormatFault {
     ghost use Rattle.std.specs.Prelude.{◌≡◌};
-    ghost use Rattle.column_file.specs.declared.faults.FormatFault.TheVariants.{NoMemory};
+    ghost use Rattle.byte_numbers.specs.declared.faults.FormatFault.TheVariants.{NoMemory};
 
     ghost from_gives = { λ _ e. e ≡ NoMemory };
 

@@ -1,5 +1,5 @@
-use Rattle.column_file.proofs.Groups.{bits_left, spelled_more}
-use Rattle.column_file.proofs.leb128.push_leb128.Goals as goal
+use Rattle.byte_numbers.proofs.Groups.{bits_left, spelled_more}
+use Rattle.byte_numbers.proofs.leb128.push_leb128.Goals as goal
 
 pub loop-group-preserved : goal.loop-group-preserved
 loop-group-preserved c = record {

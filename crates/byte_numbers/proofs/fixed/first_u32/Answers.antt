@@ -1,6 +1,6 @@
 use Rattle.std.proofs.Common.{◌≡◌, ◌∙◌, ap, length, length-take-le, rules}
 use Rattle.std.proofs.lemmas.Nat.{le_bytes_4}
-use Rattle.column_file.proofs.cells.first_u32.Goals as goal
+use Rattle.byte_numbers.proofs.fixed.first_u32.Goals as goal
 
 pub returns : goal.returns
 returns c =
