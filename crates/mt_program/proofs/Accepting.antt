@@ -16,7 +16,7 @@ use Rattle.mt_model.specs.Outside.{Counts}
 use Rattle.mt_model.specs.Session.{Takes, AddsNothing, Adds}
 use Rattle.mt_model.proofs.Growing.{stays, adds_last}
 use Rattle.root_log.specs.declared.store.CoreStore.{CoreStore}
-use Rattle.root_log.specs.Commits.{Notes, SameList}
+use Rattle.durable_commit.specs.Commits.{Notes, SameList}
 use Rattle.root_log.specs.Soundness.{RootStands}
 use Rattle.root_log.specs.Stores.{CoreStands}
 use Rattle.mt_base.specs.declared.memory.NoMemory.{NoMemory}

@@ -20,7 +20,7 @@ use Rattle.mt_model.specs.Reply.{schema_of_text, create_turn, ok_line}
 use Rattle.mt_model.specs.Written.{IsCreateText}
 use Rattle.mt_model.proofs.Tables.{itself_same}
 use Rattle.root_log.specs.declared.store.CoreStore.{CoreStore}
-use Rattle.root_log.specs.Commits.{Notes}
+use Rattle.durable_commit.specs.Commits.{Notes}
 use Rattle.root_log.specs.Entries.{EntryHolds, schema_by_items, schema_of_entry}
 use Rattle.root_log.specs.Soundness.{RootStands}
 use Rattle.root_log.specs.Stores.{CoreStands}

@@ -18,9 +18,9 @@ use Rattle.mt_model.specs.declared.refusal.Refusal.TheVariants as refusal
 use Rattle.mt_model.specs.Refusals.{is_damage, refusal_line, refusal_of_cause, refusal_of_data}
 use Rattle.part_reader.specs.declared.reading.Part.{Part}
 use Rattle.part_set.specs.declared.kept.Kept.{Kept}
-use Rattle.root_log.specs.declared.commits.Limit.TheVariants as limit
-use Rattle.root_log.specs.declared.commits.Refused.{Refused}
-use Rattle.root_log.specs.declared.commits.Refused.TheVariants as refused
+use Rattle.durable_commit.specs.declared.causes.Limit.TheVariants as limit
+use Rattle.durable_commit.specs.declared.causes.Refused.{Refused}
+use Rattle.durable_commit.specs.declared.causes.Refused.TheVariants as refused
 use Rattle.root_log.specs.declared.opening.OpenFault.{OpenFault}
 use Rattle.root_log.specs.declared.opening.OpenFault.TheVariants as opening
 use Rattle.root_log.specs.Opening.{IsNotDamaged, TellsDamage}

@@ -7,9 +7,9 @@ use Rattle.mt_model.specs.declared.refusal.Refusal.{Refusal}
 use Rattle.mt_model.specs.declared.refusal.Refusal.TheVariants as refusal
 use Rattle.mt_model.specs.declared.refusal.Room.TheVariants as room
 use Rattle.mt_model.specs.Refusals.{refusal_line}
-use Rattle.root_log.specs.declared.commits.Limit.TheVariants as limit
-use Rattle.root_log.specs.declared.commits.Refused.{Refused}
-use Rattle.root_log.specs.declared.commits.Refused.TheVariants as refused
+use Rattle.durable_commit.specs.declared.causes.Limit.TheVariants as limit
+use Rattle.durable_commit.specs.declared.causes.Refused.{Refused}
+use Rattle.durable_commit.specs.declared.causes.Refused.TheVariants as refused
 
 -- the reply where parts were not read, or a stage was not sealed; there is none for want of memory
 abbrev pub IsLineOfStage : DiskError → List ℕ → Type 0

@@ -15,8 +15,8 @@ use Rattle.mt_outside.specs.declared.disk.Change.TheVariants.{Publish}
 use Rattle.mt_outside.specs.Causes.{Rose}
 use Rattle.mt_outside.specs.Disk.{MayBecome, MayPut, Names, Told, put, with_change}
 use Rattle.mt_outside.specs.Files.{Files}
-use Rattle.root_log.specs.declared.commits.Refused.{Refused}
-use Rattle.root_log.specs.declared.commits.Refused.TheVariants as refused
+use Rattle.durable_commit.specs.declared.causes.Refused.{Refused}
+use Rattle.durable_commit.specs.declared.causes.Refused.TheVariants as refused
 use Rattle.root_log.specs.declared.store.CoreStore.{CoreStore}
 use Rattle.root_log.specs.ByteOrder.{AreInByteOrder}
 use Rattle.root_log.specs.Commits.{SameStore}

@@ -1,7 +1,6 @@
 -- What a commit that failed leaves.
-use Rattle.std.proofs.Common.{◌≡◌, ◌≢◌, ℕ, List, [], ◌∷◌, Option, Some, None, Bool, true, false, cond, is_some, nat_le, nat_lt, length, ◌<◌, ◌≤◌, ◌⊎◌, arith, refl, sym, ap, ◌∙◌, subst, inl, inr}
+use Rattle.std.proofs.Common.{◌≡◌, ℕ, List, [], ◌∷◌, Option, Some, None, Bool, true, false, cond, is_some, nat_le, nat_lt, length, ◌<◌, ◌≤◌, ◌⊎◌, arith, refl, sym, ap, ◌∙◌, subst, inl, inr}
 use Rattle.std.specs.BTreeMap.{insert_entry, is_at}
-use Rattle.std.specs.Bool.{then_some}
 use Rattle.std.specs.Cmp.{IsTotalOrder}
 use Rattle.std.specs.Cmp.Lexicographic.{slice_cmp}
 use Rattle.std.specs.Map.{lookup, remove_entry}
@@ -10,22 +9,13 @@ use Rattle.std.specs.declared.cmp.Ordering.{Ordering}
 use Rattle.std.specs.declared.cmp.Ordering.TheVariants.{Less, Equal, Greater}
 use Rattle.std.proofs.lemmas.Bool.Decides.{nat_tests}
 use Rattle.std.proofs.lemmas.Cmp.{nat_list_cmp_total, tied_itself}
-use Rattle.mt_outside.specs.declared.disk.DiskError.{DiskError}
-use Rattle.mt_outside.specs.declared.disk.DiskError.TheVariants as failure
-use Rattle.mt_outside.specs.Disk.{MayPut, Told}
-use Rattle.mt_outside.specs.Files.{Files}
 use Rattle.part_set.specs.Sets.{parts_of}
-use Rattle.root_log.specs.declared.commits.Limit.TheVariants as limit
-use Rattle.root_log.specs.declared.commits.Refused.{Refused}
-use Rattle.root_log.specs.declared.commits.Refused.TheVariants as refused
+use Rattle.durable_commit.specs.declared.causes.Limit.TheVariants as limit
+use Rattle.durable_commit.specs.declared.causes.Refused.{Refused}
+use Rattle.durable_commit.specs.declared.causes.Refused.TheVariants as refused
 use Rattle.root_log.specs.declared.store.CoreStore.{CoreStore}
-use Rattle.root_log.specs.Commits.{IsCause, IsOutside, SameStore, refused_by_disk, refuses_create, refuses_part, whole_parts}
+use Rattle.root_log.specs.Commits.{IsCause, SameStore, refuses_create, refuses_part, whole_parts}
 use Rattle.root_log.specs.Stores.{table_at}
-
--- what is shown where a test passes
-pub shown_then : {X : Type 0} (b : Bool) (x : X) → then_some b x ≡ cond b (Some x) None
-shown_then true x = refl
-shown_then false x = refl
 
 -- a new entry that is taken out again
 put_and_removed : {K X : Type 0} (cmp : K → K → Ordering) → IsTotalOrder cmp → (es : List (K × X)) (k : K) (v : X) → lookup (is_at (cmp k)) es ≡ None → remove_entry (is_at (cmp k)) (insert_entry cmp es k v) ≡ es
@@ -49,25 +39,6 @@ taken_out {X} before entered after key k v none put same is =
     is
     ∙ (ap (λ (t : List ℕ). remove_entry (is_at (slice_cmp nat_cmp t)) entered) same
     ∙ (ap (λ (es : List (List ℕ × X)). remove_entry (is_at (slice_cmp nat_cmp key)) es) put ∙ put_and_removed (slice_cmp nat_cmp) nat_list_cmp_total before key v none))
-
--- a publish that failed has left the name or not
-pub left_by : (error : DiskError) (clock : ℕ) (name : List ℕ) (files : Option Files) (old new : Option Told)
-    → (error ≡ failure.Fault → MayPut clock name files old new) → (error ≡ failure.NoMemory → new ≡ old) → MayPut clock name files old new
-left_by failure.Fault clock name files old new fault memory = fault refl
-left_by failure.NoMemory clock name files old new fault memory = inl (memory refl)
-
--- why what was published was refused
-pub outside_disk : (error : DiskError) (cause : Refused) → cause ≡ refused_by_disk error → IsOutside (Some cause)
-outside_disk failure.NoMemory cause is = subst (λ (r : Refused). IsOutside (Some r)) (sym is) tt
-outside_disk failure.Fault cause is = subst (λ (r : Refused). IsOutside (Some r)) (sym is) tt
-
-pub disk_fault : (error : DiskError) (cause : Refused) → cause ≡ refused_by_disk error → cause ≡ refused.Disk → error ≡ failure.Fault
-disk_fault failure.Fault cause is same = refl
-disk_fault failure.NoMemory cause is same = cc
-
-pub disk_memory : (error : DiskError) (cause : Refused) → cause ≡ refused_by_disk error → cause ≢ refused.Disk → error ≡ failure.NoMemory
-disk_memory failure.Fault cause is other = absurd (other is)
-disk_memory failure.NoMemory cause is other = refl
 
 -- ---- what the store and the disk's count show, by the three tests that are made
 

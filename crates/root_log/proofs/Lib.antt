@@ -31,7 +31,6 @@ pub mod Orphaned
 pub mod Readings
 pub mod Rising
 pub mod Rooted
-pub mod SameLists
 pub mod SameStores
 pub mod Sounding
 pub mod Standing

@@ -17,8 +17,8 @@ use Rattle.part_reader.specs.declared.reading.Part.{Part}
 use Rattle.part_set.specs.declared.kept.Kept.{Kept}
 use Rattle.part_set.specs.declared.set.PartSet.{PartSet}
 use Rattle.part_set.specs.Sets.{parts_of}
-use Rattle.root_log.specs.declared.commits.Refused.{Refused}
-use Rattle.root_log.specs.declared.commits.Refused.TheVariants as refused
+use Rattle.durable_commit.specs.declared.causes.Refused.{Refused}
+use Rattle.durable_commit.specs.declared.causes.Refused.TheVariants as refused
 use Rattle.root_log.specs.declared.store.CoreStore.{CoreStore}
 use Rattle.root_log.specs.declared.store.Table.{Table}
 use Rattle.root_log.specs.Commits.{EntersTable, SameStore, fresh_part, fresh_table}

@@ -1,23 +1,18 @@
 -- What refuses a commit, and what it leaves (docs/architecture.md, "Commits").
-use Rattle.std.specs.Prelude.{◌≡◌, ◌≢◌, ℕ, ◌+◌, List, [], ◌∷◌, ◌++◌, Option, Some, None, Result, Ok, Err, filter, if◌then◌else◌, is_some, length, nat_le, nat_lt}
+use Rattle.std.specs.Prelude.{◌≡◌, ◌≢◌, ℕ, ◌+◌, List, [], ◌∷◌, ◌++◌, Option, Some, None, Result, Ok, Err, filter, if◌then◌else◌, is_some, length, nat_le}
 use Rattle.std.specs.BTreeMap.{Updates}
 use Rattle.std.specs.Cmp.Lexicographic.{slice_cmp}
-use Rattle.std.specs.Option.{option_map}
 use Rattle.std.specs.Ordering.{nat_cmp}
 use Rattle.mt_base.specs.declared.partition.Partition.TheVariants.{Whole}
 use Rattle.mt_values.specs.declared.command.Command.{Command}
-use Rattle.mt_values.specs.declared.command.Entry.{Entry}
 use Rattle.mt_values.specs.declared.command.Insert.{Insert}
 use Rattle.mt_values.specs.declared.schema.Schema.{Schema}
 use Rattle.mt_values.specs.declared.command.Command.TheVariants as command
 use Rattle.mt_values.specs.Grid.{Grid}
-use Rattle.mt_values.specs.Annals.{Told, began, noted}
 use Rattle.mt_values.specs.Order.{key_cmp}
 use Rattle.mt_values.specs.Values.{Row}
 use Rattle.mt_model.specs.Live.{sorted}
 use Rattle.mt_values.specs.declared.manifest.Loaded.{Loaded}
-use Rattle.mt_outside.specs.declared.disk.DiskError.{DiskError}
-use Rattle.mt_outside.specs.declared.disk.DiskError.TheVariants as failure
 use Rattle.mt_outside.specs.Files.{Files}
 use Rattle.part_name.specs.declared.part.PartName.{PartName}
 use Rattle.part_reader.specs.declared.reading.Part.{Part}
@@ -25,9 +20,10 @@ use Rattle.part_writer.specs.PartFiles.{manifest_of}
 use Rattle.part_set.specs.declared.kept.Kept.{Kept}
 use Rattle.part_set.specs.Sets.{parts_of}
 use Rattle.part_history.specs.Numbers.{same_partition}
-use Rattle.root_log.specs.declared.commits.Limit.TheVariants as limit
-use Rattle.root_log.specs.declared.commits.Refused.{Refused}
-use Rattle.root_log.specs.declared.commits.Refused.TheVariants as refused
+use Rattle.durable_commit.specs.declared.causes.Limit.TheVariants as limit
+use Rattle.durable_commit.specs.declared.causes.Refused.{Refused}
+use Rattle.durable_commit.specs.declared.causes.Refused.TheVariants as refused
+use Rattle.durable_commit.specs.Commits.{IsOutside, stopped_by}
 use Rattle.root_log.specs.declared.commits.Returned.{Returned}
 use Rattle.root_log.specs.declared.store.CoreStore.{CoreStore}
 use Rattle.root_log.specs.declared.store.Table.{Table}
@@ -39,23 +35,10 @@ abbrev pub cause_of : {T S : Type 0} → Result T (Returned S) → Option Refuse
 cause_of (Ok x) = None
 cause_of (Err r) = Some r.cause
 
--- none, or a cause that the store and the disk's count do not show
-abbrev pub IsOutside : Option Refused → Type 0
-IsOutside None = Unit {0}
-IsOutside (Some refused.NoMemory) = Unit {0}
-IsOutside (Some refused.Disk) = Unit {0}
-IsOutside (Some (refused.Stopped opened now)) = ⊥
-IsOutside (Some refused.Exists) = ⊥
-IsOutside (Some (refused.Limit l)) = ⊥
-
 -- the cause is the one that the store and the disk's count show; where they show none it is none, or one of the outside
 abbrev pub IsCause : Option Refused → Option Refused → Type 0
 IsCause (Some shown) cause = cause ≡ Some shown
 IsCause None cause = IsOutside cause
-
--- the disk's count of faults is above the one at opening
-abbrev pub stopped_by : ℕ → ℕ → Option Refused
-stopped_by opened now = if nat_lt opened now then Some (refused.Stopped opened now) else None
 
 -- what the store and the disk's count show against a CREATE: there is the table, or as many as may be, or the store was stopped
 abbrev pub refuses_create : {F : Type 0} → CoreStore F → List ℕ → ℕ → Option Refused
@@ -63,11 +46,6 @@ refuses_create store table now =
     if is_some (table_at store table) then Some refused.Exists
     else if nat_le 64 (length store.tables.entries) then Some (refused.Limit limit.Tables)
     else stopped_by store.opened now
-
--- of what was published, or was not
-abbrev pub refused_by_disk : DiskError → Refused
-refused_by_disk failure.NoMemory = refused.NoMemory
-refused_by_disk failure.Fault = refused.Disk
 
 -- the same tables and parts, whatever room there is for more
 pub record SameStore {F : Type 0} (old new : CoreStore F) : Type 0 where
@@ -89,10 +67,6 @@ pub record EntersTable {F : Type 0} (table : List ℕ) (schema : Schema) (old ne
   pub length_is : new.length ≡ old.length + 1
   pub opened_is : new.opened ≡ old.opened
 
--- a command of a session
-abbrev pub entry_of : ℕ → Command → Entry
-entry_of session command = record { session = session; command = command }
-
 -- the block, as it is added to a table
 abbrev pub insert_into : List ℕ → Grid → Insert
 insert_into table block = record { table = table; partition = Whole; block = block }
@@ -111,16 +85,6 @@ pub record IsSealedOf (schema : Schema) (block : Grid) (sealed : Option Files) (
   pub sealed_are : sealed ≡ Some files
   pub holds : FolderHolds schema (part_rows schema block) files
   pub loaded_is : loaded.manifest ≡ manifest_of (length schema.columns) (part_rows schema block)
-
--- the keeper tells one more command, with its mark
-abbrev pub Notes : ℕ → Entry → Option Told → Option Told → Type 0
-Notes mark entry old new = new ≡ option_map (λ (t : Told). noted mark (began entry t)) old
-
--- the list stays, whatever is begun; where nothing was told nothing is
-abbrev pub SameList : Option Told → Option Told → Type 0
-SameList (Some t) (Some u) = u.list ≡ t.list
-SameList None new = new ≡ None
-SameList (Some t) None = ⊥
 
 -- the part that a table's next INSERT makes
 abbrev pub fresh_part : ℕ → PartName

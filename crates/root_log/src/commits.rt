@@ -1,29 +1,28 @@
 // A command added to the disk, to what the keeper tells and to the store.
-ghost use Rattle.std.specs.Prelude.{◌≡◌, ◌≢◌, ◌+◌, ◌-◌, ◌<◌, ◌≤◌, ◌^◌, ◌∷◌, ◌++◌, [], ℕ, IsSome, IsTrue, List, Option, Some, None, IfErr, IfOk, IfSome, IsErrOf, IsNone, OnErr, OnOk, length, Result};
+ghost use Rattle.std.specs.Prelude.{◌≡◌, ◌≢◌, ◌+◌, ◌-◌, ◌<◌, ◌≤◌, ◌^◌, ◌∷◌, ◌++◌, [], ℕ, IsSome, IsTrue, List, Option, Some, None, IfErr, IfOk, IfSome, IsNone, OnErr, OnOk, length, Result};
 ghost use Rattle.std.specs.BTreeMap.{Updates, get, insert_entry, is_at};
 ghost use Rattle.std.specs.Cmp.Lexicographic.{slice_cmp};
 ghost use Rattle.std.specs.Map.{remove_entry};
-ghost use Rattle.std.specs.Option.{ForSome, option_map};
+ghost use Rattle.std.specs.Option.{option_map};
 ghost use Rattle.std.specs.Ordering.{nat_cmp};
 ghost use Rattle.mt_values.specs.declared.command.Command.TheVariants as command;
 ghost use Rattle.mt_values.specs.declared.statement.Cause.{Cause};
 ghost use Rattle.mt_values.specs.declared.statement.Statement.{Statement};
-ghost use Rattle.mt_values.specs.Annals.{Told, began, noted};
+ghost use Rattle.mt_values.specs.Annals.{Told, began};
 ghost use Rattle.mt_values.specs.RootNames.{create_name, part_name};
 ghost use Rattle.part_name.specs.PartNames.{part_text};
 ghost use Rattle.part_set.specs.RootNames.{is_table};
 ghost use Rattle.part_set.specs.Parts.{IsAdded, IsInBlockOrder, NoneMeets};
 ghost use Rattle.part_set.specs.Sets.{HasRoom, parts_of};
 ghost use Rattle.mt_outside.specs.Causes.{Rose};
-ghost use Rattle.mt_outside.specs.DiskCauses.{HasDiskCause};
-ghost use Rattle.mt_outside.specs.Disk.{MayPut, files_at, names_of, put};
+ghost use Rattle.mt_outside.specs.Disk.{MayPut, put};
 ghost use Rattle.mt_outside.specs.Files.{Files};
 ghost use Rattle.mt_model.specs.History.{History, IsInsertInto, IsTableSchema};
 ghost use Rattle.mt_base.specs.declared.partition.Partition.TheVariants.{Whole};
-ghost use Rattle.stage_dir.specs.Stages.{AreSealed};
 ghost use Rattle.part_history.specs.Numbers.{same_partition};
 ghost use Rattle.part_history.specs.Entered.{entered};
-ghost use Rattle.root_log.specs.Commits.{EntersSealed, EntersTable, IsCause, IsOutside, Notes, SameList, SameStore, cause_of, entry_of, fresh_part, fresh_table, IsSealedOf, insert_into, insert_of_block, refused_by_disk, refuses_create, refuses_part, stopped_by, whole_parts};
+ghost use Rattle.durable_commit.specs.Commits.{IsOutside, Notes, SameList, entry_of, refused_by_disk};
+ghost use Rattle.root_log.specs.Commits.{EntersSealed, EntersTable, IsCause, SameStore, cause_of, fresh_part, fresh_table, IsSealedOf, insert_into, insert_of_block, refuses_create, refuses_part, whole_parts};
 ghost use Rattle.root_log.specs.Crashes.{IsCommandOf, KeepsThroughCrashes};
 ghost use Rattle.root_log.specs.Entries.{EntryHolds};
 ghost use Rattle.root_log.specs.Soundness.{HasSoundParts, IsSound, NamesFitUnlessRisen, RootStands};
@@ -32,6 +31,7 @@ ghost use Rattle.root_log.specs.declared.store.Table.{Table as Made};
 
 use crate::keeping::put_table;
 use crate::{CoreStore, Table};
+use durable_commit::{Limit, Refused, commit, refuse_stopped};
 use mt_base::{NoMemory, Partition, Twin};
 use mt_outside::{Arm, Disk, DiskError};
 use mt_values::{Annals, Block, Command, Create, Entry, Insert, Name};
@@ -52,56 +52,11 @@ const MOST_PARTS: usize = 3000;
 /// The greatest number of a table's commands.
 const LAST_NUMBER: u32 = 4_294_967_295;
 
-/// Which room is full.
-#[derive(Clone, Copy)]
-pub enum Limit {
-    /// As many tables were made as may be.
-    Tables,
-    /// The partition has as many parts as may be.
-    Parts,
-    /// The table has no number left.
-    Numbers,
-}
-
-/// Why a command was not committed.
-#[derive(Clone, Copy)]
-pub enum Refused {
-    /// A growth was refused.
-    NoMemory,
-    /// The publish or the sync of the names failed. The name is there or not.
-    Disk,
-    /// The disk's count of faults is above the one at opening, so the store takes no command.
-    Stopped { opened: u64, now: u64 },
-    /// There is a table of this name.
-    Exists,
-    /// There is no room for more.
-    Limit(Limit),
-}
-
-impl Refused {
-    // Why what was sealed was not committed.
-    fn of_disk(error: DiskError) -> Refused
-        ensures { result ≡ refused_by_disk error }
-    {
-        match error {
-            DiskError::NoMemory => Refused::NoMemory,
-            DiskError::Fault => Refused::Disk,
-        }
-    }
-}
-
 /// Why a command was not committed, and what was sealed for it, where it was not given to the disk.
 #[derive(Drop)]
 pub struct Returned<S> {
     pub cause: Refused,
     pub back: Option<S>,
-}
-
-// The disk's count of faults is above the one at opening.
-fn refuse_stopped(opened: u64, now: u64) -> Option<Refused>
-    ensures { result ≡ stopped_by opened now }
-{
-    (opened < now).then_some(Refused::Stopped { opened, now })
 }
 
 // What the store and the disk's count show against a CREATE.
@@ -258,63 +213,6 @@ fn name_of_part(number: u32) -> PartName
         max_block: number,
         level: 0,
         mutation: None,
-    }
-}
-
-// Settles the name that was published, and notes the command that is begun. The keeper has room for it.
-fn settle<D: Disk, A: Annals>(disk: &mut D, annals: &mut A) -> Result<(), DiskError>
-    requires room { A.has_room annals.old }
-    requires begun { ForSome (A.told annals.old) (λ t. IsSome t.begun) }
-    ensures annals { OnOk result (A.told annals.new ≡ option_map (noted (D.clock disk.new)) (A.told annals.old)) }
-    ensures annals_err { OnErr result (A.told annals.new ≡ A.told annals.old) }
-    ensures clock { OnOk result (D.clock disk.new ≡ D.clock disk.old + 1) }
-    ensures clock_err { OnErr result (D.clock disk.new ≡ D.clock disk.old) }
-    ensures told { D.told disk.new ≡ D.told disk.old }
-    ensures takes_none { IsErrOf result DiskError.NoMemory → ⊥ }
-    ensures cause { HasDiskCause (D.failed disk.old) (D.failed disk.new) result }
-{
-    match disk.sync_names() {
-        Ok(()) => {
-            annals.note(disk.mark());
-            Ok(())
-        }
-        Err(error) => Err(error),
-    }
-}
-
-// Publishes what was sealed, settles it and notes the command. The keeper has room for it.
-//
-// After an error the keeper tells the same list; after a fault the name is there or not.
-fn commit<D: Disk, A: Annals>(
-    alloc: Global,
-    disk: &mut D,
-    annals: &mut A,
-    sealed: Sealed<<D::Arm as Arm>::Stage>,
-    name: &Name,
-    entry: Entry,
-) -> Result<<D::Arm as Arm>::Dir, DiskError>
-    requires free { ForSome (D.told disk.old) (λ t. files_at name.now (names_of t) ≡ None) }
-    requires room { A.has_room annals.old }
-    ensures disk { OnOk result (D.told disk.new ≡ put (D.clock disk.old) name.now sealed.files (D.told disk.old)) }
-    ensures dir { IfOk result (λ d. D.Arm.Dir.files d ≡ sealed.files) }
-    ensures settled { OnOk result (D.clock disk.new ≡ D.clock disk.old + 1) }
-    ensures annals { OnOk result (Notes (D.clock disk.new) entry (A.told annals.old) (A.told annals.new)) }
-    ensures annals_err { OnErr result (SameList (A.told annals.old) (A.told annals.new)) }
-    ensures begun { OnErr result (A.told annals.new ≡ option_map (began entry) (A.told annals.old)) }
-    ensures mark_err { OnErr result (D.clock disk.new ≡ D.clock disk.old) }
-    ensures sealed { ForSome sealed.files AreSealed }
-    ensures left { OnErr result (MayPut (D.clock disk.old) name.now sealed.files (D.told disk.old) (D.told disk.new)) }
-    ensures memory { IsErrOf result DiskError.NoMemory → D.told disk.new ≡ D.told disk.old }
-    ensures cause { HasDiskCause (D.failed disk.old) (D.failed disk.new) result }
-{
-    annals.begin(entry);
-    let dir = match disk.publish(alloc, sealed.into_stage(), name) {
-        Ok(dir) => dir,
-        Err(error) => return Err(error),
-    };
-    match settle(disk, annals) {
-        Ok(()) => Ok(dir),
-        Err(error) => Err(error),
     }
 }
 

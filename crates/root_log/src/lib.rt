@@ -10,7 +10,8 @@ mod names;
 mod opening;
 mod store;
 
-pub use commits::{Limit, Refused, Returned, commit_create, commit_part};
+pub use commits::{Returned, commit_create, commit_part};
+pub use durable_commit::{Limit, Refused};
 pub use entries::{open_entry, read_schema};
 pub use laws::{
     crashes_leave_what_was_noted, damage_of_a_root_is_one, roots_stand_by_their_stores,

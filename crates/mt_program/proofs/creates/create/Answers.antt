@@ -6,7 +6,8 @@ use Rattle.mt_model.specs.Reply.{create_turn}
 use Rattle.mt_model.proofs.Causes.{text_is_cause, undamaged_line}
 use Rattle.mt_model.proofs.Tables.{schema_is}
 use Rattle.mt_model.specs.Refusals.{is_damage, refusal_line}
-use Rattle.root_log.specs.Commits.{IsCause, Notes, refuses_create}
+use Rattle.durable_commit.specs.Commits.{Notes}
+use Rattle.root_log.specs.Commits.{IsCause, refuses_create}
 use Rattle.root_log.specs.Entries.{EntryHolds}
 use Rattle.root_log.specs.Soundness.{RootStands}
 use Rattle.root_log.specs.Stores.{CoreStands}

@@ -5,7 +5,8 @@ use Rattle.mt_values.specs.declared.command.Entry.{Entry}
 use Rattle.mt_values.specs.Annals.{Told, began, noted}
 use Rattle.mt_values.specs.RootNames.{create_name}
 use Rattle.mt_outside.specs.Disk.{MayPut, files_at, names_of, put}
-use Rattle.root_log.specs.Commits.{SameList, fresh_table, refuses_create}
+use Rattle.durable_commit.specs.Commits.{SameList}
+use Rattle.root_log.specs.Commits.{fresh_table, refuses_create}
 use Rattle.root_log.specs.Crashes.{entries_of}
 use Rattle.root_log.specs.Soundness.{NamesFit}
 use Rattle.root_log.specs.Stores.{table_at}
@@ -15,10 +16,11 @@ use Rattle.root_log.proofs.CrashTurns.{kept_committed, kept_failed, kept_untouch
 use Rattle.root_log.proofs.Entering.{stands_created}
 use Rattle.root_log.proofs.FreeNames.{entry_free, made_fits}
 use Rattle.root_log.proofs.Holding.{held_made, held_same}
-use Rattle.root_log.proofs.Leaving.{cause_shown, disk_fault, disk_memory, none_shown, outside_disk, same_tables, shown_absent, shown_calm, shown_few, shown_other, taken_out}
+use Rattle.durable_commit.proofs.WhyRefused.{disk_fault, disk_memory, outside_disk}
+use Rattle.root_log.proofs.Leaving.{cause_shown, none_shown, same_tables, shown_absent, shown_calm, shown_few, shown_other, taken_out}
 use Rattle.root_log.proofs.Rooted.{root_made}
 use Rattle.root_log.proofs.Sounding.{names_kept, sound_made, sound_same}
-use Rattle.root_log.proofs.SameLists.{no_disk, not_none, same_list}
+use Rattle.durable_commit.proofs.SameLists.{no_disk, not_none, same_list}
 use Rattle.root_log.proofs.commits.commit_create.Goals as goal
 
 pub commit-requires-clause-free : goal.commit-requires-clause-free

@@ -9,11 +9,12 @@ use Rattle.part_reader.specs.declared.reading.Part.{Part}
 use Rattle.part_set.specs.declared.kept.Kept.{Kept}
 use Rattle.part_set.specs.Parts.{IsAdded, NoneMeets}
 use Rattle.part_set.specs.Sets.{parts_of}
-use Rattle.root_log.specs.declared.commits.Refused.{Refused}
-use Rattle.root_log.specs.declared.commits.Refused.TheVariants as refused
+use Rattle.durable_commit.specs.declared.causes.Refused.{Refused}
+use Rattle.durable_commit.specs.declared.causes.Refused.TheVariants as refused
 use Rattle.root_log.specs.declared.store.CoreStore.{CoreStore}
 use Rattle.root_log.specs.declared.store.Table.{Table}
-use Rattle.root_log.specs.Commits.{EntersSealed, IsCause, IsSealedOf, SameList, entry_of, fresh_part, insert_of_block, refuses_part}
+use Rattle.durable_commit.specs.Commits.{SameList, entry_of}
+use Rattle.root_log.specs.Commits.{EntersSealed, IsCause, IsSealedOf, fresh_part, insert_of_block, refuses_part}
 use Rattle.root_log.specs.Crashes.{entries_of}
 use Rattle.root_log.specs.Soundness.{NamesFit}
 use Rattle.root_log.specs.Stores.{table_at}
@@ -24,11 +25,12 @@ use Rattle.root_log.proofs.CrashTurns.{kept_committed, kept_failed, kept_untouch
 use Rattle.root_log.proofs.FreeNames.{added_fits, fresh_named, part_free}
 use Rattle.root_log.proofs.Holding.{held_added, held_same}
 use Rattle.root_log.proofs.Inserted.{stands_inserted}
-use Rattle.root_log.proofs.Leaving.{cause_shown, disk_fault, disk_memory, none_shown, outside_disk, shown_number, shown_part_calm, shown_part_other}
+use Rattle.durable_commit.proofs.WhyRefused.{disk_fault, disk_memory, outside_disk}
+use Rattle.root_log.proofs.Leaving.{cause_shown, none_shown, shown_number, shown_part_calm, shown_part_other}
 use Rattle.root_log.proofs.Rooted.{root_added}
 use Rattle.root_log.proofs.Sounding.{names_kept, sound_added, sound_same}
 use Rattle.root_log.proofs.Updated.{one_some}
-use Rattle.root_log.proofs.SameLists.{no_disk, not_none, same_list}
+use Rattle.durable_commit.proofs.SameLists.{no_disk, not_none, same_list}
 use Rattle.root_log.proofs.commits.commit_part.Goals as goal
 
 pub commit-requires-clause-free : goal.commit-requires-clause-free

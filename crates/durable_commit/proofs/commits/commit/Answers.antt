@@ -1,8 +1,8 @@
 use Rattle.std.proofs.Common.{◌∙◌, Err, ap, subst}
 use Rattle.mt_outside.specs.Disk.{MayPut}
-use Rattle.root_log.proofs.Leaving.{left_by}
-use Rattle.root_log.proofs.SameLists.{begun_noted, begun_same}
-use Rattle.root_log.proofs.commits.commit.Goals as goal
+use Rattle.durable_commit.proofs.WhyRefused.{left_by}
+use Rattle.durable_commit.proofs.SameLists.{begun_noted, begun_same}
+use Rattle.durable_commit.proofs.commits.commit.Goals as goal
 
 -- it was not published
 pub returns-in-Err-clause-left : goal.returns-in-Err-clause-left

@@ -3,8 +3,8 @@ use Rattle.std.proofs.Common.{◌≡◌, ◌∙◌, ℕ, Option, Some, None, tru
 use Rattle.mt_values.specs.declared.command.Entry.{Entry}
 use Rattle.mt_values.specs.Annals.{Told, began, noted}
 use Rattle.std.specs.Option.{ForSome, IsSome, option_map}
-use Rattle.root_log.specs.Commits.{Notes, SameList}
-use Rattle.root_log.specs.declared.commits.Refused.TheVariants as refused
+use Rattle.durable_commit.specs.Commits.{Notes, SameList}
+use Rattle.durable_commit.specs.declared.causes.Refused.TheVariants as refused
 
 -- what is told is the same, and so is its list
 pub same_list : (old new : Option Told) → new ≡ old → SameList old new

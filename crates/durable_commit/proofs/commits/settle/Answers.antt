@@ -1,7 +1,7 @@
 use Rattle.std.proofs.Common.{ap, refl}
 use Rattle.std.specs.Option.{option_map}
 use Rattle.mt_values.specs.Annals.{noted}
-use Rattle.root_log.proofs.commits.settle.Goals as goal
+use Rattle.durable_commit.proofs.commits.settle.Goals as goal
 
 pub returns-in-Ok-clause-annals : goal.returns-in-Ok-clause-annals
 returns-in-Ok-clause-annals g c = cc (ap (λ m. option_map (noted m) (g.A.Annals.told c.args.annals.now)) c.mark.ensures)

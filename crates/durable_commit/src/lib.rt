@@ -1,0 +1,8 @@
+//! A command given to the disk and to the keeper: published, settled and noted, and why it was not.
+#![tactic(auto)]
+
+mod causes;
+mod commits;
+
+pub use causes::{Limit, Refused, refuse_stopped};
+pub use commits::commit;
