@@ -1,8 +1,14 @@
 // Why a command was not committed.
 ghost use Rattle.std.specs.Prelude.{◌≡◌};
+ghost use Rattle.std.specs.BTreeMap.{is_at};
+ghost use Rattle.std.specs.Cmp.Lexicographic.{slice_cmp};
+ghost use Rattle.std.specs.Map.{remove_entry};
+ghost use Rattle.std.specs.Ordering.{nat_cmp};
 ghost use Rattle.durable_commit.specs.Commits.{refused_by_disk, stopped_by};
 
 use mt_outside::DiskError;
+use mt_values::Name;
+use std::collections::BTreeMap;
 
 /// Which room is full.
 #[derive(Clone, Copy)]
@@ -47,4 +53,13 @@ pub fn refuse_stopped(opened: u64, now: u64) -> Option<Refused>
     ensures { result ≡ stopped_by opened now }
 {
     (opened < now).then_some(Refused::Stopped { opened, now })
+}
+
+/// A CREATE was not committed: its table is taken out again.
+pub fn take_out<T: Drop>(tables: &mut BTreeMap<Name, T>, table: &Name, error: DiskError) -> Refused
+    ensures cause { result ≡ refused_by_disk error }
+    ensures entries { tables.new.entries ≡ remove_entry (is_at (slice_cmp nat_cmp table.now)) tables.old.entries }
+{
+    tables.remove(table);
+    Refused::of_disk(error)
 }

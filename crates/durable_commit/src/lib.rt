@@ -4,5 +4,5 @@
 mod causes;
 mod commits;
 
-pub use causes::{Limit, Refused, refuse_stopped};
+pub use causes::{Limit, Refused, refuse_stopped, take_out};
 pub use commits::commit;

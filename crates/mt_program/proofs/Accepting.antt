@@ -15,10 +15,10 @@ use Rattle.mt_model.specs.History.{History}
 use Rattle.mt_model.specs.Outside.{Counts}
 use Rattle.mt_model.specs.Session.{Takes, AddsNothing, Adds}
 use Rattle.mt_model.proofs.Growing.{stays, adds_last}
-use Rattle.root_log.specs.declared.store.CoreStore.{CoreStore}
+use Rattle.root_store.specs.declared.store.CoreStore.{CoreStore}
 use Rattle.durable_commit.specs.Commits.{Notes, SameList}
-use Rattle.root_log.specs.Soundness.{RootStands}
-use Rattle.root_log.specs.Stores.{CoreStands}
+use Rattle.root_store.specs.Soundness.{RootStands}
+use Rattle.root_store.specs.Stores.{CoreStands}
 use Rattle.mt_base.specs.declared.memory.NoMemory.{NoMemory}
 use Rattle.mt_program.specs.Answers.{history, Accepts, Answers, Foresees, is_unsettled}
 

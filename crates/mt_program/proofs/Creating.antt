@@ -19,11 +19,11 @@ use Rattle.mt_model.specs.History.{History, schema_of, creates}
 use Rattle.mt_model.specs.Reply.{schema_of_text, create_turn, ok_line}
 use Rattle.mt_model.specs.Written.{IsCreateText}
 use Rattle.mt_model.proofs.Tables.{itself_same}
-use Rattle.root_log.specs.declared.store.CoreStore.{CoreStore}
+use Rattle.root_store.specs.declared.store.CoreStore.{CoreStore}
 use Rattle.durable_commit.specs.Commits.{Notes}
-use Rattle.root_log.specs.Entries.{EntryHolds, schema_by_items, schema_of_entry}
-use Rattle.root_log.specs.Soundness.{RootStands}
-use Rattle.root_log.specs.Stores.{CoreStands}
+use Rattle.root_store.specs.Entries.{EntryHolds, schema_by_items, schema_of_entry}
+use Rattle.root_store.specs.Soundness.{RootStands}
+use Rattle.root_store.specs.Stores.{CoreStands}
 use Rattle.mt_program.specs.Answers.{history, Accepts}
 use Rattle.mt_program.specs.Commits.{entry_files}
 use Rattle.mt_program.proofs.Accepting.{entry_of, accepts_command, length_history}

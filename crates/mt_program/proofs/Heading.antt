@@ -30,13 +30,13 @@ use Rattle.mt_program.specs.Endings.{IsAnswered, IsEarly, LeftBy, MetNoDamage, s
 use Rattle.mt_program.specs.Headline.{CutByMemory, CutBySink, Leaves, WholeRunWith, ReadRun, RunWithFaults, NothingRan, RunBy}
 use Rattle.exit_status.specs.Statuses.{number_of}
 use Rattle.mt_program.specs.Serving.{Item, Ran, ServedAll, ServedFront, ServedCut}
-use Rattle.root_log.specs.declared.opening.Damage.{Damage}
-use Rattle.root_log.specs.declared.opening.OpenFault.{OpenFault}
-use Rattle.root_log.specs.declared.opening.OpenFault.TheVariants as fault
-use Rattle.root_log.proofs.OneDamage.{one_damage}
-use Rattle.root_log.specs.Opening.{IsNotDamaged, IsRootDamage, TellsDamage}
-use Rattle.root_log.specs.Roots.{Stands}
-use Rattle.root_log.specs.Soundness.{RootStands}
+use Rattle.root_opening.specs.declared.opening.Damage.{Damage}
+use Rattle.root_opening.specs.declared.opening.OpenFault.{OpenFault}
+use Rattle.root_opening.specs.declared.opening.OpenFault.TheVariants as fault
+use Rattle.root_opening.proofs.OneDamage.{one_damage}
+use Rattle.root_opening.specs.Opening.{IsNotDamaged, IsRootDamage, TellsDamage}
+use Rattle.root_store.specs.Roots.{Stands}
+use Rattle.root_store.specs.Soundness.{RootStands}
 use Rattle.mt_program.specs.Damage.{WritesDamage, WritesFault, damage_line}
 use Rattle.mt_program.proofs.Accepting.{added_nothing, length_history}
 

@@ -18,11 +18,11 @@ use Rattle.mt_model.specs.Outside.{Counts}
 use Rattle.mt_model.specs.Refusals.{refusal_of_data}
 use Rattle.mt_model.specs.Reply.{rows_of_insert, rows_for, rows_or_refused, insert_turn, ok_line}
 use Rattle.mt_model.specs.Session.{Adds, Takes}
-use Rattle.root_log.specs.declared.store.CoreStore.{CoreStore}
+use Rattle.root_store.specs.declared.store.CoreStore.{CoreStore}
 use Rattle.durable_commit.specs.Commits.{Notes}
 use Rattle.root_log.specs.Commits.{insert_of_block}
-use Rattle.root_log.specs.Soundness.{RootStands}
-use Rattle.root_log.specs.Stores.{CoreStands}
+use Rattle.root_store.specs.Soundness.{RootStands}
+use Rattle.root_store.specs.Stores.{CoreStands}
 use Rattle.mt_program.specs.Answers.{history, Accepts}
 use Rattle.mt_program.proofs.Accepting.{entry_of, accepts_command, added_nothing, length_history, whole_front}
 

@@ -5,9 +5,9 @@ use Rattle.std.specs.Map.{keys_of}
 use Rattle.mt_outside.specs.Disk.{Told, names_of}
 use Rattle.mt_outside.specs.Files.{Files}
 use Rattle.mt_model.specs.History.{History}
-use Rattle.root_log.specs.declared.store.CoreStore.{CoreStore}
-use Rattle.root_log.specs.Soundness.{IsNameUnder, IsSound, NamesFit}
-use Rattle.root_log.specs.Stores.{CoreStands}
+use Rattle.root_store.specs.declared.store.CoreStore.{CoreStore}
+use Rattle.root_store.specs.Soundness.{IsNameUnder, IsSound, NamesFit}
+use Rattle.root_store.specs.Stores.{CoreStands}
 
 abbrev pub reopened : {F : Type 0} → CoreStore F → ℕ → CoreStore F
 reopened store opened = record { tables = store.tables; set = store.set; length = store.length; opened = opened }

@@ -43,8 +43,8 @@ use Rattle.part_reader.specs.declared.reading.Part.{Part}
 use Rattle.part_reader.specs.Parts.{PartHolds, with_columns}
 use Rattle.part_set.specs.declared.kept.Kept.{Kept}
 use Rattle.mt_base.specs.declared.memory.NoMemory.{NoMemory}
-use Rattle.root_log.specs.declared.store.CoreStore.{CoreStore}
-use Rattle.root_log.specs.Stores.{CoreStands}
+use Rattle.root_store.specs.declared.store.CoreStore.{CoreStore}
+use Rattle.root_store.specs.Stores.{CoreStands}
 use Rattle.mt_program.specs.Answers.{Answers, history}
 use Rattle.mt_program.specs.Selects.{ArePlacesOf, PartsHold, Printed, joined, rows_kept, values_at}
 use Rattle.mt_program.specs.Selects.{Selected as Chosen}

@@ -17,10 +17,10 @@ use Rattle.mt_model.specs.Written.{IsWritten}
 use Rattle.mt_model.proofs.Keys.{statements_are}
 use Rattle.mt_model.proofs.Replies.{replies_more, replies_append}
 use Rattle.mt_program.specs.declared.serving.Tally.{Tally}
-use Rattle.root_log.specs.declared.store.CoreStore.{CoreStore}
+use Rattle.root_store.specs.declared.store.CoreStore.{CoreStore}
 use Rattle.durable_commit.specs.Commits.{SameList}
-use Rattle.root_log.specs.Soundness.{RootStands}
-use Rattle.root_log.specs.Stores.{CoreStands}
+use Rattle.root_store.specs.Soundness.{RootStands}
+use Rattle.root_store.specs.Stores.{CoreStands}
 use Rattle.mt_program.specs.Answers.{history, Accepts, is_unsettled}
 use Rattle.mt_program.specs.Serving.{AreSettled, Item, Ran, Served, ServedAll, ServedFront, ServedCut, Tells, tallied}
 use Rattle.mt_program.specs.Streams.{AppendsFront}

@@ -15,9 +15,9 @@ use Rattle.part_history.specs.Numbers.{numbered}
 use Rattle.part_history.specs.Parts.{rows_of_parts}
 use Rattle.part_history.proofs.Counted.{parts_at_most}
 use Rattle.part_history.proofs.Joined.{parts_joined}
-use Rattle.root_log.specs.declared.store.CoreStore.{CoreStore}
-use Rattle.root_log.specs.declared.store.Table.{Table}
-use Rattle.root_log.specs.Stores.{CoreStands, core_parts, table_at}
+use Rattle.root_store.specs.declared.store.CoreStore.{CoreStore}
+use Rattle.root_store.specs.declared.store.Table.{Table}
+use Rattle.root_store.specs.Stores.{CoreStands, core_parts, table_at}
 use Rattle.mt_program.specs.Selects.{PartsHold, joined}
 
 -- as many INSERTs into a table were accepted as its commands drew numbers

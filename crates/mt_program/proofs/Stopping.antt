@@ -27,11 +27,11 @@ use Rattle.part_history.specs.Numbers.{same_partition}
 use Rattle.durable_commit.specs.declared.causes.Limit.TheVariants as limit
 use Rattle.durable_commit.specs.declared.causes.Refused.{Refused}
 use Rattle.durable_commit.specs.declared.causes.Refused.TheVariants as refused
-use Rattle.root_log.specs.declared.store.CoreStore.{CoreStore}
-use Rattle.root_log.specs.declared.store.Table.{Table}
+use Rattle.root_store.specs.declared.store.CoreStore.{CoreStore}
+use Rattle.root_store.specs.declared.store.Table.{Table}
 use Rattle.root_log.specs.Commits.{IsCause, refuses_create, refuses_part, whole_parts}
-use Rattle.root_log.specs.Soundness.{RootStands}
-use Rattle.root_log.specs.Stores.{CoreStands, table_at}
+use Rattle.root_store.specs.Soundness.{RootStands}
+use Rattle.root_store.specs.Stores.{CoreStands, table_at}
 use Rattle.mt_program.specs.Answers.{Foresees, history, is_unsettled}
 use Rattle.mt_program.specs.Stops.{IsLineOf, IsLineOfStage}
 use Rattle.mt_program.proofs.Counting.{commit_failed, stage_failed, was_stopped}

@@ -21,10 +21,10 @@ use Rattle.part_set.specs.declared.kept.Kept.{Kept}
 use Rattle.durable_commit.specs.declared.causes.Limit.TheVariants as limit
 use Rattle.durable_commit.specs.declared.causes.Refused.{Refused}
 use Rattle.durable_commit.specs.declared.causes.Refused.TheVariants as refused
-use Rattle.root_log.specs.declared.opening.OpenFault.{OpenFault}
-use Rattle.root_log.specs.declared.opening.OpenFault.TheVariants as opening
-use Rattle.root_log.specs.Opening.{IsNotDamaged, TellsDamage}
-use Rattle.root_log.specs.Soundness.{HoldsRows}
+use Rattle.root_opening.specs.declared.opening.OpenFault.{OpenFault}
+use Rattle.root_opening.specs.declared.opening.OpenFault.TheVariants as opening
+use Rattle.root_opening.specs.Opening.{IsNotDamaged, TellsDamage}
+use Rattle.root_store.specs.Soundness.{HoldsRows}
 use Rattle.mt_program.specs.Damage.{IsDamagedRoot}
 use Rattle.mt_program.specs.Endings.{MetNoDamage, status_of}
 use Rattle.mt_values.specs.declared.manifest.FileMark.{FileMark}
@@ -38,9 +38,9 @@ use Rattle.part_name.specs.declared.part.PartName.{PartName}
 use Rattle.part_name.specs.PartNames.{part_text}
 use Rattle.part_reader.specs.declared.reading.PartFault.TheVariants as fault
 use Rattle.part_set.specs.Sets.{parts_of}
-use Rattle.root_log.specs.declared.store.CoreStore.{CoreStore}
-use Rattle.root_log.specs.declared.store.Table.{Table}
-use Rattle.root_log.specs.Stores.{table_at}
+use Rattle.root_store.specs.declared.store.CoreStore.{CoreStore}
+use Rattle.root_store.specs.declared.store.Table.{Table}
+use Rattle.root_store.specs.Stores.{table_at}
 use Rattle.mt_program.specs.Names.{file_name}
 use Rattle.mt_program.specs.Selects.{ExplainsParts, PartsHold, TellsOfDamage}
 use Rattle.mt_program.specs.Serving.{tallied}

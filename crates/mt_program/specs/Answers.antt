@@ -11,10 +11,10 @@ use Rattle.mt_model.specs.History.{History}
 use Rattle.mt_model.specs.Outside.{Counts, HasRisen}
 use Rattle.mt_model.specs.Refusals.{code_of}
 use Rattle.mt_model.specs.Session.{Takes}
-use Rattle.root_log.specs.declared.store.CoreStore.{CoreStore}
+use Rattle.root_store.specs.declared.store.CoreStore.{CoreStore}
 use Rattle.durable_commit.specs.Commits.{SameList}
-use Rattle.root_log.specs.Soundness.{RootStands}
-use Rattle.root_log.specs.Stores.{CoreStands}
+use Rattle.root_store.specs.Soundness.{RootStands}
+use Rattle.root_store.specs.Stores.{CoreStands}
 use Rattle.mt_base.specs.declared.memory.NoMemory.{NoMemory}
 
 -- the entries that a keeper tells

@@ -3,7 +3,7 @@ use Rattle.std.specs.Prelude.{◌≡◌, ℕ, List, Option, Some}
 use Rattle.mt_values.specs.Annals.{Told}
 use Rattle.mt_values.specs.Script.{statements_of}
 use Rattle.mt_outside.specs.Disk as root
-use Rattle.root_log.specs.Crashes.{AreCalm, AreCrashSafe}
+use Rattle.root_store.specs.Crashes.{AreCalm, AreCrashSafe}
 use Rattle.mt_program.specs.Serving.{Item}
 
 -- Whatever a crash leaves holds each entry from the moment on when it was noted. Where the disk's count of faults is the one at opening,

@@ -4,11 +4,11 @@ use Rattle.std.specs.Io.KnownBytes.{Appends}
 use Rattle.mt_values.specs.Printing.{escaped}
 use Rattle.mt_outside.specs.Causes.{Rose}
 use Rattle.mt_outside.specs.Disk.{Names}
-use Rattle.root_log.specs.declared.opening.Damage.{Damage}
-use Rattle.root_log.specs.declared.opening.Damage.TheVariants as damage
-use Rattle.root_log.specs.declared.opening.OpenFault.{OpenFault}
-use Rattle.root_log.specs.declared.opening.OpenFault.TheVariants as fault
-use Rattle.root_log.specs.Opening.{IsRootDamage}
+use Rattle.root_opening.specs.declared.opening.Damage.{Damage}
+use Rattle.root_opening.specs.declared.opening.Damage.TheVariants as damage
+use Rattle.root_opening.specs.declared.opening.OpenFault.{OpenFault}
+use Rattle.root_opening.specs.declared.opening.OpenFault.TheVariants as fault
+use Rattle.root_opening.specs.Opening.{IsRootDamage}
 use Rattle.mt_program.specs.Names.{file_name}
 use Rattle.mt_program.specs.Streams.{AppendsFront}
 use Rattle.exit_status.specs.declared.status.Status.{Status}

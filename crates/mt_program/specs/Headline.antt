@@ -11,8 +11,8 @@ use Rattle.mt_model.specs.Outside.{Counts}
 use Rattle.mt_model.specs.Session.{SessionReplies}
 use Rattle.exit_status.specs.Statuses.{number_of}
 use Rattle.mt_model.specs.Script.{ScriptRun, ScriptReplies, CutRun, CutInReply, FrontRun}
-use Rattle.root_log.specs.Roots.{Stands}
-use Rattle.root_log.specs.Soundness.{RootStands}
+use Rattle.root_store.specs.Roots.{Stands}
+use Rattle.root_store.specs.Soundness.{RootStands}
 use Rattle.mt_program.specs.Answers.{history}
 use Rattle.mt_program.specs.Damage.{WritesDamage}
 use Rattle.mt_program.specs.Serving.{AreSettled, Item, Tells}

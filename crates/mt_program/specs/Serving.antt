@@ -14,9 +14,9 @@ use Rattle.mt_model.specs.Outside.{Counts}
 use Rattle.mt_model.specs.Refusals.{is_refusal, is_damage}
 use Rattle.mt_model.specs.Session.{SessionReplies}
 use Rattle.mt_model.specs.Script.{IsFront}
-use Rattle.root_log.specs.declared.store.CoreStore.{CoreStore}
-use Rattle.root_log.specs.Soundness.{RootStands}
-use Rattle.root_log.specs.Stores.{CoreStands}
+use Rattle.root_store.specs.declared.store.CoreStore.{CoreStore}
+use Rattle.root_store.specs.Soundness.{RootStands}
+use Rattle.root_store.specs.Stores.{CoreStands}
 use Rattle.mt_program.specs.Answers.{Foresees, history, is_unsettled}
 use Rattle.mt_program.specs.declared.serving.Ending.{Ending}
 use Rattle.mt_program.specs.declared.serving.Ending.TheVariants as ending

@@ -6,9 +6,9 @@ ghost use Rattle.mt_values.specs.declared.statement.Statement.TheVariants as sta
 ghost use Rattle.mt_values.specs.Annals.{Told};
 ghost use Rattle.mt_model.specs.Refusals.{is_damage};
 ghost use Rattle.mt_model.specs.Written.{IsCreateText};
-ghost use Rattle.root_log.specs.Crashes.{KeepsThroughCrashes};
-ghost use Rattle.root_log.specs.Soundness.{HasSoundParts, IsSound, NamesFitUnlessRisen};
-ghost use Rattle.root_log.specs.Stores.{CoreStands};
+ghost use Rattle.root_store.specs.Crashes.{KeepsThroughCrashes};
+ghost use Rattle.root_store.specs.Soundness.{HasSoundParts, IsSound, NamesFitUnlessRisen};
+ghost use Rattle.root_store.specs.Stores.{CoreStands};
 ghost use Rattle.mt_program.specs.Answers.{Answers, history};
 
 use crate::commits::{give_back, replies_behind, seal_entry};

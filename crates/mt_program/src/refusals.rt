@@ -9,7 +9,7 @@ ghost use Rattle.mt_program.specs.Names.{file_name};
 use mt_base::{NoMemory, Seq, Twin, joined};
 use mt_model::{Refusal, refusal_line};
 use mt_values::{FileId, Name};
-use root_log::Damage;
+use root_opening::Damage;
 use std::alloc::Global;
 use tsv_rows::write_text;
 

@@ -18,8 +18,8 @@ use Rattle.part_set.proofs.Items.{item_first, item_none}
 use Rattle.part_set.proofs.NameTexts.{root_names_same}
 use Rattle.part_set.proofs.Orphans.{item_more}
 use Rattle.stage_dir.proofs.Lookups.{other_kept, published_at}
-use Rattle.root_log.specs.Roots.{AreRead, HasFolder}
-use Rattle.root_log.proofs.Items.{item_either}
+use Rattle.root_store.specs.Roots.{AreRead, HasFolder}
+use Rattle.root_store.proofs.Items.{item_either}
 
 -- names with one more
 abbrev pub with_name : Names → List ℕ → Files → Names

@@ -12,11 +12,11 @@ use Rattle.part_reader.specs.declared.reading.Part.{Part}
 use Rattle.part_set.specs.declared.kept.Kept.{Kept}
 use Rattle.part_set.specs.Parts.{IsAdded, IsInBlockOrder, NoneMeets, StandsClear, partition_rank}
 use Rattle.part_set.specs.Sets.{parts_of}
-use Rattle.root_log.specs.declared.store.CoreStore.{CoreStore}
-use Rattle.root_log.specs.declared.store.Table.{Table}
+use Rattle.root_store.specs.declared.store.CoreStore.{CoreStore}
+use Rattle.root_store.specs.declared.store.Table.{Table}
 use Rattle.root_log.specs.Commits.{EntersPart, fresh_part}
-use Rattle.root_log.specs.Soundness.{IsSound, IsSoundTable}
-use Rattle.root_log.specs.Stores.{table_at}
+use Rattle.root_store.specs.Soundness.{IsSound, IsSoundTable}
+use Rattle.root_store.specs.Stores.{table_at}
 
 -- a part more of a table, somewhere among its others, with its number drawn, and one more command
 pub record PartIsAdded {F : Type 0} (table : List ℕ) (part : Part F) (t : Table) (old new : CoreStore F) : Type 0 where

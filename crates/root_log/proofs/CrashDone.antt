@@ -7,8 +7,8 @@ use Rattle.mt_values.specs.declared.statement.Statement.{Statement}
 use Rattle.mt_values.specs.Annals as keeper
 use Rattle.mt_outside.specs.Disk.{Told}
 use Rattle.mt_outside.specs.Files.{Files}
-use Rattle.root_log.specs.declared.store.CoreStore.{CoreStore}
-use Rattle.root_log.specs.Crashes.{AreCommandsOf, AreCrashSafe, IsCommandBehind, IsCommandOf, KeepsThroughCrashes}
+use Rattle.root_store.specs.declared.store.CoreStore.{CoreStore}
+use Rattle.root_store.specs.Crashes.{AreCommandsOf, AreCrashSafe, IsCommandBehind, IsCommandOf, KeepsThroughCrashes}
 
 -- no entries are commands of whatever statements
 pub no_commands : (statements : List (Result Statement Cause)) → AreCommandsOf statements []

@@ -1,14 +1,10 @@
--- The names that a crash may leave: their order, and which of them are free.
-use Rattle.std.proofs.Common.{◌≡◌, inl, inr, ℕ, ◌≤◌, List, [], ◌∷◌, Option, Some, None, length, map, refl, sym, ap, ◌∙◌, subst, arith}
-use Rattle.std.specs.Cmp.Lexicographic.{slice_cmp}
+-- Which names are free in a root that stands for a history.
+use Rattle.std.proofs.Common.{◌≡◌, ℕ, ◌≤◌, List, Option, Some, None, length, refl, sym, ap, ◌∙◌, subst, arith}
 use Rattle.std.specs.List.{Contains as HasItem}
-use Rattle.std.specs.List.Sorted.{IsStrictlySortedBy}
-use Rattle.std.specs.Ordering.{nat_cmp}
 use Rattle.std.proofs.lemmas.List.Elements.{All-contains}
 use Rattle.mt_values.specs.declared.schema.Schema.{Schema}
 use Rattle.mt_values.specs.RootNames.{create_name, part_name}
-use Rattle.mt_outside.specs.declared.disk.Stamped.{Stamped}
-use Rattle.mt_outside.specs.Disk.{Image, MayLead, Names, Survive, Told, at_clock, before_clock, changed, files_at, names_after}
+use Rattle.mt_outside.specs.Disk.{Names, files_at}
 use Rattle.mt_outside.specs.Files.{Files}
 use Rattle.mt_model.specs.History.{History, schema_of}
 use Rattle.part_name.specs.PartNames.{part_text}
@@ -17,32 +13,11 @@ use Rattle.part_set.specs.declared.root_name.RootName.TheVariants as root
 use Rattle.part_set.specs.RootNames.{IsRootName, root_text}
 use Rattle.part_history.specs.Numbers.{numbered}
 use Rattle.part_history.specs.Entered.{next_number}
-use Rattle.root_log.specs.ByteOrder.{AreInByteOrder}
 use Rattle.root_log.specs.Commits.{fresh_part}
-use Rattle.root_log.specs.Roots.{Stands}
+use Rattle.root_store.specs.Roots.{Stands}
 use Rattle.root_log.proofs.FreeNames.{entries_differ, entry_is_no_part, fresh_named, parts_differ}
 use Rattle.root_log.proofs.Growing.{parts_end_by}
-use Rattle.root_log.proofs.Readings.{name_read}
-use Rattle.root_log.proofs.Rising.{all_changes, one_change, rise_nothing}
-
--- ---- order
-
-pub same_names : (from to : Names) → Survive from to → map (λ (n : List ℕ × Files). n.0) from ≡ map (λ (n : List ℕ × Files). n.0) to
-same_names [] [] kept = refl
-same_names [] (n ∷ to) kept = absurd kept
-same_names (o ∷ from) [] kept = absurd kept
-same_names (o ∷ from) (n ∷ to) kept = λ i. kept.0 i ∷ same_names from to kept.2 i
-
-lead_rise : (from to : Names) (ss : List (Stamped Files)) → AreInByteOrder from → MayLead from ss to → AreInByteOrder to
-lead_rise from to [] rise kept = subst (IsStrictlySortedBy (slice_cmp nat_cmp)) (same_names from to kept) rise
-lead_rise from to (s ∷ ss) rise (inl leads) = lead_rise from to ss rise leads
-lead_rise from to (s ∷ ss) rise (inr leads) = lead_rise (changed from s.change) to ss (one_change from s.change rise) leads
-
--- what a crash may leave stands in byte order
-pub image_rise : (told : Told) (clock : ℕ) (names : Names) → Image told clock names → AreInByteOrder names
-image_rise told clock names image = lead_rise (names_after [] (before_clock clock told)) names (at_clock clock told) (all_changes [] (before_clock clock told) rise_nothing) image
-
--- ---- names that are free
+use Rattle.root_store.proofs.Readings.{name_read}
 
 module _ (names : Names) (h : History) (s : Stands names h) where
   some_or_none : (o : Option Files) → ((files : Files) → o ≡ Some files → ⊥) → o ≡ None

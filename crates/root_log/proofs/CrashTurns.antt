@@ -17,14 +17,15 @@ use Rattle.mt_outside.specs.Disk.{MayBecome, MayPut, Names, Told, put, with_chan
 use Rattle.mt_outside.specs.Files.{Files}
 use Rattle.durable_commit.specs.declared.causes.Refused.{Refused}
 use Rattle.durable_commit.specs.declared.causes.Refused.TheVariants as refused
-use Rattle.root_log.specs.declared.store.CoreStore.{CoreStore}
-use Rattle.root_log.specs.ByteOrder.{AreInByteOrder}
+use Rattle.root_store.specs.declared.store.CoreStore.{CoreStore}
+use Rattle.root_store.specs.ByteOrder.{AreInByteOrder}
 use Rattle.root_log.specs.Commits.{SameStore}
-use Rattle.root_log.specs.Crashes.{AreCrashSafe, AreCalm, IsCommandBehind, IsCommandOf, KeepsThroughCrashes, StandsForKept, entries_of}
-use Rattle.root_log.specs.Roots.{Stands}
-use Rattle.root_log.specs.Stores.{CoreStands}
+use Rattle.root_store.specs.Crashes.{AreCrashSafe, AreCalm, IsCommandBehind, IsCommandOf, KeepsThroughCrashes, StandsForKept, entries_of}
+use Rattle.root_store.specs.Roots.{Stands}
+use Rattle.root_store.specs.Stores.{CoreStands}
 use Rattle.root_log.proofs.CrashDone.{commands_more, commands_push, safe_more}
-use Rattle.root_log.proofs.CrashSafe.{safe_begun, safe_noted, safe_published}
+use Rattle.root_store.proofs.CrashMarks.{safe_begun}
+use Rattle.root_log.proofs.CrashSafe.{safe_noted, safe_published}
 use Rattle.root_log.proofs.SameStores.{stands_same}
 
 -- where the disk's count has not risen above the one at opening, a turn that failed left what was told

@@ -26,10 +26,11 @@ use Rattle.part_history.specs.Numbers.{IsInsertOf, draws, numbered}
 use Rattle.part_history.specs.Parts.{AreInBlockOrder, PartStands, TableStands}
 use Rattle.part_history.specs.Entered.{entered}
 use Rattle.part_history.proofs.Growing.{numbered_more, schema_kept, schema_more, table_kept}
-use Rattle.root_log.specs.declared.store.CoreStore.{CoreStore}
-use Rattle.root_log.specs.declared.store.Table.{Table}
-use Rattle.root_log.specs.Commits.{EntersTable, fresh_table}
-use Rattle.root_log.specs.Stores.{CoreStands, PartsAreThere, core_parts, table_at}
+use Rattle.root_store.specs.declared.store.CoreStore.{CoreStore}
+use Rattle.root_store.specs.declared.store.Table.{Table}
+use Rattle.root_store.specs.Stores.{fresh_table}
+use Rattle.root_log.specs.Commits.{EntersTable}
+use Rattle.root_store.specs.Stores.{CoreStands, PartsAreThere, core_parts, table_at}
 use Rattle.root_log.proofs.Updated.{it_or, one_some}
 
 pub first_none : (o : Option Schema) → first_of o None ≡ o

@@ -1,64 +1,32 @@
--- The parts of a store hold rows, from opening on and as commands enter it.
-use Rattle.std.proofs.Common.{◌≡◌, ◌≢◌, true, false, ◌+◌, ℕ, List, [], Option, Some, None, length, get_or, refl, sym, ap, ◌∙◌, subst, inl, inr}
+-- The parts of a store hold rows as commands enter it.
+use Rattle.std.proofs.Common.{◌≡◌, ◌≢◌, true, false, ◌+◌, ℕ, List, [], Option, Some, sym, ap, ◌∙◌, subst, inl, inr}
 use Rattle.std.specs.BTreeMap.{is_at}
 use Rattle.std.specs.Cmp.Lexicographic.{slice_cmp}
 use Rattle.std.specs.List.{All}
 use Rattle.std.specs.Map.{lookup}
 use Rattle.std.specs.Ordering.{nat_cmp}
 use Rattle.std.proofs.lemmas.Bool.{false≢true}
-use Rattle.std.proofs.lemmas.List.Elements.{All-nil, All-push, Contains-get_or}
-use Rattle.std.proofs.lemmas.Option.{slice_get_read}
+use Rattle.std.proofs.lemmas.List.Elements.{All-nil, All-push}
 use Rattle.mt_values.specs.declared.manifest.Loaded.{Loaded}
-use Rattle.mt_values.specs.declared.name.FileId.{FileId}
-use Rattle.mt_values.specs.declared.name.FileId.TheVariants as file
 use Rattle.mt_values.specs.declared.schema.Schema.{Schema}
 use Rattle.mt_values.specs.Grammar.{same_bytes}
 use Rattle.mt_values.specs.Grid.{Grid}
-use Rattle.mt_outside.specs.Disk.{Names}
-use Rattle.mt_outside.specs.Files.{Files, bytes_of}
-use Rattle.digest_file.specs.Spellings.{IsManifestOf}
+use Rattle.mt_outside.specs.Files.{Files}
 use Rattle.mt_model.proofs.Tables.{itself_same}
 use Rattle.part_reader.specs.declared.reading.Part.{Part}
-use Rattle.part_reader.specs.DamagedFile.{damaged_file}
-use Rattle.part_reader.proofs.Deciding.{file_told}
-use Rattle.part_reader.proofs.SoundRows.{undamaged_rows}
 use Rattle.part_set.specs.declared.kept.Kept.{Kept}
-use Rattle.part_set.specs.declared.root_name.RootName.TheVariants as root
 use Rattle.part_set.specs.declared.set.PartSet.{PartSet}
 use Rattle.part_set.specs.Sets.{parts_of}
-use Rattle.root_log.specs.declared.store.CoreStore.{CoreStore}
-use Rattle.root_log.specs.declared.store.Table.{Table}
-use Rattle.root_log.specs.Commits.{EntersSealed, EntersTable, IsSealedOf, SameStore, fresh_part, fresh_table, part_rows}
-use Rattle.root_log.specs.Damage.{DamagedAt}
-use Rattle.root_log.specs.Soundness.{HasSoundParts, HoldsRows, IsSound}
-use Rattle.root_log.specs.Stores.{StoreOf, table_at}
-use Rattle.root_log.proofs.Items.{map_item}
-use Rattle.root_log.proofs.Undamaged.{folder_part}
+use Rattle.root_store.specs.declared.store.CoreStore.{CoreStore}
+use Rattle.root_store.specs.declared.store.Table.{Table}
+use Rattle.root_store.specs.Stores.{fresh_table}
+use Rattle.root_log.specs.Commits.{EntersSealed, EntersTable, IsSealedOf, SameStore, fresh_part, part_rows}
+use Rattle.root_store.specs.Soundness.{HasSoundParts, HoldsRows, IsSound}
+use Rattle.root_store.specs.Stores.{table_at}
+use Rattle.root_store.proofs.Undamaged.{folder_part}
 use Rattle.root_log.proofs.Updated.{it_or, one_some}
 
 module _ {F : Type 0} (files_of : F → Option Files) where
-  -- a root of which no file is damaged was opened
-  pub held_opened : (names : Names) (store : CoreStore F) (o : StoreOf files_of names store) → IsSound store → ((place : ℕ) (f : FileId) → DamagedAt names o.read place f → ⊥) → HasSoundParts files_of store
-  held_opened names store o sound undamaged = λ table t at k d within.
-      let kept = o.kept table t at k d within in
-      let part = get_or (parts_of store.set table) k d in
-      let has = map_item (λ (x : Kept (Part F)). x.name) (parts_of store.set table) part (Contains-get_or (parts_of store.set table) k d within) in
-      let visible = (o.parts table part.name).1 has in
-      let here = visible.here in
-      let whole = (sound.tables table t at).whole k d within in
-      by table t part kept.files kept.told kept.manifest.of (λ f bad. undamaged here.0 f (
-        root.Part (record { table = table; name = part.name }),
-        kept.files,
-        slice_get_read o.read (length o.read) here.0 (root.Part (record { table = table; name = part.name })) refl here.1 (sym here.2),
-        kept.there,
-        (visible, (t.schema, (o.tables table t at).entry, inr (whole, bad))),
-      )) (damaged_file t.schema kept.files) refl
-    where
-      by : (table : List ℕ) (t : Table) (part : Kept (Part F)) (files : Files) → files_of part.part.dir ≡ Some files → IsManifestOf (bytes_of file.Manifest files) part.part.loaded.manifest → ((f : FileId) → damaged_file t.schema files ≡ Some f → ⊥) → (found : Option FileId) → damaged_file t.schema files ≡ found
-          → HoldsRows files_of t.schema part
-      by table t part files told manifest none None is = undamaged_rows files_of t.schema part.part files told manifest (file_told t.schema files None is)
-      by table t part files told manifest none (Some f) is = absurd (none f is)
-
   -- the same store
   pub held_same : (old new : CoreStore F) → SameStore old new → HasSoundParts files_of old → HasSoundParts files_of new
   held_same old new same held = λ table t at.

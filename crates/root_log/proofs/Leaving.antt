@@ -13,9 +13,9 @@ use Rattle.part_set.specs.Sets.{parts_of}
 use Rattle.durable_commit.specs.declared.causes.Limit.TheVariants as limit
 use Rattle.durable_commit.specs.declared.causes.Refused.{Refused}
 use Rattle.durable_commit.specs.declared.causes.Refused.TheVariants as refused
-use Rattle.root_log.specs.declared.store.CoreStore.{CoreStore}
+use Rattle.root_store.specs.declared.store.CoreStore.{CoreStore}
 use Rattle.root_log.specs.Commits.{IsCause, SameStore, refuses_create, refuses_part, whole_parts}
-use Rattle.root_log.specs.Stores.{table_at}
+use Rattle.root_store.specs.Stores.{table_at}
 
 -- a new entry that is taken out again
 put_and_removed : {K X : Type 0} (cmp : K → K → Ordering) → IsTotalOrder cmp → (es : List (K × X)) (k : K) (v : X) → lookup (is_at (cmp k)) es ≡ None → remove_entry (is_at (cmp k)) (insert_entry cmp es k v) ≡ es

@@ -16,16 +16,16 @@ use Rattle.mt_model.specs.History.{History, IsInsertInto, IsTableSchema, creates
 use Rattle.part_name.specs.PartNames.{part_text}
 use Rattle.part_set.specs.RootNames.{is_table}
 use Rattle.part_history.specs.Entered.{entered, next_number}
-use Rattle.root_log.specs.declared.store.CoreStore.{CoreStore}
-use Rattle.root_log.specs.declared.store.Table.{Table}
+use Rattle.root_store.specs.declared.store.CoreStore.{CoreStore}
+use Rattle.root_store.specs.declared.store.Table.{Table}
 use Rattle.root_log.specs.Commits.{IsSealedOf, fresh_part, insert_into, insert_of_block, part_rows}
-use Rattle.root_log.specs.Entries.{EntryHolds}
-use Rattle.root_log.specs.Roots.{FolderHolds, Stands}
-use Rattle.root_log.specs.Soundness.{NamesFit, RootStands}
-use Rattle.root_log.specs.Stores.{CoreStands, table_at}
+use Rattle.root_store.specs.Entries.{EntryHolds}
+use Rattle.root_store.specs.Roots.{FolderHolds, Stands}
+use Rattle.root_store.specs.Soundness.{NamesFit, RootStands}
+use Rattle.root_store.specs.Stores.{CoreStands, table_at}
 use Rattle.root_log.proofs.FreeNames.{entry_free, fresh_named, part_free, put_told}
 use Rattle.root_log.proofs.Growing.{stands_with_part, stands_with_table}
-use Rattle.root_log.proofs.Rising.{told_rise}
+use Rattle.root_store.proofs.Rising.{told_rise}
 use Rattle.root_log.proofs.Updated.{one_some}
 
 module _ {F : Type 0} (files_of : F → Option Files) (store : CoreStore F) (h : History) (session clock : ℕ) (before after : Option Told)

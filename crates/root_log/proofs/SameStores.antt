@@ -14,10 +14,10 @@ use Rattle.part_reader.specs.declared.reading.Part.{Part}
 use Rattle.part_reader.specs.Parts.{PartHolds}
 use Rattle.part_set.specs.declared.kept.Kept.{Kept}
 use Rattle.part_history.specs.Parts.{AreInBlockOrder, TableStands}
-use Rattle.root_log.specs.declared.store.CoreStore.{CoreStore}
-use Rattle.root_log.specs.declared.store.Table.{Table}
+use Rattle.root_store.specs.declared.store.CoreStore.{CoreStore}
+use Rattle.root_store.specs.declared.store.Table.{Table}
 use Rattle.root_log.specs.Commits.{SameStore}
-use Rattle.root_log.specs.Stores.{CoreStands, core_parts, table_at}
+use Rattle.root_store.specs.Stores.{CoreStands, core_parts, table_at}
 
 module _ {F : Type 0} (files_of : F → Option Files) where
   abbrev Hold : Schema → List (Kept (Part F)) → List (List Row) → Type 0

@@ -19,11 +19,12 @@ use Rattle.part_set.specs.declared.set.PartSet.{PartSet}
 use Rattle.part_set.specs.Sets.{parts_of}
 use Rattle.durable_commit.specs.declared.causes.Refused.{Refused}
 use Rattle.durable_commit.specs.declared.causes.Refused.TheVariants as refused
-use Rattle.root_log.specs.declared.store.CoreStore.{CoreStore}
-use Rattle.root_log.specs.declared.store.Table.{Table}
-use Rattle.root_log.specs.Commits.{EntersTable, SameStore, fresh_part, fresh_table}
-use Rattle.root_log.specs.Soundness.{IsNameUnder, IsSound, IsSoundTable, NamesFit, NamesFitUnlessRisen}
-use Rattle.root_log.specs.Stores.{table_at}
+use Rattle.root_store.specs.declared.store.CoreStore.{CoreStore}
+use Rattle.root_store.specs.declared.store.Table.{Table}
+use Rattle.root_store.specs.Stores.{fresh_table}
+use Rattle.root_log.specs.Commits.{EntersTable, SameStore, fresh_part}
+use Rattle.root_store.specs.Soundness.{IsNameUnder, IsSound, IsSoundTable, NamesFit, NamesFitUnlessRisen}
+use Rattle.root_store.specs.Stores.{table_at}
 use Rattle.root_log.proofs.Behind.{PartIsAdded}
 use Rattle.root_log.proofs.Updated.{it_or, no_some, one_some}
 

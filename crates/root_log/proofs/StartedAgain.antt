@@ -19,16 +19,16 @@ use Rattle.part_history.specs.declared.part.CorePart.{CorePart}
 use Rattle.part_history.specs.Numbers.{IsInsertOf, numbered}
 use Rattle.part_history.specs.Parts.{has_block, parts_of}
 use Rattle.part_history.proofs.Numbered.{all_whole, insert_at}
-use Rattle.root_log.specs.ByteOrder.{AreInByteOrder}
-use Rattle.root_log.specs.Crashes.{AllStand, IsCrashSafe, IsFirstOf, IsMarkBehind, entries_of}
-use Rattle.root_log.specs.Roots.{AreRead, Stands, named}
-use Rattle.root_log.proofs.Counted.{AreTables, as_long, sizes}
-use Rattle.root_log.proofs.CrashNames.{image_rise, same_names}
+use Rattle.root_store.specs.ByteOrder.{AreInByteOrder}
+use Rattle.root_store.specs.Crashes.{AllStand, IsCrashSafe, IsFirstOf, IsMarkBehind, entries_of}
+use Rattle.root_store.specs.Roots.{AreRead, Stands, named}
+use Rattle.root_store.proofs.Counted.{AreTables, as_long, sizes}
+use Rattle.root_store.proofs.CrashOrder.{image_rise, same_names}
 use Rattle.root_log.proofs.Growing.{parts_end_by}
-use Rattle.root_log.proofs.Items.{counted_one, map_item, unfiltered}
-use Rattle.root_log.proofs.Readings.{one_reading}
-use Rattle.root_log.proofs.Standing.{blocks}
-use Rattle.root_log.proofs.Tabled.{are_tables, tables_in}
+use Rattle.root_store.proofs.Items.{counted_one, map_item, unfiltered}
+use Rattle.root_store.proofs.Readings.{one_reading}
+use Rattle.root_store.proofs.Blocks.{blocks}
+use Rattle.root_store.proofs.Tabled.{are_tables, tables_in}
 
 -- ---- names tell how long the history is
 

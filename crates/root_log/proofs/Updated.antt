@@ -7,9 +7,9 @@ use Rattle.mt_values.specs.Grammar.{same_bytes}
 use Rattle.mt_model.proofs.Tables.{itself_same, same_is}
 use Rattle.part_set.proofs.Maps.{found_is, true_or_false}
 use Rattle.std.proofs.lemmas.Bool.{false_from_ne_true}
-use Rattle.root_log.specs.declared.store.CoreStore.{CoreStore}
-use Rattle.root_log.specs.declared.store.Table.{Table}
-use Rattle.root_log.specs.Stores.{table_at}
+use Rattle.root_store.specs.declared.store.CoreStore.{CoreStore}
+use Rattle.root_store.specs.declared.store.Table.{Table}
+use Rattle.root_store.specs.Stores.{table_at}
 
 pub no_some : {X : Type 0} (o : Option X) (x : X) → o ≡ None → o ≡ Some x → ⊥
 no_some o x none some = let both : None ≡ Some x = sym none ∙ some in cc

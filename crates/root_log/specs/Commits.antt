@@ -25,10 +25,10 @@ use Rattle.durable_commit.specs.declared.causes.Refused.{Refused}
 use Rattle.durable_commit.specs.declared.causes.Refused.TheVariants as refused
 use Rattle.durable_commit.specs.Commits.{IsOutside, stopped_by}
 use Rattle.root_log.specs.declared.commits.Returned.{Returned}
-use Rattle.root_log.specs.declared.store.CoreStore.{CoreStore}
-use Rattle.root_log.specs.declared.store.Table.{Table}
-use Rattle.root_log.specs.Roots.{FolderHolds}
-use Rattle.root_log.specs.Stores.{table_at}
+use Rattle.root_store.specs.declared.store.CoreStore.{CoreStore}
+use Rattle.root_store.specs.declared.store.Table.{Table}
+use Rattle.root_store.specs.Roots.{FolderHolds}
+use Rattle.root_store.specs.Stores.{fresh_table, table_at}
 
 -- why a command was not committed; none where it was
 abbrev pub cause_of : {T S : Type 0} → Result T (Returned S) → Option Refused
@@ -53,10 +53,6 @@ pub record SameStore {F : Type 0} (old new : CoreStore F) : Type 0 where
   pub parts : (table : List ℕ) → parts_of new.set table ≡ parts_of old.set table
   pub length_is : new.length ≡ old.length
   pub opened_is : new.opened ≡ old.opened
-
--- a table of which no command drew a number
-abbrev pub fresh_table : Schema → Table
-fresh_table schema = record { schema = schema; drawn = 0 }
 
 -- there is one more table, and one more command
 pub record EntersTable {F : Type 0} (table : List ℕ) (schema : Schema) (old new : CoreStore F) : Type 0 where

@@ -1,11 +1,1 @@
-pub mod ByteOrder
 pub mod Commits
-pub mod Crashes
-pub mod Damage
-pub mod Entries
-pub mod Keeping
-pub mod Names
-pub mod Opening
-pub mod Roots
-pub mod Soundness
-pub mod Stores

@@ -1,8 +1,7 @@
 // A command added to the disk, to what the keeper tells and to the store.
 ghost use Rattle.std.specs.Prelude.{◌≡◌, ◌≢◌, ◌+◌, ◌-◌, ◌<◌, ◌≤◌, ◌^◌, ◌∷◌, ◌++◌, [], ℕ, IsSome, IsTrue, List, Option, Some, None, IfErr, IfOk, IfSome, IsNone, OnErr, OnOk, length, Result};
-ghost use Rattle.std.specs.BTreeMap.{Updates, get, insert_entry, is_at};
+ghost use Rattle.std.specs.BTreeMap.{Updates, get, insert_entry};
 ghost use Rattle.std.specs.Cmp.Lexicographic.{slice_cmp};
-ghost use Rattle.std.specs.Map.{remove_entry};
 ghost use Rattle.std.specs.Option.{option_map};
 ghost use Rattle.std.specs.Ordering.{nat_cmp};
 ghost use Rattle.mt_values.specs.declared.command.Command.TheVariants as command;
@@ -21,17 +20,16 @@ ghost use Rattle.mt_model.specs.History.{History, IsInsertInto, IsTableSchema};
 ghost use Rattle.mt_base.specs.declared.partition.Partition.TheVariants.{Whole};
 ghost use Rattle.part_history.specs.Numbers.{same_partition};
 ghost use Rattle.part_history.specs.Entered.{entered};
-ghost use Rattle.durable_commit.specs.Commits.{IsOutside, Notes, SameList, entry_of, refused_by_disk};
-ghost use Rattle.root_log.specs.Commits.{EntersSealed, EntersTable, IsCause, SameStore, cause_of, fresh_part, fresh_table, IsSealedOf, insert_into, insert_of_block, refuses_create, refuses_part, whole_parts};
-ghost use Rattle.root_log.specs.Crashes.{IsCommandOf, KeepsThroughCrashes};
-ghost use Rattle.root_log.specs.Entries.{EntryHolds};
-ghost use Rattle.root_log.specs.Soundness.{HasSoundParts, IsSound, NamesFitUnlessRisen, RootStands};
-ghost use Rattle.root_log.specs.Stores.{CoreStands, table_at};
-ghost use Rattle.root_log.specs.declared.store.Table.{Table as Made};
+ghost use Rattle.durable_commit.specs.Commits.{IsOutside, Notes, SameList, entry_of};
+ghost use Rattle.root_store.specs.Stores.{fresh_table};
+ghost use Rattle.root_log.specs.Commits.{EntersSealed, EntersTable, IsCause, SameStore, cause_of, fresh_part, IsSealedOf, insert_into, insert_of_block, refuses_create, refuses_part, whole_parts};
+ghost use Rattle.root_store.specs.Crashes.{IsCommandOf, KeepsThroughCrashes};
+ghost use Rattle.root_store.specs.Entries.{EntryHolds};
+ghost use Rattle.root_store.specs.Soundness.{HasSoundParts, IsSound, NamesFitUnlessRisen, RootStands};
+ghost use Rattle.root_store.specs.Stores.{CoreStands, table_at};
+ghost use Rattle.root_store.specs.declared.store.Table.{Table as Made};
 
-use crate::keeping::put_table;
-use crate::{CoreStore, Table};
-use durable_commit::{Limit, Refused, commit, refuse_stopped};
+use durable_commit::{Limit, Refused, commit, refuse_stopped, take_out};
 use mt_base::{NoMemory, Partition, Twin};
 use mt_outside::{Arm, Disk, DiskError};
 use mt_values::{Annals, Block, Command, Create, Entry, Insert, Name};
@@ -39,6 +37,7 @@ use part_name::PartName;
 use part_reader::Part;
 use part_set::{Kept, PartSet, RootName, TablePart, spell_name};
 use part_writer::SealedPart;
+use root_store::{CoreStore, Table, put_table};
 use stage_dir::Sealed;
 use std::alloc::Global;
 use std::collections::BTreeMap;
@@ -214,15 +213,6 @@ fn name_of_part(number: u32) -> PartName
         level: 0,
         mutation: None,
     }
-}
-
-// A CREATE was not committed: its table is taken out again.
-fn take_out(tables: &mut BTreeMap<Name, Table>, table: &Name, error: DiskError) -> Refused
-    ensures cause { result ≡ refused_by_disk error }
-    ensures entries { tables.new.entries ≡ remove_entry (is_at (slice_cmp nat_cmp table.now)) tables.old.entries }
-{
-    tables.remove(table);
-    Refused::of_disk(error)
 }
 
 /// Commits a CREATE whose entry was sealed: its name is published and settled, the keeper notes it, and the store has the table.

@@ -8,9 +8,9 @@ use Rattle.mt_model.proofs.Tables.{schema_is}
 use Rattle.mt_model.specs.Refusals.{is_damage, refusal_line}
 use Rattle.durable_commit.specs.Commits.{Notes}
 use Rattle.root_log.specs.Commits.{IsCause, refuses_create}
-use Rattle.root_log.specs.Entries.{EntryHolds}
-use Rattle.root_log.specs.Soundness.{RootStands}
-use Rattle.root_log.specs.Stores.{CoreStands}
+use Rattle.root_store.specs.Entries.{EntryHolds}
+use Rattle.root_store.specs.Soundness.{RootStands}
+use Rattle.root_store.specs.Stores.{CoreStands}
 use Rattle.mt_program.specs.Answers.{history}
 use Rattle.mt_program.specs.Commits.{entry_files}
 use Rattle.mt_program.proofs.Accepting.{accepts_nothing, answers_line, root_is, entry_of, kept_same, same_kept}

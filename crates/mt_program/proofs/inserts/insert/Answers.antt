@@ -15,9 +15,9 @@ use Rattle.mt_model.specs.declared.refusal.Refusal.TheVariants as refusal
 use Rattle.mt_model.specs.History.{IsInsertInto, column_types, inserts}
 use Rattle.mt_model.specs.Refusals.{is_damage, refusal_line, refusal_of_data}
 use Rattle.mt_model.specs.Reply.{ok_line}
-use Rattle.root_log.specs.declared.store.Table.{Table}
+use Rattle.root_store.specs.declared.store.Table.{Table}
 use Rattle.root_log.specs.Commits.{insert_into, whole_parts}
-use Rattle.root_log.specs.Stores.{table_at}
+use Rattle.root_store.specs.Stores.{table_at}
 use Rattle.mt_program.specs.Answers.{history}
 use Rattle.mt_program.proofs.Accepting.{accepts_nothing, answers_line, root_is, kept_same, length_history, same_kept}
 use Rattle.mt_program.proofs.Inserting.{empty_accepted, inserted_accepts, no_such_table, not_empty, rows_read, rows_refused, turn_free}

@@ -4,7 +4,7 @@ use Rattle.mt_model.specs.declared.refusal.Refusal.{Refusal}
 use Rattle.mt_model.specs.Refusals.{is_damage, refusal_line, refusal_of_cause}
 use Rattle.mt_program.specs.Answers.{Answers}
 use Rattle.mt_program.specs.Serving.{Item}
-use Rattle.root_log.specs.Crashes.{KeepsThroughCrashes}
+use Rattle.root_store.specs.Crashes.{KeepsThroughCrashes}
 use Rattle.mt_program.proofs.Accepting.{accepts_nothing, answers_line, kept_same, root_is}
 use Rattle.mt_program.proofs.Refusing.{text_refused}
 use Rattle.mt_program.proofs.Selecting.{selected_answers}

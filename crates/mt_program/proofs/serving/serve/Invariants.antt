@@ -4,9 +4,9 @@ use Rattle.mt_values.specs.Annals.{Told}
 use Rattle.mt_values.specs.Script.{statements_of}
 use Rattle.mt_program.specs.Answers.{history}
 use Rattle.mt_program.specs.Serving.{Item, Served}
-use Rattle.root_log.specs.Crashes.{KeepsThroughCrashes}
-use Rattle.root_log.specs.Soundness.{HasSoundParts, IsSound, NamesFitUnlessRisen, RootStands}
-use Rattle.root_log.specs.Stores.{CoreStands}
+use Rattle.root_store.specs.Crashes.{KeepsThroughCrashes}
+use Rattle.root_store.specs.Soundness.{HasSoundParts, IsSound, NamesFitUnlessRisen, RootStands}
+use Rattle.root_store.specs.Stores.{CoreStands}
 use Rattle.mt_program.proofs.serving.serve.Given as goal
 
 abbrev pub invariant-statements : goal.invariant-statements

@@ -1,6 +1,6 @@
 use Rattle.std.proofs.Common.{◌∙◌, ◌≡◌, ◌⊎◌, ◌≤◌, ℕ, inl, refl, sym, subst}
 use Rattle.mt_model.specs.Outside.{Counts}
-use Rattle.root_log.proofs.CrashSafe.{safe_at_start}
+use Rattle.root_store.proofs.CrashMarks.{safe_at_start}
 use Rattle.mt_program.specs.Headline.{Leaves, NothingRan, ReadRun, RunBy}
 use Rattle.mt_program.specs.Words.{is_command}
 use Rattle.exit_status.specs.declared.status.Status.{Status}

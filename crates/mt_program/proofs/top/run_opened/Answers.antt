@@ -11,8 +11,8 @@ use Rattle.mt_program.specs.Headline.{Leaves, RunBy}
 use Rattle.exit_status.specs.declared.status.Status.{Status}
 use Rattle.exit_status.specs.declared.status.Status.TheVariants as status
 use Rattle.mt_program.proofs.Counting.{risen_back, some_rose}
-use Rattle.root_log.specs.Crashes.{AllStand}
-use Rattle.root_log.proofs.CrashSafe.{safe_at_start, safe_opened}
+use Rattle.root_store.specs.Crashes.{AllStand}
+use Rattle.root_store.proofs.CrashMarks.{safe_at_start, safe_opened}
 use Rattle.mt_program.specs.Crashes.{LeavesOfScript}
 use Rattle.mt_program.proofs.Crashing.{left_moved, nothing_of_script}
 use Rattle.mt_program.proofs.Heading.{answered_calm, answered_served, disk_fault, early_leaves, ended_early, error_early, error_undamaged, leaves_all, not_damaged, not_words, read_fault, root_told, too_long, write_fault}

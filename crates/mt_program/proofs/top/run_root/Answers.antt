@@ -2,8 +2,8 @@ use Rattle.std.proofs.Common.{[], ◌∙◌, ◌+◌, ℕ, None, subst, refl, sy
 use Rattle.mt_outside.specs.Disk.{names_of}
 use Rattle.mt_program.specs.Answers.{history}
 use Rattle.mt_program.specs.Endings.{LeftBy}
-use Rattle.root_log.specs.Crashes.{IsCrashSafe}
-use Rattle.root_log.proofs.CrashSafe.{safe_at_start, stands_as_read}
+use Rattle.root_store.specs.Crashes.{IsCrashSafe}
+use Rattle.root_store.proofs.CrashMarks.{safe_at_start, stands_as_read}
 use Rattle.mt_program.proofs.Crashing.{keeps_opened, nothing_of_script}
 use Rattle.mt_program.proofs.Heading.{root_told, writes_damage, writes_nothing}
 use Rattle.mt_program.proofs.Reopened.{reopened, sound_reopened, stands_reopened}

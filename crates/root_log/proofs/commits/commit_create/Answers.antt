@@ -6,10 +6,11 @@ use Rattle.mt_values.specs.Annals.{Told, began, noted}
 use Rattle.mt_values.specs.RootNames.{create_name}
 use Rattle.mt_outside.specs.Disk.{MayPut, files_at, names_of, put}
 use Rattle.durable_commit.specs.Commits.{SameList}
-use Rattle.root_log.specs.Commits.{fresh_table, refuses_create}
-use Rattle.root_log.specs.Crashes.{entries_of}
-use Rattle.root_log.specs.Soundness.{NamesFit}
-use Rattle.root_log.specs.Stores.{table_at}
+use Rattle.root_store.specs.Stores.{fresh_table}
+use Rattle.root_log.specs.Commits.{refuses_create}
+use Rattle.root_store.specs.Crashes.{entries_of}
+use Rattle.root_store.specs.Soundness.{NamesFit}
+use Rattle.root_store.specs.Stores.{table_at}
 use Rattle.root_log.proofs.CrashCommits.{grows_by_table}
 use Rattle.root_log.proofs.CrashDone.{keeps_more}
 use Rattle.root_log.proofs.CrashTurns.{kept_committed, kept_failed, kept_untouched, unrisen}

@@ -11,13 +11,13 @@ use Rattle.part_set.specs.Parts.{IsAdded, NoneMeets}
 use Rattle.part_set.specs.Sets.{parts_of}
 use Rattle.durable_commit.specs.declared.causes.Refused.{Refused}
 use Rattle.durable_commit.specs.declared.causes.Refused.TheVariants as refused
-use Rattle.root_log.specs.declared.store.CoreStore.{CoreStore}
-use Rattle.root_log.specs.declared.store.Table.{Table}
+use Rattle.root_store.specs.declared.store.CoreStore.{CoreStore}
+use Rattle.root_store.specs.declared.store.Table.{Table}
 use Rattle.durable_commit.specs.Commits.{SameList, entry_of}
 use Rattle.root_log.specs.Commits.{EntersSealed, IsCause, IsSealedOf, fresh_part, insert_of_block, refuses_part}
-use Rattle.root_log.specs.Crashes.{entries_of}
-use Rattle.root_log.specs.Soundness.{NamesFit}
-use Rattle.root_log.specs.Stores.{table_at}
+use Rattle.root_store.specs.Crashes.{entries_of}
+use Rattle.root_store.specs.Soundness.{NamesFit}
+use Rattle.root_store.specs.Stores.{table_at}
 use Rattle.root_log.proofs.Behind.{PartIsAdded, enters_part, none_meets}
 use Rattle.root_log.proofs.CrashCommits.{grows_by_part}
 use Rattle.root_log.proofs.CrashDone.{keeps_more}

@@ -1,4 +1,4 @@
-use Rattle.root_log.proofs.CrashSafe.{safe_at_start, safe_stands, safe_synced, stands_as_read}
+use Rattle.root_store.proofs.CrashMarks.{safe_at_start, safe_stands, safe_synced, stands_as_read}
 use Rattle.root_log.proofs.laws.crashes_leave_what_was_noted.Goals as goal
 
 pub returns-clause-start : goal.returns-clause-start

@@ -1,0 +1,35 @@
+// The files of a part, checked.
+ghost use Rattle.std.specs.Prelude.{◌≡◌, ◌≤◌, IfErr, IfOk, IsErrOf, OnOk, Some, None, length};
+ghost use Rattle.mt_values.specs.declared.name.FileId.TheVariants as file;
+ghost use Rattle.mt_outside.specs.Causes.{Rose};
+ghost use Rattle.mt_outside.specs.Files.{Files, bytes_of};
+ghost use Rattle.part_reader.specs.Damage.{Tells};
+ghost use Rattle.part_reader.specs.DamagedFile.{damaged_file};
+ghost use Rattle.part_reader.specs.Sound.{IsManifestOfWidth};
+
+use mt_outside::Arm;
+use mt_values::Schema;
+use part_reader::{Part, PartFault, check_part, open_part};
+use std::alloc::Global;
+
+/// The part with this folder, opened, and each of its files checked.
+pub fn check_files<R: Arm>(
+    alloc: Global,
+    dir: R::Dir,
+    schema: &Schema,
+    arm: &mut R,
+) -> Result<Part<R::Dir>, PartFault>
+    ensures dir { IfOk result (λ p. p.dir ≡ dir) }
+    ensures manifest { (files : Files) → R.Dir.files dir ≡ Some files → IfOk result (λ p. IsManifestOfWidth (length schema.now.columns) (bytes_of file.Manifest files) p.loaded.manifest) }
+    ensures sound { (files : Files) → R.Dir.files dir ≡ Some files → OnOk result (damaged_file schema.now files ≡ None) }
+    ensures damaged { (files : Files) → R.Dir.files dir ≡ Some files → IfErr result (Tells (λ found. damaged_file schema.now files ≡ found)) }
+    ensures tells { R.tells arm.new ≡ R.tells arm.old }
+    ensures later { R.failed arm.old ≤ R.failed arm.new }
+    ensures fault { IsErrOf result PartFault.Fault → Rose (R.failed arm.old) (R.failed arm.new) }
+{
+    let part = open_part(alloc, dir, schema, arm)?;
+    match check_part(alloc, &part, schema, arm) {
+        Ok(()) => Ok(part),
+        Err(fault) => Err(fault),
+    }
+}

@@ -1,4 +1,0 @@
-use Rattle.root_log.proofs.keeping.commands_of.Goals as goal
-
-pub returns : goal.returns
-returns c = cc

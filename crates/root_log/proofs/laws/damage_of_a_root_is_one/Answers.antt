@@ -1,5 +1,0 @@
-use Rattle.root_log.proofs.OneDamage.{no_root_damage, one_damage}
-use Rattle.root_log.proofs.laws.damage_of_a_root_is_one.Goals as goal
-
-pub returns : goal.returns
-returns c = record { one = one_damage; none = no_root_damage }

@@ -1,5 +1,0 @@
-use Rattle.root_log.proofs.Standing.{core_stands}
-use Rattle.root_log.proofs.laws.roots_stand_by_their_stores.Goals as goal
-
-pub returns : goal.returns
-returns g c = λ names h store o s. core_stands g.D.Dir.files names h store o s

@@ -1,8 +1,0 @@
-use Rattle.std.proofs.Common.{subst}
-use Rattle.root_log.specs.Names.{TellsBad}
-use Rattle.root_log.proofs.Opened.{bad_told}
-use Rattle.root_log.proofs.opening.read_texts.Goals as goal
-
-pub returns-in-Err-Bad-clause-damaged : goal.returns-in-Err-Bad-clause-damaged
-returns-in-Err-Bad-clause-damaged c = λ told rise are.
-    bad_told told c.args.texts.now c.in-Err-Bad.place c.bad_name-in-Err-Bad.result are (subst (TellsBad c.args.texts.now) c.in-Err-Bad.field-0-is c.in-Err-Bad.ensures.bad) c.bad_name-in-Err-Bad.ensures

@@ -1,0 +1,14 @@
+pub mod BadNames
+pub mod Checked
+pub mod Created
+pub mod EntryScripts
+pub mod FirstNames
+pub mod Held
+pub mod KeptNames
+pub mod Lengths
+pub mod NameReads
+pub mod NamesTold
+pub mod NextNames
+pub mod OneDamage
+pub mod Opened
+pub mod Standing

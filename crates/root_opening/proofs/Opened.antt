@@ -1,0 +1,138 @@
+-- What is told of the texts of a root's names.
+use Rattle.std.proofs.Common.{◌≡◌, ℕ, ◌+◌, ◌-◌, ◌<◌, ◌≤◌, List, [], ◌∷◌, length, map, filter, get_or, refl, sym, ap, ap₂, ◌∙◌, subst, arith, Option, Some, None, IsSomeAnd}
+use Rattle.std.proofs.lemmas.Cmp.{nat_list_cmp_total}
+use Rattle.std.proofs.lemmas.List.{get_or_read}
+use Rattle.std.proofs.lemmas.Map.Keys.{Less-from_sorted, sorted_from_all_adjacent}
+use Rattle.std.proofs.lemmas.Option.{slice_get-map, slice_get_within}
+use Rattle.std.specs.Cmp.Lexicographic.{slice_cmp}
+use Rattle.std.specs.List.{slice_get}
+use Rattle.std.specs.List.Sorted.{IsStrictlySortedBy}
+use Rattle.std.specs.Ordering.{nat_cmp}
+use Rattle.std.specs.declared.cmp.Ordering.TheVariants.{Less}
+use Rattle.std.specs.Option.{option_map}
+use Rattle.mt_values.specs.declared.name.FileId.{FileId}
+use Rattle.mt_outside.specs.Disk.{Names, Told, names_of}
+use Rattle.mt_outside.specs.Files.{Files}
+use Rattle.mt_model.specs.History.{History}
+use Rattle.part_set.specs.declared.root_name.RootName.{RootName}
+use Rattle.part_set.specs.declared.root_name.RootName.TheVariants as root
+use Rattle.part_set.specs.declared.roots.SetFault.{SetFault}
+use Rattle.part_set.specs.declared.roots.SetFault.TheVariants as set
+use Rattle.part_set.specs.Clashes.{IsFault}
+use Rattle.part_set.specs.RootNames.{root_text}
+use Rattle.part_set.specs.Visible.{HasNoOrphan, HasNoOverlap, IsFirstOrphan, IsFirstOverlap, IsOrphan, Overlapping}
+use Rattle.part_set.proofs.Passes.{there}
+use Rattle.root_opening.specs.declared.opening.Damage.{Damage}
+use Rattle.root_opening.specs.declared.opening.Damage.TheVariants as damage
+use Rattle.root_opening.specs.declared.opening.OpenFault.{OpenFault}
+use Rattle.root_opening.specs.declared.opening.OpenFault.TheVariants as fault
+use Rattle.root_store.specs.Damage.{DamagedAt, IsFirstBadName, is_create, most_tables}
+use Rattle.root_opening.specs.Keeping.{IsBadNameAt, IsDamageOfSet}
+use Rattle.root_opening.specs.Names.{AreNamesOf, IsFirstBadText}
+use Rattle.root_opening.specs.Opening.{AreGood, IsNotDamaged, IsRootDamage, IsSpelledAt, TellsDamage}
+use Rattle.root_store.specs.Roots.{AreRead, Stands}
+use Rattle.root_opening.proofs.BadNames.{no_bad_name}
+use Rattle.root_store.proofs.Clear as clear
+use Rattle.root_opening.proofs.NamesTold.{first_told, text_of}
+use Rattle.root_store.proofs.Orphaned as orphaned
+use Rattle.root_store.proofs.Readings.{item_at, one_reading}
+use Rattle.root_store.proofs.Rising.{told_rise}
+use Rattle.root_store.proofs.Undamaged as undamaged
+
+-- names of which each stands below the next one rise
+pub rise_from_next : (texts : List (List ℕ)) (place : ℕ) → length texts ≤ place → ((k : ℕ) (d : List ℕ) → k + 1 < place → slice_cmp nat_cmp (get_or texts k d) (get_or texts (k + 1) d) ≡ Less) → IsStrictlySortedBy (slice_cmp nat_cmp) texts
+rise_from_next texts place end next = sorted_from_all_adjacent nat_list_cmp_total texts [] (λ k inside. next k [] (omega (arith, inside, end)))
+
+-- and of names that rise each stands below the next one
+pub next_below : (texts : List (List ℕ)) (place : ℕ) (a b : List ℕ) → IsStrictlySortedBy (slice_cmp nat_cmp) texts → 1 ≤ place → place < length texts → a ≡ get_or texts (place - 1) a → b ≡ get_or texts place b → slice_cmp nat_cmp a b ≡ Less
+next_below texts place a b rise above inside is_a is_b =
+    let first = get_or_read texts (place - 1) a (omega arith) is_a b in
+    ap₂ (slice_cmp nat_cmp) first is_b ∙ Less-from_sorted (slice_cmp nat_cmp) texts (place - 1) place b rise (omega (arith, above)) inside
+
+-- ---- what is told is what keeps the root from being opened
+
+one_text : (o : Option (List ℕ)) (a b : List ℕ) → o ≡ Some a → o ≡ Some b → a ≡ b
+one_text o a b x y = cc
+
+-- a bad name at its place
+pub bad_told : (names : Names) (texts : List (List ℕ)) (place : ℕ) (e : OpenFault) → texts ≡ map (λ (n : List ℕ × Files). n.0) names → IsFirstBadText texts place → IsBadNameAt texts place e → TellsDamage names e
+bad_told names texts place fault.NoMemory are first told = tt
+bad_told names texts place fault.Disk are first told = tt
+bad_told names texts place (fault.Damaged d) are first told =
+    let found = first_told names place (subst (λ (ts : List (List ℕ)). IsFirstBadText ts place) are first) in
+    let here : slice_get texts place ≡ Some found.0 = ap (λ (ts : List (List ℕ)). slice_get ts place) are ∙ (slice_get-map text_of names place ∙ ap (option_map text_of) found.1.here) in
+    let same : found.0 ≡ told.0 = one_text (slice_get texts place) found.0 told.0 here told.1 in
+    subst (IsRootDamage names) (sym told.2) (record { place = place; first = subst (IsFirstBadName names place) same found.1 })
+
+module _ (names : Names) (texts : List (List ℕ)) (read : List RootName) (are : AreNamesOf texts read) (few : length (filter is_create read) ≤ most_tables) (told : texts ≡ map (λ (n : List ℕ × Files). n.0) names) where
+  good : AreGood names read
+  good = record { are = record { sound = are.sound; spelled = are.spelled ∙ told }; few = few }
+
+  -- the text at the place of a name is its own
+  spelled_there : (place : ℕ) (text : List ℕ) → place < length read → slice_get texts place ≡ Some text → IsSpelledAt read place text
+  spelled_there place text inside at = by (slice_get read place) refl (sym (slice_get-map root_text read place) ∙ (ap (λ (ts : List (List ℕ)). slice_get ts place) are.spelled ∙ at))
+    where
+      by : (o : Option RootName) → slice_get read place ≡ o → option_map root_text o ≡ Some text → IsSpelledAt read place text
+      by None here is = absurd cc
+      by (Some n) here is = record { name = n; here = here; spelled = (let e : root_text n ≡ text = cc in e) }
+
+  -- orphans and parts that overlap
+  pub set_told : (f : SetFault) (d : Damage) → IsFault read f → IsDamageOfSet texts f d → IsRootDamage names d
+  set_told set.NoMemory d is told_d = absurd told_d
+  set_told (set.Orphan place) d is told_d =
+      let inside = there (slice_get read place) (IsOrphan read) is.is in
+      subst (IsRootDamage names) (sym told_d.2) (record { read = read; good = good; place = place; first = is; spelled = spelled_there place told_d.0 (slice_get_within read place inside.0 inside.1) told_d.1 })
+  set_told (set.Overlap i j) d is told_d =
+      let first = there (slice_get read i) (λ (a : RootName). IsSomeAnd (slice_get read j) (Overlapping read a)) is.1.is in
+      let second = there (slice_get read j) (Overlapping read first.0) first.2 in
+      subst (IsRootDamage names) (sym told_d.4) (record {
+        read = read;
+        good = good;
+        no_orphan = is.0;
+        i = i;
+        j = j;
+        first = is.1;
+        spelled = spelled_there i told_d.0 (slice_get_within read i first.0 first.1) told_d.2;
+        spelled_too = spelled_there j told_d.1 (slice_get_within read j second.0 second.1) told_d.3;
+      })
+
+-- ---- where nothing is wrong, nothing is told
+
+module _ (names : Names) (read : List RootName) (are : AreRead names read) (no_bad : (place : ℕ) (name : List ℕ) → IsFirstBadName names place name → ⊥) (no_orphan : HasNoOrphan read) (no_overlap : HasNoOverlap read)
+    (none : (place : ℕ) (f : FileId) → DamagedAt names read place f → ⊥) where
+  overlapping_none : (a b : RootName) → Overlapping read a b → ⊥
+  overlapping_none (root.Create t) b is = is
+  overlapping_none (root.Part p) (root.Create u) is = is
+  overlapping_none (root.Part p) (root.Part q) is = no_overlap p q is
+
+  pub nothing_told : (d : Damage) → IsRootDamage names d → ⊥
+  nothing_told (damage.Name n) is = no_bad is.place n is.first
+  nothing_told (damage.Orphan n) is =
+      let same = one_reading names is.read read is.good.are are in
+      let first = subst (λ (r : List RootName). IsFirstOrphan r is.place) same is.first in
+      let found = there (slice_get read is.place) (IsOrphan read) first.is in
+      no_orphan found.0 (item_at read is.place found.0 found.1) found.2
+  nothing_told (damage.Overlap m n) is =
+      let same = one_reading names is.read read is.good.are are in
+      let pair = subst (λ (r : List RootName). IsFirstOverlap r is.i is.j) same is.first in
+      let first = there (slice_get read is.i) (λ (a : RootName). IsSomeAnd (slice_get read is.j) (Overlapping read a)) pair.is in
+      let second = there (slice_get read is.j) (Overlapping read first.0) first.2 in
+      overlapping_none first.0 second.0 second.2
+  nothing_told (damage.File n f) is =
+      let same = one_reading names is.read read is.good.are are in
+      none is.place f (subst (λ (r : List RootName). DamagedAt names r is.place f) same is.first.here)
+
+  pub not_damaged : (e : OpenFault) → TellsDamage names e → IsNotDamaged e
+  not_damaged fault.NoMemory told = tt
+  not_damaged fault.Disk told = tt
+  not_damaged (fault.Damaged d) told = nothing_told d told
+
+-- a root that stands for a history is not damaged
+pub stands_undamaged : (told : Told) (h : History) → Stands (names_of told) h → (e : OpenFault) → TellsDamage (names_of told) e → IsNotDamaged e
+stands_undamaged told h s =
+    not_damaged (names_of told) s.read s.are (λ place name bad. no_bad_name (names_of told) h s (told_rise told) place name bad) (orphaned.no_orphan (names_of told) h s) (clear.no_overlap (names_of told) h s) (undamaged.no_damage (names_of told) h s)
+
+-- names without texts are none
+pub no_names : (names : Names) → map (λ (n : List ℕ × Files). n.0) names ≡ [] → names ≡ []
+no_names [] none = refl
+no_names (n ∷ names) none = absurd cc

@@ -1,0 +1,69 @@
+use Rattle.std.proofs.Common.{◌∙◌, le_trans, refl, arith}
+use Rattle.mt_outside.specs.Disk.{names_of}
+use Rattle.root_opening.proofs.NextNames.{keeps_none, told_none}
+use Rattle.root_opening.proofs.keeping.keep_names.Goals as goal
+
+pub loop-place-init : goal.loop-place-init
+loop-place-init g c =
+    let files_of = g.D.Arm.Dir.Dir.files in
+    let stands = c.new-store.ensures.stands files_of in
+    record {
+      keeps = keeps_none c.args.root.now.names.items c.new-store.result files_of stands;
+      keeps_told = λ told is. told_none c.args.root.now.names.items c.new-store.result files_of stands (names_of told);
+      opened = c.new-store.ensures.opened;
+      told = refl;
+      clock = refl;
+      tells = refl;
+      later = omega arith;
+      arm_later = omega arith;
+    }
+
+-- one name more is gone over
+pub loop-place-preserved : goal.loop-place-preserved
+loop-place-preserved g c = record {
+  keeps = c.in_ok-keep_name.ensures.keeps;
+  keeps_told = λ told is. c.in_ok-keep_name.ensures.keeps_told told (c.loop-place.invariant.told ∙ is) (c.loop-place.invariant.keeps_told told is);
+  opened = c.in_ok-keep_name.ensures.opened ∙ c.loop-place.invariant.opened;
+  told = c.in_ok-keep_name.ensures.told ∙ c.loop-place.invariant.told;
+  clock = c.in_ok-keep_name.ensures.clock ∙ c.loop-place.invariant.clock;
+  tells = c.in_ok-keep_name.ensures.tells ∙ c.loop-place.invariant.tells;
+  later = le_trans c.loop-place.invariant.later c.in_ok-keep_name.ensures.later;
+  arm_later = le_trans c.loop-place.invariant.arm_later c.in_ok-keep_name.ensures.arm_later;
+}
+
+-- what the disk tells stays
+pub returns-in_err-keep_name-clause-told : goal.returns-in_err-keep_name-clause-told
+returns-in_err-keep_name-clause-told g c = c.in_err-keep_name.ensures.told ∙ c.loop-place.invariant.told
+
+pub returns-in_err-keep_name-clause-clock : goal.returns-in_err-keep_name-clause-clock
+returns-in_err-keep_name-clause-clock g c = c.in_err-keep_name.ensures.clock ∙ c.loop-place.invariant.clock
+
+pub returns-in_err-keep_name-clause-tells : goal.returns-in_err-keep_name-clause-tells
+returns-in_err-keep_name-clause-tells g c = c.in_err-keep_name.ensures.tells ∙ c.loop-place.invariant.tells
+
+pub returns-in_err-keep_name-clause-later : goal.returns-in_err-keep_name-clause-later
+returns-in_err-keep_name-clause-later g c = le_trans c.loop-place.invariant.later c.in_err-keep_name.ensures.later
+
+pub returns-in_err-keep_name-clause-arm_later : goal.returns-in_err-keep_name-clause-arm_later
+returns-in_err-keep_name-clause-arm_later g c = le_trans c.loop-place.invariant.arm_later c.in_err-keep_name.ensures.arm_later
+
+pub returns-clause-damaged : goal.returns-clause-damaged
+returns-clause-damaged g c = λ told is. tt
+
+pub returns-clause-opened : goal.returns-clause-opened
+returns-clause-opened g c = c.loop-place.invariant.opened
+
+pub returns-clause-told : goal.returns-clause-told
+returns-clause-told g c = c.loop-place.invariant.told
+
+pub returns-clause-clock : goal.returns-clause-clock
+returns-clause-clock g c = c.loop-place.invariant.clock
+
+pub returns-clause-tells : goal.returns-clause-tells
+returns-clause-tells g c = c.loop-place.invariant.tells
+
+pub returns-clause-later : goal.returns-clause-later
+returns-clause-later g c = c.loop-place.invariant.later
+
+pub returns-clause-arm_later : goal.returns-clause-arm_later
+returns-clause-arm_later g c = c.loop-place.invariant.arm_later

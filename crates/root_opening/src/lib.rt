@@ -1,0 +1,17 @@
+//! A root opened: its names read, its entries and its visible parts checked, and the store that is kept of it.
+#![tactic(auto)]
+
+mod checking;
+mod entries;
+mod keeping;
+mod laws;
+mod names;
+mod opening;
+
+pub use entries::{open_entry, read_schema};
+pub use laws::{
+    damage_of_a_root_is_one, roots_stand_by_their_stores, sound_roots_are_not_damaged,
+    told_names_rise,
+};
+pub use names::{NameFault, read_names};
+pub use opening::{Damage, OpenFault, open};

@@ -1,0 +1,12 @@
+pub mod Blocks
+pub mod Clear
+pub mod Counted
+pub mod CrashMarks
+pub mod CrashOrder
+pub mod Fitting
+pub mod Items
+pub mod Orphaned
+pub mod Readings
+pub mod Rising
+pub mod Tabled
+pub mod Undamaged

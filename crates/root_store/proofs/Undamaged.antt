@@ -1,0 +1,140 @@
+-- A root that stands for a history has no damaged file.
+use Rattle.std.proofs.Common.{◌≡◌, ℕ, ◌-◌, ◌<◌, List, ◌++◌, Option, Some, None, length, refl, sym, ap, ◌∙◌, subst, inl, inr, arith, codes, length-append, zero-add}
+use Rattle.std.proofs.lemmas.List.{length-map}
+use Rattle.std.proofs.lemmas.List.FromFn.{get_or-range_with_len, length-map-range_with_len, length-range_with_len}
+use Rattle.std.specs.Int.{w32, to_le_bytes}
+use Rattle.std.specs.List.{All, Contains as HasItem, range_with_len}
+use Rattle.sha2.specs.Sha256.{sha256}
+use Rattle.sha2.proofs.Facts256.{length-sha256}
+use Rattle.mt_base.specs.declared.partition.Partition.TheVariants.{Whole}
+use Rattle.mt_values.specs.declared.name.FileId.{FileId}
+use Rattle.mt_values.specs.declared.name.FileId.TheVariants as file
+use Rattle.mt_values.specs.declared.schema.Column.{Column}
+use Rattle.mt_values.specs.declared.schema.Schema.{Schema}
+use Rattle.mt_values.specs.Manifests.{entry_body, entry_bytes}
+use Rattle.mt_values.specs.RootNames.{create_name}
+use Rattle.mt_values.specs.Values.{Row}
+use Rattle.mt_outside.specs.Disk.{Names, files_at}
+use Rattle.mt_outside.specs.Files.{Files, bytes_of}
+use Rattle.mt_model.specs.History.{History, schema_of}
+use Rattle.digest_file.proofs.Pieces.{fronts_apart}
+use Rattle.part_writer.specs.PartFiles.{column_file_bytes, manifest_of}
+use Rattle.part_reader.specs.declared.reading.Part.{Part}
+use Rattle.part_reader.specs.DamagedFile.{damaged_file}
+use Rattle.part_reader.specs.Parts.{PartHolds}
+use Rattle.part_reader.specs.Sound.{column_types}
+use Rattle.part_reader.proofs.Deciding.{under_manifest, unsound_file}
+use Rattle.part_reader.proofs.SoundRows.{held_sound}
+use Rattle.part_set.specs.declared.root_name.RootName.{RootName}
+use Rattle.part_set.specs.declared.root_name.RootName.TheVariants as root
+use Rattle.part_set.specs.declared.root_name.TablePart.{TablePart}
+use Rattle.part_set.specs.RootNames.{root_text}
+use Rattle.part_set.specs.Visible.{IsVisible}
+use Rattle.part_history.specs.Numbers.{numbered}
+use Rattle.part_history.proofs.Numbered.{all_whole, whole_at}
+use Rattle.root_store.specs.Damage.{DamagedAt, IsDamaged, PartDamaged}
+use Rattle.root_store.specs.Entries.{EntryHolds, schema_of_entry}
+use Rattle.root_store.specs.Roots.{FolderHolds, HasFolder, Stands}
+use Rattle.root_store.proofs.Clear.{part_stands}
+use Rattle.root_store.proofs.Orphaned.{of_core}
+use Rattle.root_store.proofs.Readings.{item_at}
+
+-- ---- entries
+
+abbrev entry_head : List ℕ → List ℕ
+entry_head text = codes "MTS1" ++ to_le_bytes w32 (length text)
+
+-- bytes are the entry of one text
+text_is_one : (x y : List ℕ) → entry_bytes sha256 x ≡ entry_bytes sha256 y → x ≡ y
+text_is_one x y e =
+    let whole = ap length e in
+    let first = length-append (entry_body x) (sha256 (entry_body x)) in
+    let second = length-append (entry_body y) (sha256 (entry_body y)) in
+    let digests = length-sha256 (entry_body x) in
+    let also = length-sha256 (entry_body y) in
+    let bodies : length (entry_body x) ≡ length (entry_body y) = omega (arith, whole, first, second, digests, also) in
+    let same : entry_body x ≡ entry_body y = (fronts_apart (entry_body x) (entry_body y) (sha256 (entry_body x)) (sha256 (entry_body y)) bodies e).0 in
+    (fronts_apart (entry_head x) (entry_head y) x y refl same).1
+
+same_some : {X : Type 0} (x y : X) → Some x ≡ Some y → x ≡ y
+same_some x y e = cc
+
+-- a folder holds the entry of a table with one schema
+pub entry_is_one : (table : List ℕ) (a b : Schema) (files : Files) → EntryHolds table a files → EntryHolds table b files → a ≡ b
+entry_is_one table a b files x y =
+    let texts : x.text ≡ y.text = text_is_one x.text y.text (sym x.bytes ∙ y.bytes) in
+    same_some a b (sym x.reads ∙ (ap (schema_of_entry table) texts ∙ y.reads))
+
+-- so do two that have one name
+pub folders_agree : (names : Names) (name table : List ℕ) (a b : Schema) → HasFolder names name (EntryHolds table a) → HasFolder names name (EntryHolds table b) → a ≡ b
+folders_agree names name table a b x y =
+    let files : x.files ≡ y.files = same_some x.files y.files (sym x.there ∙ y.there) in
+    entry_is_one table a b y.files (subst (EntryHolds table a) files x.holds) y.holds
+
+-- ---- parts
+
+-- the folder of rows is that of a part which holds them
+pub folder_part : {F : Type 0} (files_of : F → Option Files) (schema : Schema) (rows : List Row) (files : Files) (part : Part F) → FolderHolds schema rows files → files_of part.dir ≡ Some files
+    → part.loaded.manifest ≡ manifest_of (length schema.columns) rows → PartHolds files_of schema part rows
+folder_part files_of schema rows files part f told loaded =
+    let wide : length (column_types schema) ≡ length schema.columns = length-map schema.columns (λ (c : Column). c.col_type) in
+    record {
+      files = files;
+      files_are = told;
+      within = λ k d lt.
+          let inside : k < length (column_types schema) = omega (arith, lt, length-range_with_len 0 (length (column_types schema))) in
+          subst (λ (p : ℕ). p < length (column_types schema)) (sym (get_or-range_with_len 0 (length (column_types schema)) k d inside ∙ zero-add k)) inside;
+      columns = subst (λ (n : ℕ). All (λ place. bytes_of (file.Column place) files ≡ column_file_bytes rows place) (range_with_len 0 n)) (sym wide) f.columns;
+      loaded_is = loaded ∙ ap (λ (n : ℕ). manifest_of n rows) (sym wide);
+      typed = f.typed;
+      encodable = f.encodable;
+    }
+
+-- no file of it is damaged
+pub folder_sound : (schema : Schema) (rows : List Row) (files : Files) → FolderHolds schema rows files → damaged_file schema files ≡ None
+folder_sound schema rows files f =
+    let manifest = manifest_of (length schema.columns) rows in
+    let part : Part Files = record { dir = files; loaded = record { manifest = manifest } } in
+    let holds = folder_part (λ (fs : Files). Some fs) schema rows files part f refl refl in
+    under_manifest schema files manifest (record { of = f.readable; width_is = length-map-range_with_len _ 0 (length schema.columns) })
+    ∙ unsound_file manifest files (column_types schema) None (held_sound (λ (fs : Files). Some fs) schema part files rows refl holds)
+
+none_some : {X : Type 0} (o : Option X) (x : X) → o ≡ None → o ≡ Some x → ⊥
+none_some o x none some = let both = sym none ∙ some in cc
+
+module _ (names : Names) (h : History) (s : Stands names h) where
+  -- a visible part is of the whole partition
+  pub whole : (part : TablePart) → IsVisible s.read part → part.name.partition ≡ Whole
+  whole part visible =
+      let c = of_core names h s part visible in
+      let stands = part_stands names h s c.core c.here in
+      ap (λ (p : TablePart). p.name.partition) (sym c.name_is)
+      ∙ (sym stands.least.partition_is ∙ whole_at (numbered c.core.table h) (c.core.name.min_block - 1) stands.least.insert (all_whole c.core.table h s.legal) stands.least.there)
+
+  entry_sound : (table : List ℕ) (files : Files) → HasItem s.read (root.Create table) → files_at (create_name table) names ≡ Some files → ((schema : Schema) → EntryHolds table schema files → ⊥) → ⊥
+  entry_sound table files here at damaged =
+      let known = s.no_other table here in
+      let folder = s.tables table known.0 known.1 in
+      damaged known.0 (subst (EntryHolds table known.0) (same_some folder.files files (sym folder.there ∙ at)) folder.holds)
+
+  -- the folder of a visible part holds rows under the schema that its table's entry gives
+  part_sound : (part : TablePart) (files : Files) (schema : Schema) (f : FileId) → IsVisible s.read part → files_at (root_text (root.Part part)) names ≡ Some files
+      → HasFolder names (create_name part.table) (EntryHolds part.table schema) → PartDamaged schema part files f → ⊥
+  part_sound part files schema f visible at entry (inl other) = other.0 (whole part visible)
+  part_sound part files schema f visible at entry (inr bad) =
+      let c = of_core names h s part visible in
+      let folder = c.there.folder in
+      let table : c.core.table ≡ part.table = ap (λ (p : TablePart). p.table) c.name_is in
+      let known : schema_of part.table h ≡ Some c.there.schema = subst (λ (t : List ℕ). schema_of t h ≡ Some c.there.schema) table c.there.schema_is in
+      let same : c.there.schema ≡ schema = folders_agree names (create_name part.table) part.table c.there.schema schema (s.tables part.table c.there.schema known) entry in
+      let here : files_at (root_text (root.Part part)) names ≡ Some folder.files = subst (λ (p : TablePart). files_at (root_text (root.Part p)) names ≡ Some folder.files) c.name_is folder.there in
+      let files_are : folder.files ≡ files = same_some folder.files files (sym here ∙ at) in
+      let holds = subst (λ (x : Schema). FolderHolds x c.core.rows files) same (subst (FolderHolds c.there.schema c.core.rows) files_are folder.holds) in
+      none_some (damaged_file schema files) f (folder_sound schema c.core.rows files holds) bad.1
+
+  sound : (n : RootName) (files : Files) (f : FileId) → HasItem s.read n → files_at (root_text n) names ≡ Some files → IsDamaged names s.read n files f → ⊥
+  sound (root.Create table) files f here at bad = entry_sound table files here at bad.0
+  sound (root.Part part) files f here at bad = part_sound part files bad.1.0 f bad.0 at bad.1.1 bad.1.2
+
+  pub no_damage : (place : ℕ) (f : FileId) → DamagedAt names s.read place f → ⊥
+  no_damage place f bad = sound bad.0 bad.1 f (item_at s.read place bad.0 bad.2) bad.3 bad.4

@@ -1,0 +1,7 @@
+pub mod ByteOrder
+pub mod Crashes
+pub mod Damage
+pub mod Entries
+pub mod Roots
+pub mod Soundness
+pub mod Stores

@@ -1,0 +1,67 @@
+-- Which roots stand for a history (docs/definitions.md, "Roots").
+use Rattle.std.specs.Prelude.{◌≡◌, ◌↔◌, ℕ, List, map, length, All, Some, None}
+use Rattle.std.specs.List.{Contains as HasItem, range_with_len}
+use Rattle.sha2.specs.Sha256.{sha256}
+use Rattle.mt_values.specs.declared.name.FileId.TheVariants as file
+use Rattle.mt_values.specs.declared.schema.Schema.{Schema}
+use Rattle.mt_values.specs.Grid.{AreRowsOf}
+use Rattle.mt_values.specs.Manifests.{manifest_bytes}
+use Rattle.mt_values.specs.RootNames.{create_name}
+use Rattle.mt_values.specs.Values.{FitsType, Row}
+use Rattle.mt_outside.specs.Disk.{Names, files_at}
+use Rattle.mt_outside.specs.Files.{Files, bytes_of}
+use Rattle.mt_model.specs.History.{History, IsLegal, column_types, schema_of}
+use Rattle.digest_file.specs.Spellings.{IsManifestOf}
+use Rattle.part_set.specs.declared.root_name.RootName.{RootName}
+use Rattle.part_set.specs.declared.root_name.RootName.TheVariants as root
+use Rattle.part_set.specs.declared.root_name.TablePart.{TablePart}
+use Rattle.part_set.specs.RootNames.{IsRootName, root_text}
+use Rattle.part_set.specs.Visible.{HasPart, HasTable, IsVisible}
+use Rattle.part_writer.specs.PartFiles.{column_file_bytes, manifest_of}
+use Rattle.part_history.specs.declared.part.CorePart.{CorePart}
+use Rattle.part_history.specs.Parts.{PartsStand}
+use Rattle.root_store.specs.Entries.{EntryHolds}
+
+-- a folder holds rows of a table: each of its files has the bytes that are written of them (docs/formats.md, "Parts")
+pub record FolderHolds (schema : Schema) (rows : List Row) (files : Files) : Type 0 where
+  pub manifest : bytes_of file.Manifest files ≡ manifest_bytes sha256 (manifest_of (length schema.columns) rows)
+  pub readable : IsManifestOf (bytes_of file.Manifest files) (manifest_of (length schema.columns) rows)
+  pub columns : All (λ place. bytes_of (file.Column place) files ≡ column_file_bytes rows place) (range_with_len 0 (length schema.columns))
+  pub typed : AreRowsOf (column_types schema) rows
+  pub encodable : All (λ (row : Row). All FitsType row) rows
+
+-- the root has a folder of this name, and it is so
+pub record HasFolder (names : Names) (name : List ℕ) (Holds : Files → Type 0) : Type 0 where
+  pub files : Files
+  pub there : files_at name names ≡ Some files
+  pub holds : Holds files
+
+-- the name of a part of the core
+abbrev pub named : CorePart → TablePart
+named part = record { table = part.table; name = part.name }
+
+-- the root has the folder of a part of a table of the history, with the part's rows
+pub record PartIsThere (names : Names) (h : History) (part : CorePart) : Type 0 where
+  pub schema : Schema
+  pub schema_is : schema_of part.table h ≡ Some schema
+  pub folder : HasFolder names (root_text (root.Part (named part))) (FolderHolds schema part.rows)
+
+-- the names of a root are those that were read of it, each of the grammar
+pub record AreRead (names : Names) (read : List RootName) : Type 0 where
+  pub sound : All IsRootName read
+  pub spelled : map root_text read ≡ map (λ (n : List ℕ × Files). n.0) names
+
+-- The names of a root, with their files, stand for a history (docs/definitions.md, "Roots"). Each name is one of the grammar, and none is of
+-- a mutated part. There is an entry for each table, which reads as its CREATE, and no other. The visible parts hold rows with which
+-- they stand for the history.
+pub record Stands (names : Names) (h : History) : Type 0 where
+  pub legal : IsLegal h
+  pub read : List RootName
+  pub are : AreRead names read
+  pub unmutated : (part : TablePart) → HasPart read part → part.name.mutation ≡ None
+  pub tables : (table : List ℕ) (schema : Schema) → schema_of table h ≡ Some schema → HasFolder names (create_name table) (EntryHolds table schema)
+  pub no_other : (table : List ℕ) → HasTable read table → (schema : Schema) × (schema_of table h ≡ Some schema)
+  pub parts : List CorePart
+  pub visible : (part : TablePart) → IsVisible read part ↔ HasItem (map named parts) part
+  pub stand : PartsStand parts h
+  pub there : All (PartIsThere names h) parts

@@ -1,0 +1,65 @@
+-- What a store keeps of its tables and of the root's names, whatever history they are of (docs/architecture.md, "The store").
+use Rattle.std.specs.Prelude.{◌≡◌, ◌⊎◌, ℕ, ◌≤◌, List, [], All, Option, Some, None}
+use Rattle.std.specs.Map.{keys_of}
+use Rattle.std.specs.Option.{ForSome}
+use Rattle.mt_base.specs.declared.partition.Partition.TheVariants.{Whole}
+use Rattle.mt_values.specs.declared.schema.Schema.{Schema}
+use Rattle.mt_values.specs.RootNames.{create_name, part_name}
+use Rattle.mt_values.specs.Values.{Row}
+use Rattle.mt_outside.specs.Disk.{Told, names_of}
+use Rattle.mt_outside.specs.Files.{Files}
+use Rattle.mt_model.specs.History.{History, IsTableSchema}
+use Rattle.part_name.specs.declared.part.PartName.{PartName}
+use Rattle.part_name.specs.PartNames.{IsPartName, part_text}
+use Rattle.part_reader.specs.declared.reading.Part.{Part}
+use Rattle.part_reader.specs.Parts.{PartHolds}
+use Rattle.part_set.specs.declared.kept.Kept.{Kept}
+use Rattle.part_set.specs.Sets.{parts_of}
+use Rattle.root_store.specs.declared.store.CoreStore.{CoreStore}
+use Rattle.root_store.specs.declared.store.Table.{Table}
+use Rattle.root_store.specs.Roots.{Stands}
+use Rattle.root_store.specs.Stores.{table_at}
+
+-- each part of the table ends by the last number that was drawn, so that a new part meets none of them
+abbrev pub EndsByDrawn : {F : Type 0} → CoreStore F → List ℕ → ℕ → Type 0
+EndsByDrawn {F} store table drawn = All (λ (k : Kept (Part F)). k.name.max_block ≤ drawn) (parts_of store.set table)
+
+-- a table that commands may follow: its schema is one that a table may have, and its parts are of the whole partition, begin no later than
+-- they end, and end by the number that was drawn last
+pub record IsSoundTable {F : Type 0} (store : CoreStore F) (table : List ℕ) (t : Table) : Type 0 where
+  pub schema : IsTableSchema t.schema
+  pub ends : EndsByDrawn store table t.drawn
+  pub whole : All (λ (k : Kept (Part F)). k.name.partition ≡ Whole) (parts_of store.set table)
+  pub order : All (λ (k : Kept (Part F)). k.name.min_block ≤ k.name.max_block) (parts_of store.set table)
+
+-- each table is so, and no other has parts
+pub record IsSound {F : Type 0} (store : CoreStore F) : Type 0 where
+  pub tables : (table : List ℕ) (t : Table) → table_at store table ≡ Some t → IsSoundTable store table t
+  pub no_other : (table : List ℕ) → table_at store table ≡ None → parts_of store.set table ≡ []
+
+-- a name that the root may have under this store: the entry of a table, or a part of one that ends by the number that was drawn last
+pub record IsNameUnder {F : Type 0} (store : CoreStore F) (name : List ℕ) : Type 0 where
+  pub table : List ℕ
+  pub kept : Table
+  pub there : table_at store table ≡ Some kept
+  pub is : (name ≡ create_name table) ⊎ ((part : PartName) × IsPartName part × (part.max_block ≤ kept.drawn) × (name ≡ part_name table (part_text part)))
+
+-- every name of the root is such a name
+abbrev pub NamesFit : {F : Type 0} → CoreStore F → Told → Type 0
+NamesFit store told = All (IsNameUnder store) (keys_of (names_of told))
+
+-- the same, as long as the disk's count of faults is the one at opening; a command whose commit failed may have left its name
+abbrev pub NamesFitUnlessRisen : {F : Type 0} → ℕ → Option Told → CoreStore F → Type 0
+NamesFitUnlessRisen failed told store = failed ≡ store.opened → ForSome told (NamesFit store)
+
+-- the disk tells a root that stands for a history
+abbrev pub RootStands : Option Told → History → Type 0
+RootStands told h = (t : Told) × (told ≡ Some t) × Stands (names_of t) h
+
+-- a part holds rows of a table with this schema
+abbrev pub HoldsRows : {F : Type 0} → (F → Option Files) → Schema → Kept (Part F) → Type 0
+HoldsRows files_of schema kept = (rows : List Row) × PartHolds files_of schema kept.part rows
+
+-- each part of a table of the store holds rows of it, whatever history they are of: none of its files is damaged
+abbrev pub HasSoundParts : {F : Type 0} → (F → Option Files) → CoreStore F → Type 0
+HasSoundParts files_of store = (table : List ℕ) (t : Table) → table_at store table ≡ Some t → All (HoldsRows files_of t.schema) (parts_of store.set table)
