@@ -7,7 +7,7 @@ use Rattle.mt_outside.specs.Files.{Files}
 use Rattle.root_store.specs.declared.store.CoreStore.{CoreStore}
 use Rattle.root_store.specs.Crashes.{AreCalm, AreCrashSafe, IsCrashSafe, KeepsThroughCrashes, entries_of}
 use Rattle.root_store.specs.Stores.{CoreStands}
-use Rattle.root_log.proofs.CrashDone.{keeps_more, no_commands}
+use Rattle.root_commits.proofs.CrashDone.{keeps_more, no_commands}
 use Rattle.root_store.proofs.CrashMarks.{safe_begun}
 use Rattle.mt_program.specs.Crashes.{LeavesForCrashes, LeavesOfScript}
 use Rattle.mt_program.specs.Serving.{Item}

@@ -20,7 +20,7 @@ use Rattle.mt_model.specs.Reply.{rows_of_insert, rows_for, rows_or_refused, inse
 use Rattle.mt_model.specs.Session.{Adds, Takes}
 use Rattle.root_store.specs.declared.store.CoreStore.{CoreStore}
 use Rattle.durable_commit.specs.Commits.{Notes}
-use Rattle.root_log.specs.Commits.{insert_of_block}
+use Rattle.root_commits.specs.Commits.{insert_of_block}
 use Rattle.root_store.specs.Soundness.{RootStands}
 use Rattle.root_store.specs.Stores.{CoreStands}
 use Rattle.mt_program.specs.Answers.{history, Accepts}

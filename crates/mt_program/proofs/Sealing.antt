@@ -20,7 +20,7 @@ use Rattle.part_reader.specs.declared.reading.Part.{Part}
 use Rattle.part_reader.specs.Parts.{PartHolds}
 use Rattle.part_reader.proofs.Holding.{manifest_at, written_holds}
 use Rattle.part_writer.specs.PartFiles.{column_file_bytes, manifest_of, part_files}
-use Rattle.root_log.specs.Commits.{IsSealedOf, part_rows}
+use Rattle.root_commits.specs.Commits.{IsSealedOf, part_rows}
 use Rattle.root_store.specs.Roots.{FolderHolds}
 use Rattle.mt_program.proofs.Selecting.{ordered_is_sorted}
 

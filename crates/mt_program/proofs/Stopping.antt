@@ -29,7 +29,7 @@ use Rattle.durable_commit.specs.declared.causes.Refused.{Refused}
 use Rattle.durable_commit.specs.declared.causes.Refused.TheVariants as refused
 use Rattle.root_store.specs.declared.store.CoreStore.{CoreStore}
 use Rattle.root_store.specs.declared.store.Table.{Table}
-use Rattle.root_log.specs.Commits.{IsCause, refuses_create, refuses_part, whole_parts}
+use Rattle.root_commits.specs.Commits.{IsCause, refuses_create, refuses_part, whole_parts}
 use Rattle.root_store.specs.Soundness.{RootStands}
 use Rattle.root_store.specs.Stores.{CoreStands, table_at}
 use Rattle.mt_program.specs.Answers.{Foresees, history, is_unsettled}

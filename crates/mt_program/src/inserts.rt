@@ -11,7 +11,7 @@ ghost use Rattle.mt_outside.specs.DiskCauses.{HasDiskCause};
 ghost use Rattle.mt_model.specs.History.{IsTableSchema, column_types};
 ghost use Rattle.mt_model.specs.Refusals.{is_damage, refusal_line, refusal_of_data};
 ghost use Rattle.tsv_rows.specs.Stops.{Refuses};
-ghost use Rattle.root_log.specs.Commits.{IsSealedOf};
+ghost use Rattle.root_commits.specs.Commits.{IsSealedOf};
 ghost use Rattle.root_store.specs.Crashes.{KeepsThroughCrashes};
 ghost use Rattle.root_store.specs.Soundness.{HasSoundParts, IsSound, NamesFitUnlessRisen};
 ghost use Rattle.root_store.specs.Stores.{CoreStands};

@@ -1,10 +1,12 @@
-//! What commits add to a root, and what a crash leaves of it.
+//! The root of a store: opened and checked, and what a commit adds to it.
 #![tactic(auto)]
 
-mod commits;
-mod laws;
-
-pub use commits::{Returned, commit_create, commit_part};
 pub use durable_commit::{Limit, Refused};
-pub use laws::{crashes_leave_what_was_noted, runs_go_on_behind_a_crash};
+pub use root_commits::{
+    Returned, commit_create, commit_part, crashes_leave_what_was_noted, runs_go_on_behind_a_crash,
+};
+pub use root_opening::{
+    Damage, NameFault, OpenFault, damage_of_a_root_is_one, open, open_entry, read_names,
+    read_schema, roots_stand_by_their_stores, sound_roots_are_not_damaged, told_names_rise,
+};
 pub use root_store::{CoreStore, Table};

@@ -7,7 +7,7 @@ use Rattle.mt_model.proofs.Causes.{text_is_cause, undamaged_line}
 use Rattle.mt_model.proofs.Tables.{schema_is}
 use Rattle.mt_model.specs.Refusals.{is_damage, refusal_line}
 use Rattle.durable_commit.specs.Commits.{Notes}
-use Rattle.root_log.specs.Commits.{IsCause, refuses_create}
+use Rattle.root_commits.specs.Commits.{IsCause, refuses_create}
 use Rattle.root_store.specs.Entries.{EntryHolds}
 use Rattle.root_store.specs.Soundness.{RootStands}
 use Rattle.root_store.specs.Stores.{CoreStands}
@@ -17,7 +17,7 @@ use Rattle.mt_program.proofs.Accepting.{accepts_nothing, answers_line, root_is, 
 use Rattle.mt_program.proofs.Creating.{created_accepts, entry_holds, turn_free}
 use Rattle.mt_program.proofs.Refusing.{create_failed, create_refused}
 use Rattle.part_set.proofs.Items.{item_first}
-use Rattle.root_log.proofs.SameStores.{stands_same}
+use Rattle.root_commits.proofs.SameStores.{stands_same}
 use Rattle.mt_program.proofs.Standing.{no_table, tables_made}
 use Rattle.mt_program.specs.Stops.{IsLineOf, IsLineOfStage}
 use Rattle.mt_program.proofs.Stopping.{create_not_committed, line_of_stage, nothing_shown_to_create, root_unless_disk}

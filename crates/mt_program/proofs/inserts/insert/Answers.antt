@@ -16,7 +16,7 @@ use Rattle.mt_model.specs.History.{IsInsertInto, column_types, inserts}
 use Rattle.mt_model.specs.Refusals.{is_damage, refusal_line, refusal_of_data}
 use Rattle.mt_model.specs.Reply.{ok_line}
 use Rattle.root_store.specs.declared.store.Table.{Table}
-use Rattle.root_log.specs.Commits.{insert_into, whole_parts}
+use Rattle.root_commits.specs.Commits.{insert_into, whole_parts}
 use Rattle.root_store.specs.Stores.{table_at}
 use Rattle.mt_program.specs.Answers.{history}
 use Rattle.mt_program.proofs.Accepting.{accepts_nothing, answers_line, root_is, kept_same, length_history, same_kept}
@@ -24,7 +24,7 @@ use Rattle.mt_program.proofs.Inserting.{empty_accepted, inserted_accepts, no_suc
 use Rattle.mt_program.proofs.Refusing.{insert_failed, insert_refused}
 use Rattle.mt_model.specs.Reply.{rows_or_refused}
 use Rattle.part_set.proofs.Items.{item_first}
-use Rattle.root_log.proofs.SameStores.{stands_same}
+use Rattle.root_commits.proofs.SameStores.{stands_same}
 use Rattle.mt_program.proofs.Standing.{drawn_is, no_table, parts_made, table_schema}
 use Rattle.mt_program.specs.Stops.{IsLineOf, IsLineOfStage}
 use Rattle.mt_program.proofs.Stopping.{filtered, insert_not_committed, line_of_stage, nothing_shown, root_unless_disk}

@@ -1,7 +1,7 @@
 use Rattle.std.proofs.Common.{◌∙◌, ◌∷◌, ◌++◌, [], refl, sym, subst, arith, ◌+◌, drop}
 use Rattle.mt_values.specs.Script.{statements_of}
 use Rattle.mt_program.proofs.ServedScripts.{served_none, served_all, served_so_far, served_unanswered, served_more, served_cut, no_statement, nothing_left, one_statement, is_written, Found, Used, used_within}
-use Rattle.root_log.proofs.CrashDone.{keeps_more}
+use Rattle.root_commits.proofs.CrashDone.{keeps_more}
 use Rattle.mt_program.proofs.Crashing.{left_behind, one_more}
 use Rattle.mt_program.specs.Answers.{Accepts}
 use Rattle.mt_program.specs.Serving.{Served}

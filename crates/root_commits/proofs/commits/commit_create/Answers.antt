@@ -7,22 +7,22 @@ use Rattle.mt_values.specs.RootNames.{create_name}
 use Rattle.mt_outside.specs.Disk.{MayPut, files_at, names_of, put}
 use Rattle.durable_commit.specs.Commits.{SameList}
 use Rattle.root_store.specs.Stores.{fresh_table}
-use Rattle.root_log.specs.Commits.{refuses_create}
+use Rattle.root_commits.specs.Commits.{refuses_create}
 use Rattle.root_store.specs.Crashes.{entries_of}
 use Rattle.root_store.specs.Soundness.{NamesFit}
 use Rattle.root_store.specs.Stores.{table_at}
-use Rattle.root_log.proofs.CrashCommits.{grows_by_table}
-use Rattle.root_log.proofs.CrashDone.{keeps_more}
-use Rattle.root_log.proofs.CrashTurns.{kept_committed, kept_failed, kept_untouched, unrisen}
-use Rattle.root_log.proofs.Entering.{stands_created}
-use Rattle.root_log.proofs.FreeNames.{entry_free, made_fits}
-use Rattle.root_log.proofs.Holding.{held_made, held_same}
+use Rattle.root_commits.proofs.CrashCommits.{grows_by_table}
+use Rattle.root_commits.proofs.CrashDone.{keeps_more}
+use Rattle.root_commits.proofs.CrashTurns.{kept_committed, kept_failed, kept_untouched, unrisen}
+use Rattle.root_commits.proofs.Entering.{stands_created}
+use Rattle.root_commits.proofs.FreeNames.{entry_free, made_fits}
+use Rattle.root_commits.proofs.Holding.{held_made, held_same}
 use Rattle.durable_commit.proofs.WhyRefused.{disk_fault, disk_memory, outside_disk}
-use Rattle.root_log.proofs.Leaving.{cause_shown, none_shown, same_tables, shown_absent, shown_calm, shown_few, shown_other, taken_out}
-use Rattle.root_log.proofs.Rooted.{root_made}
-use Rattle.root_log.proofs.Sounding.{names_kept, sound_made, sound_same}
+use Rattle.root_commits.proofs.Leaving.{cause_shown, none_shown, same_tables, shown_absent, shown_calm, shown_few, shown_other, taken_out}
+use Rattle.root_commits.proofs.Rooted.{root_made}
+use Rattle.root_commits.proofs.Sounding.{names_kept, sound_made, sound_same}
 use Rattle.durable_commit.proofs.SameLists.{no_disk, not_none, same_list}
-use Rattle.root_log.proofs.commits.commit_create.Goals as goal
+use Rattle.root_commits.proofs.commits.commit_create.Goals as goal
 
 pub commit-requires-clause-free : goal.commit-requires-clause-free
 commit-requires-clause-free g c κs within = λ root is.

@@ -24,7 +24,7 @@ use Rattle.durable_commit.specs.declared.causes.Limit.TheVariants as limit
 use Rattle.durable_commit.specs.declared.causes.Refused.{Refused}
 use Rattle.durable_commit.specs.declared.causes.Refused.TheVariants as refused
 use Rattle.durable_commit.specs.Commits.{IsOutside, stopped_by}
-use Rattle.root_log.specs.declared.commits.Returned.{Returned}
+use Rattle.root_commits.specs.declared.commits.Returned.{Returned}
 use Rattle.root_store.specs.declared.store.CoreStore.{CoreStore}
 use Rattle.root_store.specs.declared.store.Table.{Table}
 use Rattle.root_store.specs.Roots.{FolderHolds}

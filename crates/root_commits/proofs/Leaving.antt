@@ -14,7 +14,7 @@ use Rattle.durable_commit.specs.declared.causes.Limit.TheVariants as limit
 use Rattle.durable_commit.specs.declared.causes.Refused.{Refused}
 use Rattle.durable_commit.specs.declared.causes.Refused.TheVariants as refused
 use Rattle.root_store.specs.declared.store.CoreStore.{CoreStore}
-use Rattle.root_log.specs.Commits.{IsCause, SameStore, refuses_create, refuses_part, whole_parts}
+use Rattle.root_commits.specs.Commits.{IsCause, SameStore, refuses_create, refuses_part, whole_parts}
 use Rattle.root_store.specs.Stores.{table_at}
 
 -- a new entry that is taken out again

@@ -14,24 +14,24 @@ use Rattle.durable_commit.specs.declared.causes.Refused.TheVariants as refused
 use Rattle.root_store.specs.declared.store.CoreStore.{CoreStore}
 use Rattle.root_store.specs.declared.store.Table.{Table}
 use Rattle.durable_commit.specs.Commits.{SameList, entry_of}
-use Rattle.root_log.specs.Commits.{EntersSealed, IsCause, IsSealedOf, fresh_part, insert_of_block, refuses_part}
+use Rattle.root_commits.specs.Commits.{EntersSealed, IsCause, IsSealedOf, fresh_part, insert_of_block, refuses_part}
 use Rattle.root_store.specs.Crashes.{entries_of}
 use Rattle.root_store.specs.Soundness.{NamesFit}
 use Rattle.root_store.specs.Stores.{table_at}
-use Rattle.root_log.proofs.Behind.{PartIsAdded, enters_part, none_meets}
-use Rattle.root_log.proofs.CrashCommits.{grows_by_part}
-use Rattle.root_log.proofs.CrashDone.{keeps_more}
-use Rattle.root_log.proofs.CrashTurns.{kept_committed, kept_failed, kept_untouched, unrisen}
-use Rattle.root_log.proofs.FreeNames.{added_fits, fresh_named, part_free}
-use Rattle.root_log.proofs.Holding.{held_added, held_same}
-use Rattle.root_log.proofs.Inserted.{stands_inserted}
+use Rattle.root_commits.proofs.Behind.{PartIsAdded, enters_part, none_meets}
+use Rattle.root_commits.proofs.CrashCommits.{grows_by_part}
+use Rattle.root_commits.proofs.CrashDone.{keeps_more}
+use Rattle.root_commits.proofs.CrashTurns.{kept_committed, kept_failed, kept_untouched, unrisen}
+use Rattle.root_commits.proofs.FreeNames.{added_fits, fresh_named, part_free}
+use Rattle.root_commits.proofs.Holding.{held_added, held_same}
+use Rattle.root_commits.proofs.Inserted.{stands_inserted}
 use Rattle.durable_commit.proofs.WhyRefused.{disk_fault, disk_memory, outside_disk}
-use Rattle.root_log.proofs.Leaving.{cause_shown, none_shown, shown_number, shown_part_calm, shown_part_other}
-use Rattle.root_log.proofs.Rooted.{root_added}
-use Rattle.root_log.proofs.Sounding.{names_kept, sound_added, sound_same}
-use Rattle.root_log.proofs.Updated.{one_some}
+use Rattle.root_commits.proofs.Leaving.{cause_shown, none_shown, shown_number, shown_part_calm, shown_part_other}
+use Rattle.root_commits.proofs.Rooted.{root_added}
+use Rattle.root_commits.proofs.Sounding.{names_kept, sound_added, sound_same}
+use Rattle.root_commits.proofs.Updated.{one_some}
 use Rattle.durable_commit.proofs.SameLists.{no_disk, not_none, same_list}
-use Rattle.root_log.proofs.commits.commit_part.Goals as goal
+use Rattle.root_commits.proofs.commits.commit_part.Goals as goal
 
 pub commit-requires-clause-free : goal.commit-requires-clause-free
 commit-requires-clause-free g c κs within = λ root is.

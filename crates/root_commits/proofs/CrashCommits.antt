@@ -26,12 +26,12 @@ use Rattle.part_history.specs.Entered.{entered, next_number}
 use Rattle.root_store.specs.declared.store.CoreStore.{CoreStore}
 use Rattle.root_store.specs.declared.store.Table.{Table}
 use Rattle.root_store.specs.ByteOrder.{AreInByteOrder}
-use Rattle.root_log.specs.Commits.{fresh_part, insert_into, insert_of_block, part_rows}
+use Rattle.root_commits.specs.Commits.{fresh_part, insert_into, insert_of_block, part_rows}
 use Rattle.root_store.specs.Entries.{EntryHolds}
 use Rattle.root_store.specs.Roots.{FolderHolds, Stands}
 use Rattle.root_store.specs.Stores.{CoreStands, table_at}
-use Rattle.root_log.proofs.CrashNames.{entry_free_in, part_free_in}
-use Rattle.root_log.proofs.Growing.{stands_with_part, stands_with_table}
+use Rattle.root_commits.proofs.CrashNames.{entry_free_in, part_free_in}
+use Rattle.root_commits.proofs.Growing.{stands_with_part, stands_with_table}
 
 -- ---- sealed files
 

@@ -30,11 +30,11 @@ use Rattle.part_set.proofs.Maps.{found_is}
 use Rattle.root_store.specs.declared.store.CoreStore.{CoreStore}
 use Rattle.root_store.specs.declared.store.Table.{Table}
 use Rattle.root_store.specs.Stores.{fresh_table}
-use Rattle.root_log.specs.Commits.{EntersTable, fresh_part}
+use Rattle.root_commits.specs.Commits.{EntersTable, fresh_part}
 use Rattle.root_store.specs.Soundness.{IsNameUnder, NamesFit}
 use Rattle.root_store.specs.Stores.{table_at}
-use Rattle.root_log.proofs.Behind.{PartIsAdded}
-use Rattle.root_log.proofs.Updated.{it_or, no_some, one_some}
+use Rattle.root_commits.proofs.Behind.{PartIsAdded}
+use Rattle.root_commits.proofs.Updated.{it_or, no_some, one_some}
 
 -- ---- dots
 

@@ -1,5 +1,5 @@
-use Rattle.root_log.proofs.StartedAgain.{one_length, started_again}
-use Rattle.root_log.proofs.laws.runs_go_on_behind_a_crash.Goals as goal
+use Rattle.root_commits.proofs.StartedAgain.{one_length, started_again}
+use Rattle.root_commits.proofs.laws.runs_go_on_behind_a_crash.Goals as goal
 
 pub returns-clause-one : goal.returns-clause-one
 returns-clause-one c = one_length

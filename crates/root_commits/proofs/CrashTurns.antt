@@ -19,14 +19,14 @@ use Rattle.durable_commit.specs.declared.causes.Refused.{Refused}
 use Rattle.durable_commit.specs.declared.causes.Refused.TheVariants as refused
 use Rattle.root_store.specs.declared.store.CoreStore.{CoreStore}
 use Rattle.root_store.specs.ByteOrder.{AreInByteOrder}
-use Rattle.root_log.specs.Commits.{SameStore}
+use Rattle.root_commits.specs.Commits.{SameStore}
 use Rattle.root_store.specs.Crashes.{AreCrashSafe, AreCalm, IsCommandBehind, IsCommandOf, KeepsThroughCrashes, StandsForKept, entries_of}
 use Rattle.root_store.specs.Roots.{Stands}
 use Rattle.root_store.specs.Stores.{CoreStands}
-use Rattle.root_log.proofs.CrashDone.{commands_more, commands_push, safe_more}
+use Rattle.root_commits.proofs.CrashDone.{commands_more, commands_push, safe_more}
 use Rattle.root_store.proofs.CrashMarks.{safe_begun}
-use Rattle.root_log.proofs.CrashSafe.{safe_noted, safe_published}
-use Rattle.root_log.proofs.SameStores.{stands_same}
+use Rattle.root_commits.proofs.CrashSafe.{safe_noted, safe_published}
+use Rattle.root_commits.proofs.SameStores.{stands_same}
 
 -- where the disk's count has not risen above the one at opening, a turn that failed left what was told
 pub unrisen : (cause : Refused) (opened before after : ℕ) (told now : Option Told) → opened ≤ before → opened < 2 ^ 64 - 1 → before ≤ after → (cause ≡ refused.Disk → Rose before after) → (cause ≢ refused.Disk → now ≡ told)

@@ -22,7 +22,7 @@ ghost use Rattle.part_history.specs.Numbers.{same_partition};
 ghost use Rattle.part_history.specs.Entered.{entered};
 ghost use Rattle.durable_commit.specs.Commits.{IsOutside, Notes, SameList, entry_of};
 ghost use Rattle.root_store.specs.Stores.{fresh_table};
-ghost use Rattle.root_log.specs.Commits.{EntersSealed, EntersTable, IsCause, SameStore, cause_of, fresh_part, IsSealedOf, insert_into, insert_of_block, refuses_create, refuses_part, whole_parts};
+ghost use Rattle.root_commits.specs.Commits.{EntersSealed, EntersTable, IsCause, SameStore, cause_of, fresh_part, IsSealedOf, insert_into, insert_of_block, refuses_create, refuses_part, whole_parts};
 ghost use Rattle.root_store.specs.Crashes.{IsCommandOf, KeepsThroughCrashes};
 ghost use Rattle.root_store.specs.Entries.{EntryHolds};
 ghost use Rattle.root_store.specs.Soundness.{HasSoundParts, IsSound, NamesFitUnlessRisen, RootStands};

@@ -24,7 +24,7 @@ use Rattle.root_store.specs.Crashes.{AllStand, IsCrashSafe, IsFirstOf, IsMarkBeh
 use Rattle.root_store.specs.Roots.{AreRead, Stands, named}
 use Rattle.root_store.proofs.Counted.{AreTables, as_long, sizes}
 use Rattle.root_store.proofs.CrashOrder.{image_rise, same_names}
-use Rattle.root_log.proofs.Growing.{parts_end_by}
+use Rattle.root_commits.proofs.Growing.{parts_end_by}
 use Rattle.root_store.proofs.Items.{counted_one, map_item, unfiltered}
 use Rattle.root_store.proofs.Readings.{one_reading}
 use Rattle.root_store.proofs.Blocks.{blocks}

@@ -1,5 +1,5 @@
 use Rattle.root_store.proofs.CrashMarks.{safe_at_start, safe_stands, safe_synced, stands_as_read}
-use Rattle.root_log.proofs.laws.crashes_leave_what_was_noted.Goals as goal
+use Rattle.root_commits.proofs.laws.crashes_leave_what_was_noted.Goals as goal
 
 pub returns-clause-start : goal.returns-clause-start
 returns-clause-start c = safe_at_start

@@ -18,15 +18,15 @@ use Rattle.part_set.specs.RootNames.{is_table}
 use Rattle.part_history.specs.Entered.{entered, next_number}
 use Rattle.root_store.specs.declared.store.CoreStore.{CoreStore}
 use Rattle.root_store.specs.declared.store.Table.{Table}
-use Rattle.root_log.specs.Commits.{IsSealedOf, fresh_part, insert_into, insert_of_block, part_rows}
+use Rattle.root_commits.specs.Commits.{IsSealedOf, fresh_part, insert_into, insert_of_block, part_rows}
 use Rattle.root_store.specs.Entries.{EntryHolds}
 use Rattle.root_store.specs.Roots.{FolderHolds, Stands}
 use Rattle.root_store.specs.Soundness.{NamesFit, RootStands}
 use Rattle.root_store.specs.Stores.{CoreStands, table_at}
-use Rattle.root_log.proofs.FreeNames.{entry_free, fresh_named, part_free, put_told}
-use Rattle.root_log.proofs.Growing.{stands_with_part, stands_with_table}
+use Rattle.root_commits.proofs.FreeNames.{entry_free, fresh_named, part_free, put_told}
+use Rattle.root_commits.proofs.Growing.{stands_with_part, stands_with_table}
 use Rattle.root_store.proofs.Rising.{told_rise}
-use Rattle.root_log.proofs.Updated.{one_some}
+use Rattle.root_commits.proofs.Updated.{one_some}
 
 module _ {F : Type 0} (files_of : F → Option Files) (store : CoreStore F) (h : History) (session clock : ℕ) (before after : Option Told)
     (s : CoreStands files_of h store) (stands : RootStands before h) (fit : ForSome before (NamesFit store)) where

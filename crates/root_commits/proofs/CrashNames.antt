@@ -13,10 +13,10 @@ use Rattle.part_set.specs.declared.root_name.RootName.TheVariants as root
 use Rattle.part_set.specs.RootNames.{IsRootName, root_text}
 use Rattle.part_history.specs.Numbers.{numbered}
 use Rattle.part_history.specs.Entered.{next_number}
-use Rattle.root_log.specs.Commits.{fresh_part}
+use Rattle.root_commits.specs.Commits.{fresh_part}
 use Rattle.root_store.specs.Roots.{Stands}
-use Rattle.root_log.proofs.FreeNames.{entries_differ, entry_is_no_part, fresh_named, parts_differ}
-use Rattle.root_log.proofs.Growing.{parts_end_by}
+use Rattle.root_commits.proofs.FreeNames.{entries_differ, entry_is_no_part, fresh_named, parts_differ}
+use Rattle.root_commits.proofs.Growing.{parts_end_by}
 use Rattle.root_store.proofs.Readings.{name_read}
 
 module _ (names : Names) (h : History) (s : Stands names h) where

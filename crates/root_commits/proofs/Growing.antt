@@ -32,10 +32,10 @@ use Rattle.part_history.specs.Entered.{entered, next_number, part_of_insert}
 use Rattle.part_history.proofs.Apart.{ends_below}
 use Rattle.part_history.proofs.Growing.{drawn_apart, schema_kept, schema_more, table_grown, table_kept}
 use Rattle.root_store.specs.ByteOrder.{AreInByteOrder}
-use Rattle.root_log.specs.Commits.{fresh_part}
+use Rattle.root_commits.specs.Commits.{fresh_part}
 use Rattle.root_store.specs.Entries.{EntryHolds}
 use Rattle.root_store.specs.Roots.{FolderHolds, HasFolder, PartIsThere, Stands, named}
-use Rattle.root_log.proofs.Added.{are_read, folder_kept, new_folder, new_read, read_or_new, read_with, still_read, with_name}
+use Rattle.root_commits.proofs.Added.{are_read, folder_kept, new_folder, new_read, read_or_new, read_with, still_read, with_name}
 use Rattle.root_store.proofs.Clear.{of_table}
 use Rattle.root_store.proofs.Fitting.{ends_by}
 use Rattle.root_store.proofs.Orphaned.{of_core, part_named}

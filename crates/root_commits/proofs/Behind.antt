@@ -14,7 +14,7 @@ use Rattle.part_set.specs.Parts.{IsAdded, IsInBlockOrder, NoneMeets, StandsClear
 use Rattle.part_set.specs.Sets.{parts_of}
 use Rattle.root_store.specs.declared.store.CoreStore.{CoreStore}
 use Rattle.root_store.specs.declared.store.Table.{Table}
-use Rattle.root_log.specs.Commits.{EntersPart, fresh_part}
+use Rattle.root_commits.specs.Commits.{EntersPart, fresh_part}
 use Rattle.root_store.specs.Soundness.{IsSound, IsSoundTable}
 use Rattle.root_store.specs.Stores.{table_at}
 

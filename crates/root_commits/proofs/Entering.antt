@@ -29,9 +29,9 @@ use Rattle.part_history.proofs.Growing.{numbered_more, schema_kept, schema_more,
 use Rattle.root_store.specs.declared.store.CoreStore.{CoreStore}
 use Rattle.root_store.specs.declared.store.Table.{Table}
 use Rattle.root_store.specs.Stores.{fresh_table}
-use Rattle.root_log.specs.Commits.{EntersTable}
+use Rattle.root_commits.specs.Commits.{EntersTable}
 use Rattle.root_store.specs.Stores.{CoreStands, PartsAreThere, core_parts, table_at}
-use Rattle.root_log.proofs.Updated.{it_or, one_some}
+use Rattle.root_commits.proofs.Updated.{it_or, one_some}
 
 pub first_none : (o : Option Schema) → first_of o None ≡ o
 first_none None = refl

@@ -27,11 +27,11 @@ use Rattle.part_history.proofs.Growing.{drawn_apart, drawn_here, numbered_more, 
 use Rattle.part_history.proofs.Ordered.{order_grown}
 use Rattle.root_store.specs.declared.store.CoreStore.{CoreStore}
 use Rattle.root_store.specs.declared.store.Table.{Table}
-use Rattle.root_log.specs.Commits.{EntersSealed, IsSealedOf, fresh_part, insert_into, insert_of_block, part_rows}
+use Rattle.root_commits.specs.Commits.{EntersSealed, IsSealedOf, fresh_part, insert_into, insert_of_block, part_rows}
 use Rattle.root_store.specs.Stores.{CoreStands, PartsAreThere, core_part, core_parts, table_at}
-use Rattle.root_log.proofs.Entering.{first_none}
+use Rattle.root_commits.proofs.Entering.{first_none}
 use Rattle.root_store.proofs.Undamaged.{folder_part}
-use Rattle.root_log.proofs.Updated.{it_or, no_some, one_some}
+use Rattle.root_commits.proofs.Updated.{it_or, no_some, one_some}
 
 module _ {F : Type 0} where
   -- one part more with its rows

@@ -20,11 +20,11 @@ use Rattle.part_set.specs.Sets.{parts_of}
 use Rattle.root_store.specs.declared.store.CoreStore.{CoreStore}
 use Rattle.root_store.specs.declared.store.Table.{Table}
 use Rattle.root_store.specs.Stores.{fresh_table}
-use Rattle.root_log.specs.Commits.{EntersSealed, EntersTable, IsSealedOf, SameStore, fresh_part, part_rows}
+use Rattle.root_commits.specs.Commits.{EntersSealed, EntersTable, IsSealedOf, SameStore, fresh_part, part_rows}
 use Rattle.root_store.specs.Soundness.{HasSoundParts, HoldsRows, IsSound}
 use Rattle.root_store.specs.Stores.{table_at}
 use Rattle.root_store.proofs.Undamaged.{folder_part}
-use Rattle.root_log.proofs.Updated.{it_or, one_some}
+use Rattle.root_commits.proofs.Updated.{it_or, one_some}
 
 module _ {F : Type 0} (files_of : F → Option Files) where
   -- the same store

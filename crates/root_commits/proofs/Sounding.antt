@@ -22,11 +22,11 @@ use Rattle.durable_commit.specs.declared.causes.Refused.TheVariants as refused
 use Rattle.root_store.specs.declared.store.CoreStore.{CoreStore}
 use Rattle.root_store.specs.declared.store.Table.{Table}
 use Rattle.root_store.specs.Stores.{fresh_table}
-use Rattle.root_log.specs.Commits.{EntersTable, SameStore, fresh_part}
+use Rattle.root_commits.specs.Commits.{EntersTable, SameStore, fresh_part}
 use Rattle.root_store.specs.Soundness.{IsNameUnder, IsSound, IsSoundTable, NamesFit, NamesFitUnlessRisen}
 use Rattle.root_store.specs.Stores.{table_at}
-use Rattle.root_log.proofs.Behind.{PartIsAdded}
-use Rattle.root_log.proofs.Updated.{it_or, no_some, one_some}
+use Rattle.root_commits.proofs.Behind.{PartIsAdded}
+use Rattle.root_commits.proofs.Updated.{it_or, no_some, one_some}
 
 module _ {F : Type 0} where
   abbrev Ends : ℕ → Kept (Part F) → Type 0

@@ -16,7 +16,7 @@ use Rattle.part_set.specs.declared.kept.Kept.{Kept}
 use Rattle.part_history.specs.Parts.{AreInBlockOrder, TableStands}
 use Rattle.root_store.specs.declared.store.CoreStore.{CoreStore}
 use Rattle.root_store.specs.declared.store.Table.{Table}
-use Rattle.root_log.specs.Commits.{SameStore}
+use Rattle.root_commits.specs.Commits.{SameStore}
 use Rattle.root_store.specs.Stores.{CoreStands, core_parts, table_at}
 
 module _ {F : Type 0} (files_of : F → Option Files) where

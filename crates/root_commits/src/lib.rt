@@ -1,0 +1,8 @@
+//! What commits add to a root, and what a crash leaves of it.
+#![tactic(auto)]
+
+mod commits;
+mod laws;
+
+pub use commits::{Returned, commit_create, commit_part};
+pub use laws::{crashes_leave_what_was_noted, runs_go_on_behind_a_crash};
