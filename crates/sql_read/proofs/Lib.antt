@@ -6,7 +6,6 @@ pub mod FaultParts
 pub mod FirstWords
 pub mod Growth
 pub mod Keywords
-pub mod Lines
 pub mod Listed
 pub mod Nexts
 pub mod Pieces

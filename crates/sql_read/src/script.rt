@@ -1,16 +1,17 @@
 // The statements of a script, with their data.
-ghost use Rattle.std.specs.Prelude.{◌≡◌, ◌<◌, ◌≤◌, ◌+◌, ◌^◌, ◌==◌, ◌&&◌, ◌↔◌, ℕ, Bool, List, length, take, drop, IfOk, IfSome, false, not};
-ghost use Rattle.std.specs.Option.{option_map};
+ghost use Rattle.std.specs.Prelude.{◌≡◌, ◌<◌, ◌≤◌, ◌↔◌, Bool, length, drop, IfOk, IfSome, false};
 ghost use Rattle.std.specs.List.{list_all, prefix_len};
 ghost use Rattle.mt_values.specs.Tokens.{is_space};
 ghost use Rattle.mt_values.specs.Grammar.{takes_data};
-ghost use Rattle.mt_values.specs.Script.{behind_line, complete_or_cut, data_ended, data_of, ended_from, ends_at, ends_data, has_whole, is_line_byte, is_whole, line_from, line_rest, place_behind, takes_next, with_line_rest};
-ghost use Rattle.sql_read.specs.Scripts.{IsNext, data_in, line_said, next_of, parts_at, section_said};
+ghost use Rattle.mt_values.specs.Script.{complete_or_cut, ended_from, ends_at, has_whole, is_whole, place_behind};
+ghost use Rattle.insert_data.specs.Sections.{line_said, section_said};
+ghost use Rattle.sql_read.specs.Scripts.{IsNext, next_of, parts_at};
 
 use crate::blanks::{Skipped, begins_with, behind, is_space, skipped_len};
 use crate::cursor::is_keyword;
 use crate::grammar::statement;
 use crate::tokens::{starts_word, word_len};
+use insert_data::{Section, inserted};
 use mt_base::NoMemory;
 use mt_values::{Cause, Place, Statement};
 use std::alloc::Global;
@@ -29,38 +30,6 @@ pub enum Next {
     Refused(Cause, usize),
     /// The statement found no room.
     NoMemory,
-}
-
-/// How much of a text is data.
-#[derive(Clone, Copy)]
-struct Extent {
-    /// The bytes of the lines of data, which stand first.
-    lines: usize,
-    /// Whether the line that ends data came.
-    ended: bool,
-    /// Whether it came with its line feed.
-    closed: bool,
-    /// The bytes up to the script behind the data.
-    used: usize,
-}
-
-/// The part of a script that its first statement takes.
-#[derive(Clone, Copy)]
-struct Section<'a> {
-    /// The statement's text.
-    text: &'a [u8],
-    /// Whether a semicolon ends it.
-    terminated: bool,
-    /// What stands behind the semicolon of an INSERT on its line.
-    line: &'a [u8],
-    /// The lines of its data.
-    lines: &'a [u8],
-    /// Whether the line that ends data came.
-    ended: bool,
-    /// The bytes of the script up to what follows all of this.
-    used: usize,
-    /// Whether it is the same whatever comes behind the script.
-    whole: bool,
 }
 
 // Where the next byte stands, behind this byte.
@@ -102,37 +71,6 @@ fn statement_end(text: &[u8]) -> Option<usize>
     None
 }
 
-// Whether the byte is a line feed that no backslash takes.
-fn ends_line(taken: bool, byte: u8) -> bool
-    ensures { result ≡ (not taken && byte == 10) }
-{
-    !taken && byte == b'\n'
-}
-
-/// Whether the byte is a backslash that takes the next byte: it is not itself taken.
-pub fn takes_next(taken: bool, byte: u8) -> bool
-    ensures { result ≡ takes_next taken byte }
-{
-    !taken && byte == b'\\'
-}
-
-/// The place of the line feed that ends the line of data which a text begins with: the first that no backslash takes.
-/// None where no line feed ends the line. Takes no memory.
-pub fn line_end(text: &[u8]) -> Option<usize>
-    ensures parts { option_map (λ k. (take k text.now, drop (k + 1) text.now)) result
-        ≡ line_from false text.now }
-    ensures within { IfSome result (λ k. k < length text.now) }
-{
-    let mut taken = false;
-    for (at, byte) in text.iter().enumerate() {
-        if ends_line(taken, *byte) {
-            return Some(at);
-        }
-        taken = takes_next(taken, *byte);
-    }
-    None
-}
-
 // Whether data follows a statement's text: its first token is INSERT.
 #[tactic(auto, using(crate::proofs::FirstWords::takes_data_none, crate::proofs::FirstWords::takes_data_first))]
 fn takes_data(text: &[u8]) -> bool
@@ -143,56 +81,6 @@ fn takes_data(text: &[u8]) -> bool
         [byte, ..] => starts_word(*byte) && is_keyword(b"INSERT", &first[..word_len(first)]),
         [] => false,
     }
-}
-
-// Whether the line is the one that ends data.
-fn ends_data(line: &[u8]) -> bool
-    ensures { result ≡ ends_data line.now }
-{
-    line == b"\\.".as_slice()
-}
-
-// The data that a text begins with. One pass over its bytes; takes no memory.
-fn data_extent(text: &[u8]) -> Extent
-    ensures data { data_in text.now result ≡ data_of text.now }
-    ensures closed { result.closed ≡ data_ended text.now }
-    ensures within { result.lines ≤ length text.now }
-    ensures used { result.used ≤ length text.now }
-{
-    let mut lines = 0;
-    'lines: while let Some(len) = line_end(&text[lines..]) {
-        if ends_data(&text[lines..lines + len]) {
-            return Extent {
-                lines,
-                ended: true,
-                closed: true,
-                used: lines + len + 1,
-            };
-        }
-        lines += len + 1;
-    }
-    if ends_data(&text[lines..]) {
-        return Extent {
-            lines,
-            ended: true,
-            closed: false,
-            used: text.len(),
-        };
-    }
-    Extent {
-        lines: text.len(),
-        ended: false,
-        closed: false,
-        used: text.len(),
-    }
-}
-
-// The bytes of the line that a text begins with, without its line feed.
-fn line_len(text: &[u8]) -> usize
-    ensures value { result ≡ prefix_len is_line_byte text.now }
-    ensures within { result ≤ length text.now }
-{
-    text.iter().take_while(|byte| **byte != b'\n').count()
 }
 
 // How many blanks a line begins with.
@@ -208,32 +96,6 @@ fn are_blank(line: &[u8]) -> bool
     ensures { result ≡ list_all is_space line.now }
 {
     line.iter().all(|byte| is_space(*byte))
-}
-
-// The part of a script that an INSERT of this text takes, with its data, and with this many bytes before what stands
-// behind its semicolon.
-fn inserted<'a>(text: &'a [u8], before: usize, behind: &'a [u8]) -> Section<'a>
-    requires fits { before + length behind.now < 2 ^ 64 }
-    ensures said { section_said result
-        ≡ with_line_rest text.now (line_rest behind.now) (data_of (behind_line behind.now)) }
-    ensures rest { (script : List ℕ) → drop before script ≡ behind.now
-        → drop result.used script ≡ (data_of (behind_line behind.now)).rest }
-    ensures used { (before ≤ result.used) × (result.used ≤ before + length behind.now) }
-    ensures whole { result.whole
-        ≡ (not (list_all is_line_byte behind.now) && data_ended (behind_line behind.now)) }
-{
-    let len = line_len(behind);
-    let start = (len + 1).min(behind.len());
-    let data = data_extent(&behind[start..]);
-    Section {
-        text,
-        terminated: true,
-        line: &behind[..len],
-        lines: &behind[start..start + data.lines],
-        ended: data.ended,
-        used: before + start + data.used,
-        whole: len < behind.len() && data.closed,
-    }
 }
 
 // The part of a script that the statement takes which it begins with. Takes no memory.

@@ -5,7 +5,7 @@ use Rattle.std.proofs.lemmas.List.{take_more, take_all, drop-append-le, take-app
 use Rattle.mt_values.specs.Script.{takes_next, line_from}
 use Rattle.mt_values.specs.Rows.{onto_first, fields_from}
 use Rattle.mt_values.proofs.Fronts.{parted, parted_none}
-use Rattle.sql_read.proofs.TextParts.{line_more, line_here, line_none}
+use Rattle.insert_data.proofs.LineParts.{line_more, line_here, line_none}
 use Rattle.tsv_rows.specs.Fields.{pieces_from, EndsRise, EndFields, line_at, line_found, marked}
 
 -- it is a line feed, where those are looked for

@@ -1,6 +1,6 @@
 use Rattle.std.proofs.Common.{◌∙◌, sym}
-use Rattle.sql_read.proofs.TextParts.{line_more, line_here, line_none}
-use Rattle.sql_read.proofs.script.line_end.Goals as goal
+use Rattle.insert_data.proofs.LineParts.{line_more, line_here, line_none}
+use Rattle.insert_data.proofs.lines.line_end.Goals as goal
 
 pub loop-at-preserved : goal.loop-at-preserved
 loop-at-preserved c =

@@ -1,8 +1,8 @@
 use Rattle.std.proofs.Common.{◌≡◌, ◌∙◌, ◌+◌, ◌-◌, sym, arith, drop, take, true, false, length-drop, refl}
 use Rattle.std.proofs.lemmas.List.{take_rest}
 use Rattle.mt_values.specs.Script.{ends_data}
-use Rattle.sql_read.proofs.Lines.{lines_more, lines_end, ended_more, ended_here}
-use Rattle.sql_read.proofs.script.data_extent.Goals as goal
+use Rattle.insert_data.proofs.DataLines.{lines_more, lines_end, ended_more, ended_here}
+use Rattle.insert_data.proofs.lines.data_extent.Goals as goal
 
 pub returns-then-ends_data-clause-data : goal.returns-then-ends_data-clause-data
 returns-then-ends_data-clause-data c =

@@ -1,7 +1,7 @@
 use Rattle.std.proofs.Common.{◌≡◌, ◌≤◌, ◌-◌, length, take, drop}
 use Rattle.mt_values.specs.Script.{data_ended, data_of}
-use Rattle.sql_read.proofs.Lines.{with_lines}
-use Rattle.sql_read.proofs.script.data_extent.Given as goal
+use Rattle.insert_data.proofs.DataLines.{with_lines}
+use Rattle.insert_data.proofs.lines.data_extent.Given as goal
 
 abbrev pub invariant-lines : goal.invariant-lines
 invariant-lines l =

@@ -1,8 +1,8 @@
 use Rattle.std.proofs.Common.{◌∙◌, arith}
 use Rattle.std.proofs.lemmas.List.{take_rest}
-use Rattle.sql_read.proofs.Sections.{inserted_said, inserted_whole, inserted_part}
-use Rattle.sql_read.proofs.script.inserted.Goals as goal
-use Rattle.sql_read.proofs.script.inserted.Goals.{then-len-behind, else-len-behind}
+use Rattle.insert_data.proofs.Sections.{inserted_said, inserted_whole, inserted_part}
+use Rattle.insert_data.proofs.section.inserted.Goals as goal
+use Rattle.insert_data.proofs.section.inserted.Goals.{then-len-behind, else-len-behind}
 
 pub returns-clause-said : goal.returns-clause-said
 returns-clause-said c =

@@ -1,0 +1,3 @@
+pub mod DataLines
+pub mod LineParts
+pub mod Sections

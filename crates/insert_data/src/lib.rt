@@ -1,0 +1,8 @@
+//! The data of an INSERT: its lines, up to the line that ends it.
+#![tactic(auto)]
+
+mod lines;
+mod section;
+
+pub use lines::{line_end, takes_next};
+pub use section::{Section, inserted};
