@@ -63,6 +63,12 @@ pub record Before (a b : PartName) : Type 0 where
   pub partition : a.partition ≡ b.partition
   pub blocks : a.max_block < b.min_block
 
+-- one partition, and a block in common
+pub record Meet (a b : PartName) : Type 0 where
+  pub partition : a.partition ≡ b.partition
+  pub low : a.min_block ≤ b.max_block
+  pub high : b.min_block ≤ a.max_block
+
 -- the mutations above this number are still to be applied
 abbrev pub data_version : PartName → ℕ
 data_version p = unwrap_or p.mutation p.min_block

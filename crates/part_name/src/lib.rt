@@ -10,5 +10,5 @@ mod spelling;
 pub use laws::{containment_is_an_order, part_texts_are_told_apart};
 pub use part::PartName;
 pub use reading::parse;
-pub use relations::{before, contains, data_version};
+pub use relations::{Stand, before, contains, data_version, meet, stand_to};
 pub use spelling::text;

@@ -4,8 +4,9 @@ use Rattle.std.proofs.lemmas.Bool.{cases_lt}
 use Rattle.std.proofs.lemmas.List.Edits.{length-insert, get_or-insert_below, get_or-insert_at, get_or-insert_above}
 use Rattle.std.specs.List.{AllPairs, AllWithin, insert}
 use Rattle.part_name.specs.declared.part.PartName.{PartName}
+use Rattle.part_name.specs.PartNames.{Meet}
 use Rattle.part_set.specs.declared.kept.Kept.{Kept}
-use Rattle.part_set.specs.Parts.{in_order, IsInBlockOrder, Meet, NoneMeets, StandsClear}
+use Rattle.part_set.specs.Parts.{in_order, IsInBlockOrder, NoneMeets, StandsClear}
 
 module _ {X : Type 0} (R : X → X → Type 0) (xs : List X) (n : ℕ) (x : X) (within : n ≤ length xs) where
   read_above : (i : ℕ) (d : X) → n < i → get_or (insert xs n x) i d ≡ get_or xs (i - 1) d

@@ -10,8 +10,8 @@ use Rattle.std.specs.declared.cmp.Ordering.TheVariants.{Less, Equal}
 use Rattle.mt_base.specs.declared.partition.Partition.{Partition}
 use Rattle.mt_base.specs.declared.partition.Partition.TheVariants.{Whole, Number}
 use Rattle.part_name.specs.declared.part.PartName.{PartName}
-use Rattle.part_name.specs.PartNames.{Contains}
-use Rattle.part_set.specs.Parts.{Meet, StandsClear, in_order, partition_rank}
+use Rattle.part_name.specs.PartNames.{Contains, Meet}
+use Rattle.part_set.specs.Parts.{StandsClear, in_order, partition_rank}
 use Rattle.part_set.specs.Passes.{IsInPassOrder, IsPlainName, pass_order}
 use Rattle.part_set.proofs.Orders.{block_low, order_tested, partition_low}
 

@@ -6,10 +6,13 @@ use Rattle.std.proofs.lemmas.List.Elements.{Contains-get_or}
 use Rattle.std.proofs.lemmas.Option.{MatchOption-at_some, get_or_from_slice_get, slice_get-get_or, slice_get_within}
 use Rattle.std.specs.List.{All, Contains as HasItem}
 use Rattle.part_name.specs.declared.part.PartName.{PartName}
-use Rattle.part_name.specs.PartNames.{Contains}
+use Rattle.part_name.specs.declared.relations.Stand.{Stand}
+use Rattle.part_name.specs.declared.relations.Stand.TheVariants.{Covered, Overlapping, Clear}
+use Rattle.part_name.specs.PartNames.{Contains, Meet}
+use Rattle.part_name.specs.Standing.{StandsTo}
 use Rattle.part_set.specs.declared.kept.Kept.{Kept}
-use Rattle.part_set.specs.Parts.{IsAdded, IsInBlockOrder, Meet, NoneMeets, StandsClear, in_order}
-use Rattle.part_set.specs.Passes.{AreShown, Clash, IsInPassOrder, IsPlainName, IsShown, last_of}
+use Rattle.part_set.specs.Parts.{IsAdded, IsInBlockOrder, NoneMeets, StandsClear, in_order}
+use Rattle.part_set.specs.Passes.{AreShown, Clash, IsInPassOrder, IsPlainName, IsShown, StandsAs, last_of}
 use Rattle.part_set.specs.Shows.{bare}
 use Rattle.part_set.proofs.Inserts.{meet_turned}
 use Rattle.part_set.proofs.Items.{item_cases, item_kept, item_new, item_none}
@@ -73,6 +76,12 @@ last_has kept last is = (length kept - 1, slice_get_within kept (length kept - 1
 pub there : {X : Type 0} (o : Option X) (P : X → Type 0) → IsSomeAnd o P → (x : X) × (o ≡ Some x) × P x
 there None P none = absurd none
 there (Some x) P holds = (x, refl, holds)
+
+-- how a part stands to the last of some
+pub stands_as : (kept : List BareKept) (last : BareKept) (part : PartName) (s : Stand) → last_of kept ≡ Some last → StandsTo last.name part s → StandsAs kept part s
+stands_as kept last part Covered is stands = rw is stands
+stands_as kept last part Overlapping is stands = rw is stands
+stands_as kept last part Clear is stands = rw is stands
 
 -- ---- the pass
 

@@ -1,11 +1,11 @@
 -- Parts that hide one another, and parts that overlap, as they are looked for (docs/definitions.md, "Visible parts").
 use Rattle.std.specs.Prelude.{◌≡◌, ◌≢◌, ℕ, ◌<◌, List, IsSomeAnd, slice_get}
+use Rattle.part_name.specs.PartNames.{Meet}
 use Rattle.part_set.specs.declared.root_name.RootName.{RootName}
 use Rattle.part_set.specs.declared.root_name.RootName.TheVariants.{Create, Part}
 use Rattle.part_set.specs.declared.root_name.TablePart.{TablePart}
 use Rattle.part_set.specs.declared.roots.SetFault.{SetFault}
 use Rattle.part_set.specs.declared.roots.SetFault.TheVariants.{NoMemory, Orphan, Overlap as Overlapped}
-use Rattle.part_set.specs.Parts.{Meet}
 use Rattle.part_set.specs.Visible.{Covers, HasNoOrphan, IsFirstOrphan, IsFirstOverlap, IsHidden, Overlap}
 
 -- the name is another part, which covers this one

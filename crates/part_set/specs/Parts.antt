@@ -4,6 +4,7 @@ use Rattle.std.specs.List.{All, AllPairs, Contains as HasItem, insert}
 use Rattle.mt_base.specs.declared.partition.Partition.{Partition}
 use Rattle.mt_base.specs.declared.partition.Partition.TheVariants.{Whole, Number}
 use Rattle.part_name.specs.declared.part.PartName.{PartName}
+use Rattle.part_name.specs.PartNames.{Meet}
 use Rattle.part_set.specs.declared.kept.Kept.{Kept}
 
 -- the place of a partition among all: the whole first, then the numbers ascending
@@ -16,12 +17,6 @@ abbrev pub in_order : PartName → PartName → Bool
 in_order a b =
     nat_lt (partition_rank a.partition) (partition_rank b.partition)
     || (partition_rank a.partition == partition_rank b.partition && nat_le a.min_block b.min_block)
-
--- one partition, and a block in common
-pub record Meet (a b : PartName) : Type 0 where
-  pub partition : a.partition ≡ b.partition
-  pub low : a.min_block ≤ b.max_block
-  pub high : b.min_block ≤ a.max_block
 
 -- the first stands in front of the second, and they do not meet
 pub record StandsClear (a b : PartName) : Type 0 where

@@ -5,11 +5,11 @@ use Rattle.std.specs.List.Sorted.{IsSortedBy}
 use Rattle.std.specs.Ordering.{is_lt, nat_cmp, ordering_then}
 use Rattle.std.specs.declared.cmp.Ordering.{Ordering}
 use Rattle.part_name.specs.declared.part.PartName.{PartName}
-use Rattle.part_name.specs.PartNames.{Contains, IsPartName}
+use Rattle.part_name.specs.declared.relations.Stand.{Stand}
+use Rattle.part_name.specs.declared.relations.Stand.TheVariants.{Covered, Overlapping, Clear}
+use Rattle.part_name.specs.PartNames.{Contains, IsPartName, Meet}
 use Rattle.part_set.specs.declared.kept.Kept.{Kept}
-use Rattle.part_set.specs.declared.pass.Stand.{Stand}
-use Rattle.part_set.specs.declared.pass.Stand.TheVariants.{Covered, Overlapping, Clear}
-use Rattle.part_set.specs.Parts.{Meet, partition_rank}
+use Rattle.part_set.specs.Parts.{partition_rank}
 use Rattle.part_set.specs.Shows.{bare}
 
 -- block order, and of those that begin in one place the widest first, and then the one of the greatest level

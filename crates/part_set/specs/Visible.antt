@@ -1,11 +1,10 @@
 -- Which parts of the root are visible (docs/definitions.md, "Visible parts").
 use Rattle.std.specs.Prelude.{◌≡◌, ◌≢◌, ◌⊎◌, ℕ, ◌<◌, ◌≤◌, List, IsSome, IsSomeAnd, slice_get}
 use Rattle.std.specs.List.{Contains as HasItem}
-use Rattle.part_name.specs.PartNames.{Contains}
+use Rattle.part_name.specs.PartNames.{Contains, Meet}
 use Rattle.part_set.specs.declared.root_name.RootName.{RootName}
 use Rattle.part_set.specs.declared.root_name.RootName.TheVariants.{Create, Part}
 use Rattle.part_set.specs.declared.root_name.TablePart.{TablePart}
-use Rattle.part_set.specs.Parts.{Meet}
 
 -- the part is among the names
 abbrev pub HasPart : List RootName → TablePart → Type 0

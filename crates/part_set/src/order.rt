@@ -1,6 +1,6 @@
 // How the parts of one table stand to each other.
 ghost use Rattle.std.specs.Prelude.{◌≡◌, ◌↔◌, IsTrue};
-ghost use Rattle.part_set.specs.Parts.{partition_rank, in_order, LiesBetween, Meet};
+ghost use Rattle.part_set.specs.Parts.{partition_rank, in_order, LiesBetween};
 
 use mt_base::Partition;
 use part_name::PartName;
@@ -22,13 +22,6 @@ pub fn in_order(a: &PartName, b: &PartName) -> bool
     let first = partition_rank(a.partition);
     let second = partition_rank(b.partition);
     first < second || (first == second && a.min_block <= b.min_block)
-}
-
-/// Whether both parts are of one partition, and have a block in common.
-pub fn meet(a: &PartName, b: &PartName) -> bool
-    ensures { IsTrue result ↔ Meet a.now b.now }
-{
-    a.partition == b.partition && a.min_block <= b.max_block && b.min_block <= a.max_block
 }
 
 /// Whether the middle part is of the first one's partition, and its blocks stand between those of the two others.

@@ -5,9 +5,8 @@ ghost use Rattle.part_set.specs.declared.root_name.RootName.{RootName};
 ghost use Rattle.part_set.specs.Clashes.{ClashesWith, HasOverlap, Hides, IsFirstWith, IsNotHidden};
 ghost use Rattle.part_set.specs.Visible.{Covers, IsFirstOverlap, IsHidden, Overlapping};
 
-use crate::order::meet;
 use crate::{RootName, TablePart};
-use part_name::contains;
+use part_name::{contains, meet};
 
 // Whether the first part covers the second.
 fn covers(a: &TablePart, b: &TablePart) -> bool

@@ -5,22 +5,12 @@ ghost use Rattle.std.specs.List.Sorted.{IsPermutation};
 ghost use Rattle.part_set.specs.Passes.{AreShown, Clash, IsInPassOrder, IsPlainName, StandsAs, pass_order};
 
 use crate::Kept;
-use crate::order::{meet, partition_rank};
+use crate::order::partition_rank;
 use crate::shelf::TableParts;
 use mt_base::NoMemory;
-use part_name::{PartName, contains};
+use part_name::{PartName, Stand, stand_to};
 use std::alloc::Global;
 use std::cmp::Ordering;
-
-// How a part stands to the last one that is kept.
-enum Stand {
-    // The last one contains it.
-    Covered,
-    // It does not, but has a block of it.
-    Overlapping,
-    // They have no block in common, or none is kept.
-    Clear,
-}
 
 // Block order, and of those that begin in one place the widest first, and then the one of the greatest level.
 fn pass_order(a: &PartName, b: &PartName) -> Ordering
@@ -44,20 +34,14 @@ pub fn in_pass_order(alloc: Global, parts: &[PartName]) -> Result<Vec<PartName>,
     Ok(sorted)
 }
 
-// How a part stands to the last one that is kept.
+// How a part stands to the last one that is kept: clear where none is.
 fn stand_of(kept: &[Kept<()>], part: &PartName) -> Stand
     ensures { StandsAs kept.now part.now result }
 {
-    let Some(last) = kept.last() else {
-        return Stand::Clear;
-    };
-    if contains(&last.name, part) {
-        return Stand::Covered;
+    match kept.last() {
+        Some(last) => stand_to(&last.name, part),
+        None => Stand::Clear,
     }
-    if meet(&last.name, part) {
-        return Stand::Overlapping;
-    }
-    Stand::Clear
 }
 
 /// The parts that no other one contains; none where two of these have a block in common.

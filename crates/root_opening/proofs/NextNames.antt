@@ -16,13 +16,13 @@ use Rattle.mt_values.specs.RootNames.{create_name, part_name}
 use Rattle.mt_outside.specs.Disk.{Names, Told, files_at, names_of}
 use Rattle.mt_outside.specs.Files.{Files}
 use Rattle.part_name.specs.declared.part.PartName.{PartName}
-use Rattle.part_name.specs.PartNames.{part_text}
+use Rattle.part_name.specs.PartNames.{Meet, part_text}
 use Rattle.part_reader.specs.declared.reading.Part.{Part}
 use Rattle.part_set.specs.declared.kept.Kept.{Kept}
 use Rattle.part_set.specs.declared.root_name.RootName.{RootName}
 use Rattle.part_set.specs.declared.root_name.RootName.TheVariants as root
 use Rattle.part_set.specs.declared.root_name.TablePart.{TablePart}
-use Rattle.part_set.specs.Parts.{HasName, IsInBlockOrder, Meet, NoneMeets}
+use Rattle.part_set.specs.Parts.{HasName, IsInBlockOrder, NoneMeets}
 use Rattle.part_set.specs.RootNames.{IsRootName, root_text}
 use Rattle.part_set.specs.Sets.{parts_of}
 use Rattle.part_set.specs.Visible.{HasPart, HasTable, IsVisible}

@@ -29,6 +29,7 @@ use Rattle.mt_model.specs.History.{History, schema_of}
 use Rattle.mt_model.proofs.Tables.{itself_same, same_is}
 use Rattle.digest_file.proofs.Manifests.{one_manifest}
 use Rattle.part_name.specs.declared.part.PartName.{PartName}
+use Rattle.part_name.specs.PartNames.{Meet}
 use Rattle.part_writer.specs.PartFiles.{manifest_of}
 use Rattle.part_reader.specs.declared.reading.Part.{Part}
 use Rattle.part_reader.specs.Parts.{PartHolds}
@@ -36,7 +37,7 @@ use Rattle.part_set.specs.declared.kept.Kept.{Kept}
 use Rattle.part_set.specs.declared.root_name.RootName.{RootName}
 use Rattle.part_set.specs.declared.root_name.RootName.TheVariants as root
 use Rattle.part_set.specs.declared.root_name.TablePart.{TablePart}
-use Rattle.part_set.specs.Parts.{IsInBlockOrder, Meet, StandsClear, partition_rank}
+use Rattle.part_set.specs.Parts.{IsInBlockOrder, StandsClear, partition_rank}
 use Rattle.part_set.specs.RootNames.{root_text}
 use Rattle.part_set.specs.Sets as sets
 use Rattle.part_set.specs.Visible.{HasTable, IsVisible}

@@ -26,3 +26,7 @@ pub returns-clause-read : goal.returns-clause-read
 returns-clause-read c = λ n mutation fits fits_too is.
     let both = last_both c.in-Some.front.now c.in-Some.rest.now c.args.text.now c.in-Some.ensures.found.0 c.in-Some.ensures.found.1 n mutation (omega arith) fits_too is in
     both_read _ _ n both.0 mutation (c.in_ok-number.ensures.read n fits both.3) (c.in_ok-mutation.ensures.read both.0 both.2 both.4) both.1
+
+pub returns-clause-spelled : goal.returns-clause-spelled
+returns-clause-spelled c =
+    (c.in_ok-number.ensures.spelled.0, c.in_ok-mutation.ensures.spelled.0, rw (c.in_ok-number.ensures.spelled.1, c.in_ok-mutation.ensures.spelled.1) c.in-Some.ensures.found.1)

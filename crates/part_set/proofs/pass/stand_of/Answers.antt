@@ -1,7 +1,6 @@
-use Rattle.std.proofs.Common.{◌≡◌, true, false, refl}
+use Rattle.std.proofs.Common.{sym}
+use Rattle.part_set.proofs.Passes.{stands_as}
 use Rattle.part_set.proofs.pass.stand_of.Goals as goal
 
-pub returns-then-meet : goal.returns-then-meet
-returns-then-meet c =
-    rw (← c.in-Some.ensures.value)
-    (c.if-meet.ensures.0 refl, (λ covered. let never : false ≡ true = c.if-contains.ensures.1 covered in cc))
+pub returns-in-Some : goal.returns-in-Some
+returns-in-Some c = stands_as c.args.kept.now _ c.args.part.now _ (sym c.in-Some.ensures.value) c.stand_to.ensures
