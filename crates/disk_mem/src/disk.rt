@@ -3,15 +3,16 @@ ghost use Rattle.std.specs.Prelude.{◌≡◌, ◌+◌, ◌-◌, ◌^◌, ◌<�
 ghost use Rattle.mt_outside.specs.Causes.{Rose};
 ghost use Rattle.mt_outside.specs.DiskCauses.{HasDiskCause};
 ghost use Rattle.mt_outside.specs.Disk.{AllBy, Image, names_of, files_at, with_change};
-ghost use Rattle.disk_mem.specs.Counts.{next};
-ghost use Rattle.disk_mem.specs.Images.{image_told};
+ghost use Rattle.outside_streams.specs.Counts.{next};
+ghost use Rattle.crash_choice.specs.Images.{image_told};
 ghost use Rattle.disk_mem.specs.Disks.{FailsOrStops, SyncFails, takes};
-ghost use Rattle.disk_mem.specs.Plan.{fresh, next_arm, taken};
+ghost use Rattle.call_plan.specs.Plan.{fresh, next_arm, taken};
 
 use crate::arm::MemArm;
+use crate::calls::DiskCalls;
 use crate::folder::{MemDir, MemStage};
-use crate::plan::{CallKind, DiskCalls, Listed};
 use crate::root::Root;
+use call_plan::{CallKind, Listed};
 use mt_base::NoMemory;
 use mt_outside::{Arm, Change, Disk, DiskError, Stage};
 use mt_values::Name;
@@ -77,7 +78,7 @@ impl MemDisk {
     /// whether the one with this number, from 0, has, and those from the 63rd on have. Where bit 63 is set, each file whose last append wasn't synced
     /// has as many zero bytes as half its length, rounded down. All that happened is settled: the mark is one above, as far as 64 bits count.
     /// No call of the new disk is listed, none was made, and no stop is set.
-    #[tactic(auto, using(crate::proofs::Images::image_leads))]
+    #[tactic(auto, using(crash_choice::proofs::Images::image_leads))]
     pub fn image(&self, choice: u64) -> Result<MemDisk, NoMemory>
         ensures image { IfOk result (λ d. Image self.now.told self.now.clock (names_of d.told)) }
         ensures told { IfOk result (λ d. d.told ≡ image_told choice self.now.clock self.now.told) }

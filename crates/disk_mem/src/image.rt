@@ -1,67 +1,17 @@
 // What a crash may leave of a disk in memory.
-ghost use Rattle.std.specs.Prelude.{◌≡◌, ◌+◌, ◌/◌, ◌<◌, ◌≤◌, ◌++◌, ◌∷◌, [], None, IfOk, OnOk, length, map, replicate};
-ghost use Rattle.mt_outside.specs.Disk.{Image, names_after, names_of, before_clock, at_clock};
-ghost use Rattle.disk_mem.specs.Counts.{next};
-ghost use Rattle.disk_mem.specs.Plan.{fresh};
-ghost use Rattle.disk_mem.specs.Images.{loses, has_happened, happened, lost_file, left_files, left_stamped, image_told};
+ghost use Rattle.std.specs.Prelude.{◌≡◌, ◌+◌, ◌<◌, ◌≤◌, ◌++◌, ◌∷◌, [], IfOk, OnOk, map};
+ghost use Rattle.mt_outside.specs.Disk.{names_after, before_clock, at_clock};
+ghost use Rattle.outside_streams.specs.Counts.{next};
+ghost use Rattle.crash_choice.specs.Images.{happened, left_files, left_stamped, image_told};
 
 use crate::folder::MemDir;
 use crate::root::{Root, make};
-use mt_base::{NoMemory, Seq, Twin};
-use mt_outside::{Change, Files, Stamped, Written};
+use crash_choice::{has_happened, loses, lost_files};
+use mt_base::{NoMemory, Twin};
+use mt_outside::{Change, Stamped};
 use mt_values::Name;
 use std::alloc::Global;
 use std::collections::BTreeMap;
-
-// Whether files whose last append wasn't synced lose their bytes.
-fn loses(choice: u64) -> bool
-    ensures { result ≡ loses choice }
-{
-    choice >> 63 & 1 == 1
-}
-
-// Whether the unsettled change with this number has happened.
-fn has_happened(choice: u64, number: usize) -> bool
-    ensures { result ≡ has_happened choice number }
-{
-    if number >= 63 {
-        return true;
-    }
-    choice >> number & 1 == 1
-}
-
-// A file after a crash that loses bytes.
-fn lost_file(alloc: Global, written: &Written) -> Result<Written, NoMemory>
-    ensures { IfOk result (λ w. w ≡ lost_file written.now) }
-{
-    let file = written.file;
-    if written.synced {
-        let bytes = written.bytes.twin(alloc)?;
-        return Ok(Written {
-            file,
-            bytes,
-            synced: true,
-        });
-    }
-    let half = written.bytes.len() / 2;
-    let bytes = Seq::of(vec![in alloc; 0; half]?);
-    Ok(Written {
-        file,
-        bytes,
-        synced: false,
-    })
-}
-
-// Files after a crash that loses bytes.
-fn lost_files(alloc: Global, files: &[Written]) -> Result<Files, NoMemory>
-    ensures { IfOk result (λ v. v ≡ map lost_file files.now) }
-{
-    let mut left = Seq::with_capacity(alloc, files.len())?;
-    for written in files {
-        left.push(lost_file(alloc, written)?)?;
-    }
-    Ok(left)
-}
 
 // A folder after a crash.
 fn left_folder(alloc: Global, dir: &MemDir, lose: bool) -> Result<MemDir, NoMemory>

@@ -3,22 +3,20 @@
 
 mod annals;
 mod arm;
+mod calls;
 mod disk;
 mod folder;
 mod gate;
 mod image;
-mod laws;
-mod plan;
 mod root;
-mod streams;
 
 pub use annals::{CountedAnnals, KeptAnnals};
 pub use arm::MemArm;
+pub use call_plan::{CallKind, Listed};
+pub use crash_choice::{
+    images_are_reached_by_choices, images_are_started_again, images_of_an_image_are_images,
+};
 pub use disk::MemDisk;
 pub use folder::{MemDir, MemStage};
 pub use gate::OpenGate;
-pub use laws::{
-    images_are_reached_by_choices, images_are_started_again, images_of_an_image_are_images,
-};
-pub use plan::{CallKind, Listed};
-pub use streams::{MemSink, MemSource};
+pub use outside_streams::{MemSink, MemSource};

@@ -1,3 +1,1 @@
-pub mod Counts
-pub mod Names
 pub mod States

@@ -1,11 +1,6 @@
 -- What contracts see of the real outside: counts, where folders lie, and no contents (docs/architecture.md, "Counts of faults").
 use Rattle.std.specs.Prelude.{ℕ, List}
 
--- what reads or writes, and how many of its calls have failed, as far as 64 bits count
-pub record Counted (T : Type 0) : Type 0 where
-  pub inner : T
-  pub failed : ℕ
-
 -- the mark of a disk, and how many of its calls have failed, as far as 64 bits count
 pub record DiskState : Type 0 where
   pub clock : ℕ

@@ -1,13 +1,14 @@
 // What reads folders of a real disk and makes stages.
 ghost use Rattle.std.specs.Prelude.{◌≡◌, ◌≤◌, ℕ, IfOk, length};
 
-use crate::counts::{Faults, draw};
 use crate::folder::{RealDir, RealStage, file_path};
-use crate::names::owned;
+use crate::numbers::draw;
 use crate::system::{System, is_folder, open_to_read, read_at};
+use disk_names::owned;
 use mt_base::NoMemory;
 use mt_outside::{Arm, DiskError, Stage};
 use mt_values::FileId;
+use outside_streams::Faults;
 use std::alloc::Global;
 use std::fs::File;
 use std::marker::Model;

@@ -1,13 +1,12 @@
 // Folders of the root: one that is being made, and one that is done.
 ghost use Rattle.std.specs.Prelude.{◌≡◌, ◌<◌, ◌↔◌, ℕ, IfOk, IsTrue, string_bytes};
 
-use crate::counts::Faults;
-use crate::names::{file_name, path_in};
 use crate::system::{System, fault, make_folder, open_at_end, remove_folder, sync_file};
-use crate::tries::write_whole;
+use disk_names::{file_name, path_in};
 use mt_base::NoMemory;
 use mt_outside::{Dir, DiskError, Stage};
 use mt_values::FileId;
+use outside_streams::{Faults, write_whole};
 use std::alloc::Global;
 use std::fs::File;
 use std::marker::Model;

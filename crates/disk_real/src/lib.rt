@@ -3,20 +3,16 @@
 #![tactic(auto)]
 
 mod arm;
-mod counts;
 mod disk;
 mod folder;
 mod gate;
-mod names;
-mod streams;
+mod numbers;
 mod system;
-mod tries;
 
 pub use arm::RealArm;
 pub use disk::RealDisk;
+pub use disk_names::{file_name, is_root_name};
 pub use folder::{RealDir, RealStage};
 pub use gate::OpenGate;
-pub use names::{file_name, is_root_name};
-pub use streams::{StdSink, StdSource};
+pub use outside_streams::{MOST_TRIES, StdSink, StdSource};
 pub use system::System;
-pub use tries::MOST_TRIES;

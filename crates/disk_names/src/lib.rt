@@ -1,0 +1,6 @@
+//! What the files of a folder and the folders of a root are called on a real disk, and the paths that they make.
+#![tactic(auto)]
+
+mod names;
+
+pub use names::{file_name, is_root_name, owned, path_in, root_name};

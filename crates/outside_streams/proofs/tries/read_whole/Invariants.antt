@@ -1,0 +1,9 @@
+-- the bytes read so far fit
+use Rattle.std.proofs.Common.{length, ◌-◌, ◌≤◌}
+use Rattle.outside_streams.proofs.tries.read_whole.Given as goal
+
+abbrev pub invariant-loop-count : goal.invariant-loop-count
+invariant-loop-count g l = l.count ≤ length l.buf
+
+abbrev pub decreases-loop-count : goal.decreases-loop-count
+decreases-loop-count g l = length l.initial.buf - l.count

@@ -1,0 +1,4 @@
+pub mod Counts
+pub mod DiskCounts
+pub mod Pieces
+pub mod Streams
