@@ -126,8 +126,13 @@ impl<R: System> RealDisk<R> {
     {
         let number = draw(&mut self.removals)?;
         let path = self.path_of(self.alloc, name)?;
+        self.hide(&path, number)
+    }
+
+    // Gives a folder the path of this removal, and once that is settled removes it with its files.
+    fn hide(&self, path: &str, number: u64) -> Result<(), DiskError> {
         let hidden = removed_path(self.alloc, &self.root, number)?;
-        take_away(&self.rt, self.alloc, &self.root, &path, &hidden)
+        take_away(&self.rt, self.alloc, &self.root, path, &hidden)
     }
 }
 
