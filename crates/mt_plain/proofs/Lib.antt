@@ -1,5 +1,4 @@
 pub mod Accepted
-pub mod Equal
 pub mod Exchanged
 pub mod Inserting
 pub mod Steps

@@ -1,9 +1,7 @@
--- What the plain program sorts by, what it accepts at the end of a history, and what it adds to one.
+-- What the plain program accepts at the end of a history, and what it adds to one.
 use Rattle.std.specs.Prelude.{◌≡◌, ℕ, List, [], ◌∷◌, ◌++◌, All, Option, Some, Result, Ok, Err, length}
-use Rattle.std.specs.declared.cmp.Ordering.{Ordering}
 use Rattle.mt_values.specs.Values.{Row, AreValues}
 use Rattle.mt_values.specs.Grid.{Grid, AreRowsOf}
-use Rattle.mt_values.specs.Order.{key_cmp, row_cmp}
 use Rattle.mt_values.specs.declared.command.Entry.{Entry}
 use Rattle.mt_values.specs.declared.schema.Schema.{Schema}
 use Rattle.mt_values.specs.declared.statement.CreateText.{CreateText}
@@ -13,13 +11,6 @@ use Rattle.mt_model.specs.History.{History, schema_of, inserts, column_types}
 use Rattle.mt_model.specs.Answer.{Answer}
 use Rattle.mt_model.specs.Outside.{Counts}
 use Rattle.mt_model.specs.Reply.{unless_refused, schema_of_text, create_turn, rows_of_insert, rows_reply, insert_turn}
-use Rattle.mt_plain.specs.declared.sorting.Order.{Order}
-use Rattle.mt_plain.specs.declared.sorting.Order.TheVariants as order
-
--- by the values at some places of the rows, or by the whole rows
-abbrev pub cmp_by : Order → Row → Row → Ordering
-cmp_by (order.Key places) = key_cmp places.now
-cmp_by order.Whole = row_cmp
 
 -- an outside without a fault
 abbrev pub calm : Counts

@@ -1,16 +1,13 @@
 // Which commands are accepted at the end of a history.
-ghost use Rattle.std.specs.Prelude.{◌≡◌, ◌^◌, ◌<◌, All, Err, Ok, IfOk, MatchResult, length};
-ghost use Rattle.mt_values.specs.Rows.{inserted_rows};
-ghost use Rattle.mt_model.specs.History as history;
+ghost use Rattle.std.specs.Prelude.{◌≡◌, Err, IfOk, MatchResult};
 ghost use Rattle.mt_model.specs.Reply as reply;
 ghost use Rattle.mt_plain.specs.Plain.{IsInserted, created, inserted, unmerged_turn};
 
-use super::tables::{creates, inserts, schema_of};
-use mt_base::{NoMemory, Seq, Twin};
+use mt_base::{NoMemory, Twin};
 use mt_model::{Bound, Refusal, Room, resolve};
-use mt_values::{Block, ColType, CreateText, DataFault, Entry, InsertText, Name, Schema};
+use mt_values::{Block, CreateText, Entry, InsertText, Name, Schema};
+use plain_base::{column_types, creates, inserts, read_block, schema_of};
 use std::alloc::Global;
-use tsv_rows::{ReadStop, read_rows};
 
 /// The most tables.
 const MOST_TABLES: usize = 64;
@@ -71,35 +68,6 @@ pub fn inserted_block(
     match insert_turn(entries, &insert.table) {
         Some(refusal) => Ok(Err(refusal)),
         None => Ok(Ok(block)),
-    }
-}
-
-/// The types of a table's columns, in order.
-fn column_types(alloc: Global, schema: &Schema) -> Result<Seq<ColType>, NoMemory>
-    ensures { IfOk result (λ types. types ≡ history.column_types schema.now) }
-{
-    let mut types = Seq::new(alloc);
-    for column in schema.columns.as_slice() {
-        types.push(column.col_type)?;
-    }
-    Ok(types)
-}
-
-/// The rows of data as a block, or the fault of the data.
-fn read_block(
-    alloc: Global,
-    types: &[ColType],
-    lines: &[u8],
-    ended: bool,
-) -> Result<Result<Block, DataFault>, NoMemory>
-    ensures rows { IfOk result (λ given. MatchResult given (λ b. inserted_rows types.now lines.now ended ≡ Ok b.rows) (λ fault. inserted_rows types.now lines.now ended ≡ Err fault)) }
-    ensures types { IfOk result (λ given. IfOk given (λ b. b.types ≡ types.now)) }
-    ensures bytes { All (λ b. b < 2 ^ 8) lines.now }
-{
-    match read_rows(alloc, types, lines, ended) {
-        Ok(block) => Ok(Ok(block)),
-        Err(ReadStop::NoMemory) => Err(NoMemory),
-        Err(ReadStop::Refused(fault)) => Ok(Err(fault)),
     }
 }
 

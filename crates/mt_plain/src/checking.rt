@@ -5,10 +5,10 @@ ghost use Rattle.mt_model.specs.Same.{SameCommand, SameEntry, SameHistory};
 ghost use Rattle.mt_model.specs.Script.{ScriptRun};
 ghost use Rattle.mt_plain.specs.Plain.{calm};
 
-use super::live::rows_of;
 use super::running::run;
 use mt_base::NoMemory;
-use mt_values::{Block, Cause, Command, Create, Entry, Insert, Row, Statement};
+use mt_values::{Cause, Command, Entry, Insert, Statement};
+use plain_base::{same_blocks, same_creates};
 use std::alloc::Global;
 
 /// Whether a script without a history before it, over an outside without faults, may have left this history and printed
@@ -71,13 +71,6 @@ fn same_commands(alloc: Global, a: &Command, b: &Command) -> Result<bool, NoMemo
     }
 }
 
-/// Whether two tables to be made are the same.
-fn same_creates(a: &Create, b: &Create) -> bool
-    ensures { (result ≡ true) ↔ (a.now ≡ b.now) }
-{
-    a.table == b.table && a.schema == b.schema
-}
-
 /// Whether two INSERTs add the same rows to the same table and partition.
 fn same_inserts(alloc: Global, a: &Insert, b: &Insert) -> Result<bool, NoMemory>
     ensures { IfOk result (λ same. (same ≡ true) ↔ ((a.now.table ≡ b.now.table) × (a.now.partition ≡ b.now.partition) × (a.now.block.rows ≡ b.now.block.rows))) }
@@ -86,20 +79,4 @@ fn same_inserts(alloc: Global, a: &Insert, b: &Insert) -> Result<bool, NoMemory>
         return Ok(false);
     }
     same_blocks(alloc, &a.block, &b.block)
-}
-
-/// Whether two blocks have the same rows.
-fn same_blocks(alloc: Global, a: &Block, b: &Block) -> Result<bool, NoMemory>
-    ensures { IfOk result (λ same. (same ≡ true) ↔ (a.now.rows ≡ b.now.rows)) }
-{
-    let rows = rows_of(alloc, a)?;
-    let others = rows_of(alloc, b)?;
-    Ok(same_rows(&rows, &others))
-}
-
-/// Whether two lists of rows are one.
-fn same_rows(a: &[Row], b: &[Row]) -> bool
-    ensures { (result ≡ true) ↔ (a.now ≡ b.now) }
-{
-    a == b
 }

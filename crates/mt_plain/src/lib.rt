@@ -5,16 +5,14 @@ mod accepting;
 mod checking;
 mod lines;
 mod live;
-mod replies;
 mod running;
 mod selecting;
 mod sorting;
-mod tables;
 
 pub use checking::allows;
 pub use lines::lines_of;
 pub use live::live_rows;
+pub use plain_base::{Order, creates, inserts, schema_of};
 pub use running::{Outcome, run, step};
 pub use selecting::answer;
-pub use sorting::{Order, sorted_rows};
-pub use tables::{creates, inserts, schema_of};
+pub use sorting::sorted_rows;

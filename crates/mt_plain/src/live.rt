@@ -3,9 +3,10 @@ ghost use Rattle.std.specs.Prelude.{◌≡◌, ◌++◌, IfOk, OnOk};
 ghost use Rattle.mt_values.specs.Order.{key_cmp};
 ghost use Rattle.mt_model.specs.Live.{live, rows_after};
 
-use super::sorting::{Order, sorted_rows};
+use super::sorting::sorted_rows;
 use mt_base::NoMemory;
-use mt_values::{Block, Command, Entry, Name, Row};
+use mt_values::{Command, Entry, Name, Row};
+use plain_base::{Order, rows_of};
 use std::alloc::Global;
 
 /// The rows of a table with this sorting key after all commands.
@@ -41,16 +42,4 @@ fn add_rows(
         }
     }
     Ok(())
-}
-
-/// The rows of a block, in its order.
-#[tactic(auto, using(mt_model::proofs::Lists::take_got))]
-pub fn rows_of(alloc: Global, block: &Block) -> Result<Vec<Row>, NoMemory>
-    ensures { IfOk result (λ rows. rows.items ≡ block.now.rows) }
-{
-    let mut rows = Vec::new(alloc);
-    for place in 0..block.len() {
-        rows.push(block.row(alloc, place)?)?;
-    }
-    Ok(rows)
 }

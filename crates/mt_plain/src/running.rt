@@ -1,7 +1,5 @@
 // Statements, run one after another.
-ghost use Rattle.std.specs.Prelude.{◌≡◌, ◌↔◌, ◌<◌, ◌++◌, ◌∷◌, [], All, IfOk, OnOk, OnErr, Some, length, true};
-ghost use Rattle.mt_values.specs.declared.command.Command.TheVariants as command;
-ghost use Rattle.mt_base.specs.declared.partition.Partition.TheVariants.{Whole};
+ghost use Rattle.std.specs.Prelude.{◌≡◌, ◌↔◌, ◌<◌, All, IfOk, OnOk, OnErr, Some, length, true};
 ghost use Rattle.mt_values.specs.declared.statement.Statement.TheVariants as statement;
 ghost use Rattle.mt_model.specs.History.{IsLegal, schema_of};
 ghost use Rattle.mt_model.specs.Refusals as refusals;
@@ -11,15 +9,11 @@ ghost use Rattle.mt_model.specs.Written.{IsStatementText, IsWritten};
 ghost use Rattle.mt_plain.specs.Plain.{Grows, IsReply, calm};
 
 use super::accepting::{created_schema, inserted_block};
-use super::replies::rows_reply;
 use super::selecting::answer;
-use super::tables::schema_of;
 use mt_base::{NoMemory, Twin};
 use mt_model::{Refusal, ok_line, refusal_line, selected_columns};
-use mt_values::{
-    Block, Cause, Command, Create, CreateText, Entry, Insert, InsertText, Name, Partition, Schema,
-    SelectText, Statement,
-};
+use mt_values::{Block, Cause, CreateText, Entry, InsertText, Name, Schema, SelectText, Statement};
+use plain_base::{add_create, add_insert, rows_reply, schema_of};
 use std::alloc::Global;
 
 /// The accepted commands of a run, and what it printed.
@@ -111,25 +105,6 @@ fn step_create(
     }
 }
 
-/// Adds a CREATE of session 0 at the end of a history.
-fn add_create(
-    alloc: Global,
-    history: &mut Vec<Entry>,
-    table: &Name,
-    schema: Schema,
-) -> Result<(), NoMemory>
-    ensures ok { OnOk result (history.new.items ≡ history.old.items ++ record { session = 0; command = command.Create (record { table = table.now; schema = schema }) } ∷ []) }
-    ensures err { OnErr result (history.new.items ≡ history.old.items) }
-{
-    let table = table.twin(alloc)?;
-    let command = Command::Create(Create { table, schema });
-    history.push(Entry {
-        session: 0,
-        command,
-    })?;
-    Ok(())
-}
-
 /// Runs an INSERT.
 fn step_insert(
     alloc: Global,
@@ -159,30 +134,6 @@ fn adds_nothing(block: &Block) -> bool
     ensures { (result ≡ true) ↔ (length block.now.rows ≡ 0) }
 {
     block.len() == 0
-}
-
-/// Adds an INSERT of session 0 at the end of a history.
-fn add_insert(
-    alloc: Global,
-    history: &mut Vec<Entry>,
-    table: &Name,
-    block: Block,
-) -> Result<(), NoMemory>
-    ensures ok { OnOk result (history.new.items ≡ history.old.items ++ record { session = 0; command = command.Insert (record { table = table.now; partition = Whole; block = block }) } ∷ []) }
-    ensures err { OnErr result (history.new.items ≡ history.old.items) }
-{
-    let table = table.twin(alloc)?;
-    let partition = Partition::Whole;
-    let command = Command::Insert(Insert {
-        table,
-        partition,
-        block,
-    });
-    history.push(Entry {
-        session: 0,
-        command,
-    })?;
-    Ok(())
 }
 
 /// Answers a SELECT.

@@ -1,13 +1,12 @@
 // The answers of SELECTs.
-ghost use Rattle.std.specs.Prelude.{◌≡◌, IfOk, map};
-ghost use Rattle.mt_values.specs.Order.{key_of};
+ghost use Rattle.std.specs.Prelude.{IfOk};
 ghost use Rattle.mt_model.specs.Answer.{Answer};
 
 use super::lines::lines_of;
 use super::live::live_rows;
-use super::sorting::key_values;
 use mt_base::NoMemory;
-use mt_values::{Bytes, Entry, Name, Row, Schema};
+use mt_values::{Bytes, Entry, Name, Schema};
+use plain_base::picked_rows;
 use std::alloc::Global;
 
 /// The lines of a SELECT of these columns from a table of this schema.
@@ -25,15 +24,4 @@ pub fn answer(
     let rows = live_rows(alloc, table, schema.key.as_slice(), entries)?;
     let picked = picked_rows(alloc, columns, &rows)?;
     lines_of(alloc, picked)
-}
-
-/// The selected columns of rows, in their order.
-fn picked_rows(alloc: Global, columns: &[u32], rows: &[Row]) -> Result<Vec<Row>, NoMemory>
-    ensures { IfOk result (λ picked. picked.items ≡ map (key_of columns.now) rows.now) }
-{
-    let mut picked = Vec::new(alloc);
-    for row in rows {
-        picked.push(key_values(alloc, columns, row)?)?;
-    }
-    Ok(picked)
 }

@@ -1,5 +1,5 @@
 use Rattle.std.proofs.Common.{◌≡◌, rules}
-use Rattle.mt_plain.proofs.Equal.{inserts_alike}
+use Rattle.plain_base.proofs.Equal.{inserts_alike}
 use Rattle.mt_plain.proofs.checking.same_inserts.Goals as goal
 
 pub returns : goal.returns

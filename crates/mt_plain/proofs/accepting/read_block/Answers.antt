@@ -1,7 +1,0 @@
-use Rattle.mt_plain.proofs.accepting.read_block.Goals as goal
-
-pub returns-in-Ok-clause-rows : goal.returns-in-Ok-clause-rows
-returns-in-Ok-clause-rows c = c.in-Ok.ensures.rows
-
-pub returns-in-Ok-clause-types : goal.returns-in-Ok-clause-types
-returns-in-Ok-clause-types c = c.in-Ok.ensures.types

@@ -1,0 +1,7 @@
+use Rattle.plain_base.proofs.data.read_block.Goals as goal
+
+pub returns-in-Ok-clause-rows : goal.returns-in-Ok-clause-rows
+returns-in-Ok-clause-rows c = c.in-Ok.ensures.rows
+
+pub returns-in-Ok-clause-types : goal.returns-in-Ok-clause-types
+returns-in-Ok-clause-types c = c.in-Ok.ensures.types

@@ -1,0 +1,38 @@
+// The rows of data.
+ghost use Rattle.std.specs.Prelude.{◌≡◌, ◌^◌, ◌<◌, All, Err, Ok, IfOk, MatchResult};
+ghost use Rattle.mt_values.specs.Rows.{inserted_rows};
+ghost use Rattle.mt_model.specs.History as history;
+
+use mt_base::{NoMemory, Seq};
+use mt_values::{Block, ColType, DataFault, Schema};
+use std::alloc::Global;
+use tsv_rows::{ReadStop, read_rows};
+
+/// The types of a table's columns, in order.
+pub fn column_types(alloc: Global, schema: &Schema) -> Result<Seq<ColType>, NoMemory>
+    ensures { IfOk result (λ types. types ≡ history.column_types schema.now) }
+{
+    let mut types = Seq::new(alloc);
+    for column in schema.columns.as_slice() {
+        types.push(column.col_type)?;
+    }
+    Ok(types)
+}
+
+/// The rows of data as a block, or the fault of the data.
+pub fn read_block(
+    alloc: Global,
+    types: &[ColType],
+    lines: &[u8],
+    ended: bool,
+) -> Result<Result<Block, DataFault>, NoMemory>
+    ensures rows { IfOk result (λ given. MatchResult given (λ b. inserted_rows types.now lines.now ended ≡ Ok b.rows) (λ fault. inserted_rows types.now lines.now ended ≡ Err fault)) }
+    ensures types { IfOk result (λ given. IfOk given (λ b. b.types ≡ types.now)) }
+    ensures bytes { All (λ b. b < 2 ^ 8) lines.now }
+{
+    match read_rows(alloc, types, lines, ended) {
+        Ok(block) => Ok(Ok(block)),
+        Err(ReadStop::NoMemory) => Err(NoMemory),
+        Err(ReadStop::Refused(fault)) => Ok(Err(fault)),
+    }
+}

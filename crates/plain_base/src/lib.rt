@@ -1,0 +1,20 @@
+//! What the plain program stands on: how rows compare and are printed, the rows of blocks and of data, the tables of a history, and entries at its end.
+#![tactic(auto)]
+
+mod blocks;
+mod comparing;
+mod data;
+mod entries;
+mod keys;
+mod lines;
+mod replies;
+mod tables;
+
+pub use blocks::{rows_of, same_blocks};
+pub use comparing::{Order, compare};
+pub use data::{column_types, read_block};
+pub use entries::{add_create, add_insert};
+pub use keys::{key_values, picked_rows};
+pub use lines::all_lines;
+pub use replies::rows_reply;
+pub use tables::{creates, inserts, same_creates, schema_of};
