@@ -1,9 +1,3 @@
 pub mod DataRows
-pub mod Digits
-pub mod LineColumns
-pub mod LineRows
-pub mod Marking
-pub mod Printed
 pub mod PushedRows
 pub mod ReadAgain
-pub mod Unescaping

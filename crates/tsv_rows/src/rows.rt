@@ -1,18 +1,14 @@
 // From lines to rows: one row, and the lines of an INSERT's data as a block.
-ghost use Rattle.std.specs.Prelude.{◌≡◌, ◌≢◌, [], All, IfErr, IfOk, Ok, Err, length, map, false};
-ghost use Rattle.mt_values.specs.Grid.{Grid};
-ghost use Rattle.mt_values.specs.Rows.{at_field, fault_of_field, inserted_rows, row_of_line, value_of_field};
+ghost use Rattle.std.specs.Prelude.{◌≡◌, ◌≢◌, [], All, IfErr, IfOk, Ok, Err, map};
+ghost use Rattle.mt_values.specs.Rows.{at_field, inserted_rows, row_of_line, value_of_field};
 ghost use Rattle.mt_values.specs.Values.{AreValues, IsValue};
-ghost use Rattle.mt_values.specs.declared.row_fault.RowFault.TheVariants as row_fault;
 ghost use Rattle.mt_values.specs.declared.schema.Column.{Column};
-ghost use Rattle.tsv_rows.specs.Columns.{types_in, when_read, with_field, with_row};
-ghost use Rattle.tsv_rows.specs.Fields.{EndFields};
-ghost use Rattle.tsv_rows.specs.Stops.{Refuses, fault_of_count};
+ghost use Rattle.tsv_rows.specs.Stops.{Refuses};
 
-use crate::fields::{cell_of_field, field_at, mark_fields};
 use mt_base::{NoMemory, Seq};
-use mt_values::{Block, ColType, ColumnData, DataFault, FieldFault, Row, RowFault, Schema, Value};
+use mt_values::{Block, ColType, ColumnData, DataFault, Row, RowFault, Schema, Value};
 use std::alloc::Global;
+use tsv_lines::{cell_of_field, fault_of_count, fault_of_field, field_at, mark_fields, read_line};
 
 /// An INSERT has no more rows than this.
 const MOST_ROWS: usize = 1_048_576;
@@ -34,30 +30,6 @@ impl From<NoMemory> for ReadStop {
 
     fn from(_: NoMemory) -> Self {
         ReadStop::NoMemory
-    }
-}
-
-// The fault of a line that has another number of fields than there are columns.
-fn fault_of_count(line: usize, found: usize, wanted: usize) -> Option<RowFault>
-    ensures { result ≡ fault_of_count line found wanted }
-{
-    if found == wanted {
-        return None;
-    }
-    Some(RowFault::Fields {
-        line,
-        found,
-        wanted,
-    })
-}
-
-// The fault of a line's field at a place, from 1.
-fn fault_of_field(line: usize, place: usize, fault: FieldFault) -> RowFault
-    ensures { result ≡ fault_of_field line place fault }
-{
-    match fault {
-        FieldFault::NotOfType => RowFault::Field { line, field: place },
-        FieldFault::TooLong => RowFault::Value,
     }
 }
 
@@ -102,46 +74,6 @@ pub fn read_row(alloc: Global, schema: &Schema, text: &[u8], line: usize) -> Res
         row.push(value)?;
     }
     Ok(row)
-}
-
-// Adds the value of a field to a column. Where the field has a fault, the column stays as it was.
-#[tactic(auto, using(crate::proofs::LineColumns::typed_cell))]
-fn read_field(
-    column: &mut ColumnData,
-    field: &[u8],
-    said: &mut Vec<u8>,
-) -> Result<Result<(), FieldFault>, NoMemory>
-    ensures { IfOk result (λ read. when_read read column.new ≡ with_field column.old field.now) }
-{
-    match cell_of_field(column.col_type(), field, said)? {
-        Ok(cell) => {
-            column.push_cell(cell)?;
-            Ok(Ok(()))
-        }
-        Err(fault) => Ok(Err(fault)),
-    }
-}
-
-// Adds the values of a line's fields to the columns. Where the line has a fault, some columns may have got a value.
-fn read_line(
-    columns: &mut [ColumnData],
-    text: &[u8],
-    ends: &[usize],
-    line: usize,
-    said: &mut Vec<u8>,
-) -> Result<Result<(), RowFault>, NoMemory>
-    requires { EndFields text.now ends.now }
-    ensures { IfOk result (λ read. when_read read columns.new ≡ with_row columns.old (row_of_line (types_in columns.old) line text.now)) }
-{
-    if let Some(fault) = fault_of_count(line, ends.len(), columns.len()) {
-        return Ok(Err(fault));
-    }
-    for (place, column) in columns.iter_mut().enumerate() {
-        if let Err(fault) = read_field(column, field_at(text, ends, place), said)? {
-            return Ok(Err(fault_of_field(line, place + 1, fault)));
-        }
-    }
-    Ok(Ok(()))
 }
 
 // Columns of these types, without values.

@@ -1,0 +1,6 @@
+pub mod Digits
+pub mod LineColumns
+pub mod LineRows
+pub mod Marking
+pub mod Printed
+pub mod Unescaping

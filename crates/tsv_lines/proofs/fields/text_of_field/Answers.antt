@@ -1,0 +1,6 @@
+use Rattle.std.proofs.lemmas.Result.{err_from_is_err_and}
+use Rattle.tsv_lines.proofs.fields.text_of_field.Goals as goal
+
+-- want of memory
+pub returns-in_err-unescape : goal.returns-in_err-unescape
+returns-in_err-unescape c = let p = err_from_is_err_and c.from_residual.result c.from_residual.ensures.1 in rw p.1 tt
