@@ -8,10 +8,10 @@ use Rattle.mt_outside.specs.Disk as root
 use Rattle.mt_outside.specs.Causes.{Rose}
 use Rattle.mt_model.specs.Causes.{NoneMeets}
 use Rattle.mt_model.proofs.Unrefused.{none_refused as calm_script}
-use Rattle.mt_program.specs.Answers.{history}
+use Rattle.reply_lines.specs.Foreseen.{history}
 use Rattle.mt_program.specs.Headline.{Leaves, NothingRefuses, RunBy}
 use Rattle.exit_status.specs.Statuses.{number_of}
-use Rattle.mt_program.specs.Streams.{ConsumesMost}
+use Rattle.run_streams.specs.Streams.{ConsumesMost}
 use Rattle.exit_status.specs.declared.status.Status.{Status}
 use Rattle.exit_status.specs.declared.status.Status.TheVariants as status
 

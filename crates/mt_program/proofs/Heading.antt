@@ -18,14 +18,14 @@ use Rattle.mt_model.specs.Outside.{Counts}
 use Rattle.mt_model.specs.Script.{ScriptRun, ScriptReplies, OwnEntries}
 use Rattle.mt_model.specs.Session.{AddsNothing, SessionReplies}
 use Rattle.mt_model.proofs.Replies.{script_replies_run}
-use Rattle.mt_program.specs.declared.streams.ReadStop.{ReadStop}
-use Rattle.mt_program.specs.declared.streams.ReadStop.TheVariants as unread
+use Rattle.run_streams.specs.declared.streams.ReadStop.{ReadStop}
+use Rattle.run_streams.specs.declared.streams.ReadStop.TheVariants as unread
 use Rattle.mt_program.specs.declared.serving.Ending.{Ending}
 use Rattle.mt_program.specs.declared.serving.Ending.TheVariants as ending
-use Rattle.mt_program.specs.declared.serving.Tally.{Tally}
+use Rattle.reply_lines.specs.declared.tally.Tally.{Tally}
 use Rattle.exit_status.specs.declared.status.Status.{Status}
 use Rattle.exit_status.specs.declared.status.Status.TheVariants as status
-use Rattle.mt_program.specs.Answers.{Foresees, history}
+use Rattle.reply_lines.specs.Foreseen.{Foresees, history}
 use Rattle.mt_program.specs.Endings.{IsAnswered, IsEarly, LeftBy, MetNoDamage, settled, status_of, status_of_error, status_of_stop}
 use Rattle.mt_program.specs.Headline.{CutByMemory, CutBySink, Leaves, WholeRunWith, ReadRun, RunWithFaults, NothingRan, RunBy}
 use Rattle.exit_status.specs.Statuses.{number_of}
@@ -38,7 +38,7 @@ use Rattle.root_opening.specs.Opening.{IsNotDamaged, IsRootDamage, TellsDamage}
 use Rattle.root_store.specs.Roots.{Stands}
 use Rattle.root_store.specs.Soundness.{RootStands}
 use Rattle.mt_program.specs.Damage.{WritesDamage, WritesFault, damage_line}
-use Rattle.mt_program.proofs.Accepting.{added_nothing, length_history}
+use Rattle.reply_lines.proofs.Ends.{added_nothing, length_history}
 
 get_seam : {X : Type 0} (xs : List X) (x : X) (ys : List X) → slice_get (xs ++ x ∷ ys) (length xs) ≡ Some x
 get_seam [] x ys = refl

@@ -1,16 +1,7 @@
-pub mod Accepting
 pub mod Completing
-pub mod Counting
 pub mod Crashing
-pub mod Creating
 pub mod Heading
-pub mod Inserting
-pub mod Known
-pub mod Refusing
 pub mod Reopened
-pub mod Sealing
 pub mod Selecting
 pub mod ServedScripts
-pub mod Standing
-pub mod Stopping
 pub mod Undamaged

@@ -16,16 +16,18 @@ use Rattle.mt_model.specs.Session.{SessionReplies}
 use Rattle.mt_model.specs.Written.{IsWritten}
 use Rattle.mt_model.proofs.Keys.{statements_are}
 use Rattle.mt_model.proofs.Replies.{replies_more, replies_append}
-use Rattle.mt_program.specs.declared.serving.Tally.{Tally}
+use Rattle.reply_lines.specs.declared.tally.Tally.{Tally}
 use Rattle.root_store.specs.declared.store.CoreStore.{CoreStore}
 use Rattle.durable_commit.specs.Commits.{SameList}
 use Rattle.root_store.specs.Soundness.{RootStands}
 use Rattle.root_store.specs.Stores.{CoreStands}
-use Rattle.mt_program.specs.Answers.{history, Accepts, is_unsettled}
-use Rattle.mt_program.specs.Serving.{AreSettled, Item, Ran, Served, ServedAll, ServedFront, ServedCut, Tells, tallied}
-use Rattle.mt_program.specs.Streams.{AppendsFront}
-use Rattle.mt_program.proofs.Counting.{foresees_before}
-use Rattle.mt_program.proofs.Known.{appends_more, appends_none, sliced}
+use Rattle.command_turn.specs.Answers.{Accepts}
+use Rattle.reply_lines.specs.Foreseen.{history, is_unsettled}
+use Rattle.mt_program.specs.Serving.{AreSettled, Item, Ran, Served, ServedAll, ServedFront, ServedCut, Tells}
+use Rattle.reply_lines.specs.Tallies.{tallied}
+use Rattle.run_streams.specs.Streams.{AppendsFront}
+use Rattle.reply_lines.proofs.Counting.{foresees_before}
+use Rattle.run_streams.proofs.Known.{appends_more, appends_none, sliced}
 use Rattle.mt_values.proofs.ScriptBounds.{statements_of_step}
 
 -- what was read at a place of the script

@@ -6,9 +6,9 @@ use Rattle.mt_outside.specs.declared.disk.DiskError.{DiskError}
 use Rattle.mt_outside.specs.declared.disk.DiskError.TheVariants as failure
 use Rattle.mt_program.specs.declared.serving.Ending.{Ending}
 use Rattle.mt_program.specs.declared.serving.Ending.TheVariants as ending
-use Rattle.mt_program.specs.declared.serving.Tally.{Tally}
-use Rattle.mt_program.specs.declared.streams.ReadStop.{ReadStop}
-use Rattle.mt_program.specs.declared.streams.ReadStop.TheVariants as unread
+use Rattle.reply_lines.specs.declared.tally.Tally.{Tally}
+use Rattle.run_streams.specs.declared.streams.ReadStop.{ReadStop}
+use Rattle.run_streams.specs.declared.streams.ReadStop.TheVariants as unread
 use Rattle.mt_program.specs.Serving.{ServedBy}
 use Rattle.exit_status.specs.declared.status.Status.{Status}
 use Rattle.exit_status.specs.declared.status.Status.TheVariants as status

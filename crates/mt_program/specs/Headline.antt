@@ -13,10 +13,10 @@ use Rattle.exit_status.specs.Statuses.{number_of}
 use Rattle.mt_model.specs.Script.{ScriptRun, ScriptReplies, CutRun, CutInReply, FrontRun}
 use Rattle.root_store.specs.Roots.{Stands}
 use Rattle.root_store.specs.Soundness.{RootStands}
-use Rattle.mt_program.specs.Answers.{history}
+use Rattle.reply_lines.specs.Foreseen.{history}
 use Rattle.mt_program.specs.Damage.{WritesDamage}
 use Rattle.mt_program.specs.Serving.{AreSettled, Item, Tells}
-use Rattle.mt_program.specs.declared.serving.Tally.{Tally}
+use Rattle.reply_lines.specs.declared.tally.Tally.{Tally}
 use Rattle.exit_status.specs.declared.status.Status.{Status}
 use Rattle.exit_status.specs.declared.status.Status.TheVariants as status
 

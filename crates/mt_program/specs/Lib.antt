@@ -1,12 +1,5 @@
-pub mod Answers
-pub mod Commits
 pub mod Crashes
 pub mod Damage
 pub mod Endings
 pub mod Headline
-pub mod Names
-pub mod Selects
 pub mod Serving
-pub mod Stops
-pub mod Streams
-pub mod Words

@@ -1,5 +1,5 @@
 -- What a script that was served leaves.
-use Rattle.std.specs.Prelude.{◌≡◌, ℕ, false, ◌||◌, List, [], ◌∷◌, ◌++◌, length, drop, All, Option, Some, Result}
+use Rattle.std.specs.Prelude.{◌≡◌, ℕ, false, List, [], ◌∷◌, ◌++◌, length, drop, All, Option, Some, Result}
 use Rattle.std.specs.List.{concat, list_any}
 use Rattle.std.specs.Io.KnownBytes.{Appends}
 use Rattle.mt_values.specs.declared.annals.Noted.{Noted}
@@ -17,14 +17,10 @@ use Rattle.mt_model.specs.Script.{IsFront}
 use Rattle.root_store.specs.declared.store.CoreStore.{CoreStore}
 use Rattle.root_store.specs.Soundness.{RootStands}
 use Rattle.root_store.specs.Stores.{CoreStands}
-use Rattle.mt_program.specs.Answers.{Foresees, history, is_unsettled}
+use Rattle.reply_lines.specs.Foreseen.{Foresees, history, is_unsettled}
 use Rattle.mt_program.specs.declared.serving.Ending.{Ending}
 use Rattle.mt_program.specs.declared.serving.Ending.TheVariants as ending
-use Rattle.mt_program.specs.declared.serving.Tally.{Tally}
-
--- what replies said, with one more
-abbrev pub tallied : Tally → List ℕ → Tally
-tallied t reply = record { refused = t.refused || is_refusal reply; damaged = t.damaged || is_damage reply }
+use Rattle.reply_lines.specs.declared.tally.Tally.{Tally}
 
 -- a statement of a script, or why its text is refused
 abbrev pub Item : Type 0

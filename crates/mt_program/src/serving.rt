@@ -11,32 +11,22 @@ ghost use Rattle.mt_model.specs.Written.{IsWritten};
 ghost use Rattle.root_store.specs.Crashes.{KeepsThroughCrashes};
 ghost use Rattle.root_store.specs.Soundness.{HasSoundParts, IsSound, NamesFitUnlessRisen, RootStands};
 ghost use Rattle.root_store.specs.Stores.{CoreStands};
-ghost use Rattle.mt_program.specs.Answers.{Answers, history};
+ghost use Rattle.command_turn.specs.Answers.{Answers};
+ghost use Rattle.reply_lines.specs.Foreseen.{history};
 ghost use Rattle.mt_program.specs.Crashes.{LeavesForCrashes};
 ghost use Rattle.mt_program.specs.Endings.{MetNoDamage};
-ghost use Rattle.mt_program.specs.Serving.{ServedBy, tallied};
+ghost use Rattle.mt_program.specs.Serving.{ServedBy};
 
-use crate::creates::create;
-use crate::inserts::insert;
-use crate::refusals::reply_code;
-use crate::selects::select;
-use crate::streams::write_all;
+use command_turn::{create, insert};
 use mt_base::NoMemory;
 use mt_model::{Refusal, refusal_line};
 use mt_outside::{Arm, Disk, Gate, Point, Sink, Who};
 use mt_values::{Annals, Cause, Statement};
+use reply_lines::{Tally, write_reply};
 use root_log::CoreStore;
+use select_rows::select;
 use sql_read::{Next, next_statement};
 use std::alloc::Global;
-
-/// What the replies so far said.
-#[derive(Clone, Copy)]
-pub struct Tally {
-    /// A statement was refused for what the script says.
-    pub refused: bool,
-    /// Bytes of a part were damaged.
-    pub damaged: bool,
-}
 
 /// How a script ended.
 #[derive(Clone, Copy)]
@@ -46,30 +36,6 @@ pub enum Ending {
     NoMemory,
     /// The sink failed.
     WriteFault,
-}
-
-impl Tally {
-    /// No reply yet.
-    pub fn none() -> Tally
-        ensures refused { result.refused ≡ false }
-        ensures damaged { result.damaged ≡ false }
-    {
-        Tally {
-            refused: false,
-            damaged: false,
-        }
-    }
-
-    /// With one more reply.
-    pub fn with(self, reply: &[u8]) -> Tally
-        ensures { result ≡ tallied self reply.now }
-    {
-        let code = reply_code(reply);
-        Tally {
-            refused: self.refused || (1 <= code && code <= 14) || code == 18,
-            damaged: self.damaged || code == 19,
-        }
-    }
 }
 
 /// The next statement of a whole script, or why its text is refused, and the bytes that it takes; none at the script's end.
@@ -171,11 +137,10 @@ pub fn serve<D: Disk, A: Annals, K: Sink, G: Gate>(
             Err(_) => return Ending::NoMemory,
         };
         gate.pass(Who::Session(0), Point::Answered);
-        match write_all(sink, &reply) {
-            Ok(()) => {}
+        tally = match write_reply(sink, tally, &reply) {
+            Ok(told) => told,
             Err(_) => return Ending::WriteFault,
-        }
-        tally = tally.with(&reply);
+        };
         at += used;
     }
     Ending::Done(tally)

@@ -2,13 +2,13 @@ use Rattle.std.proofs.lemmas.Result.{IfOk-weaker}
 use Rattle.std.proofs.Common.{◌≡◌, IfOk, ◌∷◌, ◌++◌, [], Err, Ok, sym, ap, ◌∙◌, subst}
 use Rattle.mt_model.specs.declared.refusal.Refusal.{Refusal}
 use Rattle.mt_model.specs.Refusals.{is_damage, refusal_line, refusal_of_cause}
-use Rattle.mt_program.specs.Answers.{Answers}
+use Rattle.command_turn.specs.Answers.{Answers}
 use Rattle.mt_program.specs.Serving.{Item}
 use Rattle.root_store.specs.Crashes.{KeepsThroughCrashes}
-use Rattle.mt_program.proofs.Accepting.{accepts_nothing, answers_line, kept_same, root_is}
-use Rattle.mt_program.proofs.Refusing.{text_refused}
+use Rattle.command_turn.proofs.Accepting.{accepts_nothing, answers_line, kept_same, root_is}
 use Rattle.mt_program.proofs.Selecting.{selected_answers}
-use Rattle.mt_program.proofs.Undamaged.{cause_line}
+use Rattle.reply_lines.proofs.Refusing.{text_refused}
+use Rattle.reply_lines.proofs.Undamaged.{cause_line}
 use Rattle.mt_program.proofs.serving.answer.Goals as goal
 
 pub returns-in-Ok-Select-clause-answers : goal.returns-in-Ok-Select-clause-answers

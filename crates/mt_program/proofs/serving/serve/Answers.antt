@@ -3,7 +3,7 @@ use Rattle.mt_values.specs.Script.{statements_of}
 use Rattle.mt_program.proofs.ServedScripts.{served_none, served_all, served_so_far, served_unanswered, served_more, served_cut, no_statement, nothing_left, one_statement, is_written, Found, Used, used_within}
 use Rattle.root_commits.proofs.CrashDone.{keeps_more}
 use Rattle.mt_program.proofs.Crashing.{left_behind, one_more}
-use Rattle.mt_program.specs.Answers.{Accepts}
+use Rattle.command_turn.specs.Answers.{Accepts}
 use Rattle.mt_program.specs.Serving.{Served}
 use Rattle.mt_program.proofs.Undamaged.{tallied_undamaged}
 use Rattle.mt_program.proofs.serving.serve.Goals as goal
@@ -60,8 +60,8 @@ returns-in-Err-answer-clause-run g c = λ kept is tells stands settled.
     served_unanswered g.D.Arm.Dir.Dir.files kept c.args.script.now c.args.store.now.opened (g.D.Disk.failed c.statements.disk) (g.D.Arm.Arm.failed c.statements.arm) c.statements.at c.statements.tally c.statements.store (g.A.Annals.told c.statements.annals) (g.D.Disk.told c.statements.disk)
     (g.K.Sink.written c.args.sink.now) (g.K.Sink.written c.statements.sink) s (g.D.Disk.failed c.answer.new.disk) (g.D.Arm.Arm.failed c.answer.new.arm) c.in-Err-answer.ensures.disk_later c.in-Err-answer.ensures.arm_later (g.A.Annals.told c.answer.new.annals) (g.D.Disk.told c.answer.new.disk) same.0 same.1
 
-pub returns-in-Err-write_all-clause-run : goal.returns-in-Err-write_all-clause-run
-returns-in-Err-write_all-clause-run g c = λ kept is tells stands settled.
+pub returns-in-Err-write_reply-clause-run : goal.returns-in-Err-write_reply-clause-run
+returns-in-Err-write_reply-clause-run g c = λ kept is tells stands settled.
     let files = g.D.Arm.Dir.Dir.files in
     let s = c.statements.invariant.served kept is tells stands settled in
     let found = subst (λ o. Found c.args.script.now c.statements.at o) c.in-Ok-Some.field-0-is c.in-Ok-Some.ensures.found in
@@ -72,7 +72,7 @@ returns-in-Err-write_all-clause-run g c = λ kept is tells stands settled.
     (c.in-Ok.ensures.answers s.ran.now s.ran.told_is (c.statements.invariant.tells ∙ tells) s.stands) in
     served_cut files kept c.args.script.now c.args.store.now.opened (g.D.Disk.failed c.statements.disk) (g.D.Arm.Arm.failed c.statements.arm) c.statements.at c.statements.tally c.statements.store (g.A.Annals.told c.statements.annals) (g.D.Disk.told c.statements.disk)
     (g.K.Sink.written c.args.sink.now) (g.K.Sink.written c.statements.sink) s disk arm c.in-Ok.ensures.disk_later c.in-Ok.ensures.arm_later
-    c.in-Ok-Some.found.1 c.in-Ok-Some.found.0 left c.answer.new.store (g.A.Annals.told c.answer.new.annals) (g.D.Disk.told c.answer.new.disk) c.in-Ok.reply.items (g.K.Sink.written c.write_all.new.sink) a (rw c.deref.ensures.value at c.in-Err-write_all.ensures.front)
+    c.in-Ok-Some.found.1 c.in-Ok-Some.found.0 left c.answer.new.store (g.A.Annals.told c.answer.new.annals) (g.D.Disk.told c.answer.new.disk) c.in-Ok.reply.items (g.K.Sink.written c.write_reply.new.sink) a (rw c.deref.ensures.value at c.in-Err-write_reply.ensures.front)
 
 pub statements-preserved : goal.statements-preserved
 statements-preserved g c = record {
@@ -91,13 +91,13 @@ statements-preserved g c = record {
       (c.in-Ok.ensures.answers s.ran.now s.ran.told_is (c.statements.invariant.tells ∙ tells) s.stands) in
       let more = served_more files kept c.args.script.now c.args.store.now.opened (g.D.Disk.failed c.statements.disk) (g.D.Arm.Arm.failed c.statements.arm) c.statements.at c.statements.tally c.statements.store (g.A.Annals.told c.statements.annals) (g.D.Disk.told c.statements.disk)
       (g.K.Sink.written c.args.sink.now) (g.K.Sink.written c.statements.sink) s disk arm c.in-Ok.ensures.disk_later c.in-Ok.ensures.arm_later
-      c.in-Ok-Some.found.1 c.in-Ok-Some.found.0 left c.answer.new.store (g.A.Annals.told c.answer.new.annals) (g.D.Disk.told c.answer.new.disk) c.in-Ok.reply.items (g.K.Sink.written c.write_all.new.sink) a (rw c.deref.ensures.value at c.in-Ok-write_all.ensures.all) in
-      subst (λ t. Served files kept c.args.script.now c.args.store.now.opened disk arm (c.statements.at + c.in-Ok-Some.found.1) t c.answer.new.store (g.A.Annals.told c.answer.new.annals) (g.D.Disk.told c.answer.new.disk) (g.K.Sink.written c.args.sink.now) (g.K.Sink.written c.write_all.new.sink))
-      (sym (rw c.deref-in-statements.ensures.value at c.with-tally.ensures)) more;
+      c.in-Ok-Some.found.1 c.in-Ok-Some.found.0 left c.answer.new.store (g.A.Annals.told c.answer.new.annals) (g.D.Disk.told c.answer.new.disk) c.in-Ok.reply.items (g.K.Sink.written c.write_reply.new.sink) a (rw c.deref.ensures.value at c.in-Ok-write_reply.ensures.all) in
+      subst (λ t. Served files kept c.args.script.now c.args.store.now.opened disk arm (c.statements.at + c.in-Ok-Some.found.1) t c.answer.new.store (g.A.Annals.told c.answer.new.annals) (g.D.Disk.told c.answer.new.disk) (g.K.Sink.written c.args.sink.now) (g.K.Sink.written c.write_reply.new.sink))
+      (sym (rw c.deref.ensures.value at c.in-Ok-write_reply.ensures.tally)) more;
   held = λ tells held. c.in-Ok.ensures.held (c.statements.invariant.tells ∙ tells) (c.statements.invariant.held tells held);
   undamaged = λ tells held.
       let reply = c.in-Ok.ensures.undamaged (c.statements.invariant.held tells held) in
-      tallied_undamaged c.statements.tally c.in-Ok.reply.items c.with-tally.result (rw c.deref-in-statements.ensures.value at c.with-tally.ensures) (c.statements.invariant.undamaged tells held) reply;
+      tallied_undamaged c.statements.tally c.in-Ok.reply.items c.in-Ok-write_reply.told (rw c.deref.ensures.value at c.in-Ok-write_reply.ensures.tally) (c.statements.invariant.undamaged tells held) reply;
   keeps = λ first start tells keeps.
       let found = subst (λ o. Found c.args.script.now c.statements.at o) c.in-Ok-Some.field-0-is c.in-Ok-Some.ensures.found in
       let left = one_statement c.args.script.now c.statements.at c.in-Ok-Some.found.1 c.in-Ok-Some.found.0 found in
@@ -137,8 +137,8 @@ returns-in-Err-answer-clause-through_crashes g c = λ first start tells keeps.
     left_behind (statements_of c.args.script.now) (statements_of (drop (c.statements.at + c.in-Ok-Some.found.1) c.args.script.now)) (one_more c.args.script.now was.0 _ c.in-Ok-Some.found.0 _ was.1 left)
     (c.in-Err-answer.ensures.opened ∙ c.statements.invariant.opened) (c.in-Err-answer.ensures.through_crashes was.0 first start (c.statements.invariant.tells ∙ tells) was.2 (keeps_more was.0 (c.in-Ok-Some.found.0 ∷ []) was.2))
 
-pub returns-in-Err-write_all-clause-through_crashes : goal.returns-in-Err-write_all-clause-through_crashes
-returns-in-Err-write_all-clause-through_crashes g c = λ first start tells keeps.
+pub returns-in-Err-write_reply-clause-through_crashes : goal.returns-in-Err-write_reply-clause-through_crashes
+returns-in-Err-write_reply-clause-through_crashes g c = λ first start tells keeps.
     let found = subst (λ o. Found c.args.script.now c.statements.at o) c.in-Ok-Some.field-0-is c.in-Ok-Some.ensures.found in
     let left = one_statement c.args.script.now c.statements.at c.in-Ok-Some.found.1 c.in-Ok-Some.found.0 found in
     let was = c.statements.invariant.keeps first start tells keeps in

@@ -2,7 +2,7 @@
 use Rattle.std.proofs.Common.{◌≡◌, ◌++◌, [], List, ◌≤◌, ◌-◌, ℕ, Some, true, false, drop, length}
 use Rattle.mt_values.specs.Annals.{Told}
 use Rattle.mt_values.specs.Script.{statements_of}
-use Rattle.mt_program.specs.Answers.{history}
+use Rattle.reply_lines.specs.Foreseen.{history}
 use Rattle.mt_program.specs.Serving.{Item, Served}
 use Rattle.root_store.specs.Crashes.{KeepsThroughCrashes}
 use Rattle.root_store.specs.Soundness.{HasSoundParts, IsSound, NamesFitUnlessRisen, RootStands}

@@ -2,7 +2,7 @@ use Rattle.std.proofs.Common.{◌∙◌, ◌≡◌, ◌⊎◌, ◌≤◌, ℕ, i
 use Rattle.mt_model.specs.Outside.{Counts}
 use Rattle.root_store.proofs.CrashMarks.{safe_at_start}
 use Rattle.mt_program.specs.Headline.{Leaves, NothingRan, ReadRun, RunBy}
-use Rattle.mt_program.specs.Words.{is_command}
+use Rattle.run_streams.specs.Words.{is_command}
 use Rattle.exit_status.specs.declared.status.Status.{Status}
 use Rattle.exit_status.specs.declared.status.Status.TheVariants as status
 use Rattle.mt_program.proofs.Completing.{none_refused, not_too_long, zero_or_six}

@@ -4,13 +4,13 @@ use Rattle.std.proofs.lemmas.Bool.Decides.{nat_tests}
 use Rattle.mt_outside.specs.Causes.{Rose}
 use Rattle.mt_model.specs.Outside.{Counts}
 use Rattle.mt_outside.specs.Disk as root
-use Rattle.mt_program.specs.Answers.{Foresees, history}
+use Rattle.reply_lines.specs.Foreseen.{Foresees, history}
 use Rattle.mt_program.specs.Damage.{WritesDamage, damage_line}
 use Rattle.mt_program.specs.Endings.{IsAnswered}
 use Rattle.mt_program.specs.Headline.{Leaves, RunBy}
 use Rattle.exit_status.specs.declared.status.Status.{Status}
 use Rattle.exit_status.specs.declared.status.Status.TheVariants as status
-use Rattle.mt_program.proofs.Counting.{risen_back, some_rose}
+use Rattle.reply_lines.proofs.Counting.{risen_back, some_rose}
 use Rattle.root_store.specs.Crashes.{AllStand}
 use Rattle.root_store.proofs.CrashMarks.{safe_at_start, safe_opened}
 use Rattle.mt_program.specs.Crashes.{LeavesOfScript}

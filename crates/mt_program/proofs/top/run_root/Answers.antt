@@ -1,6 +1,6 @@
 use Rattle.std.proofs.Common.{[], ◌∙◌, ◌+◌, ℕ, None, subst, refl, sym, inl, inr}
 use Rattle.mt_outside.specs.Disk.{names_of}
-use Rattle.mt_program.specs.Answers.{history}
+use Rattle.reply_lines.specs.Foreseen.{history}
 use Rattle.mt_program.specs.Endings.{LeftBy}
 use Rattle.root_store.specs.Crashes.{IsCrashSafe}
 use Rattle.root_store.proofs.CrashMarks.{safe_at_start, stands_as_read}

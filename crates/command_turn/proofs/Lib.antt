@@ -1,0 +1,6 @@
+pub mod Accepting
+pub mod Creating
+pub mod Inserting
+pub mod Sealing
+pub mod Standing
+pub mod Stopping

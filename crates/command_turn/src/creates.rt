@@ -1,0 +1,76 @@
+// Running a CREATE.
+ghost use Rattle.std.specs.Prelude.{◌≡◌, ◌∷◌, ◌++◌, [], ◌-◌, ◌<◌, ◌≤◌, ◌^◌, Ok, Some, true, false, IfOk, List, ℕ, Result};
+ghost use Rattle.mt_values.specs.declared.statement.Cause.{Cause};
+ghost use Rattle.mt_values.specs.declared.statement.Statement.{Statement};
+ghost use Rattle.mt_values.specs.declared.statement.Statement.TheVariants as statement;
+ghost use Rattle.mt_values.specs.Annals.{Told};
+ghost use Rattle.mt_model.specs.Refusals.{is_damage};
+ghost use Rattle.mt_model.specs.Written.{IsCreateText};
+ghost use Rattle.root_store.specs.Crashes.{KeepsThroughCrashes};
+ghost use Rattle.root_store.specs.Soundness.{HasSoundParts, IsSound, NamesFitUnlessRisen};
+ghost use Rattle.root_store.specs.Stores.{CoreStands};
+ghost use Rattle.command_turn.specs.Answers.{Answers};
+ghost use Rattle.reply_lines.specs.Foreseen.{history};
+
+use crate::stopped::refused_line;
+use mt_base::{NoMemory, Twin};
+use mt_model::{refusal_line, resolve};
+use mt_outside::{Arm, Disk};
+use mt_values::{Annals, Create, CreateText};
+use reply_lines::{replies_behind, stage_line};
+use root_commits::commit_create;
+use root_store::CoreStore;
+use statement_work::{give_back, seal_entry};
+use std::alloc::Global;
+
+/// Makes a table, unless the CREATE is refused. All memory is taken before the commit.
+///
+/// `NoMemory` where a growth was refused; the keeper tells the same list, and the root is as it was.
+pub fn create<D: Disk, A: Annals>(
+    alloc: Global,
+    store: &mut CoreStore<<D::Arm as Arm>::Dir>,
+    disk: &mut D,
+    arm: &mut D::Arm,
+    annals: &mut A,
+    text: &CreateText,
+) -> Result<Vec<u8>, NoMemory>
+    requires written { IsCreateText text.now }
+    requires names { NamesFitUnlessRisen (D.failed disk.old) (D.told disk.old) store.old }
+    requires store { IsSound store.old }
+    requires opened { store.old.opened ≤ D.failed disk.old }
+    requires below { store.old.opened < 2 ^ 64 - 1 }
+    ensures answers { (kept : Told) → A.told annals.old ≡ Some kept → D.Arm.tells arm.old ≡ true → CoreStands D.Arm.Dir.files (history kept) store.old
+        → Answers D.Arm.Dir.files kept (Ok (statement.Create text.now)) store.old.opened (D.failed disk.new) (D.Arm.failed arm.new) result store.new (A.told annals.new) (D.told disk.old) (D.told disk.new) }
+    ensures through_crashes { (ran : List (Result Statement Cause)) (first : Told) (start : ℕ) → D.Arm.tells arm.old ≡ true
+        → KeepsThroughCrashes D.Arm.Dir.files ran store.old (D.failed disk.old) (D.told disk.old) (D.clock disk.old) (A.told annals.old) first start
+        → KeepsThroughCrashes D.Arm.Dir.files (ran ++ Ok (statement.Create text.now) ∷ []) store.old (D.failed disk.old) (D.told disk.old) (D.clock disk.old) (A.told annals.old) first start
+        → KeepsThroughCrashes D.Arm.Dir.files (ran ++ Ok (statement.Create text.now) ∷ []) store.new (D.failed disk.new) (D.told disk.new) (D.clock disk.new) (A.told annals.new) first start }
+    ensures undamaged { IfOk result (λ reply. is_damage reply.items ≡ false) }
+    ensures held { HasSoundParts D.Arm.Dir.files store.old → HasSoundParts D.Arm.Dir.files store.new }
+    ensures names { NamesFitUnlessRisen (D.failed disk.new) (D.told disk.new) store.new }
+    ensures store { IsSound store.new }
+    ensures opened { store.new.opened ≡ store.old.opened }
+    ensures tells { D.Arm.tells arm.new ≡ D.Arm.tells arm.old }
+    ensures disk_later { D.failed disk.old ≤ D.failed disk.new }
+    ensures arm_later { D.Arm.failed arm.old ≤ D.Arm.failed arm.new }
+{
+    let resolved = resolve(alloc, text)?;
+    let schema = match resolved {
+        Ok(schema) => schema,
+        Err(refusal) => return refusal_line(alloc, &refusal),
+    };
+    let replies = replies_behind(alloc, store.length)?;
+    let table = text.table.twin(alloc)?;
+    let sealed = match seal_entry(alloc, arm, text.text.as_slice()) {
+        Ok(sealed) => sealed,
+        Err(error) => return stage_line(alloc, error),
+    };
+    let made = Create { table, schema };
+    match commit_create(alloc, store, disk, annals, 0, made, sealed) {
+        Ok(()) => Ok(replies.accepted),
+        Err(returned) => {
+            give_back(arm, returned.back);
+            refused_line(alloc, &text.table, returned.cause, replies.unsettled)
+        }
+    }
+}

@@ -1,0 +1,107 @@
+// Running an INSERT.
+ghost use Rattle.std.specs.Prelude.{◌≡◌, ◌∷◌, ◌++◌, [], ◌-◌, ◌<◌, ◌≤◌, ◌^◌, Ok, Some, true, false, IfOk, OnOk, List, ℕ, Result};
+ghost use Rattle.mt_values.specs.declared.statement.Cause.{Cause};
+ghost use Rattle.mt_values.specs.declared.statement.Statement.{Statement};
+ghost use Rattle.mt_values.specs.declared.statement.Statement.TheVariants as statement;
+ghost use Rattle.mt_values.specs.Annals.{Told};
+ghost use Rattle.mt_values.specs.Grid.{AreRowsOf};
+ghost use Rattle.mt_outside.specs.DiskCauses.{HasDiskCause};
+ghost use Rattle.mt_model.specs.History.{IsTableSchema, column_types};
+ghost use Rattle.mt_model.specs.Refusals.{is_damage};
+ghost use Rattle.root_commits.specs.Commits.{IsSealedOf};
+ghost use Rattle.root_store.specs.Crashes.{KeepsThroughCrashes};
+ghost use Rattle.root_store.specs.Soundness.{HasSoundParts, IsSound, NamesFitUnlessRisen};
+ghost use Rattle.root_store.specs.Stores.{CoreStands};
+ghost use Rattle.command_turn.specs.Answers.{Answers};
+ghost use Rattle.reply_lines.specs.Foreseen.{history};
+
+use crate::stopped::refused_line;
+use mt_base::NoMemory;
+use mt_model::ok_line;
+use mt_outside::{Arm, Disk, DiskError};
+use mt_values::{Annals, Block, InsertText, Schema};
+use part_writer::{SealedPart, write_part};
+use reply_lines::{data_line, no_table_line, replies_behind, stage_line};
+use root_commits::commit_part;
+use root_store::CoreStore;
+use statement_work::{give_back, read_block};
+use std::alloc::Global;
+use tsv_rows::ReadStop;
+
+/// The files of a block as a part of a table, sealed: its rows in the order of the key, those of equal keys as they came.
+///
+/// `Fault` only where the arm's count rose in this call, `NoMemory` where a growth was refused. After an error the stage was given
+/// back to the arm.
+fn seal_block<R: Arm>(
+    alloc: Global,
+    arm: &mut R,
+    schema: &Schema,
+    block: &Block,
+) -> Result<SealedPart<R::Stage>, DiskError>
+    requires types { block.now.types ≡ column_types schema.now }
+    requires schema { IsTableSchema schema.now }
+    ensures sealed { R.tells arm.old ≡ true → IfOk result (λ s. IsSealedOf schema.now block.now s.sealed.files s.loaded) }
+    ensures typed { OnOk result (AreRowsOf block.now.types block.now.rows) }
+    ensures tells { R.tells arm.new ≡ R.tells arm.old }
+    ensures cause { HasDiskCause (R.failed arm.old) (R.failed arm.new) result }
+{
+    // Reading the number of rows shows that each row has a value of each column.
+    prove!(block.len() <= u32::MAX as usize);
+    let order = block.key_order(alloc, schema)?;
+    Ok(write_part(alloc, arm, schema, block, &order)?)
+}
+
+/// Adds the rows of an INSERT to its table, unless it is refused. All memory is taken before the commit.
+///
+/// `NoMemory` where a growth was refused; the keeper tells the same list, and the root is as it was.
+pub fn insert<D: Disk, A: Annals>(
+    alloc: Global,
+    store: &mut CoreStore<<D::Arm as Arm>::Dir>,
+    disk: &mut D,
+    arm: &mut D::Arm,
+    annals: &mut A,
+    text: &InsertText,
+) -> Result<Vec<u8>, NoMemory>
+    requires names { NamesFitUnlessRisen (D.failed disk.old) (D.told disk.old) store.old }
+    requires store { IsSound store.old }
+    requires opened { store.old.opened ≤ D.failed disk.old }
+    requires below { store.old.opened < 2 ^ 64 - 1 }
+    ensures answers { (kept : Told) → A.told annals.old ≡ Some kept → D.Arm.tells arm.old ≡ true → CoreStands D.Arm.Dir.files (history kept) store.old
+        → Answers D.Arm.Dir.files kept (Ok (statement.Insert text.now)) store.old.opened (D.failed disk.new) (D.Arm.failed arm.new) result store.new (A.told annals.new) (D.told disk.old) (D.told disk.new) }
+    ensures through_crashes { (ran : List (Result Statement Cause)) (first : Told) (start : ℕ) → D.Arm.tells arm.old ≡ true
+        → KeepsThroughCrashes D.Arm.Dir.files ran store.old (D.failed disk.old) (D.told disk.old) (D.clock disk.old) (A.told annals.old) first start
+        → KeepsThroughCrashes D.Arm.Dir.files (ran ++ Ok (statement.Insert text.now) ∷ []) store.old (D.failed disk.old) (D.told disk.old) (D.clock disk.old) (A.told annals.old) first start
+        → KeepsThroughCrashes D.Arm.Dir.files (ran ++ Ok (statement.Insert text.now) ∷ []) store.new (D.failed disk.new) (D.told disk.new) (D.clock disk.new) (A.told annals.new) first start }
+    ensures undamaged { IfOk result (λ reply. is_damage reply.items ≡ false) }
+    ensures held { D.Arm.tells arm.old ≡ true → HasSoundParts D.Arm.Dir.files store.old → HasSoundParts D.Arm.Dir.files store.new }
+    ensures names { NamesFitUnlessRisen (D.failed disk.new) (D.told disk.new) store.new }
+    ensures store { IsSound store.new }
+    ensures opened { store.new.opened ≡ store.old.opened }
+    ensures tells { D.Arm.tells arm.new ≡ D.Arm.tells arm.old }
+    ensures disk_later { D.failed disk.old ≤ D.failed disk.new }
+    ensures arm_later { D.Arm.failed arm.old ≤ D.Arm.failed arm.new }
+{
+    let Some(found) = store.tables.get(&text.table) else {
+        return no_table_line(alloc, &text.table);
+    };
+    let block = match read_block(alloc, &found.schema, text) {
+        Ok(block) => block,
+        Err(ReadStop::NoMemory) => return Err(NoMemory),
+        Err(ReadStop::Refused(fault)) => return data_line(alloc, fault),
+    };
+    if block.is_empty() {
+        return ok_line(alloc, store.length);
+    }
+    let replies = replies_behind(alloc, store.length)?;
+    let part = match seal_block(alloc, arm, &found.schema, &block) {
+        Ok(part) => part,
+        Err(error) => return stage_line(alloc, error),
+    };
+    match commit_part(alloc, store, disk, annals, 0, &text.table, part, block) {
+        Ok(()) => Ok(replies.accepted),
+        Err(returned) => {
+            give_back(arm, returned.back.map(|part| part.sealed));
+            refused_line(alloc, &text.table, returned.cause, replies.unsettled)
+        }
+    }
+}

@@ -1,0 +1,62 @@
+// What the turn of a command, or a commit that failed, refuses it for.
+ghost use Rattle.std.specs.Prelude.{◌≡◌, IfErr, IfOk};
+ghost use Rattle.command_turn.specs.Stops.{IsLineOf, refusal_of_commit};
+ghost use Rattle.mt_model.specs.declared.refusal.Refusal.TheVariants as refusal;
+ghost use Rattle.mt_model.specs.Refusals.{refusal_line};
+
+use durable_commit::{Limit, Refused};
+use mt_base::{NoMemory, Twin};
+use mt_model::{Bound, Refusal, Room, refusal_line};
+use mt_values::Name;
+use std::alloc::Global;
+
+/// Why a command on a table was not committed, as a refusal. None for want of memory.
+///
+/// `NoMemory` where a growth was refused.
+fn refusal_of(alloc: Global, table: &Name, cause: Refused) -> Result<Option<Refusal>, NoMemory>
+    ensures { IfOk result (λ found. found ≡ refusal_of_commit table.now cause) }
+{
+    let accepted = 0;
+    let refusal = match cause {
+        Refused::NoMemory => return Ok(None),
+        Refused::Disk => Refusal::Unsettled { accepted },
+        Refused::Stopped { opened, now } => Refusal::Stopped {
+            opened,
+            now,
+            accepted,
+        },
+        Refused::Exists => Refusal::TableExists(table.twin(alloc)?),
+        Refused::Limit(Limit::Tables) => Refusal::Past(Bound::Tables),
+        Refused::Limit(Limit::Parts) => {
+            let room = Room::Parts;
+            Refusal::Full { room, accepted }
+        }
+        Refused::Limit(Limit::Numbers) => {
+            let room = Room::Numbers;
+            Refusal::Full { room, accepted }
+        }
+    };
+    Ok(Some(refusal))
+}
+
+/// The reply to a command on a table that was not committed. Where the disk failed it is `unsettled`, so that no memory is wanted then.
+///
+/// `NoMemory` where that was why, and where a growth was refused; never where the disk failed.
+pub fn refused_line(
+    alloc: Global,
+    table: &Name,
+    cause: Refused,
+    unsettled: Vec<u8>,
+) -> Result<Vec<u8>, NoMemory>
+    requires { unsettled.items ≡ refusal_line (refusal.Unsettled 0) }
+    ensures line { IfOk result (λ line. IsLineOf table.now cause line.items) }
+    ensures disk { IfErr result (λ _. cause ≡ Refused.Disk → ⊥) }
+{
+    if let Refused::Disk = cause {
+        return Ok(unsettled);
+    }
+    let Some(refusal) = refusal_of(alloc, table, cause)? else {
+        return Err(NoMemory);
+    };
+    refusal_line(alloc, &refusal)
+}

@@ -1,7 +1,0 @@
--- the types of the columns gone over
-use Rattle.std.proofs.Common.{◌≡◌, map, take}
-use Rattle.mt_values.specs.declared.schema.Column.{Column}
-use Rattle.mt_program.proofs.inserts.types_of_columns.Given as goal
-
-abbrev pub invariant-loop-column : goal.invariant-loop-column
-invariant-loop-column l = l.types.items ≡ map (λ (c : Column). c.col_type) (take l.column-index l.column-items)

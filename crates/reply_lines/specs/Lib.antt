@@ -1,0 +1,4 @@
+pub mod Foreseen
+pub mod Lines
+pub mod Names
+pub mod Tallies

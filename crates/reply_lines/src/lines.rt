@@ -1,0 +1,69 @@
+// The lines that refuse a statement, for what it says or for the outside.
+ghost use Rattle.std.specs.Prelude.{◌≡◌, IfOk};
+ghost use Rattle.mt_model.specs.declared.refusal.Refusal.TheVariants as refusal;
+ghost use Rattle.mt_model.specs.Refusals.{refusal_line, refusal_of_data};
+ghost use Rattle.part_name.specs.PartNames.{part_text};
+ghost use Rattle.reply_lines.specs.Lines.{IsLineOfStage};
+ghost use Rattle.reply_lines.specs.Names.{file_name};
+
+use crate::names::file_name;
+use mt_base::{NoMemory, Seq, Twin};
+use mt_model::{Refusal, refusal_line};
+use mt_outside::DiskError;
+use mt_values::{DataFault, FileId, Name, SelectText};
+use part_name::{PartName, text as part_text};
+use std::alloc::Global;
+
+/// The reply to a statement on a table that is not there.
+pub fn no_table_line(alloc: Global, table: &Name) -> Result<Vec<u8>, NoMemory>
+    ensures { IfOk result (λ line. line.items ≡ refusal_line (refusal.NoTable table.now)) }
+{
+    let why = Refusal::NoTable(table.twin(alloc)?);
+    refusal_line(alloc, &why)
+}
+
+/// The reply to an INSERT whose rows are refused.
+pub fn data_line(alloc: Global, fault: DataFault) -> Result<Vec<u8>, NoMemory>
+    ensures { IfOk result (λ line. line.items ≡ refusal_line (refusal_of_data fault)) }
+{
+    let why = Refusal::of_data(fault);
+    refusal_line(alloc, &why)
+}
+
+/// The reply to a statement for which parts were not read, or a stage was not sealed.
+///
+/// `NoMemory` where that was why, and where a growth was refused.
+pub fn stage_line(alloc: Global, error: DiskError) -> Result<Vec<u8>, NoMemory>
+    ensures { IfOk result (λ line. IsLineOfStage error line.items) }
+{
+    match error {
+        DiskError::NoMemory => Err(NoMemory),
+        DiskError::Fault => refusal_line(alloc, &Refusal::Failed),
+    }
+}
+
+/// The reply to a command whose publish or whose sync failed. It is formed before the commit.
+///
+/// `NoMemory` where a growth was refused.
+pub fn unsettled_line(alloc: Global) -> Result<Vec<u8>, NoMemory>
+    ensures { IfOk result (λ line. line.items ≡ refusal_line (refusal.Unsettled 0)) }
+{
+    let accepted = 0;
+    refusal_line(alloc, &Refusal::Unsettled { accepted })
+}
+
+/// The reply to a SELECT that met damage in a file of a part.
+pub fn damaged(
+    alloc: Global,
+    text: &SelectText,
+    part: &PartName,
+    file: FileId,
+) -> Result<Vec<u8>, NoMemory>
+    ensures { IfOk result (λ reply. reply.items ≡ refusal_line (Refusal.Damaged text.now.table (part_text part.now) (file_name file))) }
+{
+    let table = text.table.twin(alloc)?;
+    let part = Seq::of(part_text(alloc, part)?);
+    let file = file_name(alloc, file)?;
+    let why = Refusal::Damaged { table, part, file };
+    refusal_line(alloc, &why)
+}
