@@ -1,4 +1,4 @@
--- Replies that need no store (docs/replies.md, "Rows" and "Faults").
+-- Replies that need no store (docs/replies.md).
 use Rattle.std.specs.Prelude.{◌≡◌, ℕ, List, ◌++◌, length, flat_map}
 use Rattle.std.specs.List.{range_with_len}
 use Rattle.mt_values.specs.Grid.{AreRowsOf, Grid, IsOrderBy, picked}
