@@ -57,33 +57,57 @@
 //! - `block NUMBER`: how many rows a block without rows has, and one of a row with this number.
 #![tactic(auto)]
 
-mod bench;
-mod crashes;
-mod directive;
-mod runs;
-
-use bench::Bench;
-use std::alloc::{AllocError, Global};
+use disk_mem::{MemSource, OpenGate};
+use mt_program::run;
+use run_memory::{Bench, Left, Machine};
+use std::alloc::Global;
 use std::io;
 use std::sync::Wait;
 use std::thread::Threads;
 
-// Prints each line of the input, and what it comes to.
-fn print_all<R: Threads + Wait + Input + Print + Sync>(
-    rt: &R,
+/// The program, as what runs scripts.
+#[derive(Drop)]
+struct Program {
     alloc: Global,
-    bench: &mut Bench,
-) -> io::Result<()> {
-    for line in rt.lines(alloc) {
-        let line = line?;
-        bench.tell(rt, &line)?;
-        rt.print(bench.out.as_str())?;
+}
+
+impl Machine for Program {
+    fn run<R: Threads + Wait + Sync>(
+        &self,
+        rt: &R,
+        words: &[String],
+        source: MemSource,
+        left: Left,
+    ) -> Left {
+        let mut source = source;
+        let mut sink = left.sink;
+        let done = run(
+            rt,
+            self.alloc,
+            words,
+            &mut source,
+            &mut sink,
+            left.disk,
+            left.annals,
+            &mut OpenGate,
+        );
+        Left {
+            status: done.status,
+            disk: done.disk,
+            annals: done.annals,
+            sink,
+        }
     }
-    Ok(())
 }
 
 fn main(rt: HostRuntime) -> io::Result<()> {
     let alloc = rt.alloc();
-    let mut bench = Bench::new(alloc).or(Err(AllocError))?;
-    print_all(&rt, alloc, &mut bench)
+    let program = Program { alloc };
+    let mut bench = Bench::new(alloc);
+    for line in rt.lines(alloc) {
+        let line = line?;
+        bench.tell(&program, &rt, &line);
+        rt.print(bench.answer.text.as_str())?;
+    }
+    Ok(())
 }

@@ -3,197 +3,239 @@
 #![tactic(auto)]
 
 use disk_real::{RealArm, RealDir, RealDisk, RealStage};
-use mt_base::{NoMemory, Seq};
+use mt_base::Seq;
 use mt_outside::{Arm, Disk, DiskError, Stage};
 use mt_values::{FileId, Name};
 use std::alloc::Global;
 use std::{fs, io};
 
-// Begins a stage and gives it up.
-fn give_up(alloc: Global, arm: &mut RealArm<HostRuntime>) -> Result<(), DiskError> {
-    let mut stage = arm.stage(alloc)?;
-    let done = stage.append(FileId::Entry, b"none");
-    arm.abandon(stage);
-    done
-}
-
-// Writes and syncs two files, and syncs one that is not there.
-fn fill(stage: &mut RealStage<HostRuntime>) -> Result<(), DiskError> {
-    stage.append(FileId::Entry, b"CREATE ")?;
-    stage.append(FileId::Column(0), &[1, 2])?;
-    stage.append(FileId::Entry, b"TABLE t")?;
-    stage.sync(FileId::Entry)?;
-    stage.sync(FileId::Column(0))?;
-    stage.sync(FileId::Marks)
-}
-
-// Publishes a folder of two files.
-fn publish(
+/// What is printed, and the first error of the calls that are to be done.
+#[derive(Drop)]
+struct Told {
     alloc: Global,
-    disk: &mut RealDisk<HostRuntime>,
-    arm: &mut RealArm<HostRuntime>,
-    name: &Name,
-) -> Result<RealDir, DiskError> {
-    let mut stage = arm.stage(alloc)?;
-    fill(&mut stage)?;
-    disk.publish(alloc, stage, name)
+    text: String,
+    error: Option<DiskError>,
 }
 
-// Tells how a call ended.
-fn tell(out: &mut String, what: &str, ended: Result<(), DiskError>) -> Result<(), NoMemory> {
-    match ended {
-        Ok(()) => writeln!(out, "{what}: done").map_err(NoMemory::from),
-        Err(error) => writeln!(out, "{what}: {error}").map_err(NoMemory::from),
-    }
-}
-
-// Tells the names of the root.
-fn tell_names(
-    alloc: Global,
-    out: &mut String,
-    disk: &mut RealDisk<HostRuntime>,
-) -> Result<(), DiskError> {
-    for name in &disk.list(alloc)? {
-        tell_bytes(out, "name", name.as_slice())?;
-    }
-    Ok(())
-}
-
-// Tells bytes.
-fn tell_bytes(out: &mut String, what: &str, bytes: &[u8]) -> Result<(), NoMemory> {
-    writeln!(out, "{what}: \"{}\"", bytes.escape_ascii()).map_err(NoMemory::from)
-}
-
-// Tells what is read of a file from a place on, at most eight bytes.
-fn tell_read(
-    out: &mut String,
-    arm: &mut RealArm<HostRuntime>,
-    dir: &RealDir,
-    (file, at): (FileId, u64),
-) -> Result<(), DiskError> {
-    let mut buf = [0; 8];
-    let count = arm.read(dir, file, at, &mut buf)?;
-    tell_bytes(out, "read", &buf[..count]).map_err(DiskError::from)
-}
-
-// Tells what is read of the folder.
-fn tell_reads(
-    out: &mut String,
-    arm: &mut RealArm<HostRuntime>,
-    dir: &RealDir,
-) -> Result<(), DiskError> {
-    for place in [
-        (FileId::Entry, 0),
-        (FileId::Entry, 8),
-        (FileId::Column(0), 1),
-        (FileId::Column(0), 2),
-        (FileId::Column(0), u64::MAX),
-        (FileId::Column(1), 0),
-    ] {
-        tell_read(out, arm, dir, place)?;
-    }
-    Ok(())
-}
-
-// Tells the bytes of a file of the system.
-fn tell_file(rt: &HostRuntime, out: &mut String, path: &str) -> Result<(), NoMemory> {
-    match fs::read(rt, path) {
-        Ok(bytes) => tell_bytes(out, path, &bytes),
-        Err(_) => tell_bytes(out, path, b"not read"),
-    }
-}
-
-// Tells how many names a folder of the system has.
-fn tell_count(rt: &HostRuntime, out: &mut String, path: &str) -> Result<(), NoMemory> {
+// How many names a folder of the system has. One that is not read has as many as can't be.
+fn count_of(rt: &HostRuntime, path: &str) -> usize {
     match fs::read_dir(rt, path) {
-        Ok(names) => writeln!(out, "{path}: {} names", names.count()).map_err(NoMemory::from),
-        Err(_) => writeln!(out, "{path}: not read").map_err(NoMemory::from),
+        Ok(names) => names.count(),
+        Err(_) => usize::MAX,
     }
 }
 
-// Opens the folder anew, and tells what is read of it.
-fn tell_opened(
-    alloc: Global,
-    out: &mut String,
-    disk: &mut RealDisk<HostRuntime>,
-    arm: &mut RealArm<HostRuntime>,
-    name: &Name,
-) -> Result<(), DiskError> {
-    let dir = disk.open(alloc, name)?;
-    tell_reads(out, arm, &dir)
-}
+impl Told {
+    // Keeps an error, if none was before.
+    fn note(&mut self, error: Option<DiskError>) {
+        self.error = self.error.or(error);
+    }
 
-// Tells what is found of the folder that was published.
-fn tell_folder(
-    rt: &HostRuntime,
-    out: &mut String,
-    disk: &mut RealDisk<HostRuntime>,
-    arm: &mut RealArm<HostRuntime>,
-    name: &Name,
-) -> Result<(), DiskError> {
-    let alloc = rt.alloc();
-    disk.sync_names()?;
-    tell_names(alloc, out, disk)?;
-    tell_file(rt, out, "root/t.create/entry.bin")?;
-    tell_file(rt, out, "root/t.create/c0.bin")?;
-    tell_opened(alloc, out, disk, arm, name)
-}
+    // Keeps that something was not printed, where it was not.
+    fn noted(&mut self, is_printed: bool) {
+        if !is_printed {
+            self.note(Some(DiskError::NoMemory));
+        }
+    }
 
-// Removes the folder, and tells what can't be done then: three faults of the disk, and one of the arm.
-fn tell_removal(
-    rt: &HostRuntime,
-    out: &mut String,
-    disk: &mut RealDisk<HostRuntime>,
-    arm: &mut RealArm<HostRuntime>,
-    dir: &RealDir,
-    name: &Name,
-) -> Result<(), DiskError> {
-    let alloc = rt.alloc();
-    let up = Seq::from_slice(alloc, b"..")?;
-    disk.remove(name)?;
-    disk.sync_names()?;
-    tell_count(rt, out, "root")?;
-    tell(
-        out,
-        "read",
-        arm.read(dir, FileId::Marks, 0, &mut [0]).map(|_| ()),
-    )?;
-    tell(out, "open", disk.open(alloc, name).map(|_| ()))?;
-    tell(out, "remove", disk.remove(name))?;
-    tell(out, "open ..", disk.open(alloc, &up).map(|_| ())).map_err(DiskError::from)
-}
+    // Tells how a call ended.
+    fn ended(&mut self, what: &str, error: Option<DiskError>) {
+        let printed = match error {
+            None => writeln!(self.text, "{what}: done").is_ok(),
+            Some(error) => writeln!(self.text, "{what}: {error}").is_ok(),
+        };
+        self.noted(printed);
+    }
 
-// Publishes a folder, and removes it.
-fn run(
-    rt: &HostRuntime,
-    out: &mut String,
-    disk: &mut RealDisk<HostRuntime>,
-    arm: &mut RealArm<HostRuntime>,
-) -> Result<(), DiskError> {
-    let alloc = rt.alloc();
-    let name = Seq::from_slice(alloc, b"t.create")?;
-    give_up(alloc, arm)?;
-    let dir = publish(alloc, disk, arm, &name)?;
-    tell_reads(out, arm, &dir)?;
-    tell_folder(rt, out, disk, arm, &name)?;
-    tell_removal(rt, out, disk, arm, &dir, &name)
-}
+    // Tells bytes.
+    fn bytes(&mut self, what: &str, bytes: &[u8]) {
+        let printed = writeln!(self.text, "{what}: \"{}\"", bytes.escape_ascii()).is_ok();
+        self.noted(printed);
+    }
 
-// Begins with a root that is made where it is not there, and tells the mark and the faults at the end.
-fn run_root(rt: &HostRuntime, out: &mut String) -> Result<(), DiskError> {
-    let mut disk = RealDisk::new(*rt, rt.alloc());
-    disk.start("root")?;
-    let mut arm = disk.arm(rt.alloc())?;
-    let ended = run(rt, out, &mut disk, &mut arm);
-    disk.take_back(arm);
-    tell(out, "run", ended)?;
-    let (mark, faults) = (disk.mark(), disk.faults());
-    writeln!(out, "mark {mark}, {faults} faults").map_err(|_| DiskError::NoMemory)
+    // Tells what is read of a file from a place on, at most eight bytes.
+    fn read(&mut self, arm: &mut RealArm<HostRuntime>, dir: &RealDir, file: FileId, at: u64) {
+        let mut buf = [0; 8];
+        match arm.read(dir, file, at, &mut buf) {
+            Ok(count) => self.bytes("read", &buf[..count]),
+            Err(error) => self.note(Some(error)),
+        }
+    }
+
+    // Tells what is read of the folder.
+    fn reads(&mut self, arm: &mut RealArm<HostRuntime>, dir: &RealDir) {
+        self.read(arm, dir, FileId::Entry, 0);
+        self.read(arm, dir, FileId::Entry, 8);
+        self.read(arm, dir, FileId::Column(0), 1);
+        self.read(arm, dir, FileId::Column(0), 2);
+        self.read(arm, dir, FileId::Column(0), u64::MAX);
+        self.read(arm, dir, FileId::Column(1), 0);
+    }
+
+    // Tells the names of the root.
+    fn names(&mut self, disk: &mut RealDisk<HostRuntime>) {
+        match disk.list(self.alloc) {
+            Ok(names) => {
+                for name in &names {
+                    self.bytes("name", name.as_slice());
+                }
+            }
+            Err(error) => self.note(Some(error)),
+        }
+    }
+
+    // Tells the bytes of a file of the system.
+    fn file(&mut self, rt: &HostRuntime, path: &str) {
+        match fs::read(rt, path) {
+            Ok(bytes) => self.bytes(path, &bytes),
+            Err(_) => self.bytes(path, b"not read"),
+        }
+    }
+
+    // Tells how many names a folder of the system has.
+    fn count(&mut self, path: &str, count: usize) {
+        let printed = writeln!(self.text, "{path}: {count} names").is_ok();
+        self.noted(printed);
+    }
+
+    // Begins a stage and gives it up.
+    fn give_up(&mut self, arm: &mut RealArm<HostRuntime>) {
+        match arm.stage(self.alloc) {
+            Ok(stage) => {
+                let mut stage = stage;
+                self.note(stage.append(FileId::Entry, b"none").err());
+                arm.abandon(stage);
+            }
+            Err(error) => self.note(Some(error)),
+        }
+    }
+
+    // Writes and syncs two files, and syncs one that is not there.
+    fn fill(&mut self, stage: &mut RealStage<HostRuntime>) {
+        self.note(stage.append(FileId::Entry, b"CREATE ").err());
+        self.note(stage.append(FileId::Column(0), &[1, 2]).err());
+        self.note(stage.append(FileId::Entry, b"TABLE t").err());
+        self.note(stage.sync(FileId::Entry).err());
+        self.note(stage.sync(FileId::Column(0)).err());
+        self.note(stage.sync(FileId::Marks).err());
+    }
+
+    // Publishes a folder of two files.
+    fn publish(
+        &mut self,
+        disk: &mut RealDisk<HostRuntime>,
+        arm: &mut RealArm<HostRuntime>,
+        name: &Name,
+    ) -> Result<RealDir, DiskError> {
+        let mut stage = arm.stage(self.alloc)?;
+        self.fill(&mut stage);
+        disk.publish(self.alloc, stage, name)
+    }
+
+    // Opens the folder anew, and tells what is read of it.
+    fn opened(
+        &mut self,
+        disk: &mut RealDisk<HostRuntime>,
+        arm: &mut RealArm<HostRuntime>,
+        name: &Name,
+    ) {
+        match disk.open(self.alloc, name) {
+            Ok(dir) => self.reads(arm, &dir),
+            Err(error) => self.note(Some(error)),
+        }
+    }
+
+    // Removes the folder, and tells what can't be done then: three faults of the disk, and one of the arm.
+    fn removal(
+        &mut self,
+        rt: &HostRuntime,
+        disk: &mut RealDisk<HostRuntime>,
+        arm: &mut RealArm<HostRuntime>,
+        dir: &RealDir,
+        name: &Name,
+    ) {
+        let up = self.name(b"..");
+        self.note(disk.remove(name).err());
+        self.note(disk.sync_names().err());
+        self.count("root", count_of(rt, "root"));
+        self.ended("read", arm.read(dir, FileId::Marks, 0, &mut [0]).err());
+        self.ended("open", disk.open(self.alloc, name).err());
+        self.ended("remove", disk.remove(name).err());
+        self.ended("open ..", disk.open(self.alloc, &up).err());
+    }
+
+    // Tells what is found of the folder that was published, and removes it.
+    fn folder(
+        &mut self,
+        rt: &HostRuntime,
+        disk: &mut RealDisk<HostRuntime>,
+        arm: &mut RealArm<HostRuntime>,
+        dir: &RealDir,
+        name: &Name,
+    ) {
+        self.reads(arm, dir);
+        self.note(disk.sync_names().err());
+        self.names(disk);
+        self.file(rt, "root/t.create/entry.bin");
+        self.file(rt, "root/t.create/c0.bin");
+        self.opened(disk, arm, name);
+        self.removal(rt, disk, arm, dir, name);
+    }
+
+    // A name of these bytes.
+    fn name(&mut self, bytes: &[u8]) -> Name {
+        let mut name = Vec::new(self.alloc);
+        let named = name.extend_from_slice(bytes).is_ok();
+        self.noted(named);
+        Seq::of(name)
+    }
+
+    // Publishes a folder, and removes it.
+    fn run(
+        &mut self,
+        rt: &HostRuntime,
+        disk: &mut RealDisk<HostRuntime>,
+        arm: &mut RealArm<HostRuntime>,
+    ) {
+        let name = self.name(b"t.create");
+        self.give_up(arm);
+        match self.publish(disk, arm, &name) {
+            Ok(dir) => self.folder(rt, disk, arm, &dir, &name),
+            Err(error) => self.note(Some(error)),
+        }
+    }
+
+    // Begins with a root that is made where it is not there.
+    fn run_root(&mut self, rt: &HostRuntime, disk: &mut RealDisk<HostRuntime>) {
+        self.note(disk.start("root").err());
+        match disk.arm(self.alloc) {
+            Ok(arm) => {
+                let mut arm = arm;
+                self.run(rt, disk, &mut arm);
+                disk.take_back(arm);
+            }
+            Err(error) => self.note(Some(error)),
+        }
+        self.ended("run", self.error);
+    }
+
+    // Tells the mark and the faults at the end.
+    fn end(&mut self, mark: u64, faults: u64) {
+        let printed = writeln!(self.text, "mark {mark}, {faults} faults").is_ok();
+        self.noted(printed);
+        self.ended("case", self.error);
+    }
 }
 
 fn main(rt: HostRuntime) -> io::Result<()> {
-    let mut out = String::new(rt.alloc());
-    let ended = run_root(&rt, &mut out);
-    tell(&mut out, "case", ended).or(Err(io::Error::from(io::ErrorKind::OutOfMemory)))?;
-    rt.print(out.as_str())
+    let alloc = rt.alloc();
+    let mut disk = RealDisk::new(rt, alloc);
+    let mut told = Told {
+        alloc,
+        text: String::new(alloc),
+        error: None,
+    };
+    told.run_root(&rt, &mut disk);
+    told.end(disk.mark(), disk.faults());
+    rt.print(told.text.as_str())
 }

@@ -1,55 +1,94 @@
 // Scripts with what they may print and the histories that they may leave, as the plain program's definitions say.
-use crate::scripts::statements;
-use crate::text::{bytes_of, first_word};
-use crate::trouble::Trouble;
+use crate::answer::Answer;
+use crate::text::first_word;
+use mt_base::NoMemory;
 use mt_plain::{allows, run};
-use mt_values::{Cause, Entry, Statement};
-use std::alloc::Global;
+use mt_values::{Cause, Statement};
+use sql_read::{Next, next_statement};
 
-/// A script with a name, which later lines cite, and the history that it leaves behind none.
+/// No script that the plain program runs has more statements.
+const MOST_STATEMENTS: u32 = 64;
+
+/// A script with a name, which later lines cite.
 #[derive(Drop)]
 pub struct Example {
-    name: String,
-    statements: Vec<Result<Statement, Cause>>,
-    history: Vec<Entry>,
+    name: Vec<u8>,
+    script: Vec<u8>,
 }
 
 // The script of a name.
-fn named<'a>(examples: &'a [Example], name: &str) -> Result<&'a Example, Trouble> {
+fn named<'a>(examples: &'a [Example], name: &str) -> Option<&'a [u8]> {
     for example in examples {
-        if example.name.as_str() == name {
-            return Ok(example);
+        if example.name.as_slice() == name.as_bytes() {
+            return Some(&example.script);
         }
     }
-    Err(Trouble("no script of this name"))
+    None
 }
 
-// A script with this name.
-fn example_of(alloc: Global, name: &str, script: &[u8]) -> Result<Example, Trouble> {
-    let statements = statements(alloc, script)?;
-    let history = run(alloc, &statements)?.history;
-    let name = String::from_str(alloc, name)?;
-    Ok(Example {
-        name,
-        statements,
-        history,
-    })
-}
+impl Answer {
+    // The statements of a script, and why texts of it are refused.
+    fn statements(&mut self, script: &[u8]) -> Vec<Result<Statement, Cause>> {
+        let mut statements = Vec::new(self.alloc);
+        let mut rest = script;
+        for _ in 0..MOST_STATEMENTS {
+            let (statement, used) = match next_statement(self.alloc, rest, true) {
+                Next::Found(statement, used) => (Ok(statement), used),
+                Next::Refused(cause, used) => (Err(cause), used),
+                _ => break,
+            };
+            self.push(&mut statements, statement);
+            rest = rest.get(used..).unwrap_or(&[]);
+        }
+        statements
+    }
 
-/// Keeps a script under a name.
-pub fn keep(alloc: Global, examples: &mut Vec<Example>, rest: &str) -> Result<(), Trouble> {
-    let (name, script) = first_word(rest);
-    let script = bytes_of(alloc, script)?;
-    let example = example_of(alloc, name, &script)?;
-    examples.push(example).map_err(Trouble::from)
-}
+    /// Prints all that the plain program tells of a script, of which the status is that of another run.
+    pub fn plain(&mut self, status: u8, script: &[u8]) {
+        let statements = self.statements(script);
+        match run(self.alloc, &statements) {
+            Ok(plain) => self.told(status, &plain.history, &plain.out),
+            Err(_) => self.note(false),
+        }
+    }
 
-/// Whether a script may leave the history of another one and print a text.
-pub fn is_allowed(alloc: Global, examples: &[Example], rest: &str) -> Result<bool, Trouble> {
-    let (script, rest) = first_word(rest);
-    let (history, printed) = first_word(rest);
-    let script = named(examples, script)?;
-    let history = named(examples, history)?;
-    let printed = bytes_of(alloc, printed)?;
-    allows(alloc, &script.statements, &history.history, &printed).map_err(Trouble::from)
+    /// Keeps a script under a name.
+    pub fn name_script(&mut self, examples: &mut Vec<Example>, rest: &str) {
+        let (name, script) = first_word(rest);
+        let name = self.copied(name.as_bytes());
+        let script = self.bytes_of(script);
+        self.push(examples, Example { name, script });
+    }
+
+    // Prints whether a text is allowed.
+    fn answer_allowed(&mut self, allowed: Result<bool, NoMemory>) {
+        match allowed {
+            Ok(true) => self.put("  true"),
+            Ok(false) => self.put("  false"),
+            Err(_) => self.note(false),
+        }
+    }
+
+    // Prints whether a script may leave the history that another one leaves behind none, and print a text.
+    fn allowed(&mut self, script: &[u8], other: &[u8], printed: &[u8]) {
+        let script = self.statements(script);
+        let other = self.statements(other);
+        match run(self.alloc, &other) {
+            Ok(plain) => {
+                self.answer_allowed(allows(self.alloc, &script, &plain.history, printed));
+            }
+            Err(_) => self.note(false),
+        }
+    }
+
+    /// The same of scripts with names.
+    pub fn allows(&mut self, examples: &[Example], rest: &str) {
+        let (script, rest) = first_word(rest);
+        let (history, printed) = first_word(rest);
+        let printed = self.bytes_of(printed);
+        match (named(examples, script), named(examples, history)) {
+            (Some(script), Some(history)) => self.allowed(script, history, &printed),
+            _ => self.fail("no script of this name"),
+        }
+    }
 }

@@ -1,87 +1,152 @@
-// The root that a run begins with, as lines set it up.
-use crate::roots::{FIRST, File, Folder, column_files, entry_file, manifest_file};
-use crate::text::{bytes_of, first_word, number_of, words_of};
-use crate::trouble::Trouble;
-use mt_values::FileId;
-use std::alloc::Global;
+// The root that a run begins with, as lines set it up: as earlier runs may have left it, built by the formats of its files.
+use crate::answer::Answer;
+use crate::text::first_word;
+use digest_file::mark_of;
+use mt_base::Seq;
+use mt_values::{FileId, Name};
 
-/// The root that a run begins with.
+/// What the first bytes of a manifest are: its kind and the version of the format.
+const FIRST: &[u8] = b"MTP1\x01\x00";
+
+/// A file of a folder.
 #[derive(Drop)]
-pub struct Root {
-    pub alloc: Global,
-    pub folders: Vec<Folder>,
+pub struct File {
+    pub id: FileId,
+    pub bytes: Vec<u8>,
 }
 
-/// The file of this name in a folder.
-pub fn file_of(word: &str) -> Result<FileId, Trouble> {
+/// A name of the root, and the files of its folder.
+#[derive(Drop)]
+pub struct Folder {
+    pub name: Name,
+    pub files: Vec<File>,
+}
+
+// The file of this name in a folder.
+fn file_of(word: &str) -> Option<FileId> {
     match word {
-        "entry.bin" => Ok(FileId::Entry),
-        "manifest.bin" => Ok(FileId::Manifest),
-        "marks.bin" => Ok(FileId::Marks),
-        "primary.bin" => Ok(FileId::Primary),
-        "s0.bin" => Ok(FileId::Skip(0)),
-        "c0.bin" => Ok(FileId::Column(0)),
-        "c1.bin" => Ok(FileId::Column(1)),
-        "c2.bin" => Ok(FileId::Column(2)),
-        _ => Err(Trouble("no such file")),
+        "entry.bin" => Some(FileId::Entry),
+        "manifest.bin" => Some(FileId::Manifest),
+        "marks.bin" => Some(FileId::Marks),
+        "primary.bin" => Some(FileId::Primary),
+        "s0.bin" => Some(FileId::Skip(0)),
+        "c0.bin" => Some(FileId::Column(0)),
+        "c1.bin" => Some(FileId::Column(1)),
+        "c2.bin" => Some(FileId::Column(2)),
+        _ => None,
     }
 }
 
-// The files of a part of so many rows in these columns.
-fn part_files(alloc: Global, rows: u64, columns: &str) -> Result<Vec<File>, Trouble> {
-    let columns = words_of(alloc, columns)?;
-    let count = u32::try_from(columns.len()).unwrap_or(u32::MAX);
-    let manifest = manifest_file(alloc, FIRST, rows, count, &columns)?;
-    let mut files = column_files(alloc, columns)?;
-    files.push(manifest)?;
-    Ok(files)
-}
+impl Answer {
+    /// The file of this name in a folder.
+    pub fn file_of(&mut self, word: &str) -> FileId {
+        match file_of(word) {
+            Some(id) => id,
+            None => {
+                self.fail("no such file");
+                FileId::Entry
+            }
+        }
+    }
 
-impl Root {
+    // Adds the file of these bytes and of their digest behind them.
+    fn seal(&mut self, files: &mut Vec<File>, id: FileId, bytes: Vec<u8>) {
+        let mut bytes = bytes;
+        let digest = mark_of(&bytes).digest;
+        self.extend(&mut bytes, &digest);
+        self.push(files, File { id, bytes });
+    }
+
     // Adds a folder.
-    fn add(&mut self, name: &str, files: Vec<File>) -> Result<(), Trouble> {
-        let name = bytes_of(self.alloc, name)?;
-        self.folders.push(Folder { name, files })?;
-        Ok(())
-    }
-
-    /// A root without names.
-    pub fn clear(&mut self) -> Result<(), Trouble> {
-        self.folders.clear();
-        Ok(())
+    fn add_folder(&mut self, root: &mut Vec<Folder>, name: &str, files: Vec<File>) {
+        let name = Seq::of(self.bytes_of(name));
+        self.push(root, Folder { name, files });
     }
 
     /// A folder without files.
-    pub fn folder(&mut self, name: &str) -> Result<(), Trouble> {
-        self.add(name, Vec::new(self.alloc))
+    pub fn folder(&mut self, root: &mut Vec<Folder>, name: &str) {
+        let files = Vec::new(self.alloc);
+        self.add_folder(root, name, files);
     }
 
     /// A folder with the entry of a text.
-    pub fn entry(&mut self, rest: &str) -> Result<(), Trouble> {
+    pub fn entry(&mut self, root: &mut Vec<Folder>, rest: &str) {
         let (name, text) = first_word(rest);
-        let text = bytes_of(self.alloc, text)?;
-        let file = entry_file(self.alloc, &text)?;
-        self.add(name, Vec::from_array(self.alloc, [file])?)
+        let text = self.bytes_of(text);
+        let length = u32::try_from(text.len()).unwrap_or(u32::MAX);
+        let mut bytes = Vec::new(self.alloc);
+        self.extend(&mut bytes, b"MTS1");
+        self.extend(&mut bytes, &length.to_le_bytes());
+        self.extend(&mut bytes, &text);
+        let mut files = Vec::new(self.alloc);
+        self.seal(&mut files, FileId::Entry, bytes);
+        self.add_folder(root, name, files);
+    }
+
+    // Adds the files of columns, in order.
+    fn add_columns(&mut self, files: &mut Vec<File>, columns: &str) {
+        let mut number = 0u32;
+        for column in columns.split(' ') {
+            let bytes = self.bytes_of(column);
+            let id = FileId::Column(number);
+            self.push(files, File { id, bytes });
+            number = number.saturating_add(1);
+        }
+    }
+
+    // Adds the size and the digest of a file, as a manifest has them.
+    fn add_mark(&mut self, bytes: &mut Vec<u8>, file: &[u8]) {
+        let mark = mark_of(file);
+        self.extend(bytes, &mark.size.to_le_bytes());
+        self.extend(bytes, &mark.digest);
+    }
+
+    // The manifest of so many rows in these files, without the digest behind it.
+    fn manifest(&mut self, rows: u64, files: &[File]) -> Vec<u8> {
+        let count = u32::try_from(files.len()).unwrap_or(u32::MAX);
+        let mut bytes = Vec::new(self.alloc);
+        self.extend(&mut bytes, FIRST);
+        self.extend(&mut bytes, &rows.to_le_bytes());
+        self.extend(&mut bytes, &count.to_le_bytes());
+        for file in files {
+            self.add_mark(&mut bytes, &file.bytes);
+        }
+        bytes
     }
 
     /// A folder with files of columns, and the manifest of so many rows in them.
-    pub fn part(&mut self, rest: &str) -> Result<(), Trouble> {
+    pub fn part(&mut self, root: &mut Vec<Folder>, rest: &str) {
         let (name, rest) = first_word(rest);
         let (rows, columns) = first_word(rest);
-        let files = part_files(self.alloc, number_of(rows)?, columns)?;
-        self.add(name, files)
+        let rows = self.number_of(rows);
+        let mut files = Vec::new(self.alloc);
+        if !columns.is_empty() {
+            self.add_columns(&mut files, columns);
+        }
+        let manifest = self.manifest(rows, &files);
+        self.seal(&mut files, FileId::Manifest, manifest);
+        self.add_folder(root, name, files);
+    }
+
+    // Puts a file into a folder, in place of one of its name.
+    fn put_file(&mut self, files: &mut Vec<File>, id: FileId, bytes: Vec<u8>) {
+        for file in files.iter_mut() {
+            if file.id == id {
+                file.bytes = bytes;
+                return;
+            }
+        }
+        self.push(files, File { id, bytes });
     }
 
     /// A file with these bytes in the last folder, in place of one of its name.
-    pub fn file(&mut self, rest: &str) -> Result<(), Trouble> {
+    pub fn file(&mut self, root: &mut Vec<Folder>, rest: &str) {
         let (file, bytes) = first_word(rest);
-        let id = file_of(file)?;
-        let bytes = bytes_of(self.alloc, bytes)?;
-        let Some(folder) = self.folders.last_mut() else {
-            return Err(Trouble("no folder before it"));
-        };
-        folder.files.retain(|other| other.id != id);
-        folder.files.push(File { id, bytes })?;
-        Ok(())
+        let id = self.file_of(file);
+        let bytes = self.bytes_of(bytes);
+        match root.last_mut() {
+            Some(folder) => self.put_file(&mut folder.files, id, bytes),
+            None => self.fail("no folder before it"),
+        }
     }
 }

@@ -1,15 +1,35 @@
 // What is set up for the next run alone: its words and streams, the calls that fail, and damaged files.
-use crate::damages::{Change, Damage};
-use crate::root::file_of;
-use crate::text::{bytes_of, first_word, number_of, short_number};
-use crate::trouble::Trouble;
-use disk_mem::{CallKind, Listed};
-use std::alloc::{AllocError, Global};
+use crate::answer::Answer;
+use crate::text::first_word;
+use disk_mem::{CallKind, Listed, MemSink, MemSource};
+use mt_base::Seq;
+use mt_values::{FileId, Name};
+
+/// How a file is damaged.
+#[derive(Clone, Copy)]
+pub enum Change {
+    /// Not at all.
+    Kept,
+    Missing,
+    /// Cut off behind so many bytes.
+    Cut(usize),
+    /// The lowest bit of the byte at a place is turned.
+    Turned(usize),
+    /// A byte of zero is behind it.
+    Longer,
+}
+
+/// The file of a folder that is damaged, and how.
+#[derive(Drop)]
+pub struct Damage {
+    pub name: Name,
+    pub id: FileId,
+    pub change: Change,
+}
 
 /// What is set up for the next run alone.
 #[derive(Drop)]
 pub struct Setting {
-    pub alloc: Global,
     /// The words of the command line.
     pub words: Vec<String>,
     /// Whether each read gives one byte, and each write takes one.
@@ -24,122 +44,135 @@ pub struct Setting {
 }
 
 // The kind of call of this name.
-fn kind_of(word: &str) -> Result<CallKind, Trouble> {
+fn kind_of(word: &str) -> Option<CallKind> {
     match word {
-        "start" => Ok(CallKind::Start),
-        "arm" => Ok(CallKind::Arm),
-        "list" => Ok(CallKind::List),
-        "open" => Ok(CallKind::Open),
-        "publish" => Ok(CallKind::Publish),
-        "remove" => Ok(CallKind::Remove),
-        "sync-names" => Ok(CallKind::SyncNames),
-        "stage" => Ok(CallKind::Stage),
-        "read" => Ok(CallKind::Read),
-        "append" => Ok(CallKind::Append),
-        "sync" => Ok(CallKind::Sync),
-        _ => Err(Trouble("no such call")),
+        "start" => Some(CallKind::Start),
+        "arm" => Some(CallKind::Arm),
+        "list" => Some(CallKind::List),
+        "open" => Some(CallKind::Open),
+        "publish" => Some(CallKind::Publish),
+        "remove" => Some(CallKind::Remove),
+        "sync-names" => Some(CallKind::SyncNames),
+        "stage" => Some(CallKind::Stage),
+        "read" => Some(CallKind::Read),
+        "append" => Some(CallKind::Append),
+        "sync" => Some(CallKind::Sync),
+        _ => None,
     }
 }
 
-// The call that these words name: an arm, a stage, a kind and a number. An arm or a stage that is none is written as a dash.
-fn listed_of(text: &str) -> Result<Listed, Trouble> {
-    let (arm, rest) = first_word(text);
-    let (stage, rest) = first_word(rest);
-    let (kind, number) = first_word(rest);
-    let kind = kind_of(kind)?;
-    let number = short_number(number)?;
-    Ok(Listed {
-        arm: arm.parse::<u32>().ok(),
-        stage: stage.parse::<u32>().ok(),
-        kind,
-        number,
-    })
-}
-
-// The change of a word with a number behind it, where it takes one.
-fn change_of(text: &str) -> Result<Change, Trouble> {
-    let (word, number) = first_word(text);
-    let number = number.parse::<usize>().unwrap_or(0);
-    match word {
-        "missing" => Ok(Change::Missing),
-        "longer" => Ok(Change::Longer),
-        "cut" => Ok(Change::Cut(number)),
-        "turned" => Ok(Change::Turned(number)),
-        _ => Err(Trouble("no such change")),
-    }
-}
-
-// The words of a command line. No word is written `""`.
-fn texts_of(alloc: Global, text: &str) -> Result<Vec<String>, AllocError> {
-    let mut words = Vec::new(alloc);
-    if !text.is_empty() {
-        for word in text.split(' ') {
-            let word = if word == "\"\"" { "" } else { word };
-            words.push(String::from_str(alloc, word)?)?;
-        }
-    }
-    Ok(words)
-}
-
-impl Setting {
+impl Answer {
     /// The usual words, streams in whole pieces, and nothing that fails.
-    pub fn new(alloc: Global) -> Result<Setting, AllocError> {
-        Ok(Setting {
-            alloc,
-            words: texts_of(alloc, "mergetree --path d")?,
+    pub fn setting(&mut self) -> Setting {
+        Setting {
+            words: self.words_of("mergetree --path d"),
             by_bytes: false,
             failing_read: None,
             failing_write: None,
-            failing_calls: Vec::new(alloc),
+            failing_calls: Vec::new(self.alloc),
             stop: None,
-            damages: Vec::new(alloc),
-        })
+            damages: Vec::new(self.alloc),
+        }
+    }
+
+    // The change of a word with a number behind it, where it takes one.
+    fn change_of(&mut self, text: &str) -> Change {
+        let (word, number) = first_word(text);
+        let number = number.parse::<usize>().unwrap_or(0);
+        match word {
+            "missing" => return Change::Missing,
+            "longer" => return Change::Longer,
+            "cut" => return Change::Cut(number),
+            "turned" => return Change::Turned(number),
+            _ => self.fail("no such change"),
+        }
+        Change::Kept
     }
 
     /// A file of the root that is damaged, and how.
-    pub fn damage(&mut self, rest: &str) -> Result<(), Trouble> {
+    pub fn damage(&mut self, setting: &mut Setting, rest: &str) {
         let (name, rest) = first_word(rest);
         let (file, change) = first_word(rest);
-        let id = file_of(file)?;
-        let change = change_of(change)?;
-        let name = bytes_of(self.alloc, name)?;
-        self.damages.push(Damage { name, id, change })?;
-        Ok(())
+        let id = self.file_of(file);
+        let change = self.change_of(change);
+        let name = Seq::of(self.bytes_of(name));
+        self.push(&mut setting.damages, Damage { name, id, change });
     }
 
-    /// A call that fails.
-    pub fn fail(&mut self, rest: &str) -> Result<(), Trouble> {
-        let listed = listed_of(rest)?;
-        self.failing_calls.push(listed)?;
-        Ok(())
+    /// A call that fails, of an arm, a stage, a kind and a number. An arm or a stage that is none is written as a dash.
+    pub fn fail_call(&mut self, setting: &mut Setting, text: &str) {
+        let (arm, rest) = first_word(text);
+        let (stage, rest) = first_word(rest);
+        let (kind, number) = first_word(rest);
+        let arm = arm.parse::<u32>().ok();
+        let stage = stage.parse::<u32>().ok();
+        let number = u32::try_from(self.number_of(number)).unwrap_or(u32::MAX);
+        match kind_of(kind) {
+            Some(kind) => self.push(
+                &mut setting.failing_calls,
+                Listed {
+                    arm,
+                    stage,
+                    kind,
+                    number,
+                },
+            ),
+            None => self.fail("no such call"),
+        }
     }
 
     /// The read or the write of a number fails, or the disk stops after so many calls.
-    pub fn fail_at(&mut self, what: &str, number: u64) -> Result<(), Trouble> {
+    pub fn fail_at(&mut self, setting: &mut Setting, what: &str, number: u64) {
         match what {
-            "read" => self.failing_read = Some(number),
-            "write" => self.failing_write = Some(number),
-            "stop" => self.stop = Some(number),
-            _ => return Err(Trouble("nothing of this name can fail")),
+            "read" => setting.failing_read = Some(number),
+            "write" => setting.failing_write = Some(number),
+            "stop" => setting.stop = Some(number),
+            _ => self.fail("nothing of this name can fail"),
         }
-        Ok(())
     }
 
     /// The same of a number in decimal digits.
-    pub fn fail_next(&mut self, what: &str, number: &str) -> Result<(), Trouble> {
-        let number = number_of(number)?;
-        self.fail_at(what, number)
+    pub fn fail_next(&mut self, setting: &mut Setting, what: &str, number: &str) {
+        let number = self.number_of(number);
+        self.fail_at(setting, what, number);
     }
 
-    /// Streams by single bytes.
-    pub fn by_bytes(&mut self) -> Result<(), Trouble> {
-        self.by_bytes = true;
-        Ok(())
+    // The numbers of the calls of a stream that fail.
+    fn failing(&mut self, number: Option<u64>) -> Vec<u64> {
+        let mut numbers = Vec::new(self.alloc);
+        if let Some(number) = number {
+            self.push(&mut numbers, number);
+        }
+        numbers
     }
 
-    /// The words of the command line.
-    pub fn set_words(&mut self, rest: &str) -> Result<(), Trouble> {
-        self.words = texts_of(self.alloc, rest)?;
-        Ok(())
+    /// A copy of bytes.
+    pub fn copied(&mut self, bytes: &[u8]) -> Vec<u8> {
+        let mut copy = Vec::new(self.alloc);
+        self.extend(&mut copy, bytes);
+        copy
+    }
+
+    /// What gives a script as it is set up: in one piece, or byte by byte.
+    pub fn source(&mut self, setting: &Setting, script: &[u8]) -> MemSource {
+        let length = if setting.by_bytes {
+            1
+        } else {
+            script.len().max(1)
+        };
+        let mut pieces = Vec::new(self.alloc);
+        for piece in script.chunks(length) {
+            let piece = self.copied(piece);
+            self.push(&mut pieces, piece);
+        }
+        let failing = self.failing(setting.failing_read);
+        MemSource::new(pieces, failing)
+    }
+
+    /// What takes the replies as it is set up.
+    pub fn sink(&mut self, setting: &Setting) -> MemSink {
+        let most = if setting.by_bytes { 1 } else { usize::MAX };
+        let failing = self.failing(setting.failing_write);
+        MemSink::with_most(self.alloc, failing, most)
     }
 }

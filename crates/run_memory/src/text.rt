@@ -1,13 +1,8 @@
 // Bytes, words and numbers as the lines of cases write them.
-use crate::trouble::Trouble;
-use digest_file::mark_of;
-use std::alloc::{AllocError, Global};
+use crate::answer::Answer;
 
 /// How bytes are written of which there are none.
 const NONE: &str = "\"\"";
-
-/// The most bytes that are written out. Of more only their number and their digest are.
-const MOST_SHOWN: usize = 1000;
 
 // The byte of two hexadecimal digits.
 fn hex_byte(high: u8, low: u8) -> Option<u8> {
@@ -28,64 +23,85 @@ fn first_byte(text: &[u8]) -> Option<(u8, &[u8])> {
     }
 }
 
-/// The bytes that are written so, by the escapes \n, \t, \\ and \xNN. Where nothing is written, an argument is missing.
-pub fn bytes_of(alloc: Global, text: &str) -> Result<Vec<u8>, Trouble> {
-    let mut bytes = Vec::new(alloc);
-    let mut rest = text.as_bytes();
-    if text == NONE {
-        return Ok(bytes);
-    }
-    // Each byte takes at least one of those that are written.
-    for _ in 0..text.len() {
-        if let Some((byte, behind)) = first_byte(rest) {
-            bytes.push(byte)?;
-            rest = behind;
-        }
-    }
-    if text.is_empty() || !rest.is_empty() {
-        return Err(Trouble("its bytes are not written as they are to be"));
-    }
-    Ok(bytes)
-}
-
-/// The words of a text, each as its bytes.
-pub fn words_of(alloc: Global, text: &str) -> Result<Vec<Vec<u8>>, Trouble> {
-    let mut words = Vec::new(alloc);
-    if !text.is_empty() {
-        for word in text.split(' ') {
-            words.push(bytes_of(alloc, word)?)?;
-        }
-    }
-    Ok(words)
-}
-
 /// The first word of a line, and what stands behind the blank after it.
 pub fn first_word(text: &str) -> (&str, &str) {
     text.split_once(' ').unwrap_or((text, ""))
 }
 
-/// A number that is written in decimal digits.
-pub fn number_of(word: &str) -> Result<u64, Trouble> {
-    word.parse::<u64>().or(Err(Trouble("a number is none")))
-}
-
-/// A number of 32 bits that is written in decimal digits.
-pub fn short_number(word: &str) -> Result<u32, Trouble> {
-    word.parse::<u32>()
-        .or(Err(Trouble("a number is none of 32 bits")))
-}
-
-/// Bytes between quotes, as Rust escapes them, or their number and their digest where they are many.
-pub fn shown(alloc: Global, bytes: &[u8]) -> Result<String, AllocError> {
-    if bytes.len() > MOST_SHOWN {
-        marked(alloc, bytes)
-    } else {
-        format!(in alloc; "\"{}\"", bytes.escape_ascii())
+impl Answer {
+    // Adds the bytes that are written so, as far as they are written as they are to be, and gives the rest.
+    fn add_bytes<'a>(&mut self, bytes: &mut Vec<u8>, text: &'a [u8]) -> &'a [u8] {
+        let mut rest = text;
+        // Each byte takes at least one of those that are written.
+        for _ in 0..text.len() {
+            if let Some((byte, behind)) = first_byte(rest) {
+                self.push(bytes, byte);
+                rest = behind;
+            }
+        }
+        rest
     }
-}
 
-// How many bytes there are, and their digest.
-fn marked(alloc: Global, bytes: &[u8]) -> Result<String, AllocError> {
-    let digest = hex::encode(alloc, mark_of(bytes).digest)?;
-    format!(in alloc; "{} bytes, SHA-256 {digest}", bytes.len())
+    /// The bytes that are written so, by the escapes \n, \t, \\ and \xNN. Where nothing is written, an argument is missing.
+    pub fn bytes_of(&mut self, text: &str) -> Vec<u8> {
+        let mut bytes = Vec::new(self.alloc);
+        if text != NONE {
+            let rest = self.add_bytes(&mut bytes, text.as_bytes());
+            if text.is_empty() || !rest.is_empty() {
+                self.fail("its bytes are not written as they are to be");
+            }
+        }
+        bytes
+    }
+
+    // Adds a text so many times.
+    fn add_times(&mut self, bytes: &mut Vec<u8>, text: &str, count: u64) {
+        let piece = self.bytes_of(text);
+        for _ in 0..count {
+            self.extend(bytes, &piece);
+        }
+    }
+
+    /// Adds a text.
+    pub fn add(&mut self, bytes: &mut Vec<u8>, text: &str) {
+        self.add_times(bytes, text, 1);
+    }
+
+    /// Adds a text as many times as the first word says.
+    pub fn repeat(&mut self, bytes: &mut Vec<u8>, rest: &str) {
+        let (count, text) = first_word(rest);
+        let count = self.number_of(count);
+        self.add_times(bytes, text, count);
+    }
+
+    /// A number that is written in decimal digits.
+    pub fn number_of(&mut self, word: &str) -> u64 {
+        match word.parse::<u64>() {
+            Ok(number) => number,
+            Err(_) => {
+                self.fail("a number is none");
+                0
+            }
+        }
+    }
+
+    // A text of its own.
+    fn owned(&mut self, text: &str) -> String {
+        let mut owned = String::new(self.alloc);
+        let done = owned.push_str(text).is_ok();
+        self.note(done);
+        owned
+    }
+
+    /// The words of a command line. No word is written `""`.
+    pub fn words_of(&mut self, text: &str) -> Vec<String> {
+        let mut words = Vec::new(self.alloc);
+        if !text.is_empty() {
+            for word in text.split(' ') {
+                let word = self.owned(if word == NONE { "" } else { word });
+                self.push(&mut words, word);
+            }
+        }
+        words
+    }
 }
