@@ -9,8 +9,8 @@ use Rattle.std.specs.declared.cmp.Ordering.TheVariants.{Less, Equal, Greater}
 use Rattle.std.specs.Cmp.Lexicographic.{slice_cmp}
 use Rattle.std.specs.Map.{remove_entry}
 use Rattle.std.specs.BTreeMap.{insert_entry, is_at}
-use Rattle.mt_values.specs.declared.name.FileId.{FileId}
-use Rattle.mt_values.specs.Files.{same_file}
+use Rattle.mt_base.specs.declared.name.FileId.{FileId}
+use Rattle.mt_base.specs.Files.{same_file}
 use Rattle.mt_outside.specs.declared.disk.Written.{Written}
 use Rattle.mt_outside.specs.declared.disk.Stamped.{Stamped}
 use Rattle.mt_outside.specs.declared.disk.Change.{Change}

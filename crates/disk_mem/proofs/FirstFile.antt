@@ -2,8 +2,8 @@
 use Rattle.std.proofs.Common.{◌≡◌, ℕ, suc, ◌<◌, ◌++◌, ◌∷◌, true, false, List, length, take, drop, get_or, set, refl, ap, sym, ◌∙◌}
 use Rattle.std.proofs.lemmas.List.{set_split, get_or_default}
 use Rattle.std.proofs.Math.Seq.{drop-cons}
-use Rattle.mt_values.specs.declared.name.FileId.{FileId}
-use Rattle.mt_values.specs.Files.{same_file}
+use Rattle.mt_base.specs.declared.name.FileId.{FileId}
+use Rattle.mt_base.specs.Files.{same_file}
 use Rattle.mt_outside.specs.declared.disk.Written.{Written}
 use Rattle.mt_outside.specs.Files.{appended, settled_file}
 

@@ -1,8 +1,8 @@
 -- What the files of a folder and the folders of a root are called on a real disk (docs/formats.md, "Files" and "Names").
 use Rattle.std.specs.Prelude.{ℕ, List, ◌++◌, Bool, false, ◌||◌, ◌&&◌, ◌==◌, nat_le, not, Option, None, Some, slice_get, codes, decimal}
 use Rattle.std.specs.List.{list_all}
-use Rattle.mt_values.specs.declared.name.FileId.{FileId}
-use Rattle.mt_values.specs.declared.name.FileId.TheVariants as file
+use Rattle.mt_base.specs.declared.name.FileId.{FileId}
+use Rattle.mt_base.specs.declared.name.FileId.TheVariants as file
 
 -- the name of a file in its folder
 abbrev pub file_name : FileId → List ℕ

@@ -3,8 +3,7 @@ ghost use Rattle.std.specs.Prelude.{◌≡◌, ◌++◌, IfOk, IfSome, IsTrue, c
 ghost use Rattle.std.specs.List.{list_all};
 ghost use Rattle.disk_names.specs.Names.{file_name, is_name_byte, is_root_name};
 
-use mt_base::NoMemory;
-use mt_values::{FileId, Name};
+use mt_base::{FileId, Name, NoMemory};
 use std::alloc::Global;
 
 /// The name of a file in its folder: `entry.bin`, `manifest.bin`, `marks.bin`, `primary.bin`, and `s0.bin` and `c0.bin` and so on for the skip indexes

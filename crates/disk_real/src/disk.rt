@@ -8,9 +8,8 @@ use crate::system::{
     System, is_folder, names_in, publish_folder, settle_folder, sync_folder, take_away,
 };
 use disk_names::{owned, path_in, root_name};
-use mt_base::NoMemory;
+use mt_base::{Name, NoMemory};
 use mt_outside::{Arm, Disk, DiskError, Stage};
-use mt_values::Name;
 use outside_streams::Faults;
 use std::alloc::Global;
 use std::marker::Model;

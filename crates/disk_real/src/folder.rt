@@ -3,9 +3,8 @@ ghost use Rattle.std.specs.Prelude.{◌≡◌, ◌<◌, ◌↔◌, ℕ, IfOk, Is
 
 use crate::system::{System, fault, make_folder, open_at_end, remove_folder, sync_file};
 use disk_names::{file_name, path_in};
-use mt_base::NoMemory;
+use mt_base::{FileId, NoMemory};
 use mt_outside::{Dir, DiskError, Stage};
-use mt_values::FileId;
 use outside_streams::{Faults, write_whole};
 use std::alloc::Global;
 use std::fs::File;

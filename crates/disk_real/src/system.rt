@@ -1,9 +1,8 @@
 // Calls of the system on folders and files, each of whose errors is a fault.
 ghost use Rattle.std.specs.Prelude.{◌≤◌, length, IfOk};
 
-use mt_base::Seq;
+use mt_base::{Name, Seq};
 use mt_outside::DiskError;
-use mt_values::Name;
 use outside_streams::{MOST_TRIES, interrupted, read_whole};
 use std::alloc::{AllocError, Global};
 use std::fs::{File, Files, OpenOptions};

@@ -1,7 +1,7 @@
 -- The files of a folder.
 use Rattle.std.specs.Prelude.{◌≡◌, ℕ, ◌-◌, min, Bool, true, false, List, [], ◌∷◌, ◌++◌, length, take, drop, if◌then◌else◌}
-use Rattle.mt_values.specs.declared.name.FileId.{FileId}
-use Rattle.mt_values.specs.Files.{same_file}
+use Rattle.mt_base.specs.declared.name.FileId.{FileId}
+use Rattle.mt_base.specs.Files.{same_file}
 use Rattle.mt_outside.specs.declared.disk.Written.{Written}
 
 abbrev pub Files : Type 0

@@ -7,8 +7,7 @@ ghost use Rattle.mt_outside.specs.DiskCauses.{HasDiskCause};
 ghost use Rattle.mt_outside.specs.Files.{bytes_of, appended, settled_file, ReadsAt};
 ghost use Rattle.mt_outside.specs.Disk.{Told, names_of, files_at, put, cut, MayPut, MayCut};
 
-use mt_base::{NoMemory, Seq};
-use mt_values::{Bytes, FileId, Name};
+use mt_base::{Bytes, FileId, Name, NoMemory, Seq};
 use std::alloc::Global;
 use thiserror::Error;
 

@@ -3,7 +3,6 @@ pub mod Cells
 pub mod ColumnBytes
 pub mod Columns
 pub mod Escapes
-pub mod Files
 pub mod Grammar
 pub mod Grid
 pub mod Lists

@@ -2,9 +2,6 @@
 
 use mt_base::Seq;
 
-/// The bytes of a String value.
-pub type Bytes = Seq<u8>;
-
 /// The type of a column.
 #[derive(Clone, Copy, Debug, PartialEq, Eq)]
 pub enum ColType {

@@ -1,6 +1,6 @@
 // The files of a part, checked.
 ghost use Rattle.std.specs.Prelude.{◌≡◌, ◌≤◌, IfErr, IfOk, IsErrOf, OnOk, Some, None, length};
-ghost use Rattle.mt_values.specs.declared.name.FileId.TheVariants as file;
+ghost use Rattle.mt_base.specs.declared.name.FileId.TheVariants as file;
 ghost use Rattle.mt_outside.specs.Causes.{Rose};
 ghost use Rattle.mt_outside.specs.Files.{Files, bytes_of};
 ghost use Rattle.part_reader.specs.Damage.{Tells};

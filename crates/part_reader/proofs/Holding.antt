@@ -11,14 +11,14 @@ use Rattle.std.proofs.lemmas.Slice.Zip.{AllZip-right}
 use Rattle.sha2.specs.Sha256.{sha256}
 use Rattle.mt_values.specs.declared.manifest.FileMark.{FileMark}
 use Rattle.mt_values.specs.declared.manifest.Manifest.{Manifest}
-use Rattle.mt_values.specs.declared.name.FileId.{FileId}
-use Rattle.mt_values.specs.declared.name.FileId.TheVariants as file
+use Rattle.mt_base.specs.declared.name.FileId.{FileId}
+use Rattle.mt_base.specs.declared.name.FileId.TheVariants as file
 use Rattle.mt_values.specs.declared.schema.Column.{Column}
 use Rattle.mt_values.specs.declared.schema.Schema.{Schema}
 use Rattle.mt_values.specs.declared.value.ColType.{ColType}
 use Rattle.mt_values.specs.declared.value.ColType.TheVariants as type
 use Rattle.mt_values.specs.declared.value.Value.{Value}
-use Rattle.mt_values.specs.Files.{same_file}
+use Rattle.mt_base.specs.Files.{same_file}
 use Rattle.mt_values.specs.Grid.{AreRowsOf, Cells, HaveTypeAt, column_of}
 use Rattle.mt_values.specs.Manifests.{manifest_bytes}
 use Rattle.mt_values.specs.Values.{FitsType, Row, types_of}

@@ -2,7 +2,7 @@
 use Rattle.std.specs.Prelude.{◌≡◌, ℕ, List, [], ◌∷◌, slice_get, Option, Some}
 use Rattle.std.specs.Option.{ForSome}
 use Rattle.mt_values.specs.declared.manifest.Manifest.{Manifest}
-use Rattle.mt_values.specs.declared.name.FileId.TheVariants as file
+use Rattle.mt_base.specs.declared.name.FileId.TheVariants as file
 use Rattle.mt_values.specs.Grid.{Cells}
 use Rattle.mt_outside.specs.Files.{Files, bytes_of}
 use Rattle.column_file.specs.Spellings.{GainsAll}

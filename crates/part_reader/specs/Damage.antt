@@ -2,8 +2,8 @@
 use Rattle.std.specs.Prelude.{◌≡◌, ◌≢◌, ◌⊎◌, ℕ, List, length, take, slice_get, Option, Some, ⊤}
 use Rattle.std.specs.Option.{ForSome}
 use Rattle.mt_values.specs.declared.manifest.Manifest.{Manifest}
-use Rattle.mt_values.specs.declared.name.FileId.{FileId}
-use Rattle.mt_values.specs.declared.name.FileId.TheVariants as file
+use Rattle.mt_base.specs.declared.name.FileId.{FileId}
+use Rattle.mt_base.specs.declared.name.FileId.TheVariants as file
 use Rattle.mt_values.specs.declared.value.ColType.{ColType}
 use Rattle.mt_outside.specs.Files.{Files, bytes_of}
 use Rattle.digest_file.specs.Faults.{IsFirstFault}

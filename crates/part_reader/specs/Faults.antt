@@ -3,7 +3,7 @@ use Rattle.std.specs.Prelude.{◌≡◌, ◌≢◌, ◌⊎◌, ℕ, List, slice_
 use Rattle.std.specs.Option.{ForSome}
 use Rattle.mt_values.specs.declared.manifest.FileMark.{FileMark}
 use Rattle.mt_values.specs.declared.manifest.Manifest.{Manifest}
-use Rattle.mt_values.specs.declared.name.FileId.TheVariants as file
+use Rattle.mt_base.specs.declared.name.FileId.TheVariants as file
 use Rattle.mt_values.specs.declared.value.ColType.{ColType}
 use Rattle.mt_values.specs.Grid.{Cells}
 use Rattle.mt_outside.specs.declared.disk.DiskError.{DiskError}

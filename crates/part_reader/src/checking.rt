@@ -2,7 +2,7 @@
 ghost use Rattle.std.specs.Prelude.{◌≡◌, ◌≤◌, List, IfErr, IsErrOf, MatchResult, OnOk, None, Some, length};
 ghost use Rattle.mt_outside.specs.Causes.{Rose};
 ghost use Rattle.mt_outside.specs.Files.{Files, bytes_of};
-ghost use Rattle.mt_values.specs.declared.name.FileId.TheVariants as file;
+ghost use Rattle.mt_base.specs.declared.name.FileId.TheVariants as file;
 ghost use Rattle.mt_values.specs.Values.{Row};
 ghost use Rattle.part_reader.specs.Damage.{ExplainsCheck, Tells};
 ghost use Rattle.part_reader.specs.DamagedFile.{damaged_file, first_unsound};

@@ -1,8 +1,8 @@
 // What the definitions say of parts, whichever function wrote or reads them. The functions have empty bodies and the laws as their contracts.
 ghost use Rattle.std.specs.Prelude.{◌≡◌, ℕ, ◌<◌, All, List, None, Option, Some, length, map};
 ghost use Rattle.mt_values.specs.declared.manifest.Manifest.{Manifest};
-ghost use Rattle.mt_values.specs.declared.name.FileId.{FileId};
-ghost use Rattle.mt_values.specs.declared.name.FileId.TheVariants as file;
+ghost use Rattle.mt_base.specs.declared.name.FileId.{FileId};
+ghost use Rattle.mt_base.specs.declared.name.FileId.TheVariants as file;
 ghost use Rattle.mt_values.specs.declared.schema.Column.{Column};
 ghost use Rattle.mt_values.specs.declared.schema.Schema.{Schema};
 ghost use Rattle.mt_values.specs.declared.value.ColType.{ColType};

@@ -3,7 +3,7 @@ ghost use Rattle.std.specs.Prelude.{◌≡◌, ◌≢◌, ◌≤◌, List, IfErr
 ghost use Rattle.mt_outside.specs.Causes.{Rose};
 ghost use Rattle.mt_outside.specs.Files.{Files, bytes_of};
 ghost use Rattle.mt_values.specs.declared.manifest.Manifest.{Manifest};
-ghost use Rattle.mt_values.specs.declared.name.FileId.TheVariants as file;
+ghost use Rattle.mt_base.specs.declared.name.FileId.TheVariants as file;
 ghost use Rattle.mt_values.specs.Values.{Row};
 ghost use Rattle.part_writer.specs.PartFiles.{manifest_of, mark_of};
 ghost use Rattle.part_reader.specs.Damage.{ExplainsManifest, ExplainsOpening, Tells};

@@ -10,10 +10,10 @@ use Rattle.std.proofs.lemmas.Option.{get_or_from_slice_get, slice_get-get_or, sl
 use Rattle.sha2.specs.Sha256.{sha256}
 use Rattle.mt_values.specs.declared.manifest.FileMark.{FileMark}
 use Rattle.mt_values.specs.declared.manifest.Manifest.{Manifest}
-use Rattle.mt_values.specs.declared.name.FileId.{FileId}
-use Rattle.mt_values.specs.declared.name.FileId.TheVariants as file
+use Rattle.mt_base.specs.declared.name.FileId.{FileId}
+use Rattle.mt_base.specs.declared.name.FileId.TheVariants as file
 use Rattle.mt_values.specs.declared.value.ColType.{ColType}
-use Rattle.mt_values.specs.Files.{same_file}
+use Rattle.mt_base.specs.Files.{same_file}
 use Rattle.mt_values.specs.Grid.{AreRowsOf, column_of, picked}
 use Rattle.mt_values.specs.Manifests.{manifest_bytes}
 use Rattle.mt_values.specs.Values.{FitsType, Row, types_of}

@@ -3,7 +3,7 @@ ghost use Rattle.std.specs.Prelude.{◌≡◌, ◌++◌, ◌∷◌, ◌<◌, ◌
 ghost use Rattle.std.specs.Option.{option_map};
 ghost use Rattle.sha2.specs.Sha256.{sha256};
 ghost use Rattle.mt_outside.specs.DiskCauses.{HasDiskCause};
-ghost use Rattle.mt_values.specs.declared.name.FileId.TheVariants as file;
+ghost use Rattle.mt_base.specs.declared.name.FileId.TheVariants as file;
 ghost use Rattle.mt_values.specs.declared.schema.Column.{Column};
 ghost use Rattle.mt_values.specs.Grid.{column_of, picked};
 ghost use Rattle.mt_values.specs.Manifests.{manifest_bytes};

@@ -1,7 +1,7 @@
 -- What is told of a name's folder that was opened and checked.
 use Rattle.std.proofs.Common.{◌≡◌, ℕ, List, refl, sym, ap, ◌∙◌, subst, Option, Some, None}
 use Rattle.std.specs.Option.{ForSome, IsSome, option_and_then}
-use Rattle.mt_values.specs.declared.name.FileId.{FileId}
+use Rattle.mt_base.specs.declared.name.FileId.{FileId}
 use Rattle.mt_outside.specs.Disk.{Names, Told, files_at, names_of}
 use Rattle.mt_outside.specs.Files.{Files}
 use Rattle.root_opening.specs.declared.opening.Damage.{Damage}

@@ -7,7 +7,7 @@ use Rattle.std.specs.Option.{IsSome}
 use Rattle.std.specs.Ordering.{nat_cmp}
 use Rattle.std.proofs.lemmas.List.Elements.{All-contains, All-nil, All-push, All-weaker, Contains-append_left, Contains-get_or, Contains-push, Contains-push_cases}
 use Rattle.mt_base.specs.declared.partition.Partition.TheVariants.{Whole}
-use Rattle.mt_values.specs.declared.name.FileId.{FileId}
+use Rattle.mt_base.specs.declared.name.FileId.{FileId}
 use Rattle.mt_values.specs.declared.schema.Schema.{Schema}
 use Rattle.mt_values.specs.RootNames.{create_name}
 use Rattle.mt_outside.specs.Disk.{Names, files_at}

@@ -11,7 +11,7 @@ use Rattle.std.proofs.lemmas.List.{get_or-map, get_or-take, length-map, length-t
 use Rattle.std.proofs.lemmas.List.Elements.{All-contains, All-nil, All-weaker}
 use Rattle.std.proofs.lemmas.Option.{get_or_from_slice_get, slice_get-get_or}
 use Rattle.mt_base.specs.declared.partition.Partition.TheVariants.{Whole}
-use Rattle.mt_values.specs.declared.name.FileId.{FileId}
+use Rattle.mt_base.specs.declared.name.FileId.{FileId}
 use Rattle.mt_values.specs.RootNames.{create_name, part_name}
 use Rattle.mt_outside.specs.Disk.{Names, Told, files_at, names_of}
 use Rattle.mt_outside.specs.Files.{Files}

@@ -10,7 +10,7 @@ use Rattle.std.specs.List.Sorted.{IsStrictlySortedBy}
 use Rattle.std.specs.Ordering.{nat_cmp}
 use Rattle.std.specs.declared.cmp.Ordering.TheVariants.{Less}
 use Rattle.std.specs.Option.{option_map}
-use Rattle.mt_values.specs.declared.name.FileId.{FileId}
+use Rattle.mt_base.specs.declared.name.FileId.{FileId}
 use Rattle.mt_outside.specs.Disk.{Names, Told, names_of}
 use Rattle.mt_outside.specs.Files.{Files}
 use Rattle.mt_model.specs.History.{History}

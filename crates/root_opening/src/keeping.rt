@@ -5,7 +5,7 @@ ghost use Rattle.std.specs.Cmp.Lexicographic.{slice_cmp};
 ghost use Rattle.std.specs.List.{sum_by};
 ghost use Rattle.std.specs.Option.{ForSome};
 ghost use Rattle.std.specs.Ordering.{nat_cmp};
-ghost use Rattle.mt_values.specs.declared.name.FileId.{FileId};
+ghost use Rattle.mt_base.specs.declared.name.FileId.{FileId};
 ghost use Rattle.mt_values.specs.RootNames.{create_name};
 ghost use Rattle.mt_outside.specs.Causes.{Rose};
 ghost use Rattle.mt_outside.specs.Disk.{Told, files_at, names_of};

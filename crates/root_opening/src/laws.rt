@@ -1,6 +1,6 @@
 // What follows of a root that stands for a history, and of one that is damaged. Each function has an empty body and the law as its contract.
 ghost use Rattle.std.specs.Prelude.{◌≡◌, ◌≤◌, ℕ, List, filter, length};
-ghost use Rattle.mt_values.specs.declared.name.FileId.{FileId};
+ghost use Rattle.mt_base.specs.declared.name.FileId.{FileId};
 ghost use Rattle.mt_outside.specs.Disk.{Names, Told, names_of};
 ghost use Rattle.mt_model.specs.History.{History};
 ghost use Rattle.part_set.specs.declared.root_name.RootName.{RootName};

@@ -5,7 +5,7 @@ use Rattle.std.specs.Cmp.Lexicographic.{slice_cmp}
 use Rattle.std.specs.List.{AllZip, Contains as HasItem, sum_by}
 use Rattle.std.specs.Option.{option_map}
 use Rattle.std.specs.Ordering.{nat_cmp}
-use Rattle.mt_values.specs.declared.name.FileId.TheVariants as file
+use Rattle.mt_base.specs.declared.name.FileId.TheVariants as file
 use Rattle.mt_values.specs.declared.schema.Schema.{Schema}
 use Rattle.mt_values.specs.RootNames.{create_name}
 use Rattle.mt_values.specs.Values.{Row}

@@ -3,9 +3,8 @@
 #![tactic(auto)]
 
 use disk_real::{RealArm, RealDir, RealDisk, RealStage};
-use mt_base::Seq;
+use mt_base::{FileId, Name, Seq};
 use mt_outside::{Arm, Disk, DiskError, Stage};
-use mt_values::{FileId, Name};
 use std::alloc::Global;
 use std::{fs, io};
 

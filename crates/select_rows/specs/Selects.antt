@@ -1,7 +1,7 @@
 -- What a SELECT tells of damage.
 use Rattle.std.specs.Prelude.{◌≡◌, ℕ, List, slice_get, filter_map, Ok, Some, Option}
 use Rattle.mt_values.specs.declared.manifest.FileMark.{FileMark}
-use Rattle.mt_values.specs.declared.name.FileId.TheVariants as file
+use Rattle.mt_base.specs.declared.name.FileId.TheVariants as file
 use Rattle.mt_values.specs.declared.statement.SelectText.{SelectText}
 use Rattle.mt_outside.specs.Files.{Files}
 use Rattle.mt_model.specs.History.{column_types}

@@ -4,9 +4,9 @@ use Rattle.std.specs.Option.{option_map, ForSome}
 use Rattle.std.proofs.lemmas.List.{map_push}
 use Rattle.std.proofs.lemmas.List.Quantifiers.{all_pairs_push}
 use Rattle.std.proofs.lemmas.Bool.{eq-eqb, eqb-true}
-use Rattle.mt_values.specs.declared.name.FileId.{FileId}
-use Rattle.mt_values.specs.declared.name.FileId.TheVariants as file
-use Rattle.mt_values.specs.Files.{same_file}
+use Rattle.mt_base.specs.declared.name.FileId.{FileId}
+use Rattle.mt_base.specs.declared.name.FileId.TheVariants as file
+use Rattle.mt_base.specs.Files.{same_file}
 use Rattle.mt_outside.specs.declared.disk.Written.{Written}
 use Rattle.mt_outside.specs.Files.{Files, appended, bytes_of}
 use Rattle.stage_dir.specs.Stages.{EachOnce, has_file, names_in, settled, written}

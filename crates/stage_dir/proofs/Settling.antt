@@ -4,8 +4,8 @@ use Rattle.std.specs.Option.{option_map, ForSome}
 use Rattle.std.proofs.lemmas.List.{map_push, length-map, get_or-map, get_or-take, get_or_default, take_more, take_all, drop_more, drop_all, length-take}
 use Rattle.std.proofs.lemmas.List.Elements.{All-map}
 use Rattle.std.proofs.lemmas.List.Folds.{list_any_none}
-use Rattle.mt_values.specs.declared.name.FileId.{FileId}
-use Rattle.mt_values.specs.Files.{same_file}
+use Rattle.mt_base.specs.declared.name.FileId.{FileId}
+use Rattle.mt_base.specs.Files.{same_file}
 use Rattle.mt_outside.specs.declared.disk.Written.{Written}
 use Rattle.mt_outside.specs.Files.{Files, settled_file}
 use Rattle.stage_dir.specs.Stages.{AreSealed, EachOnce, contents, has_file, names_in, settled, written}

@@ -1,6 +1,6 @@
 -- What a crash leaves under the name of a sealed stage (docs/architecture.md, "Stages").
 use Rattle.std.specs.Prelude.{◌≡◌, ◌≢◌, ℕ, ◌≤◌, List, [], ◌∷◌, ◌++◌, IsSomeAnd}
-use Rattle.mt_values.specs.declared.name.FileId.{FileId}
+use Rattle.mt_base.specs.declared.name.FileId.{FileId}
 use Rattle.mt_outside.specs.declared.disk.Change.{Change}
 use Rattle.mt_outside.specs.declared.disk.Change.TheVariants.{Publish, Remove}
 use Rattle.mt_outside.specs.Files.{Files, bytes_of}

@@ -4,9 +4,8 @@ ghost use Rattle.std.specs.Option.{option_map, ForSome};
 ghost use Rattle.mt_outside.specs.DiskCauses.{HasDiskCause};
 ghost use Rattle.stage_dir.specs.Stages.{AreSealed, EachOnce, IsCauseOf, IsIntact, contents, has_file, names_in, settled, written};
 
-use mt_base::Seq;
+use mt_base::{FileId, Seq};
 use mt_outside::{DiskError, Stage};
-use mt_values::FileId;
 use std::alloc::Global;
 use std::marker::Model;
 

@@ -1,6 +1,6 @@
 // What a sealed stage is sure to keep. Each function has an empty body and the law as its contract.
 ghost use Rattle.std.specs.Prelude.{◌≡◌, ◌≢◌, ◌≤◌, ◌<◌, ◌+◌, ◌⊎◌, ◌++◌, ◌∷◌, [], ℕ, List, Some, None, true, false};
-ghost use Rattle.mt_values.specs.declared.name.FileId.{FileId};
+ghost use Rattle.mt_base.specs.declared.name.FileId.{FileId};
 ghost use Rattle.mt_outside.specs.declared.disk.Change.{Change};
 ghost use Rattle.mt_outside.specs.Files.{Files, bytes_of, is_synced};
 ghost use Rattle.mt_outside.specs.Disk.{AllBy, Image, Names, Since, Told, files_at, put, with_change};

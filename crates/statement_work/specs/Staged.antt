@@ -1,7 +1,7 @@
 -- What is sealed for the commit of a CREATE (docs/formats.md, "Entries").
 use Rattle.std.specs.Prelude.{ℕ, true, List, [], ◌∷◌}
 use Rattle.sha2.specs.Sha256.{sha256}
-use Rattle.mt_values.specs.declared.name.FileId.TheVariants as file
+use Rattle.mt_base.specs.declared.name.FileId.TheVariants as file
 use Rattle.mt_values.specs.Manifests.{entry_bytes}
 use Rattle.mt_outside.specs.Files.{Files}
 

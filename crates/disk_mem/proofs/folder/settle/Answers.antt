@@ -1,5 +1,5 @@
 use Rattle.std.proofs.Common.{ap, ◌∙◌, sym, arith}
-use Rattle.mt_values.specs.Files.{same_file}
+use Rattle.mt_base.specs.Files.{same_file}
 use Rattle.mt_outside.specs.declared.disk.Written.{Written}
 use Rattle.mt_outside.specs.Files.{settled_file}
 use Rattle.disk_mem.proofs.FirstFile.{settle_at}

@@ -3,7 +3,7 @@ use Rattle.std.specs.List.{slice_get}
 use Rattle.column_file.specs.Faults.{IsFirstFault, Locates}
 use Rattle.mt_values.specs.declared.manifest.FileMark.{FileMark}
 use Rattle.mt_values.specs.declared.manifest.Manifest.{Manifest}
-use Rattle.mt_values.specs.declared.name.FileId.TheVariants as file
+use Rattle.mt_base.specs.declared.name.FileId.TheVariants as file
 use Rattle.mt_values.specs.declared.value.ColType.{ColType}
 use Rattle.part_writer.specs.PartFiles.{mark_of}
 use Rattle.part_reader.specs.declared.reading.PartFault.TheVariants.{Damaged}

@@ -5,7 +5,7 @@ use Rattle.part_reader.specs.Faults.{IsNoDamage}
 use Rattle.part_reader.specs.Sound.{column_types}
 use Rattle.part_writer.specs.PartFiles.{manifest_of}
 use Rattle.mt_values.specs.declared.manifest.Loaded.{Loaded}
-use Rattle.mt_values.specs.declared.name.FileId.TheVariants as file
+use Rattle.mt_base.specs.declared.name.FileId.TheVariants as file
 use Rattle.mt_outside.specs.Files.{bytes_of}
 use Rattle.part_reader.proofs.Damages.{error_handed_on, manifest_sound, no_damage, opening_explained, same_bytes}
 use Rattle.part_reader.proofs.Deciding.{file_told, manifest_damaged}

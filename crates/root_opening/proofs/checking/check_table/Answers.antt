@@ -1,6 +1,6 @@
 use Rattle.std.proofs.Common.{◌≡◌, refl, ◌∙◌}
 use Rattle.std.proofs.lemmas.Option.{MatchOption-at_some}
-use Rattle.mt_values.specs.declared.name.FileId.TheVariants as file
+use Rattle.mt_base.specs.declared.name.FileId.TheVariants as file
 use Rattle.mt_outside.specs.Disk.{names_of}
 use Rattle.root_store.specs.Damage.{EntryDamaged}
 use Rattle.root_opening.proofs.Checked.{damage_told, folder_of}

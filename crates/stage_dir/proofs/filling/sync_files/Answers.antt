@@ -1,8 +1,8 @@
 use Rattle.std.proofs.Common.{◌<◌, length, get_or, ap, ◌∙◌, arith}
 use Rattle.std.specs.Option.{option_map}
 use Rattle.std.proofs.lemmas.List.{get_or_default}
-use Rattle.mt_values.specs.declared.name.FileId.{FileId}
-use Rattle.mt_values.specs.declared.name.FileId.TheVariants.{Entry}
+use Rattle.mt_base.specs.declared.name.FileId.{FileId}
+use Rattle.mt_base.specs.declared.name.FileId.TheVariants.{Entry}
 use Rattle.stage_dir.specs.Stages.{contents}
 use Rattle.stage_dir.proofs.Settling.{after_error, told_more, told_all, told_kept}
 use Rattle.stage_dir.proofs.filling.sync_files.Goals as goal

@@ -1,6 +1,6 @@
 use Rattle.std.proofs.Common.{◌≡◌, ◌++◌, ◌∷◌, [], List, false, ap, ◌∙◌}
 use Rattle.std.specs.Option.{option_map}
-use Rattle.mt_values.specs.declared.name.FileId.{FileId}
+use Rattle.mt_base.specs.declared.name.FileId.{FileId}
 use Rattle.mt_outside.specs.Files.{appended}
 use Rattle.stage_dir.specs.Stages.{Filling, has_file}
 use Rattle.stage_dir.proofs.Appends.{once_more, told_written, intact_written}

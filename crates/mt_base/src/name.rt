@@ -1,5 +1,8 @@
-// Names of the root, and the files behind them.
-use mt_base::Seq;
+// Bytes, names of the root, and the files behind them.
+use crate::Seq;
+
+/// Bytes, as those of a String value.
+pub type Bytes = Seq<u8>;
 
 /// A name of a table, of a column or of the root, as its bytes.
 pub type Name = Seq<u8>;
@@ -20,7 +23,7 @@ pub enum FileId {
 
 impl FileId {
     ghost use Rattle.std.specs.Prelude.{◌≡◌};
-    ghost use Rattle.mt_values.specs.Files.{same_file};
+    ghost use Rattle.mt_base.specs.Files.{same_file};
 
     /// Whether both are one file.
     pub fn is(self, other: FileId) -> bool

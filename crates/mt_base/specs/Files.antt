@@ -1,7 +1,7 @@
 -- Which file of a folder is which (docs/architecture.md, "The root").
 use Rattle.std.specs.Prelude.{Bool, true, false, nat_eq}
-use Rattle.mt_values.specs.declared.name.FileId.{FileId}
-use Rattle.mt_values.specs.declared.name.FileId.TheVariants as file
+use Rattle.mt_base.specs.declared.name.FileId.{FileId}
+use Rattle.mt_base.specs.declared.name.FileId.TheVariants as file
 
 -- both are one file
 abbrev pub same_file : FileId → FileId → Bool
