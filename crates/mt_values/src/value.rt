@@ -1,6 +1,6 @@
 // Values and single rows.
 
-use mt_base::Seq;
+use mt_base::{Bytes, Seq};
 
 /// The type of a column.
 #[derive(Clone, Copy, Debug, PartialEq, Eq)]
