@@ -2,10 +2,11 @@
 ghost use Rattle.std.specs.Prelude.{◌≡◌, ◌<◌, ◌↔◌, ℕ, IfOk, IsTrue, string_bytes};
 
 use crate::system::{System, fault, make_folder, open_at_end, remove_folder, sync_file};
+use crate::tries::write_whole;
 use disk_names::{file_name, path_in};
 use mt_base::{FileId, NoMemory};
 use mt_outside::{Dir, DiskError, Stage};
-use outside_streams::{Faults, write_whole};
+use outside_streams::Faults;
 use std::alloc::Global;
 use std::fs::File;
 use std::marker::Model;

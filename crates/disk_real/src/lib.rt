@@ -8,6 +8,7 @@ mod folder;
 mod gate;
 mod numbers;
 mod system;
+mod tries;
 
 pub use arm::RealArm;
 pub use disk::RealDisk;

@@ -1,9 +1,10 @@
 // Calls of the system on folders and files, each of whose errors is a fault.
 ghost use Rattle.std.specs.Prelude.{◌≤◌, length, IfOk};
 
+use crate::tries::read_whole;
 use mt_base::{Name, Seq};
 use mt_outside::DiskError;
-use outside_streams::{MOST_TRIES, interrupted, read_whole};
+use outside_streams::MOST_TRIES;
 use std::alloc::{AllocError, Global};
 use std::fs::{File, Files, OpenOptions};
 use std::io;
@@ -75,7 +76,7 @@ fn perform<R: System>(rt: &R, order: Order) -> io::Result<()> {
             outcome => return outcome,
         }
     }
-    Err(interrupted())
+    Err(io::Error::from(ErrorKind::Interrupted))
 }
 
 // Opens a file, and tries again where that was interrupted.
@@ -86,7 +87,7 @@ fn open<R: System>(rt: &R, path: &str, options: &OpenOptions) -> io::Result<File
             outcome => return outcome,
         }
     }
-    Err(interrupted())
+    Err(io::Error::from(ErrorKind::Interrupted))
 }
 
 // Opens a file or a folder to be read.

@@ -10,4 +10,4 @@ mod tries;
 pub use faults::Faults;
 pub use memory::{MemSink, MemSource};
 pub use standard::{StdSink, StdSource};
-pub use tries::{MOST_TRIES, interrupted, read_whole, write_whole};
+pub use tries::{MOST_TRIES, read_some, write_some};

@@ -1,5 +1,5 @@
 // Calls of the system that are tried again where they were interrupted.
-ghost use Rattle.std.specs.Prelude.{◌<◌, ◌≤◌, length, IfOk};
+ghost use Rattle.std.specs.Prelude.{◌<◌, length, IfOk};
 ghost use Rattle.std.specs.Io.{ReadsAtMost, WritesAtMost};
 ghost use Rattle.std.specs.Io.KnownBytes.{ReadConsumes, WriteAppends};
 
@@ -9,8 +9,8 @@ use std::io::{ErrorKind, Read, Write};
 /// How often a call is tried that is interrupted each time.
 pub const MOST_TRIES: u32 = 16;
 
-/// What a call that was interrupted each time answers.
-pub fn interrupted() -> io::Error {
+// What a call that was interrupted each time answers.
+fn interrupted() -> io::Error {
     io::Error::from(ErrorKind::Interrupted)
 }
 
@@ -44,28 +44,4 @@ pub fn write_some<W: Write>(writer: &mut W, bytes: &[u8]) -> io::Result<usize>
         }
     }
     Err(interrupted())
-}
-
-/// Writes, until all is taken. After an error a front of the bytes may be written.
-pub fn write_whole<W: Write>(writer: &mut W, bytes: &[u8]) -> io::Result<()> {
-    let mut taken = 0usize;
-    while taken < bytes.len() {
-        taken += write_some(writer, &bytes[taken..])?;
-    }
-    Ok(())
-}
-
-/// Reads, until the buffer is full or nothing is left, and answers how many bytes. After an error the buffer may hold anything.
-pub fn read_whole<R: Read>(reader: &mut R, buf: &mut [u8]) -> io::Result<usize>
-    ensures bound { IfOk result (λ n. n ≤ length buf.new) }
-{
-    let mut count = 0usize;
-    while count < buf.len() {
-        let more = read_some(reader, &mut buf[count..])?;
-        if more == 0 {
-            break;
-        }
-        count += more;
-    }
-    Ok(count)
 }

@@ -1,6 +1,6 @@
 -- what was taken so far is of the bytes
 use Rattle.std.proofs.Common.{length, ◌-◌, ◌≤◌}
-use Rattle.outside_streams.proofs.tries.write_whole.Given as goal
+use Rattle.disk_real.proofs.tries.write_whole.Given as goal
 
 abbrev pub invariant-loop-taken : goal.invariant-loop-taken
 invariant-loop-taken g l = l.taken ≤ length l.bytes

@@ -1,6 +1,6 @@
 -- the bytes read so far fit
 use Rattle.std.proofs.Common.{length, ◌-◌, ◌≤◌}
-use Rattle.outside_streams.proofs.tries.read_whole.Given as goal
+use Rattle.disk_real.proofs.tries.read_whole.Given as goal
 
 abbrev pub invariant-loop-count : goal.invariant-loop-count
 invariant-loop-count g l = l.count ≤ length l.buf
