@@ -1,8 +1,10 @@
 -- The causes of refusals: the script, or the outside, whose count rose then.
-use Rattle.std.proofs.Common.{◌≡◌, ◌⊎◌, ℕ, ◌+◌, ◌-◌, ◌<◌, ◌≤◌, ◌^◌, Bool, true, false, cond, List, [], ◌∷◌, ◌++◌, Option, Some, None, Result, Ok, Err, length, take, refl, sym, zero, suc, ◌==◌, ap, ◌∙◌, subst, inl, inr, arith, nat_le, nat_lt, is_some, ◌&&◌, ◌||◌}
+use Rattle.std.proofs.Common.{◌≡◌, ◌⊎◌, ℕ, ◌+◌, ◌-◌, ◌<◌, ◌≤◌, ◌^◌, Bool, true, false, cond, List, [], ◌∷◌, ◌++◌, Option, Some, None, Result, Ok, Err, length, take, drop, refl, sym, zero, suc, ◌==◌, ap, ◌∙◌, subst, inl, inr, arith, nat_le, nat_lt, is_some, ◌&&◌, ◌||◌}
 use Rattle.std.proofs.lemmas.Bool.{false≢true}
 use Rattle.std.proofs.lemmas.Bool.Decides.{nat_tests}
 use Rattle.std.specs.List.{list_any}
+use Rattle.mt_values.specs.declared.command.Command.{Command}
+use Rattle.mt_values.specs.declared.command.Command.TheVariants as command
 use Rattle.mt_values.specs.declared.row_fault.DataFault.{DataFault}
 use Rattle.mt_values.specs.declared.row_fault.DataFault.TheVariants as data_fault
 use Rattle.mt_values.specs.declared.row_fault.FieldFault.{FieldFault}
@@ -32,12 +34,16 @@ use Rattle.mt_values.specs.declared.statement.Statement.TheVariants as statement
 use Rattle.mt_values.specs.declared.statement.CreateText.{CreateText}
 use Rattle.mt_values.specs.declared.statement.InsertText.{InsertText}
 use Rattle.mt_values.specs.declared.statement.SelectText.{SelectText}
-use Rattle.mt_model.specs.History.{History, schema_of, creates, inserts, column_types}
-use Rattle.mt_model.specs.Outside.{Counts}
-use Rattle.mt_model.specs.Outside.{HasRisen, ReadOrStageFailed, TurnFailed}
+use Rattle.mt_model.specs.History.{History, schema_of, creates, column_types}
+use Rattle.mt_model.specs.Outside.{Outside, HasRisen, ReadOrStageFailed, TurnFailed}
 use Rattle.mt_model.specs.Causes.{MeetsCause}
-use Rattle.mt_model.specs.Refusals.{code, code_of, is_damage, is_refusal, refusal_line, refusal_of_cause, refusal_of_row, refusal_of_data}
-use Rattle.mt_model.specs.Session.{RefusedAs, Takes}
+use Rattle.mt_model.specs.Commands.{commands_for, commands_of, commands_of_rows, create_commands, no_commands}
+use Rattle.mt_model.specs.Numbers.{last_number}
+use Rattle.mt_model.specs.Refusals.{accepted_by, code, code_of, is_damage, is_refusal, refusal_line, refusal_of_cause, refusal_of_row, refusal_of_data}
+use Rattle.mt_model.specs.Session.{TurnRefuses, TakesCommands, Takes}
+use Rattle.mt_model.proofs.Commands.{commands_kept, insert_or_first, refuses_more}
+use Rattle.mt_model.proofs.Histories.{take_later}
+use Rattle.mt_model.proofs.Places.{stops_places}
 use Rattle.mt_model.proofs.Refused.{code_of_line}
 
 -- ---- what a script is refused for
@@ -46,20 +52,24 @@ use Rattle.mt_model.proofs.Refused.{code_of_line}
 abbrev pub OfScript : Refusal → Type 0
 OfScript r = code r ≤ 14
 
+-- so it is, and the line counts no command
+abbrev pub OfText : Refusal → Type 0
+OfText r = (code r ≤ 14) × (accepted_by r ≡ 0)
+
 -- where it is refused, the script is the cause
 abbrev Scripted : {A : Type 0} → Result A Refusal → Type 0
 Scripted (Ok x) = Unit {0}
-Scripted (Err why) = OfScript why
+Scripted (Err why) = OfText why
 
 -- where there is a refusal, the script is its cause
 abbrev Tells : Option Refusal → Type 0
 Tells None = Unit {0}
-Tells (Some why) = OfScript why
+Tells (Some why) = OfText why
 
-scripted : {A : Type 0} (r : Result A Refusal) (why : Refusal) → r ≡ Err why → Scripted r → OfScript why
+scripted : {A : Type 0} (r : Result A Refusal) (why : Refusal) → r ≡ Err why → Scripted r → OfText why
 scripted {A} r why is h = subst (λ (z : Result A Refusal). Scripted z) is h
 
-told : (o : Option Refusal) (why : Refusal) → o ≡ Some why → Tells o → OfScript why
+told : (o : Option Refusal) (why : Refusal) → o ≡ Some why → Tells o → OfText why
 told o why is h = subst Tells is h
 
 tells_if : (c : Bool) (o p : Option Refusal) → Tells o → Tells p → Tells (cond c o p)
@@ -71,7 +81,7 @@ tells_first None p h k = k
 tells_first (Some why) p h k = h
 
 found_tells : (name : List ℕ) (o : Option ℕ) → Scripted (found_or name o)
-found_tells name None = omega arith
+found_tells name None = (omega arith, refl)
 found_tells name (Some place) = tt
 
 onto_tells : (r : Result ℕ Refusal) (rest : Result (List ℕ) Refusal) → Scripted r → Scripted rest → Scripted (place_onto r rest)
@@ -83,7 +93,7 @@ places_tell : (columns : List Column) (names : List (List ℕ)) → Scripted (pl
 places_tell columns [] = tt
 places_tell columns (name ∷ names) = onto_tells (found_or name (place_of columns name)) (places_of columns names) (found_tells name (place_of columns name)) (places_tell columns names)
 
-repeat_tells : {X : Type 0} (same : X → X → Bool) (tell : ℕ → X → Refusal) → ((place : ℕ) (x : X) → OfScript (tell place x)) → (place : ℕ) (earlier xs : List X) → Tells (first_repeat same tell place earlier xs)
+repeat_tells : {X : Type 0} (same : X → X → Bool) (tell : ℕ → X → Refusal) → ((place : ℕ) (x : X) → OfText (tell place x)) → (place : ℕ) (earlier xs : List X) → Tells (first_repeat same tell place earlier xs)
 repeat_tells same tell of place earlier [] = tt
 repeat_tells same tell of place earlier (x ∷ xs) =
     tells_if (list_any (λ y. same y x) earlier) (Some (tell place x)) (first_repeat same tell (place + 1) (earlier ++ x ∷ []) xs) (of place x) (repeat_tells same tell of (place + 1) (earlier ++ x ∷ []) xs)
@@ -91,7 +101,7 @@ repeat_tells same tell of place earlier (x ∷ xs) =
 double_tells : (c : CreateText) → Tells (double_name c)
 double_tells c =
     tells_first (first_repeat same_name double_column_at 0 [] c.columns) (first_repeat same_bytes double_key_at 0 [] c.key)
-    (repeat_tells same_name double_column_at (λ place x. omega arith) 0 [] c.columns) (repeat_tells same_bytes double_key_at (λ place x. omega arith) 0 [] c.key)
+    (repeat_tells same_name double_column_at (λ place x. (omega arith, refl)) 0 [] c.columns) (repeat_tells same_bytes double_key_at (λ place x. (omega arith, refl)) 0 [] c.key)
 
 unless_tells : {X : Type 0} (o : Option Refusal) (x : X) → Tells o → Scripted (unless_refused o x)
 unless_tells None x h = tt
@@ -104,12 +114,12 @@ text_tells c = by (places_of c.columns c.key) (places_tell c.columns c.key)
     by (Err why) h = h
     by (Ok key) h =
         unless_tells (first_refusal (double_name c) (too_many_columns c)) (record { columns = c.columns; key = key })
-        (tells_first (double_name c) (too_many_columns c) (double_tells c) (tells_if (nat_le (length c.columns) 64) None (Some (refusal.Past bound.Columns)) tt (omega arith)))
+        (tells_first (double_name c) (too_many_columns c) (double_tells c) (tells_if (nat_le (length c.columns) 64) None (Some (refusal.Past bound.Columns)) tt (omega arith, refl)))
 
 create_turn_tells : (table : List ℕ) (h : History) → Tells (create_turn table h)
 create_turn_tells table h =
-    tells_if (is_some (schema_of table h)) (Some (refusal.TableExists table)) (cond (nat_lt (creates h) 64) None (Some (refusal.Past bound.Tables))) (omega arith)
-    (tells_if (nat_lt (creates h) 64) None (Some (refusal.Past bound.Tables)) tt (omega arith))
+    tells_if (is_some (schema_of table h)) (Some (refusal.TableExists table)) (cond (nat_lt (creates h) 64) None (Some (refusal.Past bound.Tables))) (omega arith, refl)
+    (tells_if (nat_lt (creates h) 64) None (Some (refusal.Past bound.Tables)) tt (omega arith, refl))
 
 -- a fault of data is not want of memory
 abbrev OfRow : RowFault → Type 0
@@ -169,94 +179,125 @@ rows_errs : (n : ℕ) (types : List ColType) (ended : Bool) (count : ℕ) (text 
 rows_errs zero types ended count text = tt
 rows_errs (suc n) types ended count text = behind_errs types ended count (rows_within n types ended) (line_from false text) (rows_errs n types ended)
 
-row_tells : (fault : RowFault) → OfRow fault → OfScript (refusal_of_row fault)
+row_tells : (fault : RowFault) → OfRow fault → OfText (refusal_of_row fault)
 row_tells row_fault.NoMemory h = absurd h
-row_tells (row_fault.Fields line found wanted) h = omega arith
-row_tells (row_fault.Field line field) h = omega arith
-row_tells row_fault.Value h = omega arith
+row_tells (row_fault.Fields line found wanted) h = (omega arith, refl)
+row_tells (row_fault.Field line field) h = (omega arith, refl)
+row_tells row_fault.Value h = (omega arith, refl)
 
-data_tells : (fault : DataFault) → OfData fault → OfScript (refusal_of_data fault)
+data_tells : (fault : DataFault) → OfData fault → OfText (refusal_of_data fault)
 data_tells (data_fault.Row fault) h = row_tells fault h
-data_tells data_fault.TooMany h = omega arith
-data_tells (data_fault.Unended rows) h = omega arith
+data_tells data_fault.TooMany h = (omega arith, refl)
+data_tells (data_fault.Unended rows) h = (omega arith, refl)
 
 rows_tell : (i : InsertText) (o : Option Schema) → Scripted (rows_for i o)
-rows_tell i None = omega arith
+rows_tell i None = (omega arith, refl)
 rows_tell i (Some schema) = by (inserted_rows (column_types schema) i.lines i.ended) (rows_errs (length i.lines + 1) (column_types schema) i.ended 0 i.lines)
   where
     by : (r : Result (List Row) DataFault) → DataErrs r → Scripted (rows_or_refused r)
     by (Ok rows) h = tt
     by (Err fault) h = data_tells fault h
 
-insert_turn_tells : (parts : ℕ) (table : List ℕ) (h : History) → Tells (insert_turn parts table h)
-insert_turn_tells parts table h =
-    tells_if (nat_le 3000 parts) (Some (refusal.Full room.Parts 0)) (cond (nat_le 4294967295 (inserts table h)) (Some (refusal.Full room.Numbers 0)) None) (omega arith)
-    (tells_if (nat_le 4294967295 (inserts table h)) (Some (refusal.Full room.Numbers 0)) None (omega arith) tt)
+full_tells : (parts drawn accepted : ℕ) (why : Refusal) → insert_turn parts drawn accepted ≡ Some why → OfScript why
+full_tells parts drawn accepted why is = by (nat_le 3000 parts) (nat_le 4294967295 drawn) is
+  where
+    by : (b c : Bool) → cond b (Some (refusal.Full room.Parts accepted)) (cond c (Some (refusal.Full room.Numbers accepted)) None) ≡ Some why → OfScript why
+    by true c e = let same : refusal.Full room.Parts accepted ≡ why = cc in subst OfScript same (omega arith)
+    by false true e = let same : refusal.Full room.Numbers accepted ≡ why = cc in subst OfScript same (omega arith)
+    by false false e = cc
+
+-- a turn that refuses does so for what the script says
+pub turn_tells : (h : History) (accepted : ℕ) (c : Command) (why : Refusal) → TurnRefuses h accepted c why → OfScript why
+turn_tells h accepted (command.Create c) why turn = (told (create_turn c.table h) why turn (create_turn_tells c.table h)).0
+turn_tells h accepted (command.Insert i) why turn = full_tells turn.0 (last_number i.table h) accepted why turn.2
 
 selected_tells : (columns : List Column) (which : Selected) → Scripted (selected_places columns which)
 selected_tells columns selected.All = tt
 selected_tells columns (selected.Named names) = places_tell columns names
 
 columns_tell : (t : SelectText) (o : Option Schema) → Scripted (columns_for t o)
-columns_tell t None = omega arith
+columns_tell t None = (omega arith, refl)
 columns_tell t (Some schema) = selected_tells schema.columns t.columns
+
+commands_tell : (h : History) (st : Statement) → Scripted (commands_of h st)
+commands_tell h (statement.Create c) = by (schema_of_text c) (text_tells c)
+  where
+    by : (r : Result Schema Refusal) → Scripted r → Scripted (create_commands c.table r)
+    by (Err why) t = t
+    by (Ok schema) t = tt
+commands_tell h (statement.Insert i) = by (schema_of i.table h)
+  where
+    of_rows : (schema : Schema) (r : Result (List Row) Refusal) → Scripted r → Scripted (commands_of_rows schema i.table r)
+    of_rows schema (Err why) t = t
+    of_rows schema (Ok rows) t = tt
+
+    by : (o : Option Schema) → Scripted (commands_for i o)
+    by None = (omega arith, refl)
+    by (Some schema) = of_rows schema (rows_for i (Some schema)) (rows_tell i (Some schema))
+commands_tell h (statement.Select t) = by (columns_for t (schema_of t.table h)) (columns_tell t (schema_of t.table h))
+  where
+    by : (r : Result (List ℕ) Refusal) → Scripted r → Scripted (no_commands r)
+    by (Err why) t = t
+    by (Ok columns) t = tt
+
+-- a statement that gives no commands, or a SELECT that has no columns, is refused for what it says
+pub commands_are_cause : (h : History) (st : Statement) (why : Refusal) → commands_of h st ≡ Err why → OfText why
+commands_are_cause h st why is = scripted (commands_of h st) why is (commands_tell h st)
+
+pub columns_are_cause : (h : History) (t : SelectText) (why : Refusal) → columns_of_select t h ≡ Err why → OfText why
+columns_are_cause h t why is = scripted (columns_of_select t h) why is (columns_tell t (schema_of t.table h))
 
 -- a CREATE or a SELECT that is refused for what it says
 pub text_is_cause : (c : CreateText) (why : Refusal) → schema_of_text c ≡ Err why → OfScript why
-text_is_cause c why is = scripted (schema_of_text c) why is (text_tells c)
+text_is_cause c why is = (scripted (schema_of_text c) why is (text_tells c)).0
 
 pub selected_is_cause : (columns : List Column) (which : Selected) (why : Refusal) → selected_places columns which ≡ Err why → OfScript why
-selected_is_cause columns which why is = scripted (selected_places columns which) why is (selected_tells columns which)
+selected_is_cause columns which why is = (scripted (selected_places columns which) why is (selected_tells columns which)).0
 
-cause_tells : (why : Cause) → OfScript (refusal_of_cause why)
-cause_tells (cause.Grammar place) = omega arith
-cause_tells cause.LongStatement = omega arith
-cause_tells cause.LongName = omega arith
+pub cause_tells : (why : Cause) → OfText (refusal_of_cause why)
+cause_tells (cause.Grammar place) = (omega arith, refl)
+cause_tells cause.LongStatement = (omega arith, refl)
+cause_tells cause.LongName = (omega arith, refl)
 
 -- ---- what a reply says of the outside
 
 -- the script is the cause of the reply, or the disk's count rose
-abbrev Blames : Counts → List ℕ → Type 0
+abbrev Blames : Outside → List ℕ → Type 0
 Blames n reply = (code_of reply ≤ 14) ⊎ ((code_of reply ≤ 17) × HasRisen n n.ended)
 
-by_script : (n : Counts) (h : History) (s from to : ℕ) (why : Refusal) (reply : List ℕ) → RefusedAs h s from to why reply → OfScript why → Blames n reply
-by_script n h s from to why reply r few = let e : code_of reply ≡ code why = ap code_of r.line ∙ code_of_line why in inl (omega arith)
+by_script : (n : Outside) (why : Refusal) (reply : List ℕ) → reply ≡ refusal_line why → OfScript why → Blames n reply
+by_script n why reply is few = let e : code_of reply ≡ code why = ap code_of is ∙ code_of_line why in inl (omega arith)
 
-by_none : (n : Counts) (reply is : List ℕ) → reply ≡ is → code_of is ≡ 0 → Blames n reply
+by_none : (n : Outside) (reply is : List ℕ) → reply ≡ is → code_of is ≡ 0 → Blames n reply
 by_none n reply is same none = let e : code_of reply ≡ 0 = ap code_of same ∙ none in inl (omega arith)
 
-by_outside : (n : Counts) (why : Refusal) (reply : List ℕ) → reply ≡ refusal_line why → code why ≤ 17 → HasRisen n n.ended → Blames n reply
+by_outside : (n : Outside) (why : Refusal) (reply : List ℕ) → reply ≡ refusal_line why → code why ≤ 17 → HasRisen n n.ended → Blames n reply
 by_outside n why reply is few rose = let e : code_of reply ≡ code why = ap code_of is ∙ code_of_line why in inr (omega arith, rose)
 
-by_stage : (n : Counts) (reply : List ℕ) → ReadOrStageFailed n reply → Blames n reply
+by_stage : (n : Outside) (reply : List ℕ) → ReadOrStageFailed n reply → Blames n reply
 by_stage n reply failed = by_outside n refusal.Failed reply failed.0 (omega arith) failed.1
 
-by_turn : (n : Counts) (reply : List ℕ) → TurnFailed n reply → Blames n reply
-by_turn n reply (inl failed) = by_outside n (refusal.Unsettled 0) reply failed.0 (omega arith) failed.1
-by_turn n reply (inr (now, low, rose, is)) = by_outside n (refusal.Stopped n.opened now 0) reply is (omega arith) (omega arith)
+by_turn : (n : Outside) (accepted : ℕ) (reply : List ℕ) → TurnFailed n accepted reply → Blames n reply
+by_turn n accepted reply (inl failed) = by_outside n (refusal.Unsettled accepted) reply failed.0 (omega arith) failed.1
+by_turn n accepted reply (inr (now, low, rose, is)) = by_outside n (refusal.Stopped n.opened now accepted) reply is (omega arith) (omega arith)
 
-pub takes_blames : (n : Counts) (h : History) (s : ℕ) (st : Result Statement Cause) (from to : ℕ) (reply : List ℕ) → Takes n h s st from to reply → Blames n reply
-takes_blames n h s (Ok (statement.Create c)) from to reply (inl (is, a)) = by_none n reply _ is refl
-takes_blames n h s (Ok (statement.Create c)) from to reply (inr (inl (why, is, r))) = by_script n h s from to why reply r (scripted (schema_of_text c) why is (text_tells c))
-takes_blames n h s (Ok (statement.Create c)) from to reply (inr (inr (inl (schema, is, a, failed)))) = by_stage n reply failed
-takes_blames n h s (Ok (statement.Create c)) from to reply (inr (inr (inr (inl (schema, why, is, turn, r))))) = by_script n h s from to why reply r (told (create_turn c.table (take to h)) why turn (create_turn_tells c.table (take to h)))
-takes_blames n h s (Ok (statement.Create c)) from to reply (inr (inr (inr (inr (schema, is, turn, a, failed))))) = by_turn n reply failed
-takes_blames n h s (Ok (statement.Insert i)) from to reply (inl (is, a)) = by_none n reply _ is refl
-takes_blames n h s (Ok (statement.Insert i)) from to reply (inr (inl (is, a, none))) = by_none n reply _ is refl
-takes_blames n h s (Ok (statement.Insert i)) from to reply (inr (inr (inl (why, is, r)))) =
-    by_script n h s from to why reply r (scripted (rows_of_insert i (take to h)) why is (rows_tell i (schema_of i.table (take to h))))
-takes_blames n h s (Ok (statement.Insert i)) from to reply (inr (inr (inr (inl (row, rows, is, a, failed))))) = by_stage n reply failed
-takes_blames n h s (Ok (statement.Insert i)) from to reply (inr (inr (inr (inr (inl (row, rows, why, is, parts, merged, turn, r)))))) =
-    by_script n h s from to why reply r (told (insert_turn parts i.table (take to h)) why turn (insert_turn_tells parts i.table (take to h)))
-takes_blames n h s (Ok (statement.Insert i)) from to reply (inr (inr (inr (inr (inr (row, rows, is, parts, merged, turn, a, failed)))))) = by_turn n reply failed
+commands_blame : (n : Outside) (h : History) (s : ℕ) (st : Statement) (from to : ℕ) (reply : List ℕ) → TakesCommands n h s st from to reply → Blames n reply
+commands_blame n h s st from to reply (inl (is, a)) = by_none n reply _ is refl
+commands_blame n h s st from to reply (inr (inl (why, is, r))) = by_script n why reply r.line (commands_are_cause (take to h) st why is).0
+commands_blame n h s st from to reply (inr (inr (inl (commands, is, some, a, failed)))) = by_stage n reply failed
+commands_blame n h s st from to reply (inr (inr (inr (done, next, rest, stops, inl (why, turn, line))))) = by_script n why reply line (turn_tells (take to h) (length done) next why turn)
+commands_blame n h s st from to reply (inr (inr (inr (done, next, rest, stops, inr (allows, failed))))) = by_turn n (length done) reply failed
+
+pub takes_blames : (n : Outside) (h : History) (s : ℕ) (st : Result Statement Cause) (from to : ℕ) (reply : List ℕ) → Takes n h s st from to reply → Blames n reply
+takes_blames n h s (Ok (statement.Create c)) from to reply t = commands_blame n h s (statement.Create c) from to reply t
+takes_blames n h s (Ok (statement.Insert i)) from to reply t = commands_blame n h s (statement.Insert i) from to reply t
 takes_blames n h s (Ok (statement.Select t)) from to reply (inl (r, a)) = by_none n reply _ r.reply_is refl
-takes_blames n h s (Ok (statement.Select t)) from to reply (inr (inl (why, is, r))) =
-    by_script n h s from to why reply r (scripted (columns_of_select t (take to h)) why is (columns_tell t (schema_of t.table (take to h))))
+takes_blames n h s (Ok (statement.Select t)) from to reply (inr (inl (why, is, r))) = by_script n why reply r.line (columns_are_cause (take to h) t why is).0
 takes_blames n h s (Ok (statement.Select t)) from to reply (inr (inr (columns, is, a, failed))) = by_stage n reply failed
-takes_blames n h s (Err why) from to reply r = by_script n h s from to (refusal_of_cause why) reply r (cause_tells why)
+takes_blames n h s (Err why) from to reply r = by_script n (refusal_of_cause why) reply r.line (cause_tells why).0
 
 -- a refusal that tells of the outside comes only where the count rose
-pub outside_rose : (n : Counts) (h : History) (s : ℕ) (st : Result Statement Cause) (from to : ℕ) (reply : List ℕ) → Takes n h s st from to reply → 14 < code_of reply → HasRisen n n.ended
+pub outside_rose : (n : Outside) (h : History) (s : ℕ) (st : Result Statement Cause) (from to : ℕ) (reply : List ℕ) → Takes n h s st from to reply → 14 < code_of reply → HasRisen n n.ended
 outside_rose n h s st from to reply t many = by (takes_blames n h s st from to reply t)
   where
     by : Blames n reply → HasRisen n n.ended
@@ -264,7 +305,7 @@ outside_rose n h s st from to reply t many = by (takes_blames n h s st from to r
     by (inr (few, rose)) = rose
 
 -- a count that stands where it stood at opening, below its type's end, has not risen
-pub still_calm : (n : Counts) → n.ended ≡ n.opened → n.ended < 2 ^ 64 - 1 → HasRisen n n.ended → ⊥
+pub still_calm : (n : Outside) → n.ended ≡ n.opened → n.ended < 2 ^ 64 - 1 → HasRisen n n.ended → ⊥
 still_calm n still below rose = omega arith
 
 numbered : (m : ℕ) → m ≤ 14 → (m ≡ 0) ⊎ ((nat_le 1 m && nat_le m 14 || (m == 18)) ≡ true)
@@ -275,7 +316,7 @@ numbered (suc m) few = inr (test (suc m) (omega arith) few)
     test k some few = grind (arith, nat_tests)
 
 -- where no count rose, a statement is accepted or refused for what the script says
-pub told_of_script : (n : Counts) (h : History) (s : ℕ) (st : Result Statement Cause) (from to : ℕ) (reply : List ℕ) → n.ended ≡ n.opened → n.ended < 2 ^ 64 - 1 → Takes n h s st from to reply → (code_of reply ≡ 0) ⊎ (is_refusal reply ≡ true)
+pub told_of_script : (n : Outside) (h : History) (s : ℕ) (st : Result Statement Cause) (from to : ℕ) (reply : List ℕ) → n.ended ≡ n.opened → n.ended < 2 ^ 64 - 1 → Takes n h s st from to reply → (code_of reply ≡ 0) ⊎ (is_refusal reply ≡ true)
 told_of_script n h s st from to reply still below t = by (takes_blames n h s st from to reply t)
   where
     by : Blames n reply → (code_of reply ≡ 0) ⊎ (is_refusal reply ≡ true)
@@ -290,7 +331,7 @@ pub undamaged_line : (why : Refusal) → OfScript why → is_damage (refusal_lin
 undamaged_line why few = let e : code_of (refusal_line why) ≡ code why = code_of_line why in not_damage (code_of (refusal_line why)) (omega (arith, e, few))
 
 -- no reply tells of damage
-pub never_damaged : (n : Counts) (h : History) (s : ℕ) (st : Result Statement Cause) (from to : ℕ) (reply : List ℕ) → Takes n h s st from to reply → is_damage reply ≡ false
+pub never_damaged : (n : Outside) (h : History) (s : ℕ) (st : Result Statement Cause) (from to : ℕ) (reply : List ℕ) → Takes n h s st from to reply → is_damage reply ≡ false
 never_damaged n h s st from to reply t = not_damage (code_of reply) (by (takes_blames n h s st from to reply t))
   where
     by : Blames n reply → code_of reply < 18
@@ -310,23 +351,31 @@ not_by_none reply is same none refuses = no_refusal (code_of reply) (inl (ap cod
 not_by_outside : (why : Refusal) (reply : List ℕ) → reply ≡ refusal_line why → 14 < code why → code why < 18 → is_refusal reply ≡ true → ⊥
 not_by_outside why reply is low high refuses = let e : code_of reply ≡ code why = ap code_of is ∙ code_of_line why in no_refusal (code_of reply) (inr (omega (arith, e, low), omega (arith, e, high))) refuses
 
-not_by_turn : (n : Counts) (reply : List ℕ) → TurnFailed n reply → is_refusal reply ≡ true → ⊥
-not_by_turn n reply (inl failed) refuses = not_by_outside (refusal.Unsettled 0) reply failed.0 (omega arith) (omega arith) refuses
-not_by_turn n reply (inr stopped) refuses = not_by_outside (refusal.Stopped n.opened stopped.0 0) reply stopped.3 (omega arith) (omega arith) refuses
+not_by_turn : (n : Outside) (accepted : ℕ) (reply : List ℕ) → TurnFailed n accepted reply → is_refusal reply ≡ true → ⊥
+not_by_turn n accepted reply (inl failed) refuses = not_by_outside (refusal.Unsettled accepted) reply failed.0 (omega arith) (omega arith) refuses
+not_by_turn n accepted reply (inr stopped) refuses = not_by_outside (refusal.Stopped n.opened stopped.0 accepted) reply stopped.3 (omega arith) (omega arith) refuses
 
-pub refused_by_cause : (n : Counts) (h : History) (s : ℕ) (st : Result Statement Cause) (from to : ℕ) (reply : List ℕ) → Takes n h s st from to reply → is_refusal reply ≡ true → MeetsCause (take to h) st
-refused_by_cause n h s (Ok (statement.Create c)) from to reply (inl (is, a)) refuses = absurd (not_by_none reply _ is refl refuses)
-refused_by_cause n h s (Ok (statement.Create c)) from to reply (inr (inl (why, is, r))) refuses = inl (why, is)
-refused_by_cause n h s (Ok (statement.Create c)) from to reply (inr (inr (inl (schema, is, a, failed)))) refuses = absurd (not_by_outside refusal.Failed reply failed.0 (omega arith) (omega arith) refuses)
-refused_by_cause n h s (Ok (statement.Create c)) from to reply (inr (inr (inr (inl (schema, why, is, turn, r))))) refuses = inr (schema, why, is, turn)
-refused_by_cause n h s (Ok (statement.Create c)) from to reply (inr (inr (inr (inr (schema, is, turn, a, failed))))) refuses = absurd (not_by_turn n reply failed refuses)
-refused_by_cause n h s (Ok (statement.Insert i)) from to reply (inl (is, a)) refuses = absurd (not_by_none reply _ is refl refuses)
-refused_by_cause n h s (Ok (statement.Insert i)) from to reply (inr (inl (is, a, none))) refuses = absurd (not_by_none reply _ is refl refuses)
-refused_by_cause n h s (Ok (statement.Insert i)) from to reply (inr (inr (inl (why, is, r)))) refuses = inl (why, is)
-refused_by_cause n h s (Ok (statement.Insert i)) from to reply (inr (inr (inr (inl (row, rows, is, a, failed))))) refuses = absurd (not_by_outside refusal.Failed reply failed.0 (omega arith) (omega arith) refuses)
-refused_by_cause n h s (Ok (statement.Insert i)) from to reply (inr (inr (inr (inr (inl (row, rows, why, is, parts, merged, turn, r)))))) refuses = inr (parts, why, merged, turn)
-refused_by_cause n h s (Ok (statement.Insert i)) from to reply (inr (inr (inr (inr (inr (row, rows, is, parts, merged, turn, a, failed)))))) refuses = absurd (not_by_turn n reply failed refuses)
+-- the commands that a statement gave up to some place it gives up to a later one
+gives_later : (h : History) (st : Statement) (from to : ℕ) (cs : List Command) → from ≤ to → commands_of (take from h) st ≡ Ok cs → commands_of (take to h) st ≡ Ok cs
+gives_later h st from to cs later is =
+    ap (λ (x : History). commands_of x st) (take_later from to h later) ∙ commands_kept (take from h) (take (to - from) (drop from h)) st cs is
+
+commands_refused : (n : Outside) (h : History) (s : ℕ) (st : Statement) (from to : ℕ) (reply : List ℕ) → TakesCommands n h s st from to reply → is_refusal reply ≡ true → MeetsCause (take to h) (Ok st)
+commands_refused n h s st from to reply (inl (is, a)) refuses = absurd (not_by_none reply _ is refl refuses)
+commands_refused n h s st from to reply (inr (inl (why, is, r))) refuses = inl (why, is)
+commands_refused n h s st from to reply (inr (inr (inl (commands, is, some, a, failed)))) refuses =
+    absurd (not_by_outside refusal.Failed reply failed.0 (omega arith) (omega arith) refuses)
+commands_refused n h s st from to reply (inr (inr (inr (done, next, rest, stops, inl (why, turn, line))))) refuses =
+    let places = stops_places h s st from to done (next ∷ rest) stops in
+    let later : stops.seen ≤ to = omega (arith, places.later, places.last) in
+    let which = insert_or_first (take stops.seen h) st done rest next stops.gives in
+    inr (done, next, rest, why, gives_later h st stops.seen to (done ++ next ∷ rest) later stops.gives, refuses_more (take to h) done next why which turn)
+commands_refused n h s st from to reply (inr (inr (inr (done, next, rest, stops, inr (allows, failed))))) refuses = absurd (not_by_turn n (length done) reply failed refuses)
+
+pub refused_by_cause : (n : Outside) (h : History) (s : ℕ) (st : Result Statement Cause) (from to : ℕ) (reply : List ℕ) → Takes n h s st from to reply → is_refusal reply ≡ true → MeetsCause (take to h) st
+refused_by_cause n h s (Ok (statement.Create c)) from to reply t refuses = commands_refused n h s (statement.Create c) from to reply t refuses
+refused_by_cause n h s (Ok (statement.Insert i)) from to reply t refuses = commands_refused n h s (statement.Insert i) from to reply t refuses
 refused_by_cause n h s (Ok (statement.Select t)) from to reply (inl (r, a)) refuses = absurd (not_by_none reply _ r.reply_is refl refuses)
-refused_by_cause n h s (Ok (statement.Select t)) from to reply (inr (inl (why, is, r))) refuses = (why, is)
+refused_by_cause n h s (Ok (statement.Select t)) from to reply (inr (inl (why, is, r))) refuses = inl (why, ap no_commands is)
 refused_by_cause n h s (Ok (statement.Select t)) from to reply (inr (inr (columns, is, a, failed))) refuses = absurd (not_by_outside refusal.Failed reply failed.0 (omega arith) (omega arith) refuses)
 refused_by_cause n h s (Err why) from to reply r refuses = tt

@@ -6,15 +6,14 @@ use Rattle.mt_values.specs.declared.command.Command.{Command}
 use Rattle.mt_values.specs.declared.statement.Cause.{Cause}
 use Rattle.mt_values.specs.declared.statement.Statement.{Statement}
 use Rattle.mt_values.specs.declared.statement.Statement.TheVariants as statement
-use Rattle.mt_values.specs.declared.statement.CreateText.{CreateText}
-use Rattle.mt_values.specs.declared.statement.InsertText.{InsertText}
 use Rattle.mt_values.specs.declared.statement.SelectText.{SelectText}
-use Rattle.mt_model.specs.History.{History, own, schema_of, inserts}
+use Rattle.mt_model.specs.Commands.{commands_of}
+use Rattle.mt_model.specs.History.{History, own, schema_of}
 use Rattle.mt_model.specs.declared.refusal.Refusal.{Refusal}
-use Rattle.mt_model.specs.Outside.{Counts}
-use Rattle.mt_model.specs.Reply.{create_turn, rows_of_insert, insert_turn, columns_of_select}
+use Rattle.mt_model.specs.Outside.{Outside}
+use Rattle.mt_model.specs.Reply.{columns_of_select}
 use Rattle.mt_model.specs.Answer.{Answer}
-use Rattle.mt_model.specs.Session.{AddsNothing, Adds, CreateTaken, InsertTaken, Selects, RefusedAs, CreateRefused, InsertRefused, SelectRefused, Takes, SessionRun}
+use Rattle.mt_model.specs.Session.{AddsNothing, Adds, TurnAllows, Accepts, AcceptsAll, StopsAfter, Selects, RefusedAs, RefusedInTurn, CommandRefused, SelectRefused, TakesCommands, Takes, SessionRun}
 
 -- what stands below a place stays there
 same_part : (h more : History) (from to : ℕ) → from ≤ to → to ≤ length h → take (to - from) (drop from (h ++ more)) ≡ take (to - from) (drop from h)
@@ -46,35 +45,39 @@ adds_more h more s c from to a = record {
   there = get_more h more (to - 1) _ a.there;
 }
 
-pub create_taken_more : (h more : History) (s : ℕ) (c : CreateText) (from to : ℕ) → CreateTaken h s c from to → CreateTaken (h ++ more) s c from to
-create_taken_more h more s c from to t = record {
-  schema = t.schema;
-  written = t.written;
-  turn = subst (λ (x : History). create_turn c.table x ≡ None) (same_front h more (to - 1) t.adds.before.there) t.turn;
-  adds = adds_more h more s _ from to t.adds;
+pub accepts_more : (h more : History) (s : ℕ) (cs : List Command) (from to : ℕ) → Accepts h s cs from to → Accepts (h ++ more) s cs from to
+accepts_more h more s [] from to a = a
+accepts_more h more s (c ∷ cs) from to a =
+    (a.0, subst (λ (x : History). TurnAllows x c) (same_front h more (a.0 - 1) a.2.before.there) a.1, adds_more h more s c from a.0 a.2, accepts_more h more s cs a.0 to a.3)
+
+gives_more : (h more : History) (st : Statement) (n : ℕ) (r : Result (List Command) Refusal) → n ≤ length h → commands_of (take n h) st ≡ r → commands_of (take n (h ++ more)) st ≡ r
+gives_more h more st n r le is = subst (λ (x : History). commands_of x st ≡ r) (same_front h more n le) is
+
+pub all_more : (h more : History) (s : ℕ) (st : Statement) (from to : ℕ) → AcceptsAll h s st from to → AcceptsAll (h ++ more) s st from to
+all_more h more s st from to a = record {
+  seen = a.seen;
+  commands = a.commands;
+  nothing = nothing_more h more s from a.seen a.nothing;
+  gives = gives_more h more st a.seen (Ok a.commands) a.nothing.there a.gives;
+  accepted = accepts_more h more s a.commands a.seen to a.accepted;
 }
 
-pub insert_taken_more : (h more : History) (s : ℕ) (i : InsertText) (from to : ℕ) → InsertTaken h s i from to → InsertTaken (h ++ more) s i from to
-insert_taken_more h more s i from to t = record {
-  row = t.row;
-  rows = t.rows;
-  command = t.command;
-  read = subst (λ (x : History). rows_of_insert i x ≡ Ok (t.row ∷ t.rows)) (same_front h more (to - 1) t.adds.before.there) t.read;
-  parts = t.parts;
-  merged = subst (λ (x : History). t.parts ≤ inserts i.table x) (same_front h more (to - 1) t.adds.before.there) t.merged;
-  turn = subst (λ (x : History). insert_turn t.parts i.table x ≡ None) (same_front h more (to - 1) t.adds.before.there) t.turn;
-  is = t.is;
-  adds = adds_more h more s _ from to t.adds;
+pub stops_more : (h more : History) (s : ℕ) (st : Statement) (from to : ℕ) (done rest : List Command) → StopsAfter h s st from to done rest → StopsAfter (h ++ more) s st from to done rest
+stops_more h more s st from to done rest a = record {
+  seen = a.seen;
+  place = a.place;
+  nothing = nothing_more h more s from a.seen a.nothing;
+  gives = gives_more h more st a.seen (Ok (done ++ rest)) a.nothing.there a.gives;
+  accepted = accepts_more h more s done a.seen a.place a.accepted;
+  no_more = nothing_more h more s a.place to a.no_more;
 }
 
 pub selects_more : (h more : History) (t : SelectText) (to : ℕ) (reply : List ℕ) → to ≤ length h → Selects h t to reply → Selects (h ++ more) t to reply
 selects_more h more t to reply le r = record {
   schema = r.schema;
-  columns = r.columns;
   lines = r.lines;
   there = subst (λ (x : History). schema_of t.table x ≡ Some r.schema) (same_front h more to le) r.there;
-  selected = r.selected;
-  answer = subst (λ (x : History). Answer x t.table r.schema r.columns r.lines) (same_front h more to le) r.answer;
+  answer = subst (λ (x : History). Answer x r.schema t r.lines) (same_front h more to le) r.answer;
   reply_is = r.reply_is;
 }
 
@@ -83,33 +86,18 @@ selects_more h more t to reply le r = record {
 refused_more : (h more : History) (s from to : ℕ) (why : Refusal) (reply : List ℕ) → RefusedAs h s from to why reply → RefusedAs (h ++ more) s from to why reply
 refused_more h more s from to why reply r = record { line = r.line; nothing = nothing_more h more s from to r.nothing }
 
-create_refused_more : (n : Counts) (h more : History) (s : ℕ) (c : CreateText) (from to : ℕ) (reply : List ℕ) → CreateRefused n h s c from to reply → CreateRefused n (h ++ more) s c from to reply
-create_refused_more n h more s c from to reply (inl (why, is, r)) = inl (why, is, refused_more h more s from to why reply r)
-create_refused_more n h more s c from to reply (inr (inl (schema, is, a, failed))) = inr (inl (schema, is, nothing_more h more s from to a, failed))
-create_refused_more n h more s c from to reply (inr (inr (inl (schema, why, is, turn, r)))) =
-    inr (inr (inl (schema, why, is, subst (λ (x : History). create_turn c.table x ≡ Some why) (same_front h more to r.nothing.there) turn, refused_more h more s from to why reply r)))
-create_refused_more n h more s c from to reply (inr (inr (inr (schema, is, turn, a, failed)))) =
-    inr (inr (inr (schema, is, subst (λ (x : History). create_turn c.table x ≡ None) (same_front h more to a.there) turn, nothing_more h more s from to a, failed)))
+in_turn_more : (n : Outside) (h more : History) (to accepted : ℕ) (next : Command) (reply : List ℕ) → to ≤ length h → RefusedInTurn n (take to h) accepted next reply → RefusedInTurn n (take to (h ++ more)) accepted next reply
+in_turn_more n h more to accepted next reply le r = subst (λ (x : History). RefusedInTurn n x accepted next reply) (same_front h more to le) r
 
-insert_refused_more : (n : Counts) (h more : History) (s : ℕ) (i : InsertText) (from to : ℕ) (reply : List ℕ) → InsertRefused n h s i from to reply → InsertRefused n (h ++ more) s i from to reply
-insert_refused_more n h more s i from to reply (inl (why, is, r)) =
-    inl (why, subst (λ (x : History). rows_of_insert i x ≡ Err why) (same_front h more to r.nothing.there) is, refused_more h more s from to why reply r)
-insert_refused_more n h more s i from to reply (inr (inl (row, rows, is, a, failed))) =
-    inr (inl (row, rows, subst (λ (x : History). rows_of_insert i x ≡ Ok (row ∷ rows)) (same_front h more to a.there) is, nothing_more h more s from to a, failed))
-insert_refused_more n h more s i from to reply (inr (inr (inl (row, rows, why, is, parts, merged, turn, r)))) =
-    let front = same_front h more to r.nothing.there in
-    let read = subst (λ (x : History). rows_of_insert i x ≡ Ok (row ∷ rows)) front is in
-    let few = subst (λ (x : History). parts ≤ inserts i.table x) front merged in
-    let full = subst (λ (x : History). insert_turn parts i.table x ≡ Some why) front turn in
-    inr (inr (inl (row, rows, why, read, parts, few, full, refused_more h more s from to why reply r)))
-insert_refused_more n h more s i from to reply (inr (inr (inr (row, rows, is, parts, merged, turn, a, failed)))) =
-    let front = same_front h more to a.there in
-    let read = subst (λ (x : History). rows_of_insert i x ≡ Ok (row ∷ rows)) front is in
-    let few = subst (λ (x : History). parts ≤ inserts i.table x) front merged in
-    let room = subst (λ (x : History). insert_turn parts i.table x ≡ None) front turn in
-    inr (inr (inr (row, rows, read, parts, few, room, nothing_more h more s from to a, failed)))
+command_refused_more : (n : Outside) (h more : History) (s : ℕ) (st : Statement) (from to : ℕ) (reply : List ℕ) → CommandRefused n h s st from to reply → CommandRefused n (h ++ more) s st from to reply
+command_refused_more n h more s st from to reply (inl (why, is, r)) =
+    inl (why, gives_more h more st to (Err why) r.nothing.there is, refused_more h more s from to why reply r)
+command_refused_more n h more s st from to reply (inr (inl (commands, is, some, a, failed))) =
+    inr (inl (commands, gives_more h more st to (Ok commands) a.there is, some, nothing_more h more s from to a, failed))
+command_refused_more n h more s st from to reply (inr (inr (done, next, rest, stops, r))) =
+    inr (inr (done, next, rest, stops_more h more s st from to done (next ∷ rest) stops, in_turn_more n h more to (length done) next reply stops.no_more.there r))
 
-select_refused_more : (n : Counts) (h more : History) (s : ℕ) (t : SelectText) (from to : ℕ) (reply : List ℕ) → SelectRefused n h s t from to reply → SelectRefused n (h ++ more) s t from to reply
+select_refused_more : (n : Outside) (h more : History) (s : ℕ) (t : SelectText) (from to : ℕ) (reply : List ℕ) → SelectRefused n h s t from to reply → SelectRefused n (h ++ more) s t from to reply
 select_refused_more n h more s t from to reply (inl (why, is, r)) =
     inl (why, subst (λ (x : History). columns_of_select t x ≡ Err why) (same_front h more to r.nothing.there) is, refused_more h more s from to why reply r)
 select_refused_more n h more s t from to reply (inr (columns, is, a, failed)) =
@@ -117,25 +105,25 @@ select_refused_more n h more s t from to reply (inr (columns, is, a, failed)) =
 
 -- ---- runs
 
-pub takes_more : (n : Counts) (h more : History) (s : ℕ) (st : Result Statement Cause) (from to : ℕ) (reply : List ℕ) → Takes n h s st from to reply → Takes n (h ++ more) s st from to reply
-takes_more n h more s (Ok (statement.Create c)) from to reply (inl (is, a)) = inl (is, create_taken_more h more s c from to a)
-takes_more n h more s (Ok (statement.Create c)) from to reply (inr r) = inr (create_refused_more n h more s c from to reply r)
-takes_more n h more s (Ok (statement.Insert i)) from to reply (inl (is, a)) = inl (is, insert_taken_more h more s i from to a)
-takes_more n h more s (Ok (statement.Insert i)) from to reply (inr (inl (is, a, none))) =
-    inr (inl (is, nothing_more h more s from to a, subst (λ (x : History). rows_of_insert i x ≡ Ok []) (same_front h more to a.there) none))
-takes_more n h more s (Ok (statement.Insert i)) from to reply (inr (inr r)) = inr (inr (insert_refused_more n h more s i from to reply r))
+commands_more : (n : Outside) (h more : History) (s : ℕ) (st : Statement) (from to : ℕ) (reply : List ℕ) → TakesCommands n h s st from to reply → TakesCommands n (h ++ more) s st from to reply
+commands_more n h more s st from to reply (inl (is, a)) = inl (is, all_more h more s st from to a)
+commands_more n h more s st from to reply (inr r) = inr (command_refused_more n h more s st from to reply r)
+
+pub takes_more : (n : Outside) (h more : History) (s : ℕ) (st : Result Statement Cause) (from to : ℕ) (reply : List ℕ) → Takes n h s st from to reply → Takes n (h ++ more) s st from to reply
+takes_more n h more s (Ok (statement.Create c)) from to reply t = commands_more n h more s (statement.Create c) from to reply t
+takes_more n h more s (Ok (statement.Insert i)) from to reply t = commands_more n h more s (statement.Insert i) from to reply t
 takes_more n h more s (Ok (statement.Select t)) from to reply (inl (is, a)) = inl (selects_more h more t to reply a.there is, nothing_more h more s from to a)
 takes_more n h more s (Ok (statement.Select t)) from to reply (inr r) = inr (select_refused_more n h more s t from to reply r)
 takes_more n h more s (Err why) from to reply r = refused_more h more s from to _ reply r
 
 -- a run stays one as the history grows
-pub run_more : (n : Counts) (h more : History) (s : ℕ) (ss : List (Result Statement Cause)) (from to : ℕ) (out : List ℕ) → SessionRun n h s ss from to out → SessionRun n (h ++ more) s ss from to out
+pub run_more : (n : Outside) (h more : History) (s : ℕ) (ss : List (Result Statement Cause)) (from to : ℕ) (out : List ℕ) → SessionRun n h s ss from to out → SessionRun n (h ++ more) s ss from to out
 run_more n h more s [] from to out r = r
 run_more n h more s (st ∷ ss) from to out r =
     (r.0, r.1, r.2, takes_more n h more s st from r.0 r.1 r.3, run_more n h more s ss r.0 to r.2 r.4, r.5)
 
 -- one statement more at the end of a run
-pub run_append : (n : Counts) (h : History) (s : ℕ) (ss : List (Result Statement Cause)) (st : Result Statement Cause) (from mid to : ℕ) (out reply : List ℕ) → SessionRun n h s ss from mid out → Takes n h s st mid to reply → SessionRun n h s (ss ++ st ∷ []) from to (out ++ reply)
+pub run_append : (n : Outside) (h : History) (s : ℕ) (ss : List (Result Statement Cause)) (st : Result Statement Cause) (from mid to : ℕ) (out reply : List ℕ) → SessionRun n h s ss from mid out → Takes n h s st mid to reply → SessionRun n h s (ss ++ st ∷ []) from to (out ++ reply)
 run_append n h s [] st from mid to out reply r t =
     (to, reply, [], subst (λ (p : ℕ). Takes n h s st p to reply) (sym r.0) t, (refl, refl), ap (λ zs. zs ++ reply) r.1 ∙ sym (append-nil reply))
 run_append n h s (x ∷ ss) st from mid to out reply r t =

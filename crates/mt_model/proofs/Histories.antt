@@ -1,13 +1,19 @@
--- Fronts of legal histories, and the live rows behind one more entry.
-use Rattle.std.proofs.Common.{◌≡◌, ℕ, List, [], ◌∷◌, ◌++◌, Bool, true, false, cond, refl, sym, ap, ◌∙◌, subst, append_assoc, append-nil}
+-- Fronts of legal histories, and what more entries keep: schemas, numbers, counts and live rows.
+use Rattle.std.proofs.Common.{◌≡◌, ℕ, ◌+◌, ◌-◌, ◌≤◌, ◌<◌, List, [], ◌∷◌, ◌++◌, Bool, true, false, cond, Option, Some, None, filter, length, map, take, drop, refl, sym, ap, ◌∙◌, subst, append_assoc, append-nil, length-append, arith}
+use Rattle.std.proofs.Math.Seq.{take-add}
+use Rattle.std.proofs.lemmas.List.{map-append, take-append-drop}
+use Rattle.std.proofs.lemmas.List.Elements.{filter-append}
+use Rattle.mt_base.specs.declared.partition.Partition.{Partition}
 use Rattle.mt_values.specs.declared.command.Entry.{Entry}
 use Rattle.mt_values.specs.declared.command.Command.{Command}
 use Rattle.mt_values.specs.declared.command.Command.TheVariants as command
 use Rattle.mt_values.specs.Values.{Row}
 use Rattle.mt_values.specs.Grammar.{same_bytes}
-use Rattle.mt_values.specs.Order.{key_cmp}
-use Rattle.mt_model.specs.History.{History, IsLegal, IsLegalAfter, IsAllowed}
+use Rattle.mt_values.specs.declared.schema.Schema.{Schema}
+use Rattle.mt_values.specs.Tables.{sorting_cmp}
+use Rattle.mt_model.specs.History.{History, ArePlain, FewInserts, IsLegal, IsLegalAfter, IsAllowed, first_of, inserts, inserts_into, schema_by, schema_of}
 use Rattle.mt_model.specs.Live.{live, live_from, rows_after, sorted}
+use Rattle.mt_model.specs.Numbers.{draws, last_number, numbered}
 
 legal_front_after : (before h more : History) → IsLegalAfter before (h ++ more) → IsLegalAfter before h
 legal_front_after before [] more legal = tt
@@ -26,36 +32,77 @@ legal_push_after before (x ∷ h) e legal allowed =
 pub legal_push : (h : History) (e : Entry) → IsLegal h → IsAllowed h e.command → IsLegal (h ++ e ∷ [])
 legal_push h e legal allowed = legal_push_after [] h e legal allowed
 
-pub live_from-append : (table key : List ℕ) (rows : List Row) (h more : History) → live_from table key rows (h ++ more) ≡ live_from table key (live_from table key rows h) more
-live_from-append table key rows [] more = refl
-live_from-append table key rows (e ∷ h) more = live_from-append table key (rows_after table key rows e.command) h more
+-- ---- what more entries keep
 
--- the live rows behind one more entry
-pub live_push : (table key : List ℕ) (h : History) (e : Entry) → live table key (h ++ e ∷ []) ≡ rows_after table key (live table key h) e.command
-live_push table key h e = live_from-append table key [] h (e ∷ [])
+first_of_assoc : {X : Type 0} (a b c : Option X) → first_of a (first_of b c) ≡ first_of (first_of a b) c
+first_of_assoc None b c = refl
+first_of_assoc (Some x) b c = refl
+
+pub schema_more : (t : List ℕ) (h more : History) → schema_of t (h ++ more) ≡ first_of (schema_of t h) (schema_of t more)
+schema_more t [] more = refl
+schema_more t (e ∷ h) more = ap (first_of (schema_by t e.command)) (schema_more t h more) ∙ first_of_assoc (schema_by t e.command) (schema_of t h) (schema_of t more)
+
+-- a table keeps its schema
+pub schema_kept : (t : List ℕ) (h more : History) (schema : Schema) → schema_of t h ≡ Some schema → schema_of t (h ++ more) ≡ Some schema
+schema_kept t h more schema is = schema_more t h more ∙ ap (λ o. first_of o (schema_of t more)) is
+
+pub numbered_more : (t : List ℕ) (h more : History) → numbered t (h ++ more) ≡ numbered t h ++ numbered t more
+numbered_more t h more = ap (filter (draws t)) (map-append (λ (e : Entry). e.command) h more) ∙ filter-append (draws t) (map (λ (e : Entry). e.command) h) (map (λ (e : Entry). e.command) more)
+
+-- no number is taken back
+pub last_more : (t : List ℕ) (h more : History) → last_number t h ≤ last_number t (h ++ more)
+last_more t h more = omega (arith, ap length (numbered_more t h more) ∙ length-append (numbered t h) (numbered t more))
+
+-- more entries take no INSERT away
+pub inserts_more : (t : List ℕ) (p : Partition) (h more : History) → inserts t p h ≤ inserts t p (h ++ more)
+inserts_more t p h more =
+    let f : Entry → Bool = λ e. inserts_into t p e.command in
+    omega (arith, ap length (filter-append f h more) ∙ length-append (filter f h) (filter f more))
+
+pub few_front : (h more : History) → FewInserts (h ++ more) → FewInserts h
+few_front h more few = λ table partition. omega (arith, few table partition, inserts_more table partition h more)
+
+pub plain_front : (h more : History) → ArePlain (h ++ more) → ArePlain h
+plain_front h more plain = λ table schema is. plain table schema (schema_kept table h more schema is)
+
+-- the entries up to a later place begin with those up to an earlier one
+pub take_later : {X : Type 0} (from to : ℕ) (xs : List X) → from ≤ to → take to xs ≡ take from xs ++ take (to - from) (drop from xs)
+take_later from to xs later =
+    let sum : to ≡ from + (to - from) = omega arith in
+    ap (λ (n : ℕ). take n xs) sum ∙ take-add from (to - from) xs
+
+-- ---- live rows
+
+pub live_from-append : (table : List ℕ) (schema : Schema) (rows : List Row) (h more : History) → live_from table schema rows (h ++ more) ≡ live_from table schema (live_from table schema rows h) more
+live_from-append table schema rows [] more = refl
+live_from-append table schema rows (e ∷ h) more = live_from-append table schema (rows_after table schema rows e.command) h more
+
+-- the live rows after one more entry
+pub live_push : (table : List ℕ) (schema : Schema) (h : History) (e : Entry) → live table schema (h ++ e ∷ []) ≡ rows_after table schema (live table schema h) e.command
+live_push table schema h e = live_from-append table schema [] h (e ∷ [])
 
 -- what a command adds to rows
-added : List ℕ → List ℕ → Command → List Row
-added table key (command.Create c) = []
-added table key (command.Insert i) = cond (same_bytes i.table table) (sorted (key_cmp key) i.block.rows) []
+added : List ℕ → Schema → Command → List Row
+added table schema (command.Create c) = []
+added table schema (command.Insert i) = cond (same_bytes i.table table) (sorted (sorting_cmp schema) i.block.rows) []
 
-adds_rows : (table key : List ℕ) (rows : List Row) (c : Command) → rows_after table key rows c ≡ rows ++ added table key c
+adds_rows : (table : List ℕ) (schema : Schema) (rows : List Row) (c : Command) → rows_after table schema rows c ≡ rows ++ added table schema c
 unfolding added
-adds_rows table key rows (command.Create c) = sym (append-nil rows)
-adds_rows table key rows (command.Insert i) = by (same_bytes i.table table)
+adds_rows table schema rows (command.Create c) = sym (append-nil rows)
+adds_rows table schema rows (command.Insert i) = by (same_bytes i.table table)
   where
-    by : (b : Bool) → cond b (rows ++ sorted (key_cmp key) i.block.rows) rows ≡ rows ++ cond b (sorted (key_cmp key) i.block.rows) []
+    by : (b : Bool) → cond b (rows ++ sorted (sorting_cmp schema) i.block.rows) rows ≡ rows ++ cond b (sorted (sorting_cmp schema) i.block.rows) []
     by true = refl
     by false = sym (append-nil rows)
 
-grows_from : (table key : List ℕ) (rows : List Row) (h : History) → (rest : List Row) × (live_from table key rows h ≡ rows ++ rest)
-grows_from table key rows [] = ([], sym (append-nil rows))
-grows_from table key rows (e ∷ h) =
-    let more = grows_from table key (rows_after table key rows e.command) h in
-    (added table key e.command ++ more.0, more.1 ∙ ap (λ (zs : List Row). zs ++ more.0) (adds_rows table key rows e.command) ∙ append_assoc rows (added table key e.command) more.0)
+grows_from : (table : List ℕ) (schema : Schema) (rows : List Row) (h : History) → (rest : List Row) × (live_from table schema rows h ≡ rows ++ rest)
+grows_from table schema rows [] = ([], sym (append-nil rows))
+grows_from table schema rows (e ∷ h) =
+    let more = grows_from table schema (rows_after table schema rows e.command) h in
+    (added table schema e.command ++ more.0, more.1 ∙ ap (λ (zs : List Row). zs ++ more.0) (adds_rows table schema rows e.command) ∙ append_assoc rows (added table schema e.command) more.0)
 
 -- a longer history keeps the live rows and adds to them
-pub live_grows : (table key : List ℕ) (h more : History) → (rest : List Row) × (live table key (h ++ more) ≡ live table key h ++ rest)
-live_grows table key h more =
-    let found = grows_from table key (live table key h) more in
-    (found.0, live_from-append table key [] h more ∙ found.1)
+pub live_grows : (table : List ℕ) (schema : Schema) (h more : History) → (rest : List Row) × (live table schema (h ++ more) ≡ live table schema h ++ rest)
+live_grows table schema h more =
+    let found = grows_from table schema (live table schema h) more in
+    (found.0, live_from-append table schema [] h more ∙ found.1)

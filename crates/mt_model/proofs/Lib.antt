@@ -1,6 +1,7 @@
 pub mod Again
-pub mod Bare
 pub mod Causes
+pub mod Commands
+pub mod Counting
 pub mod Determined
 pub mod Giving
 pub mod Growing

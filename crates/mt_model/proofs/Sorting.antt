@@ -1,5 +1,5 @@
 -- Lists in the order of a total comparison, and the sort that definitions name.
-use Rattle.std.proofs.Common.{◌≡◌, ◌+◌, ◌<◌, Bool, true, false, cond, List, [], ◌∷◌, length, refl, sym, ap, ◌∙◌, arith, zero, suc}
+use Rattle.std.proofs.Common.{◌≡◌, ◌+◌, ◌<◌, ◌&&◌, Bool, true, false, cond, List, [], ◌∷◌, length, refl, sym, ap, ◌∙◌, arith, zero, suc}
 use Rattle.std.specs.Cmp.{IsTotalOrder}
 use Rattle.std.specs.List.{filter}
 use Rattle.std.specs.List.Sorted.{IsPermutation, IsSorted}
@@ -77,6 +77,18 @@ module _ {X : Type 0} (cmp : X → X → Ordering) (o : IsTotalOrder cmp) where
   unfolding Above
   above_front x y ys g = not_above x y ∙ g
 
+-- one test after another passes what both of them pass
+filter_both : {X : Type 0} (f g : X → Bool) (xs : List X) → filter (λ x. f x && g x) xs ≡ filter f (filter g xs)
+filter_both f g [] = refl
+filter_both {X} f g (x ∷ xs) = by (f x) (g x) refl (filter_both f g xs)
+  where
+    by : (b c : Bool) → f x ≡ b → filter (λ x. f x && g x) xs ≡ filter f (filter g xs)
+        → cond (b && c) (x ∷ filter (λ x. f x && g x) xs) (filter (λ x. f x && g x) xs) ≡ filter f (cond c (x ∷ filter g xs) (filter g xs))
+    by true true e rest = ap (λ zs. x ∷ zs) rest ∙ sym (ap (λ b. cond b (x ∷ filter f (filter g xs)) (filter f (filter g xs))) e)
+    by false true e rest = rest ∙ sym (ap (λ b. cond b (x ∷ filter f (filter g xs)) (filter f (filter g xs))) e)
+    by true false e rest = rest
+    by false false e rest = rest
+
 nothing_above : {X : Type 0} (cmp : X → X → Ordering) (x : X) → Above cmp x []
 unfolding Above
 nothing_above cmp x = tt
@@ -121,6 +133,11 @@ module _ (cmp : Row → Row → Ordering) (o : IsTotalOrder cmp) where
   pub sorted_keeps : (a : Row) (xs : List Row) → filter (λ r. is_eq (cmp a r)) (sorted cmp xs) ≡ filter (λ r. is_eq (cmp a r)) xs
   sorted_keeps a [] = refl
   sorted_keeps a (x ∷ xs) = placed_keeps a x (sorted cmp xs) ∙ ap (λ zs. cond (is_eq (cmp a x)) (x ∷ zs) zs) (sorted_keeps a xs)
+
+  -- and of each key those that another test passes
+  pub sorted_keeps_where : (f : Row → Bool) (a : Row) (xs : List Row) → filter (λ r. f r && is_eq (cmp a r)) (sorted cmp xs) ≡ filter (λ r. f r && is_eq (cmp a r)) xs
+  sorted_keeps_where f a xs =
+      filter_both f (λ r. is_eq (cmp a r)) (sorted cmp xs) ∙ (ap (filter f) (sorted_keeps a xs) ∙ sym (filter_both f (λ r. is_eq (cmp a r)) xs))
 
   pub sorted_permutes : (xs : List Row) → IsPermutation xs (sorted cmp xs)
   sorted_permutes [] = IsPermutation-refl []

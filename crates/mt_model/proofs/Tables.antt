@@ -1,24 +1,28 @@
 -- Which commands may come next: the schema that a CREATE writes is one that a table may have, and the rows of an INSERT are its table's.
-use Rattle.std.proofs.Common.{◌≡◌, ℕ, ◌+◌, ◌<◌, ◌≤◌, Bool, true, false, cond, ◌||◌, List, [], ◌∷◌, ◌++◌, Option, Some, None, Result, Ok, Err, length, get_or, All, refl, sym, ap, ◌∙◌, subst, arith, suc, nat_le, nat_lt, nat_eq, is_some}
+use Rattle.std.proofs.Common.{◌≡◌, ℕ, ◌+◌, ◌<◌, ◌≤◌, Bool, true, false, cond, ◌||◌, List, [], ◌∷◌, ◌++◌, Option, Some, None, Result, Ok, Err, filter, length, get_or, All, refl, sym, ap, ◌∙◌, subst, arith, suc, nat_le, nat_lt, nat_eq, is_some}
 use Rattle.std.proofs.lemmas.Bool.{leb-true}
-use Rattle.std.proofs.lemmas.List.Elements.{All-nil, All-cons}
+use Rattle.std.proofs.lemmas.List.Elements.{All-nil, All-cons, All-filter, All-weaker, filter_passes}
 use Rattle.std.proofs.lemmas.List.Quantifiers.{position-Some}
 use Rattle.std.specs.List.{list_any}
 use Rattle.std.specs.Cmp.Lexicographic.{pointwise_decides}
 use Rattle.std.proofs.lemmas.Bool.Decides.{Decides-eqb}
 use Rattle.mt_values.specs.declared.command.Command.TheVariants as command
+use Rattle.mt_base.specs.declared.partition.Partition.{Partition}
 use Rattle.mt_base.specs.declared.partition.Partition.TheVariants.{Whole}
 use Rattle.mt_values.specs.declared.schema.Column.{Column}
 use Rattle.mt_values.specs.declared.schema.Schema.{Schema}
 use Rattle.mt_values.specs.declared.statement.CreateText.{CreateText}
-use Rattle.mt_values.specs.Values.{AreValues}
+use Rattle.mt_values.specs.Values.{AreValues, IsValue, Row, types_of}
+use Rattle.mt_values.specs.Tables.{partition_of, same_partition}
 use Rattle.mt_values.specs.Grammar.{same_bytes}
 use Rattle.mt_values.specs.Grid.{Grid, AreRowsOf}
 use Rattle.mt_values.specs.Schemas as schemas
 use Rattle.mt_model.specs.declared.refusal.Bound.TheVariants as bound
 use Rattle.mt_model.specs.declared.refusal.Refusal.{Refusal}
 use Rattle.mt_model.specs.declared.refusal.Refusal.TheVariants as refusal
+use Rattle.mt_model.specs.Commands.{insert_command, rows_in}
 use Rattle.mt_model.specs.History.{History, schema_of, creates, column_types, IsAllowed, IsTableSchema}
+use Rattle.mt_model.proofs.Commands.{partition_is}
 use Rattle.mt_model.specs.Reply.{place_of, found_or, place_onto, places_of, double_column_at, double_key_at, first_refusal, double_name, too_many_columns, unless_refused, schema_with_key, schema_of_text, create_turn}
 
 -- ---- the key
@@ -204,4 +208,20 @@ create_allowed c h schema is turn some =
 
 -- an INSERT with rows into a table of this schema is allowed
 pub insert_allowed : (h : History) (table : List ℕ) (schema : Schema) (block : Grid) → schema_of table h ≡ Some schema → 0 < length block.rows → block.types ≡ column_types schema → AreRowsOf (column_types schema) block.rows → AreValues block.rows → IsAllowed h (command.Insert (record { table = table; partition = Whole; block = block }))
-insert_allowed h table schema block there some types typed values = (schema, there, record { some = some; types = types; rows = typed; values = values; partition = refl })
+insert_allowed h table schema block there some types typed values = (schema, there, record { some = some; types = types; rows = typed; values = values; own = λ k d below. refl })
+
+-- so is the command that adds those of some rows that are of a partition, where there are any
+pub command_allowed : (h : History) (table : List ℕ) (schema : Schema) (rows : List Row) (partition : Partition) → schema_of table h ≡ Some schema → 0 < length (rows_in schema partition rows) → AreRowsOf (column_types schema) rows → AreValues rows
+    → IsAllowed h (insert_command schema table rows partition)
+command_allowed h table schema rows partition there some typed values =
+    let own : Row → Bool = λ (row : Row). same_partition (partition_of schema row) partition in (
+      schema,
+      there,
+      record {
+        some = some;
+        types = refl;
+        rows = All-filter own (λ (row : Row). types_of row ≡ column_types schema) rows typed;
+        values = All-filter own (λ (row : Row). All IsValue row) rows values;
+        own = All-weaker (λ (row : Row). own row ≡ true) (λ (row : Row). partition_of schema row ≡ partition) (λ row is. partition_is (partition_of schema row) partition is) (filter own rows) (filter_passes own rows);
+      },
+    )

@@ -1,17 +1,18 @@
 -- The list of accepted commands, and what makes it legal (docs/definitions.md, "Histories").
-use Rattle.std.specs.Prelude.{◌≡◌, ℕ, ◌<◌, ◌≤◌, Bool, true, false, List, [], ◌∷◌, ◌++◌, length, All, Option, Some, None, ◌==◌, if◌then◌else◌, map, filter}
+use Rattle.std.specs.Prelude.{◌≡◌, ℕ, ◌<◌, ◌≤◌, Bool, true, false, List, [], ◌∷◌, ◌++◌, length, All, Option, Some, None, ◌&&◌, ◌==◌, if◌then◌else◌, map, filter}
 use Rattle.mt_values.specs.declared.command.Entry.{Entry}
 use Rattle.mt_values.specs.declared.command.Command.{Command}
 use Rattle.mt_values.specs.declared.command.Command.TheVariants as command
 use Rattle.mt_values.specs.declared.command.Insert.{Insert}
-use Rattle.mt_base.specs.declared.partition.Partition.TheVariants.{Whole}
+use Rattle.mt_base.specs.declared.partition.Partition.{Partition}
 use Rattle.mt_values.specs.declared.schema.Schema.{Schema}
 use Rattle.mt_values.specs.declared.schema.Column.{Column}
 use Rattle.mt_values.specs.declared.value.ColType.{ColType}
 use Rattle.mt_values.specs.Grammar.{same_bytes}
 use Rattle.mt_values.specs.Schemas.{schema_fault}
 use Rattle.mt_values.specs.Grid.{AreRowsOf}
-use Rattle.mt_values.specs.Values.{AreValues}
+use Rattle.mt_values.specs.Tables.{IsPlain, partition_of, same_partition}
+use Rattle.mt_values.specs.Values.{Row, AreValues}
 
 -- the accepted commands of all tables, each with its session, in the order in which they were accepted
 abbrev pub History : Type 0
@@ -35,21 +36,26 @@ abbrev pub is_create : Command → Bool
 is_create (command.Create c) = true
 is_create (command.Insert i) = false
 
-abbrev pub inserts_into : List ℕ → Command → Bool
-inserts_into table (command.Create c) = false
-inserts_into table (command.Insert i) = same_bytes i.table table
+-- whether a command is an INSERT into a partition of the table (docs/definitions.md, "Histories")
+abbrev pub inserts_into : List ℕ → Partition → Command → Bool
+inserts_into table partition (command.Create c) = false
+inserts_into table partition (command.Insert i) = same_bytes i.table table && same_partition i.partition partition
 
 -- how many tables were made
 abbrev pub creates : History → ℕ
 creates h = length (filter (λ (e : Entry). is_create e.command) h)
 
--- how many INSERTs with rows into a table were accepted: one without rows has no entry
-abbrev pub inserts : List ℕ → History → ℕ
-inserts table h = length (filter (λ (e : Entry). inserts_into table e.command) h)
+-- how many INSERTs into a partition of a table were accepted: one without rows has no entry (docs/definitions.md, "Histories")
+abbrev pub inserts : List ℕ → Partition → History → ℕ
+inserts table partition h = length (filter (λ (e : Entry). inserts_into table partition e.command) h)
 
--- Each table has fewer than 3000 INSERTs, so it never has 3000 parts, whatever was merged: merges leave at most one part an INSERT.
+-- Each partition of a table has fewer than 3000 INSERTs, so it never has 3000 parts: merges leave at most one part an INSERT (docs/definitions.md, "Histories").
 abbrev pub FewInserts : History → Type 0
-FewInserts h = (table : List ℕ) → inserts table h < 3000
+FewInserts h = (table : List ℕ) (partition : Partition) → inserts table partition h < 3000
+
+-- the history with these commands of a session as its last entries (docs/definitions.md, "Histories")
+abbrev pub entered : History → ℕ → List Command → History
+entered h session commands = h ++ map (λ (c : Command). record { session = session; command = c }) commands
 
 -- the types of a table's columns, in order
 abbrev pub column_types : Schema → List ColType
@@ -62,13 +68,13 @@ pub record IsTableSchema (schema : Schema) : Type 0 where
   pub own : All (λ place. place < length schema.columns) schema.key
   pub few : length schema.columns ≤ 64
 
--- rows of one partition of a table: at least one, each with a value of each column's type and within its range
+-- rows of one partition of a table: at least one, each with a value of each column's type and within its range (docs/definitions.md, "Histories")
 pub record IsInsertInto (schema : Schema) (i : Insert) : Type 0 where
   pub some : 0 < length i.block.rows
   pub types : i.block.types ≡ column_types schema
   pub rows : AreRowsOf (column_types schema) i.block.rows
   pub values : AreValues i.block.rows
-  pub partition : i.partition ≡ Whole
+  pub own : All (λ (row : Row). partition_of schema row ≡ i.partition) i.block.rows
 
 -- a command that may come after a history
 abbrev pub IsAllowed : History → Command → Type 0
@@ -82,6 +88,10 @@ IsLegalAfter before (e ∷ es) = IsAllowed before e.command × IsLegalAfter (bef
 
 abbrev pub IsLegal : History → Type 0
 IsLegal h = IsLegalAfter [] h
+
+-- every table is plain (docs/definitions.md, "Histories")
+abbrev pub ArePlain : History → Type 0
+ArePlain h = (table : List ℕ) (schema : Schema) → schema_of table h ≡ Some schema → IsPlain schema
 
 -- the commands of a session, in order
 abbrev pub own : ℕ → History → List Command

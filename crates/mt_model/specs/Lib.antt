@@ -1,12 +1,13 @@
 pub mod Answer
 pub mod Causes
+pub mod Commands
 pub mod History
 pub mod Live
+pub mod Numbers
 pub mod Outside
 pub mod Partial
 pub mod Refusals
 pub mod Reply
-pub mod Same
 pub mod Script
 pub mod Session
 pub mod Written

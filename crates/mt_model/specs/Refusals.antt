@@ -78,6 +78,13 @@ code (refusal.Unsettled accepted) = 16
 code (refusal.Stopped opened now accepted) = 17
 code (refusal.Damaged table part file) = 19
 
+-- how many of its statement's commands a refusal says were accepted (docs/definitions.md, "Replies and refusals")
+abbrev pub accepted_by : Refusal → ℕ
+accepted_by (refusal.Full which accepted) = accepted
+accepted_by (refusal.Unsettled accepted) = accepted
+accepted_by (refusal.Stopped opened now accepted) = accepted
+accepted_by r = 0
+
 -- the number of the refusal that a reply is; 0 for one that is none
 abbrev pub code_of : List ℕ → ℕ
 code_of [] = 0

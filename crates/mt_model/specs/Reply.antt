@@ -19,7 +19,7 @@ use Rattle.mt_model.specs.declared.refusal.Reason.TheVariants as reason
 use Rattle.mt_model.specs.declared.refusal.Refusal.{Refusal}
 use Rattle.mt_model.specs.declared.refusal.Refusal.TheVariants as refusal
 use Rattle.mt_model.specs.declared.refusal.Room.TheVariants as room
-use Rattle.mt_model.specs.History.{History, schema_of, creates, inserts, column_types}
+use Rattle.mt_model.specs.History.{History, schema_of, creates, column_types}
 use Rattle.mt_model.specs.Refusals.{refusal_of_data}
 
 -- after an accepted command, and after an INSERT without rows: the length of the history
@@ -107,11 +107,12 @@ rows_for i (Some schema) = rows_or_refused (inserted_rows (column_types schema) 
 abbrev pub rows_of_insert : InsertText → History → Result (List Row) Refusal
 rows_of_insert i h = rows_for i (schema_of i.table h)
 
--- at the turn of its command, where the table has so many parts: it has fewer than 3000, and a number is left for it
-abbrev pub insert_turn : ℕ → List ℕ → History → Option Refusal
-insert_turn parts table h =
-    if nat_le 3000 parts then Some (refusal.Full room.Parts 0)
-    else if nat_le 4294967295 (inserts table h) then Some (refusal.Full room.Numbers 0)
+-- At the turn of its next command, by the parts of the partition, the last number of the table, and how many of the statement's commands were
+-- accepted before: there are fewer than 3000 parts, and a number is left (docs/replies.md, "Refusals").
+abbrev pub insert_turn : ℕ → ℕ → ℕ → Option Refusal
+insert_turn parts drawn accepted =
+    if nat_le 3000 parts then Some (refusal.Full room.Parts accepted)
+    else if nat_le 4294967295 drawn then Some (refusal.Full room.Numbers accepted)
     else None
 
 -- ---- SELECT

@@ -5,7 +5,7 @@ use Rattle.mt_values.specs.declared.command.Entry.{Entry}
 use Rattle.mt_values.specs.declared.statement.Cause.{Cause}
 use Rattle.mt_values.specs.declared.statement.Statement.{Statement}
 use Rattle.mt_model.specs.History.{History}
-use Rattle.mt_model.specs.Outside.{Counts}
+use Rattle.mt_model.specs.Outside.{Outside}
 use Rattle.mt_model.specs.Session.{SessionRun, SessionReplies, AddsNothing, Unanswered}
 
 -- every entry past a place is session 0's: a script has no other session
@@ -13,21 +13,21 @@ abbrev pub OwnEntries : History → ℕ → Type 0
 OwnEntries h base = All (λ (e : Entry). e.session ≡ 0) (drop base h)
 
 -- The statements ran and printed out. The entries past base are theirs, each once.
-pub record ScriptRun (n : Counts) (script : List (Result Statement Cause)) (h : History) (base : ℕ) (out : List ℕ) : Type 0 where
+pub record ScriptRun (n : Outside) (script : List (Result Statement Cause)) (h : History) (base : ℕ) (out : List ℕ) : Type 0 where
   pub last : ℕ
   pub run : SessionRun n h 0 script base last out
   pub nothing_else : AddsNothing h 0 last (length h)
   pub sessions : OwnEntries h base
 
 -- The same, reply by reply.
-pub record ScriptReplies (n : Counts) (script : List (Result Statement Cause)) (h : History) (base : ℕ) (replies : List (List ℕ)) : Type 0 where
+pub record ScriptReplies (n : Outside) (script : List (Result Statement Cause)) (h : History) (base : ℕ) (replies : List (List ℕ)) : Type 0 where
   pub last : ℕ
   pub run : SessionReplies n h 0 script base last replies
   pub nothing_else : AddsNothing h 0 last (length h)
   pub sessions : OwnEntries h base
 
 -- The statements ran and printed out, and then one more statement ran that has no reply.
-pub record EndsUnanswered (n : Counts) (script : List (Result Statement Cause)) (last : Result Statement Cause) (h : History) (base : ℕ) (out : List ℕ) : Type 0 where
+pub record EndsUnanswered (n : Outside) (script : List (Result Statement Cause)) (last : Result Statement Cause) (h : History) (base : ℕ) (out : List ℕ) : Type 0 where
   pub place : ℕ
   pub stop : ℕ
   pub run : SessionRun n h 0 script base place out
@@ -40,17 +40,17 @@ abbrev pub IsFront : List ℕ → List ℕ → Type 0
 IsFront xs ys = (rest : List ℕ) × (xs ++ rest ≡ ys)
 
 -- The first statements ran, and all their replies were written.
-pub record FrontRun (n : Counts) (script : List (Result Statement Cause)) (h : History) (base : ℕ) (written : List ℕ) : Type 0 where
+pub record FrontRun (n : Outside) (script : List (Result Statement Cause)) (h : History) (base : ℕ) (written : List ℕ) : Type 0 where
   pub count : ℕ
   pub run : ScriptRun n (take count script) h base written
 
 -- The first statements ran, and all their replies were written; perhaps one more ran that has no reply.
-pub record CutRun (n : Counts) (script : List (Result Statement Cause)) (h : History) (base : ℕ) (written : List ℕ) : Type 0 where
+pub record CutRun (n : Outside) (script : List (Result Statement Cause)) (h : History) (base : ℕ) (written : List ℕ) : Type 0 where
   pub count : ℕ
   pub run : ScriptRun n (take count script) h base written ⊎ ((last : Result Statement Cause) × (slice_get script count ≡ Some last) × EndsUnanswered n (take count script) last h base written)
 
 -- The first statements ran and one more. Their replies were written, and a front of its reply.
-pub record CutInReply (n : Counts) (script : List (Result Statement Cause)) (h : History) (base : ℕ) (written : List ℕ) : Type 0 where
+pub record CutInReply (n : Outside) (script : List (Result Statement Cause)) (h : History) (base : ℕ) (written : List ℕ) : Type 0 where
   pub count : ℕ
   pub last : Result Statement Cause
   pub replies : List (List ℕ)

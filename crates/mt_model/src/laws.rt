@@ -5,16 +5,20 @@ ghost use Rattle.std.specs.List.Sorted.{IsPermutation, IsSorted};
 ghost use Rattle.mt_values.specs.declared.value.ColType.{ColType};
 ghost use Rattle.mt_values.specs.declared.schema.Column.{Column};
 ghost use Rattle.mt_values.specs.declared.schema.Schema.{Schema};
+ghost use Rattle.mt_base.specs.declared.partition.Partition.{Partition};
+ghost use Rattle.mt_values.specs.declared.command.Command.{Command};
 ghost use Rattle.mt_values.specs.declared.command.Command.TheVariants as command;
 ghost use Rattle.mt_values.specs.declared.command.Entry.{Entry};
+ghost use Rattle.mt_values.specs.declared.command.Insert.{Insert};
 ghost use Rattle.mt_values.specs.declared.statement.Cause.{Cause};
 ghost use Rattle.mt_values.specs.declared.statement.CreateText.{CreateText};
+ghost use Rattle.mt_values.specs.declared.statement.SelectText.{SelectText};
 ghost use Rattle.mt_values.specs.declared.statement.Statement.{Statement};
 ghost use Rattle.mt_values.specs.declared.token.Placed.{Placed};
 ghost use Rattle.mt_values.specs.declared.token.Symbol.TheVariants as symbol;
 ghost use Rattle.mt_values.specs.Values.{Row, AreValues};
 ghost use Rattle.mt_values.specs.Grid.{AreRowsOf};
-ghost use Rattle.mt_values.specs.Order.{key_cmp};
+ghost use Rattle.mt_values.specs.Tables.{IsPlain, MayHavePartition, partition_of, sorting_cmp};
 ghost use Rattle.mt_values.specs.Tokens.{string_within, tokens_within};
 ghost use Rattle.mt_values.specs.Readers.{Reader, listed_within};
 ghost use Rattle.mt_values.specs.Grammar.{column, is_symbol, one_name, the};
@@ -22,16 +26,15 @@ ghost use Rattle.mt_values.specs.Script.{data_ended_within, data_within, stateme
 ghost use Rattle.mt_values.specs.Rows.{inserted_rows, row_limit, rows_within, unescaped_within};
 ghost use Rattle.mt_model.specs.Causes.{MeetsCause, NoneMeets};
 ghost use Rattle.mt_model.specs.declared.refusal.Refusal.{Refusal};
-ghost use Rattle.mt_model.specs.History.{History, FewInserts, IsLegal, IsAllowed, IsTableSchema};
+ghost use Rattle.mt_model.specs.History.{History, ArePlain, FewInserts, IsAllowed, IsInsertInto, IsLegal, IsTableSchema};
 ghost use Rattle.mt_model.specs.Live.{live, sorted, of_key};
 ghost use Rattle.mt_model.specs.Partial.{Partly};
 ghost use Rattle.mt_model.specs.Answer.{Answer, Prints};
-ghost use Rattle.mt_model.specs.Outside.{Counts, HasRisen};
-ghost use Rattle.mt_model.specs.Refusals.{code, code_of, is_damage, is_refusal, refusal_line};
+ghost use Rattle.mt_model.specs.Outside.{Outside, HasRisen};
+ghost use Rattle.mt_model.specs.Refusals.{accepted_by, code, code_of, is_damage, is_refusal, refusal_line};
 ghost use Rattle.mt_model.specs.Reply.{create_turn, ok_line, rows_reply, schema_of_text};
-ghost use Rattle.mt_model.specs.Session.{AddsNothing, SessionRun, Takes};
+ghost use Rattle.mt_model.specs.Session.{AddsOnly, SessionRun, Takes};
 ghost use Rattle.mt_model.specs.Script.{ScriptReplies, ScriptRun};
-ghost use Rattle.mt_model.specs.Same.{SameHistory};
 ghost use Rattle.mt_model.specs.Written.{IsWritten};
 
 /// The first entries of a legal history are a legal history, and one more entry that may come next leaves it legal.
@@ -40,16 +43,25 @@ pub fn legal_fronts()
     ensures next { (h : History) (e : Entry) → IsLegal h → IsAllowed h e.command → IsLegal (h ++ e ∷ []) }
 {}
 
-/// As a history grows, the live rows of a table stay, and others come behind them.
-pub fn live_rows_only_grow()
-    ensures { (table key : List ℕ) (h more : History) → (rest : List Row) × (live table key (h ++ more) ≡ live table key h ++ rest) }
+/// The rows of a table are of partitions that it may have, and so is each INSERT that may come.
+pub fn partitions_are_of_their_table()
+    ensures row { (schema : Schema) (row : Row) → MayHavePartition schema (partition_of schema row) }
+    ensures insert { (schema : Schema) (i : Insert) → IsInsertInto schema i → MayHavePartition schema i.partition }
 {}
 
-/// Sorting puts the rows in order, loses none and adds none, and leaves the rows of each key as they stood to each other.
+/// As a history grows, the live rows of a plain table stay, and others come after them.
+pub fn live_rows_only_grow()
+    ensures { (table : List ℕ) (schema : Schema) (h more : History)
+        → IsPlain schema → (rest : List Row) × (live table schema (h ++ more) ≡ live table schema h ++ rest) }
+{}
+
+/// Sorting puts the rows in order, loses none and adds none, and leaves the rows of each partition and key as they stood to
+/// each other.
 pub fn sorting_keeps_each_key()
-    ensures keys { (key : List ℕ) (row : Row) (rows : List Row) → of_key key row (sorted (key_cmp key) rows) ≡ of_key key row rows }
-    ensures rows { (key : List ℕ) (rows : List Row) → IsPermutation rows (sorted (key_cmp key) rows) }
-    ensures rising { (key : List ℕ) (rows : List Row) → IsSorted (key_cmp key) (sorted (key_cmp key) rows) }
+    ensures keys { (schema : Schema) (partition : Partition) (row : Row) (rows : List Row)
+        → of_key schema partition row (sorted (sorting_cmp schema) rows) ≡ of_key schema partition row rows }
+    ensures rows { (schema : Schema) (rows : List Row) → IsPermutation rows (sorted (sorting_cmp schema) rows) }
+    ensures rising { (schema : Schema) (rows : List Row) → IsSorted (sorting_cmp schema) (sorted (sorting_cmp schema) rows) }
 {}
 
 /// The lines that are printed of rows do not depend on the order in which the rows stand.
@@ -57,15 +69,15 @@ pub fn lines_do_not_depend_on_order()
     ensures { (rows other : List Row) (a b : List (List ℕ)) → IsPermutation rows other → Prints rows a → Prints other b → a ≡ b }
 {}
 
-/// Whatever merges did, the rows of a table are its live rows, each as often, in another order at most.
+/// Whatever merges did, the rows of a plain table are its live rows, each as often, in another order at most.
 pub fn partly_is_a_permutation()
-    ensures { (key : List ℕ) (rows x : List Row) → Partly key rows x → IsPermutation rows x }
+    ensures { (schema : Schema) (rows x : List Row) → IsPlain schema → Partly schema rows x → IsPermutation rows x }
 {}
 
-/// A SELECT at a place of a history has one answer only, whatever merges did.
+/// A SELECT from a plain table at a place of a history has one answer only, whatever merges did.
 pub fn answers_are_determined()
-    ensures { (h : History) (table : List ℕ) (schema : Schema) (columns : List ℕ) (a b : List (List ℕ))
-        → Answer h table schema columns a → Answer h table schema columns b → a ≡ b }
+    ensures { (h : History) (schema : Schema) (s : SelectText) (a b : List (List ℕ))
+        → IsPlain schema → Answer h schema s a → Answer h schema s b → a ≡ b }
 {}
 
 /// Each CREATE that a script has names a key and a table by a name, and its text, with a semicolon behind it, is read as it
@@ -94,57 +106,60 @@ pub fn refusals_have_numbers()
     ensures answers { (lines : List (List ℕ)) (h : ℕ) → code_of (rows_reply lines h) ≡ 0 }
 {}
 
-/// A refused statement adds nothing to the history.
-pub fn refused_statements_add_nothing()
-    ensures { (n : Counts) (h : History) (session : ℕ) (statement : Result Statement Cause) (from to : ℕ) (reply : List ℕ)
-        → Takes n h session statement from to reply → 0 < code_of reply → AddsNothing h session from to }
+/// A refused statement adds those commands to the history that its line counts, and no others.
+pub fn refused_statements_add_what_they_count()
+    ensures { (n : Outside) (h : History) (session : ℕ) (statement : Result Statement Cause) (from to : ℕ) (reply : List ℕ)
+        → Takes n h session statement from to reply → 0 < code_of reply
+        → (why : Refusal) × (done : List Command) × (reply ≡ refusal_line why) × (length done ≡ accepted_by why) × AddsOnly h session done from to }
 {}
 
 /// A reply tells of a fault of the outside only where the disk's count rose. Where it did not, and stands below its type's
 /// end, a statement is accepted or refused for what the script says. No reply tells of damage.
 pub fn faults_are_of_the_outside()
-    ensures risen { (n : Counts) (h : History) (session : ℕ) (statement : Result Statement Cause) (from to : ℕ) (reply : List ℕ)
+    ensures risen { (n : Outside) (h : History) (session : ℕ) (statement : Result Statement Cause) (from to : ℕ) (reply : List ℕ)
         → Takes n h session statement from to reply → 14 < code_of reply → HasRisen n n.ended }
-    ensures still { (n : Counts) → n.ended ≡ n.opened → n.ended < 2 ^ 64 - 1 → HasRisen n n.ended → ⊥ }
-    ensures calm { (n : Counts) (h : History) (session : ℕ) (statement : Result Statement Cause) (from to : ℕ) (reply : List ℕ)
+    ensures still { (n : Outside) → n.ended ≡ n.opened → n.ended < 2 ^ 64 - 1 → HasRisen n n.ended → ⊥ }
+    ensures calm { (n : Outside) (h : History) (session : ℕ) (statement : Result Statement Cause) (from to : ℕ) (reply : List ℕ)
         → n.ended ≡ n.opened → n.ended < 2 ^ 64 - 1 → Takes n h session statement from to reply → (code_of reply ≡ 0) ⊎ (is_refusal reply ≡ true) }
-    ensures undamaged { (n : Counts) (h : History) (session : ℕ) (statement : Result Statement Cause) (from to : ℕ) (reply : List ℕ)
+    ensures undamaged { (n : Outside) (h : History) (session : ℕ) (statement : Result Statement Cause) (from to : ℕ) (reply : List ℕ)
         → Takes n h session statement from to reply → is_damage reply ≡ false }
 {}
 
 /// A statement is refused for what the script says only where it meets a cause at its place. Where the disk's count did not rise and stands below
-/// its type's end, and none of a script's statements meets a cause behind those before it, none of them is refused.
+/// its type's end, and none of a script's statements meets a cause after those before it, none of them is refused.
 pub fn refusals_have_a_cause()
-    ensures one { (n : Counts) (h : History) (session : ℕ) (statement : Result Statement Cause) (from to : ℕ) (reply : List ℕ)
+    ensures one { (n : Outside) (h : History) (session : ℕ) (statement : Result Statement Cause) (from to : ℕ) (reply : List ℕ)
         → Takes n h session statement from to reply → is_refusal reply ≡ true → MeetsCause (take to h) statement }
-    ensures script { (n : Counts) (script : List (Result Statement Cause)) (h : History) (base : ℕ) (replies : List (List ℕ))
-        → n.ended ≡ n.opened → n.ended < 2 ^ 64 - 1 → ScriptReplies n script h base replies → NoneMeets h base script → list_any is_refusal replies ≡ false }
+    ensures script { (n : Outside) (script : List (Result Statement Cause)) (h : History) (base : ℕ) (replies : List (List ℕ))
+        → n.ended ≡ n.opened → n.ended < 2 ^ 64 - 1 → ScriptReplies n script h base replies → NoneMeets (take base h) script → list_any is_refusal replies ≡ false }
 {}
 
 /// The places of a session's statements never fall, and none is above the length of the history.
 pub fn places_never_fall()
-    ensures { (n : Counts) (h : History) (session : ℕ) (statements : List (Result Statement Cause)) (from to : ℕ) (out : List ℕ)
+    ensures { (n : Outside) (h : History) (session : ℕ) (statements : List (Result Statement Cause)) (from to : ℕ) (out : List ℕ)
         → SessionRun n h session statements from to out → from ≤ length h → (from ≤ to) × (to ≤ length h) }
 {}
 
 /// What a session printed stays right as the history grows.
 pub fn runs_stay_as_histories_grow()
-    ensures { (n : Counts) (h more : History) (session : ℕ) (statements : List (Result Statement Cause)) (from to : ℕ) (out : List ℕ)
+    ensures { (n : Outside) (h more : History) (session : ℕ) (statements : List (Result Statement Cause)) (from to : ℕ) (out : List ℕ)
         → SessionRun n h session statements from to out → SessionRun n (h ++ more) session statements from to out }
 {}
 
 /// What a session printed stays right as the disk's count of faults rises.
 pub fn runs_stay_as_counts_rise()
-    ensures { (n m : Counts) (h : History) (session : ℕ) (statements : List (Result Statement Cause)) (from to : ℕ) (out : List ℕ)
+    ensures { (n m : Outside) (h : History) (session : ℕ) (statements : List (Result Statement Cause)) (from to : ℕ) (out : List ℕ)
         → n.opened ≡ m.opened → n.ended ≤ m.ended → SessionRun n h session statements from to out → SessionRun m h session statements from to out }
 {}
 
-/// A script that runs behind a base has one run only, where the disk's count did not rise and stands below its type's end,
-/// and no table has 3000 INSERTs in one of the two histories: what it prints, and each command that is accepted, are
-/// determined. A table with 3000 INSERTs may have 3000 parts or fewer, by what was merged, and refuse the next one or not.
+/// A script that runs after a base has one run only, where the disk's count did not rise and stands below its type's end,
+/// and in one of the two histories no partition of a table has 3000 INSERTs and every table is plain: what it prints, and
+/// each command that is accepted, are determined. A partition with 3000 INSERTs may have 3000 parts or fewer, by what was
+/// merged, and refuse the next one or not.
 pub fn scripts_run_in_one_way()
-    ensures { (n : Counts) (script : List (Result Statement Cause)) (h g : History) (base : ℕ) (a b : List ℕ)
-        → n.ended ≡ n.opened → n.ended < 2 ^ 64 - 1 → FewInserts h → take base h ≡ take base g → ScriptRun n script h base a → ScriptRun n script g base b → (a ≡ b) × SameHistory h g }
+    ensures { (n : Outside) (script : List (Result Statement Cause)) (h g : History) (base : ℕ) (a b : List ℕ)
+        → n.ended ≡ n.opened → n.ended < 2 ^ 64 - 1 → FewInserts h → ArePlain h → take base h ≡ take base g
+        → ScriptRun n script h base a → ScriptRun n script g base b → (a ≡ b) × (h ≡ g) }
 {}
 
 /// The counts that bound the grammar's readers cut nothing off: each step takes at least one byte, or one token.

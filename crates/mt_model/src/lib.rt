@@ -8,9 +8,9 @@ mod resolving;
 
 pub use laws::{
     answers_are_determined, bounds_cut_nothing_off, creates_are_allowed, faults_are_of_the_outside,
-    legal_fronts, lines_do_not_depend_on_order, live_rows_only_grow, partly_is_a_permutation,
-    places_never_fall, refusals_have_a_cause, refusals_have_numbers,
-    refused_statements_add_nothing, rows_are_of_their_table, runs_stay_as_counts_rise,
+    legal_fronts, lines_do_not_depend_on_order, live_rows_only_grow, partitions_are_of_their_table,
+    partly_is_a_permutation, places_never_fall, refusals_have_a_cause, refusals_have_numbers,
+    refused_statements_add_what_they_count, rows_are_of_their_table, runs_stay_as_counts_rise,
     runs_stay_as_histories_grow, scripts_run_in_one_way, sorting_keeps_each_key,
 };
 pub use lines::{ok_line, refusal_line, rows_line};

@@ -16,5 +16,6 @@ pub mod Schemas
 pub mod Script
 pub mod Sorting
 pub mod Strings
+pub mod Tables
 pub mod Tokens
 pub mod Values

@@ -1,6 +1,7 @@
 // Rows, kept by columns.
 ghost use Rattle.std.specs.Prelude.{◌≡◌, ◌<◌, ◌^◌, ◌↔◌, ◌++◌, [], Some, All, IfOk, IsTrue, OnOk, length, slice_get};
 ghost use Rattle.mt_values.specs.Grid.{AreRowsOf, Cells, HaveTypeAt, IsOrderBy, column_of, grid_of};
+ghost use Rattle.mt_values.specs.Tables.{sorting_columns};
 
 use crate::column::ColumnData;
 use crate::sorting::{all_places, cmp_pairs, led_places, places_of};
@@ -133,8 +134,8 @@ impl Block {
     ///
     /// `NoMemory` where there was none for the places.
     pub fn key_order(&self, alloc: Global, schema: &Schema) -> Result<Vec<u32>, NoMemory>
-        requires { All (λ place. place < length self.now.types) schema.now.key }
-        ensures { IfOk result (λ v. IsOrderBy schema.now.key self.now.rows v.items) }
+        requires { All (λ place. place < length self.now.types) (sorting_columns schema.now) }
+        ensures { IfOk result (λ v. IsOrderBy (sorting_columns schema.now) self.now.rows v.items) }
     {
         self.order_by(alloc, schema.key.as_slice())
     }

@@ -2,7 +2,9 @@
 ghost use Rattle.std.specs.Prelude.{◌≡◌, ◌<◌, ℕ, List, length, All, slice_get};
 ghost use Rattle.std.specs.Cmp.{IsTotalOrder};
 ghost use Rattle.mt_values.specs.declared.value.Value.{Value};
+ghost use Rattle.mt_values.specs.declared.schema.Schema.{Schema};
 ghost use Rattle.mt_values.specs.Order.{value_cmp, key_cmp, row_cmp, HasPlaces, IsExact};
+ghost use Rattle.mt_values.specs.Tables.{sorting_cmp, sorting_columns};
 
 use crate::sorting::cmp_cells;
 use crate::{Cell, Row, Schema, Value};
@@ -17,9 +19,9 @@ pub fn cmp_value(a: &Value, b: &Value) -> Ordering
 
 /// The order of two rows by the sorting key.
 pub fn cmp_key(schema: &Schema, a: &Row, b: &Row) -> Ordering
-    requires first { HasPlaces schema.now.key a.now }
-    requires second { HasPlaces schema.now.key b.now }
-    ensures { result ≡ key_cmp schema.now.key a.now b.now }
+    requires first { HasPlaces (sorting_columns schema.now) a.now }
+    requires second { HasPlaces (sorting_columns schema.now) b.now }
+    ensures { result ≡ sorting_cmp schema.now a.now b.now }
 {
     for place in schema.key.as_slice() {
         let found = cmp_value(a.at(*place as usize), b.at(*place as usize));
@@ -30,10 +32,11 @@ pub fn cmp_key(schema: &Schema, a: &Row, b: &Row) -> Ordering
     Ordering::Equal
 }
 
-/// The orders of values, of rows by any places and of whole rows are total.
+/// The orders of values, of rows by any places, of a table's rows and of whole rows are total.
 pub fn orders_are_total()
     ensures values { IsTotalOrder value_cmp }
     ensures keys { (places : List ℕ) → IsTotalOrder (key_cmp places) }
+    ensures tables { (schema : Schema) → IsTotalOrder (sorting_cmp schema) }
     ensures rows { IsTotalOrder row_cmp }
 {}
 

@@ -7,5 +7,6 @@ pub returns : goal.returns
 returns c = record {
   values = value_total;
   keys = λ places. on_total (key_of places) (lists_total value_total);
+  tables = λ schema. on_total (key_of schema.key) (lists_total value_total);
   rows = lists_total value_total;
 }

@@ -1,0 +1,205 @@
+-- The commands that statements give: they stay as the history grows, and today each statement gives one at most.
+use Rattle.std.proofs.Common.{◌≡◌, ◌⊎◌, ℕ, ◌+◌, ◌<◌, ◌≤◌, Bool, true, false, cond, not, List, [], ◌∷◌, ◌++◌, All, Option, Some, None, Result, Ok, Err, filter, is_some, length, map, nat_le, nat_lt, get_or, refl, sym, ap, ◌∙◌, subst, arith, append-nil, inl, inr, zero, suc}
+use Rattle.std.specs.List.{AllByRecursion}
+use Rattle.std.proofs.lemmas.Bool.Decides.{Decides-eqb, nat_tests}
+use Rattle.mt_base.specs.declared.partition.Partition.{Partition}
+use Rattle.mt_base.specs.declared.partition.Partition.TheVariants.{Whole, Number}
+use Rattle.mt_values.specs.declared.command.Command.{Command}
+use Rattle.mt_values.specs.declared.command.Command.TheVariants as command
+use Rattle.mt_values.specs.declared.command.Insert.{Insert}
+use Rattle.mt_values.specs.declared.schema.Schema.{Schema}
+use Rattle.mt_values.specs.declared.statement.Statement.{Statement}
+use Rattle.mt_values.specs.declared.statement.Statement.TheVariants as statement
+use Rattle.mt_values.specs.Tables.{MayHavePartition, partition_of, same_partition}
+use Rattle.mt_values.specs.Values.{Row}
+use Rattle.mt_model.specs.Commands.{commands_for, commands_of, commands_of_rows, create_commands, insert_command, insert_commands, no_commands, partitions_of, rows_in, without}
+use Rattle.mt_model.specs.declared.refusal.Bound.TheVariants as bound
+use Rattle.mt_model.specs.declared.refusal.Refusal.{Refusal}
+use Rattle.mt_model.specs.declared.refusal.Refusal.TheVariants as refusal
+use Rattle.mt_model.specs.declared.refusal.Room.TheVariants as room
+use Rattle.mt_model.specs.History.{History, IsInsertInto, column_types, creates, entered, inserts, schema_of}
+use Rattle.mt_model.specs.Numbers.{last_number}
+use Rattle.mt_model.specs.Refusals.{accepted_by}
+use Rattle.mt_model.specs.Reply.{columns_for, create_turn, insert_turn, rows_for, schema_of_text}
+use Rattle.mt_model.specs.Session.{TurnRefuses}
+use Rattle.mt_model.proofs.Histories.{inserts_more, last_more, schema_kept}
+
+-- ---- partitions
+
+pub same_itself : (p : Partition) → same_partition p p ≡ true
+same_itself Whole = refl
+same_itself (Number n) = (Decides-eqb n n).1 refl
+
+pub partition_is : (p q : Partition) → same_partition p q ≡ true → p ≡ q
+partition_is Whole Whole is = refl
+partition_is (Number m) (Number n) is = ap Number ((Decides-eqb m n).0 is)
+partition_is Whole (Number n) is = cc
+partition_is (Number m) Whole is = cc
+
+-- rows that may come are of a partition that their table may have
+pub own_partition : (schema : Schema) (i : Insert) → IsInsertInto schema i → MayHavePartition schema i.partition
+own_partition schema i into = sym (into.own 0 [] into.some)
+
+-- ---- the one partition of today's tables
+
+pub all_rows_in : (schema : Schema) (rows : List Row) → rows_in schema Whole rows ≡ rows
+all_rows_in schema [] = refl
+all_rows_in schema (row ∷ rows) = ap (λ (zs : List Row). row ∷ zs) (all_rows_in schema rows)
+
+none_without : (schema : Schema) (rows : List Row) → without Whole (partitions_of schema rows) ≡ []
+none_without schema [] = refl
+none_without schema (row ∷ rows) = ap (without Whole) (none_without schema rows)
+
+-- rows are of the whole
+pub one_partition : (schema : Schema) (row : Row) (rows : List Row) → partitions_of schema (row ∷ rows) ≡ Whole ∷ []
+one_partition schema row rows = ap (λ (ps : List Partition). Whole ∷ ps) (none_without schema rows)
+
+-- so one command adds them
+pub one_command : (schema : Schema) (table : List ℕ) (row : Row) (rows : List Row)
+    → insert_commands schema table (row ∷ rows) ≡ command.Insert (record { table = table; partition = Whole; block = record { types = column_types schema; rows = row ∷ rows } }) ∷ []
+one_command schema table row rows =
+    ap (map (insert_command schema table (row ∷ rows))) (one_partition schema row rows)
+    ∙ ap (λ (rs : List Row). command.Insert (record { table = table; partition = Whole; block = record { types = column_types schema; rows = rs } }) ∷ []) (all_rows_in schema (row ∷ rows))
+
+-- at most one command
+abbrev Few : Result (List Command) Refusal → Type 0
+Few (Ok cs) = length cs ≤ 1
+Few (Err why) = Unit {0}
+
+few_inserts : (schema : Schema) (table : List ℕ) (rows : List Row) → length (insert_commands schema table rows) ≤ 1
+few_inserts schema table [] = omega arith
+few_inserts schema table (row ∷ rows) = let one = ap length (one_command schema table row rows) in omega (arith, one)
+
+few_of_rows : (schema : Schema) (table : List ℕ) (r : Result (List Row) Refusal) → Few (commands_of_rows schema table r)
+few_of_rows schema table (Err why) = tt
+few_of_rows schema table (Ok rows) = few_inserts schema table rows
+
+few_given : (h : History) (s : Statement) → Few (commands_of h s)
+few_given h (statement.Create c) = by (schema_of_text c)
+  where
+    by : (r : Result Schema Refusal) → Few (create_commands c.table r)
+    by (Err why) = tt
+    by (Ok schema) = omega arith
+few_given h (statement.Insert i) = by (schema_of i.table h)
+  where
+    by : (o : Option Schema) → Few (commands_for i o)
+    by None = tt
+    by (Some schema) = few_of_rows schema i.table (rows_for i (Some schema))
+few_given h (statement.Select t) = by (columns_for t (schema_of t.table h))
+  where
+    by : (r : Result (List ℕ) Refusal) → Few (no_commands r)
+    by (Err why) = tt
+    by (Ok columns) = omega arith
+
+-- today each statement gives one command at most
+pub one_at_most : (h : History) (s : Statement) (cs : List Command) → commands_of h s ≡ Ok cs → length cs ≤ 1
+one_at_most h s cs is = subst (λ (r : Result (List Command) Refusal). Few r) is (few_given h s)
+
+-- so none comes before another, and none after it
+pub none_beside : (done rest : List Command) (next : Command) → length (done ++ next ∷ rest) ≤ 1 → (done ≡ []) × (rest ≡ [])
+none_beside [] [] next few = (refl, refl)
+none_beside [] (c ∷ rest) next few = absurd (omega arith)
+none_beside (c ∷ []) rest next few = absurd (omega arith)
+none_beside (c ∷ d ∷ done) rest next few = absurd (omega arith)
+
+-- ---- commands as the history grows
+
+pub commands_kept : (h more : History) (s : Statement) (cs : List Command) → commands_of h s ≡ Ok cs → commands_of (h ++ more) s ≡ Ok cs
+commands_kept h more (statement.Create c) cs is = is
+commands_kept h more (statement.Insert i) cs is = by (schema_of i.table h) refl is
+  where
+    by : (o : Option Schema) → schema_of i.table h ≡ o → commands_for i o ≡ Ok cs → commands_for i (schema_of i.table (h ++ more)) ≡ Ok cs
+    by None there is = cc
+    by (Some schema) there is = ap (commands_for i) (schema_kept i.table h more schema there) ∙ is
+commands_kept h more (statement.Select t) cs is = by (schema_of t.table h) refl is
+  where
+    by : (o : Option Schema) → schema_of t.table h ≡ o → no_commands (columns_for t o) ≡ Ok cs → no_commands (columns_for t (schema_of t.table (h ++ more))) ≡ Ok cs
+    by None there is = cc
+    by (Some schema) there is = ap (λ o. no_commands (columns_for t o)) (schema_kept t.table h more schema there) ∙ is
+
+-- ---- a statement's commands are INSERTs, or one CREATE
+
+abbrev pub IsInsert : Command → Type 0
+IsInsert (command.Create c) = ⊥
+IsInsert (command.Insert i) = Unit {0}
+
+all_inserts : (schema : Schema) (table : List ℕ) (rows : List Row) (ps : List Partition) → AllByRecursion IsInsert (map (insert_command schema table rows) ps)
+all_inserts schema table rows [] = tt
+all_inserts schema table rows (p ∷ ps) = (tt, all_inserts schema table rows ps)
+
+abbrev Inserts : Result (List Command) Refusal → Type 0
+Inserts (Ok cs) = AllByRecursion IsInsert cs
+Inserts (Err why) = Unit {0}
+
+inserts_of_rows : (schema : Schema) (table : List ℕ) (r : Result (List Row) Refusal) → Inserts (commands_of_rows schema table r)
+inserts_of_rows schema table (Err why) = tt
+inserts_of_rows schema table (Ok rows) = all_inserts schema table rows (partitions_of schema rows)
+
+at_seam : (done rest : List Command) (next : Command) → AllByRecursion IsInsert (done ++ next ∷ rest) → IsInsert next
+at_seam [] rest next all = all.0
+at_seam (c ∷ done) rest next all = at_seam done rest next all.1
+
+-- the next command is an INSERT, or the first
+pub insert_or_first : (h : History) (s : Statement) (done rest : List Command) (next : Command) → commands_of h s ≡ Ok (done ++ next ∷ rest) → IsInsert next ⊎ (done ≡ [])
+insert_or_first h (statement.Create c) done rest next is =
+    inr ((none_beside done rest next (one_at_most h (statement.Create c) (done ++ next ∷ rest) is)).0)
+insert_or_first h (statement.Insert i) done rest next is = inl (at_seam done rest next (subst (λ (r : Result (List Command) Refusal). Inserts r) is (by (schema_of i.table h))))
+  where
+    by : (o : Option Schema) → Inserts (commands_for i o)
+    by None = tt
+    by (Some schema) = inserts_of_rows schema i.table (rows_for i (Some schema))
+insert_or_first h (statement.Select t) done rest next is =
+    inr ((none_beside done rest next (one_at_most h (statement.Select t) (done ++ next ∷ rest) is)).0)
+
+-- ---- turns
+
+-- the refusal counts so many commands
+abbrev Counts : ℕ → Option Refusal → Type 0
+Counts accepted None = Unit {0}
+Counts accepted (Some why) = accepted_by why ≡ accepted
+
+counts_if : (b : Bool) (accepted : ℕ) (o p : Option Refusal) → Counts accepted o → Counts accepted p → Counts accepted (cond b o p)
+counts_if true accepted o p h k = h
+counts_if false accepted o p h k = k
+
+counted : (accepted : ℕ) (o : Option Refusal) (why : Refusal) → o ≡ Some why → Counts accepted o → accepted_by why ≡ accepted
+counted accepted o why is h = subst (Counts accepted) is h
+
+create_counts : (table : List ℕ) (h : History) → Counts 0 (create_turn table h)
+create_counts table h =
+    counts_if (is_some (schema_of table h)) 0 (Some (refusal.TableExists table)) (cond (nat_lt (creates h) 64) None (Some (refusal.Past bound.Tables))) refl
+    (counts_if (nat_lt (creates h) 64) 0 None (Some (refusal.Past bound.Tables)) tt refl)
+
+insert_counts : (parts drawn accepted : ℕ) → Counts accepted (insert_turn parts drawn accepted)
+insert_counts parts drawn accepted =
+    counts_if (nat_le 3000 parts) accepted (Some (refusal.Full room.Parts accepted)) (cond (nat_le 4294967295 drawn) (Some (refusal.Full room.Numbers accepted)) None) refl
+    (counts_if (nat_le 4294967295 drawn) accepted (Some (refusal.Full room.Numbers accepted)) None refl tt)
+
+-- a turn's refusal counts the commands before it
+pub turn_counts : (h : History) (done : List Command) (next : Command) (why : Refusal) → IsInsert next ⊎ (done ≡ []) → TurnRefuses h (length done) next why → accepted_by why ≡ length done
+turn_counts h done (command.Create c) why (inl is) turn = absurd is
+turn_counts h done (command.Create c) why (inr first) turn = counted 0 (create_turn c.table h) why turn (create_counts c.table h) ∙ sym (ap length first)
+turn_counts h done (command.Insert i) why which turn =
+    counted (length done) (insert_turn turn.0 (last_number i.table h) (length done)) why turn.2 (insert_counts turn.0 (last_number i.table h) (length done))
+
+full_more : (parts drawn later accepted : ℕ) (why : Refusal) → drawn ≤ later → insert_turn parts drawn accepted ≡ Some why → insert_turn parts later accepted ≡ Some why
+full_more parts drawn later accepted why more is = by (nat_le 3000 parts) (nat_le 4294967295 drawn) refl is
+  where
+    by : (b c : Bool) → nat_le 4294967295 drawn ≡ c → cond b (Some (refusal.Full room.Parts accepted)) (cond c (Some (refusal.Full room.Numbers accepted)) None) ≡ Some why
+        → cond b (Some (refusal.Full room.Parts accepted)) (cond (nat_le 4294967295 later) (Some (refusal.Full room.Numbers accepted)) None) ≡ Some why
+    by true c e is = is
+    by false true e is = let also : nat_le 4294967295 later ≡ true = grind (arith, nat_tests) in rw also is
+    by false false e is = cc
+
+-- what a turn refuses is refused after more entries, if these are the commands before it
+pub refuses_more : (h : History) (done : List Command) (next : Command) (why : Refusal) → IsInsert next ⊎ (done ≡ []) → TurnRefuses h (length done) next why → TurnRefuses (entered h 0 done) (length done) next why
+refuses_more h done (command.Create c) why (inl is) turn = absurd is
+refuses_more h done (command.Create c) why (inr first) turn =
+    let same : h ≡ entered h 0 done = sym (ap (entered h 0) first ∙ append-nil h) in
+    subst (λ (x : History). create_turn c.table x ≡ Some why) same turn
+refuses_more h done (command.Insert i) why which turn =
+    let more = entered [] 0 done in (
+      turn.0,
+      omega (arith, turn.1, inserts_more i.table i.partition h more),
+      full_more turn.0 (last_number i.table h) (last_number i.table (entered h 0 done)) (length done) why (last_more i.table h more) turn.2,
+    )
