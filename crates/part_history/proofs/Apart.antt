@@ -4,15 +4,19 @@ use Rattle.std.specs.List.{count_by}
 use Rattle.std.proofs.lemmas.Bool.{cases_lt}
 use Rattle.std.proofs.lemmas.List.Sums.{sum_by-cons}
 use Rattle.std.proofs.lemmas.Option.{get_or_from_slice_get, slice_get_within}
+use Rattle.mt_base.specs.declared.partition.Partition.{Partition}
 use Rattle.mt_base.specs.declared.partition.Partition.TheVariants.{Whole}
-use Rattle.mt_model.specs.History.{History, IsLegal}
+use Rattle.mt_values.specs.declared.schema.Schema.{Schema}
+use Rattle.mt_values.specs.Tables.{MayHavePartition, same_partition}
+use Rattle.mt_model.specs.History.{History, IsLegal, schema_of}
+use Rattle.mt_model.specs.Numbers.{IsNumberOfInsert, numbered}
+use Rattle.mt_model.proofs.Commands.{same_itself}
 use Rattle.part_name.specs.PartNames.{Before, IsPartName}
 use Rattle.part_history.specs.declared.part.CorePart.{CorePart}
-use Rattle.part_history.specs.Numbers.{IsInsertOf, numbered, same_partition}
 use Rattle.part_history.specs.Parts.{PartStands, TableStands, has_block}
 use Rattle.part_history.specs.Entered.{next_number}
 use Rattle.part_history.proofs.Growing.{number_drawn}
-use Rattle.part_history.proofs.Numbered.{all_whole, insert_at, whole_at}
+use Rattle.part_history.proofs.Numbered.{all_whole, whole_at}
 use Rattle.part_history.proofs.Ranges.{lies_inside}
 
 -- one part that passes is counted
@@ -49,6 +53,11 @@ count_two f (p ∷ ps) (suc i) (suc j) a b at there apart one two =
     let sum = sum_by-cons (λ (q : CorePart). cond (f q) 1 0) p ps in
     omega (arith, sum, rest)
 
+-- a part of a partition has the numbers within its blocks
+pub has_at : (w : Partition) (n : ℕ) (a : CorePart) → a.name.partition ≡ w → a.name.min_block ≤ n → n ≤ a.name.max_block → has_block w n a ≡ true
+has_at w n a is from upto =
+    ap₂ ◌&&◌ (ap (λ v. same_partition v w) is ∙ same_itself w) (lies_inside a.name.min_block a.name.max_block n from upto)
+
 -- a part of a legal history is of the whole
 pub whole_part : (h : History) (p : CorePart) → IsLegal h → PartStands h p → p.name.partition ≡ Whole
 whole_part h p legal s = sym s.least.partition_is ∙ whole_at (numbered p.table h) (p.name.min_block - 1) s.least.insert (all_whole p.table h legal) s.least.there
@@ -61,42 +70,39 @@ ends_below h table ps s k d below =
     let drawn = subst (λ t. p.name.max_block ≤ length (numbered t h)) (s.own k d below) (number_drawn p.table p.name.partition p.name.max_block h stands.greatest) in
     omega (arith, drawn)
 
-module _ (h : History) (table : List ℕ) (ps : List CorePart) (legal : IsLegal h) (s : TableStands table ps h) where
-  stands_at : (i : ℕ) (a : CorePart) → slice_get ps i ≡ Some a → PartStands h a
+-- the parts of a table are of partitions that it may have
+pub may_have : (h : History) (table : List ℕ) (schema : Schema) (ps : List CorePart) → IsLegal h → schema_of table h ≡ Some schema → TableStands table ps h → All (λ (p : CorePart). MayHavePartition schema p.name.partition) ps
+may_have h table schema ps legal there s k d below = whole_part h (get_or ps k d) legal (s.each k d below)
+
+module _ (h : History) (table : List ℕ) (ps : List CorePart) (s : TableStands table ps h) where
+  pub stands_at : (i : ℕ) (a : CorePart) → slice_get ps i ≡ Some a → PartStands h a
   stands_at i a at = subst (PartStands h) (get_or_from_slice_get ps i a a at) (s.each i a (slice_get_within ps i a at))
 
-  own_at : (i : ℕ) (a : CorePart) → slice_get ps i ≡ Some a → a.table ≡ table
+  pub own_at : (i : ℕ) (a : CorePart) → slice_get ps i ≡ Some a → a.table ≡ table
   own_at i a at = subst (λ (p : CorePart). p.table ≡ table) (get_or_from_slice_get ps i a a at) (s.own i a (slice_get_within ps i a at))
 
-  holds_at : (i n : ℕ) (a : CorePart) → slice_get ps i ≡ Some a → a.name.min_block ≤ n → n ≤ a.name.max_block → has_block Whole n a ≡ true
-  holds_at i n a at from upto =
-      ap₂ ◌&&◌ (ap (λ w. same_partition w Whole) (whole_part h a legal (stands_at i a at))) (lies_inside a.name.min_block a.name.max_block n from upto)
-
-  -- no number lies within two parts
-  none_twice : (i j n : ℕ) (a b : CorePart) → slice_get ps i ≡ Some a → slice_get ps j ≡ Some b → i ≢ j → a.name.min_block ≤ n → n ≤ a.name.max_block → b.name.min_block ≤ n → n ≤ b.name.max_block → ⊥
-  none_twice i j n a b at there apart from upto begun under =
-      let stands = stands_at i a at in
-      let least = stands.least.from_one in
-      let drawn = subst (λ t. a.name.max_block ≤ length (numbered t h)) (own_at i a at) (number_drawn a.table a.name.partition a.name.max_block h stands.greatest) in
-      let one : 1 ≤ n = omega (arith, least, from) in
-      let found = insert_at (numbered table h) (n - 1) (all_whole table h legal) (omega (arith, one, drawn, upto)) in
-      let is : IsInsertOf table Whole n h = record { from_one = one; insert = found.insert; there = found.there; partition_is = found.whole } in
-      let once = s.once Whole n is in
-      let twice = count_two (has_block Whole n) ps i j a b at there apart (holds_at i n a at from upto) (holds_at j n b there begun under) in
+  -- the number of an INSERT does not lie within two parts of its partition
+  none_twice : (w : Partition) (i j n : ℕ) (a b : CorePart) → slice_get ps i ≡ Some a → slice_get ps j ≡ Some b → i ≢ j → a.name.partition ≡ w → b.name.partition ≡ w → IsNumberOfInsert table w n h
+      → a.name.min_block ≤ n → n ≤ a.name.max_block → b.name.min_block ≤ n → n ≤ b.name.max_block → ⊥
+  none_twice w i j n a b at there apart one two is from upto begun under =
+      let once = s.once w n is in
+      let twice = count_two (has_block w n) ps i j a b at there apart (has_at w n a one from upto) (has_at w n b two begun under) in
       omega (arith, once, twice)
 
-  -- of two parts of a table, one stands before the other
-  pub stand_apart : (i j : ℕ) (a b : CorePart) → slice_get ps i ≡ Some a → slice_get ps j ≡ Some b → i ≢ j → IsPartName a.name → IsPartName b.name → Before a.name b.name ⊎ Before b.name a.name
-  stand_apart i j a b at there apart first second = by (cases_lt a.name.max_block b.name.min_block) (cases_lt b.name.max_block a.name.min_block)
-    where
-      same : a.name.partition ≡ b.name.partition
-      same = whole_part h a legal (stands_at i a at) ∙ sym (whole_part h b legal (stands_at j b there))
+  -- the least number of a part
+  least_at : (w : Partition) (i : ℕ) (a : CorePart) → slice_get ps i ≡ Some a → a.name.partition ≡ w → IsNumberOfInsert table w a.name.min_block h
+  least_at w i a at is =
+      subst (λ (t : List ℕ). IsNumberOfInsert t w a.name.min_block h) (own_at i a at) (subst (λ (v : Partition). IsNumberOfInsert a.table v a.name.min_block h) is (stands_at i a at).least)
 
+  -- of two parts of one partition, one stands before the other
+  pub stand_apart : (i j : ℕ) (a b : CorePart) → slice_get ps i ≡ Some a → slice_get ps j ≡ Some b → i ≢ j → a.name.partition ≡ b.name.partition → IsPartName a.name → IsPartName b.name → Before a.name b.name ⊎ Before b.name a.name
+  stand_apart i j a b at there apart same first second = by (cases_lt a.name.max_block b.name.min_block) (cases_lt b.name.max_block a.name.min_block)
+    where
       by : (a.name.max_block < b.name.min_block) ⊎ (b.name.min_block ≤ a.name.max_block) → (b.name.max_block < a.name.min_block) ⊎ (a.name.min_block ≤ b.name.max_block) → Before a.name b.name ⊎ Before b.name a.name
       by (inl below) other = inl (record { partition = same; blocks = below })
       by (inr meets) (inl below) = inr (record { partition = sym same; blocks = below })
       by (inr meets) (inr also) = absurd (shared (cases_lt a.name.min_block b.name.min_block))
         where
           shared : (a.name.min_block < b.name.min_block) ⊎ (b.name.min_block ≤ a.name.min_block) → ⊥
-          shared (inl lt) = none_twice i j b.name.min_block a b at there apart (omega (arith, lt)) meets (omega arith) second.order
-          shared (inr le) = none_twice i j a.name.min_block a b at there apart (omega arith) first.order le also
+          shared (inl lt) = none_twice b.name.partition i j b.name.min_block a b at there apart same refl (least_at b.name.partition j b there refl) (omega (arith, lt)) meets (omega arith) second.order
+          shared (inr le) = none_twice b.name.partition i j a.name.min_block a b at there apart same refl (least_at b.name.partition i a at same) (omega arith) first.order le also

@@ -2,27 +2,27 @@
 use Rattle.std.proofs.Common.{◌≡◌, ℕ, ◌+◌, ◌-◌, ◌<◌, ◌≤◌, Bool, true, false, cond, ◌&&◌, List, [], ◌∷◌, ◌++◌, Option, Some, None, length, filter, map, slice_get, refl, sym, ap, ap₂, ◌∙◌, subst, append-nil, length-append, arith, zero, suc, inl, inr, ◌⊎◌}
 use Rattle.std.specs.List.{flat_map, count_by, AllByRecursion}
 use Rattle.std.proofs.lemmas.Bool.{cases_lt}
-use Rattle.std.proofs.lemmas.Bool.Decides.{Decides-eqb}
 use Rattle.std.proofs.lemmas.List.{map-append}
 use Rattle.std.proofs.lemmas.List.Elements.{All-push, All-weaker, recursion_from_All, filter-append}
 use Rattle.std.proofs.lemmas.List.Sums.{sum_by-cons, sum_by_push}
 use Rattle.std.proofs.lemmas.Option.{slice_get_within}
 use Rattle.mt_base.specs.declared.partition.Partition.{Partition}
-use Rattle.mt_base.specs.declared.partition.Partition.TheVariants.{Whole, Number}
 use Rattle.mt_values.specs.declared.command.Command.{Command}
 use Rattle.mt_values.specs.declared.command.Command.TheVariants as command
 use Rattle.mt_values.specs.declared.command.Entry.{Entry}
 use Rattle.mt_values.specs.declared.command.Insert.{Insert}
 use Rattle.mt_values.specs.declared.schema.Schema.{Schema}
 use Rattle.mt_values.specs.Grammar.{same_bytes}
-use Rattle.mt_values.specs.Order.{key_cmp}
-use Rattle.mt_model.specs.History.{History, first_of, schema_by, schema_of}
+use Rattle.mt_values.specs.Tables.{same_partition, sorting_cmp}
+use Rattle.mt_model.specs.History.{History, schema_of}
 use Rattle.mt_model.specs.Live.{live, of_key, sorted}
-use Rattle.mt_model.proofs.Determined.{key_total}
+use Rattle.mt_model.specs.Numbers.{IsNumberOfInsert, draws, is_within, lies_within, numbered, within}
+use Rattle.mt_model.proofs.Commands.{same_itself}
+use Rattle.mt_model.proofs.Determined.{sorting_total}
+use Rattle.mt_model.proofs.Histories.{numbered_more, schema_kept}
 use Rattle.mt_model.proofs.Sorting.{sorted_rises}
 use Rattle.mt_model.proofs.Tables.{itself_same}
 use Rattle.part_history.specs.declared.part.CorePart.{CorePart}
-use Rattle.part_history.specs.Numbers.{IsInsertOf, draws, is_within, lies_within, numbered, same_partition, within}
 use Rattle.part_history.specs.Parts.{PartStands, TableStands, has_block}
 use Rattle.part_history.specs.Entered.{part_of_insert}
 use Rattle.part_history.proofs.Numbered.{kept, kept_if, live_within, sorted_by}
@@ -39,28 +39,13 @@ pub slice_last : {X : Type 0} (xs : List X) (y : X) → slice_get (xs ++ y ∷ [
 slice_last [] y = refl
 slice_last (x ∷ xs) y = slice_last xs y
 
--- ---- schemas and numbers
-
-first_of_assoc : {X : Type 0} (a b c : Option X) → first_of a (first_of b c) ≡ first_of (first_of a b) c
-first_of_assoc None b c = refl
-first_of_assoc (Some x) b c = refl
-
-pub schema_more : (t : List ℕ) (h more : History) → schema_of t (h ++ more) ≡ first_of (schema_of t h) (schema_of t more)
-schema_more t [] more = refl
-schema_more t (e ∷ h) more = ap (first_of (schema_by t e.command)) (schema_more t h more) ∙ first_of_assoc (schema_by t e.command) (schema_of t h) (schema_of t more)
-
--- a table keeps its schema
-pub schema_kept : (t : List ℕ) (h more : History) (schema : Schema) → schema_of t h ≡ Some schema → schema_of t (h ++ more) ≡ Some schema
-schema_kept t h more schema is = schema_more t h more ∙ ap (λ o. first_of o (schema_of t more)) is
-
-pub numbered_more : (t : List ℕ) (h more : History) → numbered t (h ++ more) ≡ numbered t h ++ numbered t more
-numbered_more t h more = ap (filter (draws t)) (map-append (λ (e : Entry). e.command) h more) ∙ filter-append (draws t) (map (λ (e : Entry). e.command) h) (map (λ (e : Entry). e.command) more)
+-- ---- numbers
 
 -- a number that was drawn is no greater than they are many
-pub number_drawn : (t : List ℕ) (p : Partition) (n : ℕ) (h : History) → IsInsertOf t p n h → n ≤ length (numbered t h)
+pub number_drawn : (t : List ℕ) (p : Partition) (n : ℕ) (h : History) → IsNumberOfInsert t p n h → n ≤ length (numbered t h)
 number_drawn t p n h is = let below = slice_get_within (numbered t h) (n - 1) (command.Insert is.insert) is.there in omega (arith, below, is.from_one)
 
-pub insert_kept : (t : List ℕ) (p : Partition) (n : ℕ) (h more : History) → IsInsertOf t p n h → IsInsertOf t p n (h ++ more)
+pub insert_kept : (t : List ℕ) (p : Partition) (n : ℕ) (h more : History) → IsNumberOfInsert t p n h → IsNumberOfInsert t p n (h ++ more)
 insert_kept t p n h more is =
     let below = slice_get_within (numbered t h) (n - 1) (command.Insert is.insert) is.there in
     record {
@@ -70,7 +55,7 @@ insert_kept t p n h more is =
       partition_is = is.partition_is;
     }
 
-pub insert_was : (t : List ℕ) (p : Partition) (n : ℕ) (h more : History) → IsInsertOf t p n (h ++ more) → n ≤ length (numbered t h) → IsInsertOf t p n h
+pub insert_was : (t : List ℕ) (p : Partition) (n : ℕ) (h more : History) → IsNumberOfInsert t p n (h ++ more) → n ≤ length (numbered t h) → IsNumberOfInsert t p n h
 insert_was t p n h more is upto =
     let below : n - 1 < length (numbered t h) = omega (arith, is.from_one, upto) in
     record {
@@ -109,15 +94,15 @@ kept_more p a b n m (c ∷ cs) more is =
     ∙ if_front (is_within p a b n c) c (kept p a b (n + 1) cs) (kept p a b m more)
 
 -- commands with greater numbers change nothing
-pub live_kept : (t key : List ℕ) (p : Partition) (a b : ℕ) (h more : History) → b ≤ length (numbered t h) → live t key (within t p a b (h ++ more)) ≡ live t key (within t p a b h)
-live_kept t key p a b h more upto =
+pub live_kept : (t : List ℕ) (schema : Schema) (p : Partition) (a b : ℕ) (h more : History) → b ≤ length (numbered t h) → live t schema (within t p a b (h ++ more)) ≡ live t schema (within t p a b h)
+live_kept t schema p a b h more upto =
     let last = 1 + length (numbered t h) in
-    live_within t key p a b (h ++ more)
-    ∙ (ap (flat_map (sorted_by key))
+    live_within t schema p a b (h ++ more)
+    ∙ (ap (flat_map (sorted_by schema))
     (ap (kept p a b 1) (numbered_more t h more)
     ∙ (kept_more p a b 1 last (numbered t h) (numbered t more) refl
     ∙ (ap (λ (cs : List Command). kept p a b 1 (numbered t h) ++ cs) (kept_above p a b last (numbered t more) (omega (arith, upto))) ∙ append-nil (kept p a b 1 (numbered t h)))))
-    ∙ sym (live_within t key p a b h))
+    ∙ sym (live_within t schema p a b h))
 
 -- ---- parts
 
@@ -132,7 +117,7 @@ part_kept h more p s =
       greatest = insert_kept p.table p.name.partition p.name.max_block h more s.greatest;
       order = s.order;
       rising = s.rising;
-      partly = λ row. s.partly row ∙ ap (of_key s.schema.key row) (sym (live_kept p.table s.schema.key p.name.partition p.name.min_block p.name.max_block h more most));
+      partly = λ partition row. s.partly partition row ∙ ap (of_key s.schema partition row) (sym (live_kept p.table s.schema p.name.partition p.name.min_block p.name.max_block h more most));
     }
 
 -- parts of a table for which nothing drew a number
@@ -144,10 +129,6 @@ table_kept t ps h more none s =
       each = All-weaker (PartStands h) (PartStands (h ++ more)) (λ p one. part_kept h more p one) ps s.each;
       once = λ p n is. s.once p n (insert_was t p n h more is (subst (λ (cs : List Command). n ≤ length cs) same (number_drawn t p n (h ++ more) is)));
     }
-
-same_itself : (p : Partition) → same_partition p p ≡ true
-same_itself Whole = refl
-same_itself (Number n) = (Decides-eqb n n).1 refl
 
 -- a part ends no higher than this
 abbrev EndsBy : ℕ → CorePart → Type 0
@@ -181,7 +162,7 @@ module _ (h : History) (e : Entry) (i : Insert) (schema : Schema) (is : e.comman
   drawn_apart t apart = ap (λ c. cond (draws t c) (c ∷ []) []) is ∙ ap (λ b. cond b (command.Insert i ∷ []) []) apart
 
   -- its number is the last that was drawn
-  own_number : IsInsertOf i.table i.partition (length (numbered i.table h) + 1) (h ++ e ∷ [])
+  own_number : IsNumberOfInsert i.table i.partition (length (numbered i.table h) + 1) (h ++ e ∷ [])
   own_number =
       let count = length (numbered i.table h) in
       let back : count + 1 - 1 ≡ count = omega arith in
@@ -192,18 +173,18 @@ module _ (h : History) (e : Entry) (i : Insert) (schema : Schema) (is : e.comman
         partition_is = refl;
       }
 
-  own_rows : (key : List ℕ) → live i.table key (within i.table i.partition (length (numbered i.table h) + 1) (length (numbered i.table h) + 1) (h ++ e ∷ [])) ≡ sorted (key_cmp key) i.block.rows
-  own_rows key =
+  own_rows : live i.table schema (within i.table i.partition (length (numbered i.table h) + 1) (length (numbered i.table h) + 1) (h ++ e ∷ [])) ≡ sorted (sorting_cmp schema) i.block.rows
+  own_rows =
       let cs = numbered i.table h in
       let n = length cs + 1 in
       let yes : is_within i.partition n n n (command.Insert i) ≡ true =
       ap₂ ◌&&◌ (same_itself i.partition) (lies_inside n n n (omega arith) (omega arith)) in
-      live_within i.table key i.partition n n (h ++ e ∷ [])
-      ∙ (ap (flat_map (sorted_by key))
+      live_within i.table schema i.partition n n (h ++ e ∷ [])
+      ∙ (ap (flat_map (sorted_by schema))
       (ap (kept i.partition n n 1) drawn_here
       ∙ (kept_more i.partition n n 1 n cs (command.Insert i ∷ []) (omega arith)
       ∙ ap₂ (λ (xs : List Command) (s : Bool). xs ++ kept_if s (command.Insert i) []) (kept_below i.partition n n 1 cs (omega arith)) yes))
-      ∙ append-nil (sorted (key_cmp key) i.block.rows))
+      ∙ append-nil (sorted (sorting_cmp schema) i.block.rows))
 
   part_new : PartStands (h ++ e ∷ []) (part_of_insert schema (length (numbered i.table h) + 1) i)
   part_new = record {
@@ -212,8 +193,8 @@ module _ (h : History) (e : Entry) (i : Insert) (schema : Schema) (is : e.comman
     least = own_number;
     greatest = own_number;
     order = omega arith;
-    rising = sorted_rises (key_cmp schema.key) (key_total schema.key) i.block.rows;
-    partly = λ row. ap (of_key schema.key row) (sym (own_rows schema.key));
+    rising = sorted_rises (sorting_cmp schema) (sorting_total schema) i.block.rows;
+    partly = λ partition row. ap (of_key schema partition row) (sym own_rows);
   }
 
   one_insert : (k : Insert) → Some (command.Insert k) ≡ Some (command.Insert i) → k ≡ i
@@ -232,7 +213,7 @@ module _ (h : History) (e : Entry) (i : Insert) (schema : Schema) (is : e.comman
       ends : AllByRecursion (EndsBy (length (numbered i.table h))) ps
       ends = ends_all i.table h ps (recursion_from_All (λ (p : CorePart). p.table ≡ i.table) ps s.own) (recursion_from_All (PartStands h) ps s.each)
 
-      by : (w : Partition) (n : ℕ) → IsInsertOf i.table w n (h ++ e ∷ []) → (length (numbered i.table h) < n) ⊎ (n ≤ length (numbered i.table h)) → count_by (has_block w n) (ps ++ part_of_insert schema (length (numbered i.table h) + 1) i ∷ []) ≡ 1
+      by : (w : Partition) (n : ℕ) → IsNumberOfInsert i.table w n (h ++ e ∷ []) → (length (numbered i.table h) < n) ⊎ (n ≤ length (numbered i.table h)) → count_by (has_block w n) (ps ++ part_of_insert schema (length (numbered i.table h) + 1) i ∷ []) ≡ 1
       by w n at (inr upto) =
           let count = length (numbered i.table h) in
           let p = part_of_insert schema (count + 1) i in

@@ -13,14 +13,14 @@ use Rattle.mt_base.specs.declared.partition.Partition.TheVariants.{Whole}
 use Rattle.mt_values.specs.declared.command.Command.{Command}
 use Rattle.mt_values.specs.declared.command.Command.TheVariants as command
 use Rattle.mt_values.specs.declared.schema.Schema.{Schema}
-use Rattle.mt_values.specs.Order.{key_cmp}
+use Rattle.mt_values.specs.Tables.{partition_of, same_partition, sorting_cmp}
 use Rattle.mt_values.specs.Values.{Row}
 use Rattle.mt_model.specs.History.{History, IsLegal, schema_of}
 use Rattle.mt_model.specs.Live.{live, of_key}
+use Rattle.mt_model.specs.Numbers.{IsNumberOfInsert, lies_within, numbered, within}
 use Rattle.mt_model.specs.Partial.{Partly}
 use Rattle.mt_model.proofs.Sorting.{sorted_tail}
 use Rattle.part_history.specs.declared.part.CorePart.{CorePart}
-use Rattle.part_history.specs.Numbers.{IsInsertOf, lies_within, numbered, same_partition, within}
 use Rattle.part_history.specs.Parts.{AreInBlockOrder, PartStands, TableStands, block_cmp, has_block, partition_cmp, rows_of_parts}
 use Rattle.part_history.proofs.Numbered.{all_whole, insert_at, kept, live_numbered, live_within, segment, sorted_by, whole_at, whole_kept}
 use Rattle.part_history.proofs.Ranges.{Climbs, Range, Stays, holds, ranges_joined, segment_all}
@@ -73,7 +73,7 @@ module _ (h : History) (table : List ℕ) (schema : Schema) (legal : IsLegal h) 
     whole : p.name.partition ≡ Whole
     from : 1 ≤ p.name.min_block
     upto : p.name.max_block ≤ length cs
-    partly : Partly schema.key (flat_map (sorted_by schema.key) (segment p.name.min_block p.name.max_block 1 cs)) p.rows
+    partly : Partly schema (flat_map (sorted_by schema) (segment p.name.min_block p.name.max_block 1 cs)) p.rows
 
   fits_here : (p : CorePart) → p.table ≡ table → PartStands h p → Fits p
   unfolding cs
@@ -83,16 +83,16 @@ module _ (h : History) (table : List ℕ) (schema : Schema) (legal : IsLegal h) 
       let below : p.name.max_block - 1 < length (numbered p.table h) = slice_get_within (numbered p.table h) (p.name.max_block - 1) (command.Insert s.greatest.insert) s.greatest.there in
       let most : p.name.max_block ≤ length (numbered p.table h) = omega (arith, below, s.greatest.from_one) in
       let same : s.schema ≡ schema = same_schema s.schema schema (sym s.there ∙ (ap (λ t. schema_of t h) own ∙ there)) in
-      let rows : live p.table s.schema.key (within p.table p.name.partition p.name.min_block p.name.max_block h) ≡ flat_map (sorted_by schema.key) (segment p.name.min_block p.name.max_block 1 (numbered table h)) =
-      live_within p.table s.schema.key p.name.partition p.name.min_block p.name.max_block h
-      ∙ (ap₂ (λ (k : List ℕ) (w : Partition). flat_map (sorted_by k) (kept w p.name.min_block p.name.max_block 1 (numbered p.table h))) (ap (λ (x : Schema). x.key) same) whole
-      ∙ (ap (flat_map (sorted_by schema.key)) (whole_kept p.name.min_block p.name.max_block 1 (numbered p.table h) all)
-      ∙ ap (λ t. flat_map (sorted_by schema.key) (segment p.name.min_block p.name.max_block 1 (numbered t h))) own)) in
+      let rows : live p.table s.schema (within p.table p.name.partition p.name.min_block p.name.max_block h) ≡ flat_map (sorted_by schema) (segment p.name.min_block p.name.max_block 1 (numbered table h)) =
+      live_within p.table s.schema p.name.partition p.name.min_block p.name.max_block h
+      ∙ (ap₂ (λ (x : Schema) (w : Partition). flat_map (sorted_by x) (kept w p.name.min_block p.name.max_block 1 (numbered p.table h))) same whole
+      ∙ (ap (flat_map (sorted_by schema)) (whole_kept p.name.min_block p.name.max_block 1 (numbered p.table h) all)
+      ∙ ap (λ t. flat_map (sorted_by schema) (segment p.name.min_block p.name.max_block 1 (numbered t h))) own)) in
       record {
         whole = whole;
         from = s.least.from_one;
         upto = subst (λ t. p.name.max_block ≤ length (numbered t h)) own most;
-        partly = λ row. sym (ap (λ (x : Schema). of_key x.key row p.rows) same) ∙ (s.partly row ∙ (ap (λ (x : Schema). of_key x.key row (live p.table s.schema.key (within p.table p.name.partition p.name.min_block p.name.max_block h))) same ∙ ap (of_key schema.key row) rows));
+        partly = λ w row. sym (ap (λ (x : Schema). of_key x w row p.rows) same) ∙ (s.partly w row ∙ (ap (λ (x : Schema). of_key x w row (live p.table s.schema (within p.table p.name.partition p.name.min_block p.name.max_block h))) same ∙ ap (of_key schema w row) rows));
       }
 
   fits_all : (ps : List CorePart) → AllByRecursion (λ (p : CorePart). p.table ≡ table) ps → AllByRecursion (PartStands h) ps → AllByRecursion Fits ps
@@ -108,29 +108,29 @@ module _ (h : History) (table : List ℕ) (schema : Schema) (legal : IsLegal h) 
   stays_all (p ∷ ps) fits = ((λ some. fits.0.from, fits.0.upto), stays_all ps fits.1)
 
   -- the rows of each key, part after part
-  keys_joined : (row : Row) (ps : List CorePart) → AllByRecursion Fits ps
-      → of_key schema.key row (rows_of_parts ps) ≡ of_key schema.key row (flat_map (λ (p : CorePart). flat_map (sorted_by schema.key) (segment p.name.min_block p.name.max_block 1 cs)) ps)
-  keys_joined row [] fits = refl
-  keys_joined row (p ∷ ps) fits =
-      let f : Row → Bool = λ r. is_eq (key_cmp schema.key row r) in
-      let mine = flat_map (sorted_by schema.key) (segment p.name.min_block p.name.max_block 1 cs) in
-      let others = flat_map (λ (q : CorePart). flat_map (sorted_by schema.key) (segment q.name.min_block q.name.max_block 1 cs)) ps in
+  keys_joined : (w : Partition) (row : Row) (ps : List CorePart) → AllByRecursion Fits ps
+      → of_key schema w row (rows_of_parts ps) ≡ of_key schema w row (flat_map (λ (p : CorePart). flat_map (sorted_by schema) (segment p.name.min_block p.name.max_block 1 cs)) ps)
+  keys_joined w row [] fits = refl
+  keys_joined w row (p ∷ ps) fits =
+      let f : Row → Bool = λ r. same_partition (partition_of schema r) w && is_eq (sorting_cmp schema row r) in
+      let mine = flat_map (sorted_by schema) (segment p.name.min_block p.name.max_block 1 cs) in
+      let others = flat_map (λ (q : CorePart). flat_map (sorted_by schema) (segment q.name.min_block q.name.max_block 1 cs)) ps in
       filter-append f p.rows (rows_of_parts ps)
-      ∙ (ap₂ (λ (xs ys : List Row). xs ++ ys) (fits.0.partly row) (keys_joined row ps fits.1) ∙ sym (filter-append f mine others))
+      ∙ (ap₂ (λ (xs ys : List Row). xs ++ ys) (fits.0.partly w row) (keys_joined w row ps fits.1) ∙ sym (filter-append f mine others))
 
-  pub parts_joined : (ps : List CorePart) → TableStands table ps h → AreInBlockOrder ps → Partly schema.key (live table schema.key h) (rows_of_parts ps)
+  pub parts_joined : (ps : List CorePart) → TableStands table ps h → AreInBlockOrder ps → Partly schema (live table schema h) (rows_of_parts ps)
   unfolding cs
-  parts_joined ps stands order row =
+  parts_joined ps stands order w row =
       let fits = fits_all ps (recursion_from_All (λ (p : CorePart). p.table ≡ table) ps stands.own) (recursion_from_All (PartStands h) ps stands.each) in
       let whole = wholes ps fits in
       let once : (n : ℕ) → 1 ≤ n → n ≤ length cs → count_by (holds n) (map range_of ps) ≡ 1 =
       λ n from upto.
       let at = insert_at cs (n - 1) (all_whole table h legal) (omega (arith, from, upto)) in
-      let is : IsInsertOf table Whole n h = record { from_one = from; insert = at.insert; there = at.there; partition_is = at.whole } in
+      let is : IsNumberOfInsert table Whole n h = record { from_one = from; insert = at.insert; there = at.there; partition_is = at.whole } in
       sym (count_ranges n ps whole) ∙ stands.once Whole n is in
       let all : flat_map (λ (p : CorePart). segment p.name.min_block p.name.max_block 1 cs) ps ≡ cs =
       sym (flat_map-map (λ (r : Range). segment r.0 r.1 1 cs) range_of ps)
       ∙ (ranges_joined cs (map range_of ps) 0 1 (length cs) (climbs_all ps whole order) (stays_all ps fits) once ∙ segment_all 1 (length cs) 1 cs (omega arith) (omega arith)) in
-      keys_joined row ps fits
-      ∙ ap (of_key schema.key row)
-      (flat_maps (sorted_by schema.key) (λ (p : CorePart). segment p.name.min_block p.name.max_block 1 cs) ps ∙ (ap (flat_map (sorted_by schema.key)) all ∙ sym (live_numbered table schema.key h)))
+      keys_joined w row ps fits
+      ∙ ap (of_key schema w row)
+      (flat_maps (sorted_by schema) (λ (p : CorePart). segment p.name.min_block p.name.max_block 1 cs) ps ∙ (ap (flat_map (sorted_by schema)) all ∙ sym (live_numbered table schema h)))

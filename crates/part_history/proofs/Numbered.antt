@@ -8,33 +8,35 @@ use Rattle.mt_values.specs.declared.command.Command.TheVariants as command
 use Rattle.mt_values.specs.declared.command.Entry.{Entry}
 use Rattle.mt_values.specs.declared.command.Insert.{Insert}
 use Rattle.mt_values.specs.Grammar.{same_bytes}
-use Rattle.mt_values.specs.Order.{key_cmp}
+use Rattle.mt_values.specs.declared.schema.Schema.{Schema}
+use Rattle.mt_values.specs.Tables.{same_partition, sorting_cmp}
 use Rattle.mt_values.specs.Values.{Row}
 use Rattle.mt_model.specs.History.{History, IsLegal, IsLegalAfter, IsAllowed}
 use Rattle.mt_model.specs.Live.{live, live_from, rows_after, sorted}
-use Rattle.part_history.specs.Numbers.{draws, in_front_if, is_within, lies_within, numbered, same_partition, within, within_from}
+use Rattle.mt_model.specs.Numbers.{draws, entry_if, is_within, lies_within, numbered, within, within_from}
+use Rattle.mt_model.proofs.Commands.{own_partition}
 
--- the rows that a command adds, in the order of the key
-abbrev pub sorted_by : List ℕ → Command → List Row
-sorted_by key (command.Create c) = []
-sorted_by key (command.Insert i) = sorted (key_cmp key) i.block.rows
+-- the rows that a command adds, in the table's order
+abbrev pub sorted_by : Schema → Command → List Row
+sorted_by schema (command.Create c) = []
+sorted_by schema (command.Insert i) = sorted (sorting_cmp schema) i.block.rows
 
-live_by : (t key : List ℕ) (c : Command) (rows : List Row) (rest : List Command)
-    → rows_after t key rows c ++ flat_map (sorted_by key) rest ≡ rows ++ flat_map (sorted_by key) (cond (draws t c) (c ∷ rest) rest)
-live_by t key (command.Create c) rows rest = refl
-live_by t key (command.Insert i) rows rest =
-    elim (same_bytes i.table t) as (λ b. (cond b (rows ++ sorted (key_cmp key) i.block.rows) rows) ++ flat_map (sorted_by key) rest ≡ rows ++ flat_map (sorted_by key) (cond b (command.Insert i ∷ rest) rest)) [
-      | true ↦ append_assoc rows (sorted (key_cmp key) i.block.rows) (flat_map (sorted_by key) rest)
+live_by : (t : List ℕ) (schema : Schema) (c : Command) (rows : List Row) (rest : List Command)
+    → rows_after t schema rows c ++ flat_map (sorted_by schema) rest ≡ rows ++ flat_map (sorted_by schema) (cond (draws t c) (c ∷ rest) rest)
+live_by t schema (command.Create c) rows rest = refl
+live_by t schema (command.Insert i) rows rest =
+    elim (same_bytes i.table t) as (λ b. (cond b (rows ++ sorted (sorting_cmp schema) i.block.rows) rows) ++ flat_map (sorted_by schema) rest ≡ rows ++ flat_map (sorted_by schema) (cond b (command.Insert i ∷ rest) rest)) [
+      | true ↦ append_assoc rows (sorted (sorting_cmp schema) i.block.rows) (flat_map (sorted_by schema) rest)
       | false ↦ refl
     ]
 
-live_from_numbered : (t key : List ℕ) (rows : List Row) (h : History) → live_from t key rows h ≡ rows ++ flat_map (sorted_by key) (numbered t h)
-live_from_numbered t key rows [] = sym (append-nil rows)
-live_from_numbered t key rows (e ∷ h) = live_from_numbered t key (rows_after t key rows e.command) h ∙ live_by t key e.command rows (numbered t h)
+live_from_numbered : (t : List ℕ) (schema : Schema) (rows : List Row) (h : History) → live_from t schema rows h ≡ rows ++ flat_map (sorted_by schema) (numbered t h)
+live_from_numbered t schema rows [] = sym (append-nil rows)
+live_from_numbered t schema rows (e ∷ h) = live_from_numbered t schema (rows_after t schema rows e.command) h ∙ live_by t schema e.command rows (numbered t h)
 
 -- the live rows are those of the table's commands, in order
-pub live_numbered : (t key : List ℕ) (h : History) → live t key h ≡ flat_map (sorted_by key) (numbered t h)
-live_numbered t key h = live_from_numbered t key [] h
+pub live_numbered : (t : List ℕ) (schema : Schema) (h : History) → live t schema h ≡ flat_map (sorted_by schema) (numbered t h)
+live_numbered t schema h = live_from_numbered t schema [] h
 
 -- a command in front, where it stays
 abbrev pub kept_if : Bool → Command → List Command → List Command
@@ -45,7 +47,7 @@ abbrev pub kept : Partition → ℕ → ℕ → ℕ → List Command → List Co
 kept p a b n [] = []
 kept p a b n (c ∷ cs) = kept_if (is_within p a b n c) c (kept p a b (n + 1) cs)
 
-front_numbered : (t : List ℕ) (stays : Bool) (e : Entry) (h : History) (cs : List Command) → draws t e.command ≡ true → numbered t h ≡ cs → numbered t (in_front_if stays e h) ≡ kept_if stays e.command cs
+front_numbered : (t : List ℕ) (stays : Bool) (e : Entry) (h : History) (cs : List Command) → draws t e.command ≡ true → numbered t h ≡ cs → numbered t (entry_if stays e h) ≡ kept_if stays e.command cs
 front_numbered t true e h cs drew same = ap (λ d. cond d (e.command ∷ numbered t h) (numbered t h)) drew ∙ ap (λ (xs : List Command). e.command ∷ xs) same
 front_numbered t false e h cs drew same = same
 
@@ -55,13 +57,13 @@ numbered_within t p a b n [] = refl
 numbered_within t p a b n (e ∷ h) = by (draws t e.command) refl (numbered_within t p a b (n + 1) h) (numbered_within t p a b n h)
   where
     by : (d : Bool) → draws t e.command ≡ d → numbered t (within_from t p a b (n + 1) h) ≡ kept p a b (n + 1) (numbered t h) → numbered t (within_from t p a b n h) ≡ kept p a b n (numbered t h)
-        → numbered t (cond d (in_front_if (is_within p a b n e.command) e (within_from t p a b (n + 1) h)) (e ∷ within_from t p a b n h)) ≡ kept p a b n (cond d (e.command ∷ numbered t h) (numbered t h))
+        → numbered t (cond d (entry_if (is_within p a b n e.command) e (within_from t p a b (n + 1) h)) (e ∷ within_from t p a b n h)) ≡ kept p a b n (cond d (e.command ∷ numbered t h) (numbered t h))
     by true drew next here = front_numbered t (is_within p a b n e.command) e (within_from t p a b (n + 1) h) (kept p a b (n + 1) (numbered t h)) drew next
     by false drew next here = ap (λ d. cond d (e.command ∷ numbered t (within_from t p a b n h)) (numbered t (within_from t p a b n h))) drew ∙ here
 
 -- the live rows within some numbers
-pub live_within : (t key : List ℕ) (p : Partition) (a b : ℕ) (h : History) → live t key (within t p a b h) ≡ flat_map (sorted_by key) (kept p a b 1 (numbered t h))
-live_within t key p a b h = live_numbered t key (within t p a b h) ∙ ap (flat_map (sorted_by key)) (numbered_within t p a b 1 h)
+pub live_within : (t : List ℕ) (schema : Schema) (p : Partition) (a b : ℕ) (h : History) → live t schema (within t p a b h) ≡ flat_map (sorted_by schema) (kept p a b 1 (numbered t h))
+live_within t schema p a b h = live_numbered t schema (within t p a b h) ∙ ap (flat_map (sorted_by schema)) (numbered_within t p a b 1 h)
 
 -- ---- tables of one partition
 
@@ -88,7 +90,7 @@ whole_by t before (command.Create c) cs allowed all = all
 whole_by t before (command.Insert i) cs allowed all = by (same_bytes i.table t)
   where
     by : (b : Bool) → AllByRecursion IsWhole (cond b (command.Insert i ∷ cs) cs)
-    by true = (allowed.2.partition, all)
+    by true = (own_partition allowed.0 i allowed.2, all)
     by false = all
 
 whole_after : (t : List ℕ) (before h : History) → IsLegalAfter before h → AllByRecursion IsWhole (numbered t h)

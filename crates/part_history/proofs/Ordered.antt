@@ -6,10 +6,11 @@ use Rattle.std.proofs.lemmas.List.Kept.{IsSortedBy-push}
 use Rattle.mt_base.specs.declared.partition.Partition.TheVariants.{Whole}
 use Rattle.mt_values.specs.declared.command.Insert.{Insert}
 use Rattle.mt_values.specs.declared.schema.Schema.{Schema}
+use Rattle.mt_values.specs.Tables.{MayHavePartition}
 use Rattle.mt_model.specs.History.{History, IsLegal}
+use Rattle.mt_model.specs.Numbers.{numbered}
 use Rattle.part_history.specs.declared.part.CorePart.{CorePart}
 use Rattle.part_history.specs.Entered.{next_number, part_of_insert}
-use Rattle.part_history.specs.Numbers.{numbered}
 use Rattle.part_history.specs.Parts.{AreInBlockOrder, PartStands, TableStands, block_cmp, partition_cmp}
 use Rattle.part_history.proofs.Growing.{number_drawn}
 use Rattle.part_history.proofs.Numbered.{all_whole, whole_at}
@@ -29,7 +30,7 @@ order_push : (ps : List CorePart) (part : CorePart) → AreInBlockOrder ps → A
 order_push ps part up all = IsSortedBy-push (λ x y. is_lt (block_cmp x y)) ps part up (λ d some. all (length ps - 1) d (omega arith))
 
 -- an INSERT's part comes behind the others of its table
-pub order_grown : (h : History) (i : Insert) (schema : Schema) (ps : List CorePart) → IsLegal h → i.partition ≡ Whole → TableStands i.table ps h → AreInBlockOrder ps → AreInBlockOrder (ps ++ part_of_insert schema (next_number i.table h) i ∷ [])
+pub order_grown : (h : History) (i : Insert) (schema : Schema) (ps : List CorePart) → IsLegal h → MayHavePartition schema i.partition → TableStands i.table ps h → AreInBlockOrder ps → AreInBlockOrder (ps ++ part_of_insert schema (next_number i.table h) i ∷ [])
 order_grown h i schema ps legal whole stands up =
     order_push ps (part_of_insert schema (next_number i.table h) i) up
     (λ k d below. last_behind h i.table (part_of_insert schema (next_number i.table h) i) (get_or ps k d) legal whole (omega arith) (stands.own k d below) (stands.each k d below))

@@ -5,7 +5,7 @@ use Rattle.std.proofs.lemmas.Bool.{cases_lt}
 use Rattle.std.proofs.lemmas.Bool.Decides.{nat_tests}
 use Rattle.std.proofs.lemmas.List.Sums.{sum_by-cons}
 use Rattle.mt_values.specs.declared.command.Command.{Command}
-use Rattle.part_history.specs.Numbers.{lies_within}
+use Rattle.mt_model.specs.Numbers.{lies_within}
 use Rattle.part_history.proofs.Numbered.{kept_if, segment}
 
 -- the least and the greatest number of a range

@@ -1,3 +1,2 @@
 pub mod Entered
-pub mod Numbers
 pub mod Parts

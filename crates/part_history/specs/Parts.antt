@@ -9,19 +9,23 @@ use Rattle.mt_base.specs.declared.partition.Partition.{Partition}
 use Rattle.mt_base.specs.declared.partition.Partition.TheVariants.{Whole, Number}
 use Rattle.mt_values.specs.declared.schema.Schema.{Schema}
 use Rattle.mt_values.specs.Grammar.{same_bytes}
-use Rattle.mt_values.specs.Order.{key_cmp}
+use Rattle.mt_values.specs.Tables.{same_partition, sorting_cmp}
 use Rattle.mt_values.specs.Values.{Row}
 use Rattle.mt_model.specs.History.{History, schema_of}
 use Rattle.mt_model.specs.Live.{live}
+use Rattle.mt_model.specs.Numbers.{IsNumberOfInsert, lies_within, within}
 use Rattle.mt_model.specs.Partial.{Partly}
 use Rattle.part_history.specs.declared.part.CorePart.{CorePart}
-use Rattle.part_history.specs.Numbers.{IsInsertOf, lies_within, same_partition, within}
 
 -- the parts of a table, in their order (docs/definitions.md, "The core")
 abbrev pub parts_of : List ℕ → List CorePart → List CorePart
 parts_of table parts = filter (λ (p : CorePart). same_bytes p.table table) parts
 
--- the rows of parts, one part after another
+-- the parts of one partition, in their order (docs/definitions.md, "The core")
+abbrev pub parts_in : Partition → List CorePart → List CorePart
+parts_in partition parts = filter (λ (p : CorePart). same_partition p.name.partition partition) parts
+
+-- the rows of parts, one part after another (docs/definitions.md, "The core")
 abbrev pub rows_of_parts : List CorePart → List Row
 rows_of_parts parts = flat_map (λ (p : CorePart). p.rows) parts
 
@@ -34,16 +38,16 @@ pub record PartStands (h : History) (part : CorePart) : Type 0 where
   pub schema : Schema
   pub there : schema_of part.table h ≡ Some schema
   pub order : part.name.min_block ≤ part.name.max_block
-  pub least : IsInsertOf part.table part.name.partition part.name.min_block h
-  pub greatest : IsInsertOf part.table part.name.partition part.name.max_block h
-  pub rising : IsSorted (key_cmp schema.key) part.rows
-  pub partly : Partly schema.key (live part.table schema.key (within part.table part.name.partition part.name.min_block part.name.max_block h)) part.rows
+  pub least : IsNumberOfInsert part.table part.name.partition part.name.min_block h
+  pub greatest : IsNumberOfInsert part.table part.name.partition part.name.max_block h
+  pub rising : IsSorted (sorting_cmp schema) part.rows
+  pub partly : Partly schema (live part.table schema (within part.table part.name.partition part.name.min_block part.name.max_block h)) part.rows
 
 -- parts of one table stand for its commands: each number of an INSERT is in the blocks of exactly one of its partition (docs/definitions.md, "The core")
 pub record TableStands (table : List ℕ) (parts : List CorePart) (h : History) : Type 0 where
   pub own : All (λ (p : CorePart). p.table ≡ table) parts
   pub each : All (PartStands h) parts
-  pub once : (partition : Partition) (n : ℕ) → IsInsertOf table partition n h → count_by (has_block partition n) parts ≡ 1
+  pub once : (partition : Partition) (n : ℕ) → IsNumberOfInsert table partition n h → count_by (has_block partition n) parts ≡ 1
 
 -- the parts stand for the history: those of every table do (docs/definitions.md, "The core")
 abbrev pub PartsStand : List CorePart → History → Type 0

@@ -1,23 +1,24 @@
 // Laws of the definitions: what follows from them, whatever a program does. Each function has an empty body and the law as its contract.
 ghost use Rattle.std.specs.Prelude.{◌≡◌, ◌≢◌, ◌⊎◌, ◌<◌, ◌≤◌, ◌++◌, ◌∷◌, [], All, List, ℕ, Some, length, slice_get};
-ghost use Rattle.mt_base.specs.declared.partition.Partition.TheVariants.{Whole};
+ghost use Rattle.mt_base.specs.declared.partition.Partition.{Partition};
 ghost use Rattle.mt_values.specs.declared.command.Command.TheVariants as command;
 ghost use Rattle.mt_values.specs.declared.command.Insert.{Insert};
 ghost use Rattle.mt_values.specs.declared.schema.Schema.{Schema};
-ghost use Rattle.mt_model.specs.History.{History, IsLegal, inserts, schema_of};
+ghost use Rattle.mt_values.specs.Tables.{MayHavePartition};
+ghost use Rattle.mt_model.specs.History.{History, IsLegal, entered, inserts, schema_of};
 ghost use Rattle.mt_model.specs.Live.{live};
+ghost use Rattle.mt_model.specs.Numbers.{numbered};
 ghost use Rattle.mt_model.specs.Partial.{Partly};
 ghost use Rattle.part_name.specs.PartNames.{Before, IsPartName};
 ghost use Rattle.part_history.specs.declared.part.CorePart.{CorePart};
-ghost use Rattle.part_history.specs.Entered.{entered, next_number, part_of_insert};
-ghost use Rattle.part_history.specs.Numbers.{numbered};
-ghost use Rattle.part_history.specs.Parts.{AreInBlockOrder, TableStands, rows_of_parts};
+ghost use Rattle.part_history.specs.Entered.{next_number, part_of_insert};
+ghost use Rattle.part_history.specs.Parts.{AreInBlockOrder, TableStands, parts_in, rows_of_parts};
 
 /// The rows of the parts that stand for a table, part after part in block order, are what merges may have left of its live rows.
 pub fn parts_stand_for_live_rows()
     ensures { (h : History) (table : List ℕ) (schema : Schema) (parts : List CorePart)
         → IsLegal h → schema_of table h ≡ Some schema → TableStands table parts h → AreInBlockOrder parts
-        → Partly schema.key (live table schema.key h) (rows_of_parts parts) }
+        → Partly schema (live table schema h) (rows_of_parts parts) }
 {}
 
 /// The parts that stand for a table stand for it as the history grows: where nothing drew a number of it they stay, and an
@@ -25,19 +26,24 @@ pub fn parts_stand_for_live_rows()
 pub fn parts_stand_as_histories_grow()
     ensures other { (h more : History) (table : List ℕ) (parts : List CorePart) → numbered table more ≡ [] → TableStands table parts h → TableStands table parts (h ++ more) }
     ensures insert { (h : History) (session : ℕ) (i : Insert) (schema : Schema) (parts : List CorePart) → schema_of i.table h ≡ Some schema → TableStands i.table parts h
-        → TableStands i.table (parts ++ part_of_insert schema (next_number i.table h) i ∷ []) (entered h session (command.Insert i)) }
-    ensures order { (h : History) (i : Insert) (schema : Schema) (parts : List CorePart) → IsLegal h → i.partition ≡ Whole → TableStands i.table parts h → AreInBlockOrder parts
+        → TableStands i.table (parts ++ part_of_insert schema (next_number i.table h) i ∷ []) (entered h session (command.Insert i ∷ [])) }
+    ensures order { (h : History) (i : Insert) (schema : Schema) (parts : List CorePart) → IsLegal h → MayHavePartition schema i.partition → TableStands i.table parts h → AreInBlockOrder parts
         → AreInBlockOrder (parts ++ part_of_insert schema (next_number i.table h) i ∷ []) }
 {}
 
-/// The parts that stand for a table end below its next number, and of two of them one stands before the other.
+/// The parts that stand for a table are of partitions that it may have and end below its next number, and of two of one
+/// partition one stands before the other.
 pub fn parts_stand_apart()
+    ensures may { (h : History) (table : List ℕ) (schema : Schema) (parts : List CorePart) → IsLegal h → schema_of table h ≡ Some schema
+        → TableStands table parts h → All (λ p. MayHavePartition schema p.name.partition) parts }
     ensures below { (h : History) (table : List ℕ) (parts : List CorePart) → TableStands table parts h → All (λ p. p.name.max_block < next_number table h) parts }
-    ensures before { (h : History) (table : List ℕ) (parts : List CorePart) (i j : ℕ) (a b : CorePart) → IsLegal h → TableStands table parts h
-        → slice_get parts i ≡ Some a → slice_get parts j ≡ Some b → i ≢ j → IsPartName a.name → IsPartName b.name → Before a.name b.name ⊎ Before b.name a.name }
+    ensures before { (h : History) (table : List ℕ) (parts : List CorePart) (i j : ℕ) (a b : CorePart) → TableStands table parts h
+        → slice_get parts i ≡ Some a → slice_get parts j ≡ Some b → i ≢ j → a.name.partition ≡ b.name.partition
+        → IsPartName a.name → IsPartName b.name → Before a.name b.name ⊎ Before b.name a.name }
 {}
 
-/// A table has at most one part for each INSERT that was accepted into it: merges leave fewer.
+/// A table has in a partition at most one part for each INSERT that was accepted into it: merges leave fewer.
 pub fn parts_are_at_most_inserts()
-    ensures { (h : History) (table : List ℕ) (parts : List CorePart) → IsLegal h → TableStands table parts h → length parts ≤ inserts table h }
+    ensures { (h : History) (table : List ℕ) (parts : List CorePart) (partition : Partition)
+        → TableStands table parts h → length (parts_in partition parts) ≤ inserts table partition h }
 {}
