@@ -22,9 +22,10 @@ use Rattle.mt_values.specs.Grid.{IsOrderBy, picked}
 use Rattle.mt_values.specs.Order.{key_cmp}
 use Rattle.mt_values.specs.Values.{Row}
 use Rattle.mt_values.proofs.Grids.{filter_map_more}
-use Rattle.mt_model.specs.History.{History, IsAllowed, IsInsertInto, IsLegal, IsLegalAfter, IsTableSchema, creates, first_of, is_create, schema_by, schema_of}
+use Rattle.mt_model.specs.History.{History, IsAllowed, IsInsertInto, IsLegal, IsLegalAfter, IsTableSchema, creates, entered, first_of, is_create, schema_by, schema_of}
 use Rattle.mt_model.specs.Live.{sorted}
 use Rattle.mt_model.proofs.Determined.{key_total}
+use Rattle.mt_model.proofs.Histories.{numbered_more, schema_kept, schema_more}
 use Rattle.mt_model.proofs.SameKeys.{stable_is_sorted}
 use Rattle.mt_model.proofs.Tables.{itself_same, same_is}
 use Rattle.part_history.specs.declared.part.CorePart.{CorePart}
@@ -32,12 +33,12 @@ use Rattle.table_core.specs.declared.snapshot.Snapshot.{Snapshot}
 use Rattle.table_core.specs.declared.store.Store.{Store}
 use Rattle.table_core.specs.declared.store.Table.{Table}
 use Rattle.table_core.specs.Core.{Core, IsCore}
-use Rattle.part_history.specs.Numbers.{draws, numbered}
+use Rattle.mt_model.specs.Numbers.{draws, numbered}
 use Rattle.part_history.specs.Parts.{parts_of}
-use Rattle.part_history.specs.Entered.{entered, part_of_insert}
+use Rattle.part_history.specs.Entered.{part_of_insert}
 use Rattle.table_core.specs.Steps.{AcceptsInsert, AddsPart, snapshot_of}
 use Rattle.table_core.specs.Store.{AddsTable, IsNotNamed, IsStore, Named, SameStore, StandsAt, TableKept, core_of, empty_table, name_by, parts_in, table_names, with_part}
-use Rattle.part_history.proofs.Growing.{drawn_apart, drawn_here, numbered_more, schema_kept, schema_more}
+use Rattle.part_history.proofs.Growing.{drawn_apart, drawn_here}
 use Rattle.table_core.proofs.Stepping.{create_core, insert_core, take_core}
 use Rattle.table_core.proofs.Stored.{one_value, same_turned, set_here, slice_here}
 
@@ -234,10 +235,10 @@ table_still h e t none k = record {
 }
 
 module _ (old new : Store) (session : ℕ) (c : Create) (is : IsStore old) (adds : AddsTable c old.tables.entries new.tables.entries)
-    (entries : new.entries.items ≡ entered old.entries.items session (command.Create c)) (snapshots : new.snapshots.items ≡ old.snapshots.items) where
-  pub create_is : core_of new ≡ record { parts = parts_in old.tables.entries; history = entered old.entries.items session (command.Create c); snapshots = old.snapshots.items }
+    (entries : new.entries.items ≡ entered old.entries.items session (command.Create c ∷ [])) (snapshots : new.snapshots.items ≡ old.snapshots.items) where
+  pub create_is : core_of new ≡ record { parts = parts_in old.tables.entries; history = entered old.entries.items session (command.Create c ∷ []); snapshots = old.snapshots.items }
   create_is =
-      core_is (core_of new) (record { parts = parts_in old.tables.entries; history = entered old.entries.items session (command.Create c); snapshots = old.snapshots.items })
+      core_is (core_of new) (record { parts = parts_in old.tables.entries; history = entered old.entries.items session (command.Create c ∷ []); snapshots = old.snapshots.items })
       (ap parts_in adds.tables_are
       ∙ (flat_map-append (λ (t : Named). t.1.parts) old.tables.entries ((adds.key, empty_table c.schema) ∷ []) ∙ append-nil (parts_in old.tables.entries)))
       entries snapshots
@@ -271,7 +272,7 @@ module _ (old new : Store) (session : ℕ) (c : Create) (is : IsStore old) (adds
 module _ (old new : Store) (session : ℕ) (i : Insert) (place number : ℕ) (is : IsStore old) (s : StandsAt old.tables.entries i.table place)
     (drawn : number ≡ length (numbered i.table old.entries.items) + 1) (fits : number ≤ 4294967295)
     (tables : new.tables.entries ≡ set_value_at old.tables.entries place (with_part s.here.1 (part_of_insert s.here.1.schema number i) number))
-    (entries : new.entries.items ≡ entered old.entries.items session (command.Insert i)) (snapshots : new.snapshots.items ≡ old.snapshots.items) where
+    (entries : new.entries.items ≡ entered old.entries.items session (command.Insert i ∷ [])) (snapshots : new.snapshots.items ≡ old.snapshots.items) where
   abbrev part : CorePart
   part = part_of_insert s.here.1.schema number i
 

@@ -14,8 +14,9 @@ use Rattle.mt_values.specs.declared.command.Entry.{Entry}
 use Rattle.mt_values.specs.declared.command.Insert.{Insert}
 use Rattle.mt_values.specs.declared.schema.Schema.{Schema}
 use Rattle.mt_values.specs.Grammar.{same_bytes}
-use Rattle.mt_model.specs.History.{History, IsInsertInto, IsLegal, IsTableSchema, creates, schema_of}
+use Rattle.mt_model.specs.History.{History, IsInsertInto, IsLegal, IsTableSchema, creates, entered, schema_of}
 use Rattle.mt_model.proofs.Histories.{legal_front, legal_push}
+use Rattle.mt_model.proofs.Commands.{own_partition}
 use Rattle.mt_model.proofs.Tables.{itself_same, same_is}
 use Rattle.table_core.specs.declared.event.Accept.{Accept}
 use Rattle.table_core.specs.declared.event.Accept.TheVariants as accept
@@ -29,9 +30,8 @@ use Rattle.table_core.specs.declared.event.Outcome.TheVariants as outcome
 use Rattle.part_history.specs.declared.part.CorePart.{CorePart}
 use Rattle.table_core.specs.declared.snapshot.Snapshot.{Snapshot}
 use Rattle.table_core.specs.Core.{Core, IsCore, IsSnapshot}
-use Rattle.part_history.specs.Numbers.{numbered}
 use Rattle.part_history.specs.Parts.{AreInBlockOrder, PartStands, PartsStand, TableStands, block_cmp, partition_cmp, parts_of, rows_of_parts}
-use Rattle.part_history.specs.Entered.{entered, next_number, part_of_insert}
+use Rattle.part_history.specs.Entered.{next_number, part_of_insert}
 use Rattle.table_core.specs.Steps.{AcceptGives, AcceptsInsert, AddsPart, AreLeftOf, CrashMeets, Gives, MayAccept, MayCome, MayCrash, snapshot_of, without_snapshots}
 use Rattle.part_history.proofs.Growing.{drawn_apart, number_drawn, table_grown, table_kept}
 use Rattle.part_history.proofs.Joined.{parts_joined}
@@ -93,7 +93,7 @@ pub record Created (old new : Core) : Type 0 where
   pub schema : IsTableSchema create.schema
   pub absent : schema_of create.table old.history ≡ None
   pub few : creates old.history < 65536
-  pub new_is : new ≡ record { parts = old.parts; history = entered old.history session (command.Create create); snapshots = old.snapshots }
+  pub new_is : new ≡ record { parts = old.parts; history = entered old.history session (command.Create create ∷ []); snapshots = old.snapshots }
 
 pub record Inserted (old new : Core) : Type 0 where
   pub session : ℕ
@@ -148,7 +148,7 @@ changes old new (event.Crash c) given may g = absurd g
 -- ---- what always holds
 
 pub create_core : (old : Core) (session : ℕ) (c : Create) → IsCore old → IsTableSchema c.schema → schema_of c.table old.history ≡ None → creates old.history < 65536
-    → IsCore (record { parts = old.parts; history = entered old.history session (command.Create c); snapshots = old.snapshots })
+    → IsCore (record { parts = old.parts; history = entered old.history session (command.Create c ∷ []); snapshots = old.snapshots })
 create_core old session c is schema absent few =
     let e : Entry = record { session = session; command = command.Create c } in
     record {
@@ -208,7 +208,7 @@ module _ (old new : Core) (session : ℕ) (i : Insert) (place : ℕ) (is : IsCor
   order_here : AreInBlockOrder (parts_of i.table new.parts)
   order_here =
       subst AreInBlockOrder (sym (parts_added_here part old.parts new.parts a.parts))
-      (order_grown old.history i a.schema (parts_of i.table old.parts) is.legal into.partition (is.parts i.table) (is.order i.table))
+      (order_grown old.history i a.schema (parts_of i.table old.parts) is.legal (own_partition a.schema i into) (is.parts i.table) (is.order i.table))
 
   order_all : (t : List ℕ) → AreInBlockOrder (parts_of t new.parts)
   order_all t = by (same_bytes i.table t) refl

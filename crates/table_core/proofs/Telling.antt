@@ -286,7 +286,7 @@ left_stays old new number s rows is front at left =
     let one : IsSnapshot old.history s = subst (IsSnapshot old.history) (get_or_from_slice_get old.snapshots number s s at) (is.snapshots number s below) in
     let same : take s.length new.history ≡ take s.length old.history =
     ap (take s.length) front.1 ∙ take-append-le s.length old.history front.0 one.within in
-    subst (λ (x : History). (schema : Schema) → schema_of s.table x ≡ Some schema → Partly schema.key (live s.table schema.key x) rows) (sym same) left
+    subst (λ (x : History). (schema : Schema) → schema_of s.table x ≡ Some schema → Partly schema (live s.table schema x) rows) (sym same) left
 
 -- what is read of a snapshot
 read_now : (old next : Core) (number place : ℕ) (rows : List Row) → IsCore old → (g : Gives old (event.ReadSnapshot number) (outcome.Rows rows place) next) → AreLeftOf g.0.table g.0.length old.history rows

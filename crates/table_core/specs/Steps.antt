@@ -5,10 +5,9 @@ use Rattle.mt_values.specs.declared.command.Command.TheVariants as command
 use Rattle.mt_values.specs.declared.command.Create.{Create}
 use Rattle.mt_values.specs.declared.command.Insert.{Insert}
 use Rattle.mt_values.specs.declared.schema.Schema.{Schema}
-use Rattle.mt_values.specs.Order.{key_cmp}
 use Rattle.mt_values.specs.Values.{Row}
-use Rattle.mt_model.specs.History.{History, IsInsertInto, IsTableSchema, creates, schema_of}
-use Rattle.mt_model.specs.Live.{live, sorted}
+use Rattle.mt_model.specs.History.{History, IsInsertInto, IsTableSchema, creates, entered, schema_of}
+use Rattle.mt_model.specs.Live.{live}
 use Rattle.mt_model.specs.Partial.{Partly}
 use Rattle.table_core.specs.declared.event.Accept.{Accept}
 use Rattle.table_core.specs.declared.event.Accept.TheVariants as accept
@@ -22,7 +21,7 @@ use Rattle.table_core.specs.declared.event.Outcome.TheVariants as outcome
 use Rattle.part_history.specs.declared.part.CorePart.{CorePart}
 use Rattle.table_core.specs.declared.snapshot.Snapshot.{Snapshot}
 use Rattle.table_core.specs.Core.{Core}
-use Rattle.part_history.specs.Entered.{entered, next_number, part_of_insert}
+use Rattle.part_history.specs.Entered.{next_number, part_of_insert}
 use Rattle.part_history.specs.Parts.{parts_of, rows_of_parts}
 
 -- an accept may come: a CREATE has a schema that a table may have, an INSERT has rows of its table, where there is the table (docs/definitions.md, "The core")
@@ -54,7 +53,7 @@ pub record AddsPart (part : CorePart) (old new : List CorePart) : Type 0 where
 abbrev pub CreateGives : Core → ℕ → Create → Outcome → Core → Type 0
 CreateGives old session c (outcome.Accepted place) new =
     (schema_of c.table old.history ≡ None) × (creates old.history < 65536) × (place ≡ length old.history + 1)
-    × (new ≡ record { parts = old.parts; history = entered old.history session (command.Create c); snapshots = old.snapshots })
+    × (new ≡ record { parts = old.parts; history = entered old.history session (command.Create c ∷ []); snapshots = old.snapshots })
 CreateGives old session c (outcome.Refused guard.TableExists) new = IsSome (schema_of c.table old.history) × (new ≡ old)
 CreateGives old session c (outcome.Refused guard.Creates) new = (schema_of c.table old.history ≡ None) × (65536 ≤ creates old.history) × (new ≡ old)
 CreateGives old session c given new = ⊥
@@ -66,7 +65,7 @@ pub record AcceptsInsert (old : Core) (session : ℕ) (i : Insert) (place : ℕ)
   pub room : next_number i.table old.history ≤ 4294967295
   pub place_is : place ≡ length old.history + 1
   pub parts : AddsPart (part_of_insert schema (next_number i.table old.history) i) old.parts new.parts
-  pub history : new.history ≡ entered old.history session (command.Insert i)
+  pub history : new.history ≡ entered old.history session (command.Insert i ∷ [])
   pub snapshots : new.snapshots ≡ old.snapshots
 
 -- an INSERT: accepted, or refused since there is no such table, or else since no number is left (docs/definitions.md, "The core")
@@ -124,4 +123,4 @@ Gives old (event.Crash c) given new = CrashGives old c given new
 
 -- rows are what merges may have left of a table's live rows after as many entries of a history as the place says (docs/definitions.md, "The core")
 abbrev pub AreLeftOf : List ℕ → ℕ → History → List Row → Type 0
-AreLeftOf table place h rows = (schema : Schema) → schema_of table (take place h) ≡ Some schema → Partly schema.key (live table schema.key (take place h)) rows
+AreLeftOf table place h rows = (schema : Schema) → schema_of table (take place h) ≡ Some schema → Partly schema (live table schema (take place h)) rows

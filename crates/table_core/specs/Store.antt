@@ -12,7 +12,7 @@ use Rattle.part_history.specs.declared.part.CorePart.{CorePart}
 use Rattle.table_core.specs.declared.store.Store.{Store}
 use Rattle.table_core.specs.declared.store.Table.{Table}
 use Rattle.table_core.specs.Core.{Core, IsCore}
-use Rattle.part_history.specs.Numbers.{numbered}
+use Rattle.mt_model.specs.Numbers.{last_number}
 
 -- a table with its name
 abbrev pub Named : Type 0
@@ -38,7 +38,7 @@ table_names (e ∷ h) = name_by e.command ++ table_names h
 -- a table has its schema, the last number that was drawn, and its own parts
 pub record TableKept (h : History) (t : Named) : Type 0 where
   pub schema_is : schema_of t.0.items h ≡ Some t.1.schema
-  pub last_is : t.1.last ≡ length (numbered t.0.items h)
+  pub last_is : t.1.last ≡ last_number t.0.items h
   pub own : All (λ (p : CorePart). p.table ≡ t.0.items) t.1.parts
 
 -- what always holds of the store

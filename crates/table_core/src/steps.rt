@@ -2,6 +2,7 @@
 ghost use Rattle.std.specs.Prelude.{◌≡◌, ◌<◌, ◌++◌, All, IfOk, OnErr, OnOk, Some, length};
 ghost use Rattle.mt_values.specs.declared.schema.Schema.{Schema};
 ghost use Rattle.mt_values.specs.Grid.{picked};
+ghost use Rattle.mt_values.specs.Tables.{sorting_columns};
 ghost use Rattle.mt_model.specs.History.{IsInsertInto, IsTableSchema, schema_of};
 ghost use Rattle.part_history.specs.Parts.{rows_of_parts};
 ghost use Rattle.part_history.specs.Entered as adding;
@@ -128,14 +129,14 @@ fn add_rows(
     Ok(Outcome::Accepted { length })
 }
 
-/// The part that an INSERT makes: of its own number alone, with its rows in the order of the key.
+/// The part that an INSERT makes: of its own number alone, with its rows in the table's order.
 fn part_of_insert(
     alloc: Global,
     schema: &Schema,
     number: u32,
     insert: &Insert,
 ) -> Result<CorePart, NoMemory>
-    requires { All (λ place. place < length insert.now.block.types) schema.now.key }
+    requires { All (λ place. place < length insert.now.block.types) (sorting_columns schema.now) }
     ensures { IfOk result (λ part. part ≡ adding.part_of_insert schema.now number insert.now) }
 {
     let order = insert.block.key_order(alloc, schema)?;

@@ -2,9 +2,8 @@
 ghost use Rattle.std.specs.Prelude.{◌≡◌, ◌<◌, ◌++◌, ◌∷◌, [], All, IfNone, IfSome, OnErr, OnOk, Some, length, option_copied, slice_get};
 ghost use Rattle.indexmap.specs.IndexMap.{set_value_at};
 ghost use Rattle.mt_values.specs.declared.command.Command.TheVariants as command;
-ghost use Rattle.mt_model.specs.History.{schema_of};
+ghost use Rattle.mt_model.specs.History.{entered, schema_of};
 ghost use Rattle.table_core.specs.Core.{empty_core};
-ghost use Rattle.part_history.specs.Entered.{entered};
 ghost use Rattle.table_core.specs.Store.{AddsTable, IsNotNamed, IsStore, Named, SameStore, StandsAt, core_of, with_part};
 
 use crate::{CorePart, Snapshot};
@@ -70,7 +69,7 @@ impl Store {
     ) -> Result<(), NoMemory>
         requires { All (IsNotNamed create.table) self.old.tables.entries }
         ensures tables { OnOk result (AddsTable create self.old.tables.entries self.new.tables.entries) }
-        ensures entries { OnOk result (self.new.entries.items ≡ entered self.old.entries.items session (command.Create create)) }
+        ensures entries { OnOk result (self.new.entries.items ≡ entered self.old.entries.items session (command.Create create ∷ [])) }
         ensures snapshots { OnOk result (self.new.snapshots.items ≡ self.old.snapshots.items) }
         ensures err { OnErr result (SameStore self.old self.new) }
     {
@@ -95,7 +94,7 @@ impl Store {
         requires { place < length self.old.tables.entries }
         ensures tables { (t : Named) → slice_get self.old.tables.entries place ≡ Some t
             → OnOk result (self.new.tables.entries ≡ set_value_at self.old.tables.entries place (with_part t.1 part number)) }
-        ensures entries { OnOk result (self.new.entries.items ≡ entered self.old.entries.items session (command.Insert insert)) }
+        ensures entries { OnOk result (self.new.entries.items ≡ entered self.old.entries.items session (command.Insert insert ∷ [])) }
         ensures snapshots { OnOk result (self.new.snapshots.items ≡ self.old.snapshots.items) }
         ensures err { OnErr result (SameStore self.old self.new) }
     {

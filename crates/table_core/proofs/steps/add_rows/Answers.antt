@@ -1,7 +1,7 @@
 use Rattle.std.proofs.Common.{◌≡◌, ◌+◌, ◌<◌, ◌≤◌, All, is_some, length, refl, sym, ap, ◌∙◌, subst, arith}
 use Rattle.indexmap.specs.IndexMap.{set_value_at}
 use Rattle.table_core.specs.declared.store.Table.{Table}
-use Rattle.part_history.specs.Numbers.{numbered}
+use Rattle.mt_model.specs.Numbers.{numbered}
 use Rattle.part_history.specs.Entered.{part_of_insert}
 use Rattle.table_core.specs.Steps.{AcceptsInsert}
 use Rattle.table_core.specs.Store.{core_of, with_part}
