@@ -10,7 +10,7 @@ use Rattle.root_store.specs.Stores.{CoreStands}
 use Rattle.root_commits.proofs.CrashDone.{keeps_more, no_commands}
 use Rattle.root_store.proofs.CrashMarks.{safe_begun}
 use Rattle.mt_program.specs.Crashes.{LeavesForCrashes, LeavesOfScript}
-use Rattle.mt_program.specs.Serving.{Item}
+use Rattle.mt_program.specs.Courses.{Item}
 
 -- the bytes that are told
 abbrev told_or_none : Option (List ℕ) → List ℕ

@@ -4,7 +4,7 @@ use Rattle.mt_values.specs.Annals.{Told}
 use Rattle.mt_values.specs.Script.{statements_of}
 use Rattle.mt_outside.specs.Disk as root
 use Rattle.root_store.specs.Crashes.{AreCalm, AreCrashSafe}
-use Rattle.mt_program.specs.Serving.{Item}
+use Rattle.mt_program.specs.Courses.{Item}
 
 -- Whatever a crash leaves holds each entry from the moment on when it was noted. Where the disk's count of faults is the one at opening,
 -- whatever a crash leaves now stands for the whole list.

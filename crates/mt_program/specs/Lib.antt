@@ -1,3 +1,4 @@
+pub mod Courses
 pub mod Crashes
 pub mod Damage
 pub mod Endings

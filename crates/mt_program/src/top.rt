@@ -13,7 +13,7 @@ ghost use Rattle.reply_lines.specs.Foreseen.{history};
 ghost use Rattle.mt_program.specs.Crashes.{IsAsBefore, LeavesOfScript};
 ghost use Rattle.mt_program.specs.Damage.{IsDamagedRoot, WritesDamage, WritesFault, damage_line};
 ghost use Rattle.mt_program.specs.Endings.{IsAnswered, IsEarly, LeftBy, MetNoDamage, status_of, status_of_error, status_of_stop};
-ghost use Rattle.mt_program.specs.Headline.{CutByMemory, CutBySink, Leaves, NotOpened, NothingRefuses, ReadRun, RunBy, RunWithFaults, Starts, WholeRunWith};
+ghost use Rattle.mt_program.specs.Headline.{Headline, HeadlineBy, NotOpened, NothingRefuses, Outside, Starts};
 ghost use Rattle.run_streams.specs.Streams.{ConsumesMost};
 ghost use Rattle.run_streams.specs.Words.{is_command};
 
@@ -175,6 +175,7 @@ fn run_root<D: Disk, A: Annals, S: Source, K: Sink, G: Gate>(
         ⊎ LeavesOfScript (S.left source.old) opened (D.failed disk.new) (D.told disk.new) (D.clock disk.new) (A.told annals.new) kept (D.clock disk.old + 1) }
     ensures whole { (script : List ℕ) → S.left source.old ≡ Some script → OnOk result ((length script < 2 ^ 40) × (S.left source.new ≡ Some [])) }
     ensures early { IfErr result IsEarly }
+    ensures unread { IsErrOf result Status.DiskFault → source.new ≡ source.old }
     ensures read { IsErrOf result Status.ReadFault → Rose (S.failed source.old) (S.failed source.new) }
     ensures disk { IsErrOf result Status.DiskFault → Rose (D.failed disk.old) (D.failed disk.new) ⊎ Rose (D.Arm.failed arm.old) (D.Arm.failed arm.new) }
     ensures long { IsErrOf result Status.TooLong → ConsumesMost (S.left source.old) (S.left source.new) }
@@ -200,9 +201,10 @@ fn run_opened<D: Disk, A: Annals, S: Source, K: Sink, G: Gate>(
     annals: &mut A,
     gate: &mut G,
 ) -> Status
-    ensures leaves { (kept : Told) (told : root.Told) (script before : List ℕ) → A.told annals.old ≡ Some kept → D.told disk.old ≡ Some told → Stands (root.names_of told) (history kept)
-        → S.left source.old ≡ Some script → K.written sink.old ≡ Some before
-        → Leaves (RunBy result (D.told disk.new) (record { opened = D.failed disk.old; ended = D.failed disk.new })) kept script before (A.told annals.new) (K.written sink.new) }
+    ensures headline { (kept : Told) (script written : List ℕ) →
+        let before : Outside = record { disk = D.told disk.old; faults = D.failed disk.old; annals = A.told annals.old; source = S.left source.old; sink = K.written sink.old } in
+        let after : Outside = record { disk = D.told disk.new; faults = D.failed disk.new; annals = A.told annals.new; source = S.left source.new; sink = K.written sink.new } in
+        Starts before kept script written → Headline result before after kept script written }
     ensures opening { (told : root.Told) (damage : Damaged) → D.told disk.old ≡ Some told → IsRootDamage (root.names_of told) damage
         → WritesDamage result (damage_line damage) (K.failed sink.old) (K.failed sink.new) (K.written sink.old) (K.written sink.new)
         × (D.told disk.new ≡ D.told disk.old) × (A.told annals.new ≡ A.told annals.old) }
@@ -213,7 +215,7 @@ fn run_opened<D: Disk, A: Annals, S: Source, K: Sink, G: Gate>(
     ensures settles { (kept : Told) (told : root.Told) → A.told annals.old ≡ Some kept → D.told disk.old ≡ Some told → root.names_of told ≢ [] → AllStand told (D.clock disk.old + 1) (history kept)
         → IsAsBefore (D.told disk.old) (D.told disk.new) (A.told annals.old) (A.told annals.new) (K.written sink.old) (K.written sink.new)
         ⊎ LeavesOfScript (S.left source.old) (D.failed disk.old) (D.failed disk.new) (D.told disk.new) (D.clock disk.new) (A.told annals.new) kept (D.clock disk.old + 1) }
-    ensures full { D.failed disk.old ≡ 2 ^ 64 - 1 → result ≡ Status.DiskFault }
+    ensures full { D.failed disk.old ≡ 2 ^ 64 - 1 → (result ≡ Status.DiskFault) × (disk.new ≡ disk.old) × (annals.new ≡ annals.old) × (source.new ≡ source.old) × (sink.new ≡ sink.old) }
     ensures whole { (script : List ℕ) → S.left source.old ≡ Some script → IsAnswered result → (length script < 2 ^ 40) × (S.left source.new ≡ Some []) }
     ensures words { result ≡ Status.NotWords → ⊥ }
     ensures read { result ≡ Status.ReadFault → Rose (S.failed source.old) (S.failed source.new) }
@@ -254,26 +256,16 @@ pub fn run<R: Threads + Wait + Sync, D: Disk, A: Annals, S: Source, K: Sink, G: 
     annals: A,
     gate: &mut G,
 ) -> Done<D, A>
-    ensures all_answered { (kept : Told) (script before : List ℕ) → Starts (D.told disk) (A.told annals) (S.left source.old) (K.written sink.old) kept script before
-        → result.status ≡ 0 → Leaves (WholeRunWith false (D.told result.disk) (record { opened = D.failed disk; ended = D.failed result.disk })) kept script before (A.told result.annals) (K.written sink.new) }
-    ensures some_refused { (kept : Told) (script before : List ℕ) → Starts (D.told disk) (A.told annals) (S.left source.old) (K.written sink.old) kept script before
-        → result.status ≡ 1 → Leaves (WholeRunWith true (D.told result.disk) (record { opened = D.failed disk; ended = D.failed result.disk })) kept script before (A.told result.annals) (K.written sink.new) }
-    ensures source_failed { (kept : Told) (script before : List ℕ) → Starts (D.told disk) (A.told annals) (S.left source.old) (K.written sink.old) kept script before
-        → result.status ≡ 3 → Leaves (ReadRun (S.left source.new) script (D.told result.disk) (record { opened = D.failed disk; ended = D.failed result.disk })) kept script before (A.told result.annals) (K.written sink.new) }
-    ensures sink_failed { (kept : Told) (script before : List ℕ) → Starts (D.told disk) (A.told annals) (S.left source.old) (K.written sink.old) kept script before
-        → result.status ≡ 4 → Leaves (CutBySink (D.told result.disk) (record { opened = D.failed disk; ended = D.failed result.disk })) kept script before (A.told result.annals) (K.written sink.new) }
-    ensures disk_failed { (kept : Told) (script before : List ℕ) → Starts (D.told disk) (A.told annals) (S.left source.old) (K.written sink.old) kept script before
-        → result.status ≡ 5 → Leaves (RunWithFaults (D.told result.disk) (record { opened = D.failed disk; ended = D.failed result.disk })) kept script before (A.told result.annals) (K.written sink.new) }
-    ensures out_of_memory { (kept : Told) (script before : List ℕ) → Starts (D.told disk) (A.told annals) (S.left source.old) (K.written sink.old) kept script before
-        → result.status ≡ 6 → Leaves (CutByMemory (D.told result.disk) (record { opened = D.failed disk; ended = D.failed result.disk })) kept script before (A.told result.annals) (K.written sink.new) }
-    ensures too_long { (kept : Told) (script before : List ℕ) → Starts (D.told disk) (A.told annals) (S.left source.old) (K.written sink.old) kept script before
-        → result.status ≡ 8 → Leaves (ReadRun (S.left source.new) script (D.told result.disk) (record { opened = D.failed disk; ended = D.failed result.disk })) kept script before (A.told result.annals) (K.written sink.new) }
+    ensures headline { let before : Outside = record { disk = D.told disk; faults = D.failed disk; annals = A.told annals; source = S.left source.old; sink = K.written sink.old } in
+        let after : Outside = record { disk = D.told result.disk; faults = D.failed result.disk; annals = A.told result.annals; source = S.left source.new; sink = K.written sink.new } in
+        HeadlineBy result.status before after }
     ensures crashes { (kept : Told) (told : root.Told) → A.told annals ≡ Some kept → D.told disk ≡ Some told → AllStand told (D.clock disk) (history kept)
         → LeavesOfScript (S.left source.old) (D.failed disk) (D.failed result.disk) (D.told result.disk) (D.clock result.disk) (A.told result.annals) kept (D.clock disk) }
     ensures settles { (kept : Told) (told : root.Told) → A.told annals ≡ Some kept → D.told disk ≡ Some told → root.names_of told ≢ [] → AllStand told (D.clock disk + 1) (history kept)
         → IsAsBefore (D.told disk) (D.told result.disk) (A.told annals) (A.told result.annals) (K.written sink.old) (K.written sink.new)
         ⊎ LeavesOfScript (S.left source.old) (D.failed disk) (D.failed result.disk) (D.told result.disk) (D.clock result.disk) (A.told result.annals) kept (D.clock disk + 1) }
-    ensures complete { (kept now : Told) (script before : List ℕ) → Starts (D.told disk) (A.told annals) (S.left source.old) (K.written sink.old) kept script before
+    ensures complete { (kept now : Told) (script written : List ℕ)
+        → Starts (record { disk = D.told disk; faults = D.failed disk; annals = A.told annals; source = S.left source.old; sink = K.written sink.old }) kept script written
         → A.told result.annals ≡ Some now → NothingRefuses (is_command words.now) script (history now) (length kept.list)
         → (Rose (S.failed source.old) (S.failed source.new) → ⊥) → (Rose (K.failed sink.old) (K.failed sink.new) → ⊥) → (Rose (D.failed disk) (D.failed result.disk) → ⊥)
         → (result.status ≡ 0) ⊎ (result.status ≡ 6) }
@@ -283,7 +275,8 @@ pub fn run<R: Threads + Wait + Sync, D: Disk, A: Annals, S: Source, K: Sink, G: 
     ensures sound { (kept : Told) (told : root.Told) → A.told annals ≡ Some kept → D.told disk ≡ Some told → Stands (root.names_of told) (history kept) → result.status ≡ 7 → ⊥ }
     ensures damaged { (told : root.Told) → D.told disk ≡ Some told → result.status ≡ 7 → IsDamagedRoot (root.names_of told) }
     ensures number { result.status ≤ 8 }
-    ensures full { D.failed disk ≡ 2 ^ 64 - 1 → (result.status ≡ 2) ⊎ (result.status ≡ 5) }
+    ensures full { D.failed disk ≡ 2 ^ 64 - 1 → ((result.status ≡ 2) ⊎ (result.status ≡ 5))
+        × (result.disk ≡ disk) × (result.annals ≡ annals) × (source.new ≡ source.old) × (sink.new ≡ sink.old) }
     ensures words { (result.status ≡ 2) ↔ (is_command words.now ≡ false) }
     ensures untouched { result.status ≡ 2 → (source.new ≡ source.old) × (sink.new ≡ sink.old) × (result.disk ≡ disk) × (result.annals ≡ annals) }
     ensures read { result.status ≡ 3 → Rose (S.failed source.old) (S.failed source.new) }

@@ -3,7 +3,7 @@ use Rattle.std.proofs.Common.{◌≡◌, IfOk, ◌∷◌, ◌++◌, [], Err, Ok,
 use Rattle.mt_model.specs.declared.refusal.Refusal.{Refusal}
 use Rattle.mt_model.specs.Refusals.{is_damage, refusal_line, refusal_of_cause}
 use Rattle.command_turn.specs.Answers.{Answers}
-use Rattle.mt_program.specs.Serving.{Item}
+use Rattle.mt_program.specs.Courses.{Item}
 use Rattle.root_store.specs.Crashes.{KeepsThroughCrashes}
 use Rattle.command_turn.proofs.Accepting.{accepts_nothing, answers_line, kept_same, root_is}
 use Rattle.mt_program.proofs.Selecting.{selected_answers}

@@ -3,7 +3,8 @@ use Rattle.std.proofs.Common.{◌≡◌, ◌++◌, [], List, ◌≤◌, ◌-◌,
 use Rattle.mt_values.specs.Annals.{Told}
 use Rattle.mt_values.specs.Script.{statements_of}
 use Rattle.reply_lines.specs.Foreseen.{history}
-use Rattle.mt_program.specs.Serving.{Item, Served}
+use Rattle.mt_program.specs.Courses.{Item}
+use Rattle.mt_program.specs.Serving.{Served}
 use Rattle.root_store.specs.Crashes.{KeepsThroughCrashes}
 use Rattle.root_store.specs.Soundness.{HasSoundParts, IsSound, NamesFitUnlessRisen, RootStands}
 use Rattle.root_store.specs.Stores.{CoreStands}

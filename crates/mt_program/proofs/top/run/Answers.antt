@@ -1,55 +1,24 @@
 use Rattle.std.proofs.Common.{◌∙◌, ◌≡◌, ◌⊎◌, ◌≤◌, ℕ, inl, refl, sym, subst}
-use Rattle.mt_model.specs.Outside.{Counts}
 use Rattle.root_store.proofs.CrashMarks.{safe_at_start}
-use Rattle.mt_program.specs.Headline.{Leaves, NothingRan, ReadRun, RunBy}
+use Rattle.mt_program.specs.Headline.{Headline, Outside}
 use Rattle.run_streams.specs.Words.{is_command}
 use Rattle.exit_status.specs.declared.status.Status.{Status}
 use Rattle.exit_status.specs.declared.status.Status.TheVariants as status
 use Rattle.mt_program.proofs.Completing.{none_refused, not_too_long, zero_or_six}
 use Rattle.mt_program.proofs.Crashing.{nothing_of_script}
-use Rattle.mt_program.proofs.Heading.{left_by, leaves_as, nothing_read, same_number, at_most_one_is}
+use Rattle.mt_program.proofs.Heading.{by_status, nothing_leaves, outside, same_number, at_most_one_is}
 use Rattle.mt_program.proofs.top.run.Goals as goal
 
-pub returns-clause-all_answered : goal.returns-clause-all_answered
-returns-clause-all_answered g c = λ kept script before starts is.
-    left_by (g.D.Disk.told c.run_opened-ended.new.disk) (record { opened = g.D.Disk.failed c.args.disk; ended = g.D.Disk.failed c.run_opened-ended.new.disk }) c.run_opened-ended.result status.Done kept script before (g.A.Annals.told c.run_opened-ended.new.annals) (g.K.Sink.written c.run_opened-ended.new.sink) (sym c.number-status-2.ensures ∙ is)
-    (c.run_opened-ended.ensures.leaves kept starts.told script before starts.annals_is starts.disk_is starts.stands starts.source_is starts.sink_is)
+-- what is left, by how the run ended
+pub returns-clause-headline : goal.returns-clause-headline
+returns-clause-headline g c = λ kept script written starts. (c.run_opened-ended.result, c.number-status-2.ensures, c.run_opened-ended.ensures.headline kept script written starts)
 
-pub returns-clause-some_refused : goal.returns-clause-some_refused
-returns-clause-some_refused g c = λ kept script before starts is.
-    left_by (g.D.Disk.told c.run_opened-ended.new.disk) (record { opened = g.D.Disk.failed c.args.disk; ended = g.D.Disk.failed c.run_opened-ended.new.disk }) c.run_opened-ended.result status.Refused kept script before (g.A.Annals.told c.run_opened-ended.new.annals) (g.K.Sink.written c.run_opened-ended.new.sink) (sym c.number-status-2.ensures ∙ is)
-    (c.run_opened-ended.ensures.leaves kept starts.told script before starts.annals_is starts.disk_is starts.stands starts.source_is starts.sink_is)
-
-pub returns-clause-sink_failed : goal.returns-clause-sink_failed
-returns-clause-sink_failed g c = λ kept script before starts is.
-    left_by (g.D.Disk.told c.run_opened-ended.new.disk) (record { opened = g.D.Disk.failed c.args.disk; ended = g.D.Disk.failed c.run_opened-ended.new.disk }) c.run_opened-ended.result status.WriteFault kept script before (g.A.Annals.told c.run_opened-ended.new.annals) (g.K.Sink.written c.run_opened-ended.new.sink) (sym c.number-status-2.ensures ∙ is)
-    (c.run_opened-ended.ensures.leaves kept starts.told script before starts.annals_is starts.disk_is starts.stands starts.source_is starts.sink_is)
-
-pub returns-clause-disk_failed : goal.returns-clause-disk_failed
-returns-clause-disk_failed g c = λ kept script before starts is.
-    left_by (g.D.Disk.told c.run_opened-ended.new.disk) (record { opened = g.D.Disk.failed c.args.disk; ended = g.D.Disk.failed c.run_opened-ended.new.disk }) c.run_opened-ended.result status.DiskFault kept script before (g.A.Annals.told c.run_opened-ended.new.annals) (g.K.Sink.written c.run_opened-ended.new.sink) (sym c.number-status-2.ensures ∙ is)
-    (c.run_opened-ended.ensures.leaves kept starts.told script before starts.annals_is starts.disk_is starts.stands starts.source_is starts.sink_is)
-
-pub returns-clause-out_of_memory : goal.returns-clause-out_of_memory
-returns-clause-out_of_memory g c = λ kept script before starts is.
-    left_by (g.D.Disk.told c.run_opened-ended.new.disk) (record { opened = g.D.Disk.failed c.args.disk; ended = g.D.Disk.failed c.run_opened-ended.new.disk }) c.run_opened-ended.result status.NoMemory kept script before (g.A.Annals.told c.run_opened-ended.new.annals) (g.K.Sink.written c.run_opened-ended.new.sink) (sym c.number-status-2.ensures ∙ is)
-    (c.run_opened-ended.ensures.leaves kept starts.told script before starts.annals_is starts.disk_is starts.stands starts.source_is starts.sink_is)
-
-pub returns-clause-source_failed : goal.returns-clause-source_failed
-returns-clause-source_failed g c = λ kept script before starts is.
-    let left = g.S.Source.left c.run_opened-ended.new.source in
-    leaves_as (NothingRan (g.D.Disk.told c.run_opened-ended.new.disk) (record { opened = g.D.Disk.failed c.args.disk; ended = g.D.Disk.failed c.run_opened-ended.new.disk })) (ReadRun left script (g.D.Disk.told c.run_opened-ended.new.disk) (record { opened = g.D.Disk.failed c.args.disk; ended = g.D.Disk.failed c.run_opened-ended.new.disk })) kept script before (g.A.Annals.told c.run_opened-ended.new.annals) (g.K.Sink.written c.run_opened-ended.new.sink)
-    (λ h out ran. nothing_read left script _ _ _ h _ out ran)
-    (left_by (g.D.Disk.told c.run_opened-ended.new.disk) (record { opened = g.D.Disk.failed c.args.disk; ended = g.D.Disk.failed c.run_opened-ended.new.disk }) c.run_opened-ended.result status.ReadFault kept script before (g.A.Annals.told c.run_opened-ended.new.annals) (g.K.Sink.written c.run_opened-ended.new.sink) (sym c.number-status-2.ensures ∙ is)
-    (c.run_opened-ended.ensures.leaves kept starts.told script before starts.annals_is starts.disk_is starts.stands starts.source_is starts.sink_is))
-
-pub returns-clause-too_long : goal.returns-clause-too_long
-returns-clause-too_long g c = λ kept script before starts is.
-    let left = g.S.Source.left c.run_opened-ended.new.source in
-    leaves_as (NothingRan (g.D.Disk.told c.run_opened-ended.new.disk) (record { opened = g.D.Disk.failed c.args.disk; ended = g.D.Disk.failed c.run_opened-ended.new.disk })) (ReadRun left script (g.D.Disk.told c.run_opened-ended.new.disk) (record { opened = g.D.Disk.failed c.args.disk; ended = g.D.Disk.failed c.run_opened-ended.new.disk })) kept script before (g.A.Annals.told c.run_opened-ended.new.annals) (g.K.Sink.written c.run_opened-ended.new.sink)
-    (λ h out ran. nothing_read left script _ _ _ h _ out ran)
-    (left_by (g.D.Disk.told c.run_opened-ended.new.disk) (record { opened = g.D.Disk.failed c.args.disk; ended = g.D.Disk.failed c.run_opened-ended.new.disk }) c.run_opened-ended.result status.TooLong kept script before (g.A.Annals.told c.run_opened-ended.new.annals) (g.K.Sink.written c.run_opened-ended.new.sink) (sym c.number-status-2.ensures ∙ is)
-    (c.run_opened-ended.ensures.leaves kept starts.told script before starts.annals_is starts.disk_is starts.stands starts.source_is starts.sink_is))
+pub returns-then-not-is_command_line-clause-headline : goal.returns-then-not-is_command_line-clause-headline
+returns-then-not-is_command_line-clause-headline g c = λ kept script written starts. (
+  status.NotWords,
+  c.number-status.ensures,
+  nothing_leaves _ _ kept script written starts (refl, refl, refl, refl) status.NotWords (λ none. none),
+)
 
 -- the root is damaged
 pub returns-clause-opening : goal.returns-clause-opening
@@ -77,17 +46,16 @@ returns-then-not-is_command_line-clause-crashes g c = λ kept told is known all.
 
 -- nothing stands against the run
 pub returns-clause-complete : goal.returns-clause-complete
-returns-clause-complete g c = λ kept now script before starts there nothing read write disk.
+returns-clause-complete g c = λ kept now script written starts there nothing read write disk.
     let ended = c.run_opened-ended.result in
     let done = c.run_opened-ended.ensures in
-    let counts : Counts = record { opened = g.D.Disk.failed c.args.disk; ended = g.D.Disk.failed c.run_opened-ended.new.disk } in
-    let left = done.leaves kept starts.told script before starts.annals_is starts.disk_is starts.stands starts.source_is starts.sink_is in
+    let before : Outside = outside (g.D.Disk.told c.args.disk) (g.D.Disk.failed c.args.disk) (g.A.Annals.told c.args.annals) (g.S.Source.left c.args.source.now) (g.K.Sink.written c.args.sink.now) in
+    let after : Outside = outside (g.D.Disk.told c.run_opened-ended.new.disk) (g.D.Disk.failed c.run_opened-ended.new.disk) (g.A.Annals.told c.run_opened-ended.new.annals) (g.S.Source.left c.run_opened-ended.new.source) (g.K.Sink.written c.run_opened-ended.new.sink) in
+    let left = done.headline kept script written starts in
     subst (λ (n : ℕ). (n ≡ 0) ⊎ (n ≡ 6)) (sym c.number-status-2.ensures)
     (zero_or_six ended done.words (λ is. read (done.read is)) (λ is. write (done.write is)) (λ is. disk (done.disk is)) (λ is. done.sound kept starts.told starts.annals_is starts.disk_is starts.stands is)
     (λ is. not_too_long script (g.S.Source.left c.args.source.now) (g.S.Source.left c.run_opened-ended.new.source) starts.source_is nothing.short (done.long is))
-    (λ is. none_refused (g.D.Disk.told c.run_opened-ended.new.disk) (g.D.Disk.failed c.args.disk) (g.D.Disk.failed c.run_opened-ended.new.disk) kept now script before (g.A.Annals.told c.run_opened-ended.new.annals) (g.K.Sink.written c.run_opened-ended.new.sink) (is_command c.args.words.now)
-    done.later disk there nothing
-    (subst (λ (s : Status). Leaves (RunBy s (g.D.Disk.told c.run_opened-ended.new.disk) counts) kept script before (g.A.Annals.told c.run_opened-ended.new.annals) (g.K.Sink.written c.run_opened-ended.new.sink)) is left)))
+    (λ is. none_refused before after kept now script written (is_command c.args.words.now) done.later disk there nothing (by_status {before = before} {after = after} (sym is) left)))
 
 -- what a crash leaves once the names that were read are settled
 pub returns-then-not-is_command_line-clause-settles : goal.returns-then-not-is_command_line-clause-settles
