@@ -4,13 +4,13 @@ ghost use Rattle.mt_values.specs.Annals.{Told};
 ghost use Rattle.mt_outside.specs.Causes.{Rose};
 ghost use Rattle.mt_outside.specs.Disk as root;
 ghost use Rattle.root_opening.specs.declared.opening.Damage.{Damage as Damaged};
-ghost use Rattle.root_store.specs.Crashes.{AllStand, KeepsThroughCrashes};
+ghost use Rattle.root_store.specs.Crashes.{AllStand, KeepsThroughCrashes, Outside};
 ghost use Rattle.root_opening.specs.Opening.{IsNotDamaged, IsRootDamage};
 ghost use Rattle.root_store.specs.Roots.{Stands};
 ghost use Rattle.root_store.specs.Soundness.{HasSoundParts, IsSound, NamesFitUnlessRisen, RootStands};
 ghost use Rattle.root_store.specs.Stores.{CoreStands};
 ghost use Rattle.reply_lines.specs.Foreseen.{history};
-ghost use Rattle.mt_program.specs.Crashes.{IsAsBefore, LeavesOfScript};
+ghost use Rattle.mt_program.specs.Crashes.{IsAsBefore, IsGainedBy, LeavesOfScript};
 ghost use Rattle.mt_program.specs.Damage.{IsDamagedRoot, WritesDamage, WritesFault, damage_line};
 ghost use Rattle.mt_program.specs.Endings.{IsAnswered, IsEarly, LeftBy, MetNoDamage, status_of, status_of_error, status_of_stop};
 ghost use Rattle.mt_program.specs.Headline.{CutByMemory, CutBySink, Leaves, NotOpened, NothingRefuses, ReadRun, RunBy, RunWithFaults, Starts, WholeRunWith};
@@ -94,9 +94,12 @@ fn run_script<D: Disk, A: Annals, S: Source, K: Sink, G: Gate>(
         → CoreStands D.Arm.Dir.files (history kept) store.old → RootStands (D.told disk.old) (history kept)
         → LeftBy result kept script store.old.opened (D.failed disk.new) (D.Arm.failed arm.new) (A.told annals.new) (D.told disk.old) (D.told disk.new) (K.written sink.old) (K.written sink.new) }
     ensures undamaged { D.Arm.tells arm.old ≡ true → HasSoundParts D.Arm.Dir.files store.old → MetNoDamage result }
-    ensures through_crashes { (first : Told) (start : ℕ) → D.Arm.tells arm.old ≡ true
-        → KeepsThroughCrashes D.Arm.Dir.files [] store.old (D.failed disk.old) (D.told disk.old) (D.clock disk.old) (A.told annals.old) first start
-        → LeavesOfScript (S.left source.old) store.old.opened (D.failed disk.new) (D.told disk.new) (D.clock disk.new) (A.told annals.new) first start }
+    ensures through_crashes {
+        let was : Outside = record { disk = D.told disk.old; clock = D.clock disk.old; failed = D.failed disk.old; annals = A.told annals.old } in
+        let now : Outside = record { disk = D.told disk.new; clock = D.clock disk.new; failed = D.failed disk.new; annals = A.told annals.new } in
+        (first : Told) (start : ℕ) → D.Arm.tells arm.old ≡ true
+        → KeepsThroughCrashes D.Arm.Dir.files store.old was first start → IsGainedBy [] (A.told annals.old) first
+        → LeavesOfScript (S.left source.old) store.old.opened now first start }
     ensures whole { (script : List ℕ) → S.left source.old ≡ Some script → OnOk result ((length script < 2 ^ 40) × (S.left source.new ≡ Some [])) }
     ensures early { IfErr result IsEarly }
     ensures read { IsErrOf result Status.ReadFault → Rose (S.failed source.old) (S.failed source.new) }
@@ -168,11 +171,15 @@ fn run_root<D: Disk, A: Annals, S: Source, K: Sink, G: Gate>(
         × (D.told disk.new ≡ D.told disk.old) × (A.told annals.new ≡ A.told annals.old) }
     ensures sound { (kept : Told) (told : root.Told) → A.told annals.old ≡ Some kept → D.told disk.old ≡ Some told → Stands (root.names_of told) (history kept) → D.Arm.tells arm.old ≡ true → MetNoDamage result }
     ensures damaged { (told : root.Told) → D.told disk.old ≡ Some told → D.Arm.tells arm.old ≡ true → MetNoDamage result ⊎ IsDamagedRoot (root.names_of told) }
-    ensures crashes { (kept : Told) (told : root.Told) → A.told annals.old ≡ Some kept → D.told disk.old ≡ Some told → D.Arm.tells arm.old ≡ true → AllStand told (D.clock disk.old) (history kept)
-        → LeavesOfScript (S.left source.old) opened (D.failed disk.new) (D.told disk.new) (D.clock disk.new) (A.told annals.new) kept (D.clock disk.old) }
-    ensures settles { (kept : Told) (told : root.Told) → A.told annals.old ≡ Some kept → D.told disk.old ≡ Some told → D.Arm.tells arm.old ≡ true → root.names_of told ≢ [] → AllStand told (D.clock disk.old + 1) (history kept)
+    ensures crashes {
+        let now : Outside = record { disk = D.told disk.new; clock = D.clock disk.new; failed = D.failed disk.new; annals = A.told annals.new } in
+        (kept : Told) (told : root.Told) → A.told annals.old ≡ Some kept → D.told disk.old ≡ Some told → D.Arm.tells arm.old ≡ true → AllStand told (D.clock disk.old) (history kept)
+        → LeavesOfScript (S.left source.old) opened now kept (D.clock disk.old) }
+    ensures settles {
+        let now : Outside = record { disk = D.told disk.new; clock = D.clock disk.new; failed = D.failed disk.new; annals = A.told annals.new } in
+        (kept : Told) (told : root.Told) → A.told annals.old ≡ Some kept → D.told disk.old ≡ Some told → D.Arm.tells arm.old ≡ true → root.names_of told ≢ [] → AllStand told (D.clock disk.old + 1) (history kept)
         → IsAsBefore (D.told disk.old) (D.told disk.new) (A.told annals.old) (A.told annals.new) (K.written sink.old) (K.written sink.new)
-        ⊎ LeavesOfScript (S.left source.old) opened (D.failed disk.new) (D.told disk.new) (D.clock disk.new) (A.told annals.new) kept (D.clock disk.old + 1) }
+        ⊎ LeavesOfScript (S.left source.old) opened now kept (D.clock disk.old + 1) }
     ensures whole { (script : List ℕ) → S.left source.old ≡ Some script → OnOk result ((length script < 2 ^ 40) × (S.left source.new ≡ Some [])) }
     ensures early { IfErr result IsEarly }
     ensures read { IsErrOf result Status.ReadFault → Rose (S.failed source.old) (S.failed source.new) }
@@ -208,11 +215,15 @@ fn run_opened<D: Disk, A: Annals, S: Source, K: Sink, G: Gate>(
         × (D.told disk.new ≡ D.told disk.old) × (A.told annals.new ≡ A.told annals.old) }
     ensures sound { (kept : Told) (told : root.Told) → A.told annals.old ≡ Some kept → D.told disk.old ≡ Some told → Stands (root.names_of told) (history kept) → result ≡ Status.Damaged → ⊥ }
     ensures damaged { (told : root.Told) → D.told disk.old ≡ Some told → result ≡ Status.Damaged → IsDamagedRoot (root.names_of told) }
-    ensures crashes { (kept : Told) (told : root.Told) → A.told annals.old ≡ Some kept → D.told disk.old ≡ Some told → AllStand told (D.clock disk.old) (history kept)
-        → LeavesOfScript (S.left source.old) (D.failed disk.old) (D.failed disk.new) (D.told disk.new) (D.clock disk.new) (A.told annals.new) kept (D.clock disk.old) }
-    ensures settles { (kept : Told) (told : root.Told) → A.told annals.old ≡ Some kept → D.told disk.old ≡ Some told → root.names_of told ≢ [] → AllStand told (D.clock disk.old + 1) (history kept)
+    ensures crashes {
+        let now : Outside = record { disk = D.told disk.new; clock = D.clock disk.new; failed = D.failed disk.new; annals = A.told annals.new } in
+        (kept : Told) (told : root.Told) → A.told annals.old ≡ Some kept → D.told disk.old ≡ Some told → AllStand told (D.clock disk.old) (history kept)
+        → LeavesOfScript (S.left source.old) (D.failed disk.old) now kept (D.clock disk.old) }
+    ensures settles {
+        let now : Outside = record { disk = D.told disk.new; clock = D.clock disk.new; failed = D.failed disk.new; annals = A.told annals.new } in
+        (kept : Told) (told : root.Told) → A.told annals.old ≡ Some kept → D.told disk.old ≡ Some told → root.names_of told ≢ [] → AllStand told (D.clock disk.old + 1) (history kept)
         → IsAsBefore (D.told disk.old) (D.told disk.new) (A.told annals.old) (A.told annals.new) (K.written sink.old) (K.written sink.new)
-        ⊎ LeavesOfScript (S.left source.old) (D.failed disk.old) (D.failed disk.new) (D.told disk.new) (D.clock disk.new) (A.told annals.new) kept (D.clock disk.old + 1) }
+        ⊎ LeavesOfScript (S.left source.old) (D.failed disk.old) now kept (D.clock disk.old + 1) }
     ensures full { D.failed disk.old ≡ 2 ^ 64 - 1 → result ≡ Status.DiskFault }
     ensures whole { (script : List ℕ) → S.left source.old ≡ Some script → IsAnswered result → (length script < 2 ^ 40) × (S.left source.new ≡ Some []) }
     ensures words { result ≡ Status.NotWords → ⊥ }
@@ -268,11 +279,15 @@ pub fn run<R: Threads + Wait + Sync, D: Disk, A: Annals, S: Source, K: Sink, G: 
         → result.status ≡ 6 → Leaves (CutByMemory (D.told result.disk) (record { opened = D.failed disk; ended = D.failed result.disk })) kept script before (A.told result.annals) (K.written sink.new) }
     ensures too_long { (kept : Told) (script before : List ℕ) → Starts (D.told disk) (A.told annals) (S.left source.old) (K.written sink.old) kept script before
         → result.status ≡ 8 → Leaves (ReadRun (S.left source.new) script (D.told result.disk) (record { opened = D.failed disk; ended = D.failed result.disk })) kept script before (A.told result.annals) (K.written sink.new) }
-    ensures crashes { (kept : Told) (told : root.Told) → A.told annals ≡ Some kept → D.told disk ≡ Some told → AllStand told (D.clock disk) (history kept)
-        → LeavesOfScript (S.left source.old) (D.failed disk) (D.failed result.disk) (D.told result.disk) (D.clock result.disk) (A.told result.annals) kept (D.clock disk) }
-    ensures settles { (kept : Told) (told : root.Told) → A.told annals ≡ Some kept → D.told disk ≡ Some told → root.names_of told ≢ [] → AllStand told (D.clock disk + 1) (history kept)
+    ensures crashes {
+        let now : Outside = record { disk = D.told result.disk; clock = D.clock result.disk; failed = D.failed result.disk; annals = A.told result.annals } in
+        (kept : Told) (told : root.Told) → A.told annals ≡ Some kept → D.told disk ≡ Some told → AllStand told (D.clock disk) (history kept)
+        → LeavesOfScript (S.left source.old) (D.failed disk) now kept (D.clock disk) }
+    ensures settles {
+        let now : Outside = record { disk = D.told result.disk; clock = D.clock result.disk; failed = D.failed result.disk; annals = A.told result.annals } in
+        (kept : Told) (told : root.Told) → A.told annals ≡ Some kept → D.told disk ≡ Some told → root.names_of told ≢ [] → AllStand told (D.clock disk + 1) (history kept)
         → IsAsBefore (D.told disk) (D.told result.disk) (A.told annals) (A.told result.annals) (K.written sink.old) (K.written sink.new)
-        ⊎ LeavesOfScript (S.left source.old) (D.failed disk) (D.failed result.disk) (D.told result.disk) (D.clock result.disk) (A.told result.annals) kept (D.clock disk + 1) }
+        ⊎ LeavesOfScript (S.left source.old) (D.failed disk) now kept (D.clock disk + 1) }
     ensures complete { (kept now : Told) (script before : List ℕ) → Starts (D.told disk) (A.told annals) (S.left source.old) (K.written sink.old) kept script before
         → A.told result.annals ≡ Some now → NothingRefuses (is_command words.now) script (history now) (length kept.list)
         → (Rose (S.failed source.old) (S.failed source.new) → ⊥) → (Rose (K.failed sink.old) (K.failed sink.new) → ⊥) → (Rose (D.failed disk) (D.failed result.disk) → ⊥)

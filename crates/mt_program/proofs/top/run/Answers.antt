@@ -1,5 +1,6 @@
 use Rattle.std.proofs.Common.{◌∙◌, ◌≡◌, ◌⊎◌, ◌≤◌, ℕ, inl, refl, sym, subst}
 use Rattle.mt_model.specs.Outside.{Counts}
+use Rattle.root_store.specs.Crashes.{Outside}
 use Rattle.root_store.proofs.CrashMarks.{safe_at_start}
 use Rattle.mt_program.specs.Headline.{Leaves, NothingRan, ReadRun, RunBy}
 use Rattle.run_streams.specs.Words.{is_command}
@@ -73,7 +74,9 @@ pub returns-clause-crashes : goal.returns-clause-crashes
 returns-clause-crashes g c = λ kept told is known all. c.run_opened-ended.ensures.crashes kept told is known all
 
 pub returns-then-not-is_command_line-clause-crashes : goal.returns-then-not-is_command_line-clause-crashes
-returns-then-not-is_command_line-clause-crashes g c = λ kept told is known all. nothing_of_script told kept _ _ _ _ known is (safe_at_start told (g.D.Disk.clock c.args.disk) kept.list all) (g.S.Source.left c.args.source.now) _ _
+returns-then-not-is_command_line-clause-crashes g c = λ kept told is known all.
+    let now : Outside = record { disk = g.D.Disk.told c.args.disk; clock = g.D.Disk.clock c.args.disk; failed = g.D.Disk.failed c.args.disk; annals = g.A.Annals.told c.args.annals } in
+    nothing_of_script told kept now _ known is (safe_at_start told (g.D.Disk.clock c.args.disk) kept.list all) (g.S.Source.left c.args.source.now) _
 
 -- nothing stands against the run
 pub returns-clause-complete : goal.returns-clause-complete
