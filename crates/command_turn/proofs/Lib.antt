@@ -1,5 +1,6 @@
 pub mod Accepting
 pub mod Creating
+pub mod Gaining
 pub mod Inserting
 pub mod Sealing
 pub mod Standing

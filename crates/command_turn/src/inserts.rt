@@ -1,7 +1,5 @@
 // Running an INSERT.
-ghost use Rattle.std.specs.Prelude.{◌≡◌, ◌∷◌, ◌++◌, [], ◌-◌, ◌<◌, ◌≤◌, ◌^◌, Ok, Some, true, false, IfOk, OnOk, List, ℕ, Result};
-ghost use Rattle.mt_values.specs.declared.statement.Cause.{Cause};
-ghost use Rattle.mt_values.specs.declared.statement.Statement.{Statement};
+ghost use Rattle.std.specs.Prelude.{◌≡◌, ◌-◌, ◌<◌, ◌≤◌, ◌^◌, Ok, Some, true, false, IfOk, OnOk, ℕ};
 ghost use Rattle.mt_values.specs.declared.statement.Statement.TheVariants as statement;
 ghost use Rattle.mt_values.specs.Annals.{Told};
 ghost use Rattle.mt_values.specs.Grid.{AreRowsOf};
@@ -9,10 +7,11 @@ ghost use Rattle.mt_outside.specs.DiskCauses.{HasDiskCause};
 ghost use Rattle.mt_model.specs.History.{IsTableSchema, column_types};
 ghost use Rattle.mt_model.specs.Refusals.{is_damage};
 ghost use Rattle.root_commits.specs.Commits.{IsSealedOf};
-ghost use Rattle.root_store.specs.Crashes.{KeepsThroughCrashes};
+ghost use Rattle.root_store.specs.Crashes.{KeepsThroughCrashes, Outside};
 ghost use Rattle.root_store.specs.Soundness.{HasSoundParts, IsSound, NamesFitUnlessRisen};
 ghost use Rattle.root_store.specs.Stores.{CoreStands};
 ghost use Rattle.command_turn.specs.Answers.{Answers};
+ghost use Rattle.command_turn.specs.Gains.{Gains};
 ghost use Rattle.reply_lines.specs.Foreseen.{history};
 
 use crate::stopped::refused_line;
@@ -68,10 +67,12 @@ pub fn insert<D: Disk, A: Annals>(
     requires below { store.old.opened < 2 ^ 64 - 1 }
     ensures answers { (kept : Told) → A.told annals.old ≡ Some kept → D.Arm.tells arm.old ≡ true → CoreStands D.Arm.Dir.files (history kept) store.old
         → Answers D.Arm.Dir.files kept (Ok (statement.Insert text.now)) store.old.opened (D.failed disk.new) (D.Arm.failed arm.new) result store.new (A.told annals.new) (D.told disk.old) (D.told disk.new) }
-    ensures through_crashes { (ran : List (Result Statement Cause)) (first : Told) (start : ℕ) → D.Arm.tells arm.old ≡ true
-        → KeepsThroughCrashes D.Arm.Dir.files ran store.old (D.failed disk.old) (D.told disk.old) (D.clock disk.old) (A.told annals.old) first start
-        → KeepsThroughCrashes D.Arm.Dir.files (ran ++ Ok (statement.Insert text.now) ∷ []) store.old (D.failed disk.old) (D.told disk.old) (D.clock disk.old) (A.told annals.old) first start
-        → KeepsThroughCrashes D.Arm.Dir.files (ran ++ Ok (statement.Insert text.now) ∷ []) store.new (D.failed disk.new) (D.told disk.new) (D.clock disk.new) (A.told annals.new) first start }
+    ensures gains { Gains (Ok (statement.Insert text.now)) (D.failed disk.old) store.old (A.told annals.old) (A.told annals.new) }
+    ensures through_crashes {
+        let was : Outside = record { disk = D.told disk.old; clock = D.clock disk.old; failed = D.failed disk.old; annals = A.told annals.old } in
+        let now : Outside = record { disk = D.told disk.new; clock = D.clock disk.new; failed = D.failed disk.new; annals = A.told annals.new } in
+        (first : Told) (start : ℕ) → D.Arm.tells arm.old ≡ true
+        → KeepsThroughCrashes D.Arm.Dir.files store.old was first start → KeepsThroughCrashes D.Arm.Dir.files store.new now first start }
     ensures undamaged { IfOk result (λ reply. is_damage reply.items ≡ false) }
     ensures held { D.Arm.tells arm.old ≡ true → HasSoundParts D.Arm.Dir.files store.old → HasSoundParts D.Arm.Dir.files store.new }
     ensures names { NamesFitUnlessRisen (D.failed disk.new) (D.told disk.new) store.new }

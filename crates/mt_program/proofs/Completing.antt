@@ -11,7 +11,8 @@ use Rattle.reply_lines.specs.Foreseen.{history}
 use Rattle.mt_model.specs.Script.{ScriptReplies}
 use Rattle.mt_model.specs.Session.{AddsNothing, SessionReplies}
 use Rattle.mt_program.specs.Courses.{Course, GoesUnanswered, Item, RunOf, started, with_last}
-use Rattle.mt_program.specs.Headline.{AnsweredAll, Headline, NothingRefuses, Outside, counts_of}
+use Rattle.mt_program.specs.Headline.{AnsweredAll, Headline}
+use Rattle.mt_program.specs.Worlds.{World, counts_of}
 use Rattle.exit_status.specs.Statuses.{number_of}
 use Rattle.run_streams.specs.Streams.{ConsumesMost}
 use Rattle.exit_status.specs.declared.status.Status.{Status}
@@ -51,17 +52,17 @@ not_risen before now later calm = elim (cases_lt now (min (before + 1) (2 ^ 64 -
 ]
 
 -- where no statement meets a cause, none was refused
-pub none_refused : (before after : Outside) (kept now : Told) (script written : List ℕ) (command : Bool) → before.faults ≤ after.faults → (Rose before.faults after.faults → ⊥) → after.annals ≡ Some now
-    → NothingRefuses command script (history now) (length kept.list) → Headline status.Refused before after kept script written → ⊥
-none_refused before after kept now script written command later calm there nothing left =
+pub none_refused : (before after : World) (kept now : Told) (script written : List ℕ) → before.storage.failed ≤ after.storage.failed → (Rose before.storage.failed after.storage.failed → ⊥) → after.storage.annals ≡ Some now
+    → NoneMeets (history now) (length kept.list) (statements_of script) → Headline status.Refused before after kept script written → ⊥
+none_refused before after kept now script written later calm there none_meets left =
     let both : Some left.now ≡ Some now = sym left.annals_is ∙ there in
     let same : left.now ≡ now = cc in
-    let still = not_risen before.faults after.faults later calm in
-    let causes : NoneMeets (history left.now) (length kept.list) (statements_of script) = subst (λ (k : Told). NoneMeets (history k) (length kept.list) (statements_of script)) (sym same) nothing.causes in
+    let still = not_risen before.storage.failed after.storage.failed later calm in
+    let causes : NoneMeets (history left.now) (length kept.list) (statements_of script) = subst (λ (k : Told). NoneMeets (history k) (length kept.list) (statements_of script)) (sym same) none_meets in
     let none = calm_script (counts_of before after) (statements_of script) (history left.now) (length kept.list) left.course.replies still.0 still.1 (whole_run before after kept script written true left.now left.course left.rest left.out left.split left.ran left.ends) causes in
     false≢true (sym none ∙ sym left.ends.says.refusals)
   where
-    whole_run : (before after : Outside) (kept : Told) (script written : List ℕ) (refused : Bool) (now : Told) (course : Course) (rest : List Item) (out : List ℕ) → statements_of script ≡ started course ++ rest
+    whole_run : (before after : World) (kept : Told) (script written : List ℕ) (refused : Bool) (now : Told) (course : Course) (rest : List Item) (out : List ℕ) → statements_of script ≡ started course ++ rest
         → RunOf (counts_of before after) (history now) (length kept.list) course → AnsweredAll refused after.source script course rest out → ScriptReplies (counts_of before after) (statements_of script) (history now) (length kept.list) course.replies
     whole_run before after kept script written refused now course rest out split ran all = by course.unanswered all.answered split ran.last
       where

@@ -26,7 +26,8 @@ use Rattle.exit_status.specs.declared.status.Status.{Status}
 use Rattle.exit_status.specs.declared.status.Status.TheVariants as status
 use Rattle.reply_lines.specs.Foreseen.{Foresees, history}
 use Rattle.mt_program.specs.Endings.{IsAnswered, IsEarly, LeftBy, MetNoDamage, settled, status_of, status_of_error, status_of_stop}
-use Rattle.mt_program.specs.Headline.{AnsweredAll, AnsweredRead, EndsBy, Headline, NothingRan, Outside, Starts, counts_of}
+use Rattle.mt_program.specs.Headline.{AnsweredAll, AnsweredRead, EndsBy, Headline, NothingRan}
+use Rattle.mt_program.specs.Worlds.{Starts, World, counts_of}
 use Rattle.exit_status.specs.Statuses.{number_of}
 use Rattle.mt_program.specs.Courses.{Course, Item, RunOf}
 use Rattle.mt_program.specs.Serving.{Ran, ServedBy}
@@ -98,13 +99,9 @@ nothing_ran n kept = record {
 pub root_told : (o : Option root.Told) (told : root.Told) (h : History) → o ≡ Some told → Stands (root.names_of told) h → RootStands o h
 root_told o told h is stands = (told, is, stands)
 
--- what is known, by its parts
-abbrev pub outside : Option root.Told → ℕ → Option Told → Option (List ℕ) → Option (List ℕ) → Outside
-outside disk faults annals source sink = record { disk = disk; faults = faults; annals = annals; source = source; sink = sink }
-
 -- the run ended before a statement ran
-module _ (before after : Outside) (kept : Told) (script written : List ℕ)
-    (legal : IsLegal (history kept)) (annals_is : after.annals ≡ Some kept) (sink_is : after.sink ≡ Some written) (settled : RootStands after.disk (history kept)) where
+module _ (before after : World) (kept : Told) (script written : List ℕ)
+    (legal : IsLegal (history kept)) (annals_is : after.storage.annals ≡ Some kept) (sink_is : after.sink ≡ Some written) (settled : RootStands after.storage.disk (history kept)) where
   early : (ended : Status) → EndsBy ended before after script none_answered (statements_of script) [] → Headline ended before after kept script written
   early ended ends = record {
     now = kept;
@@ -137,30 +134,30 @@ module _ (before after : Outside) (kept : Told) (script written : List ℕ)
   early_leaves status.WriteFault is sound same = absurd is
 
 -- what is known is the same, the counts of faults aside
-abbrev pub Same : Outside → Outside → Type 0
-Same before after = (after.disk ≡ before.disk) × (after.annals ≡ before.annals) × (after.source ≡ before.source) × (after.sink ≡ before.sink)
+abbrev pub Same : World → World → Type 0
+Same before after = (after.storage.disk ≡ before.storage.disk) × (after.storage.annals ≡ before.storage.annals) × (after.source ≡ before.source) × (after.sink ≡ before.sink)
 
-pub none_ran : (before after : Outside) → Same before after → NothingRan before after none_answered
+pub none_ran : (before after : World) → Same before after → NothingRan before after none_answered
 none_ran before after same = record { none = refl; answered = refl; disk = same.0; annals = same.1; source = same.2; sink = same.3 }
 
 -- the run ended before anything was known to change
-pub nothing_leaves : (before after : Outside) (kept : Told) (script written : List ℕ) → Starts before kept script written → Same before after → (ended : Status)
+pub nothing_leaves : (before after : World) (kept : Told) (script written : List ℕ) → Starts before kept script written → Same before after → (ended : Status)
     → (NothingRan before after none_answered → EndsBy ended before after script none_answered (statements_of script) []) → Headline ended before after kept script written
 nothing_leaves before after kept script written starts same ended ends =
-    early before after kept script written starts.stands.legal (same.1 ∙ starts.annals_is) (same.3 ∙ starts.sink_is) (root_told after.disk starts.told (history kept) (same.0 ∙ starts.disk_is) starts.stands)
+    early before after kept script written starts.stands.legal (same.1 ∙ starts.annals_is) (same.3 ∙ starts.sink_is) (root_told after.storage.disk starts.told (history kept) (same.0 ∙ starts.disk_is) starts.stands)
     ended (ends (none_ran before after same))
 
 -- the disk failed before the root was opened
-pub early_same : (before after : Outside) (kept : Told) (script written : List ℕ) → Starts before kept script written → Same before after → (ended : Status) → IsEarly ended → (ended ≡ status.Damaged → ⊥)
+pub early_same : (before after : World) (kept : Told) (script written : List ℕ) → Starts before kept script written → Same before after → (ended : Status) → IsEarly ended → (ended ≡ status.Damaged → ⊥)
     → Headline ended before after kept script written
 early_same before after kept script written starts same ended is sound =
-    early_leaves before after kept script written starts.stands.legal (same.1 ∙ starts.annals_is) (same.3 ∙ starts.sink_is) (root_told after.disk starts.told (history kept) (same.0 ∙ starts.disk_is) starts.stands)
+    early_leaves before after kept script written starts.stands.legal (same.1 ∙ starts.annals_is) (same.3 ∙ starts.sink_is) (root_told after.storage.disk starts.told (history kept) (same.0 ∙ starts.disk_is) starts.stands)
     ended is sound (λ fault. none_ran before after same)
 
 -- the script was served
-module _ (before after : Outside) (kept : Told) (script written : List ℕ) (opened disk arm : ℕ) (f : Foresees opened disk arm (counts_of before after)) (is : before.sink ≡ Some written) where
+module _ (before after : World) (kept : Told) (script written : List ℕ) (opened disk arm : ℕ) (f : Foresees opened disk arm (counts_of before after)) (is : before.sink ≡ Some written) where
   -- what ran is left, and what was written
-  left : (how : Ending) (ended : Status) (s : ServedBy how kept script opened disk arm after.annals after.disk before.sink after.sink)
+  left : (how : Ending) (ended : Status) (s : ServedBy how kept script opened disk arm after.storage.annals after.storage.disk before.sink after.sink)
       → EndsBy ended before after script (answered s.done s.replies) s.rest s.out → Headline ended before after kept script written
   left how ended s ends = record {
     now = s.ran.now;
@@ -171,7 +168,7 @@ module _ (before after : Outside) (kept : Told) (script written : List ℕ) (ope
     course = answered s.done s.replies;
     rest = s.rest;
     split = s.split;
-    ran = run_of (counts_of before after) kept opened disk arm s.done s.replies after.annals f s.ran;
+    ran = run_of (counts_of before after) kept opened disk arm s.done s.replies after.storage.annals f s.ran;
     out = s.out;
     sink_is = known_after written s.out before.sink after.sink is s.wrote;
     ends = ends;
@@ -179,7 +176,7 @@ module _ (before after : Outside) (kept : Told) (script written : List ℕ) (ope
   }
 
   all_answered : (tally : Tally) (refused : Bool) → tally.refused ≡ refused → tally.damaged ≡ false → (length script < 2 ^ 40) × (after.source ≡ Some [])
-      → (s : ServedBy (ending.Done tally) kept script opened disk arm after.annals after.disk before.sink after.sink) → AnsweredAll refused after.source script (answered s.done s.replies) s.rest s.out
+      → (s : ServedBy (ending.Done tally) kept script opened disk arm after.storage.annals after.storage.disk before.sink after.sink) → AnsweredAll refused after.source script (answered s.done s.replies) s.rest s.out
   all_answered tally refused which sound whole s = record {
     all = s.stops.0;
     answered = refl;
@@ -190,7 +187,7 @@ module _ (before after : Outside) (kept : Told) (script written : List ℕ) (ope
   }
 
   leaves_done : (tally : Tally) (risen : Bool) → tally.damaged ≡ false → (length script < 2 ^ 40) × (after.source ≡ Some [])
-      → ServedBy (ending.Done tally) kept script opened disk arm after.annals after.disk before.sink after.sink → Headline (settled tally risen) before after kept script written
+      → ServedBy (ending.Done tally) kept script opened disk arm after.storage.annals after.storage.disk before.sink after.sink → Headline (settled tally risen) before after kept script written
   leaves_done tally risen sound whole s = subst (λ (d : Bool). Headline (of_flags d risen tally.refused) before after kept script written) (sym sound) (by risen tally.refused refl)
     where
       by : (risen refused : Bool) → tally.refused ≡ refused → Headline (of_flags false risen refused) before after kept script written
@@ -200,7 +197,7 @@ module _ (before after : Outside) (kept : Told) (script written : List ℕ) (ope
 
   pub leaves_all : (was_root : Option root.Told) (risen : Bool) (ended : Result Ending Status) → IsLegal (history kept) → RootStands was_root (history kept) → MetNoDamage ended → IfErr ended IsEarly
       → OnOk ended ((length script < 2 ^ 40) × (after.source ≡ Some [])) → (ended ≡ Err status.DiskFault → NothingRan before after none_answered)
-      → LeftBy ended kept script opened disk arm after.annals was_root after.disk before.sink after.sink → Headline (status_of risen ended) before after kept script written
+      → LeftBy ended kept script opened disk arm after.storage.annals was_root after.storage.disk before.sink after.sink → Headline (status_of risen ended) before after kept script written
   leaves_all was_root risen (Ok (ending.Done tally)) legal stands sound first whole same s = leaves_done tally risen sound whole s
   leaves_all was_root risen (Ok ending.NoMemory) legal stands sound first whole same s = left ending.NoMemory status.NoMemory s s.stops
   leaves_all was_root risen (Ok ending.WriteFault) legal stands sound first whole same s = left ending.WriteFault status.WriteFault s (refl, s.stops)
@@ -208,7 +205,7 @@ module _ (before after : Outside) (kept : Told) (script written : List ℕ) (ope
       early_leaves before after kept script written legal s.0 (s.1 ∙ is) (subst (λ (o : Option root.Told). RootStands o (history kept)) (sym s.2) stands) ended first sound (λ fault. same (ap Err fault))
 
 -- what is left by the same status
-pub by_status : {before after : Outside} {kept : Told} {script written : List ℕ} {s t : Status} → s ≡ t → Headline t before after kept script written → Headline s before after kept script written
+pub by_status : {before after : World} {kept : Told} {script written : List ℕ} {s t : Status} → s ≡ t → Headline t before after kept script written → Headline s before after kept script written
 by_status {before} {after} {kept} {script} {written} same left = subst (λ (e : Status). Headline e before after kept script written) (sym same) left
 
 -- nothing was told or written where the root was not opened

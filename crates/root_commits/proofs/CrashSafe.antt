@@ -8,18 +8,19 @@ use Rattle.std.proofs.lemmas.List.{length-map, map_push, take-append-le}
 use Rattle.std.proofs.lemmas.Option.{slice_get_within}
 use Rattle.mt_values.specs.declared.annals.Noted.{Noted}
 use Rattle.mt_values.specs.declared.command.Entry.{Entry}
+use Rattle.mt_values.specs.Annals.{began}
 use Rattle.mt_outside.specs.declared.disk.Change.TheVariants.{Publish}
-use Rattle.mt_outside.specs.Disk.{Image, LeftAt, MayBecome, MayLead, Names, Since, Survive, Told, WithPublished, names_after, names_of, with_change}
+use Rattle.mt_outside.specs.Disk.{Image, LeftAt, MayBecome, MayLead, Names, Since, Told, WithPublished, names_after, with_change}
 use Rattle.mt_outside.specs.Files.{Files}
-use Rattle.mt_outside.proofs.Changes.{at_clock-none, before_clock-all, before_clock-with_change, names_after_last, since-sync, since-with_change}
-use Rattle.mt_outside.proofs.Crashes.{image_as_read, image_published, stamped_by, stamped_change, stamped_sync, survive_inserted}
+use Rattle.mt_outside.proofs.Changes.{before_clock-with_change, since-sync, since-with_change}
+use Rattle.mt_outside.proofs.Crashes.{image_published, stamped_change, stamped_sync}
 use Rattle.root_store.specs.ByteOrder.{AreInByteOrder}
-use Rattle.root_store.specs.Crashes.{HoldsFirst, IsCrashSafe, IsFirstOf, IsMarkBehind, entries_of}
+use Rattle.root_store.specs.Crashes.{HoldsFirst, IsCrashSafe, IsFirstOf, IsMarkAfter, entries_of, none_begun}
 use Rattle.root_store.specs.Roots.{Stands}
-use Rattle.root_store.proofs.CrashOrder.{image_rise}
-use Rattle.root_store.proofs.CrashMarks.{all_entries, begun_too, image_is_since, last_place, no_shorter, now_is_image, one_more, safe_now, same_least, slice_get-append_front, slice_get-append_seam, some_one, within_list}
+use Rattle.root_store.proofs.CrashMarks.{all_entries, begun_too, image_is_since, last_place, no_shorter, now_is_image, one_more, safe_stands, same_least, slice_get-append_front, slice_get-append_seam, some_one, within_list}
+use Rattle.root_commits.proofs.CrashImages.{settled_with_it, with_it}
 
-module _ (told : Told) (clock : ℕ) (list first : List Noted) (start : ℕ) (safe : IsCrashSafe told clock list None first start) where
+module _ (told : Told) (clock : ℕ) (list first : List Noted) (start : ℕ) (safe : IsCrashSafe told clock (none_begun list) first start) where
   abbrev base : ℕ
   base = length first
 
@@ -32,10 +33,11 @@ module _ (told : Told) (clock : ℕ) (list first : List Noted) (start : ℕ) (sa
     abbrev published : Told
     published = with_change clock (Publish name files) told
 
-    with_it : (names : Names) → WithPublished (Image told clock) name files names → Stands names (entries_of list ++ e ∷ [])
-    with_it names w =
-        subst (λ (ns : Names). Stands ns (entries_of list ++ e ∷ [])) (sym w.is)
-        (grows w.old w.left (image_rise told clock w.old w.before) (safe_now told clock list first start safe w.old w.before) w.become)
+    after_it : (names : Names) → WithPublished (Image told clock) name files names → Stands names (entries_of list ++ e ∷ [])
+    after_it names w = with_it told clock (entries_of list) (entries_of list ++ e ∷ []) (safe_stands told clock list first start safe) name files grows names w
+
+    after_sync : (names : Names) → Image published (clock + 1) names → Stands names (entries_of list ++ e ∷ [])
+    after_sync names image = settled_with_it told clock (entries_of list) (entries_of list ++ e ∷ []) (safe_stands told clock list first start safe) name files grows names image
 
     -- what was settled at the start is so still
     same_start : (names : Names) → LeftAt published start 0 names → Stands names (entries_of first)
@@ -44,29 +46,20 @@ module _ (told : Told) (clock : ℕ) (list first : List Noted) (start : ℕ) (sa
         safe.at_start names (subst (λ (settled : Told). MayLead (names_after [] settled) [] names) (before_clock-with_change told start clock (Publish name files) past) left)
 
     -- the command is begun
-    pub safe_published : IsCrashSafe published clock list (Some e) first start
+    pub safe_published : IsCrashSafe published clock (began e (none_begun list)) first start
     safe_published = record {
       stamped = stamped_change told clock (Publish name files) safe.stamped;
       begins = safe.begins;
       at_start = same_start;
       past = safe.past;
-      images = λ m mark names behind left. elim (since-with_change told clock mark (Publish name files) names left) [
-        | inl old ↦ begun_too m list (Some e) names (safe.images m mark names behind old)
+      images = λ m mark names after left. elim (since-with_change told clock mark (Publish name files) names left) [
+        | inl old ↦ begun_too m list (Some e) names (safe.images m mark names after old)
         | inr image ↦ elim (image_published told clock name files names image) [
-          | inl was ↦ begun_too m list (Some e) names (safe.images m mark names behind (image_is_since told clock mark names (safe.past m mark behind) was))
-          | inr new ↦ (entries_of list ++ e ∷ [], inr (e, refl, refl), with_it names new)
+          | inl was ↦ begun_too m list (Some e) names (safe.images m mark names after (image_is_since told clock mark names (safe.past m mark after) was))
+          | inr new ↦ (entries_of list ++ e ∷ [], inr (e, refl, refl), after_it names new)
         ]
       ];
     }
-
-    -- once the names were settled, a crash leaves the command too
-    settled_with_it : (names : Names) → Image published (clock + 1) names → Stands names (entries_of list ++ e ∷ [])
-    settled_with_it names image =
-        let by = stamped_by published clock (stamped_change told clock (Publish name files) safe.stamped) in
-        let kept : Survive (names_of published) names = rw (before_clock-all published clock by, at_clock-none published clock by) at image in
-        let read = subst (λ (ns : Names). Survive ns names) (names_after_last [] told (record { clock = clock; change = Publish name files })) kept in
-        let w = survive_inserted (names_of told) names name files read in
-        with_it names (record { old = w.old; left = w.left; before = image_as_read told clock w.old safe.stamped w.before; become = w.become; is = w.is })
 
     abbrev last : Noted
     last = record { entry = e; mark = clock + 1 }
@@ -77,10 +70,10 @@ module _ (told : Told) (clock : ℕ) (list first : List Noted) (start : ℕ) (sa
     count_last : length (list ++ last ∷ []) ≡ length list + 1
     count_last = length-append list (last ∷ [])
 
-    -- the mark behind entries of the longer list: it is the new one's, or the old list has it
-    behind_last : (m mark : ℕ) → IsMarkBehind base start (list ++ last ∷ []) m mark → IsMarkBehind base start list m mark ⊎ ((m ≡ length list + 1) × (mark ≡ clock + 1))
-    behind_last m mark (inl first) = inl (inl first)
-    behind_last m mark (inr later) = elim (cases_lt later.0 (length list)) [
+    -- the mark after entries of the longer list: it is the new one's, or the old list has it
+    after_last : (m mark : ℕ) → IsMarkAfter base start (list ++ last ∷ []) m mark → IsMarkAfter base start list m mark ⊎ ((m ≡ length list + 1) × (mark ≡ clock + 1))
+    after_last m mark (inl first) = inl (inl first)
+    after_last m mark (inr later) = elim (cases_lt later.0 (length list)) [
       | inl old ↦ inl (inr (later.0, later.1, later.2, later.3, sym (slice_get-append_front list (last ∷ []) later.0 old) ∙ later.4, later.5))
       | inr new ↦ (
           let within = slice_get_within (list ++ last ∷ []) later.0 later.1 later.4 in
@@ -108,24 +101,24 @@ module _ (told : Told) (clock : ℕ) (list first : List Noted) (start : ℕ) (sa
     holds_last m names few stands = (entries_of list ++ e ∷ [], inl (length list + 1, few, same_least _ _ (sym count_last), sym all_last), stands)
 
     -- and it is noted with that mark
-    pub safe_noted : IsCrashSafe published (clock + 1) (list ++ last ∷ []) None first start
+    pub safe_noted : IsCrashSafe published (clock + 1) (none_begun (list ++ last ∷ [])) first start
     safe_noted = record {
       stamped = stamped_sync published clock (stamped_change told clock (Publish name files) safe.stamped);
       begins = (safe.begins.0 ++ last ∷ [], ap (λ (ns : List Noted). ns ++ last ∷ []) safe.begins.1 ∙ append_assoc first safe.begins.0 (last ∷ []));
       at_start = same_start;
-      past = λ m mark behind. elim (behind_last m mark behind) [
+      past = λ m mark after. elim (after_last m mark after) [
         | inl old ↦ one_more mark clock (safe.past m mark old)
         | inr new ↦ same_least _ _ new.1
       ];
-      images = λ m mark names behind left. elim (behind_last m mark behind) [
+      images = λ m mark names after left. elim (after_last m mark after) [
         | inl old ↦ (
             let few = within_list base start list m mark least old in
             elim (since-sync published clock mark names left) [
               | inl before ↦ longer m names few (safe_published.images m mark names old before)
-              | inr image ↦ holds_last m names (one_more m (length list) few) (settled_with_it names image)
+              | inr image ↦ holds_last m names (one_more m (length list) few) (after_sync names image)
             ])
         | inr new ↦ (
             let image = now_is_image published (clock + 1) names (subst (λ (c : ℕ). Since published (clock + 1) c names) new.1 left) in
-            holds_last m names (same_least _ _ new.0) (settled_with_it names image))
+            holds_last m names (same_least _ _ new.0) (after_sync names image))
       ];
     }

@@ -1,7 +1,7 @@
 pub mod Added
 pub mod Behind
 pub mod CrashCommits
-pub mod CrashDone
+pub mod CrashImages
 pub mod CrashNames
 pub mod CrashSafe
 pub mod CrashTurns

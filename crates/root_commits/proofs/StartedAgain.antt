@@ -1,4 +1,4 @@
--- A store that is started again behind a crash goes on with one list, whatever that crash left of its files.
+-- A store that is started again after a crash goes on with one list, whatever that crash left of its files.
 use Rattle.std.proofs.Common.{◌≡◌, inl, inr, ℕ, ◌+◌, ◌-◌, ◌<◌, ◌≤◌, List, [], ◌∷◌, ◌++◌, length, map, take, Option, Some, refl, sym, ap, ◌∙◌, subst, arith, append-nil, length-append}
 use Rattle.std.proofs.lemmas.Bool.{cases_lt}
 use Rattle.std.proofs.lemmas.List.{length-map, length-take}
@@ -20,7 +20,7 @@ use Rattle.part_history.specs.Numbers.{IsInsertOf, numbered}
 use Rattle.part_history.specs.Parts.{has_block, parts_of}
 use Rattle.part_history.proofs.Numbered.{all_whole, insert_at}
 use Rattle.root_store.specs.ByteOrder.{AreInByteOrder}
-use Rattle.root_store.specs.Crashes.{AllStand, IsCrashSafe, IsFirstOf, IsMarkBehind, entries_of}
+use Rattle.root_store.specs.Crashes.{AllStand, IsCrashSafe, IsFirstOf, IsMarkAfter, entries_of}
 use Rattle.root_store.specs.Roots.{AreRead, Stands, named}
 use Rattle.root_store.proofs.Counted.{AreTables, as_long, sizes}
 use Rattle.root_store.proofs.CrashOrder.{image_rise, same_names}
@@ -120,17 +120,17 @@ module _ (told now : Told) (clock mark later : ℕ) (again : IsStartedAgain told
       same_names (names_of now) names (subst (λ (ss : Told). Survive (names_after [] ss) names) (sym all_settled) kept)
 
   -- so all of them stand for one of the histories
-  pub started_again : (m : ℕ) (list : List Noted) (begun : Option Entry) (first : List Noted) (start : ℕ) → IsCrashSafe told clock list begun first start → IsMarkBehind (length first) start list m mark
+  pub started_again : (m : ℕ) (list : List Noted) (begun : Option Entry) (first : List Noted) (start : ℕ) → IsCrashSafe told clock (record { list = list; begun = begun }) first start → IsMarkAfter (length first) start list m mark
       → (h : History) × IsFirstOf m list begun h × AllStand now later h
-  started_again m list begun first start safe behind =
+  started_again m list begun first start safe after =
       let read : Image now later (names_of now) = image_as_read now later (names_of now) again.stamped (survive_same (names_of now)) in
-      let held = safe.images m mark (names_of now) behind (again.images (names_of now) read) in (
+      let held = safe.images m mark (names_of now) after (again.images (names_of now) read) in (
         held.0,
         held.1,
         record {
           stamped = again.stamped;
           images = λ names image.
-              let other = safe.images m mark names behind (again.images names image) in
+              let other = safe.images m mark names after (again.images names image) in
               let count = one_length (names_of now) names held.0 other.0 held.2 other.2 (image_rise now later (names_of now) read) (image_rise now later names image) (image_names names image) in
               subst (Stands names) (sym (one_first m list begun held.0 other.0 held.1 other.1 count)) other.2;
         },

@@ -1,12 +1,10 @@
 // A command added to the disk, to what the keeper tells and to the store.
-ghost use Rattle.std.specs.Prelude.{◌≡◌, ◌≢◌, ◌+◌, ◌-◌, ◌<◌, ◌≤◌, ◌^◌, ◌∷◌, ◌++◌, [], ℕ, IsSome, IsTrue, List, Option, Some, None, IfErr, IfOk, IfSome, IsNone, OnErr, OnOk, length, Result};
+ghost use Rattle.std.specs.Prelude.{◌≡◌, ◌≢◌, ◌+◌, ◌-◌, ◌<◌, ◌≤◌, ◌^◌, ◌∷◌, ◌++◌, [], ℕ, IsSome, IsTrue, List, Option, Some, None, IfErr, IfOk, IfSome, IsNone, OnErr, OnOk, length};
 ghost use Rattle.std.specs.BTreeMap.{Updates, get, insert_entry};
 ghost use Rattle.std.specs.Cmp.Lexicographic.{slice_cmp};
 ghost use Rattle.std.specs.Option.{option_map};
 ghost use Rattle.std.specs.Ordering.{nat_cmp};
 ghost use Rattle.mt_values.specs.declared.command.Command.TheVariants as command;
-ghost use Rattle.mt_values.specs.declared.statement.Cause.{Cause};
-ghost use Rattle.mt_values.specs.declared.statement.Statement.{Statement};
 ghost use Rattle.mt_values.specs.Annals.{Told, began};
 ghost use Rattle.mt_values.specs.RootNames.{create_name, part_name};
 ghost use Rattle.part_name.specs.PartNames.{part_text};
@@ -23,7 +21,8 @@ ghost use Rattle.part_history.specs.Entered.{entered};
 ghost use Rattle.durable_commit.specs.Commits.{IsOutside, Notes, SameList, entry_of};
 ghost use Rattle.root_store.specs.Stores.{fresh_table};
 ghost use Rattle.root_commits.specs.Commits.{EntersSealed, EntersTable, IsCause, SameStore, cause_of, fresh_part, IsSealedOf, insert_into, insert_of_block, refuses_create, refuses_part, whole_parts};
-ghost use Rattle.root_store.specs.Crashes.{IsCommandOf, KeepsThroughCrashes};
+ghost use Rattle.root_commits.specs.Images.{LeavesEither, LeavesOne};
+ghost use Rattle.root_store.specs.Crashes.{KeepsThroughCrashes, Outside};
 ghost use Rattle.root_store.specs.Entries.{EntryHolds};
 ghost use Rattle.root_store.specs.Soundness.{HasSoundParts, IsSound, NamesFitUnlessRisen, RootStands};
 ghost use Rattle.root_store.specs.Stores.{CoreStands, table_at};
@@ -255,10 +254,18 @@ pub fn commit_create<D: Disk, A: Annals>(
     ensures stands { (h : History) → CoreStands D.Arm.Dir.files h store.old → OnOk result (CoreStands D.Arm.Dir.files (entered h session (command.Create create)) store.new) }
     ensures root_stands { (h : History) (files : Files) → CoreStands D.Arm.Dir.files h store.old → RootStands (D.told disk.old) h
         → sealed.files ≡ Some files → EntryHolds create.table create.schema files → OnOk result (RootStands (D.told disk.new) (entered h session (command.Create create))) }
-    ensures through_crashes { (ran : List (Result Statement Cause)) (statement : Result Statement Cause) (first : Told) (start : ℕ) (files : Files) → sealed.files ≡ Some files → EntryHolds create.table create.schema files
-        → IsCommandOf (statement ∷ []) (entry_of session (command.Create create))
-        → KeepsThroughCrashes D.Arm.Dir.files ran store.old (D.failed disk.old) (D.told disk.old) (D.clock disk.old) (A.told annals.old) first start
-        → KeepsThroughCrashes D.Arm.Dir.files (ran ++ statement ∷ []) store.new (D.failed disk.new) (D.told disk.new) (D.clock disk.new) (A.told annals.new) first start }
+    ensures images { (h : History) (files : Files) → sealed.files ≡ Some files → EntryHolds create.table create.schema files
+        → CoreStands D.Arm.Dir.files h store.old → LeavesOne (D.told disk.old) (D.clock disk.old) h
+        → LeavesEither (D.told disk.new) (D.clock disk.new) (D.clock disk.old) h (entered h session (command.Create create)) }
+    ensures images_ok { (h : History) (files : Files) → sealed.files ≡ Some files → EntryHolds create.table create.schema files
+        → CoreStands D.Arm.Dir.files h store.old → LeavesOne (D.told disk.old) (D.clock disk.old) h
+        → OnOk result (LeavesOne (D.told disk.new) (D.clock disk.new) (entered h session (command.Create create))) }
+    ensures images_err { (h : History) → LeavesOne (D.told disk.old) (D.clock disk.old) h → IfErr result (λ r. r.cause ≢ Refused.Disk → LeavesOne (D.told disk.new) (D.clock disk.new) h) }
+    ensures through_crashes {
+        let was : Outside = record { disk = D.told disk.old; clock = D.clock disk.old; failed = D.failed disk.old; annals = A.told annals.old } in
+        let now : Outside = record { disk = D.told disk.new; clock = D.clock disk.new; failed = D.failed disk.new; annals = A.told annals.new } in
+        (first : Told) (start : ℕ) (files : Files) → sealed.files ≡ Some files → EntryHolds create.table create.schema files
+        → KeepsThroughCrashes D.Arm.Dir.files store.old was first start → KeepsThroughCrashes D.Arm.Dir.files store.new now first start }
     ensures held { HasSoundParts D.Arm.Dir.files store.old → HasSoundParts D.Arm.Dir.files store.new }
     ensures unchanged { IfErr result (λ r. r.cause ≢ Refused.Disk → D.told disk.new ≡ D.told disk.old) }
     ensures store { IsSound store.new }
@@ -388,10 +395,18 @@ pub fn commit_part<D: Disk, A: Annals>(
     ensures root_stands { (h : History) (t : Made) → CoreStands D.Arm.Dir.files h store.old → RootStands (D.told disk.old) h
         → table_at store.old table.now ≡ Some t → IsSealedOf t.schema block part.sealed.files part.loaded
         → OnOk result (RootStands (D.told disk.new) (entered h session (insert_of_block table.now block))) }
-    ensures through_crashes { (t : Made) (ran : List (Result Statement Cause)) (statement : Result Statement Cause) (first : Told) (start : ℕ) → table_at store.old table.now ≡ Some t → IsSealedOf t.schema block part.sealed.files part.loaded
-        → IsCommandOf (statement ∷ []) (entry_of session (insert_of_block table.now block))
-        → KeepsThroughCrashes D.Arm.Dir.files ran store.old (D.failed disk.old) (D.told disk.old) (D.clock disk.old) (A.told annals.old) first start
-        → KeepsThroughCrashes D.Arm.Dir.files (ran ++ statement ∷ []) store.new (D.failed disk.new) (D.told disk.new) (D.clock disk.new) (A.told annals.new) first start }
+    ensures images { (h : History) (t : Made) → table_at store.old table.now ≡ Some t → IsSealedOf t.schema block part.sealed.files part.loaded
+        → CoreStands D.Arm.Dir.files h store.old → LeavesOne (D.told disk.old) (D.clock disk.old) h
+        → LeavesEither (D.told disk.new) (D.clock disk.new) (D.clock disk.old) h (entered h session (insert_of_block table.now block)) }
+    ensures images_ok { (h : History) (t : Made) → table_at store.old table.now ≡ Some t → IsSealedOf t.schema block part.sealed.files part.loaded
+        → CoreStands D.Arm.Dir.files h store.old → LeavesOne (D.told disk.old) (D.clock disk.old) h
+        → OnOk result (LeavesOne (D.told disk.new) (D.clock disk.new) (entered h session (insert_of_block table.now block))) }
+    ensures images_err { (h : History) → LeavesOne (D.told disk.old) (D.clock disk.old) h → IfErr result (λ r. r.cause ≢ Refused.Disk → LeavesOne (D.told disk.new) (D.clock disk.new) h) }
+    ensures through_crashes {
+        let was : Outside = record { disk = D.told disk.old; clock = D.clock disk.old; failed = D.failed disk.old; annals = A.told annals.old } in
+        let now : Outside = record { disk = D.told disk.new; clock = D.clock disk.new; failed = D.failed disk.new; annals = A.told annals.new } in
+        (t : Made) (first : Told) (start : ℕ) → table_at store.old table.now ≡ Some t → IsSealedOf t.schema block part.sealed.files part.loaded
+        → KeepsThroughCrashes D.Arm.Dir.files store.old was first start → KeepsThroughCrashes D.Arm.Dir.files store.new now first start }
     ensures held { (t : Made) → table_at store.old table.now ≡ Some t → IsSealedOf t.schema block part.sealed.files part.loaded → HasSoundParts D.Arm.Dir.files store.old → HasSoundParts D.Arm.Dir.files store.new }
     ensures unchanged { IfErr result (λ r. r.cause ≢ Refused.Disk → D.told disk.new ≡ D.told disk.old) }
     ensures store { IsSound store.new }

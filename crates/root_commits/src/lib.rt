@@ -5,4 +5,4 @@ mod commits;
 mod laws;
 
 pub use commits::{Returned, commit_create, commit_part};
-pub use laws::{crashes_leave_what_was_noted, runs_go_on_behind_a_crash};
+pub use laws::{crashes_leave_what_was_noted, runs_go_on_after_a_crash};

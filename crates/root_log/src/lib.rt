@@ -3,7 +3,7 @@
 
 pub use durable_commit::{Limit, Refused};
 pub use root_commits::{
-    Returned, commit_create, commit_part, crashes_leave_what_was_noted, runs_go_on_behind_a_crash,
+    Returned, commit_create, commit_part, crashes_leave_what_was_noted, runs_go_on_after_a_crash,
 };
 pub use root_opening::{
     Damage, NameFault, OpenFault, damage_of_a_root_is_one, open, open_entry, read_names,

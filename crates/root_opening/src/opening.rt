@@ -1,5 +1,5 @@
 // A root opened: its names read, its entries and its visible parts checked, and the store that is kept of it.
-ghost use Rattle.std.specs.Prelude.{◌≡◌, ◌≢◌, ◌⊎◌, ◌+◌, ◌<◌, ◌≤◌, [], ℕ, IfErr, IfNone, IfOk, IfSome, IsErrOf, IsNone, List, MatchResult, None, OnOk, Some, length, map};
+ghost use Rattle.std.specs.Prelude.{◌≡◌, ◌≢◌, ◌⊎◌, ◌+◌, ◌<◌, ◌≤◌, [], ℕ, IfErr, IfNone, IfOk, IfSome, IsErrOf, IsNone, List, MatchResult, OnOk, Some, length, map};
 ghost use Rattle.std.specs.Cmp.Lexicographic.{slice_cmp};
 ghost use Rattle.std.specs.List.Sorted.{IsStrictlySortedBy};
 ghost use Rattle.std.specs.Ordering.{nat_cmp};
@@ -9,7 +9,7 @@ ghost use Rattle.mt_outside.specs.Disk.{Names, Told, names_of};
 ghost use Rattle.mt_model.specs.History.{History};
 ghost use Rattle.part_set.specs.NameOrder.{Rise};
 ghost use Rattle.root_store.specs.ByteOrder.{AreInByteOrder};
-ghost use Rattle.root_store.specs.Crashes.{AllStand, IsCrashSafe, entries_of};
+ghost use Rattle.root_store.specs.Crashes.{AllStand, IsCrashSafe, entries_of, none_begun};
 ghost use Rattle.root_store.specs.Damage.{most_tables};
 ghost use Rattle.root_opening.specs.Keeping.{IsBadNameAt, IsDamageOfSet, IsNamedRoot, PlacesWithin};
 ghost use Rattle.root_opening.specs.Names.{AreNamesOf, IsFirstBadText, creates_in};
@@ -176,7 +176,7 @@ pub fn open<D: Disk>(
     ensures told { D.told disk.new ≡ D.told disk.old }
     ensures settled { (told : Told) → D.told disk.old ≡ Some told → names_of told ≢ [] → OnOk result (D.clock disk.new ≡ D.clock disk.old + 1) }
     ensures mark { (D.clock disk.new ≡ D.clock disk.old) ⊎ (D.clock disk.new ≡ D.clock disk.old + 1) }
-    ensures crashes { (told : Told) (list : List Noted) → D.told disk.old ≡ Some told → AllStand told (D.clock disk.old) (entries_of list) → IsCrashSafe told (D.clock disk.new) list None list (D.clock disk.old) }
+    ensures crashes { (told : Told) (list : List Noted) → D.told disk.old ≡ Some told → AllStand told (D.clock disk.old) (entries_of list) → IsCrashSafe told (D.clock disk.new) (none_begun list) list (D.clock disk.old) }
     ensures tells { D.Arm.tells arm.new ≡ D.Arm.tells arm.old }
     ensures later { D.failed disk.old ≤ D.failed disk.new }
     ensures arm_later { D.Arm.failed arm.old ≤ D.Arm.failed arm.new }

@@ -5,11 +5,12 @@ use Rattle.std.proofs.lemmas.List.{length-map, take_all}
 use Rattle.std.proofs.lemmas.Option.{slice_get_within}
 use Rattle.mt_values.specs.declared.annals.Noted.{Noted}
 use Rattle.mt_values.specs.declared.command.Entry.{Entry}
+use Rattle.mt_values.specs.Annals as keeper
 use Rattle.mt_outside.specs.Disk.{Image, Names, Since, Told, at_clock, names_of}
 use Rattle.mt_outside.proofs.Changes.{image_from_left, left_at_all, since-sync, survive_same}
 use Rattle.mt_outside.proofs.Crashes.{image_as_read, image_synced, stamped_sync}
 use Rattle.mt_model.specs.History.{History}
-use Rattle.root_store.specs.Crashes.{AllStand, Begins, HoldsFirst, IsCrashSafe, IsFirstOf, IsMarkBehind, entries_of}
+use Rattle.root_store.specs.Crashes.{AllStand, Begins, HoldsFirst, IsCrashSafe, IsFirstOf, IsMarkAfter, entries_of, none_begun}
 use Rattle.root_store.specs.Roots.{Stands}
 
 -- ---- numbers, and options that are equal
@@ -59,15 +60,15 @@ last_of [] n within = absurd (omega (arith, within))
 last_of (x ∷ list) zero within = (x, refl)
 last_of (x ∷ list) (suc n) within = last_of list n (omega (arith, within))
 
--- some mark is behind all entries
-pub mark_of_all : (base start : ℕ) (list : List Noted) → base ≤ length list → (mark : ℕ) × IsMarkBehind base start list (length list) mark
+-- some mark is after all entries
+pub mark_of_all : (base start : ℕ) (list : List Noted) → base ≤ length list → (mark : ℕ) × IsMarkAfter base start list (length list) mark
 mark_of_all base start list least = elim (cases_lt base (length list)) [
   | inl more ↦ (let last = last_of list (length list - 1) (omega (arith, more)) in (last.0.mark, inr (length list - 1, last.0, omega (arith, more), omega (arith, more), last.1, refl)))
   | inr all ↦ (start, inl (omega (arith, least, all), refl))
 ]
 
--- it is behind no more entries than there are
-pub within_list : (base start : ℕ) (list : List Noted) (m mark : ℕ) → base ≤ length list → IsMarkBehind base start list m mark → m ≤ length list
+-- it is after no more entries than there are
+pub within_list : (base start : ℕ) (list : List Noted) (m mark : ℕ) → base ≤ length list → IsMarkAfter base start list m mark → m ≤ length list
 within_list base start list m mark least (inl first) = omega (arith, least, first.0)
 within_list base start list m mark least (inr later) = (let within = slice_get_within list later.0 later.1 later.4 in omega (arith, within, later.3))
 
@@ -86,26 +87,26 @@ begun_too m list begun names held = by held.1
     by (inl first) = (held.0, inl first, held.2)
     by (inr all) = none_some all.0 all.1
 
-pub safe_begun : (told : Told) (clock : ℕ) (list : List Noted) (begun : Option Entry) (first : List Noted) (start : ℕ) → IsCrashSafe told clock list None first start → IsCrashSafe told clock list begun first start
-safe_begun told clock list begun first start safe = record {
+pub safe_begun : (told : Told) (clock : ℕ) (kept : keeper.Told) (first : List Noted) (start : ℕ) → IsCrashSafe told clock (none_begun kept.list) first start → IsCrashSafe told clock kept first start
+safe_begun told clock kept first start safe = record {
   stamped = safe.stamped;
   begins = safe.begins;
   at_start = safe.at_start;
   past = safe.past;
-  images = λ m mark names behind left. begun_too m list begun names (safe.images m mark names behind left);
+  images = λ m mark names after left. begun_too m kept.list kept.begun names (safe.images m mark names after left);
 }
 
 -- a run begins so
-pub safe_at_start : (told : Told) (clock : ℕ) (list : List Noted) → AllStand told clock (entries_of list) → IsCrashSafe told clock list None list clock
+pub safe_at_start : (told : Told) (clock : ℕ) (list : List Noted) → AllStand told clock (entries_of list) → IsCrashSafe told clock (none_begun list) list clock
 safe_at_start told clock list all = record {
   stamped = all.stamped;
   begins = ([], sym (append-nil list));
   at_start = λ names left. all.images names (image_from_left told clock 0 names left);
-  past = λ m mark behind. elim behind [
+  past = λ m mark after. elim after [
     | inl first ↦ (let is = first.1 in omega (arith, is))
     | inr later ↦ (let within = slice_get_within list later.0 later.1 later.4 in let base = later.2 in absurd (omega (arith, within, base)))
   ];
-  images = λ m mark names behind left. elim behind [
+  images = λ m mark names after left. elim after [
     | inl first ↦ (
         let image = now_is_image told clock names (subst (λ (c : ℕ). Since told clock c names) first.1 left) in
         let count = first.0 in
@@ -114,7 +115,7 @@ safe_at_start told clock list all = record {
   ];
 }
 
-module _ (told : Told) (clock : ℕ) (list first : List Noted) (start : ℕ) (safe : IsCrashSafe told clock list None first start) where
+module _ (told : Told) (clock : ℕ) (list first : List Noted) (start : ℕ) (safe : IsCrashSafe told clock (none_begun list) first start) where
   abbrev pub base : ℕ
   base = length first
 
@@ -140,23 +141,23 @@ module _ (told : Told) (clock : ℕ) (list first : List Noted) (start : ℕ) (sa
   safe_stands = record { stamped = safe.stamped; images = safe_now }
 
   -- a sync of the names keeps it so
-  pub safe_synced : IsCrashSafe told (clock + 1) list None first start
+  pub safe_synced : IsCrashSafe told (clock + 1) (none_begun list) first start
   safe_synced = record {
     stamped = stamped_sync told clock safe.stamped;
     begins = safe.begins;
     at_start = safe.at_start;
-    past = λ m mark behind. one_more mark clock (safe.past m mark behind);
-    images = λ m mark names behind left. elim (since-sync told clock mark names left) [
-      | inl old ↦ safe.images m mark names behind old
-      | inr image ↦ safe.images m mark names behind (image_is_since told clock mark names (safe.past m mark behind) (image_synced told clock names safe.stamped image))
+    past = λ m mark after. one_more mark clock (safe.past m mark after);
+    images = λ m mark names after left. elim (since-sync told clock mark names left) [
+      | inl old ↦ safe.images m mark names after old
+      | inr image ↦ safe.images m mark names after (image_is_since told clock mark names (safe.past m mark after) (image_synced told clock names safe.stamped image))
     ];
   }
 
 -- a root that is opened is read, and then its names are settled or not
-pub safe_opened : (told : Told) (clock now : ℕ) (list : List Noted) → AllStand told clock (entries_of list) → (now ≡ clock) ⊎ (now ≡ clock + 1) → IsCrashSafe told now list None list clock
-safe_opened told clock now list all (inl same) = subst (λ (c : ℕ). IsCrashSafe told c list None list clock) (sym same) (safe_at_start told clock list all)
+pub safe_opened : (told : Told) (clock now : ℕ) (list : List Noted) → AllStand told clock (entries_of list) → (now ≡ clock) ⊎ (now ≡ clock + 1) → IsCrashSafe told now (none_begun list) list clock
+safe_opened told clock now list all (inl same) = subst (λ (c : ℕ). IsCrashSafe told c (none_begun list) list clock) (sym same) (safe_at_start told clock list all)
 safe_opened told clock now list all (inr raised) =
-    subst (λ (c : ℕ). IsCrashSafe told c list None list clock) (sym raised) (safe_synced told clock list list clock (safe_at_start told clock list all))
+    subst (λ (c : ℕ). IsCrashSafe told c (none_begun list) list clock) (sym raised) (safe_synced told clock list list clock (safe_at_start told clock list all))
 
 -- the names as they read are among what a crash may leave
 pub stands_as_read : (told : Told) (clock : ℕ) (h : History) → AllStand told clock h → Stands (names_of told) h

@@ -1,7 +1,9 @@
 use Rattle.std.proofs.lemmas.Result.{IfErr-weaker, IfOk-weaker}
-use Rattle.std.proofs.Common.{◌≡◌, ◌<◌, ◌^◌, ◌++◌, ◌∷◌, [], List, ℕ, Some, None, Ok, Err, length, refl, sym, ap, ◌∙◌, subst, arith}
+use Rattle.std.proofs.Common.{◌≡◌, inl, ◌<◌, ◌^◌, ◌++◌, ◌∷◌, [], List, ℕ, Some, None, Ok, Err, length, refl, sym, ap, ◌∙◌, subst, arith}
+use Rattle.std.specs.Option.{option_map}
 use Rattle.mt_values.specs.declared.command.Command.TheVariants as command
 use Rattle.mt_values.specs.declared.statement.Statement.TheVariants as statement
+use Rattle.mt_values.specs.Annals.{began}
 use Rattle.mt_model.specs.Reply.{create_turn}
 use Rattle.mt_model.proofs.Causes.{text_is_cause, undamaged_line}
 use Rattle.mt_model.proofs.Tables.{schema_is}
@@ -16,7 +18,7 @@ use Rattle.statement_work.specs.Staged.{entry_files}
 use Rattle.command_turn.proofs.Accepting.{accepts_nothing, answers_line, root_is, entry_of, kept_same, same_kept}
 use Rattle.command_turn.proofs.Creating.{created_accepts, entry_holds, turn_free}
 use Rattle.reply_lines.proofs.Refusing.{create_failed, create_refused}
-use Rattle.part_set.proofs.Items.{item_first}
+use Rattle.command_turn.proofs.Gaining.{gains_noted, gains_refused, still_created, still_refused}
 use Rattle.root_commits.proofs.SameStores.{stands_same}
 use Rattle.command_turn.proofs.Standing.{no_table, tables_made}
 use Rattle.command_turn.specs.Stops.{IsLineOf}
@@ -121,24 +123,59 @@ returns-in-Err-commit_create-clause-answers g c = λ kept is tells stands.
 
 -- what a crash leaves
 pub returns-in-Ok-commit_create-clause-through_crashes : goal.returns-in-Ok-commit_create-clause-through_crashes
-returns-in-Ok-commit_create-clause-through_crashes g c = λ ran first start tells was keeps.
+returns-in-Ok-commit_create-clause-through_crashes g c = λ first start tells keeps.
     let text = c.args.text.now in
     let schema = c.in-Ok.schema in
     let says = sym c.in_ok-resolved.ensures ∙ c.in-Ok.is in
     let few = subst (λ (t : List ℕ). length t < 2 ^ 32) c.as_slice.ensures c.in-Ok-seal_entry.ensures.few in
     let holds = subst (λ (t : List ℕ). EntryHolds t schema (entry_files text.text)) (sym c.in_ok-table.ensures) (entry_holds text schema c.requires.written says few) in
-    c.commit_create.ensures.through_crashes ran (Ok (statement.Create text)) first start (entry_files text.text) (c.in-Ok-seal_entry.ensures.files tells ∙ ap (λ (t : List ℕ). Some (entry_files t)) c.as_slice.ensures) holds
-    (refl, (statement.Create text, item_first (Ok (statement.Create text)) [], (c.in_ok-table.ensures, says))) was
+    c.commit_create.ensures.through_crashes first start (entry_files text.text) (c.in-Ok-seal_entry.ensures.files tells ∙ ap (λ (t : List ℕ). Some (entry_files t)) c.as_slice.ensures) holds keeps
 
 pub returns-in-Err-commit_create-clause-through_crashes : goal.returns-in-Err-commit_create-clause-through_crashes
-returns-in-Err-commit_create-clause-through_crashes g c = λ ran first start tells was keeps.
+returns-in-Err-commit_create-clause-through_crashes g c = λ first start tells keeps.
     let text = c.args.text.now in
     let schema = c.in-Ok.schema in
     let says = sym c.in_ok-resolved.ensures ∙ c.in-Ok.is in
     let few = subst (λ (t : List ℕ). length t < 2 ^ 32) c.as_slice.ensures c.in-Ok-seal_entry.ensures.few in
     let holds = subst (λ (t : List ℕ). EntryHolds t schema (entry_files text.text)) (sym c.in_ok-table.ensures) (entry_holds text schema c.requires.written says few) in
-    c.commit_create.ensures.through_crashes ran (Ok (statement.Create text)) first start (entry_files text.text) (c.in-Ok-seal_entry.ensures.files tells ∙ ap (λ (t : List ℕ). Some (entry_files t)) c.as_slice.ensures) holds
-    (refl, (statement.Create text, item_first (Ok (statement.Create text)) [], (c.in_ok-table.ensures, says))) was
+    c.commit_create.ensures.through_crashes first start (entry_files text.text) (c.in-Ok-seal_entry.ensures.files tells ∙ ap (λ (t : List ℕ). Some (entry_files t)) c.as_slice.ensures) holds keeps
+
+-- what is known of annals
+pub returns-in-Err-clause-gains : goal.returns-in-Err-clause-gains
+returns-in-Err-clause-gains g c = inl refl
+
+pub returns-in-Err-seal_entry-clause-gains : goal.returns-in-Err-seal_entry-clause-gains
+returns-in-Err-seal_entry-clause-gains g c = inl refl
+
+pub returns-in-Ok-commit_create-clause-gains : goal.returns-in-Ok-commit_create-clause-gains
+returns-in-Ok-commit_create-clause-gains g c =
+    let store = c.args.store.now in
+    let text = c.args.text.now in
+    let name = c.in_ok-table.ensures in
+    let done = c.in-Ok-commit_create.ensures in
+    let before = g.D.Disk.failed c.args.disk.now in
+    let mark = g.D.Disk.clock c.commit_create.new.disk in
+    let old = g.A.Annals.told c.args.annals.now in
+    let new = g.A.Annals.told c.commit_create.new.annals in
+    let created = λ (t : List ℕ). command.Create (record { table = t; schema = c.in-Ok.schema }) in
+    gains_noted store before (statement.Create text) (created text.table) (refl, sym c.in_ok-resolved.ensures ∙ c.in-Ok.is) old new
+    (still_created store text.table before c.requires.opened (subst (λ (t : List ℕ). IsCause (refuses_create store t before) None) name done.cause))
+    mark (subst (λ (t : List ℕ). Notes mark (entry_of (created t)) old new) name done.annals)
+
+pub returns-in-Err-commit_create-clause-gains : goal.returns-in-Err-commit_create-clause-gains
+returns-in-Err-commit_create-clause-gains g c =
+    let store = c.args.store.now in
+    let text = c.args.text.now in
+    let name = c.in_ok-table.ensures in
+    let ended = c.in-Err-commit_create.ensures in
+    let cause = c.in-Err-commit_create.returned.cause in
+    let before = g.D.Disk.failed c.args.disk.now in
+    let old = g.A.Annals.told c.args.annals.now in
+    let new = g.A.Annals.told c.commit_create.new.annals in
+    let created = λ (t : List ℕ). command.Create (record { table = t; schema = c.in-Ok.schema }) in
+    gains_refused store before (statement.Create text) (created text.table) (refl, sym c.in_ok-resolved.ensures ∙ c.in-Ok.is) old new c.in-Err-commit_create.returned.back ended.list_back
+    (λ none. subst (λ (t : List ℕ). new ≡ option_map (began (entry_of (created t))) old) name (ended.begun none))
+    (λ none. still_refused store text.table before c.requires.opened cause (subst (λ (t : List ℕ). IsCause (refuses_create store t before) (Some cause)) name ended.cause) (ended.given none))
 
 -- the reply does not tell of damage
 pub returns-in-Err-clause-undamaged : goal.returns-in-Err-clause-undamaged

@@ -1,9 +1,11 @@
 use Rattle.std.proofs.lemmas.Result.{IfErr-weaker, IfOk-weaker}
-use Rattle.std.proofs.Common.{◌≡◌, [], ◌≤◌, ◌<◌, ℕ, List, Option, Some, Ok, Err, true, false, length, refl, sym, ap, ◌∙◌, subst, arith, IfOk}
+use Rattle.std.proofs.Common.{◌≡◌, inl, ◌≤◌, ◌<◌, ℕ, List, Option, Some, Ok, Err, true, false, length, refl, sym, ap, ◌∙◌, subst, arith, IfOk}
+use Rattle.std.specs.Option.{option_map}
 use Rattle.mt_base.specs.declared.partition.Partition.TheVariants.{Whole}
 use Rattle.tsv_rows.specs.Stops.{Refuses}
 use Rattle.mt_values.specs.declared.row_fault.DataFault.{DataFault}
 use Rattle.mt_values.specs.declared.schema.Schema.{Schema}
+use Rattle.mt_values.specs.declared.statement.InsertText.{InsertText}
 use Rattle.mt_values.specs.declared.statement.Statement.TheVariants as statement
 use Rattle.mt_values.specs.declared.value.ColType.{ColType}
 use Rattle.mt_values.specs.Grid.{AreRowsOf, Grid}
@@ -15,16 +17,18 @@ use Rattle.mt_model.specs.declared.refusal.Refusal.TheVariants as refusal
 use Rattle.mt_model.specs.History.{IsInsertInto, column_types, inserts}
 use Rattle.mt_model.specs.Refusals.{is_damage, refusal_line, refusal_of_data}
 use Rattle.mt_model.specs.Reply.{ok_line}
+use Rattle.root_store.specs.declared.store.CoreStore.{CoreStore}
 use Rattle.root_store.specs.declared.store.Table.{Table}
-use Rattle.root_commits.specs.Commits.{insert_into, whole_parts}
+use Rattle.root_commits.specs.Commits.{insert_into, insert_of_block, whole_parts}
 use Rattle.root_store.specs.Stores.{table_at}
 use Rattle.reply_lines.specs.Foreseen.{history}
 use Rattle.command_turn.proofs.Accepting.{accepts_nothing, answers_line, root_is, kept_same, same_kept}
 use Rattle.reply_lines.proofs.Ends.{length_history}
 use Rattle.command_turn.proofs.Inserting.{empty_accepted, inserted_accepts, no_such_table, not_empty, rows_read, rows_refused, turn_free}
 use Rattle.reply_lines.proofs.Refusing.{insert_failed, insert_refused}
-use Rattle.mt_model.specs.Reply.{rows_or_refused}
-use Rattle.part_set.proofs.Items.{item_first}
+use Rattle.mt_model.specs.Reply.{rows_for, rows_or_refused}
+use Rattle.command_turn.specs.Gains.{IsCommandBy, schemas_in}
+use Rattle.command_turn.proofs.Gaining.{gains_noted, gains_refused, still_added, still_part_refused}
 use Rattle.root_commits.proofs.SameStores.{stands_same}
 use Rattle.command_turn.proofs.Standing.{drawn_is, no_table, parts_made, table_schema}
 use Rattle.command_turn.specs.Stops.{IsLineOf}
@@ -198,20 +202,61 @@ returns-in-Err-commit_part-clause-answers g c = λ kept is tells stands.
 
 -- what a crash leaves
 pub returns-in-Ok-commit_part-clause-through_crashes : goal.returns-in-Ok-commit_part-clause-through_crashes
-returns-in-Ok-commit_part-clause-through_crashes g c = λ ran first start tells was keeps.
-    let text = c.args.text.now in
-    let found = c.in-Some.found.now in
-    let read = c.in-Ok.ensures.rows in
-    c.commit_part.ensures.through_crashes found ran (Ok (statement.Insert text)) first start (sym c.in-Some.ensures.value) (c.in-Ok-seal_block.ensures.sealed tells)
-    (refl, (statement.Insert text, item_first (Ok (statement.Insert text)) [], (found.schema, c.in-Ok.block.rows, ap rows_or_refused read, (refl, refl, refl)))) was
+returns-in-Ok-commit_part-clause-through_crashes g c = λ first start tells keeps.
+    c.commit_part.ensures.through_crashes c.in-Some.found.now first start (sym c.in-Some.ensures.value) (c.in-Ok-seal_block.ensures.sealed tells) keeps
 
 pub returns-in-Err-commit_part-clause-through_crashes : goal.returns-in-Err-commit_part-clause-through_crashes
-returns-in-Err-commit_part-clause-through_crashes g c = λ ran first start tells was keeps.
+returns-in-Err-commit_part-clause-through_crashes g c = λ first start tells keeps.
+    c.commit_part.ensures.through_crashes c.in-Some.found.now first start (sym c.in-Some.ensures.value) (c.in-Ok-seal_block.ensures.sealed tells) keeps
+
+-- what is known of annals
+pub returns-in_default-clause-gains : goal.returns-in_default-clause-gains
+returns-in_default-clause-gains g c = inl refl
+
+pub returns-in-Err-Refused-clause-gains : goal.returns-in-Err-Refused-clause-gains
+returns-in-Err-Refused-clause-gains g c = inl refl
+
+pub returns-then-is_empty-clause-gains : goal.returns-then-is_empty-clause-gains
+returns-then-is_empty-clause-gains g c = inl refl
+
+pub returns-in-Err-clause-gains : goal.returns-in-Err-clause-gains
+returns-in-Err-clause-gains g c = inl refl
+
+-- the rows of a block, as they read for the table of the store
+module _ {F : Type 0} (store : CoreStore F) (text : InsertText) (found : Table) (at : table_at store text.table ≡ Some found) (block : Grid) (some : 0 < length block.rows) (read : inserted_rows (column_types found.schema) text.lines text.ended ≡ Ok block.rows) where
+  by_rows : IsCommandBy (schemas_in store) (statement.Insert text) (insert_of_block text.table block)
+  by_rows = (
+    block.rows,
+    some,
+    subst (λ (o : Option Schema). rows_for text o ≡ Ok block.rows) (sym (ap (option_map (λ (t : Table). t.schema)) at)) (ap rows_or_refused read),
+    (refl, refl, refl),
+  )
+
+pub returns-in-Ok-commit_part-clause-gains : goal.returns-in-Ok-commit_part-clause-gains
+returns-in-Ok-commit_part-clause-gains g c =
+    let store = c.args.store.now in
     let text = c.args.text.now in
     let found = c.in-Some.found.now in
-    let read = c.in-Ok.ensures.rows in
-    c.commit_part.ensures.through_crashes found ran (Ok (statement.Insert text)) first start (sym c.in-Some.ensures.value) (c.in-Ok-seal_block.ensures.sealed tells)
-    (refl, (statement.Insert text, item_first (Ok (statement.Insert text)) [], (found.schema, c.in-Ok.block.rows, ap rows_or_refused read, (refl, refl, refl)))) was
+    let at = sym c.in-Some.ensures.value in
+    let some = not_empty c.in-Ok.block.rows (λ none. let yes = c.is_empty.ensures.1 none in let bad : true ≡ false = sym yes ∙ c.if-is_empty.false in cc) in
+    let done = c.in-Ok-commit_part.ensures in
+    let before = g.D.Disk.failed c.args.disk.now in
+    gains_noted store before (statement.Insert text) (insert_of_block text.table c.in-Ok.block) (by_rows store text found at c.in-Ok.block some c.in-Ok.ensures.rows)
+    (g.A.Annals.told c.args.annals.now) (g.A.Annals.told c.commit_part.new.annals) (still_added store text.table before c.requires.opened found.drawn (done.cause found at)) (g.D.Disk.clock c.commit_part.new.disk) done.annals
+
+pub returns-in-Err-commit_part-clause-gains : goal.returns-in-Err-commit_part-clause-gains
+returns-in-Err-commit_part-clause-gains g c =
+    let store = c.args.store.now in
+    let text = c.args.text.now in
+    let found = c.in-Some.found.now in
+    let at = sym c.in-Some.ensures.value in
+    let some = not_empty c.in-Ok.block.rows (λ none. let yes = c.is_empty.ensures.1 none in let bad : true ≡ false = sym yes ∙ c.if-is_empty.false in cc) in
+    let ended = c.in-Err-commit_part.ensures in
+    let cause = c.in-Err-commit_part.returned.cause in
+    let before = g.D.Disk.failed c.args.disk.now in
+    gains_refused store before (statement.Insert text) (insert_of_block text.table c.in-Ok.block) (by_rows store text found at c.in-Ok.block some c.in-Ok.ensures.rows)
+    (g.A.Annals.told c.args.annals.now) (g.A.Annals.told c.commit_part.new.annals) c.in-Err-commit_part.returned.back ended.list_back ended.begun
+    (λ none. still_part_refused store text.table before c.requires.opened found.drawn cause (ended.cause found at) (ended.given none))
 
 -- the reply does not tell of damage
 pub returns-in_default-clause-undamaged : goal.returns-in_default-clause-undamaged

@@ -1,4 +1,4 @@
-use Rattle.std.proofs.Common.{◌≡◌, ◌∷◌, [], ◌<◌, ℕ, List, Option, Some, None, Err, length, le_refl, refl, sym, ap, ◌∙◌, subst}
+use Rattle.std.proofs.Common.{◌≡◌, ◌<◌, ℕ, List, Option, Some, None, Err, length, le_refl, refl, sym, ap, ◌∙◌, subst}
 use Rattle.std.specs.Option.{ForSome, option_map}
 use Rattle.mt_values.specs.declared.command.Command.TheVariants as command
 use Rattle.mt_values.specs.declared.command.Entry.{Entry}
@@ -8,11 +8,11 @@ use Rattle.mt_outside.specs.Disk.{MayPut, files_at, names_of, put}
 use Rattle.durable_commit.specs.Commits.{SameList}
 use Rattle.root_store.specs.Stores.{fresh_table}
 use Rattle.root_commits.specs.Commits.{refuses_create}
-use Rattle.root_store.specs.Crashes.{entries_of}
+use Rattle.root_store.specs.Crashes.{Outside, entries_of}
 use Rattle.root_store.specs.Soundness.{NamesFit}
 use Rattle.root_store.specs.Stores.{table_at}
 use Rattle.root_commits.proofs.CrashCommits.{grows_by_table}
-use Rattle.root_commits.proofs.CrashDone.{keeps_more}
+use Rattle.root_commits.proofs.CrashImages.{either_committed, either_failed, either_same, one_committed, one_same}
 use Rattle.root_commits.proofs.CrashTurns.{kept_committed, kept_failed, kept_untouched, unrisen}
 use Rattle.root_commits.proofs.Entering.{stands_created}
 use Rattle.root_commits.proofs.FreeNames.{entry_free, made_fits}
@@ -130,16 +130,72 @@ returns-in-Ok-commit-clause-root_stands g c = λ h files s stands is holds.
     root_made g.D.Arm.Dir.Dir.files c.args.store.now h c.args.session (g.D.Disk.clock c.args.disk.now) (g.D.Disk.told c.args.disk.now) _ s stands (fit g c) c.args.create c.args.sealed.files files
     (absent g c) (few g c) c.requires.schema c.requires.named is holds (returns-in-Ok-commit-clause-root g c)
 
--- what a crash leaves
+-- what a crash leaves of the disk
+pub returns-in-Some-clause-images : goal.returns-in-Some-clause-images
+returns-in-Some-clause-images g c = λ h files is holds stands one. either_same _ _ _ _ h refl refl one _
+
+pub returns-in-Some-clause-images_ok : goal.returns-in-Some-clause-images_ok
+returns-in-Some-clause-images_ok g c = λ h files is holds stands one. tt
+
+pub returns-in-Some-clause-images_err : goal.returns-in-Some-clause-images_err
+returns-in-Some-clause-images_err g c = λ h one other. one
+
+pub returns-in-Err-clause-images : goal.returns-in-Err-clause-images
+returns-in-Err-clause-images g c = λ h files is holds stands one. either_same _ _ _ _ h refl refl one _
+
+pub returns-in-Err-clause-images_ok : goal.returns-in-Err-clause-images_ok
+returns-in-Err-clause-images_ok g c = λ h files is holds stands one. tt
+
+pub returns-in-Err-clause-images_err : goal.returns-in-Err-clause-images_err
+returns-in-Err-clause-images_err g c = λ h one other. one
+
+pub returns-clause-images : goal.returns-clause-images
+returns-clause-images g c = λ h files is holds stands one.
+    let store = c.args.store.now in
+    let table = c.args.create.table in
+    let none = none_shown (λ n. refuses_create store table n) _ _ _ c.refuse_create.ensures c.faults.ensures c.in_default.is in
+    let grows = grows_by_table g.D.Arm.Dir.Dir.files store h c.args.session stands files (c.in-Err-commit.ensures.sealed files is) c.args.create
+    (shown_absent store table _ none) (shown_few store table _ none) c.requires.schema c.requires.named holds in
+    either_failed (g.D.Disk.clock c.args.disk.now) (g.D.Disk.clock c.commit.new.disk) (create_name table) c.args.sealed.files files is (g.D.Disk.told c.args.disk.now) (g.D.Disk.told c.commit.new.disk) h _ one grows
+    c.in-Err-commit.ensures.mark_err (subst (λ (n : List ℕ). MayPut (g.D.Disk.clock c.args.disk.now) n c.args.sealed.files (g.D.Disk.told c.args.disk.now) (g.D.Disk.told c.commit.new.disk)) c.in-Ok.ensures.name c.in-Err-commit.ensures.left)
+
+pub returns-clause-images_ok : goal.returns-clause-images_ok
+returns-clause-images_ok g c = λ h files is holds stands one. tt
+
+pub returns-clause-images_err : goal.returns-clause-images_err
+returns-clause-images_err g c = λ h one other.
+    one_same (g.D.Disk.told c.args.disk.now) (g.D.Disk.told c.commit.new.disk) (g.D.Disk.clock c.args.disk.now) (g.D.Disk.clock c.commit.new.disk) h
+    (c.in-Err-commit.ensures.memory (ap Err (disk_memory c.in-Err-commit.error c.take_out-cause.result c.take_out-cause.ensures.cause other))) c.in-Err-commit.ensures.mark_err one
+
+pub returns-in-Ok-commit-clause-images : goal.returns-in-Ok-commit-clause-images
+returns-in-Ok-commit-clause-images g c = λ h files is holds stands one.
+    let store = c.args.store.now in
+    let grows = grows_by_table g.D.Arm.Dir.Dir.files store h c.args.session stands files (c.in-Ok-commit.ensures.sealed files is) c.args.create (absent g c) (few g c) c.requires.schema c.requires.named holds in
+    either_committed (g.D.Disk.clock c.args.disk.now) (g.D.Disk.clock c.commit.new.disk) (create_name c.args.create.table) c.args.sealed.files files is (g.D.Disk.told c.args.disk.now) (g.D.Disk.told c.commit.new.disk) h _ one grows
+    c.in-Ok-commit.ensures.settled (returns-in-Ok-commit-clause-root g c)
+
+pub returns-in-Ok-commit-clause-images_ok : goal.returns-in-Ok-commit-clause-images_ok
+returns-in-Ok-commit-clause-images_ok g c = λ h files is holds stands one.
+    let store = c.args.store.now in
+    let grows = grows_by_table g.D.Arm.Dir.Dir.files store h c.args.session stands files (c.in-Ok-commit.ensures.sealed files is) c.args.create (absent g c) (few g c) c.requires.schema c.requires.named holds in
+    one_committed (g.D.Disk.clock c.args.disk.now) (g.D.Disk.clock c.commit.new.disk) (create_name c.args.create.table) c.args.sealed.files files is (g.D.Disk.told c.args.disk.now) (g.D.Disk.told c.commit.new.disk) h _ one grows
+    c.in-Ok-commit.ensures.settled (returns-in-Ok-commit-clause-root g c)
+
+pub returns-in-Ok-commit-clause-images_err : goal.returns-in-Ok-commit-clause-images_err
+returns-in-Ok-commit-clause-images_err g c = λ h one. tt
+
+-- and of disk and annals
 pub returns-in-Some-clause-through_crashes : goal.returns-in-Some-clause-through_crashes
-returns-in-Some-clause-through_crashes g c = λ ran statement first start files is holds of keeps. keeps_more ran (statement ∷ []) keeps
+returns-in-Some-clause-through_crashes g c = λ first start files is holds keeps. keeps
 
 pub returns-in-Err-clause-through_crashes : goal.returns-in-Err-clause-through_crashes
-returns-in-Err-clause-through_crashes g c = λ ran statement first start files is holds of keeps.
-    kept_untouched g.D.Arm.Dir.Dir.files ran statement c.args.store.now _ first start _ _ _ _ _ _ _ (returns-in-Err-clause-same g c) refl refl c.in-Err.ensures.told keeps
+returns-in-Err-clause-through_crashes g c = λ first start files is holds keeps.
+    let was : Outside = record { disk = g.D.Disk.told c.args.disk.now; clock = g.D.Disk.clock c.args.disk.now; failed = g.D.Disk.failed c.args.disk.now; annals = g.A.Annals.told c.args.annals.now } in
+    let now : Outside = record { disk = g.D.Disk.told c.args.disk.now; clock = g.D.Disk.clock c.args.disk.now; failed = g.D.Disk.failed c.args.disk.now; annals = g.A.Annals.told c.prepare_create.new.annals } in
+    kept_untouched g.D.Arm.Dir.Dir.files c.args.store.now _ first start was now (returns-in-Err-clause-same g c) refl refl refl c.in-Err.ensures.told keeps
 
 pub returns-clause-through_crashes : goal.returns-clause-through_crashes
-returns-clause-through_crashes g c = λ ran statement first start files is holds of keeps.
+returns-clause-through_crashes g c = λ first start files is holds keeps.
     let store = c.args.store.now in
     let table = c.args.create.table in
     let none = none_shown (λ n. refuses_create store table n) _ _ _ c.refuse_create.ensures c.faults.ensures c.in_default.is in
@@ -150,21 +206,25 @@ returns-clause-through_crashes g c = λ ran statement first start files is holds
     let unless = unrisen c.take_out-cause.result store.opened (g.D.Disk.failed c.args.disk.now) (g.D.Disk.failed c.commit.new.disk) (g.D.Disk.told c.args.disk.now) (g.D.Disk.told c.commit.new.disk)
     c.requires.opened c.requires.below c.in-Err-commit.ensures.cause.later (returns-clause-rose g c)
     (λ other. c.in-Err-commit.ensures.memory (ap Err (disk_memory c.in-Err-commit.error c.take_out-cause.result c.take_out-cause.ensures.cause other))) in
-    kept_failed g.D.Arm.Dir.Dir.files ran statement store _ first start (g.D.Disk.clock c.args.disk.now) (create_name table) c.args.sealed.files files e _ _ _ _ is keeps.safe calm.0
+    let was : Outside = record { disk = g.D.Disk.told c.args.disk.now; clock = g.D.Disk.clock c.args.disk.now; failed = g.D.Disk.failed c.args.disk.now; annals = g.A.Annals.told c.args.annals.now } in
+    let now : Outside = record { disk = g.D.Disk.told c.commit.new.disk; clock = g.D.Disk.clock c.commit.new.disk; failed = g.D.Disk.failed c.commit.new.disk; annals = g.A.Annals.told c.commit.new.annals } in
+    kept_failed g.D.Arm.Dir.Dir.files store _ first start was now (create_name table) c.args.sealed.files files e is calm.0
     (grows_by_table g.D.Arm.Dir.Dir.files store (entries_of calm.0.kept.list) c.args.session (calm.1 calm.0.kept calm.0.annals_is) files (c.in-Err-commit.ensures.sealed files is) c.args.create
     (shown_absent store table _ none) (shown_few store table _ none) c.requires.schema c.requires.named holds)
-    _ _ of c.in-Err-commit.ensures.mark_err may begun (returns-clause-same g c) calm.1 unless
+    c.in-Err-commit.ensures.mark_err may begun (returns-clause-same g c) calm.1 unless
 
 pub returns-in-Ok-commit-clause-through_crashes : goal.returns-in-Ok-commit-clause-through_crashes
-returns-in-Ok-commit-clause-through_crashes g c = λ ran statement first start files is holds of keeps.
+returns-in-Ok-commit-clause-through_crashes g c = λ first start files is holds keeps.
     let store = c.args.store.now in
     let table = c.args.create.table in
     let calm = keeps.calm (shown_calm store table _ (none g c) c.requires.opened) in
     let e : Entry = record { session = c.args.session; command = command.Create c.args.create } in
-    kept_committed g.D.Arm.Dir.Dir.files ran statement store _ first start (g.D.Disk.clock c.args.disk.now) (create_name table) c.args.sealed.files files e _ _ _ _ is keeps.safe calm.0
+    let was : Outside = record { disk = g.D.Disk.told c.args.disk.now; clock = g.D.Disk.clock c.args.disk.now; failed = g.D.Disk.failed c.args.disk.now; annals = g.A.Annals.told c.args.annals.now } in
+    let now : Outside = record { disk = g.D.Disk.told c.commit.new.disk; clock = g.D.Disk.clock c.commit.new.disk; failed = g.D.Disk.failed c.commit.new.disk; annals = g.A.Annals.told c.commit.new.annals } in
+    kept_committed g.D.Arm.Dir.Dir.files store _ first start was now (create_name table) c.args.sealed.files files e is calm.0
     (grows_by_table g.D.Arm.Dir.Dir.files store (entries_of calm.0.kept.list) c.args.session (calm.1 calm.0.kept calm.0.annals_is) files (c.in-Ok-commit.ensures.sealed files is) c.args.create
     (absent g c) (few g c) c.requires.schema c.requires.named holds)
-    _ _ of c.in-Ok-commit.ensures.settled (returns-in-Ok-commit-clause-root g c) (returns-in-Ok-commit-clause-annals g c) (returns-in-Ok-commit-clause-stands g c (entries_of calm.0.kept.list) (calm.1 calm.0.kept calm.0.annals_is))
+    c.in-Ok-commit.ensures.settled (returns-in-Ok-commit-clause-root g c) (returns-in-Ok-commit-clause-annals g c) (returns-in-Ok-commit-clause-stands g c (entries_of calm.0.kept.list) (calm.1 calm.0.kept calm.0.annals_is))
 
 -- the parts hold rows
 pub returns-in-Err-clause-held : goal.returns-in-Err-clause-held

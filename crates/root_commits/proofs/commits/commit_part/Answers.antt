@@ -1,4 +1,4 @@
-use Rattle.std.proofs.Common.{◌≡◌, ◌∷◌, [], ◌+◌, ◌<◌, ℕ, List, Option, Some, None, Err, le_refl, refl, sym, ap, ◌∙◌, subst, arith}
+use Rattle.std.proofs.Common.{◌≡◌, ◌+◌, ◌<◌, ℕ, List, Option, Some, None, Err, le_refl, refl, sym, ap, ◌∙◌, subst, arith}
 use Rattle.std.specs.Option.{ForSome, option_map}
 use Rattle.mt_values.specs.declared.command.Entry.{Entry}
 use Rattle.mt_values.specs.Annals.{Told, began, noted}
@@ -15,12 +15,12 @@ use Rattle.root_store.specs.declared.store.CoreStore.{CoreStore}
 use Rattle.root_store.specs.declared.store.Table.{Table}
 use Rattle.durable_commit.specs.Commits.{SameList, entry_of}
 use Rattle.root_commits.specs.Commits.{EntersSealed, IsCause, IsSealedOf, fresh_part, insert_of_block, refuses_part}
-use Rattle.root_store.specs.Crashes.{entries_of}
+use Rattle.root_store.specs.Crashes.{Outside, entries_of}
 use Rattle.root_store.specs.Soundness.{NamesFit}
 use Rattle.root_store.specs.Stores.{table_at}
 use Rattle.root_commits.proofs.Behind.{PartIsAdded, enters_part, none_meets}
 use Rattle.root_commits.proofs.CrashCommits.{grows_by_part}
-use Rattle.root_commits.proofs.CrashDone.{keeps_more}
+use Rattle.root_commits.proofs.CrashImages.{either_committed, either_failed, either_same, one_committed, one_same}
 use Rattle.root_commits.proofs.CrashTurns.{kept_committed, kept_failed, kept_untouched, unrisen}
 use Rattle.root_commits.proofs.FreeNames.{added_fits, fresh_named, part_free}
 use Rattle.root_commits.proofs.Holding.{held_added, held_same}
@@ -169,53 +169,126 @@ returns-clause-store g c = sound_added _ _ _ _ _ (added g c) c.requires.store
 pub returns-clause-names : goal.returns-clause-names
 returns-clause-names g c = λ _. added_fits _ _ _ _ _ (added g c) _ _ _ _ (small g c) (fit g c) (published g c)
 
--- what a crash leaves
-pub returns-in-Some-clause-through_crashes : goal.returns-in-Some-clause-through_crashes
-returns-in-Some-clause-through_crashes g c = λ u ran statement first start at is of keeps. keeps_more ran (statement ∷ []) keeps
+-- what a crash leaves of the disk
+pub returns-in-Some-clause-images : goal.returns-in-Some-clause-images
+returns-in-Some-clause-images g c = λ h u at is stands one. either_same _ _ _ _ h refl refl one _
 
-pub returns-in-Err-clause-through_crashes : goal.returns-in-Err-clause-through_crashes
-returns-in-Err-clause-through_crashes g c = λ u ran statement first start at is of keeps.
-    kept_untouched g.D.Arm.Dir.Dir.files ran statement c.args.store.now _ first start _ _ _ _ _ _ _ (record { tables = refl; parts = c.in-Err.ensures.parts; length_is = refl; opened_is = refl }) refl refl c.in-Err.ensures.told keeps
+pub returns-in-Some-clause-images_ok : goal.returns-in-Some-clause-images_ok
+returns-in-Some-clause-images_ok g c = λ h u at is stands one. tt
 
-pub returns-in-Err-commit-clause-through_crashes : goal.returns-in-Err-commit-clause-through_crashes
-returns-in-Err-commit-clause-through_crashes g c = λ u ran statement first start at is of keeps.
+pub returns-in-Some-clause-images_err : goal.returns-in-Some-clause-images_err
+returns-in-Some-clause-images_err g c = λ h one other. one
+
+pub returns-in-Err-clause-images : goal.returns-in-Err-clause-images
+returns-in-Err-clause-images g c = λ h u at is stands one. either_same _ _ _ _ h refl refl one _
+
+pub returns-in-Err-clause-images_ok : goal.returns-in-Err-clause-images_ok
+returns-in-Err-clause-images_ok g c = λ h u at is stands one. tt
+
+pub returns-in-Err-clause-images_err : goal.returns-in-Err-clause-images_err
+returns-in-Err-clause-images_err g c = λ h one other. one
+
+pub returns-in-Err-commit-clause-images : goal.returns-in-Err-commit-clause-images
+returns-in-Err-commit-clause-images g c = λ h u at is stands one.
     let store = c.args.store.now in
     let table = c.args.table.now in
     let t : Table = c.index.result.now in
     let none = none_shown (λ n. refuses_part store table t.drawn n) _ _ _ c.refuse_part.ensures c.faults.ensures c.in_default.is in
+    let same_table : t ≡ u = one_some (table_at store table) t u c.index.ensures at in
+    let here : IsSealedOf t.schema c.args.block c.args.part.sealed.files c.args.part.loaded = subst (λ (x : Table). IsSealedOf x.schema c.args.block c.args.part.sealed.files c.args.part.loaded) (sym same_table) is in
+    let grows = grows_by_part g.D.Arm.Dir.Dir.files store h c.args.session stands here.files (c.in-Err-commit.ensures.sealed here.files here.sealed_are) table t c.args.block c.index.ensures
+    (shown_number store table _ t.drawn none) (c.requires.rows t c.index.ensures) here.holds in
+    either_failed (g.D.Disk.clock c.args.disk.now) (g.D.Disk.clock c.commit.new.disk) (part_name table (part_text (fresh_part (t.drawn + 1)))) c.args.part.sealed.files here.files here.sealed_are (g.D.Disk.told c.args.disk.now) (g.D.Disk.told c.commit.new.disk) h _ one grows
+    c.in-Err-commit.ensures.mark_err (subst (λ (n : List ℕ). MayPut (g.D.Disk.clock c.args.disk.now) n c.args.part.sealed.files (g.D.Disk.told c.args.disk.now) (g.D.Disk.told c.commit.new.disk)) c.in-Ok.ensures.name c.in-Err-commit.ensures.left)
+
+pub returns-in-Err-commit-clause-images_ok : goal.returns-in-Err-commit-clause-images_ok
+returns-in-Err-commit-clause-images_ok g c = λ h u at is stands one. tt
+
+pub returns-in-Err-commit-clause-images_err : goal.returns-in-Err-commit-clause-images_err
+returns-in-Err-commit-clause-images_err g c = λ h one other.
+    one_same (g.D.Disk.told c.args.disk.now) (g.D.Disk.told c.commit.new.disk) (g.D.Disk.clock c.args.disk.now) (g.D.Disk.clock c.commit.new.disk) h
+    (c.in-Err-commit.ensures.memory (ap Err (disk_memory c.in-Err-commit.error c.of_disk-cause.result c.of_disk-cause.ensures other))) c.in-Err-commit.ensures.mark_err one
+
+pub returns-clause-images : goal.returns-clause-images
+returns-clause-images g c = λ h u at is stands one.
+    let store = c.args.store.now in
+    let table = c.args.table.now in
+    let t : Table = c.index.result.now in
+    let same_table : t ≡ u = same g c u at in
+    let here : IsSealedOf t.schema c.args.block c.args.part.sealed.files c.args.part.loaded = subst (λ (x : Table). IsSealedOf x.schema c.args.block c.args.part.sealed.files c.args.part.loaded) (sym same_table) is in
+    let grows = grows_by_part g.D.Arm.Dir.Dir.files store h c.args.session stands here.files (c.in-Ok-commit.ensures.sealed here.files here.sealed_are) table t c.args.block c.index.ensures
+    (small g c) (c.requires.rows t c.index.ensures) here.holds in
+    either_committed (g.D.Disk.clock c.args.disk.now) (g.D.Disk.clock c.commit.new.disk) (part_name table (part_text (fresh_part (t.drawn + 1)))) c.args.part.sealed.files here.files here.sealed_are (g.D.Disk.told c.args.disk.now) (g.D.Disk.told c.commit.new.disk) h _ one grows
+    c.in-Ok-commit.ensures.settled (published g c)
+
+pub returns-clause-images_ok : goal.returns-clause-images_ok
+returns-clause-images_ok g c = λ h u at is stands one.
+    let store = c.args.store.now in
+    let table = c.args.table.now in
+    let t : Table = c.index.result.now in
+    let same_table : t ≡ u = same g c u at in
+    let here : IsSealedOf t.schema c.args.block c.args.part.sealed.files c.args.part.loaded = subst (λ (x : Table). IsSealedOf x.schema c.args.block c.args.part.sealed.files c.args.part.loaded) (sym same_table) is in
+    let grows = grows_by_part g.D.Arm.Dir.Dir.files store h c.args.session stands here.files (c.in-Ok-commit.ensures.sealed here.files here.sealed_are) table t c.args.block c.index.ensures
+    (small g c) (c.requires.rows t c.index.ensures) here.holds in
+    one_committed (g.D.Disk.clock c.args.disk.now) (g.D.Disk.clock c.commit.new.disk) (part_name table (part_text (fresh_part (t.drawn + 1)))) c.args.part.sealed.files here.files here.sealed_are (g.D.Disk.told c.args.disk.now) (g.D.Disk.told c.commit.new.disk) h _ one grows
+    c.in-Ok-commit.ensures.settled (published g c)
+
+pub returns-clause-images_err : goal.returns-clause-images_err
+returns-clause-images_err g c = λ h one. tt
+
+-- and of disk and annals
+pub returns-in-Some-clause-through_crashes : goal.returns-in-Some-clause-through_crashes
+returns-in-Some-clause-through_crashes g c = λ u first start at is keeps. keeps
+
+pub returns-in-Err-clause-through_crashes : goal.returns-in-Err-clause-through_crashes
+returns-in-Err-clause-through_crashes g c = λ u first start at is keeps.
+    let was : Outside = record { disk = g.D.Disk.told c.args.disk.now; clock = g.D.Disk.clock c.args.disk.now; failed = g.D.Disk.failed c.args.disk.now; annals = g.A.Annals.told c.args.annals.now } in
+    let now : Outside = record { disk = g.D.Disk.told c.args.disk.now; clock = g.D.Disk.clock c.args.disk.now; failed = g.D.Disk.failed c.args.disk.now; annals = g.A.Annals.told c.prepare_part.new.annals } in
+    kept_untouched g.D.Arm.Dir.Dir.files c.args.store.now _ first start was now (record { tables = refl; parts = c.in-Err.ensures.parts; length_is = refl; opened_is = refl }) refl refl refl c.in-Err.ensures.told keeps
+
+pub returns-in-Err-commit-clause-through_crashes : goal.returns-in-Err-commit-clause-through_crashes
+returns-in-Err-commit-clause-through_crashes g c = λ u first start at is keeps.
+    let store = c.args.store.now in
+    let table = c.args.table.now in
+    let t : Table = c.index.result.now in
+    let none = none_shown (λ n. refuses_part store table t.drawn n) _ _ _ c.refuse_part.ensures c.faults.ensures c.in_default.is in
+    let same_table : t ≡ u = one_some (table_at store table) t u c.index.ensures at in
+    let here : IsSealedOf t.schema c.args.block c.args.part.sealed.files c.args.part.loaded = subst (λ (x : Table). IsSealedOf x.schema c.args.block c.args.part.sealed.files c.args.part.loaded) (sym same_table) is in
     let calm = keeps.calm (shown_part_calm store table _ t.drawn none c.requires.opened) in
-    let same : t ≡ u = one_some (table_at store table) t u c.index.ensures at in
-    let here : IsSealedOf t.schema c.args.block c.args.part.sealed.files c.args.part.loaded = subst (λ (x : Table). IsSealedOf x.schema c.args.block c.args.part.sealed.files c.args.part.loaded) (sym same) is in
     let e : Entry = entry_of c.args.session (insert_of_block table c.args.block) in
     let begun =
     c.in-Err-commit.ensures.begun
     ∙ (ap (λ (u : List ℕ). option_map (began (entry_of c.args.session (insert_of_block u c.args.block))) (g.A.Annals.told c.prepare_part.new.annals)) c.in-Ok.ensures.table ∙ ap (option_map (began e)) c.in-Ok.ensures.told) in
-    let may = subst (λ (n : List ℕ). MayPut (g.D.Disk.clock c.args.disk.now) n c.args.part.sealed.files (g.D.Disk.told c.args.disk.now) (g.D.Disk.told c.commit.new.disk)) c.in-Ok.ensures.name c.in-Err-commit.ensures.left in
     let unless = unrisen c.of_disk-cause.result store.opened (g.D.Disk.failed c.args.disk.now) (g.D.Disk.failed c.commit.new.disk) (g.D.Disk.told c.args.disk.now) (g.D.Disk.told c.commit.new.disk)
     c.requires.opened c.requires.below c.in-Err-commit.ensures.cause.later
     (λ disk. c.in-Err-commit.ensures.cause.failed (ap Err (disk_fault c.in-Err-commit.error c.of_disk-cause.result c.of_disk-cause.ensures disk)))
     (λ other. c.in-Err-commit.ensures.memory (ap Err (disk_memory c.in-Err-commit.error c.of_disk-cause.result c.of_disk-cause.ensures other))) in
-    kept_failed g.D.Arm.Dir.Dir.files ran statement store _ first start (g.D.Disk.clock c.args.disk.now) (part_name table (part_text (fresh_part (t.drawn + 1)))) c.args.part.sealed.files here.files e _ _ _ _ here.sealed_are keeps.safe calm.0
+    let was : Outside = record { disk = g.D.Disk.told c.args.disk.now; clock = g.D.Disk.clock c.args.disk.now; failed = g.D.Disk.failed c.args.disk.now; annals = g.A.Annals.told c.args.annals.now } in
+    let now : Outside = record { disk = g.D.Disk.told c.commit.new.disk; clock = g.D.Disk.clock c.commit.new.disk; failed = g.D.Disk.failed c.commit.new.disk; annals = g.A.Annals.told c.commit.new.annals } in
+    kept_failed g.D.Arm.Dir.Dir.files store _ first start was now (part_name table (part_text (fresh_part (t.drawn + 1)))) c.args.part.sealed.files here.files e here.sealed_are calm.0
     (grows_by_part g.D.Arm.Dir.Dir.files store (entries_of calm.0.kept.list) c.args.session (calm.1 calm.0.kept calm.0.annals_is) here.files (c.in-Err-commit.ensures.sealed here.files here.sealed_are) table t c.args.block c.index.ensures
     (shown_number store table _ t.drawn none) (c.requires.rows t c.index.ensures) here.holds)
-    _ _ of c.in-Err-commit.ensures.mark_err may begun (record { tables = refl; parts = c.in-Ok.ensures.parts; length_is = refl; opened_is = refl }) calm.1 unless
+    c.in-Err-commit.ensures.mark_err (subst (λ (n : List ℕ). MayPut (g.D.Disk.clock c.args.disk.now) n c.args.part.sealed.files (g.D.Disk.told c.args.disk.now) (g.D.Disk.told c.commit.new.disk)) c.in-Ok.ensures.name c.in-Err-commit.ensures.left) begun (record { tables = refl; parts = c.in-Ok.ensures.parts; length_is = refl; opened_is = refl }) calm.1 unless
 
 pub returns-clause-through_crashes : goal.returns-clause-through_crashes
-returns-clause-through_crashes g c = λ u ran statement first start at is of keeps.
+returns-clause-through_crashes g c = λ u first start at is keeps.
     let store = c.args.store.now in
     let table = c.args.table.now in
     let t : Table = c.index.result.now in
+    let same_table : t ≡ u = same g c u at in
+    let here : IsSealedOf t.schema c.args.block c.args.part.sealed.files c.args.part.loaded = subst (λ (x : Table). IsSealedOf x.schema c.args.block c.args.part.sealed.files c.args.part.loaded) (sym same_table) is in
     let calm = keeps.calm (shown_part_calm store table _ t.drawn (none g c) c.requires.opened) in
-    let here : IsSealedOf t.schema c.args.block c.args.part.sealed.files c.args.part.loaded = subst (λ (x : Table). IsSealedOf x.schema c.args.block c.args.part.sealed.files c.args.part.loaded) (sym (same g c u at)) is in
     let e : Entry = entry_of c.args.session (insert_of_block table c.args.block) in
     let mark = g.D.Disk.clock c.commit.new.disk in
     let notes : g.A.Annals.told c.commit.new.annals ≡ option_map (λ (x : Told). noted mark (began e x)) (g.A.Annals.told c.args.annals.now) =
     c.in-Ok-commit.ensures.annals
     ∙ (ap (λ (u : List ℕ). option_map (λ (y : Told). noted mark (began (entry_of c.args.session (insert_of_block u c.args.block)) y)) (g.A.Annals.told c.prepare_part.new.annals)) c.in-Ok.ensures.table ∙ ap (option_map (λ (y : Told). noted mark (began e y))) c.in-Ok.ensures.told) in
-    kept_committed g.D.Arm.Dir.Dir.files ran statement store _ first start (g.D.Disk.clock c.args.disk.now) (part_name table (part_text (fresh_part (t.drawn + 1)))) c.args.part.sealed.files here.files e _ _ _ _ here.sealed_are keeps.safe calm.0
+    let was : Outside = record { disk = g.D.Disk.told c.args.disk.now; clock = g.D.Disk.clock c.args.disk.now; failed = g.D.Disk.failed c.args.disk.now; annals = g.A.Annals.told c.args.annals.now } in
+    let now : Outside = record { disk = g.D.Disk.told c.commit.new.disk; clock = g.D.Disk.clock c.commit.new.disk; failed = g.D.Disk.failed c.commit.new.disk; annals = g.A.Annals.told c.commit.new.annals } in
+    kept_committed g.D.Arm.Dir.Dir.files store _ first start was now (part_name table (part_text (fresh_part (t.drawn + 1)))) c.args.part.sealed.files here.files e here.sealed_are calm.0
     (grows_by_part g.D.Arm.Dir.Dir.files store (entries_of calm.0.kept.list) c.args.session (calm.1 calm.0.kept calm.0.annals_is) here.files (c.in-Ok-commit.ensures.sealed here.files here.sealed_are) table t c.args.block c.index.ensures
     (small g c) (c.requires.rows t c.index.ensures) here.holds)
-    _ _ of c.in-Ok-commit.ensures.settled (published g c) notes (returns-clause-stands g c (entries_of calm.0.kept.list) u (calm.1 calm.0.kept calm.0.annals_is) at is)
+    c.in-Ok-commit.ensures.settled (published g c) notes (returns-clause-stands g c (entries_of calm.0.kept.list) u (calm.1 calm.0.kept calm.0.annals_is) at is)
 
 -- the parts hold rows
 pub returns-in-Err-clause-held : goal.returns-in-Err-clause-held

@@ -1,8 +1,0 @@
-use Rattle.root_commits.proofs.StartedAgain.{one_length, started_again}
-use Rattle.root_commits.proofs.laws.runs_go_on_behind_a_crash.Goals as goal
-
-pub returns-clause-one : goal.returns-clause-one
-returns-clause-one c = one_length
-
-pub returns-clause-again : goal.returns-clause-again
-returns-clause-again c = λ told now clock mark later m start list first begun again safe behind. started_again told now clock mark later again m list begun first start safe behind
