@@ -1,15 +1,18 @@
 -- A run that nothing stands against is answered whole, or wants memory.
-use Rattle.std.proofs.Common.{◌≡◌, ◌⊎◌, ◌+◌, ◌-◌, ◌<◌, ◌≤◌, ◌^◌, ℕ, Bool, List, length, min, Option, Some, None, inl, inr, refl, sym, ap, ◌∙◌, subst, arith, length-append}
+use Rattle.std.proofs.Common.{◌≡◌, ◌⊎◌, ◌+◌, ◌-◌, ◌<◌, ◌≤◌, ◌^◌, ◌++◌, ℕ, Bool, true, List, length, min, Option, Some, None, inl, inr, refl, sym, ap, ◌∙◌, subst, arith, length-append, append-nil}
 use Rattle.std.proofs.lemmas.Bool.{cases_lt, false≢true}
 use Rattle.std.specs.Io.KnownBytes.{Consumes}
 use Rattle.mt_values.specs.Annals.{Told}
 use Rattle.mt_values.specs.Script.{statements_of}
-use Rattle.mt_outside.specs.Disk as root
 use Rattle.mt_outside.specs.Causes.{Rose}
 use Rattle.mt_model.specs.Causes.{NoneMeets}
 use Rattle.mt_model.proofs.Unrefused.{none_refused as calm_script}
 use Rattle.reply_lines.specs.Foreseen.{history}
-use Rattle.mt_program.specs.Headline.{Leaves, NothingRefuses, RunBy}
+use Rattle.mt_model.specs.Script.{ScriptReplies}
+use Rattle.mt_model.specs.Session.{AddsNothing, SessionReplies}
+use Rattle.mt_program.specs.Courses.{Course, GoesUnanswered, Item, RunOf, started, with_last}
+use Rattle.mt_program.specs.Headline.{AnsweredAll, Headline}
+use Rattle.mt_program.specs.Worlds.{World, counts_of}
 use Rattle.exit_status.specs.Statuses.{number_of}
 use Rattle.run_streams.specs.Streams.{ConsumesMost}
 use Rattle.exit_status.specs.declared.status.Status.{Status}
@@ -49,13 +52,26 @@ not_risen before now later calm = elim (cases_lt now (min (before + 1) (2 ^ 64 -
 ]
 
 -- where no statement meets a cause, none was refused
-pub none_refused : (root : Option root.Told) (opened failed : ℕ) (kept now : Told) (script before : List ℕ) (told : Option Told) (written : Option (List ℕ)) (command : Bool) → opened ≤ failed → (Rose opened failed → ⊥) → told ≡ Some now
-    → NothingRefuses command script (history now) (length kept.list) → Leaves (RunBy status.Refused root (record { opened = opened; ended = failed })) kept script before told written → ⊥
-none_refused root opened failed kept now script before told written command later calm there nothing left =
-    let both : Some left.now ≡ Some now = sym left.told_is ∙ there in
+pub none_refused : (before after : World) (kept now : Told) (script written : List ℕ) → before.storage.failed ≤ after.storage.failed → (Rose before.storage.failed after.storage.failed → ⊥) → after.storage.annals ≡ Some now
+    → NoneMeets (history now) (length kept.list) (statements_of script) → Headline status.Refused before after kept script written → ⊥
+none_refused before after kept now script written later calm there none_meets left =
+    let both : Some left.now ≡ Some now = sym left.annals_is ∙ there in
     let same : left.now ≡ now = cc in
-    let ran = left.ran in
-    let still = not_risen opened failed later calm in
-    let causes : NoneMeets (history left.now) (length kept.list) (statements_of script) = subst (λ (k : Told). NoneMeets (history k) (length kept.list) (statements_of script)) (sym same) nothing.causes in
-    let none = calm_script (record { opened = opened; ended = failed }) (statements_of script) (history left.now) (length kept.list) ran.replies still.0 still.1 ran.each causes in
-    false≢true (sym none ∙ sym ran.tells.refusals)
+    let still = not_risen before.storage.failed after.storage.failed later calm in
+    let causes : NoneMeets (history left.now) (length kept.list) (statements_of script) = subst (λ (k : Told). NoneMeets (history k) (length kept.list) (statements_of script)) (sym same) none_meets in
+    let none = calm_script (counts_of before after) (statements_of script) (history left.now) (length kept.list) left.course.replies still.0 still.1 (whole_run before after kept script written true left.now left.course left.rest left.out left.split left.ran left.ends) causes in
+    false≢true (sym none ∙ sym left.ends.says.refusals)
+  where
+    whole_run : (before after : World) (kept : Told) (script written : List ℕ) (refused : Bool) (now : Told) (course : Course) (rest : List Item) (out : List ℕ) → statements_of script ≡ started course ++ rest
+        → RunOf (counts_of before after) (history now) (length kept.list) course → AnsweredAll refused after.source script course rest out → ScriptReplies (counts_of before after) (statements_of script) (history now) (length kept.list) course.replies
+    whole_run before after kept script written refused now course rest out split ran all = by course.unanswered all.answered split ran.last
+      where
+        by : (u : Option Item) → u ≡ None → statements_of script ≡ with_last course.ran u ++ rest → GoesUnanswered (history now) u ran.place ran.stop
+            → ScriptReplies (counts_of before after) (statements_of script) (history now) (length kept.list) course.replies
+        by (Some last) none split goes = cc
+        by None none split goes = record {
+          last = ran.place;
+          run = subst (λ (ss : List Item). SessionReplies (counts_of before after) (history now) 0 ss (length kept.list) ran.place course.replies) (sym (split ∙ (ap (λ (ss : List Item). course.ran ++ ss) all.all ∙ append-nil course.ran))) ran.each;
+          nothing_else = subst (λ (k : ℕ). AddsNothing (history now) 0 k (length (history now))) (sym goes) ran.nothing_else;
+          sessions = ran.sessions;
+        }

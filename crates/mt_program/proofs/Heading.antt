@@ -1,11 +1,11 @@
 -- From a script that was served to what a run promises.
-use Rattle.std.proofs.Common.{◌≡◌, ◌⊎◌, ◌≤◌, inl, inr, zero, suc, ◌==◌, if◌then◌else◌, ℕ, Bool, true, false, List, [], ◌∷◌, ◌++◌, slice_get, length, map, take, drop, refl, sym, ap, ◌∙◌, subst, Option, None, Some, Result, Ok, Err, append-nil, arith}
-use Rattle.std.specs.Prelude.{IfErr, IsErrAnd, OnOk}
+use Rattle.std.proofs.Common.{◌≡◌, ◌⊎◌, ◌≤◌, ◌<◌, ◌^◌, inl, inr, ◌==◌, if◌then◌else◌, ℕ, Bool, true, false, List, [], ◌∷◌, ◌++◌, length, map, drop, refl, sym, ap, ◌∙◌, subst, Option, None, Some, Result, Ok, Err, append-nil, arith}
+use Rattle.std.specs.Prelude.{IfErr, IsErrAnd, IsErrOf, OnOk}
 use Rattle.std.specs.List.{All, concat}
 use Rattle.std.specs.Io.KnownBytes.{Appends, Consumes, IsAtEnd}
 use Rattle.std.proofs.lemmas.List.{map-append, drop_all}
 use Rattle.std.proofs.lemmas.List.Elements.{All-map, All-nil}
-use Rattle.std.proofs.Math.Seq.{drop-append_seam, take-append_seam}
+use Rattle.std.proofs.Math.Seq.{drop-append_seam}
 use Rattle.mt_values.specs.declared.annals.Noted.{Noted}
 use Rattle.mt_values.specs.declared.command.Entry.{Entry}
 use Rattle.mt_values.specs.Annals.{Told}
@@ -15,9 +15,8 @@ use Rattle.mt_outside.specs.declared.disk.DiskError.{DiskError}
 use Rattle.mt_outside.specs.declared.disk.DiskError.TheVariants as failure
 use Rattle.mt_model.specs.History.{History, IsLegal}
 use Rattle.mt_model.specs.Outside.{Counts}
-use Rattle.mt_model.specs.Script.{ScriptRun, ScriptReplies, OwnEntries}
-use Rattle.mt_model.specs.Session.{AddsNothing, SessionReplies}
-use Rattle.mt_model.proofs.Replies.{script_replies_run}
+use Rattle.mt_model.specs.Script.{OwnEntries}
+use Rattle.mt_model.specs.Session.{AddsNothing}
 use Rattle.run_streams.specs.declared.streams.ReadStop.{ReadStop}
 use Rattle.run_streams.specs.declared.streams.ReadStop.TheVariants as unread
 use Rattle.mt_program.specs.declared.serving.Ending.{Ending}
@@ -27,9 +26,11 @@ use Rattle.exit_status.specs.declared.status.Status.{Status}
 use Rattle.exit_status.specs.declared.status.Status.TheVariants as status
 use Rattle.reply_lines.specs.Foreseen.{Foresees, history}
 use Rattle.mt_program.specs.Endings.{IsAnswered, IsEarly, LeftBy, MetNoDamage, settled, status_of, status_of_error, status_of_stop}
-use Rattle.mt_program.specs.Headline.{CutByMemory, CutBySink, Leaves, WholeRunWith, ReadRun, RunWithFaults, NothingRan, RunBy}
+use Rattle.mt_program.specs.Headline.{AnsweredAll, AnsweredRead, EndsBy, Headline, NothingRan}
+use Rattle.mt_program.specs.Worlds.{Starts, World, counts_of}
 use Rattle.exit_status.specs.Statuses.{number_of}
-use Rattle.mt_program.specs.Serving.{Item, Ran, ServedAll, ServedFront, ServedCut}
+use Rattle.mt_program.specs.Courses.{Course, Item, RunOf}
+use Rattle.mt_program.specs.Serving.{Ran, ServedBy}
 use Rattle.root_opening.specs.declared.opening.Damage.{Damage}
 use Rattle.root_opening.specs.declared.opening.OpenFault.{OpenFault}
 use Rattle.root_opening.specs.declared.opening.OpenFault.TheVariants as fault
@@ -39,10 +40,6 @@ use Rattle.root_store.specs.Roots.{Stands}
 use Rattle.root_store.specs.Soundness.{RootStands}
 use Rattle.mt_program.specs.Damage.{WritesDamage, WritesFault, damage_line}
 use Rattle.reply_lines.proofs.Ends.{added_nothing, length_history}
-
-get_seam : {X : Type 0} (xs : List X) (x : X) (ys : List X) → slice_get (xs ++ x ∷ ys) (length xs) ≡ Some x
-get_seam [] x ys = refl
-get_seam (z ∷ xs) x ys = get_seam xs x ys
 
 known_after : (b xs : List ℕ) (before after : Option (List ℕ)) → before ≡ Some b → Appends before after xs → after ≡ Some (b ++ xs)
 known_after b xs before None is h = absurd (subst (λ (o : Option (List ℕ)). Appends o None xs) is h)
@@ -68,136 +65,158 @@ own_entries kept opened disk arm done replies told r =
     ap (drop (length kept.list)) all ∙ (ap (λ n. drop n (history kept ++ map entries r.more)) (sym (length_history kept)) ∙ drop-append_seam (history kept) (map entries r.more)) in
     subst (All (λ (e : Entry). e.session ≡ 0)) (sym behind) (All-map (λ (e : Entry). e.session ≡ 0) entries r.more r.sessions)
 
+-- statements that each have a reply
+abbrev pub answered : List Item → List (List ℕ) → Course
+answered done replies = record { ran = done; replies = replies; unanswered = None }
+
+abbrev pub none_answered : Course
+none_answered = answered [] []
+
 -- what ran, at counts that were foreseen
-replies_of : (n : Counts) (kept : Told) (opened disk arm : ℕ) (done : List Item) (replies : List (List ℕ)) (told : Option Told) → Foresees opened disk arm n → (r : Ran kept opened disk arm done replies told)
-    → ScriptReplies n done (history r.now) (length kept.list) replies
-replies_of n kept opened disk arm done replies told f r = record {
-  last = length r.now.list;
-  run = r.run n f;
+run_of : (n : Counts) (kept : Told) (opened disk arm : ℕ) (done : List Item) (replies : List (List ℕ)) (told : Option Told) → Foresees opened disk arm n → (r : Ran kept opened disk arm done replies told)
+    → RunOf n (history r.now) (length kept.list) (answered done replies)
+run_of n kept opened disk arm done replies told f r = record {
+  place = length r.now.list;
+  each = r.run n f;
+  stop = length r.now.list;
+  last = refl;
   nothing_else = subst (λ (m : ℕ). AddsNothing (history r.now) 0 (length r.now.list) m) (sym (length_history r.now)) (added_nothing r.now);
   sessions = own_entries kept opened disk arm done replies told r;
 }
 
 -- no statement ran
-nothing_ran : (n : Counts) (kept : Told) → ScriptRun n [] (history kept) (length kept.list) []
+nothing_ran : (n : Counts) (kept : Told) → RunOf n (history kept) (length kept.list) none_answered
 nothing_ran n kept = record {
-  last = length kept.list;
-  run = (refl, refl);
+  place = length kept.list;
+  each = refl;
+  stop = length kept.list;
+  last = refl;
   nothing_else = subst (λ (m : ℕ). AddsNothing (history kept) 0 (length kept.list) m) (sym (length_history kept)) (added_nothing kept);
   sessions = subst (All (λ (e : Entry). e.session ≡ 0)) (sym (drop_all (length kept.list) (history kept) (omega (arith, length_history kept)))) (All-nil (λ (e : Entry). e.session ≡ 0));
 }
 
+-- a root that stands for a list
+pub root_told : (o : Option root.Told) (told : root.Told) (h : History) → o ≡ Some told → Stands (root.names_of told) h → RootStands o h
+root_told o told h is stands = (told, is, stands)
+
 -- the run ended before a statement ran
-module _ (n : Counts) (kept : Told) (script before : List ℕ) (told : Option Told) (written : Option (List ℕ)) (now_root : Option root.Told)
-    (legal : IsLegal (history kept)) (told_is : told ≡ Some kept) (written_is : written ≡ Some before) (settled : RootStands now_root (history kept)) where
-  early : (Run : List Item → History → ℕ → List ℕ → Type 0) → Run (statements_of script) (history kept) (length kept.list) [] → Leaves Run kept script before told written
-  early Run ran = record {
+module _ (before after : World) (kept : Told) (script written : List ℕ)
+    (legal : IsLegal (history kept)) (annals_is : after.storage.annals ≡ Some kept) (sink_is : after.sink ≡ Some written) (settled : RootStands after.storage.disk (history kept)) where
+  early : (ended : Status) → EndsBy ended before after script none_answered (statements_of script) [] → Headline ended before after kept script written
+  early ended ends = record {
     now = kept;
+    annals_is = annals_is;
     more = [];
-    out = [];
-    told_is = told_is;
     begins = sym (append-nil kept.list);
     legal = legal;
-    written_is = written_is ∙ ap Some (sym (append-nil before));
-    ran = ran;
+    course = none_answered;
+    rest = statements_of script;
+    split = refl;
+    ran = nothing_ran (counts_of before after) kept;
+    out = [];
+    sink_is = sink_is ∙ ap Some (sym (append-nil written));
+    ends = ends;
+    settled = λ none. settled;
   }
 
-  none_ran : NothingRan now_root n (statements_of script) (history kept) (length kept.list) []
-  none_ran = (record { count = 0; run = nothing_ran n kept }, settled)
+  none_read : AnsweredRead after.source script none_answered []
+  none_read = record { answered = refl; out_is = refl; wholly = λ read rest more is split. refl }
 
-  pub early_leaves : (ended : Status) → IsEarly ended → (ended ≡ status.Damaged → ⊥) → Leaves (RunBy ended now_root n) kept script before told written
-  early_leaves status.ReadFault is sound = early (NothingRan now_root n) none_ran
-  early_leaves status.TooLong is sound = early (NothingRan now_root n) none_ran
-  early_leaves status.DiskFault is sound = early (RunWithFaults now_root n) (inr none_ran)
-  early_leaves status.NoMemory is sound = early (CutByMemory now_root n) (record { cut = record { count = 0; run = inl (nothing_ran n kept) }; count = 0; place = length kept.list; replies = []; each = refl; out_is = refl; settled = λ none. settled })
-  early_leaves status.Damaged is sound = absurd (sound refl)
-  early_leaves status.Done is sound = absurd is
-  early_leaves status.Refused is sound = absurd is
-  early_leaves status.NotWords is sound = absurd is
-  early_leaves status.WriteFault is sound = absurd is
+  pub early_leaves : (ended : Status) → IsEarly ended → (ended ≡ status.Damaged → ⊥) → (ended ≡ status.DiskFault → NothingRan before after none_answered) → Headline ended before after kept script written
+  early_leaves status.ReadFault is sound same = early status.ReadFault none_read
+  early_leaves status.TooLong is sound same = early status.TooLong none_read
+  early_leaves status.DiskFault is sound same = early status.DiskFault (inr (same refl))
+  early_leaves status.NoMemory is sound same = early status.NoMemory refl
+  early_leaves status.Damaged is sound same = absurd (sound refl)
+  early_leaves status.Done is sound same = absurd is
+  early_leaves status.Refused is sound same = absurd is
+  early_leaves status.NotWords is sound same = absurd is
+  early_leaves status.WriteFault is sound same = absurd is
+
+-- what is known is the same, the counts of faults aside
+abbrev pub Same : World → World → Type 0
+Same before after = (after.storage.disk ≡ before.storage.disk) × (after.storage.annals ≡ before.storage.annals) × (after.source ≡ before.source) × (after.sink ≡ before.sink)
+
+pub none_ran : (before after : World) → Same before after → NothingRan before after none_answered
+none_ran before after same = record { none = refl; answered = refl; disk = same.0; annals = same.1; source = same.2; sink = same.3 }
+
+-- the run ended before anything was known to change
+pub nothing_leaves : (before after : World) (kept : Told) (script written : List ℕ) → Starts before kept script written → Same before after → (ended : Status)
+    → (NothingRan before after none_answered → EndsBy ended before after script none_answered (statements_of script) []) → Headline ended before after kept script written
+nothing_leaves before after kept script written starts same ended ends =
+    early before after kept script written starts.stands.legal (same.1 ∙ starts.annals_is) (same.3 ∙ starts.sink_is) (root_told after.storage.disk starts.told (history kept) (same.0 ∙ starts.disk_is) starts.stands)
+    ended (ends (none_ran before after same))
+
+-- the disk failed before the root was opened
+pub early_same : (before after : World) (kept : Told) (script written : List ℕ) → Starts before kept script written → Same before after → (ended : Status) → IsEarly ended → (ended ≡ status.Damaged → ⊥)
+    → Headline ended before after kept script written
+early_same before after kept script written starts same ended is sound =
+    early_leaves before after kept script written starts.stands.legal (same.1 ∙ starts.annals_is) (same.3 ∙ starts.sink_is) (root_told after.storage.disk starts.told (history kept) (same.0 ∙ starts.disk_is) starts.stands)
+    ended is sound (λ fault. none_ran before after same)
 
 -- the script was served
-module _ (n : Counts) (kept : Told) (script before : List ℕ) (opened disk arm : ℕ) (f : Foresees opened disk arm n) (told : Option Told) (was_root now_root : Option root.Told) (old new : Option (List ℕ)) (is : old ≡ Some before) where
+module _ (before after : World) (kept : Told) (script written : List ℕ) (opened disk arm : ℕ) (f : Foresees opened disk arm (counts_of before after)) (is : before.sink ≡ Some written) where
   -- what ran is left, and what was written
-  left : (Run : List Item → History → ℕ → List ℕ → Type 0) (done : List Item) (replies : List (List ℕ)) (r : Ran kept opened disk arm done replies told) (out : List ℕ) → Appends old new out
-      → Run (statements_of script) (history r.now) (length kept.list) out → Leaves Run kept script before told new
-  left Run done replies r out wrote ran = record {
-    now = r.now;
-    more = r.more;
-    out = out;
-    told_is = r.told_is;
-    begins = r.list_is;
-    legal = r.legal;
-    written_is = known_after before out old new is wrote;
-    ran = ran;
-  }
-
-  whole_run : (tally : Tally) (refused : Bool) → tally.refused ≡ refused → tally.damaged ≡ false → (s : ServedAll kept script opened disk arm tally told now_root old new)
-      → WholeRunWith refused now_root n (statements_of script) (history s.ran.now) (length kept.list) (concat s.replies)
-  whole_run tally refused which sound s =
-      let each = replies_of n kept opened disk arm (statements_of script) s.replies told f s.ran in
-      record {
-        replies = s.replies;
-        each = each;
-        run = script_replies_run n (statements_of script) (history s.ran.now) (length kept.list) s.replies each;
-        out_is = refl;
-        tells = record { refusals = sym which ∙ s.tells.refusals; damages = sym sound ∙ s.tells.damages };
-        settled = s.settled;
-      }
-
-  first_run : (s : ServedFront kept script opened disk arm told now_root old new) → ScriptRun n (take (length s.done) (statements_of script)) (history s.ran.now) (length kept.list) (concat s.replies)
-  first_run s =
-      let first : take (length s.done) (statements_of script) ≡ s.done = ap (take (length s.done)) s.split ∙ take-append_seam s.done s.rest in
-      subst (λ (ss : List Item). ScriptRun n ss (history s.ran.now) (length kept.list) (concat s.replies)) (sym first)
-      (script_replies_run n s.done (history s.ran.now) (length kept.list) s.replies (replies_of n kept opened disk arm s.done s.replies told f s.ran))
-
-  cut_run : (s : ServedFront kept script opened disk arm told now_root old new) → CutByMemory now_root n (statements_of script) (history s.ran.now) (length kept.list) (concat s.replies)
-  cut_run s =
-      let first : take (length s.done) (statements_of script) ≡ s.done = ap (take (length s.done)) s.split ∙ take-append_seam s.done s.rest in
-      record {
-        cut = record { count = length s.done; run = inl (first_run s) };
-        count = length s.done;
-        place = length s.ran.now.list;
-        replies = s.replies;
-        each = subst (λ (ss : List Item). SessionReplies n (history s.ran.now) 0 ss (length kept.list) (length s.ran.now.list) s.replies) (sym first) (s.ran.run n f);
-        out_is = refl;
-        settled = s.settled;
-      }
-
-  cut_in_reply : (s : ServedCut kept script opened disk arm told now_root old new) → CutBySink now_root n (statements_of script) (history s.ran.now) (length kept.list) (concat s.replies ++ s.part)
-  cut_in_reply s = record {
-    cut = record {
-      count = length s.done;
-      last = s.last;
-      replies = s.replies;
-      reply = s.reply;
-      part = s.part;
-      there = subst (λ (ss : List Item). slice_get ss (length s.done) ≡ Some s.last) (sym s.split) (get_seam s.done s.last s.rest);
-      run = subst (λ (ss : List Item). ScriptReplies n (ss ++ s.last ∷ []) (history s.ran.now) (length kept.list) (s.replies ++ s.reply ∷ []))
-          (sym (ap (take (length s.done)) s.split ∙ take-append_seam s.done (s.last ∷ s.rest)))
-          (replies_of n kept opened disk arm (s.done ++ s.last ∷ []) (s.replies ++ s.reply ∷ []) told f s.ran);
-      front = s.front;
-      written_is = refl;
-    };
+  left : (how : Ending) (ended : Status) (s : ServedBy how kept script opened disk arm after.storage.annals after.storage.disk before.sink after.sink)
+      → EndsBy ended before after script (answered s.done s.replies) s.rest s.out → Headline ended before after kept script written
+  left how ended s ends = record {
+    now = s.ran.now;
+    annals_is = s.ran.told_is;
+    more = s.ran.more;
+    begins = s.ran.list_is;
+    legal = s.ran.legal;
+    course = answered s.done s.replies;
+    rest = s.rest;
+    split = s.split;
+    ran = run_of (counts_of before after) kept opened disk arm s.done s.replies after.storage.annals f s.ran;
+    out = s.out;
+    sink_is = known_after written s.out before.sink after.sink is s.wrote;
+    ends = ends;
     settled = s.settled;
   }
 
-  leaves_done : (tally : Tally) (risen : Bool) → tally.damaged ≡ false → ServedAll kept script opened disk arm tally told now_root old new → Leaves (RunBy (settled tally risen) now_root n) kept script before told new
-  leaves_done tally risen sound s =
-      subst (λ (d : Bool). Leaves (RunBy (of_flags d risen tally.refused) now_root n) kept script before told new) (sym sound) (by risen tally.refused refl)
-    where
-      by : (risen refused : Bool) → tally.refused ≡ refused → Leaves (RunBy (of_flags false risen refused) now_root n) kept script before told new
-      by true refused which = left (RunWithFaults now_root n) (statements_of script) s.replies s.ran (concat s.replies) s.wrote (inl (refused, whole_run tally refused which sound s))
-      by false true which = left (WholeRunWith true now_root n) (statements_of script) s.replies s.ran (concat s.replies) s.wrote (whole_run tally true which sound s)
-      by false false which = left (WholeRunWith false now_root n) (statements_of script) s.replies s.ran (concat s.replies) s.wrote (whole_run tally false which sound s)
+  all_answered : (tally : Tally) (refused : Bool) → tally.refused ≡ refused → tally.damaged ≡ false → (length script < 2 ^ 40) × (after.source ≡ Some [])
+      → (s : ServedBy (ending.Done tally) kept script opened disk arm after.storage.annals after.storage.disk before.sink after.sink) → AnsweredAll refused after.source script (answered s.done s.replies) s.rest s.out
+  all_answered tally refused which sound whole s = record {
+    all = s.stops.0;
+    answered = refl;
+    out_is = s.stops.2;
+    says = record { refusals = sym which ∙ s.stops.1.refusals; damages = sym sound ∙ s.stops.1.damages };
+    short = whole.0;
+    read = whole.1;
+  }
 
-  pub leaves_all : (risen : Bool) (ended : Result Ending Status) → IsLegal (history kept) → RootStands was_root (history kept) → MetNoDamage ended → IfErr ended IsEarly
-      → LeftBy ended kept script opened disk arm told was_root now_root old new → Leaves (RunBy (status_of risen ended) now_root n) kept script before told new
-  leaves_all risen (Ok (ending.Done tally)) legal stands sound first s = leaves_done tally risen sound s
-  leaves_all risen (Ok ending.NoMemory) legal stands sound first s = left (CutByMemory now_root n) s.done s.replies s.ran (concat s.replies) s.wrote (cut_run s)
-  leaves_all risen (Ok ending.WriteFault) legal stands sound first s = left (CutBySink now_root n) (s.done ++ s.last ∷ []) (s.replies ++ s.reply ∷ []) s.ran (concat s.replies ++ s.part) s.wrote (cut_in_reply s)
-  leaves_all risen (Err ended) legal stands sound first s =
-      early_leaves n kept script before told new now_root legal s.0 (s.1 ∙ is) (subst (λ (o : Option root.Told). RootStands o (history kept)) (sym s.2) stands) ended first sound
+  leaves_done : (tally : Tally) (risen : Bool) → tally.damaged ≡ false → (length script < 2 ^ 40) × (after.source ≡ Some [])
+      → ServedBy (ending.Done tally) kept script opened disk arm after.storage.annals after.storage.disk before.sink after.sink → Headline (settled tally risen) before after kept script written
+  leaves_done tally risen sound whole s = subst (λ (d : Bool). Headline (of_flags d risen tally.refused) before after kept script written) (sym sound) (by risen tally.refused refl)
+    where
+      by : (risen refused : Bool) → tally.refused ≡ refused → Headline (of_flags false risen refused) before after kept script written
+      by true refused which = left (ending.Done tally) status.DiskFault s (inl (refused, all_answered tally refused which sound whole s))
+      by false true which = left (ending.Done tally) status.Refused s (all_answered tally true which sound whole s)
+      by false false which = left (ending.Done tally) status.Done s (all_answered tally false which sound whole s)
+
+  pub leaves_all : (was_root : Option root.Told) (risen : Bool) (ended : Result Ending Status) → IsLegal (history kept) → RootStands was_root (history kept) → MetNoDamage ended → IfErr ended IsEarly
+      → OnOk ended ((length script < 2 ^ 40) × (after.source ≡ Some [])) → (ended ≡ Err status.DiskFault → NothingRan before after none_answered)
+      → LeftBy ended kept script opened disk arm after.storage.annals was_root after.storage.disk before.sink after.sink → Headline (status_of risen ended) before after kept script written
+  leaves_all was_root risen (Ok (ending.Done tally)) legal stands sound first whole same s = leaves_done tally risen sound whole s
+  leaves_all was_root risen (Ok ending.NoMemory) legal stands sound first whole same s = left ending.NoMemory status.NoMemory s s.stops
+  leaves_all was_root risen (Ok ending.WriteFault) legal stands sound first whole same s = left ending.WriteFault status.WriteFault s (refl, s.stops)
+  leaves_all was_root risen (Err ended) legal stands sound first whole same s =
+      early_leaves before after kept script written legal s.0 (s.1 ∙ is) (subst (λ (o : Option root.Told). RootStands o (history kept)) (sym s.2) stands) ended first sound (λ fault. same (ap Err fault))
+
+-- what is left by the same status
+pub by_status : {before after : World} {kept : Told} {script written : List ℕ} {s t : Status} → s ≡ t → Headline t before after kept script written → Headline s before after kept script written
+by_status {before} {after} {kept} {script} {written} same left = subst (λ (e : Status). Headline e before after kept script written) (sym same) left
+
+-- nothing was told or written where the root was not opened
+pub early_not_told : (ended : Result Ending Status) (kept : Told) (script : List ℕ) (opened disk arm : ℕ) (told : Option Told) (was_root now_root : Option root.Told) (before after : Option (List ℕ)) → ended ≡ Err status.DiskFault
+    → LeftBy ended kept script opened disk arm told was_root now_root before after → (told ≡ Some kept) × (after ≡ before) × (now_root ≡ was_root)
+early_not_told (Ok e) kept script opened disk arm told was_root now_root before after is left = cc
+early_not_told (Err e) kept script opened disk arm told was_root now_root before after is left = left
+
+pub failed_is : (ended : Result Ending Status) → ended ≡ Err status.DiskFault → IsErrOf ended status.DiskFault
+failed_is (Ok e) is = cc
+failed_is (Err e) is = is
 
 -- ---- which end has which status
 
@@ -298,41 +317,6 @@ pub ended_early : (P : Status → Type 0) (risen : Bool) (ended : Result Ending 
 ended_early P risen (Ok e) h = absurd h
 ended_early P risen (Err s) h = h
 
--- a run of one kind is one of another
-pub leaves_as : (R Q : List Item → History → ℕ → List ℕ → Type 0) (kept : Told) (script before : List ℕ) (told : Option Told) (written : Option (List ℕ))
-    → ((h : History) (out : List ℕ) → R (statements_of script) h (length kept.list) out → Q (statements_of script) h (length kept.list) out)
-    → Leaves R kept script before told written → Leaves Q kept script before told written
-leaves_as R Q kept script before told written turn l = record {
-  now = l.now;
-  more = l.more;
-  out = l.out;
-  told_is = l.told_is;
-  begins = l.begins;
-  legal = l.legal;
-  written_is = l.written_is;
-  ran = turn (history l.now) l.out l.ran;
-}
-
-abbrev no_statements : List Item
-no_statements = []
-
-none_taken : (k : ℕ) → take k no_statements ≡ no_statements
-none_taken zero = refl
-none_taken (suc k) = refl
-
--- where no statement ran, those that ran were wholly read
-pub nothing_read : (left : Option (List ℕ)) (text : List ℕ) (now_root : Option root.Told) (n : Counts) (script : List Item) (h : History) (base : ℕ) (out : List ℕ) → NothingRan now_root n script h base out → ReadRun left text now_root n script h base out
-nothing_read left text now_root n script h base out r =
-    let run : ScriptRun n [] h base out = subst (λ (ss : List Item). ScriptRun n ss h base out) (none_taken r.0.count) r.0.run in
-    record {
-      count = 0;
-      replies = [];
-      each = record { last = run.last; run = run.run.0; nothing_else = run.nothing_else; sessions = run.sessions };
-      out_is = run.run.1;
-      wholly = λ read rest more is split. refl;
-      settled = λ none. r.1;
-    }
-
 -- the statuses by their numbers
 status_at : ℕ → Option Status
 status_at n =
@@ -364,11 +348,6 @@ same_number e f same = inj (sym (numbered e) ∙ (ap status_at same ∙ numbered
   where
     inj : Some e ≡ Some f → e ≡ f
     inj h = cc
-
--- what was left by the status with this number
-pub left_by : (now_root : Option root.Told) (n : Counts) (e f : Status) (kept : Told) (script before : List ℕ) (told : Option Told) (written : Option (List ℕ)) → number_of e ≡ number_of f
-    → Leaves (RunBy e now_root n) kept script before told written → Leaves (RunBy f now_root n) kept script before told written
-left_by now_root n e f kept script before told written same l = subst (λ s. Leaves (RunBy s now_root n) kept script before told written) (same_number e f same) l
 
 pub at_most_one_is : (e : Status) → number_of e ≤ 1 → IsAnswered e
 at_most_one_is status.Done h = inl refl
@@ -421,8 +400,3 @@ pub writes_nothing : (f : OpenFault) (ended : Status) (failed failed_now : ℕ) 
 writes_nothing (fault.Damaged d) ended failed failed_now before after sound wrote = absurd sound
 writes_nothing fault.NoMemory ended failed failed_now before after sound wrote = wrote.1
 writes_nothing fault.Disk ended failed failed_now before after sound wrote = wrote.1
-
--- ---- a root that stands for a list
-
-pub root_told : (o : Option root.Told) (told : root.Told) (h : History) → o ≡ Some told → Stands (root.names_of told) h → RootStands o h
-root_told o told h is stands = (told, is, stands)

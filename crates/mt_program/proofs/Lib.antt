@@ -1,5 +1,6 @@
 pub mod Completing
 pub mod Crashing
+pub mod Gaining
 pub mod Heading
 pub mod Reopened
 pub mod Selecting

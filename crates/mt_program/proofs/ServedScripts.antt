@@ -23,7 +23,9 @@ use Rattle.root_store.specs.Soundness.{RootStands}
 use Rattle.root_store.specs.Stores.{CoreStands}
 use Rattle.command_turn.specs.Answers.{Accepts}
 use Rattle.reply_lines.specs.Foreseen.{history, is_unsettled}
-use Rattle.mt_program.specs.Serving.{AreSettled, Item, Ran, Served, ServedAll, ServedFront, ServedCut, Tells}
+use Rattle.mt_program.specs.Courses.{AreSettled, Item, Tells}
+use Rattle.mt_program.specs.Serving.{Ran, Served, ServedBy}
+use Rattle.mt_program.specs.declared.serving.Ending.TheVariants as ending
 use Rattle.reply_lines.specs.Tallies.{tallied}
 use Rattle.run_streams.specs.Streams.{AppendsFront}
 use Rattle.reply_lines.proofs.Counting.{foresees_before}
@@ -159,47 +161,45 @@ either_unsettled replies reply none = neither (list_any is_unsettled replies) (i
 module _ {F : Type 0} (files_of : F → Option Files) (kept : Told) (script : List ℕ) (opened disk arm at : ℕ) (tally : Tally) (old : CoreStore F) (told : Option Told) (was_root : Option root.Told) (before now : Option (List ℕ))
     (s : Served files_of kept script opened disk arm at tally old told was_root before now) where
   -- nothing is left
-  pub served_all : statements_of (drop at script) ≡ [] → ServedAll kept script opened disk arm tally told was_root before now
-  served_all none =
-      let all : statements_of script ≡ s.done = s.split ∙ (ap (λ ss. s.done ++ ss) none ∙ append-nil s.done) in
-      record {
-        replies = s.replies;
-        ran = record {
-          now = s.ran.now;
-          more = s.ran.more;
-          told_is = s.ran.told_is;
-          list_is = s.ran.list_is;
-          legal = s.ran.legal;
-          sessions = s.ran.sessions;
-          run = λ n f. subst (λ (ss : List Item). SessionReplies n (history s.ran.now) 0 ss (length kept.list) (length s.ran.now.list) s.replies) (sym all) (s.ran.run n f);
-        };
-        wrote = s.wrote;
-        tells = s.tells;
-        settled = s.settled;
-      }
+  pub served_all : statements_of (drop at script) ≡ [] → ServedBy (ending.Done tally) kept script opened disk arm told was_root before now
+  served_all none = record {
+    done = s.done;
+    rest = statements_of (drop at script);
+    replies = s.replies;
+    out = concat s.replies;
+    split = s.split;
+    ran = s.ran;
+    wrote = s.wrote;
+    stops = (none, s.tells, refl);
+    settled = s.settled;
+  }
 
   -- no reply was begun after the last
-  pub served_so_far : ServedFront kept script opened disk arm told was_root before now
+  pub served_so_far : ServedBy ending.NoMemory kept script opened disk arm told was_root before now
   served_so_far = record {
     done = s.done;
     rest = statements_of (drop at script);
     replies = s.replies;
+    out = concat s.replies;
     split = s.split;
     ran = s.ran;
     wrote = s.wrote;
+    stops = refl;
     settled = s.settled;
   }
 
   module _ (later more : ℕ) (le : disk ≤ later) (less : arm ≤ more) where
     -- the next statement had no reply
-    pub served_unanswered : (after : Option Told) (now_root : Option root.Told) → SameList (Some s.ran.now) after → now_root ≡ was_root → ServedFront kept script opened later more after now_root before now
+    pub served_unanswered : (after : Option Told) (now_root : Option root.Told) → SameList (Some s.ran.now) after → now_root ≡ was_root → ServedBy ending.NoMemory kept script opened later more after now_root before now
     served_unanswered after now_root same as_was = record {
       done = s.done;
       rest = statements_of (drop at script);
       replies = s.replies;
+      out = concat s.replies;
       split = s.split;
       ran = ran_still kept opened disk arm later more s.done s.replies told after le less s.ran same;
       wrote = s.wrote;
+      stops = refl;
       settled = λ none.
           let stands : RootStands now_root (history s.ran.now) = subst (λ (o : Option root.Told). RootStands o (history s.ran.now)) (sym as_was) (s.settled none) in
           subst (RootStands now_root) (sym (still_history kept opened disk arm later more s.done s.replies told after le less s.ran same)) stands;
@@ -228,19 +228,17 @@ module _ {F : Type 0} (files_of : F → Option Files) (kept : Told) (script : Li
       }
 
       -- a front of its reply was written
-      pub served_cut : AppendsFront now written reply → ServedCut kept script opened later more after now_root before written
+      pub served_cut : AppendsFront now written reply → ServedBy ending.WriteFault kept script opened later more after now_root before written
       unfolding ran_more
       served_cut w = record {
-        done = s.done;
-        last = st;
+        done = s.done ++ st ∷ [];
         rest = statements_of (drop (at + used) script);
-        replies = s.replies;
-        reply = reply;
-        part = w.0;
-        split = s.split ∙ ap (λ ss. s.done ++ ss) left;
+        replies = s.replies ++ reply ∷ [];
+        out = concat s.replies ++ w.0;
+        split = split_more;
         ran = ran_more files_of kept opened disk arm later more s.done s.replies st reply new told after was_root now_root le less s.ran a;
-        front = (w.1, sym w.2);
         wrote = appends_more before now written (concat s.replies) w.0 s.wrote w.3;
+        stops = record { whole = s.replies; last = reply; part = w.0; replies_are = refl; front = (w.1, sym w.2); out_is = refl };
         settled = settled_more;
       }
 

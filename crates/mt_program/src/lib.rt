@@ -9,4 +9,4 @@ pub use exit_status::Status;
 pub use reply_lines::Tally;
 pub use run_streams::ReadStop;
 pub use serving::Ending;
-pub use top::{Done, run};
+pub use top::{Done, run, run_alone};

@@ -4,16 +4,18 @@ ghost use Rattle.mt_values.specs.Annals.{Told};
 ghost use Rattle.mt_outside.specs.Causes.{Rose};
 ghost use Rattle.mt_outside.specs.Disk as root;
 ghost use Rattle.root_opening.specs.declared.opening.Damage.{Damage as Damaged};
-ghost use Rattle.root_store.specs.Crashes.{AllStand, KeepsThroughCrashes};
+ghost use Rattle.root_store.specs.Crashes.{AllStand, KeepsThroughCrashes, Outside};
 ghost use Rattle.root_opening.specs.Opening.{IsNotDamaged, IsRootDamage};
 ghost use Rattle.root_store.specs.Roots.{Stands};
 ghost use Rattle.root_store.specs.Soundness.{HasSoundParts, IsSound, NamesFitUnlessRisen, RootStands};
 ghost use Rattle.root_store.specs.Stores.{CoreStands};
 ghost use Rattle.reply_lines.specs.Foreseen.{history};
-ghost use Rattle.mt_program.specs.Crashes.{IsAsBefore, LeavesOfScript};
+ghost use Rattle.mt_program.specs.Crashes.{IsAsBefore, IsGainedBy, LeavesOfScript};
 ghost use Rattle.mt_program.specs.Damage.{IsDamagedRoot, WritesDamage, WritesFault, damage_line};
 ghost use Rattle.mt_program.specs.Endings.{IsAnswered, IsEarly, LeftBy, MetNoDamage, status_of, status_of_error, status_of_stop};
-ghost use Rattle.mt_program.specs.Headline.{CutByMemory, CutBySink, Leaves, NotOpened, NothingRefuses, ReadRun, RunBy, RunWithFaults, Starts, WholeRunWith};
+ghost use Rattle.mt_program.specs.Headline.{Headline, HeadlineBy};
+ghost use Rattle.mt_program.specs.Promises.{IsComplete, OfCrashes, OfDamage, Promises};
+ghost use Rattle.mt_program.specs.Worlds.{Starts, World};
 ghost use Rattle.run_streams.specs.Streams.{ConsumesMost};
 ghost use Rattle.run_streams.specs.Words.{is_command};
 
@@ -94,9 +96,11 @@ fn run_script<D: Disk, A: Annals, S: Source, K: Sink, G: Gate>(
         → CoreStands D.Arm.Dir.files (history kept) store.old → RootStands (D.told disk.old) (history kept)
         → LeftBy result kept script store.old.opened (D.failed disk.new) (D.Arm.failed arm.new) (A.told annals.new) (D.told disk.old) (D.told disk.new) (K.written sink.old) (K.written sink.new) }
     ensures undamaged { D.Arm.tells arm.old ≡ true → HasSoundParts D.Arm.Dir.files store.old → MetNoDamage result }
-    ensures through_crashes { (first : Told) (start : ℕ) → D.Arm.tells arm.old ≡ true
-        → KeepsThroughCrashes D.Arm.Dir.files [] store.old (D.failed disk.old) (D.told disk.old) (D.clock disk.old) (A.told annals.old) first start
-        → LeavesOfScript (S.left source.old) store.old.opened (D.failed disk.new) (D.told disk.new) (D.clock disk.new) (A.told annals.new) first start }
+    ensures through_crashes { let was : Outside = record { disk = D.told disk.old; clock = D.clock disk.old; failed = D.failed disk.old; annals = A.told annals.old } in
+        let now : Outside = record { disk = D.told disk.new; clock = D.clock disk.new; failed = D.failed disk.new; annals = A.told annals.new } in
+        (first : Told) (start : ℕ) → D.Arm.tells arm.old ≡ true
+        → KeepsThroughCrashes D.Arm.Dir.files store.old was first start → IsGainedBy [] (A.told annals.old) first
+        → LeavesOfScript (S.left source.old) store.old.opened now first start }
     ensures whole { (script : List ℕ) → S.left source.old ≡ Some script → OnOk result ((length script < 2 ^ 40) × (S.left source.new ≡ Some [])) }
     ensures early { IfErr result IsEarly }
     ensures read { IsErrOf result Status.ReadFault → Rose (S.failed source.old) (S.failed source.new) }
@@ -168,13 +172,16 @@ fn run_root<D: Disk, A: Annals, S: Source, K: Sink, G: Gate>(
         × (D.told disk.new ≡ D.told disk.old) × (A.told annals.new ≡ A.told annals.old) }
     ensures sound { (kept : Told) (told : root.Told) → A.told annals.old ≡ Some kept → D.told disk.old ≡ Some told → Stands (root.names_of told) (history kept) → D.Arm.tells arm.old ≡ true → MetNoDamage result }
     ensures damaged { (told : root.Told) → D.told disk.old ≡ Some told → D.Arm.tells arm.old ≡ true → MetNoDamage result ⊎ IsDamagedRoot (root.names_of told) }
-    ensures crashes { (kept : Told) (told : root.Told) → A.told annals.old ≡ Some kept → D.told disk.old ≡ Some told → D.Arm.tells arm.old ≡ true → AllStand told (D.clock disk.old) (history kept)
-        → LeavesOfScript (S.left source.old) opened (D.failed disk.new) (D.told disk.new) (D.clock disk.new) (A.told annals.new) kept (D.clock disk.old) }
-    ensures settles { (kept : Told) (told : root.Told) → A.told annals.old ≡ Some kept → D.told disk.old ≡ Some told → D.Arm.tells arm.old ≡ true → root.names_of told ≢ [] → AllStand told (D.clock disk.old + 1) (history kept)
+    ensures crashes { let now : Outside = record { disk = D.told disk.new; clock = D.clock disk.new; failed = D.failed disk.new; annals = A.told annals.new } in
+        (kept : Told) (told : root.Told) → A.told annals.old ≡ Some kept → D.told disk.old ≡ Some told → D.Arm.tells arm.old ≡ true → AllStand told (D.clock disk.old) (history kept)
+        → LeavesOfScript (S.left source.old) opened now kept (D.clock disk.old) }
+    ensures settles { let now : Outside = record { disk = D.told disk.new; clock = D.clock disk.new; failed = D.failed disk.new; annals = A.told annals.new } in
+        (kept : Told) (told : root.Told) → A.told annals.old ≡ Some kept → D.told disk.old ≡ Some told → D.Arm.tells arm.old ≡ true → root.names_of told ≢ [] → AllStand told (D.clock disk.old + 1) (history kept)
         → IsAsBefore (D.told disk.old) (D.told disk.new) (A.told annals.old) (A.told annals.new) (K.written sink.old) (K.written sink.new)
-        ⊎ LeavesOfScript (S.left source.old) opened (D.failed disk.new) (D.told disk.new) (D.clock disk.new) (A.told annals.new) kept (D.clock disk.old + 1) }
+        ⊎ LeavesOfScript (S.left source.old) opened now kept (D.clock disk.old + 1) }
     ensures whole { (script : List ℕ) → S.left source.old ≡ Some script → OnOk result ((length script < 2 ^ 40) × (S.left source.new ≡ Some [])) }
     ensures early { IfErr result IsEarly }
+    ensures unread { IsErrOf result Status.DiskFault → source.new ≡ source.old }
     ensures read { IsErrOf result Status.ReadFault → Rose (S.failed source.old) (S.failed source.new) }
     ensures disk { IsErrOf result Status.DiskFault → Rose (D.failed disk.old) (D.failed disk.new) ⊎ Rose (D.Arm.failed arm.old) (D.Arm.failed arm.new) }
     ensures long { IsErrOf result Status.TooLong → ConsumesMost (S.left source.old) (S.left source.new) }
@@ -200,20 +207,34 @@ fn run_opened<D: Disk, A: Annals, S: Source, K: Sink, G: Gate>(
     annals: &mut A,
     gate: &mut G,
 ) -> Status
-    ensures leaves { (kept : Told) (told : root.Told) (script before : List ℕ) → A.told annals.old ≡ Some kept → D.told disk.old ≡ Some told → Stands (root.names_of told) (history kept)
-        → S.left source.old ≡ Some script → K.written sink.old ≡ Some before
-        → Leaves (RunBy result (D.told disk.new) (record { opened = D.failed disk.old; ended = D.failed disk.new })) kept script before (A.told annals.new) (K.written sink.new) }
+    ensures headline { let before : World = record {
+      storage = record { disk = D.told disk.old; clock = D.clock disk.old; failed = D.failed disk.old; annals = A.told annals.old };
+      source = S.left source.old;
+      source_failed = S.failed source.old;
+      sink = K.written sink.old;
+      sink_failed = K.failed sink.old;
+    } in
+        let after : World = record {
+          storage = record { disk = D.told disk.new; clock = D.clock disk.new; failed = D.failed disk.new; annals = A.told annals.new };
+          source = S.left source.new;
+          source_failed = S.failed source.new;
+          sink = K.written sink.new;
+          sink_failed = K.failed sink.new;
+        } in
+        (kept : Told) (script written : List ℕ) → Starts before kept script written → Headline result before after kept script written }
     ensures opening { (told : root.Told) (damage : Damaged) → D.told disk.old ≡ Some told → IsRootDamage (root.names_of told) damage
         → WritesDamage result (damage_line damage) (K.failed sink.old) (K.failed sink.new) (K.written sink.old) (K.written sink.new)
         × (D.told disk.new ≡ D.told disk.old) × (A.told annals.new ≡ A.told annals.old) }
     ensures sound { (kept : Told) (told : root.Told) → A.told annals.old ≡ Some kept → D.told disk.old ≡ Some told → Stands (root.names_of told) (history kept) → result ≡ Status.Damaged → ⊥ }
     ensures damaged { (told : root.Told) → D.told disk.old ≡ Some told → result ≡ Status.Damaged → IsDamagedRoot (root.names_of told) }
-    ensures crashes { (kept : Told) (told : root.Told) → A.told annals.old ≡ Some kept → D.told disk.old ≡ Some told → AllStand told (D.clock disk.old) (history kept)
-        → LeavesOfScript (S.left source.old) (D.failed disk.old) (D.failed disk.new) (D.told disk.new) (D.clock disk.new) (A.told annals.new) kept (D.clock disk.old) }
-    ensures settles { (kept : Told) (told : root.Told) → A.told annals.old ≡ Some kept → D.told disk.old ≡ Some told → root.names_of told ≢ [] → AllStand told (D.clock disk.old + 1) (history kept)
+    ensures crashes { let now : Outside = record { disk = D.told disk.new; clock = D.clock disk.new; failed = D.failed disk.new; annals = A.told annals.new } in
+        (kept : Told) (told : root.Told) → A.told annals.old ≡ Some kept → D.told disk.old ≡ Some told → AllStand told (D.clock disk.old) (history kept)
+        → LeavesOfScript (S.left source.old) (D.failed disk.old) now kept (D.clock disk.old) }
+    ensures settles { let now : Outside = record { disk = D.told disk.new; clock = D.clock disk.new; failed = D.failed disk.new; annals = A.told annals.new } in
+        (kept : Told) (told : root.Told) → A.told annals.old ≡ Some kept → D.told disk.old ≡ Some told → root.names_of told ≢ [] → AllStand told (D.clock disk.old + 1) (history kept)
         → IsAsBefore (D.told disk.old) (D.told disk.new) (A.told annals.old) (A.told annals.new) (K.written sink.old) (K.written sink.new)
-        ⊎ LeavesOfScript (S.left source.old) (D.failed disk.old) (D.failed disk.new) (D.told disk.new) (D.clock disk.new) (A.told annals.new) kept (D.clock disk.old + 1) }
-    ensures full { D.failed disk.old ≡ 2 ^ 64 - 1 → result ≡ Status.DiskFault }
+        ⊎ LeavesOfScript (S.left source.old) (D.failed disk.old) now kept (D.clock disk.old + 1) }
+    ensures full { D.failed disk.old ≡ 2 ^ 64 - 1 → (result ≡ Status.DiskFault) × (disk.new ≡ disk.old) × (annals.new ≡ annals.old) × (source.new ≡ source.old) × (sink.new ≡ sink.old) }
     ensures whole { (script : List ℕ) → S.left source.old ≡ Some script → IsAnswered result → (length script < 2 ^ 40) × (S.left source.new ≡ Some []) }
     ensures words { result ≡ Status.NotWords → ⊥ }
     ensures read { result ≡ Status.ReadFault → Rose (S.failed source.old) (S.failed source.new) }
@@ -239,13 +260,8 @@ fn run_opened<D: Disk, A: Annals, S: Source, K: Sink, G: Gate>(
     status_at_end(ended, opened < disk.faults())
 }
 
-/// Runs a script over the root of a folder, as an earlier run left it, and refuses a root that is damaged.
-///
-/// The status is 0 where all statements were answered, 1 where one of them was refused for what the script says, 2 where the words
-/// are no command line, 3 where the source failed, 4 where the sink failed, 5 where the disk's count of faults rose, 6 for want of
-/// memory, 7 where the root is damaged, and 8 where 2^40 bytes were read and no end was met.
-pub fn run<R: Threads + Wait + Sync, D: Disk, A: Annals, S: Source, K: Sink, G: Gate>(
-    _rt: &R,
+/// Looks at the words, and runs the script where they are a command line.
+fn run_words<D: Disk, A: Annals, S: Source, K: Sink, G: Gate>(
     alloc: Global,
     words: &[String],
     source: &mut S,
@@ -254,44 +270,80 @@ pub fn run<R: Threads + Wait + Sync, D: Disk, A: Annals, S: Source, K: Sink, G: 
     annals: A,
     gate: &mut G,
 ) -> Done<D, A>
-    ensures all_answered { (kept : Told) (script before : List ℕ) → Starts (D.told disk) (A.told annals) (S.left source.old) (K.written sink.old) kept script before
-        → result.status ≡ 0 → Leaves (WholeRunWith false (D.told result.disk) (record { opened = D.failed disk; ended = D.failed result.disk })) kept script before (A.told result.annals) (K.written sink.new) }
-    ensures some_refused { (kept : Told) (script before : List ℕ) → Starts (D.told disk) (A.told annals) (S.left source.old) (K.written sink.old) kept script before
-        → result.status ≡ 1 → Leaves (WholeRunWith true (D.told result.disk) (record { opened = D.failed disk; ended = D.failed result.disk })) kept script before (A.told result.annals) (K.written sink.new) }
-    ensures source_failed { (kept : Told) (script before : List ℕ) → Starts (D.told disk) (A.told annals) (S.left source.old) (K.written sink.old) kept script before
-        → result.status ≡ 3 → Leaves (ReadRun (S.left source.new) script (D.told result.disk) (record { opened = D.failed disk; ended = D.failed result.disk })) kept script before (A.told result.annals) (K.written sink.new) }
-    ensures sink_failed { (kept : Told) (script before : List ℕ) → Starts (D.told disk) (A.told annals) (S.left source.old) (K.written sink.old) kept script before
-        → result.status ≡ 4 → Leaves (CutBySink (D.told result.disk) (record { opened = D.failed disk; ended = D.failed result.disk })) kept script before (A.told result.annals) (K.written sink.new) }
-    ensures disk_failed { (kept : Told) (script before : List ℕ) → Starts (D.told disk) (A.told annals) (S.left source.old) (K.written sink.old) kept script before
-        → result.status ≡ 5 → Leaves (RunWithFaults (D.told result.disk) (record { opened = D.failed disk; ended = D.failed result.disk })) kept script before (A.told result.annals) (K.written sink.new) }
-    ensures out_of_memory { (kept : Told) (script before : List ℕ) → Starts (D.told disk) (A.told annals) (S.left source.old) (K.written sink.old) kept script before
-        → result.status ≡ 6 → Leaves (CutByMemory (D.told result.disk) (record { opened = D.failed disk; ended = D.failed result.disk })) kept script before (A.told result.annals) (K.written sink.new) }
-    ensures too_long { (kept : Told) (script before : List ℕ) → Starts (D.told disk) (A.told annals) (S.left source.old) (K.written sink.old) kept script before
-        → result.status ≡ 8 → Leaves (ReadRun (S.left source.new) script (D.told result.disk) (record { opened = D.failed disk; ended = D.failed result.disk })) kept script before (A.told result.annals) (K.written sink.new) }
-    ensures crashes { (kept : Told) (told : root.Told) → A.told annals ≡ Some kept → D.told disk ≡ Some told → AllStand told (D.clock disk) (history kept)
-        → LeavesOfScript (S.left source.old) (D.failed disk) (D.failed result.disk) (D.told result.disk) (D.clock result.disk) (A.told result.annals) kept (D.clock disk) }
-    ensures settles { (kept : Told) (told : root.Told) → A.told annals ≡ Some kept → D.told disk ≡ Some told → root.names_of told ≢ [] → AllStand told (D.clock disk + 1) (history kept)
-        → IsAsBefore (D.told disk) (D.told result.disk) (A.told annals) (A.told result.annals) (K.written sink.old) (K.written sink.new)
-        ⊎ LeavesOfScript (S.left source.old) (D.failed disk) (D.failed result.disk) (D.told result.disk) (D.clock result.disk) (A.told result.annals) kept (D.clock disk + 1) }
-    ensures complete { (kept now : Told) (script before : List ℕ) → Starts (D.told disk) (A.told annals) (S.left source.old) (K.written sink.old) kept script before
-        → A.told result.annals ≡ Some now → NothingRefuses (is_command words.now) script (history now) (length kept.list)
-        → (Rose (S.failed source.old) (S.failed source.new) → ⊥) → (Rose (K.failed sink.old) (K.failed sink.new) → ⊥) → (Rose (D.failed disk) (D.failed result.disk) → ⊥)
-        → (result.status ≡ 0) ⊎ (result.status ≡ 6) }
-    ensures opening { (told : root.Told) (damage : Damaged) → D.told disk ≡ Some told → IsRootDamage (root.names_of told) damage
-        → NotOpened result.status (damage_line damage) (K.failed sink.old) (K.failed sink.new) (K.written sink.old) (K.written sink.new)
-        × (D.told result.disk ≡ D.told disk) × (A.told result.annals ≡ A.told annals) }
-    ensures sound { (kept : Told) (told : root.Told) → A.told annals ≡ Some kept → D.told disk ≡ Some told → Stands (root.names_of told) (history kept) → result.status ≡ 7 → ⊥ }
-    ensures damaged { (told : root.Told) → D.told disk ≡ Some told → result.status ≡ 7 → IsDamagedRoot (root.names_of told) }
+    // What is answered.
+    ensures headline { let before : World = record {
+      storage = record { disk = D.told disk; clock = D.clock disk; failed = D.failed disk; annals = A.told annals };
+      source = S.left source.old;
+      source_failed = S.failed source.old;
+      sink = K.written sink.old;
+      sink_failed = K.failed sink.old;
+    } in
+        let after : World = record {
+          storage = record { disk = D.told result.disk; clock = D.clock result.disk; failed = D.failed result.disk; annals = A.told result.annals };
+          source = S.left source.new;
+          source_failed = S.failed source.new;
+          sink = K.written sink.new;
+          sink_failed = K.failed sink.new;
+        } in
+        HeadlineBy result.status before after }
+    ensures complete { let before : World = record {
+      storage = record { disk = D.told disk; clock = D.clock disk; failed = D.failed disk; annals = A.told annals };
+      source = S.left source.old;
+      source_failed = S.failed source.old;
+      sink = K.written sink.old;
+      sink_failed = K.failed sink.old;
+    } in
+        let after : World = record {
+          storage = record { disk = D.told result.disk; clock = D.clock result.disk; failed = D.failed result.disk; annals = A.told result.annals };
+          source = S.left source.new;
+          source_failed = S.failed source.new;
+          sink = K.written sink.new;
+          sink_failed = K.failed sink.new;
+        } in
+        IsComplete words.now before result.status after }
+    // What a crash leaves, and what is told of damage.
+    ensures crashes { let before : World = record {
+      storage = record { disk = D.told disk; clock = D.clock disk; failed = D.failed disk; annals = A.told annals };
+      source = S.left source.old;
+      source_failed = S.failed source.old;
+      sink = K.written sink.old;
+      sink_failed = K.failed sink.old;
+    } in
+        let after : World = record {
+          storage = record { disk = D.told result.disk; clock = D.clock result.disk; failed = D.failed result.disk; annals = A.told result.annals };
+          source = S.left source.new;
+          source_failed = S.failed source.new;
+          sink = K.written sink.new;
+          sink_failed = K.failed sink.new;
+        } in
+        OfCrashes before after }
+    ensures damage { let before : World = record {
+      storage = record { disk = D.told disk; clock = D.clock disk; failed = D.failed disk; annals = A.told annals };
+      source = S.left source.old;
+      source_failed = S.failed source.old;
+      sink = K.written sink.old;
+      sink_failed = K.failed sink.old;
+    } in
+        let after : World = record {
+          storage = record { disk = D.told result.disk; clock = D.clock result.disk; failed = D.failed result.disk; annals = A.told result.annals };
+          source = S.left source.new;
+          source_failed = S.failed source.new;
+          sink = K.written sink.new;
+          sink_failed = K.failed sink.new;
+        } in
+        OfDamage before result.status after }
+    // Why it ended so.
     ensures number { result.status ≤ 8 }
     ensures full { D.failed disk ≡ 2 ^ 64 - 1 → (result.status ≡ 2) ⊎ (result.status ≡ 5) }
     ensures words { (result.status ≡ 2) ↔ (is_command words.now ≡ false) }
-    ensures untouched { result.status ≡ 2 → (source.new ≡ source.old) × (sink.new ≡ sink.old) × (result.disk ≡ disk) × (result.annals ≡ annals) }
     ensures read { result.status ≡ 3 → Rose (S.failed source.old) (S.failed source.new) }
     ensures write { result.status ≡ 4 → Rose (K.failed sink.old) (K.failed sink.new) }
     ensures disk { result.status ≡ 5 → Rose (D.failed disk) (D.failed result.disk) }
     ensures long { result.status ≡ 8 → ConsumesMost (S.left source.old) (S.left source.new) }
     ensures whole { (script : List ℕ) → S.left source.old ≡ Some script → result.status ≤ 1 → (length script < 2 ^ 40) × (S.left source.new ≡ Some []) }
     ensures calm { result.status ≤ 1 → D.failed result.disk ≡ D.failed disk }
+    ensures untouched { (result.status ≡ 2) ⊎ (D.failed disk ≡ 2 ^ 64 - 1)
+        → (source.new ≡ source.old) × (sink.new ≡ sink.old) × (result.disk ≡ disk) × (result.annals ≡ annals) }
 {
     if !is_command_line(words) {
         let status = Status::NotWords.number();
@@ -311,4 +363,71 @@ pub fn run<R: Threads + Wait + Sync, D: Disk, A: Annals, S: Source, K: Sink, G: 
         disk,
         annals,
     }
+}
+
+/// Runs a script over the root of a folder, as `run` does, and waits for nobody: so it returns.
+pub fn run_alone<D: Disk, A: Annals, S: Source, K: Sink, G: Gate>(
+    alloc: Global,
+    words: &[String],
+    source: &mut S,
+    sink: &mut K,
+    disk: D,
+    annals: A,
+    gate: &mut G,
+) -> Done<D, A>
+    ensures promises { let before : World = record {
+      storage = record { disk = D.told disk; clock = D.clock disk; failed = D.failed disk; annals = A.told annals };
+      source = S.left source.old;
+      source_failed = S.failed source.old;
+      sink = K.written sink.old;
+      sink_failed = K.failed sink.old;
+    } in
+        let after : World = record {
+          storage = record { disk = D.told result.disk; clock = D.clock result.disk; failed = D.failed result.disk; annals = A.told result.annals };
+          source = S.left source.new;
+          source_failed = S.failed source.new;
+          sink = K.written sink.new;
+          sink_failed = K.failed sink.new;
+        } in
+        Promises words.now before result.status after }
+    ensures untouched { (result.status ≡ 2) ⊎ (D.failed disk ≡ 2 ^ 64 - 1)
+        → (source.new ≡ source.old) × (sink.new ≡ sink.old) × (result.disk ≡ disk) × (result.annals ≡ annals) }
+{
+    run_words(alloc, words, source, sink, disk, annals, gate)
+}
+
+/// Runs a script over the root of a folder, as an earlier run left it, and refuses a root that is damaged.
+///
+/// The status is 0 where all statements were answered, 1 where one of them was refused for what the script says, 2 where the words
+/// are no command line, 3 where the source failed, 4 where the sink failed, 5 where the disk's count of faults rose, 6 for want of
+/// memory, 7 where the root is damaged, and 8 where 2^40 bytes were read and no end was met.
+pub fn run<R: Threads + Wait + Sync, D: Disk, A: Annals, S: Source, K: Sink, G: Gate>(
+    _rt: &R,
+    alloc: Global,
+    words: &[String],
+    source: &mut S,
+    sink: &mut K,
+    disk: D,
+    annals: A,
+    gate: &mut G,
+) -> Done<D, A>
+    ensures promises { let before : World = record {
+      storage = record { disk = D.told disk; clock = D.clock disk; failed = D.failed disk; annals = A.told annals };
+      source = S.left source.old;
+      source_failed = S.failed source.old;
+      sink = K.written sink.old;
+      sink_failed = K.failed sink.old;
+    } in
+        let after : World = record {
+          storage = record { disk = D.told result.disk; clock = D.clock result.disk; failed = D.failed result.disk; annals = A.told result.annals };
+          source = S.left source.new;
+          source_failed = S.failed source.new;
+          sink = K.written sink.new;
+          sink_failed = K.failed sink.new;
+        } in
+        Promises words.now before result.status after }
+    ensures untouched { (result.status ≡ 2) ⊎ (D.failed disk ≡ 2 ^ 64 - 1)
+        → (source.new ≡ source.old) × (sink.new ≡ sink.old) × (result.disk ≡ disk) × (result.annals ≡ annals) }
+{
+    run_alone(alloc, words, source, sink, disk, annals, gate)
 }

@@ -1,10 +1,10 @@
 use Rattle.std.proofs.lemmas.Result.{IfOk-weaker}
-use Rattle.std.proofs.Common.{◌≡◌, IfOk, ◌∷◌, ◌++◌, [], Err, Ok, sym, ap, ◌∙◌, subst}
+use Rattle.std.proofs.Common.{◌≡◌, IfOk, Err, Ok, inl, refl, sym, ap, ◌∙◌, subst}
 use Rattle.mt_model.specs.declared.refusal.Refusal.{Refusal}
 use Rattle.mt_model.specs.Refusals.{is_damage, refusal_line, refusal_of_cause}
 use Rattle.command_turn.specs.Answers.{Answers}
-use Rattle.mt_program.specs.Serving.{Item}
-use Rattle.root_store.specs.Crashes.{KeepsThroughCrashes}
+use Rattle.mt_program.specs.Courses.{Item}
+use Rattle.command_turn.specs.Gains.{Gains}
 use Rattle.command_turn.proofs.Accepting.{accepts_nothing, answers_line, kept_same, root_is}
 use Rattle.mt_program.proofs.Selecting.{selected_answers}
 use Rattle.reply_lines.proofs.Refusing.{text_refused}
@@ -39,16 +39,25 @@ returns-in-Err-clause-answers g c = λ kept is tells stands.
 
 -- what a crash leaves
 pub returns-in-Ok-Create-clause-through_crashes : goal.returns-in-Ok-Create-clause-through_crashes
-returns-in-Ok-Create-clause-through_crashes g c = λ ran first start tells was keeps.
-    let is = c.in-Ok-Create.is ∙ ap Ok c.in-Ok-Create.field-0-is in
-    subst (λ (s : Item). KeepsThroughCrashes g.D.Arm.Dir.Dir.files (ran ++ s ∷ []) c.create.new.store (g.D.Disk.failed c.create.new.disk) (g.D.Disk.told c.create.new.disk) (g.D.Disk.clock c.create.new.disk) (g.A.Annals.told c.create.new.annals) first start) (sym is)
-    (c.create.ensures.through_crashes ran first start tells was (subst (λ (s : Item). KeepsThroughCrashes g.D.Arm.Dir.Dir.files (ran ++ s ∷ []) c.args.store.now (g.D.Disk.failed c.args.disk.now) (g.D.Disk.told c.args.disk.now) (g.D.Disk.clock c.args.disk.now) (g.A.Annals.told c.args.annals.now) first start) is keeps))
+returns-in-Ok-Create-clause-through_crashes g c = λ first start tells keeps. c.create.ensures.through_crashes first start tells keeps
 
 pub returns-in-Ok-Insert-clause-through_crashes : goal.returns-in-Ok-Insert-clause-through_crashes
-returns-in-Ok-Insert-clause-through_crashes g c = λ ran first start tells was keeps.
-    let is = c.in-Ok-Insert.is ∙ ap Ok c.in-Ok-Insert.field-0-is in
-    subst (λ (s : Item). KeepsThroughCrashes g.D.Arm.Dir.Dir.files (ran ++ s ∷ []) c.insert.new.store (g.D.Disk.failed c.insert.new.disk) (g.D.Disk.told c.insert.new.disk) (g.D.Disk.clock c.insert.new.disk) (g.A.Annals.told c.insert.new.annals) first start) (sym is)
-    (c.insert.ensures.through_crashes ran first start tells was (subst (λ (s : Item). KeepsThroughCrashes g.D.Arm.Dir.Dir.files (ran ++ s ∷ []) c.args.store.now (g.D.Disk.failed c.args.disk.now) (g.D.Disk.told c.args.disk.now) (g.D.Disk.clock c.args.disk.now) (g.A.Annals.told c.args.annals.now) first start) is keeps))
+returns-in-Ok-Insert-clause-through_crashes g c = λ first start tells keeps. c.insert.ensures.through_crashes first start tells keeps
+
+-- what is known of annals
+pub returns-in-Ok-Create-clause-gains : goal.returns-in-Ok-Create-clause-gains
+returns-in-Ok-Create-clause-gains g c =
+    subst (λ (s : Item). Gains s (g.D.Disk.failed c.args.disk.now) c.args.store.now (g.A.Annals.told c.args.annals.now) (g.A.Annals.told c.create.new.annals)) (sym (c.in-Ok-Create.is ∙ ap Ok c.in-Ok-Create.field-0-is)) c.create.ensures.gains
+
+pub returns-in-Ok-Insert-clause-gains : goal.returns-in-Ok-Insert-clause-gains
+returns-in-Ok-Insert-clause-gains g c =
+    subst (λ (s : Item). Gains s (g.D.Disk.failed c.args.disk.now) c.args.store.now (g.A.Annals.told c.args.annals.now) (g.A.Annals.told c.insert.new.annals)) (sym (c.in-Ok-Insert.is ∙ ap Ok c.in-Ok-Insert.field-0-is)) c.insert.ensures.gains
+
+pub returns-in-Ok-Select-clause-gains : goal.returns-in-Ok-Select-clause-gains
+returns-in-Ok-Select-clause-gains g c = inl refl
+
+pub returns-in-Err-clause-gains : goal.returns-in-Err-clause-gains
+returns-in-Err-clause-gains g c = inl refl
 
 -- the reply does not tell of damage
 pub returns-in-Err-clause-undamaged : goal.returns-in-Err-clause-undamaged

@@ -1,7 +1,7 @@
 use Rattle.std.proofs.Common.{◌∙◌, ◌∷◌, ◌++◌, [], refl, sym, subst, arith, ◌+◌, drop}
 use Rattle.mt_values.specs.Script.{statements_of}
 use Rattle.mt_program.proofs.ServedScripts.{served_none, served_all, served_so_far, served_unanswered, served_more, served_cut, no_statement, nothing_left, one_statement, is_written, Found, Used, used_within}
-use Rattle.root_commits.proofs.CrashDone.{keeps_more}
+use Rattle.mt_program.proofs.Gaining.{gained_one}
 use Rattle.mt_program.proofs.Crashing.{left_behind, one_more}
 use Rattle.command_turn.specs.Answers.{Accepts}
 use Rattle.mt_program.specs.Serving.{Served}
@@ -18,7 +18,7 @@ statements-init g c = record {
       (g.A.Annals.told c.args.annals.now) (g.D.Disk.told c.args.disk.now) (g.K.Sink.written c.args.sink.now) is c.none-tally.ensures.refused c.none-tally.ensures.damaged stands settled;
   held = λ tells held. held;
   undamaged = λ tells held. c.none-tally.ensures.damaged;
-  keeps = λ first start tells keeps. ([], refl, keeps);
+  keeps = λ first start tells keeps gained. ([], refl, keeps, gained);
   within = omega arith;
   disk_later = omega arith;
   arm_later = omega arith;
@@ -98,13 +98,14 @@ statements-preserved g c = record {
   undamaged = λ tells held.
       let reply = c.in-Ok.ensures.undamaged (c.statements.invariant.held tells held) in
       tallied_undamaged c.statements.tally c.in-Ok.reply.items c.in-Ok-write_reply.told (rw c.deref.ensures.value at c.in-Ok-write_reply.ensures.tally) (c.statements.invariant.undamaged tells held) reply;
-  keeps = λ first start tells keeps.
+  keeps = λ first start tells keeps gained.
       let found = subst (λ o. Found c.args.script.now c.statements.at o) c.in-Ok-Some.field-0-is c.in-Ok-Some.ensures.found in
       let left = one_statement c.args.script.now c.statements.at c.in-Ok-Some.found.1 c.in-Ok-Some.found.0 found in
-      let was = c.statements.invariant.keeps first start tells keeps in (
+      let was = c.statements.invariant.keeps first start tells keeps gained in (
         was.0 ++ c.in-Ok-Some.found.0 ∷ [],
         one_more c.args.script.now was.0 _ c.in-Ok-Some.found.0 _ was.1 left,
-        c.in-Ok.ensures.through_crashes was.0 first start (c.statements.invariant.tells ∙ tells) was.2 (keeps_more was.0 (c.in-Ok-Some.found.0 ∷ []) was.2),
+        c.in-Ok.ensures.through_crashes first start (c.statements.invariant.tells ∙ tells) was.2,
+        gained_one g.D.Arm.Dir.Dir.files was.0 c.in-Ok-Some.found.0 (g.D.Disk.failed c.statements.disk) c.statements.store (g.A.Annals.told c.statements.annals) (g.A.Annals.told c.answer.new.annals) first was.3 (λ still. (was.2.calm still).1) c.in-Ok.ensures.gains,
       );
   within = used_within c.args.script.now c.statements.at c.in-Ok-Some.found.1 c.statements.invariant.within (subst (λ o. Used c.args.script.now c.statements.at o) c.in-Ok-Some.field-0-is c.in-Ok-Some.ensures.used).1;
   disk_later = omega arith;
@@ -120,35 +121,37 @@ returns-clause-run g c = λ kept is tells stands settled.
 
 -- what a crash leaves
 pub returns-in-Ok-None-clause-through_crashes : goal.returns-in-Ok-None-clause-through_crashes
-returns-in-Ok-None-clause-through_crashes g c = λ first start tells keeps.
-    let was = c.statements.invariant.keeps first start tells keeps in
-    left_behind (statements_of c.args.script.now) (statements_of (drop c.statements.at c.args.script.now)) was.1 c.statements.invariant.opened was.2
+returns-in-Ok-None-clause-through_crashes g c = λ first start tells keeps gained.
+    let was = c.statements.invariant.keeps first start tells keeps gained in
+    left_behind c.args.store.now.opened (statements_of c.args.script.now) was.0 (statements_of (drop c.statements.at c.args.script.now)) was.1 c.statements.invariant.opened was.2 was.3
 
 pub returns-in-Err-clause-through_crashes : goal.returns-in-Err-clause-through_crashes
-returns-in-Err-clause-through_crashes g c = λ first start tells keeps.
-    let was = c.statements.invariant.keeps first start tells keeps in
-    left_behind (statements_of c.args.script.now) (statements_of (drop c.statements.at c.args.script.now)) was.1 c.statements.invariant.opened was.2
+returns-in-Err-clause-through_crashes g c = λ first start tells keeps gained.
+    let was = c.statements.invariant.keeps first start tells keeps gained in
+    left_behind c.args.store.now.opened (statements_of c.args.script.now) was.0 (statements_of (drop c.statements.at c.args.script.now)) was.1 c.statements.invariant.opened was.2 was.3
 
 pub returns-in-Err-answer-clause-through_crashes : goal.returns-in-Err-answer-clause-through_crashes
-returns-in-Err-answer-clause-through_crashes g c = λ first start tells keeps.
+returns-in-Err-answer-clause-through_crashes g c = λ first start tells keeps gained.
     let found = subst (λ o. Found c.args.script.now c.statements.at o) c.in-Ok-Some.field-0-is c.in-Ok-Some.ensures.found in
     let left = one_statement c.args.script.now c.statements.at c.in-Ok-Some.found.1 c.in-Ok-Some.found.0 found in
-    let was = c.statements.invariant.keeps first start tells keeps in
-    left_behind (statements_of c.args.script.now) (statements_of (drop (c.statements.at + c.in-Ok-Some.found.1) c.args.script.now)) (one_more c.args.script.now was.0 _ c.in-Ok-Some.found.0 _ was.1 left)
-    (c.in-Err-answer.ensures.opened ∙ c.statements.invariant.opened) (c.in-Err-answer.ensures.through_crashes was.0 first start (c.statements.invariant.tells ∙ tells) was.2 (keeps_more was.0 (c.in-Ok-Some.found.0 ∷ []) was.2))
+    let was = c.statements.invariant.keeps first start tells keeps gained in
+    left_behind c.args.store.now.opened (statements_of c.args.script.now) (was.0 ++ c.in-Ok-Some.found.0 ∷ []) (statements_of (drop (c.statements.at + c.in-Ok-Some.found.1) c.args.script.now))
+    (one_more c.args.script.now was.0 _ c.in-Ok-Some.found.0 _ was.1 left) (c.in-Err-answer.ensures.opened ∙ c.statements.invariant.opened) (c.in-Err-answer.ensures.through_crashes first start (c.statements.invariant.tells ∙ tells) was.2)
+    (gained_one g.D.Arm.Dir.Dir.files was.0 c.in-Ok-Some.found.0 (g.D.Disk.failed c.statements.disk) c.statements.store (g.A.Annals.told c.statements.annals) (g.A.Annals.told c.answer.new.annals) first was.3 (λ still. (was.2.calm still).1) c.in-Err-answer.ensures.gains)
 
 pub returns-in-Err-write_reply-clause-through_crashes : goal.returns-in-Err-write_reply-clause-through_crashes
-returns-in-Err-write_reply-clause-through_crashes g c = λ first start tells keeps.
+returns-in-Err-write_reply-clause-through_crashes g c = λ first start tells keeps gained.
     let found = subst (λ o. Found c.args.script.now c.statements.at o) c.in-Ok-Some.field-0-is c.in-Ok-Some.ensures.found in
     let left = one_statement c.args.script.now c.statements.at c.in-Ok-Some.found.1 c.in-Ok-Some.found.0 found in
-    let was = c.statements.invariant.keeps first start tells keeps in
-    left_behind (statements_of c.args.script.now) (statements_of (drop (c.statements.at + c.in-Ok-Some.found.1) c.args.script.now)) (one_more c.args.script.now was.0 _ c.in-Ok-Some.found.0 _ was.1 left)
-    (c.in-Ok.ensures.opened ∙ c.statements.invariant.opened) (c.in-Ok.ensures.through_crashes was.0 first start (c.statements.invariant.tells ∙ tells) was.2 (keeps_more was.0 (c.in-Ok-Some.found.0 ∷ []) was.2))
+    let was = c.statements.invariant.keeps first start tells keeps gained in
+    left_behind c.args.store.now.opened (statements_of c.args.script.now) (was.0 ++ c.in-Ok-Some.found.0 ∷ []) (statements_of (drop (c.statements.at + c.in-Ok-Some.found.1) c.args.script.now))
+    (one_more c.args.script.now was.0 _ c.in-Ok-Some.found.0 _ was.1 left) (c.in-Ok.ensures.opened ∙ c.statements.invariant.opened) (c.in-Ok.ensures.through_crashes first start (c.statements.invariant.tells ∙ tells) was.2)
+    (gained_one g.D.Arm.Dir.Dir.files was.0 c.in-Ok-Some.found.0 (g.D.Disk.failed c.statements.disk) c.statements.store (g.A.Annals.told c.statements.annals) (g.A.Annals.told c.answer.new.annals) first was.3 (λ still. (was.2.calm still).1) c.in-Ok.ensures.gains)
 
 pub returns-clause-through_crashes : goal.returns-clause-through_crashes
-returns-clause-through_crashes g c = λ first start tells keeps.
-    let was = c.statements.invariant.keeps first start tells keeps in
-    left_behind (statements_of c.args.script.now) (statements_of (drop c.statements.at c.args.script.now)) was.1 c.statements.invariant.opened was.2
+returns-clause-through_crashes g c = λ first start tells keeps gained.
+    let was = c.statements.invariant.keeps first start tells keeps gained in
+    left_behind c.args.store.now.opened (statements_of c.args.script.now) was.0 (statements_of (drop c.statements.at c.args.script.now)) was.1 c.statements.invariant.opened was.2 was.3
 
 -- no reply told of damage
 pub returns-in-Ok-None-clause-undamaged : goal.returns-in-Ok-None-clause-undamaged

@@ -3,8 +3,10 @@ use Rattle.std.proofs.Common.{◌≡◌, ◌++◌, [], List, ◌≤◌, ◌-◌,
 use Rattle.mt_values.specs.Annals.{Told}
 use Rattle.mt_values.specs.Script.{statements_of}
 use Rattle.reply_lines.specs.Foreseen.{history}
-use Rattle.mt_program.specs.Serving.{Item, Served}
-use Rattle.root_store.specs.Crashes.{KeepsThroughCrashes}
+use Rattle.mt_program.specs.Courses.{Item}
+use Rattle.mt_program.specs.Serving.{Served}
+use Rattle.mt_program.specs.Crashes.{IsGainedBy}
+use Rattle.root_store.specs.Crashes.{KeepsThroughCrashes, Outside}
 use Rattle.root_store.specs.Soundness.{HasSoundParts, IsSound, NamesFitUnlessRisen, RootStands}
 use Rattle.root_store.specs.Stores.{CoreStands}
 use Rattle.mt_program.proofs.serving.serve.Given as goal
@@ -16,6 +18,8 @@ invariant-statements g l =
     let written = g.K.Sink.written in
     let faults = g.D.Disk.failed in
     let arm_faults = g.D.Arm.Arm.failed in
+    let was : Outside = record { disk = g.D.Disk.told l.initial.disk; clock = g.D.Disk.clock l.initial.disk; failed = faults l.initial.disk; annals = told l.initial.annals } in
+    let now : Outside = record { disk = g.D.Disk.told l.disk; clock = g.D.Disk.clock l.disk; failed = faults l.disk; annals = told l.annals } in
     record {
       names : NamesFitUnlessRisen (faults l.disk) (g.D.Disk.told l.disk) l.store;
       sound : IsSound l.store;
@@ -25,10 +29,8 @@ invariant-statements g l =
           → Served files kept l.script l.initial.store.opened (faults l.disk) (arm_faults l.arm) l.at l.tally l.store (told l.annals) (g.D.Disk.told l.disk) (written l.initial.sink) (written l.sink);
       held : g.D.Arm.Arm.tells l.initial.arm ≡ true → HasSoundParts files l.initial.store → HasSoundParts files l.store;
       undamaged : g.D.Arm.Arm.tells l.initial.arm ≡ true → HasSoundParts files l.initial.store → l.tally.damaged ≡ false;
-      keeps : (first : Told) (start : ℕ) → g.D.Arm.Arm.tells l.initial.arm ≡ true
-          → KeepsThroughCrashes files [] l.initial.store (faults l.initial.disk) (g.D.Disk.told l.initial.disk) (g.D.Disk.clock l.initial.disk) (told l.initial.annals) first start
-          → (ran : List Item) × (statements_of l.script ≡ ran ++ statements_of (drop l.at l.script))
-          × KeepsThroughCrashes files ran l.store (faults l.disk) (g.D.Disk.told l.disk) (g.D.Disk.clock l.disk) (told l.annals) first start;
+      keeps : (first : Told) (start : ℕ) → g.D.Arm.Arm.tells l.initial.arm ≡ true → KeepsThroughCrashes files l.initial.store was first start → IsGainedBy [] was.annals first
+          → (ran : List Item) × (statements_of l.script ≡ ran ++ statements_of (drop l.at l.script)) × KeepsThroughCrashes files l.store now first start × IsGainedBy ran now.annals first;
       within : l.at ≤ length l.script;
       disk_later : faults l.initial.disk ≤ faults l.disk;
       arm_later : arm_faults l.initial.arm ≤ arm_faults l.arm;

@@ -7,47 +7,63 @@ use Rattle.mt_outside.specs.Disk as root
 use Rattle.reply_lines.specs.Foreseen.{Foresees, history}
 use Rattle.mt_program.specs.Damage.{WritesDamage, damage_line}
 use Rattle.mt_program.specs.Endings.{IsAnswered}
-use Rattle.mt_program.specs.Headline.{Leaves, RunBy}
+use Rattle.mt_program.specs.Headline.{Headline, NothingRan}
+use Rattle.mt_program.specs.Worlds.{World}
 use Rattle.exit_status.specs.declared.status.Status.{Status}
 use Rattle.exit_status.specs.declared.status.Status.TheVariants as status
 use Rattle.reply_lines.proofs.Counting.{risen_back, some_rose}
-use Rattle.root_store.specs.Crashes.{AllStand}
+use Rattle.root_store.specs.Crashes.{AllStand, Outside}
 use Rattle.root_store.proofs.CrashMarks.{safe_at_start, safe_opened}
 use Rattle.mt_program.specs.Crashes.{LeavesOfScript}
 use Rattle.mt_program.proofs.Crashing.{left_moved, nothing_of_script}
-use Rattle.mt_program.proofs.Heading.{answered_calm, answered_served, disk_fault, early_leaves, ended_early, error_early, error_undamaged, leaves_all, not_damaged, not_words, read_fault, root_told, too_long, write_fault}
+use Rattle.mt_program.proofs.Heading.{answered_calm, answered_served, by_status, disk_fault, early_not_told, early_same, ended_early, error_early, error_undamaged, failed_is, leaves_all, none_answered, none_ran, not_damaged, not_words, read_fault, root_told, too_long, write_fault}
 use Rattle.mt_program.proofs.Undamaged.{met_damage}
 use Rattle.mt_program.proofs.top.run_opened.Goals as goal
 
 -- the count of faults can't rise
-pub returns-then-opened-clause-leaves : goal.returns-then-opened-clause-leaves
-returns-then-opened-clause-leaves g c = λ kept names script before told is stands left written.
-    let n : Counts = record { opened = g.D.Disk.failed c.args.disk.now; ended = g.D.Disk.failed c.args.disk.now } in
-    let now = g.D.Disk.told c.args.disk.now in
-    early_leaves n kept script before (g.A.Annals.told c.args.annals.now) (g.K.Sink.written c.args.sink.now) now stands.legal told written (root_told now names (history kept) is stands) status.DiskFault tt (λ bad. cc)
+pub returns-then-opened-clause-headline : goal.returns-then-opened-clause-headline
+returns-then-opened-clause-headline g c = λ kept script written starts. early_same _ _ kept script written starts (refl, refl, refl, refl) status.DiskFault tt (λ bad. cc)
 
 -- the disk was not started
-pub returns-in-Err-clause-leaves : goal.returns-in-Err-clause-leaves
-returns-in-Err-clause-leaves g c = λ kept names script before told is stands left written.
-    let n : Counts = record { opened = g.D.Disk.failed c.args.disk.now; ended = g.D.Disk.failed c.start.new.self } in
-    let now = g.D.Disk.told c.start.new.self in
-    subst (λ s. Leaves (RunBy s now n) kept script before (g.A.Annals.told c.args.annals.now) (g.K.Sink.written c.args.sink.now)) (sym c.failed_opening.ensures)
-    (early_leaves n kept script before (g.A.Annals.told c.args.annals.now) (g.K.Sink.written c.args.sink.now) now stands.legal told written (root_told now names (history kept) (c.start.ensures.told ∙ is) stands) _
-    (error_early c.in-Err.error) (error_undamaged c.in-Err.error))
+pub returns-in-Err-clause-headline : goal.returns-in-Err-clause-headline
+returns-in-Err-clause-headline g c = λ kept script written starts.
+    by_status c.failed_opening.ensures
+    (early_same _ _ kept script written starts (c.start.ensures.told, refl, refl, refl) _ (error_early c.in-Err.error) (error_undamaged c.in-Err.error))
 
 -- no arm was made
-pub returns-in-Err-arm-clause-leaves : goal.returns-in-Err-arm-clause-leaves
-returns-in-Err-arm-clause-leaves g c = λ kept names script before told is stands left written.
-    let n : Counts = record { opened = g.D.Disk.failed c.args.disk.now; ended = g.D.Disk.failed c.arm.new.self } in
-    let now = g.D.Disk.told c.arm.new.self in
-    subst (λ s. Leaves (RunBy s now n) kept script before (g.A.Annals.told c.args.annals.now) (g.K.Sink.written c.args.sink.now)) (sym c.failed_opening-in-Err-arm.ensures)
-    (early_leaves n kept script before (g.A.Annals.told c.args.annals.now) (g.K.Sink.written c.args.sink.now) now stands.legal told written
-    (root_told now names (history kept) (c.in-Err-arm.ensures.told ∙ (c.start.ensures.told ∙ is)) stands) _ (error_early c.in-Err-arm.error) (error_undamaged c.in-Err-arm.error))
+pub returns-in-Err-arm-clause-headline : goal.returns-in-Err-arm-clause-headline
+returns-in-Err-arm-clause-headline g c = λ kept script written starts.
+    by_status c.failed_opening-in-Err-arm.ensures
+    (early_same _ _ kept script written starts (c.in-Err-arm.ensures.told ∙ c.start.ensures.told, refl, refl, refl) _ (error_early c.in-Err-arm.error) (error_undamaged c.in-Err-arm.error))
 
-pub returns-clause-leaves : goal.returns-clause-leaves
-returns-clause-leaves g c = λ kept names script before told is stands left written.
-    let here = c.in-Ok.ensures.told ∙ (c.start.ensures.told ∙ is) in
-    let tells = c.in-Ok.ensures.tells ∙ ap is_some (c.start.ensures.told ∙ is) in
+pub returns-clause-headline : goal.returns-clause-headline
+returns-clause-headline g c = λ kept script written starts.
+    let here = c.in-Ok.ensures.told ∙ (c.start.ensures.told ∙ starts.disk_is) in
+    let tells = c.in-Ok.ensures.tells ∙ ap is_some (c.start.ensures.told ∙ starts.disk_is) in
+    let before : World = record {
+      storage = record {
+        disk = g.D.Disk.told c.args.disk.now;
+        clock = g.D.Disk.clock c.args.disk.now;
+        failed = g.D.Disk.failed c.args.disk.now;
+        annals = g.A.Annals.told c.args.annals.now;
+      };
+      source = g.S.Source.left c.args.source.now;
+      source_failed = g.S.Source.failed c.args.source.now;
+      sink = g.K.Sink.written c.args.sink.now;
+      sink_failed = g.K.Sink.failed c.args.sink.now;
+    } in
+    let after : Option root.Told → World = λ root. record {
+      storage = record {
+        disk = root;
+        clock = g.D.Disk.clock c.take_back.new.self;
+        failed = g.D.Disk.failed c.take_back.new.self;
+        annals = g.A.Annals.told c.run_root-ended.new.annals;
+      };
+      source = g.S.Source.left c.run_root-ended.new.source;
+      source_failed = g.S.Source.failed c.run_root-ended.new.source;
+      sink = g.K.Sink.written c.run_root-ended.new.sink;
+      sink_failed = g.K.Sink.failed c.run_root-ended.new.sink;
+    } in
     let n : Counts = record { opened = g.D.Disk.failed c.args.disk.now; ended = g.D.Disk.failed c.take_back.new.self } in
     let disk = g.D.Disk.failed c.run_root-ended.new.disk in
     let arm = g.D.Arm.Arm.failed c.run_root-ended.new.arm in
@@ -61,13 +77,21 @@ returns-clause-leaves g c = λ kept names script before told is stands left writ
     } in
     let was = g.D.Disk.told c.arm.new.self in
     let ran = g.D.Disk.told c.run_root-ended.new.disk in
-    let told_now = g.A.Annals.told c.run_root-ended.new.annals in
-    let out = g.K.Sink.written c.run_root-ended.new.sink in
-    subst (λ (o : Option root.Told). Leaves (RunBy c.status_at_end.result o n) kept script before told_now out) (sym c.take_back.ensures.told)
-    (subst (λ s. Leaves (RunBy s ran n) kept script before told_now out) (sym c.status_at_end.ensures)
-    (leaves_all n kept script before c.faults-opened.result disk arm f told_now was ran (g.K.Sink.written c.args.sink.now) out written
-    (nat_lt c.faults-opened.result c.faults.result) c.run_root-ended.result stands.legal (root_told was names (history kept) here stands) (c.run_root-ended.ensures.sound kept names told here stands tells) c.run_root-ended.ensures.early
-    (c.run_root-ended.ensures.leaves kept names script told here stands tells left)))
+    let left = c.run_root-ended.ensures.leaves kept starts.told script starts.annals_is here starts.stands tells starts.source_is in
+    let same : c.run_root-ended.result ≡ Err status.DiskFault → NothingRan before (after ran) none_answered = λ fault.
+    let not = early_not_told c.run_root-ended.result kept script c.faults-opened.result disk arm (g.A.Annals.told c.run_root-ended.new.annals) was ran (g.K.Sink.written c.args.sink.now) (g.K.Sink.written c.run_root-ended.new.sink) fault left in
+    none_ran before (after ran) (
+      not.2 ∙ (c.in-Ok.ensures.told ∙ c.start.ensures.told),
+      not.0 ∙ sym starts.annals_is,
+      ap g.S.Source.left (c.run_root-ended.ensures.unread (failed_is c.run_root-ended.result fault)),
+      not.1,
+    ) in
+    subst (λ (o : Option root.Told). Headline c.status_at_end.result before (after o) kept script written) (sym c.take_back.ensures.told)
+    (by_status c.status_at_end.ensures
+    (leaves_all before (after ran) kept script written c.faults-opened.result disk arm f starts.sink_is was
+    (nat_lt c.faults-opened.result c.faults.result) c.run_root-ended.result starts.stands.legal (root_told was starts.told (history kept) here starts.stands)
+    (c.run_root-ended.ensures.sound kept starts.told starts.annals_is here starts.stands tells) c.run_root-ended.ensures.early
+    (c.run_root-ended.ensures.whole script starts.source_is) same left))
 
 pub returns-clause-opening : goal.returns-clause-opening
 returns-clause-opening g c = λ names damage is damaged.
@@ -149,16 +173,21 @@ returns-clause-calm g c = λ done.
 
 -- what a crash leaves
 pub returns-then-opened-clause-crashes : goal.returns-then-opened-clause-crashes
-returns-then-opened-clause-crashes g c = λ kept told is known all. nothing_of_script told kept _ _ _ _ known is (safe_at_start told (g.D.Disk.clock c.args.disk.now) kept.list all) (g.S.Source.left c.args.source.now) _ _
+returns-then-opened-clause-crashes g c = λ kept told is known all.
+    let now : Outside = record { disk = g.D.Disk.told c.args.disk.now; clock = g.D.Disk.clock c.args.disk.now; failed = g.D.Disk.failed c.args.disk.now; annals = g.A.Annals.told c.args.annals.now } in
+    nothing_of_script told kept now _ known is (safe_at_start told (g.D.Disk.clock c.args.disk.now) kept.list all) (g.S.Source.left c.args.source.now) _
 
 pub returns-in-Err-clause-crashes : goal.returns-in-Err-clause-crashes
 returns-in-Err-clause-crashes g c = λ kept told is known all.
-    nothing_of_script told kept _ _ _ _ (c.start.ensures.told ∙ known) is (safe_opened told (g.D.Disk.clock c.args.disk.now) (g.D.Disk.clock c.start.new.self) kept.list all (inl c.start.ensures.clock)) (g.S.Source.left c.args.source.now) _ _
+    let now : Outside = record { disk = g.D.Disk.told c.start.new.self; clock = g.D.Disk.clock c.start.new.self; failed = g.D.Disk.failed c.start.new.self; annals = g.A.Annals.told c.args.annals.now } in
+    nothing_of_script told kept now _ (c.start.ensures.told ∙ known) is
+    (safe_opened told (g.D.Disk.clock c.args.disk.now) (g.D.Disk.clock c.start.new.self) kept.list all (inl c.start.ensures.clock)) (g.S.Source.left c.args.source.now) _
 
 pub returns-in-Err-arm-clause-crashes : goal.returns-in-Err-arm-clause-crashes
 returns-in-Err-arm-clause-crashes g c = λ kept told is known all.
-    nothing_of_script told kept _ _ _ _ (c.in-Err-arm.ensures.told ∙ (c.start.ensures.told ∙ known)) is
-    (safe_opened told (g.D.Disk.clock c.args.disk.now) (g.D.Disk.clock c.arm.new.self) kept.list all (inl (c.in-Err-arm.ensures.clock ∙ c.start.ensures.clock))) (g.S.Source.left c.args.source.now) _ _
+    let now : Outside = record { disk = g.D.Disk.told c.arm.new.self; clock = g.D.Disk.clock c.arm.new.self; failed = g.D.Disk.failed c.arm.new.self; annals = g.A.Annals.told c.args.annals.now } in
+    nothing_of_script told kept now _ (c.in-Err-arm.ensures.told ∙ (c.start.ensures.told ∙ known)) is
+    (safe_opened told (g.D.Disk.clock c.args.disk.now) (g.D.Disk.clock c.arm.new.self) kept.list all (inl (c.in-Err-arm.ensures.clock ∙ c.start.ensures.clock))) (g.S.Source.left c.args.source.now) _
 
 pub returns-clause-crashes : goal.returns-clause-crashes
 returns-clause-crashes g c = λ kept told is known all.
@@ -166,15 +195,15 @@ returns-clause-crashes g c = λ kept told is known all.
     let tells = c.in-Ok.ensures.tells ∙ ap is_some (c.start.ensures.told ∙ known) in
     let mark : g.D.Disk.clock c.arm.new.self ≡ g.D.Disk.clock c.args.disk.now = c.in-Ok.ensures.clock ∙ c.start.ensures.clock in
     let left = c.run_root-ended.ensures.crashes kept told is here tells (subst (λ m. AllStand told m (history kept)) (sym mark) all) in
-    let disk = c.run_root-ended.new.disk in
-    let annals = g.A.Annals.told c.run_root-ended.new.annals in
-    let from_start = subst (λ m. LeavesOfScript (g.S.Source.left c.args.source.now) c.faults-opened.result (g.D.Disk.failed disk) (g.D.Disk.told disk) (g.D.Disk.clock disk) annals kept m) mark left in
-    let from_opened = subst (λ m. LeavesOfScript (g.S.Source.left c.args.source.now) m (g.D.Disk.failed disk) (g.D.Disk.told disk) (g.D.Disk.clock disk) annals kept (g.D.Disk.clock c.args.disk.now)) c.faults-opened.ensures from_start in
+    let ran : Outside = record { disk = g.D.Disk.told c.run_root-ended.new.disk; clock = g.D.Disk.clock c.run_root-ended.new.disk; failed = g.D.Disk.failed c.run_root-ended.new.disk; annals = g.A.Annals.told c.run_root-ended.new.annals } in
+    let now : Outside = record { disk = g.D.Disk.told c.take_back.new.self; clock = g.D.Disk.clock c.take_back.new.self; failed = g.D.Disk.failed c.take_back.new.self; annals = g.A.Annals.told c.run_root-ended.new.annals } in
+    let from_start = subst (λ m. LeavesOfScript (g.S.Source.left c.args.source.now) c.faults-opened.result ran kept m) mark left in
+    let from_opened = subst (λ m. LeavesOfScript (g.S.Source.left c.args.source.now) m ran kept (g.D.Disk.clock c.args.disk.now)) c.faults-opened.ensures from_start in
     let start_later = c.start.ensures.cause.later in
     let arm_later = c.in-Ok.ensures.cause.later in
     let root_later = c.run_root-ended.ensures.disk_later in
     let back_later = c.take_back.ensures.later in
-    left_moved c.take_back.ensures.told c.take_back.ensures.clock (λ same. omega (arith, same, start_later, arm_later, root_later, back_later)) from_opened
+    left_moved ran now c.take_back.ensures.told c.take_back.ensures.clock refl (λ same. omega (arith, same, start_later, arm_later, root_later, back_later)) from_opened
 
 -- what a crash leaves once the names that were read are settled
 pub returns-then-opened-clause-settles : goal.returns-then-opened-clause-settles
@@ -192,17 +221,16 @@ returns-clause-settles g c = λ kept told is known some all.
     let tells = c.in-Ok.ensures.tells ∙ ap is_some (c.start.ensures.told ∙ known) in
     let mark : g.D.Disk.clock c.arm.new.self ≡ g.D.Disk.clock c.args.disk.now = c.in-Ok.ensures.clock ∙ c.start.ensures.clock in
     let left = c.run_root-ended.ensures.settles kept told is here tells some (subst (λ m. AllStand told (m + 1) (history kept)) (sym mark) all) in
-    let disk = c.run_root-ended.new.disk in
-    let annals = g.A.Annals.told c.run_root-ended.new.annals in
-    let out = g.K.Sink.written c.run_root-ended.new.sink in
+    let ran : Outside = record { disk = g.D.Disk.told c.run_root-ended.new.disk; clock = g.D.Disk.clock c.run_root-ended.new.disk; failed = g.D.Disk.failed c.run_root-ended.new.disk; annals = g.A.Annals.told c.run_root-ended.new.annals } in
+    let now : Outside = record { disk = g.D.Disk.told c.take_back.new.self; clock = g.D.Disk.clock c.take_back.new.self; failed = g.D.Disk.failed c.take_back.new.self; annals = g.A.Annals.told c.run_root-ended.new.annals } in
     elim left [
       | inl same ↦ inl (record { names = c.take_back.ensures.told ∙ (same.names ∙ (c.in-Ok.ensures.told ∙ c.start.ensures.told)); list = same.list; output = same.output })
       | inr leaves ↦ (
-          let from_start = subst (λ m. LeavesOfScript (g.S.Source.left c.args.source.now) c.faults-opened.result (g.D.Disk.failed disk) (g.D.Disk.told disk) (g.D.Disk.clock disk) annals kept (m + 1)) mark leaves in
-          let from_opened = subst (λ m. LeavesOfScript (g.S.Source.left c.args.source.now) m (g.D.Disk.failed disk) (g.D.Disk.told disk) (g.D.Disk.clock disk) annals kept (g.D.Disk.clock c.args.disk.now + 1)) c.faults-opened.ensures from_start in
+          let from_start = subst (λ m. LeavesOfScript (g.S.Source.left c.args.source.now) c.faults-opened.result ran kept (m + 1)) mark leaves in
+          let from_opened = subst (λ m. LeavesOfScript (g.S.Source.left c.args.source.now) m ran kept (g.D.Disk.clock c.args.disk.now + 1)) c.faults-opened.ensures from_start in
           let start_later = c.start.ensures.cause.later in
           let arm_later = c.in-Ok.ensures.cause.later in
           let root_later = c.run_root-ended.ensures.disk_later in
           let back_later = c.take_back.ensures.later in
-          inr (left_moved c.take_back.ensures.told c.take_back.ensures.clock (λ same. omega arith) from_opened))
+          inr (left_moved ran now c.take_back.ensures.told c.take_back.ensures.clock refl (λ same. omega (arith, same, start_later, arm_later, root_later, back_later)) from_opened))
     ]

@@ -2,9 +2,10 @@ use Rattle.std.proofs.Common.{[], ◌∙◌, ◌+◌, ℕ, None, subst, refl, sy
 use Rattle.mt_outside.specs.Disk.{names_of}
 use Rattle.reply_lines.specs.Foreseen.{history}
 use Rattle.mt_program.specs.Endings.{LeftBy}
-use Rattle.root_store.specs.Crashes.{IsCrashSafe}
+use Rattle.root_store.specs.Crashes.{IsCrashSafe, Outside, none_begun}
 use Rattle.root_store.proofs.CrashMarks.{safe_at_start, stands_as_read}
 use Rattle.mt_program.proofs.Crashing.{keeps_opened, nothing_of_script}
+use Rattle.mt_program.proofs.Gaining.{gained_nothing}
 use Rattle.mt_program.proofs.Heading.{root_told, writes_damage, writes_nothing}
 use Rattle.mt_program.proofs.Reopened.{reopened, sound_reopened, stands_reopened}
 use Rattle.mt_program.proofs.Undamaged.{not_opened}
@@ -55,16 +56,17 @@ returns-clause-damaged g c = λ names is tells. inl (c.run_script.ensures.undama
 -- what a crash leaves
 pub returns-in-Err-clause-crashes : goal.returns-in-Err-clause-crashes
 returns-in-Err-clause-crashes g c = λ kept told is known tells all.
-    nothing_of_script told kept _ _ (g.D.Disk.clock c.args.disk.now) _ (c.in-Err.ensures.told ∙ known) is (c.in-Err.ensures.crashes told kept.list known all) (g.S.Source.left c.args.source.now) c.args.opened _
+    let now : Outside = record { disk = g.D.Disk.told c.open.new.disk; clock = g.D.Disk.clock c.open.new.disk; failed = g.D.Disk.failed c.open.new.disk; annals = g.A.Annals.told c.args.annals.now } in
+    nothing_of_script told kept now (g.D.Disk.clock c.args.disk.now) (c.in-Err.ensures.told ∙ known) is (c.in-Err.ensures.crashes told kept.list known all) (g.S.Source.left c.args.source.now) c.args.opened
 
 pub returns-clause-crashes : goal.returns-clause-crashes
 returns-clause-crashes g c = λ kept told is known tells all.
     let files = g.D.Arm.Dir.Dir.files in
     let start = g.D.Disk.clock c.args.disk.now in
     let core = stands_reopened c.in-Ok.store c.args.opened files (history kept) (c.in-Ok.ensures.stands told (history kept) known (stands_as_read told start (history kept) all)) in
-    let keeps = keeps_opened told kept (g.D.Disk.told c.open.new.disk) (g.D.Disk.clock c.open.new.disk) start (g.A.Annals.told c.args.annals.now) (c.in-Ok.ensures.told ∙ known) is (c.in-Ok.ensures.crashes told kept.list known all)
-    files (reopened c.in-Ok.store c.args.opened) (g.D.Disk.failed c.open.new.disk) core in
-    c.run_script.ensures.through_crashes kept start (c.in-Ok.ensures.tells ∙ tells) (keeps [])
+    let now : Outside = record { disk = g.D.Disk.told c.open.new.disk; clock = g.D.Disk.clock c.open.new.disk; failed = g.D.Disk.failed c.open.new.disk; annals = g.A.Annals.told c.args.annals.now } in
+    let keeps = keeps_opened told kept now start (c.in-Ok.ensures.told ∙ known) is (c.in-Ok.ensures.crashes told kept.list known all) files (reopened c.in-Ok.store c.args.opened) core in
+    c.run_script.ensures.through_crashes kept start (c.in-Ok.ensures.tells ∙ tells) keeps (gained_nothing (g.A.Annals.told c.args.annals.now) kept is)
 
 -- what a crash leaves once the names that were read are settled
 pub returns-in-Err-clause-settles : goal.returns-in-Err-clause-settles
@@ -82,7 +84,7 @@ returns-clause-settles g c = λ kept told is known tells some all.
     let files = g.D.Arm.Dir.Dir.files in
     let start = g.D.Disk.clock c.args.disk.now + 1 in
     let core = stands_reopened c.in-Ok.store c.args.opened files (history kept) (c.in-Ok.ensures.stands told (history kept) known (stands_as_read told start (history kept) all)) in
-    let safe = subst (λ (m : ℕ). IsCrashSafe told m kept.list None kept.list start) (sym (c.in-Ok.ensures.settled told known some)) (safe_at_start told start kept.list all) in
-    let keeps = keeps_opened told kept (g.D.Disk.told c.open.new.disk) (g.D.Disk.clock c.open.new.disk) start (g.A.Annals.told c.args.annals.now) (c.in-Ok.ensures.told ∙ known) is safe
-    files (reopened c.in-Ok.store c.args.opened) (g.D.Disk.failed c.open.new.disk) core in
-    inr (c.run_script.ensures.through_crashes kept start (c.in-Ok.ensures.tells ∙ tells) (keeps []))
+    let safe = subst (λ (m : ℕ). IsCrashSafe told m (none_begun kept.list) kept.list start) (sym (c.in-Ok.ensures.settled told known some)) (safe_at_start told start kept.list all) in
+    let now : Outside = record { disk = g.D.Disk.told c.open.new.disk; clock = g.D.Disk.clock c.open.new.disk; failed = g.D.Disk.failed c.open.new.disk; annals = g.A.Annals.told c.args.annals.now } in
+    let keeps = keeps_opened told kept now start (c.in-Ok.ensures.told ∙ known) is safe files (reopened c.in-Ok.store c.args.opened) core in
+    inr (c.run_script.ensures.through_crashes kept start (c.in-Ok.ensures.tells ∙ tells) keeps (gained_nothing (g.A.Annals.told c.args.annals.now) kept is))

@@ -36,13 +36,13 @@ returns-clause-whole g c = λ script left.
 
 -- what a crash leaves
 pub returns-in-Err-clause-through_crashes : goal.returns-in-Err-clause-through_crashes
-returns-in-Err-clause-through_crashes g c = λ first start tells keeps. unread (g.S.Source.left c.args.source.now) keeps
+returns-in-Err-clause-through_crashes g c = λ first start tells keeps gained. unread (g.S.Source.left c.args.source.now) keeps gained
 
 pub returns-clause-through_crashes : goal.returns-clause-through_crashes
-returns-clause-through_crashes g c = λ first start tells keeps.
+returns-clause-through_crashes g c = λ first start tells keeps gained.
     let all = c.in-Ok.ensures.all in
     record {
       text = c.deref.result.now;
       text_is = λ script left. c.deref.ensures.value ∙ all_read script c.in-Ok.text.items (g.S.Source.left c.args.source.now) (g.S.Source.left c.read_all.new.source) left all.0 all.1;
-      leaves = c.serve-ending.ensures.through_crashes first start tells keeps;
+      leaves = c.serve-ending.ensures.through_crashes first start tells keeps gained;
     }

@@ -1,0 +1,87 @@
+-- All that a run promises (docs/definitions.md, "Runs").
+use Rattle.std.specs.Prelude.{◌≡◌, ◌≢◌, ◌⊎◌, ◌↔◌, ◌+◌, ◌-◌, ◌<◌, ◌≤◌, ◌^◌, ℕ, List, [], length, String, true, false, Some}
+use Rattle.std.specs.declared.alloc.Global.{Global}
+use Rattle.mt_values.specs.Annals.{Told}
+use Rattle.mt_values.specs.Script.{statements_of}
+use Rattle.mt_outside.specs.Causes.{Rose}
+use Rattle.mt_outside.specs.Disk as root
+use Rattle.mt_model.specs.Causes.{NoneMeets}
+use Rattle.mt_model.specs.History.{History}
+use Rattle.root_opening.specs.declared.opening.Damage.{Damage}
+use Rattle.root_opening.specs.Opening.{IsRootDamage}
+use Rattle.root_store.specs.Crashes.{AllStand}
+use Rattle.root_store.specs.Roots.{Stands}
+use Rattle.reply_lines.specs.Foreseen.{history}
+use Rattle.run_streams.specs.Streams.{ConsumesMost}
+use Rattle.run_streams.specs.Words.{is_command}
+use Rattle.exit_status.specs.declared.status.Status.{Status}
+use Rattle.exit_status.specs.Statuses.{number_of}
+use Rattle.mt_program.specs.Crashes.{IsAsBefore, LeavesOfScript}
+use Rattle.mt_program.specs.Damage.{IsDamagedRoot, WritesDamage, damage_line}
+use Rattle.mt_program.specs.Headline.{HeadlineBy}
+use Rattle.mt_program.specs.Worlds.{Starts, World}
+
+-- no call of the disk, the source or the sink failed, as far as their counts show
+pub record NoCountRose (before after : World) : Type 0 where
+  pub disk : Rose before.storage.failed after.storage.failed → ⊥
+  pub source : Rose before.source_failed after.source_failed → ⊥
+  pub sink : Rose before.sink_failed after.sink_failed → ⊥
+
+-- Nothing that is handed in stands against a run: the words are a command line, the script is under the bound, and none of its statements, run
+-- from a place of the history on, each after the commands of those before it, meets a cause to be refused.
+pub record NothingRefuses (command : List (String Global)) (script : List ℕ) (h : History) (base : ℕ) : Type 0 where
+  pub words : is_command command ≡ true
+  pub short : length script < 2 ^ 40
+  pub causes : NoneMeets h base (statements_of script)
+
+-- where nothing stands against a run, and no count rose, it ends with 0, or for want of memory
+abbrev pub IsComplete : List (String Global) → World → ℕ → World → Type 0
+IsComplete words before status after =
+    (kept now : Told) (script written : List ℕ) → Starts before kept script written → after.storage.annals ≡ Some now → NothingRefuses words script (history now) (length kept.list)
+    → NoCountRose before after → (status ≡ 0) ⊎ (status ≡ 6)
+
+-- a run over a damaged root, by the number with which it ends: its line is written, or nothing, and the disk and the annals are as they were
+pub record NotOpened (number : ℕ) (line : List ℕ) (before after : World) : Type 0 where
+  pub ended : Status
+  pub number_is : number ≡ number_of ended
+  pub writes : WritesDamage ended line before.sink_failed after.sink_failed before.sink after.sink
+  pub disk : after.storage.disk ≡ before.storage.disk
+  pub annals : after.storage.annals ≡ before.storage.annals
+
+-- What is told of damage. A root that is damaged is not opened. The status 7 comes over no other root, and so not over one that stands for
+-- the list of the annals.
+pub record OfDamage (before : World) (status : ℕ) (after : World) : Type 0 where
+  pub opening : (told : root.Told) (damage : Damage) → before.storage.disk ≡ Some told → IsRootDamage (root.names_of told) damage → NotOpened status (damage_line damage) before after
+  pub damaged : (told : root.Told) → before.storage.disk ≡ Some told → status ≡ 7 → IsDamagedRoot (root.names_of told)
+  pub sound : (kept : Told) (told : root.Told) → before.storage.annals ≡ Some kept → before.storage.disk ≡ Some told → Stands (root.names_of told) (history kept) → status ≡ 7 → ⊥
+
+-- What a crash leaves, at whatever moment of the run. Where whatever a crash left of the disk before stood for the list of the annals, it holds
+-- all that was noted; where only the root as it read did, that is so once opening has settled what it read, and before that nothing changed.
+pub record OfCrashes (before after : World) : Type 0 where
+  pub kept : (first : Told) (told : root.Told) → before.storage.annals ≡ Some first → before.storage.disk ≡ Some told → AllStand told before.storage.clock (history first)
+      → LeavesOfScript before.source before.storage.failed after.storage first before.storage.clock
+  pub settles : (first : Told) (told : root.Told) → before.storage.annals ≡ Some first → before.storage.disk ≡ Some told → root.names_of told ≢ [] → AllStand told (before.storage.clock + 1) (history first)
+      → IsAsBefore before.storage.disk after.storage.disk before.storage.annals after.storage.annals before.sink after.sink
+      ⊎ LeavesOfScript before.source before.storage.failed after.storage first (before.storage.clock + 1)
+
+-- Why a run ends with its number: 2 exactly where the words are no command line; 3, 4 and 5 only where the count of the source, the sink or the disk
+-- rose; 8 only where 2^40 bytes were read; 0 and 1 only where the source was read to its end and the disk's count stayed. A disk whose count
+-- can't rise is not opened.
+pub record OfCauses (words : List (String Global)) (before : World) (status : ℕ) (after : World) : Type 0 where
+  pub number : status ≤ 8
+  pub words_only : (status ≡ 2) ↔ (is_command words ≡ false)
+  pub read : status ≡ 3 → Rose before.source_failed after.source_failed
+  pub write : status ≡ 4 → Rose before.sink_failed after.sink_failed
+  pub disk : status ≡ 5 → Rose before.storage.failed after.storage.failed
+  pub long : status ≡ 8 → ConsumesMost before.source after.source
+  pub whole : (script : List ℕ) → before.source ≡ Some script → status ≤ 1 → (length script < 2 ^ 40) × (after.source ≡ Some [])
+  pub calm : status ≤ 1 → after.storage.failed ≡ before.storage.failed
+  pub full : before.storage.failed ≡ 2 ^ 64 - 1 → (status ≡ 2) ⊎ (status ≡ 5)
+
+-- All that a run promises, by its words, by what was known of the outside before, by the number with which it ended and by what is known after it.
+pub record Promises (words : List (String Global)) (before : World) (status : ℕ) (after : World) : Type 0 where
+  pub headline : HeadlineBy status before after
+  pub complete : IsComplete words before status after
+  pub crashes : OfCrashes before after
+  pub damage : OfDamage before status after
+  pub causes : OfCauses words before status after

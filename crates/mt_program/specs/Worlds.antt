@@ -1,0 +1,29 @@
+-- What is known of the outside of a run (docs/architecture.md, "Counts of faults").
+use Rattle.std.specs.Prelude.{◌≡◌, ℕ, List, Option, Some}
+use Rattle.mt_values.specs.Annals.{Told}
+use Rattle.mt_outside.specs.Disk as root
+use Rattle.mt_model.specs.Outside.{Counts}
+use Rattle.root_store.specs.Crashes.{Outside}
+use Rattle.root_store.specs.Roots.{Stands}
+use Rattle.reply_lines.specs.Foreseen.{history}
+
+-- What is known at a moment: of the disk and the annals, what the source has left, what was written to the sink, and how many calls have failed.
+pub record World : Type 0 where
+  pub storage : Outside
+  pub source : Option (List ℕ)
+  pub source_failed : ℕ
+  pub sink : Option (List ℕ)
+  pub sink_failed : ℕ
+
+-- the disk's counts of faults from one moment to another
+abbrev pub counts_of : World → World → Counts
+counts_of before after = record { opened = before.storage.failed; ended = after.storage.failed }
+
+-- All of it is known, and the root stands for the list of the annals.
+pub record Starts (w : World) (kept : Told) (script written : List ℕ) : Type 0 where
+  pub told : root.Told
+  pub disk_is : w.storage.disk ≡ Some told
+  pub annals_is : w.storage.annals ≡ Some kept
+  pub stands : Stands (root.names_of told) (history kept)
+  pub source_is : w.source ≡ Some script
+  pub sink_is : w.sink ≡ Some written
