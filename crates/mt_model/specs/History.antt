@@ -1,14 +1,13 @@
 -- The list of accepted commands, and what makes it legal (docs/definitions.md, "Histories").
-use Rattle.std.specs.Prelude.{◌≡◌, ℕ, ◌<◌, ◌≤◌, Bool, true, false, List, [], ◌∷◌, ◌++◌, length, All, Option, Some, None, ◌==◌, if◌then◌else◌, map, filter}
+use Rattle.std.specs.Prelude.{◌≡◌, ℕ, ◌<◌, ◌≤◌, Bool, true, false, List, [], ◌∷◌, ◌++◌, length, All, Option, Some, None, ◌==◌, if◌then◌else◌, filter}
 use Rattle.mt_values.specs.declared.command.Entry.{Entry}
 use Rattle.mt_values.specs.declared.command.Command.{Command}
 use Rattle.mt_values.specs.declared.command.Command.TheVariants as command
 use Rattle.mt_values.specs.declared.command.Insert.{Insert}
 use Rattle.mt_base.specs.declared.partition.Partition.TheVariants.{Whole}
 use Rattle.mt_values.specs.declared.schema.Schema.{Schema}
-use Rattle.mt_values.specs.declared.schema.Column.{Column}
-use Rattle.mt_values.specs.declared.value.ColType.{ColType}
 use Rattle.mt_values.specs.Grammar.{same_bytes}
+pub use Rattle.mt_values.specs.Schemas.{column_types}
 use Rattle.mt_values.specs.Schemas.{schema_fault}
 use Rattle.mt_values.specs.Grid.{AreRowsOf}
 use Rattle.mt_values.specs.Values.{AreValues}
@@ -50,10 +49,6 @@ inserts table h = length (filter (λ (e : Entry). inserts_into table e.command) 
 -- Each table has fewer than 3000 INSERTs, so it never has 3000 parts, whatever was merged: merges leave at most one part an INSERT.
 abbrev pub FewInserts : History → Type 0
 FewInserts h = (table : List ℕ) → inserts table h < 3000
-
--- the types of a table's columns, in order
-abbrev pub column_types : Schema → List ColType
-column_types schema = map (λ (c : Column). c.col_type) schema.columns
 
 -- a schema that a table may have: it breaks no rule of schemas, its key is made of its own columns, and it has at most 64 columns
 pub record IsTableSchema (schema : Schema) : Type 0 where
