@@ -1,5 +1,5 @@
 -- The files of which a part's manifest has marks: each is there once, at its place.
-use Rattle.std.proofs.Common.{◌≡◌, ℕ, ◌+◌, ◌<◌, false, suc, List, [], ◌∷◌, ◌++◌, Some, refl, sym, ap, ap₂, ◌∙◌, subst, length, map, slice_get, take, arith}
+use Rattle.std.proofs.Common.{◌≡◌, ℕ, ◌+◌, ◌<◌, false, suc, List, [], ◌∷◌, ◌++◌, Some, refl, sym, ap, ap₂, ◌∙◌, subst, length, map, slice_get, take, arith, All}
 use Rattle.std.specs.List.{range_with_len}
 use Rattle.std.specs.Option.{option_map}
 use Rattle.std.proofs.lemmas.Bool.{ne_eqb}
@@ -45,6 +45,9 @@ content_all schema file.Manifest is = absurd is
 content_all schema file.Marks is = absurd is
 content_all schema file.Primary is = absurd is
 content_all schema (file.Skip n) is = absurd is
+
+pub all_content : (schema : Schema) → All (IsContent schema) (content_ids schema)
+all_content schema = All-map (IsContent schema) file.Column (range_with_len 0 (length schema.columns)) (All-range (λ n. n < length schema.columns) (length schema.columns) (λ n below. below))
 
 -- ---- each once
 

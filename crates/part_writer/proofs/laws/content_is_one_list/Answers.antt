@@ -1,5 +1,6 @@
 use Rattle.part_writer.specs.PartFiles.{content_ids}
 use Rattle.part_writer.proofs.Contents.{content_all, content_known, content_new, files_with_bytes, manifest_new, mark_at}
+use Rattle.part_writer.proofs.Folders.{sealed_bytes}
 use Rattle.part_writer.proofs.laws.content_is_one_list.Goals as goal
 
 pub returns-clause-ids : goal.returns-clause-ids
@@ -19,3 +20,6 @@ returns-clause-manifest c = manifest_new
 
 pub returns-clause-marks : goal.returns-clause-marks
 returns-clause-marks c = mark_at
+
+pub returns-clause-sealed : goal.returns-clause-sealed
+returns-clause-sealed c = sealed_bytes
