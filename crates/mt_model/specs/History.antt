@@ -6,9 +6,8 @@ use Rattle.mt_values.specs.declared.command.Command.TheVariants as command
 use Rattle.mt_values.specs.declared.command.Insert.{Insert}
 use Rattle.mt_base.specs.declared.partition.Partition.{Partition}
 use Rattle.mt_values.specs.declared.schema.Schema.{Schema}
-use Rattle.mt_values.specs.declared.schema.Column.{Column}
-use Rattle.mt_values.specs.declared.value.ColType.{ColType}
 use Rattle.mt_values.specs.Grammar.{same_bytes}
+pub use Rattle.mt_values.specs.Schemas.{column_types}
 use Rattle.mt_values.specs.Schemas.{schema_fault}
 use Rattle.mt_values.specs.Grid.{AreRowsOf}
 use Rattle.mt_values.specs.Tables.{IsPlain, partition_of, same_partition}
@@ -56,10 +55,6 @@ FewInserts h = (table : List ℕ) (partition : Partition) → inserts table part
 -- the history with these commands of a session as its last entries (docs/definitions.md, "Histories")
 abbrev pub entered : History → ℕ → List Command → History
 entered h session commands = h ++ map (λ (c : Command). record { session = session; command = c }) commands
-
--- the types of a table's columns, in order
-abbrev pub column_types : Schema → List ColType
-column_types schema = map (λ (c : Column). c.col_type) schema.columns
 
 -- a schema that a table may have: it breaks no rule of schemas, its key is made of its own columns, and it has at most 64 columns
 pub record IsTableSchema (schema : Schema) : Type 0 where

@@ -1,11 +1,16 @@
--- Which rule a schema breaks first.
-use Rattle.std.specs.Prelude.{ℕ, ◌+◌, ◌-◌, ◌^◌, List, [], ◌∷◌, ◌++◌, Option, Some, None, Bool, if◌then◌else◌, min, nat_eq}
+-- The types of a schema's columns, and which rule it breaks first.
+use Rattle.std.specs.Prelude.{ℕ, ◌+◌, ◌-◌, ◌^◌, List, [], ◌∷◌, ◌++◌, Option, Some, None, Bool, if◌then◌else◌, map, min, nat_eq}
 use Rattle.std.specs.List.{list_any}
 use Rattle.std.specs.Cmp.Lexicographic.{pointwise}
 use Rattle.mt_values.specs.declared.schema.Column.{Column}
 use Rattle.mt_values.specs.declared.schema.Schema.{Schema}
 use Rattle.mt_values.specs.declared.schema.SchemaFault.{SchemaFault}
 use Rattle.mt_values.specs.declared.schema.SchemaFault.TheVariants as fault
+use Rattle.mt_values.specs.declared.value.ColType.{ColType}
+
+-- the types of a table's columns, in order
+abbrev pub column_types : Schema → List ColType
+column_types schema = map (λ (c : Column). c.col_type) schema.columns
 
 -- what is told of the first item that is the same as an earlier one, and of its place, counted from a place on
 abbrev pub first_repeat : {X Y : Type 0} → (X → X → Bool) → (ℕ → X → Y) → ℕ → List X → List X → Option Y

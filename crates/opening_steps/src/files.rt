@@ -1,11 +1,11 @@
 // The files of a part, checked.
-ghost use Rattle.std.specs.Prelude.{◌≡◌, ◌≤◌, IfErr, IfOk, IsErrOf, OnOk, Some, None, length};
+ghost use Rattle.std.specs.Prelude.{◌≡◌, ◌≤◌, IfErr, IfOk, IsErrOf, OnOk, Some, None};
 ghost use Rattle.mt_base.specs.declared.name.FileId.TheVariants as file;
 ghost use Rattle.mt_outside.specs.Causes.{Rose};
 ghost use Rattle.mt_outside.specs.Files.{Files, bytes_of};
 ghost use Rattle.part_reader.specs.Damage.{Tells};
 ghost use Rattle.part_reader.specs.DamagedFile.{damaged_file};
-ghost use Rattle.part_reader.specs.Sound.{IsManifestOfWidth};
+ghost use Rattle.part_reader.specs.Sound.{IsManifestFor};
 
 use mt_outside::Arm;
 use mt_values::Schema;
@@ -20,7 +20,7 @@ pub fn check_files<R: Arm>(
     arm: &mut R,
 ) -> Result<Part<R::Dir>, PartFault>
     ensures dir { IfOk result (λ p. p.dir ≡ dir) }
-    ensures manifest { (files : Files) → R.Dir.files dir ≡ Some files → IfOk result (λ p. IsManifestOfWidth (length schema.now.columns) (bytes_of file.Manifest files) p.loaded.manifest) }
+    ensures manifest { (files : Files) → R.Dir.files dir ≡ Some files → IfOk result (λ p. IsManifestFor schema.now (bytes_of file.Manifest files) p.loaded.manifest) }
     ensures sound { (files : Files) → R.Dir.files dir ≡ Some files → OnOk result (damaged_file schema.now files ≡ None) }
     ensures damaged { (files : Files) → R.Dir.files dir ≡ Some files → IfErr result (Tells (λ found. damaged_file schema.now files ≡ found)) }
     ensures tells { R.tells arm.new ≡ R.tells arm.old }

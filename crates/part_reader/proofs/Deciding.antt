@@ -1,5 +1,5 @@
 -- The function of the first damaged file is what the relation says.
-use Rattle.std.proofs.Common.{◌≡◌, ℕ, ◌+◌, ◌^◌, ◌&&◌, Bool, true, false, cond, eqb, ltb, inl, inr, List, [], ◌∷◌, ◌++◌, All, Option, Some, None, refl, sym, ap, ap₂, ◌∙◌, subst, length, length-append, slice_get, take, drop, flat_map, append_assoc, arith}
+use Rattle.std.proofs.Common.{◌≡◌, ℕ, ◌^◌, ◌&&◌, Bool, true, false, cond, eqb, ltb, inl, inr, List, [], ◌∷◌, ◌++◌, All, Option, Some, None, refl, sym, ap, ap₂, ◌∙◌, subst, length, length-append, slice_get, take, drop, flat_map, append_assoc, arith, IsSomeAnd}
 use Rattle.std.specs.Bool.{Decides}
 use Rattle.std.specs.Int.{w32, w64, to_le_bytes, from_le_bytes}
 use Rattle.std.specs.List.{list_all}
@@ -19,19 +19,21 @@ use Rattle.mt_base.specs.declared.name.FileId.TheVariants as file
 use Rattle.mt_values.specs.declared.schema.Schema.{Schema}
 use Rattle.mt_values.specs.declared.value.ColType.{ColType}
 use Rattle.mt_values.specs.Manifests.{manifest_bytes, mark_bytes}
+use Rattle.mt_values.specs.Schemas.{column_types}
 use Rattle.mt_outside.specs.Files.{Files, bytes_of}
-use Rattle.column_file.specs.Tests.{spells}
+use Rattle.column_file.specs.Spellings.{Spells}
 use Rattle.column_file.proofs.Tested.{spells_Decides}
 use Rattle.digest_file.specs.Frames.{framed}
 use Rattle.digest_file.specs.Spellings.{IsManifestOf, IsMark}
 use Rattle.digest_file.proofs.Manifests.{frame_from_manifest, manifest_first}
-use Rattle.part_writer.specs.PartFiles.{mark_of}
+use Rattle.part_writer.specs.PartFiles.{content_ids, mark_of}
 use Rattle.part_reader.specs.declared.reading.PartFault.{PartFault}
 use Rattle.part_reader.specs.declared.reading.PartFault.TheVariants.{Fault, NoMemory, Damaged}
 use Rattle.part_reader.specs.Damage.{ExplainsManifest, Tells}
-use Rattle.part_reader.specs.DamagedFile.{damaged_file, damaged_under, first_unsound, is_manifest, is_mark, is_marked, is_sound, manifest_in, marks_in}
-use Rattle.part_reader.specs.Sound.{FirstDamaged, FirstUnsound, IsManifestOfWidth, IsSound, column_types}
-use Rattle.part_reader.proofs.Damages.{damaged_column, one_damaged, one_unsound, same_bytes}
+use Rattle.part_reader.specs.DamagedFile.{damaged_file, damaged_under, first_unsound, is_manifest, is_mark, is_marked, is_sound, manifest_in, marks_in, spells_as, spells_file}
+use Rattle.part_reader.specs.Marks.{mark_for}
+use Rattle.part_reader.specs.Sound.{FirstDamaged, FirstUnsound, IsManifestFor, IsSound, SpellsFile}
+use Rattle.part_reader.proofs.Damages.{damaged_content, one_damaged, one_unsound, same_bytes}
 
 -- ---- the manifest that bytes are
 
@@ -98,61 +100,73 @@ marked_Decides (Some m) bytes =
     (λ e. let same : m ≡ mark_of bytes = same_Some m (mark_of bytes) e in (ap (λ (x : FileMark). x.size) same, ap (λ (x : FileMark). x.digest) same))
     (Decides-and (eqb m.size (length bytes)) (bytes_eq m.digest (sha256 bytes)) (Decides-eqb m.size (length bytes)) (bytes_eq-Decides m.digest (sha256 bytes)))
 
-sound_Decides : (manifest : Manifest) (number : ℕ) (t : ColType) (bytes : List ℕ) → Decides (is_sound manifest number t bytes) (IsSound manifest number t bytes)
-sound_Decides manifest number t bytes =
-    Decides-like (is_sound manifest number t bytes)
+spelled_column : (o : Option ColType) (rows : ℕ) (bytes : List ℕ) → Decides (spells_as o rows bytes) (IsSomeAnd o (λ t. Spells t rows bytes))
+spelled_column None rows bytes = (λ e. absurd (false≢true e), λ e. absurd e)
+spelled_column (Some t) rows bytes = spells_Decides t rows bytes
+
+spelled_Decides : (schema : Schema) (rows : ℕ) (f : FileId) (bytes : List ℕ) → Decides (spells_file schema rows f bytes) (SpellsFile schema rows f bytes)
+spelled_Decides schema rows (file.Column n) bytes = spelled_column (slice_get (column_types schema) n) rows bytes
+spelled_Decides schema rows file.Entry bytes = (λ e. absurd (false≢true e), λ e. absurd e)
+spelled_Decides schema rows file.Manifest bytes = (λ e. absurd (false≢true e), λ e. absurd e)
+spelled_Decides schema rows file.Marks bytes = (λ e. absurd (false≢true e), λ e. absurd e)
+spelled_Decides schema rows file.Primary bytes = (λ e. absurd (false≢true e), λ e. absurd e)
+spelled_Decides schema rows (file.Skip n) bytes = (λ e. absurd (false≢true e), λ e. absurd e)
+
+sound_Decides : (schema : Schema) (manifest : Manifest) (f : FileId) (bytes : List ℕ) → Decides (is_sound schema manifest f bytes) (IsSound schema manifest f bytes)
+sound_Decides schema manifest f bytes =
+    Decides-like (is_sound schema manifest f bytes)
     (λ p. record { marked = p.0; spelled = p.1 })
     (λ s. (s.marked, s.spelled))
-    (Decides-and (is_marked (slice_get manifest.files number) bytes) (spells t manifest.rows bytes) (marked_Decides (slice_get manifest.files number) bytes) (spells_Decides t manifest.rows bytes))
+    (Decides-and (is_marked (mark_for manifest f) bytes) (spells_file schema manifest.rows f bytes) (marked_Decides (mark_for manifest f) bytes) (spelled_Decides schema manifest.rows f bytes))
 
-width_Decides : (schema : Schema) (bytes : List ℕ) (m : Manifest) → Decides (is_manifest bytes m && eqb (length m.files) (length schema.columns)) (IsManifestOfWidth (length schema.columns) bytes m)
-width_Decides schema bytes m =
-    Decides-like (is_manifest bytes m && eqb (length m.files) (length schema.columns))
-    (λ p. record { of = p.0; width_is = p.1 })
-    (λ is. (is.of, is.width_is))
-    (Decides-and (is_manifest bytes m) (eqb (length m.files) (length schema.columns)) (manifest_Decides bytes m) (Decides-eqb (length m.files) (length schema.columns)))
+count_Decides : (schema : Schema) (bytes : List ℕ) (m : Manifest) → Decides (is_manifest bytes m && eqb (length m.files) (length (content_ids schema))) (IsManifestFor schema bytes m)
+count_Decides schema bytes m =
+    Decides-like (is_manifest bytes m && eqb (length m.files) (length (content_ids schema)))
+    (λ p. record { of = p.0; count_is = p.1 })
+    (λ is. (is.of, is.count_is))
+    (Decides-and (is_manifest bytes m) (eqb (length m.files) (length (content_ids schema))) (manifest_Decides bytes m) (Decides-eqb (length m.files) (length (content_ids schema))))
 
 -- ---- the first file
 
-pub unsound_is : (manifest : Manifest) (files : Files) (a : ℕ) (types : List ColType) → FirstUnsound manifest files a types (first_unsound manifest files a types)
+pub unsound_is : (schema : Schema) (manifest : Manifest) (files : Files) (ids : List FileId) → FirstUnsound schema manifest files ids (first_unsound schema manifest files ids)
 unfolding first_unsound
-unsound_is manifest files a [] = refl
-unsound_is manifest files a (t ∷ types) = by (is_sound manifest a t (bytes_of (file.Column a) files)) refl (unsound_is manifest files (a + 1) types)
+unsound_is schema manifest files [] = refl
+unsound_is schema manifest files (f ∷ fs) = by (is_sound schema manifest f (bytes_of f files)) refl (unsound_is schema manifest files fs)
   where
-    by : (b : Bool) → is_sound manifest a t (bytes_of (file.Column a) files) ≡ b → FirstUnsound manifest files (a + 1) types (first_unsound manifest files (a + 1) types)
-        → FirstUnsound manifest files a (t ∷ types) (cond b (first_unsound manifest files (a + 1) types) (Some (file.Column a)))
-    by true e behind = inl ((sound_Decides manifest a t (bytes_of (file.Column a) files)).0 e, behind)
+    by : (b : Bool) → is_sound schema manifest f (bytes_of f files) ≡ b → FirstUnsound schema manifest files fs (first_unsound schema manifest files fs)
+        → FirstUnsound schema manifest files (f ∷ fs) (cond b (first_unsound schema manifest files fs) (Some f))
+    by true e behind = inl ((sound_Decides schema manifest f (bytes_of f files)).0 e, behind)
     by false e behind =
-        inr ((λ s. both_ways (is_sound manifest a t (bytes_of (file.Column a) files)) e ((sound_Decides manifest a t (bytes_of (file.Column a) files)).1 s)), refl)
+        inr ((λ s. both_ways (is_sound schema manifest f (bytes_of f files)) e ((sound_Decides schema manifest f (bytes_of f files)).1 s)), refl)
 
 under_is : (schema : Schema) (files : Files) (m : Manifest) → m ≡ manifest_in (bytes_of file.Manifest files) → FirstDamaged schema files (damaged_under schema files m)
-under_is schema files m same = by (is_manifest (bytes_of file.Manifest files) m && eqb (length m.files) (length schema.columns)) refl
+under_is schema files m same = by (is_manifest (bytes_of file.Manifest files) m && eqb (length m.files) (length (content_ids schema))) refl
   where
-    by : (b : Bool) → (is_manifest (bytes_of file.Manifest files) m && eqb (length m.files) (length schema.columns)) ≡ b → FirstDamaged schema files (cond b (first_unsound m files 0 (column_types schema)) (Some file.Manifest))
-    by true e = inl (m, (width_Decides schema (bytes_of file.Manifest files) m).0 e, unsound_is m files 0 (column_types schema))
+    by : (b : Bool) → (is_manifest (bytes_of file.Manifest files) m && eqb (length m.files) (length (content_ids schema))) ≡ b → FirstDamaged schema files (cond b (first_unsound schema m files (content_ids schema)) (Some file.Manifest))
+    by true e = inl (m, (count_Decides schema (bytes_of file.Manifest files) m).0 e, unsound_is schema m files (content_ids schema))
     by false e = inr (none, refl)
       where
-        none : (manifest : Manifest) → IsManifestOfWidth (length schema.columns) (bytes_of file.Manifest files) manifest → ⊥
+        none : (manifest : Manifest) → IsManifestFor schema (bytes_of file.Manifest files) manifest → ⊥
         none manifest is =
             let one : manifest ≡ m = sym (manifest_back (bytes_of file.Manifest files) manifest is.of) ∙ sym same in
-            both_ways (is_manifest (bytes_of file.Manifest files) m && eqb (length m.files) (length schema.columns)) e
-            ((width_Decides schema (bytes_of file.Manifest files) m).1 (subst (IsManifestOfWidth (length schema.columns) (bytes_of file.Manifest files)) one is))
+            both_ways (is_manifest (bytes_of file.Manifest files) m && eqb (length m.files) (length (content_ids schema))) e
+            ((count_Decides schema (bytes_of file.Manifest files) m).1 (subst (IsManifestFor schema (bytes_of file.Manifest files)) one is))
 
 pub damaged_is : (schema : Schema) (files : Files) → FirstDamaged schema files (damaged_file schema files)
 unfolding damaged_file
 damaged_is schema files = under_is schema files (manifest_in (bytes_of file.Manifest files)) refl
 
 -- what the relation says is what the functions give
-pub unsound_file : (manifest : Manifest) (files : Files) (types : List ColType) (found : Option FileId) → FirstUnsound manifest files 0 types found → first_unsound manifest files 0 types ≡ found
-unsound_file manifest files types found first = one_unsound manifest files 0 types (first_unsound manifest files 0 types) found (unsound_is manifest files 0 types) first
+pub unsound_file : (schema : Schema) (manifest : Manifest) (files : Files) (ids : List FileId) (found : Option FileId) → FirstUnsound schema manifest files ids found → first_unsound schema manifest files ids ≡ found
+unsound_file schema manifest files ids found first = one_unsound schema manifest files ids (first_unsound schema manifest files ids) found (unsound_is schema manifest files ids) first
 
 pub file_is : (schema : Schema) (files : Files) (found : Option FileId) → FirstDamaged schema files found → damaged_file schema files ≡ found
 file_is schema files found first = one_damaged schema files (damaged_file schema files) found (damaged_is schema files) first
 
--- under the manifest that lies there it is the first of the columns' files
-pub under_manifest : (schema : Schema) (files : Files) (manifest : Manifest) → IsManifestOfWidth (length schema.columns) (bytes_of file.Manifest files) manifest → damaged_file schema files ≡ first_unsound manifest files 0 (column_types schema)
+-- under the manifest that lies there it is the first of the files of which it has marks
+pub under_manifest : (schema : Schema) (files : Files) (manifest : Manifest) → IsManifestFor schema (bytes_of file.Manifest files) manifest → damaged_file schema files ≡ first_unsound schema manifest files (content_ids schema)
 under_manifest schema files manifest is =
-    file_is schema files (first_unsound manifest files 0 (column_types schema)) (damaged_column schema files manifest (first_unsound manifest files 0 (column_types schema)) is (unsound_is manifest files 0 (column_types schema)))
+    file_is schema files (first_unsound schema manifest files (content_ids schema)) (damaged_content schema files manifest (first_unsound schema manifest files (content_ids schema)) is (unsound_is schema manifest files (content_ids schema)))
 
 pub file_told : (schema : Schema) (files : Files) (found : Option FileId) → damaged_file schema files ≡ found → FirstDamaged schema files found
 file_told schema files found e = subst (FirstDamaged schema files) e (damaged_is schema files)
@@ -164,13 +178,13 @@ told_more P Q Fault more tells = tt
 told_more P Q NoMemory more tells = tt
 told_more P Q (Damaged f place wanted found) more tells = more (Some f) tells
 
--- bytes that are no manifest of as many files are those of a damaged one
-pub manifest_damaged : (schema : Schema) (files : Files) (w : ℕ) (bytes : List ℕ) (why : PartFault) → w ≡ length schema.columns → bytes ≡ bytes_of file.Manifest files → ExplainsManifest w bytes why
-    → ((manifest : Manifest) → IsManifestOfWidth w bytes manifest → why ≡ NoMemory) → Tells (λ found. damaged_file schema files ≡ found) why
-manifest_damaged schema files w bytes Fault wide same explained spelled = tt
-manifest_damaged schema files w bytes NoMemory wide same explained spelled = tt
-manifest_damaged schema files w bytes (Damaged f place wanted found) wide same explained spelled = file_is schema files (Some f) (inr (none, ap Some explained.0))
+-- bytes that are no manifest with a mark of each file are those of a damaged one
+pub manifest_damaged : (schema : Schema) (files : Files) (bytes : List ℕ) (why : PartFault) → bytes ≡ bytes_of file.Manifest files → ExplainsManifest schema bytes why
+    → ((manifest : Manifest) → IsManifestFor schema bytes manifest → why ≡ NoMemory) → Tells (λ found. damaged_file schema files ≡ found) why
+manifest_damaged schema files bytes Fault same explained spelled = tt
+manifest_damaged schema files bytes NoMemory same explained spelled = tt
+manifest_damaged schema files bytes (Damaged f place wanted found) same explained spelled = file_is schema files (Some f) (inr (none, ap Some explained.0))
   where
-    none : (manifest : Manifest) → IsManifestOfWidth (length schema.columns) (bytes_of file.Manifest files) manifest → ⊥
+    none : (manifest : Manifest) → IsManifestFor schema (bytes_of file.Manifest files) manifest → ⊥
     none manifest is =
-        let e : Damaged f place wanted found ≡ NoMemory = spelled manifest (same_bytes (length schema.columns) w (bytes_of file.Manifest files) bytes manifest wide same is) in cc
+        let e : Damaged f place wanted found ≡ NoMemory = spelled manifest (same_bytes schema (bytes_of file.Manifest files) bytes manifest same is) in cc

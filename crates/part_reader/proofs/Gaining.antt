@@ -5,17 +5,20 @@ use Rattle.std.proofs.lemmas.List.{get_or-set_other, take_all, take_more, take_m
 use Rattle.std.proofs.lemmas.List.Elements.{All-nil, All-cons, All-head, All-tail}
 use Rattle.mt_values.specs.declared.manifest.Manifest.{Manifest}
 use Rattle.mt_base.specs.declared.name.FileId.TheVariants as file
+use Rattle.mt_values.specs.declared.schema.Schema.{Schema}
 use Rattle.mt_values.specs.declared.value.ColType.{ColType}
+use Rattle.mt_values.specs.ColumnBytes.{column_bytes}
 use Rattle.mt_values.specs.Grid.{AreRowsOf, Cells, column_of}
+use Rattle.mt_values.specs.Schemas.{column_types}
 use Rattle.mt_values.specs.Values.{FitsType, Row}
 use Rattle.mt_outside.specs.Files.{Files, bytes_of}
 use Rattle.column_file.specs.Spellings.{with_values}
 use Rattle.column_file.proofs.Reading.{gained_spelled}
-use Rattle.part_writer.specs.PartFiles.{column_file_bytes, manifest_of}
+use Rattle.part_writer.specs.PartFiles.{manifest_of}
 use Rattle.part_reader.specs.declared.reading.Part.{Part}
 use Rattle.part_reader.specs.Columns.{AreRead, IsRead}
 use Rattle.part_reader.specs.Parts.{HoldsAt, with_columns}
-use Rattle.part_reader.proofs.Holding.{AreTyped, column_spelled, each_typed}
+use Rattle.part_reader.proofs.Holding.{AreTyped, column_spelled, columns_held, columns_within, each_typed}
 
 -- ---- one column more
 
@@ -88,29 +91,30 @@ read_even told manifest count (p ∷ places) (o ∷ olds) (n ∷ news) read even
 
 -- ---- the values of rows
 
-one_read : (told : Option Files) (files : Files) (manifest : Manifest) (types : List ColType) (rows : List Row) (number : ℕ) (old new : Cells) → told ≡ Some files → manifest ≡ manifest_of (length types) rows → AreRowsOf types rows → All (λ (row : Row). All FitsType row) rows
-    → slice_get types number ≡ Some old.col_type → bytes_of (file.Column number) files ≡ column_file_bytes rows number → IsRead told manifest number old new → new ≡ with_values old (column_of number rows)
-one_read told files manifest types rows number old new known is typed fit here held read =
+one_read : (told : Option Files) (files : Files) (manifest : Manifest) (schema : Schema) (rows : List Row) (number : ℕ) (old new : Cells) → told ≡ Some files → manifest ≡ manifest_of schema rows → AreRowsOf (column_types schema) rows → All (λ (row : Row). All FitsType row) rows
+    → slice_get (column_types schema) number ≡ Some old.col_type → bytes_of (file.Column number) files ≡ column_bytes (column_of number rows) → IsRead told manifest number old new → new ≡ with_values old (column_of number rows)
+one_read told files manifest schema rows number old new known is typed fit here held read =
     gained_spelled manifest.rows read.bytes old new (column_of number rows) read.gained
-    (column_spelled types rows number old.col_type manifest.rows read.bytes here typed fit (ap (λ (m : Manifest). m.rows) is) (read.read files known ∙ held))
+    (column_spelled (column_types schema) rows number old.col_type manifest.rows read.bytes here typed fit (ap (λ (m : Manifest). m.rows) is) (read.read files known ∙ held))
 
-rows_gained : (told : Option Files) (files : Files) (manifest : Manifest) (types : List ColType) (rows : List Row) (places : List ℕ) (olds news : List Cells) → told ≡ Some files → manifest ≡ manifest_of (length types) rows → AreRowsOf types rows → All (λ (row : Row). All FitsType row) rows
-    → All (λ place. bytes_of (file.Column place) files ≡ column_file_bytes rows place) places → AreTyped types places olds → AreRead told manifest places olds news → news ≡ with_columns rows places olds
-rows_gained told files manifest types rows [] [] [] known is typed fit held here read = refl
-rows_gained told files manifest types rows [] [] (n ∷ news) known is typed fit held here read = absurd read
-rows_gained told files manifest types rows [] (o ∷ olds) news known is typed fit held here read = absurd here
-rows_gained told files manifest types rows (p ∷ places) [] news known is typed fit held here read = absurd here
-rows_gained told files manifest types rows (p ∷ places) (o ∷ olds) [] known is typed fit held here read = absurd read
-rows_gained told files manifest types rows (p ∷ places) (o ∷ olds) (n ∷ news) known is typed fit held here read =
+rows_gained : (told : Option Files) (files : Files) (manifest : Manifest) (schema : Schema) (rows : List Row) (places : List ℕ) (olds news : List Cells) → told ≡ Some files → manifest ≡ manifest_of schema rows → AreRowsOf (column_types schema) rows → All (λ (row : Row). All FitsType row) rows
+    → All (λ place. bytes_of (file.Column place) files ≡ column_bytes (column_of place rows)) places → AreTyped (column_types schema) places olds → AreRead told manifest places olds news → news ≡ with_columns rows places olds
+rows_gained told files manifest schema rows [] [] [] known is typed fit held here read = refl
+rows_gained told files manifest schema rows [] [] (n ∷ news) known is typed fit held here read = absurd read
+rows_gained told files manifest schema rows [] (o ∷ olds) news known is typed fit held here read = absurd here
+rows_gained told files manifest schema rows (p ∷ places) [] news known is typed fit held here read = absurd here
+rows_gained told files manifest schema rows (p ∷ places) (o ∷ olds) [] known is typed fit held here read = absurd read
+rows_gained told files manifest schema rows (p ∷ places) (o ∷ olds) (n ∷ news) known is typed fit held here read =
     ap₂ (λ (c : Cells) (cs : List Cells). c ∷ cs)
-    (one_read told files manifest types rows p o n known is typed fit here.0 (All-head (λ place. bytes_of (file.Column place) files ≡ column_file_bytes rows place) p places held) read.0)
-    (rows_gained told files manifest types rows places olds news known is typed fit (All-tail (λ place. bytes_of (file.Column place) files ≡ column_file_bytes rows place) p places held) here.1 read.1)
+    (one_read told files manifest schema rows p o n known is typed fit here.0 (All-head (λ place. bytes_of (file.Column place) files ≡ column_bytes (column_of place rows)) p places held) read.0)
+    (rows_gained told files manifest schema rows places olds news known is typed fit (All-tail (λ place. bytes_of (file.Column place) files ≡ column_bytes (column_of place rows)) p places held) here.1 read.1)
 
 -- of a part that holds rows the columns get theirs
-pub rows_read : {F : Type 0} (files_of : F → Option Files) (types : List ColType) (part : Part F) (places : List ℕ) (rows : List Row) (olds news : List Cells) → HoldsAt files_of types part places rows
-    → map (λ (c : Cells). c.col_type) olds ≡ filter_map (slice_get types) places → AreRead (files_of part.dir) part.loaded.manifest places olds news → news ≡ with_columns rows places olds
-rows_read files_of types part places rows olds news h typed read =
-    rows_gained (files_of part.dir) h.files part.loaded.manifest types rows places olds news h.files_are h.loaded_is h.typed h.encodable h.columns (each_typed types places olds h.within typed) read
+pub rows_read : {F : Type 0} (files_of : F → Option Files) (schema : Schema) (part : Part F) (places : List ℕ) (rows : List Row) (olds news : List Cells) → HoldsAt files_of schema part (map file.Column places) rows
+    → map (λ (c : Cells). c.col_type) olds ≡ filter_map (slice_get (column_types schema)) places → AreRead (files_of part.dir) part.loaded.manifest places olds news → news ≡ with_columns rows places olds
+rows_read files_of schema part places rows olds news h typed read =
+    rows_gained (files_of part.dir) h.files part.loaded.manifest schema rows places olds news h.files_are h.loaded_is h.typed h.encodable (columns_held files_of schema part places rows h)
+    (each_typed (column_types schema) places olds (columns_within files_of schema part places rows h) typed) read
 
 -- what holds of an error that was handed on holds of the answer
 pub handed_on : {T E : Type 0} (P : E → Type 0) (result : Result T E) (fault : E) → IsErrAnd result (λ e. e ≡ fault) → P fault → IfErr result P

@@ -1,11 +1,9 @@
 -- Parts that hold rows: the files that were written are theirs, and nothing of them is damaged.
-use Rattle.std.proofs.Common.{◌≡◌, ℕ, zero, suc, ◌+◌, ◌<◌, ◌≤◌, inl, inr, Bool, true, false, List, [], ◌∷◌, ◌++◌, Option, Some, None, refl, sym, ap, ◌∙◌, subst, length, map, get_or, slice_get, filter_map, All, arith, zero-add, IsSomeAnd, MatchOption}
-use Rattle.std.specs.List.{AllZip, cons_option, range_with_len}
+use Rattle.std.proofs.Common.{◌≡◌, ℕ, ◌<◌, inl, inr, List, [], ◌∷◌, Option, Some, None, refl, sym, ap, ◌∙◌, subst, length, map, get_or, slice_get, filter_map, All, arith, IsSomeAnd, MatchOption}
+use Rattle.std.specs.List.{AllZip, cons_option}
 use Rattle.std.specs.Option.{option_map}
-use Rattle.std.proofs.lemmas.Bool.{eqb-true, eqb-false}
-use Rattle.std.proofs.lemmas.List.{length-map}
-use Rattle.std.proofs.lemmas.List.Elements.{All-nil, All-cons, All-head, All-tail}
-use Rattle.std.proofs.lemmas.List.FromFn.{length-range_with_len, get_or-range_with_len}
+use Rattle.std.proofs.lemmas.List.{length-map, get_or-map}
+use Rattle.std.proofs.lemmas.List.Elements.{All-nil, All-cons, All-head, All-map, All-tail}
 use Rattle.std.proofs.lemmas.Option.{get_or_from_slice_get, slice_get-get_or, slice_get-map, slice_get_within}
 use Rattle.std.proofs.lemmas.Slice.Zip.{AllZip-right}
 use Rattle.sha2.specs.Sha256.{sha256}
@@ -18,92 +16,92 @@ use Rattle.mt_values.specs.declared.schema.Schema.{Schema}
 use Rattle.mt_values.specs.declared.value.ColType.{ColType}
 use Rattle.mt_values.specs.declared.value.ColType.TheVariants as type
 use Rattle.mt_values.specs.declared.value.Value.{Value}
-use Rattle.mt_base.specs.Files.{same_file}
+use Rattle.mt_values.specs.ColumnBytes.{column_bytes}
 use Rattle.mt_values.specs.Grid.{AreRowsOf, Cells, HaveTypeAt, column_of}
 use Rattle.mt_values.specs.Manifests.{manifest_bytes}
+use Rattle.mt_values.specs.Schemas.{column_types}
 use Rattle.mt_values.specs.Values.{FitsType, Row, types_of}
-use Rattle.mt_values.proofs.Grids.{All-range, HaveTypeAt-typed, type_at}
+use Rattle.mt_values.proofs.Grids.{HaveTypeAt-typed, type_at}
 use Rattle.mt_values.proofs.OrderBy.{length_column}
 use Rattle.mt_outside.specs.Files.{Files, bytes_of}
+use Rattle.column_file.specs.Faults.{IsFirstFault}
 use Rattle.column_file.specs.Spellings.{IsOfType, IsSpelling}
 use Rattle.column_file.proofs.OneWay.{no_spelling}
-use Rattle.part_writer.specs.PartFiles.{column_file, column_file_bytes, manifest_file, manifest_of, mark_of, part_files}
+use Rattle.digest_file.specs.Spellings.{IsManifestOf}
+use Rattle.part_writer.specs.PartFiles.{IsContent, all_synced, content_bytes, content_ids, files_of_part, manifest_of, mark_of, with_bytes}
+use Rattle.part_writer.proofs.Contents.{all_content, content_all, content_is, mark_at}
+use Rattle.part_writer.proofs.Folders.{bytes_at, content_held, manifest_held, sealed_bytes}
 use Rattle.part_reader.specs.declared.reading.PartFault.{PartFault}
 use Rattle.part_reader.specs.declared.reading.PartFault.TheVariants.{Fault, NoMemory, Damaged}
 use Rattle.part_reader.specs.declared.reading.Part.{Part}
 use Rattle.part_reader.specs.Faults.{ExplainsPart, IsDamage, IsNoDamage, IsRefused}
-use Rattle.part_reader.specs.Parts.{HoldsAt, PartHolds}
+use Rattle.part_reader.specs.Marks.{mark_for}
+use Rattle.part_reader.specs.Parts.{FolderHolds, HoldsAt, PartHolds}
 
--- ---- the files of a part, and its manifest
+-- ---- the marks of a manifest
 
--- the bytes of the file of a column
-column_at : (rows : List Row) (a n i : ℕ) (behind : Files) → a ≤ i → i < a + n → bytes_of (file.Column i) (map (column_file rows) (range_with_len a n) ++ behind) ≡ column_file_bytes rows i
-column_at rows a zero i behind low high = absurd (omega arith)
-column_at rows a (suc n) i behind low high = either (same_file (file.Column a) (file.Column i)) refl (column_at rows (a + 1) n i behind)
-  where
-    either : (b : Bool) → same_file (file.Column a) (file.Column i) ≡ b → (a + 1 ≤ i → i < a + 1 + n → bytes_of (file.Column i) (map (column_file rows) (range_with_len (a + 1) n) ++ behind) ≡ column_file_bytes rows i)
-        → bytes_of (file.Column i) (map (column_file rows) (range_with_len a (suc n)) ++ behind) ≡ column_file_bytes rows i
-    either true e rest = simp e (ap (column_file_bytes rows) (eqb-true a i e))
-    either false e rest =
-        let other : a ≡ i → ⊥ = eqb-false a i e in
-        simp e (rest (omega arith) (omega arith))
+-- the mark of a file stands at its place
+pub mark_placed : (schema : Schema) (manifest : Manifest) (i : ℕ) (f : FileId) → slice_get (content_ids schema) i ≡ Some f → mark_for manifest f ≡ slice_get manifest.files i
+mark_placed schema manifest i f here = ap (mark_for manifest) (content_is schema i f here)
 
--- and those of the manifest behind them
-pub manifest_at : (rows : List Row) (width a n : ℕ) → bytes_of file.Manifest (map (column_file rows) (range_with_len a n) ++ manifest_file width rows ∷ []) ≡ manifest_bytes sha256 (manifest_of width rows)
-manifest_at rows width a zero = refl
-manifest_at rows width a (suc n) = manifest_at rows width (a + 1) n
-
--- the mark of the file of a column
-pub mark_at : (rows : List Row) (n i : ℕ) → i < n → slice_get (map (λ column. mark_of (column_file_bytes rows column)) (range_with_len 0 n)) i ≡ Some (mark_of (column_file_bytes rows i))
-mark_at rows n i below =
-    slice_get-map (λ column. mark_of (column_file_bytes rows column)) (range_with_len 0 n) i
-    ∙ ap (option_map (λ column. mark_of (column_file_bytes rows column)))
-    (slice_get-get_or (range_with_len 0 n) i 0 (omega (arith, length-range_with_len 0 n)) ∙ ap Some (get_or-range_with_len 0 n i 0 below ∙ zero-add i))
+pub mark_held : (schema : Schema) (rows : List Row) (f : FileId) → IsContent schema f → mark_for (manifest_of schema rows) f ≡ Some (mark_of (content_bytes schema rows f))
+mark_held schema rows f is =
+    let there = content_all schema f is in
+    mark_placed schema (manifest_of schema rows) there.0 f there.1 ∙ mark_at schema rows there.0 f there.1
 
 -- ---- parts that hold rows
 
+-- what was written is held
+pub sealed_folder : (schema : Schema) (rows : List Row) → AreRowsOf (column_types schema) rows → All (λ (row : Row). All FitsType row) rows → IsManifestOf (manifest_bytes sha256 (manifest_of schema rows)) (manifest_of schema rows)
+    → FolderHolds schema rows (all_synced (files_of_part schema rows))
+sealed_folder schema rows typed encodable readable = record {
+  held = sealed_bytes schema rows;
+  readable = subst (λ bs. IsManifestOf bs (manifest_of schema rows)) (sym (manifest_held schema rows (all_synced (files_of_part schema rows)) (sealed_bytes schema rows))) readable;
+  typed = typed;
+  encodable = encodable;
+}
+
 module _ {F : Type 0} (files_of : F → Option Files) (schema : Schema) (part : Part F) (rows : List Row) where
-  -- what was written is held
-  pub written_holds : (types : List ColType) → types ≡ map (λ (c : Column). c.col_type) schema.columns → files_of part.dir ≡ Some (part_files (length types) rows) → part.loaded.manifest ≡ manifest_of (length types) rows
-      → AreRowsOf types rows → All (λ (row : Row). All FitsType row) rows → PartHolds files_of schema part rows
-  written_holds types these told loaded typed encodable = subst (λ (ts : List ColType). HoldsAt files_of ts part (range_with_len 0 (length ts)) rows) these held
-    where
-      held : HoldsAt files_of types part (range_with_len 0 (length types)) rows
-      held = record {
-        files = part_files (length types) rows;
-        files_are = told;
-        within = All-range (λ i. i < length types) (length types) (λ i below. below);
-        columns = All-range (λ i. bytes_of (file.Column i) (part_files (length types) rows) ≡ column_file_bytes rows i) (length types)
-            (λ i below. column_at rows 0 (length types) i (manifest_file (length types) rows ∷ []) (omega arith) (omega arith));
-        loaded_is = loaded;
-        typed = typed;
-        encodable = encodable;
-      }
+  pub written_holds : (files : Files) → files_of part.dir ≡ Some files → part.loaded.manifest ≡ manifest_of schema rows → FolderHolds schema rows files → PartHolds files_of schema part rows
+  written_holds files told loaded folder = record {
+    files = files;
+    files_are = told;
+    within = all_content schema;
+    held = content_held schema rows files folder.held;
+    loaded_is = loaded;
+    typed = folder.typed;
+    encodable = folder.encodable;
+  }
+
+  -- the bytes of each file
+  pub file_held : (h : PartHolds files_of schema part rows) (f : FileId) → IsContent schema f → bytes_of f h.files ≡ content_bytes schema rows f
+  file_held h f is = let there = content_all schema f is in bytes_at schema rows h.files (content_ids schema) there.0 f h.held there.1
 
   -- what holds rows holds them at any of its columns
-  pub holds_at : (places : List ℕ) → PartHolds files_of schema part rows → All (λ place. place < length schema.columns) places → HoldsAt files_of (map (λ (c : Column). c.col_type) schema.columns) part places rows
+  pub holds_at : (places : List ℕ) → PartHolds files_of schema part rows → All (λ place. place < length schema.columns) places → HoldsAt files_of schema part (map file.Column places) rows
   holds_at places h below = record {
     files = h.files;
     files_are = h.files_are;
-    within = inside;
-    columns = λ k d lt.
-        subst (λ p. bytes_of (file.Column p) h.files ≡ column_file_bytes rows p) (get_or-range_with_len 0 (length types) (get_or places k d) 0 (inside k d lt) ∙ zero-add (get_or places k d))
-        (h.columns (get_or places k d) 0 (all (get_or places k d) (inside k d lt)));
+    within = All-map (IsContent schema) file.Column places below;
+    held = All-map (λ (g : FileId × List ℕ). bytes_of g.0 h.files ≡ g.1) (with_bytes schema rows) (map file.Column places)
+        (All-map (λ f. bytes_of f h.files ≡ content_bytes schema rows f) file.Column places (λ k d lt. file_held h (file.Column (get_or places k d)) (below k d lt)));
     loaded_is = h.loaded_is;
     typed = h.typed;
     encodable = h.encodable;
   }
-    where
-      types : List ColType
-      types = map (λ (c : Column). c.col_type) schema.columns
 
-      inside : All (λ place. place < length types) places
-      inside k d lt =
-          let place : get_or places k d < length schema.columns = below k d lt in
-          omega (arith, length-map schema.columns (λ (c : Column). c.col_type))
+-- of a part that holds rows at some columns: the columns are there, and their files have the bytes of these rows
+module _ {F : Type 0} (files_of : F → Option Files) (schema : Schema) (part : Part F) (places : List ℕ) (rows : List Row) (h : HoldsAt files_of schema part (map file.Column places) rows) where
+  pub columns_within : All (λ place. place < length (column_types schema)) places
+  columns_within k d lt =
+      let inside : IsContent schema (get_or (map file.Column places) k (file.Column d)) = h.within k (file.Column d) (omega (arith, length-map places file.Column)) in
+      let below : get_or places k d < length schema.columns = subst (IsContent schema) (get_or-map file.Column places k d (file.Column d) lt) inside in
+      omega (arith, length-map schema.columns (λ (c : Column). c.col_type))
 
-      all : (place : ℕ) → place < length types → place < length (range_with_len 0 (length types))
-      all place lt = omega (arith, length-range_with_len 0 (length types))
+  pub columns_held : All (λ place. bytes_of (file.Column place) h.files ≡ column_bytes (column_of place rows)) places
+  columns_held k d lt =
+      bytes_at schema rows h.files (map file.Column places) k (file.Column (get_or places k d)) h.held
+      (slice_get-map file.Column places k ∙ ap (option_map file.Column) (slice_get-get_or places k d lt))
 
 -- ---- what the file of a column spells
 
@@ -119,7 +117,7 @@ typed_column i t (row ∷ rows) typed fit =
         All-cons (IsOfType t) v (column_of i rows) (type_at i t row v here e, subst FitsType (get_or_from_slice_get row i v v e) (fits i v (slice_get_within row i v e))) rest
 
 -- the bytes of a column's file spell the column's values
-pub column_spelled : (types : List ColType) (rows : List Row) (i : ℕ) (t : ColType) (count : ℕ) (bytes : List ℕ) → slice_get types i ≡ Some t → AreRowsOf types rows → All (λ (row : Row). All FitsType row) rows → count ≡ length rows → bytes ≡ column_file_bytes rows i
+pub column_spelled : (types : List ColType) (rows : List Row) (i : ℕ) (t : ColType) (count : ℕ) (bytes : List ℕ) → slice_get types i ≡ Some t → AreRowsOf types rows → All (λ (row : Row). All FitsType row) rows → count ≡ length rows → bytes ≡ column_bytes (column_of i rows)
     → IsSpelling t count bytes (column_of i rows)
 column_spelled types rows i t count bytes here typed fit counted e = record {
   typed = typed_column i t rows (HaveTypeAt-typed types rows i t typed here) fit;
@@ -163,27 +161,29 @@ type_there types places columns at number column typed number_is column_is =
     let this = subst (λ (o : Option Cells). MatchOption o (Unit {0}) (λ c. IsSomeAnd (slice_get places at) (λ p. Typed p c))) column_is there in
     subst (λ (o : Option ℕ). IsSomeAnd o (λ p. Typed p column)) number_is this
 
-no_damage : (told : Option Files) (files : Files) (manifest : Manifest) (types : List ColType) (rows : List Row) (number : ℕ) (t : ColType) (f : FileId) (place : ℕ) (wanted found : FileMark) → told ≡ Some files → bytes_of (file.Column number) files ≡ column_file_bytes rows number
-    → manifest ≡ manifest_of (length types) rows → AreRowsOf types rows → All (λ (row : Row). All FitsType row) rows → slice_get types number ≡ Some t → IsDamage told manifest number t (Damaged f place wanted found) → ⊥
-no_damage told files manifest types rows number t f place wanted found known held is typed fit here damage =
-    let same : damage.bytes ≡ column_file_bytes rows number = damage.read files known ∙ held in
-    let mark : slice_get manifest.files number ≡ Some (mark_of (column_file_bytes rows number)) =
-    ap (λ (m : Manifest). slice_get m.files number) is ∙ mark_at rows (length types) number (slice_get_within types number t here) in
-    let refused : IsRefused (Some (mark_of (column_file_bytes rows number))) t manifest.rows damage.bytes place wanted =
-    subst (λ (o : Option FileMark). IsRefused o t manifest.rows damage.bytes place wanted) mark damage.explained.2 in
+no_damage : (told : Option Files) (files : Files) (manifest : Manifest) (schema : Schema) (rows : List Row) (number : ℕ) (t : ColType) (f : FileId) (place : ℕ) (wanted found : FileMark) → told ≡ Some files → bytes_of (file.Column number) files ≡ column_bytes (column_of number rows)
+    → manifest ≡ manifest_of schema rows → AreRowsOf (column_types schema) rows → All (λ (row : Row). All FitsType row) rows → slice_get (column_types schema) number ≡ Some t → IsDamage told manifest (file.Column number) (IsFirstFault t manifest.rows) (Damaged f place wanted found) → ⊥
+no_damage told files manifest schema rows number t f place wanted found known held is typed fit here damage =
+    let bytes = column_bytes (column_of number rows) in
+    let same : damage.bytes ≡ bytes = damage.read files known ∙ held in
+    let below : number < length (column_types schema) = slice_get_within (column_types schema) number t here in
+    let mark : slice_get manifest.files number ≡ Some (mark_of bytes) =
+    ap (λ (m : Manifest). slice_get m.files number) is ∙ mark_held schema rows (file.Column number) (omega (arith, length-map schema.columns (λ (c : Column). c.col_type))) in
+    let refused : IsRefused (Some (mark_of bytes)) (IsFirstFault t manifest.rows damage.bytes) damage.bytes place wanted =
+    subst (λ (o : Option FileMark). IsRefused o (IsFirstFault t manifest.rows damage.bytes) damage.bytes place wanted) mark damage.explained.2 in
     elim refused.1 [
       | inl other ↦ other.0 (ap mark_of (sym same))
       | inr wrong ↦ no_spelling t manifest.rows damage.bytes place (column_of number rows) wrong.1
-          (column_spelled types rows number t manifest.rows damage.bytes here typed fit (ap (λ (m : Manifest). m.rows) is) same)
+          (column_spelled (column_types schema) rows number t manifest.rows damage.bytes here typed fit (ap (λ (m : Manifest). m.rows) is) same)
     ]
 
-pub sound_part : {F : Type 0} (files_of : F → Option Files) (types : List ColType) (part : Part F) (places : List ℕ) (rows : List Row) (columns : List Cells) (fault : PartFault) → HoldsAt files_of types part places rows
-    → map (λ (c : Cells). c.col_type) columns ≡ filter_map (slice_get types) places → ExplainsPart (files_of part.dir) part.loaded.manifest places columns fault → IsNoDamage fault
-sound_part files_of types part places rows columns Fault h typed why = tt
-sound_part files_of types part places rows columns NoMemory h typed why = tt
-sound_part files_of types part places rows columns (Damaged f place wanted found) h typed why =
-    let held : bytes_of (file.Column why.number) h.files ≡ column_file_bytes rows why.number =
-    subst (λ p. bytes_of (file.Column p) h.files ≡ column_file_bytes rows p) (get_or_from_slice_get places why.at why.number 0 why.number_is)
-    (h.columns why.at 0 (slice_get_within places why.at why.number why.number_is)) in
-    no_damage (files_of part.dir) h.files part.loaded.manifest types rows why.number why.column.col_type f place wanted found h.files_are held h.loaded_is h.typed h.encodable
-    (type_there types places columns why.at why.number why.column (each_typed types places columns h.within typed) why.number_is why.column_is) why.explained
+pub sound_part : {F : Type 0} (files_of : F → Option Files) (schema : Schema) (part : Part F) (places : List ℕ) (rows : List Row) (columns : List Cells) (fault : PartFault) → HoldsAt files_of schema part (map file.Column places) rows
+    → map (λ (c : Cells). c.col_type) columns ≡ filter_map (slice_get (column_types schema)) places → ExplainsPart (files_of part.dir) part.loaded.manifest places columns fault → IsNoDamage fault
+sound_part files_of schema part places rows columns Fault h typed why = tt
+sound_part files_of schema part places rows columns NoMemory h typed why = tt
+sound_part files_of schema part places rows columns (Damaged f place wanted found) h typed why =
+    let held : bytes_of (file.Column why.number) h.files ≡ column_bytes (column_of why.number rows) =
+    subst (λ p. bytes_of (file.Column p) h.files ≡ column_bytes (column_of p rows)) (get_or_from_slice_get places why.at why.number 0 why.number_is)
+    (columns_held files_of schema part places rows h why.at 0 (slice_get_within places why.at why.number why.number_is)) in
+    no_damage (files_of part.dir) h.files part.loaded.manifest schema rows why.number why.column.col_type f place wanted found h.files_are held h.loaded_is h.typed h.encodable
+    (type_there (column_types schema) places columns why.at why.number why.column (each_typed (column_types schema) places columns (columns_within files_of schema part places rows h) typed) why.number_is why.column_is) why.explained

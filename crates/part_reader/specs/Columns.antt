@@ -1,5 +1,5 @@
 -- What columns get from the files of a part (docs/formats.md, "Parts").
-use Rattle.std.specs.Prelude.{◌≡◌, ℕ, List, [], ◌∷◌, slice_get, Option, Some}
+use Rattle.std.specs.Prelude.{◌≡◌, ℕ, List, [], ◌∷◌, Option, Some}
 use Rattle.std.specs.Option.{ForSome}
 use Rattle.mt_values.specs.declared.manifest.Manifest.{Manifest}
 use Rattle.mt_base.specs.declared.name.FileId.TheVariants as file
@@ -7,13 +7,14 @@ use Rattle.mt_values.specs.Grid.{Cells}
 use Rattle.mt_outside.specs.Files.{Files, bytes_of}
 use Rattle.column_file.specs.Spellings.{GainsAll}
 use Rattle.part_writer.specs.PartFiles.{mark_of}
+use Rattle.part_reader.specs.Marks.{mark_for}
 
 -- bytes were read that have the mark of the part's column with this number, and a column got the values that they spell;
 -- they are those of the column's file, where the folder tells
 pub record IsRead (told : Option Files) (manifest : Manifest) (number : ℕ) (old new : Cells) : Type 0 where
   pub bytes : List ℕ
   pub read : ForSome told (λ files. bytes ≡ bytes_of (file.Column number) files)
-  pub marked : slice_get manifest.files number ≡ Some (mark_of bytes)
+  pub marked : mark_for manifest (file.Column number) ≡ Some (mark_of bytes)
   pub gained : GainsAll manifest.rows bytes old new
 
 -- so it is for each of these columns, from its place

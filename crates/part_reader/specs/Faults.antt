@@ -3,6 +3,7 @@ use Rattle.std.specs.Prelude.{◌≡◌, ◌≢◌, ◌⊎◌, ℕ, List, slice_
 use Rattle.std.specs.Option.{ForSome}
 use Rattle.mt_values.specs.declared.manifest.FileMark.{FileMark}
 use Rattle.mt_values.specs.declared.manifest.Manifest.{Manifest}
+use Rattle.mt_base.specs.declared.name.FileId.{FileId}
 use Rattle.mt_base.specs.declared.name.FileId.TheVariants as file
 use Rattle.mt_values.specs.declared.value.ColType.{ColType}
 use Rattle.mt_values.specs.Grid.{Cells}
@@ -11,6 +12,7 @@ use Rattle.mt_outside.specs.declared.disk.DiskError.TheVariants as disk
 use Rattle.mt_outside.specs.Files.{Files, bytes_of}
 use Rattle.column_file.specs.Faults.{IsFirstFault}
 use Rattle.part_writer.specs.PartFiles.{mark_of}
+use Rattle.part_reader.specs.Marks.{mark_for}
 use Rattle.part_reader.specs.declared.reading.PartFault.{PartFault}
 use Rattle.part_reader.specs.declared.reading.PartFault.TheVariants.{Fault, NoMemory, Damaged}
 use Rattle.part_reader.specs.declared.reading.TheConstants.{NO_MARK}
@@ -27,29 +29,33 @@ IsNoDamage NoMemory = ⊤
 IsNoDamage (Damaged file place wanted found) = ⊥
 
 -- bytes are refused by what the manifest has as their mark: nothing, or another mark, or the bytes have the mark and go wrong at the place
-abbrev pub IsRefused : Option FileMark → ColType → ℕ → List ℕ → ℕ → FileMark → Type 0
-IsRefused None t rows bytes place wanted = (wanted ≡ NO_MARK) × (place ≡ 0)
-IsRefused (Some mark) t rows bytes place wanted =
-    (wanted ≡ mark) × (((mark ≢ mark_of bytes) × (place ≡ 0)) ⊎ ((mark ≡ mark_of bytes) × IsFirstFault t rows bytes place))
+abbrev pub IsRefused : Option FileMark → (ℕ → Type 0) → List ℕ → ℕ → FileMark → Type 0
+IsRefused None WrongAt bytes place wanted = (wanted ≡ NO_MARK) × (place ≡ 0)
+IsRefused (Some mark) WrongAt bytes place wanted =
+    (wanted ≡ mark) × (((mark ≢ mark_of bytes) × (place ≡ 0)) ⊎ ((mark ≡ mark_of bytes) × WrongAt place))
 
--- what a fault says of the bytes of the file of a part's column
-abbrev pub ExplainsBytes : Manifest → ℕ → ColType → List ℕ → PartFault → Type 0
-ExplainsBytes manifest number t bytes Fault = ⊥
-ExplainsBytes manifest number t bytes NoMemory = ⊤
-ExplainsBytes manifest number t bytes (Damaged f place wanted found) =
-    (f ≡ file.Column number) × (found ≡ mark_of bytes) × IsRefused (slice_get manifest.files number) t manifest.rows bytes place wanted
+-- what a fault says of the bytes of a file, which go wrong at some places
+abbrev pub ExplainsBytes : Manifest → FileId → (ℕ → Type 0) → List ℕ → PartFault → Type 0
+ExplainsBytes manifest f WrongAt bytes Fault = ⊥
+ExplainsBytes manifest f WrongAt bytes NoMemory = ⊤
+ExplainsBytes manifest f WrongAt bytes (Damaged g place wanted found) =
+    (g ≡ f) × (found ≡ mark_of bytes) × IsRefused (mark_for manifest f) WrongAt bytes place wanted
 
 -- damage is told of bytes that were read: those of the file, where the folder tells
-pub record IsDamage (told : Option Files) (manifest : Manifest) (number : ℕ) (t : ColType) (damage : PartFault) : Type 0 where
+pub record IsDamage (told : Option Files) (manifest : Manifest) (f : FileId) (WrongAt : List ℕ → ℕ → Type 0) (damage : PartFault) : Type 0 where
   pub bytes : List ℕ
-  pub read : ForSome told (λ files. bytes ≡ bytes_of (file.Column number) files)
-  pub explained : ExplainsBytes manifest number t bytes damage
+  pub read : ForSome told (λ files. bytes ≡ bytes_of f files)
+  pub explained : ExplainsBytes manifest f (WrongAt bytes) bytes damage
+
+-- what a fault says of a file that was read
+abbrev pub ExplainsFile : Option Files → Manifest → FileId → (List ℕ → ℕ → Type 0) → PartFault → Type 0
+ExplainsFile told manifest f WrongAt Fault = ⊤
+ExplainsFile told manifest f WrongAt NoMemory = ⊤
+ExplainsFile told manifest f WrongAt (Damaged g place wanted found) = IsDamage told manifest f WrongAt (Damaged g place wanted found)
 
 -- what a fault says of the part's column with this number, which was read into one of this type
 abbrev pub ExplainsColumn : Option Files → Manifest → ℕ → ColType → PartFault → Type 0
-ExplainsColumn told manifest number t Fault = ⊤
-ExplainsColumn told manifest number t NoMemory = ⊤
-ExplainsColumn told manifest number t (Damaged f place wanted found) = IsDamage told manifest number t (Damaged f place wanted found)
+ExplainsColumn told manifest number t fault = ExplainsFile told manifest (file.Column number) (IsFirstFault t manifest.rows) fault
 
 -- the fault is one of these columns, each of which was read from its place
 pub record ExplainsPart (told : Option Files) (manifest : Manifest) (places : List ℕ) (columns : List Cells) (fault : PartFault) : Type 0 where

@@ -2,5 +2,6 @@ pub mod Columns
 pub mod Damage
 pub mod DamagedFile
 pub mod Faults
+pub mod Marks
 pub mod Parts
 pub mod Sound

@@ -1,31 +1,37 @@
 -- Which rows the folder and the manifest of a part hold (docs/formats.md, "Parts").
-use Rattle.std.specs.Prelude.{◌≡◌, ℕ, ◌<◌, List, [], ◌∷◌, length, map, All, Option, Some}
-use Rattle.std.specs.List.{range_with_len}
+use Rattle.std.specs.Prelude.{◌≡◌, ℕ, List, [], ◌∷◌, map, All, Option, Some}
+use Rattle.mt_base.specs.declared.name.FileId.{FileId}
 use Rattle.mt_base.specs.declared.name.FileId.TheVariants as file
-use Rattle.mt_values.specs.declared.schema.Column.{Column}
 use Rattle.mt_values.specs.declared.schema.Schema.{Schema}
-use Rattle.mt_values.specs.declared.value.ColType.{ColType}
 use Rattle.mt_values.specs.Grid.{AreRowsOf, Cells, column_of}
+use Rattle.mt_values.specs.Schemas.{column_types}
 use Rattle.mt_values.specs.Values.{FitsType, Row}
 use Rattle.mt_outside.specs.Files.{Files, bytes_of}
 use Rattle.column_file.specs.Spellings.{with_values}
-use Rattle.part_writer.specs.PartFiles.{column_file_bytes, manifest_of}
+use Rattle.digest_file.specs.Spellings.{IsManifestOf}
+use Rattle.part_writer.specs.PartFiles.{HasBytes, IsContent, content_ids, files_of_part, manifest_of, with_bytes}
 use Rattle.part_reader.specs.declared.reading.Part.{Part}
 
--- rows of columns of these types: the folder tells that the files of the columns at these places are theirs, and so is the manifest
-pub record HoldsAt {F : Type 0} (files_of : F → Option Files) (types : List ColType) (part : Part F) (places : List ℕ) (rows : List Row) : Type 0 where
-  pub files : Files
-  pub files_are : files_of part.dir ≡ Some files
-  pub within : All (λ place. place < length types) places
-  pub columns : All (λ place. bytes_of (file.Column place) files ≡ column_file_bytes rows place) places
-  pub loaded_is : part.loaded.manifest ≡ manifest_of (length types) rows
-  pub typed : AreRowsOf types rows
+-- a folder holds rows of a table: each of its files has the bytes that are written of them, and the manifest can be read back
+pub record FolderHolds (schema : Schema) (rows : List Row) (files : Files) : Type 0 where
+  pub held : HasBytes files (files_of_part schema rows)
+  pub readable : IsManifestOf (bytes_of file.Manifest files) (manifest_of schema rows)
+  pub typed : AreRowsOf (column_types schema) rows
   pub encodable : All (λ (row : Row). All FitsType row) rows
 
--- a part holds these rows of a table's columns, all of them
+-- rows of a table: the folder tells that these of its files are theirs, and so is the manifest that is kept
+pub record HoldsAt {F : Type 0} (files_of : F → Option Files) (schema : Schema) (part : Part F) (ids : List FileId) (rows : List Row) : Type 0 where
+  pub files : Files
+  pub files_are : files_of part.dir ≡ Some files
+  pub within : All (IsContent schema) ids
+  pub held : HasBytes files (map (with_bytes schema rows) ids)
+  pub loaded_is : part.loaded.manifest ≡ manifest_of schema rows
+  pub typed : AreRowsOf (column_types schema) rows
+  pub encodable : All (λ (row : Row). All FitsType row) rows
+
+-- a part holds these rows: so it is with all files of which its manifest has marks
 abbrev pub PartHolds : {F : Type 0} → (F → Option Files) → Schema → Part F → List Row → Type 0
-PartHolds files_of schema part rows =
-    let types = map (λ (c : Column). c.col_type) schema.columns in HoldsAt files_of types part (range_with_len 0 (length types)) rows
+PartHolds files_of schema part rows = HoldsAt files_of schema part (content_ids schema) rows
 
 -- each column with the values that the rows have at its place, behind its own
 abbrev pub with_columns : List Row → List ℕ → List Cells → List Cells

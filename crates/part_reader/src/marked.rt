@@ -1,9 +1,11 @@
 // Bytes that a manifest has a mark of.
-ghost use Rattle.std.specs.Prelude.{◌≡◌, IfErr, MatchResult, OnOk, Some, slice_get};
-ghost use Rattle.mt_values.specs.declared.value.ColType.{ColType};
+ghost use Rattle.std.specs.Prelude.{◌≡◌, IfErr, MatchResult, OnOk, Some};
+ghost use Rattle.mt_base.specs.declared.name.FileId.TheVariants as file;
+ghost use Rattle.column_file.specs.Faults.{IsFirstFault};
 ghost use Rattle.column_file.specs.Spellings.{GainsAll};
 ghost use Rattle.part_writer.specs.PartFiles.{mark_of};
 ghost use Rattle.part_reader.specs.Faults.{ExplainsBytes};
+ghost use Rattle.part_reader.specs.Marks.{mark_for};
 
 use crate::reading::{NO_MARK, PartFault};
 use column_file::{FormatFault, decode_onto};
@@ -20,16 +22,17 @@ pub fn add_values(
     bytes: &[u8],
     column: &mut ColumnData,
 ) -> Result<(), PartFault>
-    ensures marked { OnOk result (slice_get manifest.now.files number ≡ Some (mark_of bytes.now)) }
+    ensures marked { OnOk result (mark_for manifest.now (file.Column number) ≡ Some (mark_of bytes.now)) }
     ensures gained { OnOk result (GainsAll manifest.now.rows bytes.now column.old column.new) }
-    ensures damaged { IfErr result (ExplainsBytes manifest.now number column.old.col_type bytes.now) }
+    ensures damaged { IfErr result (ExplainsBytes manifest.now (file.Column number) (IsFirstFault column.old.col_type manifest.now.rows bytes.now) bytes.now) }
 {
-    let mark = mark_found(manifest, number, bytes)?;
+    let file = FileId::Column(number);
+    let mark = mark_found(manifest, file, bytes)?;
     match decode_onto(column, bytes, manifest.rows as usize) {
         Ok(()) => Ok(()),
         Err(FormatFault::NoMemory) => Err(PartFault::NoMemory),
         Err(FormatFault::Malformed { place }) => Err(PartFault::Damaged {
-            file: FileId::Column(number),
+            file,
             place,
             wanted: mark,
             found: mark,
@@ -37,16 +40,15 @@ pub fn add_values(
     }
 }
 
-/// The mark of the bytes, where the manifest has it for the file of the part's column with this number.
+/// The mark of the bytes, where the manifest has it for the file.
 ///
 /// `Damaged` at 0 where the manifest has another, or none. It is nothing else.
-pub fn mark_found(manifest: &Manifest, number: u32, bytes: &[u8]) -> Result<FileMark, PartFault>
-    ensures { MatchResult result (λ mark. (mark ≡ mark_of bytes.now) × (slice_get manifest.now.files number ≡ Some (mark_of bytes.now)))
-        (λ e. (t : ColType) → ExplainsBytes manifest.now number t bytes.now e) }
+pub fn mark_found(manifest: &Manifest, file: FileId, bytes: &[u8]) -> Result<FileMark, PartFault>
+    ensures { MatchResult result (λ mark. (mark ≡ mark_of bytes.now) × (mark_for manifest.now file ≡ Some (mark_of bytes.now)))
+        (ExplainsBytes manifest.now file (λ place. ⊥) bytes.now) }
 {
-    let file = FileId::Column(number);
     let found = mark_of(bytes);
-    let Some(wanted) = mark_at(manifest, number) else {
+    let Some(wanted) = mark_at(manifest, file) else {
         return Err(PartFault::Damaged {
             file,
             place: 0,
@@ -65,9 +67,12 @@ pub fn mark_found(manifest: &Manifest, number: u32, bytes: &[u8]) -> Result<File
     Ok(found)
 }
 
-/// The mark that the manifest has of the file of a column.
-fn mark_at(manifest: &Manifest, number: u32) -> Option<FileMark>
-    ensures { result ≡ slice_get manifest.now.files number }
+/// The mark that the manifest has of a file.
+fn mark_at(manifest: &Manifest, file: FileId) -> Option<FileMark>
+    ensures { result ≡ mark_for manifest.now file }
 {
-    manifest.files.as_slice().get(number as usize).copied()
+    match file {
+        FileId::Column(number) => manifest.files.as_slice().get(number as usize).copied(),
+        _ => None,
+    }
 }

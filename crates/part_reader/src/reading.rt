@@ -2,8 +2,10 @@
 ghost use Rattle.std.specs.Prelude.{◌≡◌, ◌+◌, ◌≤◌, ℕ, All, IfErr, IsErrOf, List, OnOk, length, map, slice_get};
 ghost use Rattle.std.specs.List.{filter_map};
 ghost use Rattle.mt_outside.specs.Causes.{Rose};
-ghost use Rattle.mt_values.specs.declared.value.ColType.{ColType};
+ghost use Rattle.mt_base.specs.declared.name.FileId.TheVariants as file;
+ghost use Rattle.mt_values.specs.declared.schema.Schema.{Schema};
 ghost use Rattle.mt_values.specs.Grid.{Cells};
+ghost use Rattle.mt_values.specs.Schemas.{column_types};
 ghost use Rattle.mt_values.specs.Values.{Row};
 ghost use Rattle.part_reader.specs.Columns.{AreRead, IsRead};
 ghost use Rattle.part_reader.specs.Faults.{ExplainsColumn, ExplainsPart, IsNoDamage};
@@ -57,7 +59,7 @@ pub enum PartFault {
     NoMemory,
     /// A file does not have the mark that the manifest has of it, or the manifest has none of it. The place is 0 then.
     /// Or it has its mark, and its bytes are no spelling of the part's rows: from this place on, counted from 0, they go wrong.
-    /// Or it is `manifest.bin`, and its bytes are no manifest of as many files as the table has columns: at this place they go wrong,
+    /// Or it is `manifest.bin`, and its bytes are no manifest with a mark of each other file: at this place they go wrong,
     /// or the number of files stands.
     #[error("a file of the part is damaged at byte {place}")]
     Damaged {
@@ -108,10 +110,10 @@ pub fn read_columns<R: Arm>(
     columns: &mut [ColumnData],
 ) -> Result<(), PartFault>
     requires { length columns.old ≡ length places.now }
-    ensures values { (types : List ColType) (rows : List Row) → HoldsAt R.Dir.files types part.now places.now rows
-        → map (λ (c : Cells). c.col_type) columns.old ≡ filter_map (slice_get types) places.now → OnOk result (columns.new ≡ with_columns rows places.now columns.old) }
-    ensures sound { (types : List ColType) (rows : List Row) → HoldsAt R.Dir.files types part.now places.now rows
-        → map (λ (c : Cells). c.col_type) columns.old ≡ filter_map (slice_get types) places.now → IfErr result IsNoDamage }
+    ensures values { (schema : Schema) (rows : List Row) → HoldsAt R.Dir.files schema part.now (map file.Column places.now) rows
+        → map (λ (c : Cells). c.col_type) columns.old ≡ filter_map (slice_get (column_types schema)) places.now → OnOk result (columns.new ≡ with_columns rows places.now columns.old) }
+    ensures sound { (schema : Schema) (rows : List Row) → HoldsAt R.Dir.files schema part.now (map file.Column places.now) rows
+        → map (λ (c : Cells). c.col_type) columns.old ≡ filter_map (slice_get (column_types schema)) places.now → IfErr result IsNoDamage }
     ensures read { OnOk result (AreRead (R.Dir.files part.now.dir) part.now.loaded.manifest places.now columns.old columns.new) }
     ensures even { (n : ℕ) → All (λ (c : Cells). length c.values ≡ n) columns.old → OnOk result (All (λ (c : Cells). length c.values ≡ n + part.now.loaded.manifest.rows) columns.new) }
     ensures types { OnOk result (map (λ (c : Cells). c.col_type) columns.new ≡ map (λ (c : Cells). c.col_type) columns.old) }

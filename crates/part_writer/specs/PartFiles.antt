@@ -1,35 +1,64 @@
 -- The files of a part (docs/formats.md, "Parts").
-use Rattle.std.specs.Prelude.{ℕ, true, List, [], ◌∷◌, ◌++◌, length, map}
+use Rattle.std.specs.Prelude.{◌≡◌, ℕ, ◌<◌, true, List, [], ◌∷◌, ◌++◌, length, map, All}
 use Rattle.std.specs.List.{range_with_len}
 use Rattle.sha2.specs.Sha256.{sha256}
 use Rattle.mt_values.specs.declared.manifest.FileMark.{FileMark}
 use Rattle.mt_values.specs.declared.manifest.Manifest.{Manifest}
+use Rattle.mt_base.specs.declared.name.FileId.{FileId}
 use Rattle.mt_base.specs.declared.name.FileId.TheVariants as file
+use Rattle.mt_values.specs.declared.schema.Schema.{Schema}
 use Rattle.mt_values.specs.Values.{Row}
 use Rattle.mt_values.specs.Grid.{column_of}
 use Rattle.mt_values.specs.ColumnBytes.{column_bytes}
 use Rattle.mt_values.specs.Manifests.{manifest_bytes}
-use Rattle.mt_outside.specs.declared.disk.Written.{Written}
-use Rattle.mt_outside.specs.Files.{Files}
+use Rattle.mt_outside.specs.Files.{Files, bytes_of}
 
--- the bytes of the file of a column, from 0
-abbrev pub column_file_bytes : List Row → ℕ → List ℕ
-column_file_bytes rows column = column_bytes (column_of column rows)
+-- ---- which files
+
+-- the files of which a part's manifest has marks, in the order of the format: those of the columns
+abbrev pub content_ids : Schema → List FileId
+content_ids schema = map file.Column (range_with_len 0 (length schema.columns))
+
+-- the file is one of these
+abbrev pub IsContent : Schema → FileId → Type 0
+IsContent schema (file.Column n) = n < length schema.columns
+IsContent schema f = ⊥
+
+-- ---- what they have in them
+
+-- the bytes of such a file, by its kind: of a column its values, row by row
+abbrev pub content_bytes : Schema → List Row → FileId → List ℕ
+content_bytes schema rows (file.Column n) = column_bytes (column_of n rows)
+content_bytes schema rows f = []
+
+abbrev pub with_bytes : Schema → List Row → FileId → FileId × List ℕ
+with_bytes schema rows f = (f, content_bytes schema rows f)
+
+-- the files of which the manifest of a part with these rows has marks, in the order of the format, with their bytes
+abbrev pub content_of_part : Schema → List Row → List (FileId × List ℕ)
+content_of_part schema rows = map (with_bytes schema rows) (content_ids schema)
 
 abbrev pub mark_of : List ℕ → FileMark
 mark_of bytes = record { size = length bytes; digest = sha256 bytes }
 
--- what the manifest of a part with these rows of so many columns says
-abbrev pub manifest_of : ℕ → List Row → Manifest
-manifest_of width rows = record { rows = length rows; files = map (λ column. mark_of (column_file_bytes rows column)) (range_with_len 0 width) }
+-- the marks of files, in their order
+abbrev pub marks_of : List (FileId × List ℕ) → List FileMark
+marks_of files = map (λ (f : FileId × List ℕ). mark_of f.1) files
 
--- a file with its bytes, which was synced
-abbrev pub column_file : List Row → ℕ → Written
-column_file rows column = record { file = file.Column column; bytes = column_file_bytes rows column; synced = true }
+-- what the manifest of a part with these rows says
+abbrev pub manifest_of : Schema → List Row → Manifest
+manifest_of schema rows = record { rows = length rows; files = marks_of (content_of_part schema rows) }
 
-abbrev pub manifest_file : ℕ → List Row → Written
-manifest_file width rows = record { file = file.Manifest; bytes = manifest_bytes sha256 (manifest_of width rows); synced = true }
+-- the files of a part with these rows, with their bytes: those of which the manifest has marks, and the manifest
+abbrev pub files_of_part : Schema → List Row → List (FileId × List ℕ)
+files_of_part schema rows = content_of_part schema rows ++ (file.Manifest, manifest_bytes sha256 (manifest_of schema rows)) ∷ []
 
--- the files of a part with these rows of so many columns, each synced: the columns' in their order, and the manifest
-abbrev pub part_files : ℕ → List Row → Files
-part_files width rows = map (column_file rows) (range_with_len 0 width) ++ manifest_file width rows ∷ []
+-- ---- in a folder
+
+-- the files, each synced
+abbrev pub all_synced : List (FileId × List ℕ) → Files
+all_synced files = map (λ (f : FileId × List ℕ). record { file = f.0; bytes = f.1; synced = true }) files
+
+-- the folder's files have these bytes
+abbrev pub HasBytes : Files → List (FileId × List ℕ) → Type 0
+HasBytes folder files = All (λ (f : FileId × List ℕ). bytes_of f.0 folder ≡ f.1) files

@@ -1,22 +1,23 @@
 // The files of a part, from a block of rows.
-ghost use Rattle.std.specs.Prelude.{◌≡◌, ◌++◌, ◌∷◌, ◌<◌, ◌^◌, [], Some, All, IfOk, OnOk, false, length, map, true};
+ghost use Rattle.std.specs.Prelude.{◌≡◌, ◌++◌, ◌∷◌, ◌<◌, ◌^◌, [], Some, All, IfOk, OnOk, false, length, true};
 ghost use Rattle.std.specs.Option.{option_map};
 ghost use Rattle.sha2.specs.Sha256.{sha256};
 ghost use Rattle.mt_outside.specs.DiskCauses.{HasDiskCause};
-ghost use Rattle.mt_base.specs.declared.name.FileId.TheVariants as file;
-ghost use Rattle.mt_values.specs.declared.schema.Column.{Column};
-ghost use Rattle.mt_values.specs.Grid.{column_of, picked};
+ghost use Rattle.mt_values.specs.Grid.{picked};
 ghost use Rattle.mt_values.specs.Manifests.{manifest_bytes};
+ghost use Rattle.mt_values.specs.Schemas.{column_types};
 ghost use Rattle.mt_values.specs.Values.{FitsType, Row};
 ghost use Rattle.digest_file.specs.Spellings.{IsManifestOf};
 ghost use Rattle.stage_dir.specs.Stages.{IsIntact, has_file, settled, written};
-ghost use Rattle.part_writer.specs.PartFiles.{column_file_bytes, manifest_of, mark_of, part_files};
+ghost use Rattle.part_writer.specs.PartFiles.{IsContent, all_synced, content_bytes, files_of_part, manifest_of, mark_of};
+ghost use Rattle.part_writer.specs.Encodable.{IsEncodable};
 
+use crate::content::{content_count, content_file};
 use column_file::encode_column;
 use digest_file::{manifest_bytes, mark_of};
-use mt_base::Seq;
+use mt_base::{NoMemory, Seq};
 use mt_outside::{Arm, DiskError, Stage};
-use mt_values::{Block, FileId, FileMark, Loaded, Manifest, Schema};
+use mt_values::{Block, Bytes, FileId, FileMark, Loaded, Manifest, Schema};
 use stage_dir::{Open, Sealed, Unsealed, seal, write_file};
 use std::alloc::Global;
 
@@ -41,19 +42,18 @@ pub fn write_part<R: Arm>(
     block: &Block,
     order: &[u32],
 ) -> Result<SealedPart<R::Stage>, DiskError>
-    requires types { block.now.types ≡ map (λ (c : Column). c.col_type) schema.now.columns }
+    requires types { block.now.types ≡ column_types schema.now }
     requires places { All (λ place. place < length block.now.rows) order.now }
     requires few { length schema.now.columns < 2 ^ 32 }
-    ensures files { IfOk result (λ s. R.tells arm.old ≡ true → s.sealed.files ≡ Some (part_files (length block.now.types) (picked block.now.rows order.now))) }
-    ensures loaded { IfOk result (λ s. s.loaded.manifest ≡ manifest_of (length block.now.types) (picked block.now.rows order.now)) }
+    ensures files { IfOk result (λ s. R.tells arm.old ≡ true → s.sealed.files ≡ Some (all_synced (files_of_part schema.now (picked block.now.rows order.now)))) }
+    ensures loaded { IfOk result (λ s. s.loaded.manifest ≡ manifest_of schema.now (picked block.now.rows order.now)) }
     ensures encodable { IfOk result (λ _. All (λ (row : Row). All FitsType row) (picked block.now.rows order.now)) }
     ensures readable { IfOk result (λ s. IsManifestOf (manifest_bytes sha256 s.loaded.manifest) s.loaded.manifest) }
     ensures tells { R.tells arm.new ≡ R.tells arm.old }
     ensures cause { HasDiskCause (R.failed arm.old) (R.failed arm.new) result }
 {
     let mut stage = Open::of(alloc, arm.stage(alloc)?);
-    let width = schema.columns.len() as u32;
-    match fill(alloc, &mut stage, block, width, order) {
+    match fill(alloc, &mut stage, schema, block, order) {
         Ok(manifest) => seal_part(arm, stage, Loaded { manifest }),
         Err(error) => {
             arm.abandon(stage.into_stage());
@@ -85,32 +85,37 @@ fn seal_part<R: Arm>(
     }
 }
 
-/// Writes the files of a part: the columns' in their order, and the manifest, which is handed back.
+/// Writes the files of a part in the order of the format, and last the manifest, which is handed back.
 ///
 /// After an error the stage can only be given up.
 fn fill<S: Stage>(
     alloc: Global,
     stage: &mut Open<S>,
+    schema: &Schema,
     block: &Block,
-    width: u32,
     order: &[u32],
 ) -> Result<Manifest, DiskError>
     requires intact { IsIntact stage.old }
     requires empty { stage.old.names ≡ [] }
-    requires width { width ≡ length block.now.types }
+    requires types { block.now.types ≡ column_types schema.now }
     requires places { All (λ place. place < length block.now.rows) order.now }
-    ensures files { OnOk result (option_map settled stage.new.files ≡ option_map (λ _. part_files width (picked block.now.rows order.now)) stage.old.files) }
+    requires few { length schema.now.columns < 2 ^ 32 }
+    ensures files { OnOk result (option_map settled stage.new.files ≡ option_map (λ _. all_synced (files_of_part schema.now (picked block.now.rows order.now))) stage.old.files) }
     ensures intact { OnOk result (IsIntact stage.new) }
-    ensures manifest { IfOk result (λ manifest. manifest ≡ manifest_of width (picked block.now.rows order.now)) }
+    ensures manifest { IfOk result (λ manifest. manifest ≡ manifest_of schema.now (picked block.now.rows order.now)) }
     ensures encodable { OnOk result (All (λ (row : Row). All FitsType row) (picked block.now.rows order.now)) }
     ensures readable { IfOk result (λ manifest. IsManifestOf (manifest_bytes sha256 manifest) manifest) }
     ensures cause { HasDiskCause stage.old.failed stage.new.failed result }
 {
     // Reading the number of rows shows that each row has a value of each column.
     prove!(block.len() <= u32::MAX as usize);
-    let mut files = Seq::with_capacity(alloc, width as usize)?;
-    for column in 0..width {
-        let mark = write_column(alloc, stage, block, column, order)?;
+    let count = content_count(schema) as u32;
+    let mut files = Seq::with_capacity(alloc, count as usize)?;
+    for place in 0..count {
+        let Some(file) = content_file(schema, place) else {
+            unreachable!()
+        };
+        let mark = write_content(alloc, stage, schema, block, file, order)?;
         files.push(mark)?;
     }
     let rows = order.len() as u64;
@@ -120,30 +125,56 @@ fn fill<S: Stage>(
     Ok(manifest)
 }
 
-/// Writes the file of a column, whose mark is that of the bytes that are handed to the stage.
+/// Writes a file of which the manifest has a mark: that of the bytes that are handed to the stage.
 ///
 /// After an error the stage can only be given up.
-fn write_column<S: Stage>(
+fn write_content<S: Stage>(
     alloc: Global,
     stage: &mut Open<S>,
+    schema: &Schema,
     block: &Block,
-    column: u32,
+    file: FileId,
     order: &[u32],
 ) -> Result<FileMark, DiskError>
-    requires column { column < length block.now.types }
+    requires content { IsContent schema.now file }
+    requires types { block.now.types ≡ column_types schema.now }
     requires places { All (λ place. place < length block.now.rows) order.now }
     requires intact { IsIntact stage.old }
-    requires new { has_file (file.Column column) stage.old.names ≡ false }
-    ensures mark { IfOk result (λ mark. mark ≡ mark_of (column_file_bytes (picked block.now.rows order.now) column)) }
-    ensures names { OnOk result (stage.new.names ≡ stage.old.names ++ file.Column column ∷ []) }
-    ensures files { OnOk result (stage.new.files ≡ option_map (λ files. files ++ written (file.Column column) (column_file_bytes (picked block.now.rows order.now) column) ∷ []) stage.old.files) }
+    requires new { has_file file stage.old.names ≡ false }
+    ensures mark { IfOk result (λ mark. mark ≡ mark_of (content_bytes schema.now (picked block.now.rows order.now) file)) }
+    ensures names { OnOk result (stage.new.names ≡ stage.old.names ++ file ∷ []) }
+    ensures files { OnOk result (stage.new.files ≡ option_map (λ files. files ++ written file (content_bytes schema.now (picked block.now.rows order.now) file) ∷ []) stage.old.files) }
     ensures intact { OnOk result (IsIntact stage.new) }
-    ensures encodable { OnOk result (All FitsType (column_of column (picked block.now.rows order.now))) }
+    ensures encodable { OnOk result (IsEncodable (picked block.now.rows order.now) file) }
     ensures cause { HasDiskCause stage.old.failed stage.new.failed result }
 {
-    let encoded = encode_column(alloc, block, column as usize, order, GRANULARITY)?;
-    let bytes = encoded.bytes.as_slice();
+    let encoded = encode_content(alloc, schema, block, file, order)?;
+    let bytes = encoded.as_slice();
     let mark = mark_of(bytes);
-    write_file(stage, FileId::Column(column), bytes)?;
+    write_file(stage, file, bytes)?;
     Ok(mark)
+}
+
+/// The bytes of a file of which the manifest has a mark.
+///
+/// `NoMemory` where a growth was refused.
+fn encode_content(
+    alloc: Global,
+    schema: &Schema,
+    block: &Block,
+    file: FileId,
+    order: &[u32],
+) -> Result<Bytes, NoMemory>
+    requires content { IsContent schema.now file }
+    requires types { block.now.types ≡ column_types schema.now }
+    requires places { All (λ place. place < length block.now.rows) order.now }
+    ensures bytes { IfOk result (λ bytes. bytes ≡ content_bytes schema.now (picked block.now.rows order.now) file) }
+    ensures encodable { IfOk result (λ _. IsEncodable (picked block.now.rows order.now) file) }
+{
+    match file {
+        FileId::Column(column) => {
+            Ok(encode_column(alloc, block, column as usize, order, GRANULARITY)?.bytes)
+        }
+        _ => unreachable!(),
+    }
 }

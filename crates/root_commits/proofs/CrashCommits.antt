@@ -18,7 +18,7 @@ use Rattle.mt_outside.specs.Files.{Files, bytes_of}
 use Rattle.mt_model.specs.History.{History, IsInsertInto, IsTableSchema, creates, schema_of}
 use Rattle.part_name.specs.PartNames.{part_text}
 use Rattle.part_set.specs.RootNames.{is_table}
-use Rattle.part_writer.specs.PartFiles.{column_file_bytes, manifest_of}
+use Rattle.part_writer.specs.PartFiles.{files_of_part, manifest_of}
 use Rattle.digest_file.specs.Spellings.{IsManifestOf}
 use Rattle.stage_dir.specs.Stages.{AreSealed}
 use Rattle.stage_dir.proofs.Images.{is_synced-sealed}
@@ -45,10 +45,8 @@ module _ (files left : Files) (sealed : AreSealed files) (become : MayBecome fil
 
   pub folder_left : (schema : Schema) (rows : List Row) → FolderHolds schema rows files → FolderHolds schema rows left
   folder_left schema rows holds = record {
-    manifest = same_bytes file.Manifest ∙ holds.manifest;
-    readable = subst (λ (bytes : List ℕ). IsManifestOf bytes (manifest_of (length schema.columns) rows)) (sym (same_bytes file.Manifest)) holds.readable;
-    columns = All-weaker (λ place. bytes_of (file.Column place) files ≡ column_file_bytes rows place) (λ place. bytes_of (file.Column place) left ≡ column_file_bytes rows place)
-        (λ place is. same_bytes (file.Column place) ∙ is) _ holds.columns;
+    held = All-weaker (λ (f : FileId × List ℕ). bytes_of f.0 files ≡ f.1) (λ (f : FileId × List ℕ). bytes_of f.0 left ≡ f.1) (λ f is. same_bytes f.0 ∙ is) (files_of_part schema rows) holds.held;
+    readable = subst (λ (bytes : List ℕ). IsManifestOf bytes (manifest_of schema rows)) (sym (same_bytes file.Manifest)) holds.readable;
     typed = holds.typed;
     encodable = holds.encodable;
   }

@@ -13,6 +13,7 @@ use Rattle.mt_values.specs.Grammar.{same_bytes}
 use Rattle.mt_values.specs.Grid.{Grid}
 use Rattle.mt_outside.specs.Files.{Files}
 use Rattle.mt_model.proofs.Tables.{itself_same}
+use Rattle.part_reader.proofs.Holding.{written_holds}
 use Rattle.part_reader.specs.declared.reading.Part.{Part}
 use Rattle.part_set.specs.declared.kept.Kept.{Kept}
 use Rattle.part_set.specs.declared.set.PartSet.{PartSet}
@@ -23,7 +24,6 @@ use Rattle.root_store.specs.Stores.{fresh_table}
 use Rattle.root_commits.specs.Commits.{EntersSealed, EntersTable, IsSealedOf, SameStore, fresh_part, part_rows}
 use Rattle.root_store.specs.Soundness.{HasSoundParts, HoldsRows, IsSound}
 use Rattle.root_store.specs.Stores.{table_at}
-use Rattle.root_store.proofs.Undamaged.{folder_part}
 use Rattle.root_commits.proofs.Updated.{it_or, one_some}
 
 module _ {F : Type 0} (files_of : F → Option Files) where
@@ -50,7 +50,7 @@ module _ {F : Type 0} (files_of : F → Option Files) where
         let now : table_at new table ≡ Some x = subst (λ (v : List ℕ). table_at new v ≡ Some x) (sym same) at in
         let kept = one_some (table_at new table) (record { schema = t.schema; drawn = t.drawn + 1 }) x a.enters.updates.1 now in
         let new_part : Kept (Part F) = record { name = fresh_part (t.drawn + 1); part = a.part } in
-        let own : HoldsRows files_of t.schema new_part = (part_rows t.schema block, folder_part files_of t.schema (part_rows t.schema block) is.files a.part is.holds (a.files_are ∙ is.sealed_are) (ap (λ (l : Loaded). l.manifest) a.loaded_is ∙ is.loaded_is)) in
+        let own : HoldsRows files_of t.schema new_part = (part_rows t.schema block, written_holds files_of t.schema a.part (part_rows t.schema block) is.files (a.files_are ∙ is.sealed_are) (ap (λ (l : Loaded). l.manifest) a.loaded_is ∙ is.loaded_is) is.holds) in
         let all = All-push (HoldsRows files_of t.schema) (parts_of old.set table) new_part (held table t a.enters.there) own in
         subst (λ (v : List ℕ). All (HoldsRows files_of x.schema) (parts_of new.set v)) same
         (subst (λ (y : Table). All (HoldsRows files_of y.schema) (parts_of new.set table)) kept (subst (All (HoldsRows files_of t.schema)) (sym a.enters.parts) all)))

@@ -15,6 +15,7 @@ use Rattle.mt_outside.specs.Files.{Files}
 use Rattle.mt_model.specs.History.{History, IsInsertInto, is_create, schema_of}
 use Rattle.mt_model.proofs.Histories.{legal_push}
 use Rattle.mt_model.proofs.Tables.{itself_same}
+use Rattle.part_reader.proofs.Holding.{written_holds}
 use Rattle.part_reader.specs.declared.reading.Part.{Part}
 use Rattle.part_reader.specs.Parts.{PartHolds}
 use Rattle.part_set.specs.declared.kept.Kept.{Kept}
@@ -30,7 +31,6 @@ use Rattle.root_store.specs.declared.store.Table.{Table}
 use Rattle.root_commits.specs.Commits.{EntersSealed, IsSealedOf, fresh_part, insert_into, insert_of_block, part_rows}
 use Rattle.root_store.specs.Stores.{CoreStands, PartsAreThere, core_part, core_parts, table_at}
 use Rattle.root_commits.proofs.Entering.{first_none}
-use Rattle.root_store.proofs.Undamaged.{folder_part}
 use Rattle.root_commits.proofs.Updated.{it_or, no_some, one_some}
 
 module _ {F : Type 0} where
@@ -95,7 +95,7 @@ module _ {F : Type 0} (files_of : F → Option Files) (h : History) (old new : C
   new_part = ap (λ (n : ℕ). core_part table (record { name = fresh_part n; part = a.part }) rows) number
 
   holds : Holds t.schema kept rows
-  holds = folder_part files_of t.schema rows is.files a.part is.holds (a.files_are ∙ is.sealed_are) (ap (λ (l : Loaded). l.manifest) a.loaded_is ∙ is.loaded_is)
+  holds = written_holds files_of t.schema a.part rows is.files (a.files_are ∙ is.sealed_are) (ap (λ (l : Loaded). l.manifest) a.loaded_is ∙ is.loaded_is) is.holds
 
   -- the table has one part more
   grown_there : PartsAreThere files_of h old table t.schema → PartsAreThere files_of (h ++ e ∷ []) new table t.schema

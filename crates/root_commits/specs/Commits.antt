@@ -80,7 +80,7 @@ pub record IsSealedOf (schema : Schema) (block : Grid) (sealed : Option Files) (
   pub files : Files
   pub sealed_are : sealed ≡ Some files
   pub holds : FolderHolds schema (part_rows schema block) files
-  pub loaded_is : loaded.manifest ≡ manifest_of (length schema.columns) (part_rows schema block)
+  pub loaded_is : loaded.manifest ≡ manifest_of schema (part_rows schema block)
 
 -- the part that a table's next INSERT makes
 abbrev pub fresh_part : ℕ → PartName

@@ -33,6 +33,7 @@ use Rattle.part_name.specs.PartNames.{Meet}
 use Rattle.part_writer.specs.PartFiles.{manifest_of}
 use Rattle.part_reader.specs.declared.reading.Part.{Part}
 use Rattle.part_reader.specs.Parts.{PartHolds}
+use Rattle.part_reader.proofs.Holding.{written_holds}
 use Rattle.part_set.specs.declared.kept.Kept.{Kept}
 use Rattle.part_set.specs.declared.root_name.RootName.{RootName}
 use Rattle.part_set.specs.declared.root_name.RootName.TheVariants as root
@@ -60,7 +61,7 @@ use Rattle.root_store.proofs.Items.{counted_one, item_either, map_item, mapped, 
 use Rattle.root_store.proofs.Orphaned.{no_orphan, of_core}
 use Rattle.root_store.proofs.Readings.{one_reading}
 use Rattle.root_store.proofs.Tabled.{never_below, table_here}
-use Rattle.root_store.proofs.Undamaged.{folder_part, folders_agree}
+use Rattle.root_store.proofs.Undamaged.{folders_agree}
 
 same_some : {X : Type 0} (x y : X) → Some x ≡ Some y → x ≡ y
 same_some x y e = cc
@@ -243,11 +244,11 @@ module _ {F : Type 0} (files_of : F → Option Files) (names : Names) (h : Histo
         let there : files_at (root_text (root.Part (part_of table k))) names ≡ Some folder.files = subst (λ (p : TablePart). files_at (root_text (root.Part p)) names ≡ Some folder.files) c.name_is folder.there in
         let files_are : folder.files ≡ is.files = same_some folder.files is.files (sym there ∙ is.there) in
         let holds = subst (λ (x : Schema). FolderHolds x c.core.rows is.files) same (subst (FolderHolds c.there.schema c.core.rows) files_are folder.holds) in
-        let manifest = one_manifest (bytes_of file.Manifest is.files) k.part.loaded.manifest (manifest_of (length schema.columns) c.core.rows) is.manifest.of holds.readable in
+        let manifest = one_manifest (bytes_of file.Manifest is.files) k.part.loaded.manifest (manifest_of schema c.core.rows) is.manifest.of holds.readable in
         let core : c.core ≡ core_part table k c.core.rows = λ i. record { table = (c.name_is i).table; name = (c.name_is i).name; rows = c.core.rows } in
         record {
           rows = c.core.rows ∷ more.rows;
-          hold = (folder_part files_of schema c.core.rows is.files k.part holds is.told manifest, more.hold);
+          hold = (written_holds files_of schema k.part c.core.rows is.files is.told manifest holds, more.hold);
           from = (subst (HasItem s.parts) core c.here, more.from);
         }
 

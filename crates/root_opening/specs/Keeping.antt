@@ -13,7 +13,7 @@ use Rattle.mt_model.specs.History.{IsTableSchema}
 use Rattle.part_name.specs.declared.part.PartName.{PartName}
 use Rattle.part_reader.specs.declared.reading.Part.{Part}
 use Rattle.part_reader.specs.DamagedFile.{damaged_file}
-use Rattle.part_reader.specs.Sound.{IsManifestOfWidth}
+use Rattle.part_reader.specs.Sound.{IsManifestFor}
 use Rattle.part_set.specs.declared.kept.Kept.{Kept}
 use Rattle.part_set.specs.declared.root_name.RootName.{RootName}
 use Rattle.part_set.specs.declared.root_name.TablePart.{TablePart}
@@ -72,7 +72,7 @@ pub record IsRead {F : Type 0} (files_of : F → Option Files) (names : Names) (
   pub files : Files
   pub there : files_at text names ≡ Some files
   pub told : files_of part.dir ≡ Some files
-  pub manifest : IsManifestOfWidth (length schema.columns) (bytes_of file.Manifest files) part.loaded.manifest
+  pub manifest : IsManifestFor schema (bytes_of file.Manifest files) part.loaded.manifest
   pub sound : damaged_file schema files ≡ None
 
 -- ---- names gone over

@@ -1,30 +1,21 @@
 -- A root that stands for a history has no damaged file.
-use Rattle.std.proofs.Common.{◌≡◌, ℕ, ◌-◌, ◌<◌, List, ◌++◌, Option, Some, None, length, refl, sym, ap, ◌∙◌, subst, inl, inr, arith, codes, length-append, zero-add}
-use Rattle.std.proofs.lemmas.List.{length-map}
-use Rattle.std.proofs.lemmas.List.FromFn.{get_or-range_with_len, length-map-range_with_len, length-range_with_len}
+use Rattle.std.proofs.Common.{◌≡◌, ℕ, ◌-◌, ◌<◌, List, ◌++◌, Option, Some, None, length, refl, sym, ap, ◌∙◌, subst, inl, inr, arith, codes, length-append}
 use Rattle.std.specs.Int.{w32, to_le_bytes}
-use Rattle.std.specs.List.{All, Contains as HasItem, range_with_len}
+use Rattle.std.specs.List.{Contains as HasItem}
 use Rattle.sha2.specs.Sha256.{sha256}
 use Rattle.sha2.proofs.Facts256.{length-sha256}
 use Rattle.mt_base.specs.declared.partition.Partition.TheVariants.{Whole}
 use Rattle.mt_base.specs.declared.name.FileId.{FileId}
-use Rattle.mt_base.specs.declared.name.FileId.TheVariants as file
-use Rattle.mt_values.specs.declared.schema.Column.{Column}
 use Rattle.mt_values.specs.declared.schema.Schema.{Schema}
 use Rattle.mt_values.specs.Manifests.{entry_body, entry_bytes}
 use Rattle.mt_values.specs.RootNames.{create_name}
-use Rattle.mt_values.specs.Values.{Row}
 use Rattle.mt_outside.specs.Disk.{Names, files_at}
-use Rattle.mt_outside.specs.Files.{Files, bytes_of}
+use Rattle.mt_outside.specs.Files.{Files}
 use Rattle.mt_model.specs.History.{History, schema_of}
 use Rattle.digest_file.proofs.Pieces.{fronts_apart}
-use Rattle.part_writer.specs.PartFiles.{column_file_bytes, manifest_of}
-use Rattle.part_reader.specs.declared.reading.Part.{Part}
 use Rattle.part_reader.specs.DamagedFile.{damaged_file}
-use Rattle.part_reader.specs.Parts.{PartHolds}
-use Rattle.part_reader.specs.Sound.{column_types}
-use Rattle.part_reader.proofs.Deciding.{under_manifest, unsound_file}
-use Rattle.part_reader.proofs.SoundRows.{held_sound}
+use Rattle.part_reader.proofs.Deciding.{file_is}
+use Rattle.part_reader.proofs.SoundRows.{written_sound}
 use Rattle.part_set.specs.declared.root_name.RootName.{RootName}
 use Rattle.part_set.specs.declared.root_name.RootName.TheVariants as root
 use Rattle.part_set.specs.declared.root_name.TablePart.{TablePart}
@@ -73,32 +64,6 @@ folders_agree names name table a b x y =
 
 -- ---- parts
 
--- the folder of rows is that of a part which holds them
-pub folder_part : {F : Type 0} (files_of : F → Option Files) (schema : Schema) (rows : List Row) (files : Files) (part : Part F) → FolderHolds schema rows files → files_of part.dir ≡ Some files
-    → part.loaded.manifest ≡ manifest_of (length schema.columns) rows → PartHolds files_of schema part rows
-folder_part files_of schema rows files part f told loaded =
-    let wide : length (column_types schema) ≡ length schema.columns = length-map schema.columns (λ (c : Column). c.col_type) in
-    record {
-      files = files;
-      files_are = told;
-      within = λ k d lt.
-          let inside : k < length (column_types schema) = omega (arith, lt, length-range_with_len 0 (length (column_types schema))) in
-          subst (λ (p : ℕ). p < length (column_types schema)) (sym (get_or-range_with_len 0 (length (column_types schema)) k d inside ∙ zero-add k)) inside;
-      columns = subst (λ (n : ℕ). All (λ place. bytes_of (file.Column place) files ≡ column_file_bytes rows place) (range_with_len 0 n)) (sym wide) f.columns;
-      loaded_is = loaded ∙ ap (λ (n : ℕ). manifest_of n rows) (sym wide);
-      typed = f.typed;
-      encodable = f.encodable;
-    }
-
--- no file of it is damaged
-pub folder_sound : (schema : Schema) (rows : List Row) (files : Files) → FolderHolds schema rows files → damaged_file schema files ≡ None
-folder_sound schema rows files f =
-    let manifest = manifest_of (length schema.columns) rows in
-    let part : Part Files = record { dir = files; loaded = record { manifest = manifest } } in
-    let holds = folder_part (λ (fs : Files). Some fs) schema rows files part f refl refl in
-    under_manifest schema files manifest (record { of = f.readable; width_is = length-map-range_with_len _ 0 (length schema.columns) })
-    ∙ unsound_file manifest files (column_types schema) None (held_sound (λ (fs : Files). Some fs) schema part files rows refl holds)
-
 none_some : {X : Type 0} (o : Option X) (x : X) → o ≡ None → o ≡ Some x → ⊥
 none_some o x none some = let both = sym none ∙ some in cc
 
@@ -130,7 +95,7 @@ module _ (names : Names) (h : History) (s : Stands names h) where
       let here : files_at (root_text (root.Part part)) names ≡ Some folder.files = subst (λ (p : TablePart). files_at (root_text (root.Part p)) names ≡ Some folder.files) c.name_is folder.there in
       let files_are : folder.files ≡ files = same_some folder.files files (sym here ∙ at) in
       let holds = subst (λ (x : Schema). FolderHolds x c.core.rows files) same (subst (FolderHolds c.there.schema c.core.rows) files_are folder.holds) in
-      none_some (damaged_file schema files) f (folder_sound schema c.core.rows files holds) bad.1
+      none_some (damaged_file schema files) f (file_is schema files None (written_sound schema files c.core.rows holds)) bad.1
 
   sound : (n : RootName) (files : Files) (f : FileId) → HasItem s.read n → files_at (root_text n) names ≡ Some files → IsDamaged names s.read n files f → ⊥
   sound (root.Create table) files f here at bad = entry_sound table files here at bad.0

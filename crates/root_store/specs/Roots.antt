@@ -1,34 +1,20 @@
 -- Which roots stand for a history (docs/definitions.md, "Roots").
-use Rattle.std.specs.Prelude.{◌≡◌, ◌↔◌, ℕ, List, map, length, All, Some, None}
-use Rattle.std.specs.List.{Contains as HasItem, range_with_len}
-use Rattle.sha2.specs.Sha256.{sha256}
-use Rattle.mt_base.specs.declared.name.FileId.TheVariants as file
+use Rattle.std.specs.Prelude.{◌≡◌, ◌↔◌, ℕ, List, map, All, Some, None}
+use Rattle.std.specs.List.{Contains as HasItem}
 use Rattle.mt_values.specs.declared.schema.Schema.{Schema}
-use Rattle.mt_values.specs.Grid.{AreRowsOf}
-use Rattle.mt_values.specs.Manifests.{manifest_bytes}
 use Rattle.mt_values.specs.RootNames.{create_name}
-use Rattle.mt_values.specs.Values.{FitsType, Row}
 use Rattle.mt_outside.specs.Disk.{Names, files_at}
-use Rattle.mt_outside.specs.Files.{Files, bytes_of}
-use Rattle.mt_model.specs.History.{History, IsLegal, column_types, schema_of}
-use Rattle.digest_file.specs.Spellings.{IsManifestOf}
+use Rattle.mt_outside.specs.Files.{Files}
+use Rattle.mt_model.specs.History.{History, IsLegal, schema_of}
 use Rattle.part_set.specs.declared.root_name.RootName.{RootName}
 use Rattle.part_set.specs.declared.root_name.RootName.TheVariants as root
 use Rattle.part_set.specs.declared.root_name.TablePart.{TablePart}
 use Rattle.part_set.specs.RootNames.{IsRootName, root_text}
 use Rattle.part_set.specs.Visible.{HasPart, HasTable, IsVisible}
-use Rattle.part_writer.specs.PartFiles.{column_file_bytes, manifest_of}
+pub use Rattle.part_reader.specs.Parts.{FolderHolds}
 use Rattle.part_history.specs.declared.part.CorePart.{CorePart}
 use Rattle.part_history.specs.Parts.{PartsStand}
 use Rattle.root_store.specs.Entries.{EntryHolds}
-
--- a folder holds rows of a table: each of its files has the bytes that are written of them (docs/formats.md, "Parts")
-pub record FolderHolds (schema : Schema) (rows : List Row) (files : Files) : Type 0 where
-  pub manifest : bytes_of file.Manifest files ≡ manifest_bytes sha256 (manifest_of (length schema.columns) rows)
-  pub readable : IsManifestOf (bytes_of file.Manifest files) (manifest_of (length schema.columns) rows)
-  pub columns : All (λ place. bytes_of (file.Column place) files ≡ column_file_bytes rows place) (range_with_len 0 (length schema.columns))
-  pub typed : AreRowsOf (column_types schema) rows
-  pub encodable : All (λ (row : Row). All FitsType row) rows
 
 -- the root has a folder of this name, and it is so
 pub record HasFolder (names : Names) (name : List ℕ) (Holds : Files → Type 0) : Type 0 where

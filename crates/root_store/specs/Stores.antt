@@ -15,7 +15,7 @@ use Rattle.mt_model.specs.History.{History, IsLegal, creates, schema_of}
 use Rattle.part_reader.specs.declared.reading.Part.{Part}
 use Rattle.part_name.specs.declared.part.PartName.{PartName}
 use Rattle.part_reader.specs.Parts.{PartHolds}
-use Rattle.part_reader.specs.Sound.{IsManifestOfWidth}
+use Rattle.part_reader.specs.Sound.{IsManifestFor}
 use Rattle.part_set.specs.declared.kept.Kept.{Kept}
 use Rattle.part_set.specs.declared.root_name.RootName.{RootName}
 use Rattle.part_set.specs.declared.root_name.RootName.TheVariants as root
@@ -90,7 +90,7 @@ pub record IsKeptOf {F : Type 0} (files_of : F → Option Files) (names : Names)
   pub files : Files
   pub there : files_at (root_text (root.Part (part_of table kept))) names ≡ Some files
   pub told : files_of kept.part.dir ≡ Some files
-  pub manifest : IsManifestOfWidth (length schema.columns) (bytes_of file.Manifest files) kept.part.loaded.manifest
+  pub manifest : IsManifestFor schema (bytes_of file.Manifest files) kept.part.loaded.manifest
 
 -- The store is what opening makes of a root: its tables are those among the names, and of each table it has exactly the visible parts, in
 -- block order, of which no two meet.

@@ -1,8 +1,8 @@
 // From lines to rows: one row, and the lines of an INSERT's data as a block.
-ghost use Rattle.std.specs.Prelude.{◌≡◌, ◌≢◌, [], All, IfErr, IfOk, Ok, Err, map};
+ghost use Rattle.std.specs.Prelude.{◌≡◌, ◌≢◌, [], All, IfErr, IfOk, Ok, Err};
 ghost use Rattle.mt_values.specs.Rows.{at_field, inserted_rows, row_of_line, value_of_field};
 ghost use Rattle.mt_values.specs.Values.{AreValues, IsValue};
-ghost use Rattle.mt_values.specs.declared.schema.Column.{Column};
+ghost use Rattle.mt_values.specs.Schemas.{column_types};
 ghost use Rattle.tsv_rows.specs.Stops.{Refuses};
 
 use mt_base::{NoMemory, Seq};
@@ -56,8 +56,8 @@ fn read_value(
 /// `RowFault::NoMemory` where a growth was refused. Else the fault is that of the number of fields, or of the first
 /// faulty field from the left.
 pub fn read_row(alloc: Global, schema: &Schema, text: &[u8], line: usize) -> Result<Row, RowFault>
-    ensures row { IfOk result (λ row. row_of_line (map (λ (c : Column). c.col_type) schema.now.columns) line text.now ≡ Ok row) }
-    ensures fault { IfErr result (λ fault. fault ≢ RowFault.NoMemory → row_of_line (map (λ (c : Column). c.col_type) schema.now.columns) line text.now ≡ Err fault) }
+    ensures row { IfOk result (λ row. row_of_line (column_types schema.now) line text.now ≡ Ok row) }
+    ensures fault { IfErr result (λ fault. fault ≢ RowFault.NoMemory → row_of_line (column_types schema.now) line text.now ≡ Err fault) }
     ensures values { IfOk result (All IsValue) }
 {
     let columns = schema.columns.as_slice();

@@ -2,7 +2,7 @@ use Rattle.std.proofs.Common.{◌<◌, List, ℕ, Some, All, length, sym, ap, �
 use Rattle.mt_values.specs.Values.{FitsType, Row}
 use Rattle.mt_values.specs.Grid.{picked}
 use Rattle.mt_values.proofs.Grids.{places_below}
-use Rattle.part_writer.specs.PartFiles.{manifest_of, part_files}
+use Rattle.part_writer.specs.PartFiles.{all_synced, files_of_part, manifest_of}
 use Rattle.command_turn.proofs.Sealing.{sealed_of}
 use Rattle.command_turn.proofs.inserts.seal_block.Goals as goal
 
@@ -13,11 +13,10 @@ write_part-requires-clause-places g c κs within =
 pub returns-clause-sealed : goal.returns-clause-sealed
 returns-clause-sealed g c = λ tells.
     let block = c.args.block.now in
-    let wide = length block.types in
     let same = c.deref.ensures.value in
     let w = c.in_ok-write_part.ensures in
     sealed_of c.args.schema.now block c.in_ok-order.order.items c.requires.types c.in_ok-order.ensures c.len.ensures.typed _ _
-    (w.files tells ∙ ap (λ (o : List ℕ). Some (part_files wide (picked block.rows o))) same)
-    (w.loaded ∙ ap (λ (o : List ℕ). manifest_of wide (picked block.rows o)) same)
+    (w.files tells ∙ ap (λ (o : List ℕ). Some (all_synced (files_of_part c.args.schema.now (picked block.rows o)))) same)
+    (w.loaded ∙ ap (λ (o : List ℕ). manifest_of c.args.schema.now (picked block.rows o)) same)
     (subst (λ (o : List ℕ). All (λ (row : Row). All FitsType row) (picked block.rows o)) same w.encodable)
     w.readable

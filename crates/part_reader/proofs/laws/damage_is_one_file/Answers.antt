@@ -12,8 +12,8 @@ returns-clause-one c = file_is
 pub returns-clause-opened : goal.returns-clause-opened
 returns-clause-opened c = λ schema files manifest is. under_manifest schema files manifest is
 
-pub returns-clause-column : goal.returns-clause-column
-returns-clause-column c = unsound_is
+pub returns-clause-content : goal.returns-clause-content
+returns-clause-content c = unsound_is
 
 pub returns-clause-written : goal.returns-clause-written
 returns-clause-written c = λ schema files rows written. file_is schema files None (written_sound schema files rows written)

@@ -48,9 +48,9 @@ returns-in_err-read_column-clause-damaged g c =
     (fault_of g c)
 
 pub returns-in_err-read_column-clause-sound : goal.returns-in_err-read_column-clause-sound
-returns-in_err-read_column-clause-sound g c = λ types rows holds typed.
+returns-in_err-read_column-clause-sound g c = λ schema rows holds typed.
     handed_on IsNoDamage c.from_residual.result c.in_err-read_column.field-0.0 c.from_residual.ensures.1
-    (sound_part g.R.Dir.Dir.files types c.args.part.now c.args.places.now rows c.args.columns.now c.in_err-read_column.field-0.0 holds typed
+    (sound_part g.R.Dir.Dir.files schema c.args.part.now c.args.places.now rows c.args.columns.now c.in_err-read_column.field-0.0 holds typed
     (fault_of g c))
 
 pub returns-clause-read : goal.returns-clause-read
@@ -58,8 +58,8 @@ returns-clause-read g c =
     read_all (g.R.Dir.Dir.files c.args.part.now.dir) c.args.part.now.loaded.manifest c.args.places.now c.args.columns.now c.loop-number.columns c.loop-number.number (omega arith) (omega arith) c.requires c.loop-number.invariant.read
 
 pub returns-clause-values : goal.returns-clause-values
-returns-clause-values g c = λ types rows holds typed.
-    rows_read g.R.Dir.Dir.files types c.args.part.now c.args.places.now rows c.args.columns.now c.loop-number.columns holds typed (returns-clause-read g c)
+returns-clause-values g c = λ schema rows holds typed.
+    rows_read g.R.Dir.Dir.files schema c.args.part.now c.args.places.now rows c.args.columns.now c.loop-number.columns holds typed (returns-clause-read g c)
 
 pub returns-clause-even : goal.returns-clause-even
 returns-clause-even g c = λ n even.

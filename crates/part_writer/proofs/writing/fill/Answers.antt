@@ -1,81 +1,106 @@
-use Rattle.std.proofs.Common.{◌≡◌, ℕ, ◌++◌, ◌∷◌, [], List, length, All, sym, ap, ap₂, ◌∙◌, subst, arith, below_more}
+use Rattle.std.proofs.Common.{◌≡◌, ℕ, ◌+◌, ◌≤◌, ◌++◌, ◌∷◌, [], List, length, All, sym, ap, ap₂, ◌∙◌, subst, arith, map, take}
 use Rattle.std.specs.Option.{option_map}
-use Rattle.std.specs.List.{range_with_len}
-use Rattle.std.proofs.lemmas.List.{length-map}
-use Rattle.std.proofs.lemmas.List.FromFn.{length-range_with_len}
+use Rattle.std.proofs.lemmas.List.{length-map, length-take-le, take_all}
+use Rattle.std.proofs.lemmas.List.Elements.{All-push}
 use Rattle.mt_values.specs.declared.manifest.FileMark.{FileMark}
 use Rattle.mt_values.specs.declared.manifest.Manifest.{Manifest}
 use Rattle.mt_base.specs.declared.name.FileId.{FileId}
 use Rattle.mt_base.specs.declared.name.FileId.TheVariants as file
-use Rattle.mt_values.specs.Grid.{column_of, picked}
-use Rattle.mt_values.specs.Values.{FitsType, Row}
+use Rattle.mt_values.specs.Grid.{picked}
+use Rattle.mt_values.specs.declared.schema.Column.{Column}
+use Rattle.mt_values.specs.Values.{Row}
 use Rattle.mt_outside.specs.Files.{Files}
 use Rattle.stage_dir.specs.Stages.{has_file}
 use Rattle.digest_file.specs.Spellings.{IsManifestOf}
-use Rattle.part_writer.specs.PartFiles.{column_file_bytes, manifest_of, mark_of}
-use Rattle.part_writer.proofs.Filling.{columns_more, column_files_more, filled_more, manifest_done, marks_more, new_column, new_manifest, nothing_filled, part_filled, picked_counted, picked_typed, rows_fit}
+use Rattle.part_writer.specs.Encodable.{IsEncodable}
+use Rattle.part_writer.specs.PartFiles.{all_synced, content_bytes, content_ids, manifest_of, marks_of, with_bytes}
+use Rattle.part_writer.proofs.Contents.{content_at, content_known, content_length, content_more, content_new, manifest_new, marks_length, marks_more}
+use Rattle.part_writer.proofs.Filling.{columns_fit, filled_more, manifest_done, nothing_filled, part_filled, picked_counted, picked_typed, rows_fit, synced_more}
 use Rattle.part_writer.proofs.writing.fill.Goals as goal
+use Rattle.part_writer.proofs.writing.fill.Goals.{After-loop-place, After-write_file}
 use Rattle.part_writer.proofs.writing.fill.Given.{Over}
-use Rattle.part_writer.proofs.writing.fill.Goals.{After-write_file}
 
-pub loop-column-init : goal.loop-column-init
-loop-column-init g c = record {
+pub overflow_cast-count : goal.overflow_cast-count
+overflow_cast-count g c = omega (arith, c.requires.few, c.content_count-count.ensures, content_length c.args.schema.now)
+
+pub unreachable-requires : goal.unreachable-requires
+unreachable-requires g c =
+    let here = content_at c.args.schema.now c.loop-place.place (omega (arith, c.content_count-count.ensures, content_length c.args.schema.now)) in
+    c.in_default.not-Some (file.Column c.loop-place.place) (c.content_file.ensures ∙ here)
+
+pub loop-place-init : goal.loop-place-init
+loop-place-init g c = record {
   names = c.requires.empty;
   written = nothing_filled c.args.stage.now.files c.args.stage.now.names c.requires.empty c.requires.intact;
   intact = c.requires.intact;
   marks = c.in_ok-files.ensures;
-  encodable = λ k below. absurd (omega arith);
+  encodable = λ k d below. absurd (omega arith);
   later = omega arith;
 }
 
-pub write_column-requires-clause-new : goal.write_column-requires-clause-new
-write_column-requires-clause-new g c κs within = ap (has_file (file.Column c.loop-column.column)) c.loop-column.invariant.names ∙ new_column c.loop-column.column
+pub write_content-requires-clause-content : goal.write_content-requires-clause-content
+write_content-requires-clause-content g c = λ κs within. content_known c.args.schema.now c.loop-place.place c.in-Some.file (sym c.in-Some.ensures)
 
-pub loop-column-preserved : goal.loop-column-preserved
-loop-column-preserved g c =
-    let n = c.loop-column.column in
+pub write_content-requires-clause-new : goal.write_content-requires-clause-new
+write_content-requires-clause-new g c = λ κs within. ap (has_file c.in-Some.file) c.loop-place.invariant.names ∙ content_new c.args.schema.now c.loop-place.place c.in-Some.file (sym c.in-Some.ensures)
+
+pub loop-place-preserved : goal.loop-place-preserved
+loop-place-preserved g c =
+    let schema = c.args.schema.now in
     let rows : List Row = picked c.args.block.now.rows c.args.order.now in
-    let before = c.loop-column.invariant in
+    let n = c.loop-place.place in
+    let f = c.in-Some.file in
+    let before = c.loop-place.invariant in
     let now = c.in_ok-mark.ensures in
+    let more : take (n + 1) (content_ids schema) ≡ take n (content_ids schema) ++ f ∷ [] = content_more schema n f (sym c.in-Some.ensures) in
     record {
-      names = now.names ∙ ap (λ (ns : List FileId). ns ++ file.Column n ∷ []) before.names ∙ sym (columns_more n);
-      written = filled_more _ _ _ _ (file.Column n) (column_file_bytes rows n) before.written now.files ∙ ap (λ (fs : Files). option_map (λ _. fs) c.args.stage.now.files) (sym (column_files_more rows n));
+      names = now.names ∙ ap (λ (ns : List FileId). ns ++ f ∷ []) before.names ∙ sym more;
+      written = filled_more _ _ _ _ f (content_bytes schema rows f) before.written now.files
+          ∙ ap (λ (fs : Files). option_map (λ _. fs) c.args.stage.now.files) (sym (synced_more schema rows (take n (content_ids schema)) f) ∙ ap (λ (fs : List FileId). all_synced (map (with_bytes schema rows) fs)) (sym more));
       intact = now.intact;
-      marks = c.in_ok-push.ensures.ok ∙ ap₂ (λ (ms : List FileMark) (m : FileMark). ms ++ m ∷ []) before.marks now.mark ∙ sym (marks_more rows n);
-      encodable = below_more (λ k. All FitsType (column_of k rows)) n before.encodable now.encodable;
+      marks = c.in_ok-push.ensures.ok ∙ ap₂ (λ (ms : List FileMark) (m : FileMark). ms ++ m ∷ []) before.marks now.mark ∙ sym (marks_more schema rows (take n (content_ids schema)) f) ∙ ap (λ (fs : List FileId). marks_of (map (with_bytes schema rows) fs)) (sym more);
+      encodable = subst (All (IsEncodable rows)) (sym more) (All-push (IsEncodable rows) (take n (content_ids schema)) f before.encodable now.encodable);
       later = omega (arith, now.cause.later);
     }
 
+-- after the last file all are written
+all_over : (g : Over) (c : After-loop-place g) → length (content_ids c.args.schema.now) ≤ c.loop-place.place
+all_over g c = omega (arith, c.content_count-count.ensures, content_length c.args.schema.now)
+
 pub manifest_bytes-requires : goal.manifest_bytes-requires
 manifest_bytes-requires g c =
-    omega (arith, ap length c.loop-column.invariant.marks, length-map (range_with_len 0 c.loop-column.column) (λ column. mark_of (column_file_bytes (picked c.args.block.now.rows c.args.order.now) column)), length-range_with_len 0 c.loop-column.column)
+    let schema = c.args.schema.now in
+    let files = take c.loop-place.place (content_ids schema) in
+    omega (arith, ap length c.loop-place.invariant.marks, marks_length schema (picked c.args.block.now.rows c.args.order.now) files, length-take-le c.loop-place.place (content_ids schema), content_length schema)
 
 pub write_file-requires-clause-new : goal.write_file-requires-clause-new
-write_file-requires-clause-new g c κs within = ap (has_file file.Manifest) c.loop-column.invariant.names ∙ new_manifest c.loop-column.column
+write_file-requires-clause-new g c = λ κs within.
+    ap (has_file file.Manifest) (c.loop-place.invariant.names ∙ take_all c.loop-place.place (content_ids c.args.schema.now) (all_over g (goal.at.write_file-requires-clause-new g c).After-loop-place)) ∙ manifest_new c.args.schema.now
 
 -- the manifest that is written
-manifest_is : (g : Over) (c : After-write_file g) → record { rows = length c.args.order.now; files = c.loop-column.files } ≡ manifest_of c.args.width (picked c.args.block.now.rows c.args.order.now)
-manifest_is g c =
-    let same : c.loop-column.column ≡ c.args.width = omega arith in
-    manifest_done (picked c.args.block.now.rows c.args.order.now) (length c.args.order.now) c.loop-column.column c.args.width c.loop-column.files same
-    (picked_counted c.args.block.now.rows c.args.order.now c.requires.places) c.loop-column.invariant.marks
+manifest_is : (g : Over) (c : After-write_file g) → length (content_ids c.args.schema.now) ≤ c.loop-place.place → record { rows = length c.args.order.now; files = c.loop-place.files } ≡ manifest_of c.args.schema.now (picked c.args.block.now.rows c.args.order.now)
+manifest_is g c past =
+    manifest_done c.args.schema.now (picked c.args.block.now.rows c.args.order.now) (length c.args.order.now) c.loop-place.place c.loop-place.files past
+    (picked_counted c.args.block.now.rows c.args.order.now c.requires.places) c.loop-place.invariant.marks
 
 pub returns-clause-files : goal.returns-clause-files
 returns-clause-files g c =
-    let same : c.loop-column.column ≡ c.args.width = omega arith in
-    part_filled _ _ _ (picked c.args.block.now.rows c.args.order.now) c.loop-column.column c.args.width (record { rows = length c.args.order.now; files = c.loop-column.files }) _ same
-    (manifest_is g (goal.at.returns-clause-files g c).After-write_file) (c.deref.ensures.value ∙ c.in_ok-bytes.ensures.bytes) c.loop-column.invariant.written c.in_ok-write_file.ensures.files
+    part_filled _ _ _ c.args.schema.now (picked c.args.block.now.rows c.args.order.now) c.loop-place.place (record { rows = length c.args.order.now; files = c.loop-place.files }) _ (all_over g (goal.at.returns-clause-files g c).After-loop-place)
+    (manifest_is g (goal.at.returns-clause-files g c).After-write_file (all_over g (goal.at.returns-clause-files g c).After-loop-place)) (c.deref.ensures.value ∙ c.in_ok-bytes.ensures.bytes) c.loop-place.invariant.written c.in_ok-write_file.ensures.files
 
 pub returns-clause-manifest : goal.returns-clause-manifest
-returns-clause-manifest g c = manifest_is g (goal.at.returns-clause-manifest g c).After-write_file
+returns-clause-manifest g c = manifest_is g (goal.at.returns-clause-manifest g c).After-write_file (all_over g (goal.at.returns-clause-manifest g c).After-loop-place)
 
 pub returns-clause-encodable : goal.returns-clause-encodable
 returns-clause-encodable g c =
+    let schema = c.args.schema.now in
     let block = c.args.block.now in
-    rows_fit block.types (picked block.rows c.args.order.now) (picked_typed block.types block.rows c.args.order.now c.len.ensures.typed c.requires.places)
-    (λ k below. c.loop-column.invariant.encodable k (omega (arith, c.requires.width)))
+    let rows : List Row = picked block.rows c.args.order.now in
+    let columns = columns_fit schema rows c.loop-place.place (all_over g (goal.at.returns-clause-encodable g c).After-loop-place) c.loop-place.invariant.encodable in
+    let width : length block.types ≡ length schema.columns = ap length c.requires.types ∙ length-map schema.columns (λ (x : Column). x.col_type) in
+    rows_fit block.types rows (picked_typed block.types block.rows c.args.order.now c.len.ensures.typed c.requires.places) (λ k below. columns k (omega arith))
 
 pub returns-clause-readable : goal.returns-clause-readable
 returns-clause-readable g c =
-    let manifest : Manifest = record { rows = length c.args.order.now; files = c.loop-column.files } in
+    let manifest : Manifest = record { rows = length c.args.order.now; files = c.loop-place.files } in
     subst (λ (bytes : List ℕ). IsManifestOf bytes manifest) c.in_ok-bytes.ensures.bytes c.in_ok-bytes.ensures.readable

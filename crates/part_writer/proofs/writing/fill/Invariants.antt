@@ -1,20 +1,21 @@
--- the files of the columns gone over are written, and the manifest has their marks
-use Rattle.std.proofs.Common.{◌≡◌, ℕ, ◌<◌, ◌≤◌, All, map}
-use Rattle.std.specs.List.{range_with_len}
+-- the files gone over are written, and the manifest has their marks
+use Rattle.std.proofs.Common.{◌≡◌, ◌≤◌, All, map, take}
 use Rattle.std.specs.Option.{option_map}
-use Rattle.mt_values.specs.Grid.{column_of, picked}
-use Rattle.mt_values.specs.Values.{FitsType}
+use Rattle.mt_values.specs.Grid.{picked}
 use Rattle.stage_dir.specs.Stages.{IsIntact, settled}
-use Rattle.part_writer.specs.PartFiles.{column_file, column_file_bytes, mark_of}
-use Rattle.part_writer.proofs.Filling.{columns_below}
+use Rattle.part_writer.specs.Encodable.{IsEncodable}
+use Rattle.part_writer.specs.PartFiles.{all_synced, content_ids, marks_of, with_bytes}
 use Rattle.part_writer.proofs.writing.fill.Given as goal
 
-abbrev pub invariant-loop-column : goal.invariant-loop-column
-invariant-loop-column g l = record {
-  names : l.stage.names ≡ columns_below l.column;
-  written : option_map settled l.stage.files ≡ option_map (λ _. map (column_file (picked l.block.rows l.order)) (range_with_len 0 l.column)) l.initial.stage.files;
-  intact : IsIntact l.stage;
-  marks : l.files ≡ map (λ column. mark_of (column_file_bytes (picked l.block.rows l.order) column)) (range_with_len 0 l.column);
-  encodable : (c : ℕ) → c < l.column → All FitsType (column_of c (picked l.block.rows l.order));
-  later : l.initial.stage.failed ≤ l.stage.failed;
-}
+abbrev pub invariant-loop-place : goal.invariant-loop-place
+invariant-loop-place g l =
+    let rows = picked l.block.rows l.order in
+    let files = take l.place (content_ids l.schema) in
+    record {
+      names : l.stage.names ≡ files;
+      written : option_map settled l.stage.files ≡ option_map (λ _. all_synced (map (with_bytes l.schema rows) files)) l.initial.stage.files;
+      intact : IsIntact l.stage;
+      marks : l.files ≡ marks_of (map (with_bytes l.schema rows) files);
+      encodable : All (IsEncodable rows) files;
+      later : l.initial.stage.failed ≤ l.stage.failed;
+    }

@@ -4,7 +4,6 @@ use Rattle.std.specs.Option.{option_map}
 use Rattle.std.proofs.lemmas.Option.{slice_get-map}
 use Rattle.mt_values.specs.declared.value.ColType.{ColType}
 use Rattle.mt_values.specs.Grid.{Cells}
-use Rattle.mt_model.specs.History.{column_types}
 use Rattle.part_reader.proofs.Holding.{holds_at}
 use Rattle.statement_work.specs.Scans.{rows_kept}
 use Rattle.statement_work.proofs.Selecting.{part_at, rows_next, values_all, values_next}
@@ -24,7 +23,7 @@ loop-kept-preserved g c = record {
       let files = g.R.Dir.Dir.files in
       let h = part_at files schema c.args.parts.now rows c.loop-kept.kept-index c.kept-item.result hold c.loop-kept-test.true c.kept-item.is in
       let held = holds_at files schema c.kept-item.result.part h.rows c.args.places.now h.holds within in
-      let new = c.in-Ok.ensures.values (column_types schema) h.rows held (c.loop-kept.invariant.types ∙ have) in
+      let new = c.in-Ok.ensures.values schema h.rows held (c.loop-kept.invariant.types ∙ have) in
       values_next rows c.loop-kept.kept-index h.rows c.args.places.now c.loop-kept.columns c.read_columns.new.columns h.next (c.loop-kept.invariant.values schema rows hold within have empty) new;
   types = c.in-Ok.ensures.types ∙ c.loop-kept.invariant.types;
   even = λ zero.
@@ -39,7 +38,7 @@ pub returns-in-Err-clause-sound : goal.returns-in-Err-clause-sound
 returns-in-Err-clause-sound g c = λ schema rows hold within have.
     let files = g.R.Dir.Dir.files in
     let h = part_at files schema c.args.parts.now rows c.loop-kept.kept-index c.kept-item.result hold c.loop-kept-test.true c.kept-item.is in
-    c.in-Err.ensures.sound (column_types schema) h.rows (holds_at files schema c.kept-item.result.part h.rows c.args.places.now h.holds within) (c.loop-kept.invariant.types ∙ have)
+    c.in-Err.ensures.sound schema h.rows (holds_at files schema c.kept-item.result.part h.rows c.args.places.now h.holds within) (c.loop-kept.invariant.types ∙ have)
 
 pub returns-in-Err-clause-fault : goal.returns-in-Err-clause-fault
 returns-in-Err-clause-fault g c = λ is. let later = c.loop-kept.invariant.later in let rose = c.in-Err.ensures.fault (ap Err is) in omega arith
