@@ -59,6 +59,7 @@ fn main() -> io::Result<()> {
     let root = std::env::args().nth(1).ok_or(io::ErrorKind::InvalidInput)?;
     let start = Instant::now();
     let mut folders = fs::read_dir(root)?.map(|entry| Ok(entry?.path())).collect::<io::Result<Vec<PathBuf>>>()?;
+    folders.retain(|folder| folder.is_dir()); // not the lock
     folders.sort();
     let mut digests = Digests::default();
     for folder in &folders {

@@ -1,20 +1,25 @@
 #!/usr/bin/env bash
-# Kills the built program in the midst of a script, and compares what the next run over the same folder prints with what is wanted. The
-# one word is the number of rounds, 20 if it is left out. It prints a line for each round, and ends with 1 where one differs, or where
-# in none of them the program was killed before its end.
+# Kills the built program in the midst of a script, while another one is started over the same folder, and compares what the next run
+# prints with what is wanted. The one word is the number of rounds, 20 if it is left out. It prints a line for each round, and ends with
+# 1 where one differs.
 #
-# A round is in a new folder of its own, outside the repository. A first run makes a table. A second one, of many INSERTs, is killed
-# after a random part of the time that all of them take; the whole script is its input from the start, since it is read before its
-# first statement is run. A third run reads the table. Wanted are
-#   of the killed run   a front of the replies to the whole script
-#   of the next run     status 0, the rows of the first n INSERTs, and PREFIX n + 1, where n is the number of whole replies that the
-#                       killed run wrote, or one more
+# A round is in a new folder of its own, outside the repository. A first run makes two tables. A second one, of many INSERTs into the
+# first of them, is killed after a random part of the time that all of them take; the whole script is its input from the start, since it
+# is read before its first statement is run. Beside it another program is started over the same folder, after another random part of the
+# time until the kill, with one INSERT into the second table. A last run reads both tables. Wanted are
+#   of the other one    status 5 and no reply, where the folder was held; or, where it had the folder to itself, as before the killed run
+#                       opened it or after it was killed, status 0 and one OK
+#   of the killed run   a front of the replies to the whole script; none where it found the folder held and ended with 5
+#   of the last run     status 0, the rows of the first n INSERTs into the first table, and of the second table the row of the other
+#                       program, if that was answered; n is the number of whole replies that the killed run wrote, or one more
+# So nothing that was acknowledged is lost, the places of all commands are as many as there are rows, and no place is told twice.
 #
 # Only the process is killed, and the system goes on: what it was given is there, synced or not. What a loss of power leaves is not
 # looked at.
 #
 # The seed of the random parts is printed; where SEED is set, it is the seed. The time is measured, so one seed need not kill at the same
-# statement twice. Where MERGETREE is set, it is the program that is run.
+# statement twice. Where MERGETREE is set, it is the program that is run. Where in no round a program was killed before its end, or in
+# none the other one was turned away, nothing was tried, and the status is 1.
 set -euo pipefail
 here=$(cd "$(dirname "$0")" && pwd -P)
 rounds=${1:-20}
@@ -23,11 +28,13 @@ program=${MERGETREE:-$here/../../bin/mergetree}
 seed=${SEED:-$RANDOM}
 work=$(mktemp -d)
 running=
+other=
 
 clean() {
-    if [ -n "$running" ]; then
-        kill -KILL "$running" 2>/dev/null || true
-    fi
+    local started
+    for started in $running $other; do
+        kill -KILL "$started" 2>/dev/null || true
+    done
     rm -rf "$work"
 }
 trap clean EXIT
@@ -37,12 +44,19 @@ run_in_room() {
     timeout 60 "$program" --path "$work/room"
 }
 
-# Makes a new folder with the table, and starts the program on the script.
+# Makes a new folder with the tables, and starts the program on the script.
 start() {
     rm -rf "$work/room"
-    run_in_room <<<'CREATE TABLE t (a UInt16) ENGINE = MergeTree ORDER BY a;' >/dev/null
+    run_in_room <"$work/tables" >/dev/null
     "$program" --path "$work/room" <"$work/script" >"$work/out" &
     running=$!
+}
+
+# Starts the other program after so many seconds.
+start_other() {
+    : >"$work/other"
+    (sleep "$1" && exec "$program" --path "$work/room" <"$work/row" >"$work/other") &
+    other=$!
 }
 
 # Waits for the end of what was started, and keeps its status.
@@ -52,52 +66,115 @@ finish() {
     running=
 }
 
-# Prints how the replies of what was started, of which so many are whole, and the rows of the next run differ: nothing where they do not.
-differences() {
-    local answered=$1 ended=0 found
-    if ! cmp -s -n "$(stat -c %s "$work/out")" "$work/out" "$work/replies"; then
-        printf 'other replies; '
-    fi
-    run_in_room <<<'SELECT * FROM t;' >"$work/rows" || ended=$?
-    if [ "$ended" != 0 ]; then
-        printf 'status %s of the next run; ' "$ended"
-    fi
-    found=$(sed -n '1s/^ROWS \([0-9]*\) PREFIX .*/\1/p' "$work/rows")
-    if [ "$found" != "$answered" ] && [ "$found" != $((answered + 1)) ]; then
-        printf 'rows of %s INSERTs; ' "${found:-no}"
-    fi
-    if ! { echo "ROWS $found PREFIX $((found + 1))" && seq "${found:-0}"; } | cmp -s - "$work/rows"; then
-        printf 'other rows: %s' "$(head -c 200 "$work/rows" | tr '\n' '|')"
+# Waits for the end of the other program, and keeps its status.
+finish_other() {
+    others=0
+    { wait "$other"; } 2>/dev/null || others=$?
+    other=
+}
+
+# Prints how the other program ended in another way than is wanted, and nothing where it did not.
+other_differences() {
+    case "$others $(cat "$work/other")" in
+    "5 " | "0 OK "*) ;;
+    *) printf 'status %s of the other program, which wrote %s; ' "$others" "$(head -c 200 "$work/other" | tr '\n' '|')" ;;
+    esac
+    if grep -qxF -f "$work/other" "$work/out"; then
+        printf 'both programs were told %s; ' "$(cat "$work/other")"
     fi
 }
 
-# Tries a round, in which the program is killed after so many microseconds, and prints its line.
+# Prints how the replies of the killed program differ: they are a front of those of the script, after the two tables and perhaps the
+# other program's row.
+reply_differences() {
+    local size
+    size=$(stat -c %s "$work/out")
+    if ! cmp -s -n "$size" "$work/out" <(seq -f 'OK %.0f' 3 $((inserts + 2))) &&
+        ! { [ "$others" = 0 ] && cmp -s -n "$size" "$work/out" <(seq -f 'OK %.0f' 4 $((inserts + 3))); }; then
+        printf 'other replies; '
+    fi
+}
+
+# Prints how a table differs that is to have the rows 1 to n, where the folder has so many commands.
+table_differences() {
+    local table=$1 n=$2 commands=$3 ended=0
+    run_in_room <<<"SELECT * FROM $table;" >"$work/rows" || ended=$?
+    if [ "$ended" != 0 ]; then
+        printf 'status %s of the last run; ' "$ended"
+    fi
+    if ! { echo "ROWS $n PREFIX $commands" && seq "$n"; } | cmp -s - "$work/rows"; then
+        printf 'other rows of %s: %s; ' "$table" "$(head -c 200 "$work/rows" | tr '\n' '|')"
+    fi
+}
+
+# How many rows a table has.
+rows_of() {
+    run_in_room <<<"SELECT * FROM $1;" | sed -n '1s/^ROWS \([0-9]*\) PREFIX .*/\1/p'
+}
+
+# Prints how the replies of what was started, of which so many are whole, and what the last run reads differ: nothing where they do not.
+differences() {
+    local answered=$1 rows others_row commands
+    others_row=$(wc -l <"$work/other")
+    rows=$(rows_of t || true)
+    commands=$((2 + ${rows:-0} + others_row))
+    other_differences
+    reply_differences
+    if [ "$rows" != "$answered" ] && [ "$rows" != $((answered + 1)) ]; then
+        printf 'rows of %s INSERTs; ' "${rows:-no}"
+    fi
+    table_differences t "${rows:-0}" "$commands"
+    table_differences u "$others_row" "$commands"
+}
+
+# So many microseconds, in seconds.
+seconds() {
+    printf '%d.%06d' $(($1 / 1000000)) $(($1 % 1000000))
+}
+
+# Counts what came of a round of which so many statements were answered, and prints what the killed program ended with, if it may not.
+count_round() {
+    if [ "$others" = 5 ]; then
+        turned_away=$((turned_away + 1))
+    fi
+    if [ "$status" = 137 ]; then
+        killed=$((killed + 1))
+    elif [ "$status" != 0 ] && ! { [ "$status" = 5 ] && [ "$others" = 0 ] && [ "$1" = 0 ]; }; then
+        found="status $status of the killed run; $found"
+    fi
+}
+
+# Tries a round, in which the other program is started and the first one is killed after so many microseconds, and prints its line.
 try_round() {
-    local delay answered found
-    delay=$(printf '%d.%06d' $(($2 / 1000000)) $(($2 % 1000000)))
+    local beside delay answered found
+    beside=$(seconds "$2")
+    delay=$(seconds "$3")
     start
+    start_other "$beside"
     sleep "$delay"
     kill -KILL "$running" 2>/dev/null || true
     finish
+    finish_other
     answered=$(wc -l <"$work/out")
     found=$(differences "$answered" || true)
-    if [ "$status" = 137 ]; then
-        killed=$((killed + 1))
-    elif [ "$status" != 0 ]; then
-        found="status $status of the killed run; $found"
-    fi
-    printf '%s: %s s, %s answered, %s: %s\n' "$1" "$delay" "$answered" "$(head -n 1 "$work/rows")" "${found:-ok}"
+    count_round "$answered"
+    printf '%s: %s s, %s answered, %s rows; another after %s s, status %s: %s\n' \
+        "$1" "$delay" "$answered" "$(rows_of t || true)" "$beside" "$others" "${found:-ok}"
     [ -z "$found" ]
 }
 
 for row in $(seq "$inserts"); do
     printf 'INSERT INTO t;\n%s\n\\.\n' "$row"
 done >"$work/script"
-seq -f 'OK %.0f' 2 $((inserts + 1)) >"$work/replies"
+printf 'INSERT INTO u;\n1\n\\.\n' >"$work/row"
+printf 'CREATE TABLE %s (a UInt16) ENGINE = MergeTree ORDER BY a;\n' t u >"$work/tables"
 
 "$program" --path "$work/built" </dev/null >/dev/null # builds the program, where needed
 killed=0
+turned_away=0
 failed=0
+others=5
+: >"$work/other"
 start
 begun=${EPOCHREALTIME/[!0-9]/}
 finish
@@ -110,7 +187,9 @@ fi
 printf 'seed %s\n' "$seed"
 RANDOM=$seed
 for round in $(seq "$rounds"); do
-    try_round "$round" $((whole * RANDOM / 32768)) || failed=$((failed + 1))
+    killed_at=$((whole * RANDOM / 32768))
+    started_at=$((killed_at * RANDOM / 32768))
+    try_round "$round" "$started_at" "$killed_at" || failed=$((failed + 1))
 done
-printf '%d rounds, %d killed before the end, %d differ\n' "$rounds" "$killed" "$failed"
-[ "$killed" -gt 0 ] && [ "$failed" -eq 0 ]
+printf '%d rounds, %d killed before the end, %d with another program turned away, %d differ\n' "$rounds" "$killed" "$turned_away" "$failed"
+[ "$killed" -gt 0 ] && [ "$turned_away" -gt 0 ] && [ "$failed" -eq 0 ]

@@ -3,7 +3,7 @@ ghost use Rattle.std.specs.Prelude.{◌≡◌, ◌≤◌, ℕ, IfOk, length};
 
 use crate::folder::{RealDir, RealStage, file_path};
 use crate::numbers::draw;
-use crate::system::{System, is_folder, open_to_read, read_at};
+use crate::system::{Found, System, find, is_folder, open_to_read, read_at};
 use disk_names::owned;
 use mt_base::{FileId, NoMemory};
 use mt_outside::{Arm, DiskError, Stage};
@@ -69,7 +69,7 @@ impl<R: System> RealArm<R> {
     // Makes the folder `.stage_<arm>_<stage>` of the root.
     fn make_stage(&mut self, alloc: Global) -> Result<RealStage<R>, DiskError>
         ensures same { self.new ≡ self.old }
-        ensures none_failed { IfOk result (λ s. s ≡ 0) }
+        ensures none_failed { IfOk result (λ s. s.failed ≡ 0) }
     {
         let stage = draw(&mut self.stages)?;
         let path = stage_path(alloc, &self.root, self.number, stage)?;
@@ -121,17 +121,20 @@ impl<R: System> RealArm<R> {
     }
 }
 
-// Opens a file of a folder to be read, or answers that it is not there.
+// Opens a file of a folder to be read. What is no regular file is not opened: it reads as one that is not there.
 fn open_in<R: System>(rt: &R, dir: &RealDir, path: String) -> Result<Option<Opened>, DiskError> {
-    match open_to_read(rt, &path) {
-        Ok(Some(handle)) => Ok(Some(Opened {
-            folder: dir.number(),
-            path,
-            handle,
-        })),
-        Ok(None) if is_folder(rt, dir.path()) => Ok(None),
-        Ok(None) => Err(DiskError::Fault),
-        Err(error) => Err(error),
+    match find(rt, &path)? {
+        Found::File => {
+            let handle = open_to_read(rt, &path)?;
+            Ok(Some(Opened {
+                folder: dir.number(),
+                path,
+                handle,
+            }))
+        }
+        Found::Other => Ok(None),
+        Found::Nothing if is_folder(rt, dir.path()) => Ok(None),
+        Found::Nothing => Err(DiskError::Fault),
     }
 }
 

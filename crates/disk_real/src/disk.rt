@@ -1,28 +1,29 @@
 // A folder of the system as a disk.
-ghost use Rattle.std.specs.Prelude.{◌≡◌, ◌<◌, IfOk, IsErrOf};
+ghost use Rattle.std.specs.Prelude.{◌≡◌, ◌<◌, ◌⊎◌, IfOk, IsErr, IsErrOf, IsTrue, OnErr, OnOk, true, false};
+ghost use Rattle.disk_names.specs.Names.{is_root_name};
 
 use crate::arm::RealArm;
 use crate::folder::{RealDir, RealStage};
 use crate::numbers::draw;
-use crate::system::{
-    System, is_folder, names_in, publish_folder, settle_folder, sync_folder, take_away,
-};
-use disk_names::{owned, path_in, root_name};
+use crate::root::Root;
+use crate::system::{System, is_folder, names_in, publish_folder, sync_folder, take_away};
+use disk_names::{path_in, root_name};
 use mt_base::{Name, NoMemory};
 use mt_outside::{Arm, Disk, DiskError, Stage};
 use outside_streams::Faults;
 use std::alloc::Global;
 use std::marker::Model;
 
-/// A folder of the system as a disk, which tells nothing of what it holds. Contracts see its mark and how many of its calls have failed.
+/// A folder of the system as a disk, which tells nothing of what it holds. Contracts see its mark, how many of its calls have failed, and whether it
+/// was started.
 ///
 /// Until it is started, each of its calls that reach the folder is a fault.
 #[derive(Drop)]
 pub struct RealDisk<R> {
     rt: R,
     alloc: Global,
-    /// The path of the folder, empty until it is started.
-    root: String,
+    /// The folder, from the start on.
+    root: Option<Root>,
     /// The numbers of the next arm, of the next folder that is done and of the next that is removed.
     arms: u64,
     dirs: u64,
@@ -32,11 +33,12 @@ pub struct RealDisk<R> {
 }
 
 impl<R> Model for RealDisk<R> {
+    ghost use Rattle.std.specs.Prelude.{is_some};
     ghost use Rattle.disk_real.specs.States.{DiskState};
 
     ghost Value = { DiskState };
 
-    ghost view = { λ d. record { clock = d.clock; failed = d.faults.count } };
+    ghost view = { λ d. record { clock = d.clock; failed = d.faults.count; holds = is_some d.root } };
 }
 
 impl<R: System> RealDisk<R> {
@@ -44,11 +46,12 @@ impl<R: System> RealDisk<R> {
     pub fn new(rt: R, alloc: Global) -> RealDisk<R>
         ensures clock { result.clock ≡ 0 }
         ensures failed { result.failed ≡ 0 }
+        ensures holds { result.holds ≡ false }
     {
         RealDisk {
             rt,
             alloc,
-            root: String::new(alloc),
+            root: None,
             arms: 0,
             dirs: 0,
             removals: 0,
@@ -57,34 +60,66 @@ impl<R: System> RealDisk<R> {
         }
     }
 
-    // Makes the folder where it is not there, and keeps its path.
+    // Takes the folder, and holds it. A disk has one folder: another start is a fault.
     fn begin(&mut self, path: &str) -> Result<(), DiskError>
-        ensures { self.new ≡ self.old }
+        ensures clock { self.new.clock ≡ self.old.clock }
+        ensures failed { self.new.failed ≡ self.old.failed }
+        ensures held { OnOk result (self.new.holds ≡ true) }
+        ensures once { self.old.holds ≡ true → IsErrOf result DiskError.Fault }
+        ensures err { OnErr result (self.new ≡ self.old) }
     {
-        let root = owned(self.alloc, path)?;
-        settle_folder(&self.rt, path)?;
-        self.root = root;
+        if self.root.is_some() {
+            return Err(DiskError::Fault);
+        }
+        self.root = Some(Root::take(&self.rt, self.alloc, path)?);
         Ok(())
+    }
+
+    // The path of the folder. Before the start there is none.
+    fn path(&self) -> Result<&str, DiskError>
+        ensures { self.now.holds ≡ false → IsErrOf result DiskError.Fault }
+    {
+        match &self.root {
+            Some(root) => Ok(root.path()),
+            None => Err(DiskError::Fault),
+        }
     }
 
     // An arm with a number of its own.
     fn make_arm(&mut self, alloc: Global) -> Result<RealArm<R>, DiskError>
         ensures same { self.new ≡ self.old }
         ensures none_failed { IfOk result (λ a. a ≡ 0) }
+        ensures unstarted { self.old.holds ≡ false → IsErr result }
     {
-        if self.root.is_empty() {
-            return Err(DiskError::Fault);
-        }
         let number = draw(&mut self.arms)?;
-        RealArm::new(&self.rt, alloc, &self.root, number)
+        RealArm::new(&self.rt, alloc, self.path()?, number)
     }
 
     // The path of the folder that has this name.
-    fn path_of(&self, alloc: Global, name: &Name) -> Result<String, DiskError> {
+    fn path_of(&self, alloc: Global, name: &Name) -> Result<String, DiskError>
+        ensures unstarted { self.now.holds ≡ false → IsErr result }
+        ensures name { IsTrue (is_root_name name.now) ⊎ IsErr result }
+    {
+        let root = self.path()?;
         match root_name(name) {
-            Some(name) if !self.root.is_empty() => Ok(path_in(alloc, &self.root, name)?),
-            _ => Err(DiskError::Fault),
+            Some(name) => Ok(path_in(alloc, root, name)?),
+            None => Err(DiskError::Fault),
         }
+    }
+
+    // The names in the folder, which may be given by a link to it.
+    fn names(&self, alloc: Global) -> Result<Vec<Name>, DiskError>
+        ensures unstarted { self.now.holds ≡ false → IsErr result }
+    {
+        let here = path_in(alloc, self.path()?, ".")?;
+        names_in(&self.rt, alloc, &here)
+    }
+
+    // Settles the names in the folder.
+    fn settle(&self) -> Result<(), DiskError>
+        ensures unstarted { self.now.holds ≡ false → IsErr result }
+    {
+        sync_folder(&self.rt, self.path()?)
     }
 
     // The folder of a name.
@@ -108,7 +143,7 @@ impl<R: System> RealDisk<R> {
         name: &Name,
     ) -> Result<RealDir, DiskError>
         ensures same { self.new ≡ self.old }
-        ensures failed { 0 < stage.now → IsErrOf result DiskError.Fault }
+        ensures failed { 0 < stage.now.failed → IsErrOf result DiskError.Fault }
     {
         if stage.has_failed() {
             return Err(DiskError::Fault);
@@ -130,8 +165,9 @@ impl<R: System> RealDisk<R> {
 
     // Gives a folder the path of this removal, and once that is settled removes it with its files.
     fn hide(&self, path: &str, number: u64) -> Result<(), DiskError> {
-        let hidden = removed_path(self.alloc, &self.root, number)?;
-        take_away(&self.rt, self.alloc, &self.root, path, &hidden)
+        let root = self.path()?;
+        let hidden = removed_path(self.alloc, root, number)?;
+        take_away(&self.rt, self.alloc, root, path, &hidden)
     }
 }
 
@@ -151,7 +187,8 @@ impl<R: System + Send> Disk for RealDisk<R> {
 
     ghost failed = { λ d. d.failed };
 
-    /// Parents are not made. Where the folder is made, a crash does not take it away again. One that can't be made, settled or read is a fault.
+    /// The folder is held until the disk is dropped. One that another disk holds is a fault, at once and with nothing read or changed. So is one that
+    /// can't be made, locked or settled, and a second start. Parents are not made. A path may be a link to a folder.
     fn start(&mut self, path: &str) -> Result<(), DiskError> {
         let begun = self.begin(path);
         self.faults.note(begun)
@@ -166,9 +203,9 @@ impl<R: System + Send> Disk for RealDisk<R> {
         self.faults.take(arm.faults());
     }
 
-    /// In the order of their bytes. An entry that can't be read, or whose name is no UTF-8, is a fault.
+    /// In the order of their bytes, whether they are UTF-8 or not.
     fn list(&mut self, alloc: Global) -> Result<Vec<Name>, DiskError> {
-        let names = names_in(&self.rt, alloc, &self.root);
+        let names = self.names(alloc);
         self.faults.note(names)
     }
 
@@ -198,7 +235,7 @@ impl<R: System + Send> Disk for RealDisk<R> {
     }
 
     fn sync_names(&mut self) -> Result<(), DiskError> {
-        let settled = self.clock < u64::MAX && sync_folder(&self.rt, &self.root).is_ok();
+        let settled = self.clock < u64::MAX && self.settle().is_ok();
         if settled {
             self.clock += 1;
         }

@@ -1,6 +1,8 @@
 // Folders of the root: one that is being made, and one that is done.
-ghost use Rattle.std.specs.Prelude.{◌≡◌, ◌<◌, ◌↔◌, ℕ, IfOk, IsTrue, string_bytes};
+ghost use Rattle.std.specs.Prelude.{◌≡◌, ◌<◌, ◌↔◌, [], IfOk, IsTrue, OnErr, OnOk, string_bytes};
+ghost use Rattle.disk_real.specs.Stages.{has, without};
 
+use crate::handles::Handles;
 use crate::system::{System, fault, make_folder, open_at_end, remove_folder, sync_file};
 use crate::tries::write_whole;
 use disk_names::{file_name, path_in};
@@ -11,22 +13,24 @@ use std::alloc::Global;
 use std::fs::File;
 use std::marker::Model;
 
-/// A folder that is being made. Contracts see how many of its calls have failed.
+/// A folder that is being made. Contracts see how many of its calls have failed, and which of its files were written since their last sync.
 ///
-/// It keeps the file open that it wrote last.
+/// Each file stays open from its first write until it is synced, by the handle that wrote it.
 #[derive(Drop)]
 pub struct RealStage<R> {
     rt: R,
     alloc: Global,
     path: String,
-    kept: Option<(FileId, File)>,
+    handles: Handles,
     faults: Faults,
 }
 
 impl<R> Model for RealStage<R> {
-    ghost Value = { ℕ };
+    ghost use Rattle.disk_real.specs.States.{StageState};
 
-    ghost view = { λ s. s.faults.count };
+    ghost Value = { StageState };
+
+    ghost view = { λ s. record { failed = s.faults.count; unsynced = s.handles } };
 }
 
 /// A folder that is done. Its holds share one number, which no other folder of its disk has. Contracts see its path and that number.
@@ -91,14 +95,15 @@ pub(crate) fn file_path(alloc: Global, folder: &str, file: FileId) -> Result<Str
 impl<R: System> RealStage<R> {
     /// Makes the folder, without files, in place of one that an earlier run left there.
     pub(crate) fn new(rt: R, alloc: Global, path: String) -> Result<RealStage<R>, DiskError>
-        ensures { IfOk result (λ s. s ≡ 0) }
+        ensures none_failed { IfOk result (λ s. s.failed ≡ 0) }
+        ensures none_open { IfOk result (λ s. s.unsynced ≡ []) }
     {
         make_folder(&rt, alloc, &path)?;
         Ok(RealStage {
             rt,
             alloc,
             path,
-            kept: None,
+            handles: Handles::new(alloc),
             faults: Faults::none(),
         })
     }
@@ -110,7 +115,7 @@ impl<R: System> RealStage<R> {
 
     /// Whether one of its calls has failed.
     pub(crate) fn has_failed(&self) -> bool
-        ensures { IsTrue result ↔ 0 < self.now }
+        ensures { IsTrue result ↔ 0 < self.now.failed }
     {
         self.faults.count > 0
     }
@@ -120,42 +125,49 @@ impl<R: System> RealStage<R> {
         remove_folder(&self.rt, self.alloc, &self.path)
     }
 
-    // A file to be written at its end, or none where it is not there. It is made first where that is asked.
-    fn file(&mut self, file: FileId, make: bool) -> Result<Option<File>, DiskError>
-        ensures { self.new ≡ self.old }
+    // Opens a file to be written at its end, where it is not open.
+    fn open(&mut self, file: FileId) -> Result<(), DiskError>
+        ensures same { self.new.failed ≡ self.old.failed }
+        ensures open { OnOk result (IsTrue (has file self.new.unsynced)) }
     {
-        if let Some((kept, handle)) = self.kept.take() {
-            if kept.is(file) {
-                return Ok(Some(handle));
-            }
+        if self.handles.get(file).is_none() {
+            let path = file_path(self.alloc, &self.path, file)?;
+            let handle = open_at_end(&self.rt, &path)?;
+            self.handles.add(file, handle)?;
         }
-        let path = file_path(self.alloc, &self.path, file)?;
-        open_at_end(&self.rt, &path, make)
+        Ok(())
     }
 
-    // Writes bytes at the end of a file.
+    // Writes bytes at the end of a file. Its handle is kept, also where the write fails.
     fn write(&mut self, file: FileId, bytes: &[u8]) -> Result<(), DiskError>
-        ensures { self.new ≡ self.old }
+        ensures same { self.new.failed ≡ self.old.failed }
+        ensures open { OnOk result (IsTrue (has file self.new.unsynced)) }
     {
-        let Some(mut handle) = self.file(file, true)? else {
-            return Err(DiskError::Fault);
-        };
-        write_whole(&mut handle, bytes).map_err(fault)?;
-        self.kept = Some((file, handle));
-        Ok(())
+        self.open(file)?;
+        match self.handles.get(file) {
+            Some(handle) => write_open(handle, bytes),
+            None => Err(DiskError::Fault),
+        }
     }
 
-    // Settles a file, if it is there.
+    // Settles a file by the handle that wrote it, and closes it. One that was not written since its last sync is settled already.
     fn settle(&mut self, file: FileId) -> Result<(), DiskError>
-        ensures { self.new ≡ self.old }
+        ensures same { self.new.failed ≡ self.old.failed }
+        ensures synced { OnOk result (self.new.unsynced ≡ without file self.old.unsynced) }
+        ensures err { OnErr result (self.new ≡ self.old) }
     {
-        let Some(handle) = self.file(file, false)? else {
-            return Ok(());
-        };
-        sync_file(&self.rt, &handle)?;
-        self.kept = Some((file, handle));
+        if let Some(handle) = self.handles.get(file) {
+            sync_file(&self.rt, handle)?;
+        }
+        self.handles.close(file);
         Ok(())
     }
+}
+
+// Writes bytes at the end of an open file.
+fn write_open(handle: &File, bytes: &[u8]) -> Result<(), DiskError> {
+    let mut writer = handle;
+    write_whole(&mut writer, bytes).map_err(fault)
 }
 
 impl<R: System + Send> Stage for RealStage<R> {
@@ -163,7 +175,7 @@ impl<R: System + Send> Stage for RealStage<R> {
 
     ghost files = { λ _. None };
 
-    ghost failed = { λ s. s };
+    ghost failed = { λ s. s.failed };
 
     /// An interrupted write is tried again, at most `MOST_TRIES` times in all; one that takes nothing is a fault.
     fn append(&mut self, file: FileId, bytes: &[u8]) -> Result<(), DiskError> {

@@ -6,7 +6,10 @@ mod arm;
 mod disk;
 mod folder;
 mod gate;
+mod handles;
 mod numbers;
+mod root;
+mod standard;
 mod system;
 mod tries;
 
@@ -16,4 +19,5 @@ pub use disk_names::{file_name, is_root_name};
 pub use folder::{RealDir, RealStage};
 pub use gate::OpenGate;
 pub use outside_streams::{MOST_TRIES, StdSink, StdSource};
+pub use standard::{StandardNumbers, hold_standard_numbers};
 pub use system::System;

@@ -1,16 +1,17 @@
 // Calls of the system on folders and files, each of whose errors is a fault.
-ghost use Rattle.std.specs.Prelude.{◌≤◌, length, IfOk};
+ghost use Rattle.std.specs.Prelude.{◌≡◌, ◌↔◌, ◌≤◌, length, IfOk};
+ghost use Rattle.std.specs.Fs.{IsFile, file_type};
 
 use crate::tries::read_whole;
-use mt_base::{Name, Seq};
+use disk_names::add_shown_names;
+use mt_base::{Name, NoMemory};
 use mt_outside::DiskError;
 use outside_streams::MOST_TRIES;
-use std::alloc::{AllocError, Global};
-use std::fs::{File, Files, OpenOptions};
+use std::alloc::Global;
+use std::fs::{File, Files, Metadata, OpenOptions};
 use std::io;
 use std::io::{ErrorKind, Read};
 use std::os::unix::fs::FileExt;
-use std::path::Path;
 
 /// What the real disk asks of a runtime: files and folders. The runtime of a program is one.
 pub trait System: Files<File = File> + Clone + Drop {}
@@ -28,6 +29,11 @@ pub(crate) fn fault(_error: io::Error) -> DiskError {
     DiskError::Fault
 }
 
+// Want of memory among the errors of the system.
+fn memory(_: NoMemory) -> io::Error {
+    io::Error::from(ErrorKind::OutOfMemory)
+}
+
 // An error of a call that also takes memory itself.
 fn memory_or_fault(error: io::Error) -> DiskError {
     if error.kind() == ErrorKind::OutOfMemory {
@@ -37,20 +43,10 @@ fn memory_or_fault(error: io::Error) -> DiskError {
     }
 }
 
-// The folder that a path lies in.
-fn parent_of(path: &str) -> &str {
-    match Path::new(path).parent() {
-        Some(parent) if !parent.as_str().is_empty() => parent.as_str(),
-        _ => ".",
-    }
-}
-
 // A call of the system that answers nothing.
 #[derive(Clone, Copy)]
 enum Order<'a> {
     MakeFolder(&'a str),
-    // Opens a folder, which fails where it can't be read.
-    OpenFolder(&'a str),
     RemoveFolder(Global, &'a str),
     Rename(&'a str, &'a str),
     // Makes sure that a crash leaves what is open as it is.
@@ -61,7 +57,6 @@ enum Order<'a> {
 fn perform_once<R: System>(rt: &R, order: Order) -> io::Result<()> {
     match order {
         Order::MakeFolder(path) => rt.create_dir(path),
-        Order::OpenFolder(path) => rt.open_dir(path).map(drop),
         Order::RemoveFolder(alloc, path) => rt.remove_dir_all(alloc, path),
         Order::Rename(from, to) => rt.rename(from, to),
         Order::Settle(file) => file.sync_all(),
@@ -90,27 +85,30 @@ fn open<R: System>(rt: &R, path: &str, options: &OpenOptions) -> io::Result<File
     Err(io::Error::from(ErrorKind::Interrupted))
 }
 
-// Opens a file or a folder to be read.
+// Opens a file or a folder to be read, also by a link.
 fn open_readable<R: System>(rt: &R, path: &str) -> io::Result<File> {
     let mut options = OpenOptions::new();
     options.read(true);
     open(rt, path, &options)
 }
 
-/// Makes a folder where it is not there, and makes sure that a crash does not take it away again. Its parents are not made.
-pub(crate) fn settle_folder<R: System>(rt: &R, path: &str) -> Result<(), DiskError> {
+/// Makes a folder where it is not there. Its parents are not made.
+pub(crate) fn make_where_missing<R: System>(rt: &R, path: &str) -> Result<(), DiskError> {
     match perform(rt, Order::MakeFolder(path)) {
-        Ok(()) => sync_folder(rt, parent_of(path))?,
-        Err(error) if error.kind() == ErrorKind::AlreadyExists => {}
-        Err(error) => return Err(fault(error)),
+        Err(error) if error.kind() != ErrorKind::AlreadyExists => Err(fault(error)),
+        _ => Ok(()),
     }
-    perform(rt, Order::OpenFolder(path)).map_err(fault)
 }
 
 /// Makes an empty folder, in place of what an earlier run left there.
 pub(crate) fn make_folder<R: System>(rt: &R, alloc: Global, path: &str) -> Result<(), DiskError> {
-    remove_folder(rt, alloc, path)?;
-    perform(rt, Order::MakeFolder(path)).map_err(fault)
+    match perform(rt, Order::MakeFolder(path)) {
+        Err(error) if error.kind() == ErrorKind::AlreadyExists => {
+            remove_folder(rt, alloc, path)?;
+            perform(rt, Order::MakeFolder(path)).map_err(fault)
+        }
+        made => made.map_err(fault),
+    }
 }
 
 /// Makes sure that a crash leaves the names in a folder as they are.
@@ -167,23 +165,53 @@ pub(crate) fn is_folder<R: System>(rt: &R, path: &str) -> bool {
     false
 }
 
-// Adds a name, unless it begins with a dot.
-fn push_name(alloc: Global, name: &str, names: &mut Vec<Name>) -> Result<(), AllocError> {
-    if !name.starts_with('.') {
-        names.push(Seq::of(Vec::from_slice(alloc, name.as_bytes())?))?;
-    }
-    Ok(())
+/// What lies at a path. A link is not followed.
+#[derive(Clone, Copy)]
+pub(crate) enum Found {
+    Nothing,
+    File,
+    /// A folder, a link, a pipe, or what else is no regular file.
+    Other,
 }
 
-// Adds those of the names that do not begin with a dot. A NUL ends each.
-fn push_names(alloc: Global, ended: &[u8], names: &mut Vec<Name>) -> io::Result<()> {
-    let Ok(text) = str::from_utf8(ended) else {
-        return Err(io::Error::from(ErrorKind::InvalidFilename));
-    };
-    for name in text.split_terminator('\0') {
-        push_name(alloc, name, names)?;
+// What has this metadata.
+fn kind_of(metadata: &Metadata) -> Found
+    ensures file { result ≡ Found.File ↔ IsFile (file_type metadata.now) }
+    ensures there { result ≡ Found.Nothing → ⊥ }
+{
+    if metadata.is_file() {
+        Found::File
+    } else {
+        Found::Other
     }
-    Ok(())
+}
+
+/// What lies at a path.
+pub(crate) fn find<R: System>(rt: &R, path: &str) -> Result<Found, DiskError> {
+    for _ in 0..MOST_TRIES {
+        match rt.symlink_metadata(path) {
+            Ok(metadata) => return Ok(kind_of(&metadata)),
+            Err(error) if error.kind() == ErrorKind::NotFound => return Ok(Found::Nothing),
+            Err(error) if error.kind() == ErrorKind::Interrupted => {}
+            Err(error) => return Err(fault(error)),
+        }
+    }
+    Err(DiskError::Fault)
+}
+
+/// Locks a file against all that lock it too, until it is closed. It is made where it is not there. One that is locked already is a fault, and so is
+/// what is no regular file.
+pub(crate) fn lock_file<R: System>(rt: &R, path: &str) -> Result<File, DiskError> {
+    if let Found::Other = find(rt, path)? {
+        return Err(DiskError::Fault);
+    }
+    let mut options = OpenOptions::new();
+    options.write(true).create(true);
+    let file = open(rt, path, &options).map_err(fault)?;
+    match file.try_lock() {
+        Ok(()) => Ok(file),
+        Err(_) => Err(DiskError::Fault),
+    }
 }
 
 // Adds the names in a folder that do not begin with a dot, in no order. After an error some of them may have been added.
@@ -200,7 +228,7 @@ fn read_names<R: System>(
         if count == 0 {
             break;
         }
-        push_names(alloc, &room[..count], names)?;
+        add_shown_names(alloc, &room[..count], names).map_err(memory)?;
     }
     Ok(())
 }
@@ -226,28 +254,16 @@ pub(crate) fn names_in<R: System>(
     Err(DiskError::Fault)
 }
 
-/// Opens a file to be written at its end, or answers that it is not there. It is made first where that is asked.
-pub(crate) fn open_at_end<R: System>(
-    rt: &R,
-    path: &str,
-    make: bool,
-) -> Result<Option<File>, DiskError> {
+/// Opens a file to be written at its end. It is made where it is not there.
+pub(crate) fn open_at_end<R: System>(rt: &R, path: &str) -> Result<File, DiskError> {
     let mut options = OpenOptions::new();
-    options.append(true).create(make);
-    opened(open(rt, path, &options))
+    options.append(true).create(true);
+    open(rt, path, &options).map_err(fault)
 }
 
-/// Opens a file to be read, or answers that it is not there.
-pub(crate) fn open_to_read<R: System>(rt: &R, path: &str) -> Result<Option<File>, DiskError> {
-    opened(open_readable(rt, path))
-}
-
-fn opened(file: io::Result<File>) -> Result<Option<File>, DiskError> {
-    match file {
-        Ok(file) => Ok(Some(file)),
-        Err(error) if error.kind() == ErrorKind::NotFound => Ok(None),
-        Err(error) => Err(fault(error)),
-    }
+/// Opens a file to be read.
+pub(crate) fn open_to_read<R: System>(rt: &R, path: &str) -> Result<File, DiskError> {
+    open_readable(rt, path).map_err(fault)
 }
 
 /// Makes sure that a crash leaves a file as it is.

@@ -2,7 +2,8 @@
 #![tactic(auto)]
 
 use disk_mem::CountedAnnals;
-use disk_real::{OpenGate, RealDisk, StdSink, StdSource};
+use disk_real::{OpenGate, RealDisk, StandardNumbers, StdSink, StdSource, hold_standard_numbers};
+use mt_outside::DiskError;
 use mt_program::{Status, run};
 use std::alloc::{AllocGlobal, Global};
 use std::env::{self, Env};
@@ -22,10 +23,25 @@ fn words<R: Env + AllocGlobal>(rt: &R) -> Result<Vec<String>, Status> {
     }
 }
 
+/// Keeps the files of the folder from the numbers of the standard streams, or gives the status where that can't be had.
+fn standard_numbers(rt: &HostRuntime) -> Result<StandardNumbers, Status> {
+    match hold_standard_numbers(rt) {
+        Ok(held) => Ok(held),
+        Err(DiskError::NoMemory) => Err(Status::NoMemory),
+        Err(DiskError::Fault) => Err(Status::DiskFault),
+    }
+}
+
+/// What comes before a run: the numbers of the standard streams, before all else, and the words.
+fn begin(rt: &HostRuntime) -> Result<(StandardNumbers, Vec<String>), Status> {
+    let held = standard_numbers(rt)?;
+    Ok((held, words(rt)?))
+}
+
 fn main(rt: HostRuntime) -> ExitCode {
     let alloc = rt.alloc();
-    let words = match words(&rt) {
-        Ok(words) => words,
+    let (_held, words) = match begin(&rt) {
+        Ok(begun) => begun,
         Err(status) => return ExitCode::from(status.number()),
     };
     let disk = RealDisk::new(rt, alloc);

@@ -204,9 +204,17 @@ impl Told {
         }
     }
 
+    // Tells that a folder is held: neither another disk nor this one can start over it. A fault of each.
+    fn held(&mut self, rt: &HostRuntime, disk: &mut RealDisk<HostRuntime>) {
+        let mut other = RealDisk::new(*rt, self.alloc);
+        self.ended("another disk", other.start("root").err());
+        self.ended("another start", disk.start("root").err());
+    }
+
     // Begins with a root that is made where it is not there.
     fn run_root(&mut self, rt: &HostRuntime, disk: &mut RealDisk<HostRuntime>) {
         self.note(disk.start("root").err());
+        self.held(rt, disk);
         match disk.arm(self.alloc) {
             Ok(arm) => {
                 let mut arm = arm;

@@ -1,0 +1,4 @@
+INSERT INTO t;
+1	a
+\.
+SELECT * FROM t;

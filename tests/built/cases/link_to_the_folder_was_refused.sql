@@ -1,0 +1,4 @@
+INSERT INTO t;
+3	c
+\.
+SELECT * FROM t;

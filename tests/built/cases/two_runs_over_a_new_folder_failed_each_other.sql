@@ -1,0 +1,4 @@
+CREATE TABLE t (a UInt8) ENGINE = MergeTree ORDER BY a;
+INSERT INTO t;
+9
+\.

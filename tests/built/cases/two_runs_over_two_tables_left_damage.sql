@@ -1,0 +1,4 @@
+INSERT INTO u;
+9
+\.
+SELECT * FROM u;
