@@ -1,23 +1,17 @@
 -- The blocks of a part.
 use Rattle.std.proofs.Common.{◌≡◌, ℕ, ◌≤◌, Bool, true, false, ◌&&◌, refl, ap, nat_le}
 use Rattle.std.proofs.lemmas.Bool.{leb-true}
-use Rattle.std.proofs.lemmas.Bool.Decides.{Decides-eqb}
 use Rattle.mt_base.specs.declared.partition.Partition.{Partition}
-use Rattle.mt_base.specs.declared.partition.Partition.TheVariants.{Whole, Number}
 use Rattle.part_name.specs.declared.part.PartName.{PartName}
 use Rattle.part_history.specs.declared.part.CorePart.{CorePart}
-use Rattle.part_history.specs.Numbers.{lies_within, same_partition}
+use Rattle.mt_values.specs.Tables.{same_partition}
+use Rattle.mt_model.specs.Numbers.{lies_within}
+use Rattle.mt_model.proofs.Commands.{partition_is}
 use Rattle.part_history.specs.Parts.{has_block}
 
 both : (a b : Bool) → a && b ≡ true → (a ≡ true) × (b ≡ true)
 both true b is = (refl, is)
 both false b is = cc
-
-partition_is : (p q : Partition) → same_partition p q ≡ true → p ≡ q
-partition_is Whole Whole is = refl
-partition_is Whole (Number n) is = cc
-partition_is (Number m) Whole is = cc
-partition_is (Number m) (Number n) is = ap Number ((Decides-eqb m n).0 is)
 
 pub record HasBlock (partition : Partition) (n : ℕ) (name : PartName) : Type 0 where
   pub same : name.partition ≡ partition

@@ -1,11 +1,9 @@
 -- A root that stands for a history has no parts that overlap.
 use Rattle.std.proofs.Common.{◌≡◌, ℕ, ◌≤◌, Bool, true, ◌&&◌, List, refl, sym, ap, ap₂, ◌∙◌, subst, inl, inr, arith}
 use Rattle.std.proofs.lemmas.Bool.{cases_lt}
-use Rattle.std.proofs.lemmas.Bool.Decides.{Decides-eqb}
 use Rattle.std.proofs.lemmas.List.Elements.{All-contains}
 use Rattle.std.specs.List.{Contains as HasItem}
 use Rattle.mt_base.specs.declared.partition.Partition.{Partition}
-use Rattle.mt_base.specs.declared.partition.Partition.TheVariants.{Whole, Number}
 use Rattle.mt_values.specs.Grammar.{same_bytes}
 use Rattle.mt_outside.specs.Disk.{Names}
 use Rattle.mt_model.specs.History.{History}
@@ -13,21 +11,15 @@ use Rattle.mt_model.proofs.Tables.{itself_same}
 use Rattle.part_set.specs.declared.root_name.TablePart.{TablePart}
 use Rattle.part_set.specs.Visible.{Overlap}
 use Rattle.part_history.specs.declared.part.CorePart.{CorePart}
-use Rattle.part_history.specs.Numbers.{same_partition}
 use Rattle.part_history.specs.Parts.{PartStands, has_block, parts_of}
-use Rattle.part_history.proofs.Ranges.{lies_inside}
+use Rattle.part_history.proofs.Apart.{has_at}
 use Rattle.root_store.specs.Roots.{Stands, named}
 use Rattle.root_store.proofs.Items.{filtered, two_count}
 use Rattle.root_store.proofs.Orphaned.{of_core, part_named}
 
-itself : (p : Partition) → same_partition p p ≡ true
-itself Whole = refl
-itself (Number n) = (Decides-eqb n n).1 refl
-
 -- a part has a block of its partition
 pub block_here : (part : CorePart) (partition : Partition) (n : ℕ) → part.name.partition ≡ partition → part.name.min_block ≤ n → n ≤ part.name.max_block → has_block partition n part ≡ true
-block_here part partition n same low high =
-    ap₂ (λ (a b : Bool). a && b) (ap (λ (p : Partition). same_partition p partition) same ∙ itself partition) (lies_inside part.name.min_block part.name.max_block n low high)
+block_here part partition n same low high = has_at partition n part same low high
 
 -- a part of a table is among its parts
 pub of_table : (table : List ℕ) (parts : List CorePart) (part : CorePart) → HasItem parts part → part.table ≡ table → HasItem (parts_of table parts) part

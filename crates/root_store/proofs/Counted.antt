@@ -9,8 +9,8 @@ use Rattle.mt_values.specs.declared.schema.Schema.{Schema}
 use Rattle.mt_values.specs.Grammar.{same_bytes}
 use Rattle.mt_model.specs.History.{History, IsAllowed, IsLegal, IsLegalAfter, creates, first_of, is_create, schema_by, schema_of}
 use Rattle.mt_model.proofs.Tables.{itself_same, same_is}
-use Rattle.part_history.specs.Numbers.{draws, numbered}
-use Rattle.part_history.proofs.Growing.{schema_kept, schema_more}
+use Rattle.mt_model.specs.Numbers.{draws, numbered}
+use Rattle.mt_model.proofs.Histories.{schema_kept, schema_more}
 
 -- the table of a command
 abbrev pub table_by : Command → List ℕ

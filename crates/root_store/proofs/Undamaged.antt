@@ -1,18 +1,19 @@
 -- A root that stands for a history has no damaged file.
 use Rattle.std.proofs.Common.{◌≡◌, ℕ, ◌-◌, ◌<◌, List, ◌++◌, Option, Some, None, length, refl, sym, ap, ◌∙◌, subst, inl, inr, arith, codes, length-append, zero-add}
 use Rattle.std.proofs.lemmas.List.{length-map}
+use Rattle.std.proofs.lemmas.List.Elements.{All-contains}
 use Rattle.std.proofs.lemmas.List.FromFn.{get_or-range_with_len, length-map-range_with_len, length-range_with_len}
 use Rattle.std.specs.Int.{w32, to_le_bytes}
 use Rattle.std.specs.List.{All, Contains as HasItem, range_with_len}
 use Rattle.sha2.specs.Sha256.{sha256}
 use Rattle.sha2.proofs.Facts256.{length-sha256}
-use Rattle.mt_base.specs.declared.partition.Partition.TheVariants.{Whole}
 use Rattle.mt_base.specs.declared.name.FileId.{FileId}
 use Rattle.mt_base.specs.declared.name.FileId.TheVariants as file
 use Rattle.mt_values.specs.declared.schema.Column.{Column}
 use Rattle.mt_values.specs.declared.schema.Schema.{Schema}
 use Rattle.mt_values.specs.Manifests.{entry_body, entry_bytes}
 use Rattle.mt_values.specs.RootNames.{create_name}
+use Rattle.mt_values.specs.Tables.{MayHavePartition}
 use Rattle.mt_values.specs.Values.{Row}
 use Rattle.mt_outside.specs.Disk.{Names, files_at}
 use Rattle.mt_outside.specs.Files.{Files, bytes_of}
@@ -30,12 +31,13 @@ use Rattle.part_set.specs.declared.root_name.RootName.TheVariants as root
 use Rattle.part_set.specs.declared.root_name.TablePart.{TablePart}
 use Rattle.part_set.specs.RootNames.{root_text}
 use Rattle.part_set.specs.Visible.{IsVisible}
-use Rattle.part_history.specs.Numbers.{numbered}
-use Rattle.part_history.proofs.Numbered.{all_whole, whole_at}
+use Rattle.part_history.specs.declared.part.CorePart.{CorePart}
+use Rattle.part_history.specs.Parts.{parts_of}
+use Rattle.part_history.proofs.Apart.{may_have}
 use Rattle.root_store.specs.Damage.{DamagedAt, IsDamaged, PartDamaged}
 use Rattle.root_store.specs.Entries.{EntryHolds, schema_of_entry}
 use Rattle.root_store.specs.Roots.{FolderHolds, HasFolder, Stands}
-use Rattle.root_store.proofs.Clear.{part_stands}
+use Rattle.root_store.proofs.Clear.{of_table}
 use Rattle.root_store.proofs.Orphaned.{of_core}
 use Rattle.root_store.proofs.Readings.{item_at}
 
@@ -103,13 +105,14 @@ none_some : {X : Type 0} (o : Option X) (x : X) → o ≡ None → o ≡ Some x 
 none_some o x none some = let both = sym none ∙ some in cc
 
 module _ (names : Names) (h : History) (s : Stands names h) where
-  -- a visible part is of the whole partition
-  pub whole : (part : TablePart) → IsVisible s.read part → part.name.partition ≡ Whole
-  whole part visible =
+  -- a visible part is of a partition that its table may have
+  pub may : (part : TablePart) (schema : Schema) → IsVisible s.read part → schema_of part.table h ≡ Some schema → MayHavePartition schema part.name.partition
+  may part schema visible known =
       let c = of_core names h s part visible in
-      let stands = part_stands names h s c.core c.here in
-      ap (λ (p : TablePart). p.name.partition) (sym c.name_is)
-      ∙ (sym stands.least.partition_is ∙ whole_at (numbered c.core.table h) (c.core.name.min_block - 1) stands.least.insert (all_whole c.core.table h s.legal) stands.least.there)
+      let table : c.core.table ≡ part.table = ap (λ (p : TablePart). p.table) c.name_is in
+      let all = may_have h part.table schema (parts_of part.table s.parts) s.legal known (s.stand part.table) in
+      subst (λ (p : TablePart). MayHavePartition schema p.name.partition) c.name_is
+      (All-contains (λ (p : CorePart). MayHavePartition schema p.name.partition) (parts_of part.table s.parts) c.core all (of_table part.table s.parts c.core c.here table))
 
   entry_sound : (table : List ℕ) (files : Files) → HasItem s.read (root.Create table) → files_at (create_name table) names ≡ Some files → ((schema : Schema) → EntryHolds table schema files → ⊥) → ⊥
   entry_sound table files here at damaged =
@@ -120,8 +123,7 @@ module _ (names : Names) (h : History) (s : Stands names h) where
   -- the folder of a visible part holds rows under the schema that its table's entry gives
   part_sound : (part : TablePart) (files : Files) (schema : Schema) (f : FileId) → IsVisible s.read part → files_at (root_text (root.Part part)) names ≡ Some files
       → HasFolder names (create_name part.table) (EntryHolds part.table schema) → PartDamaged schema part files f → ⊥
-  part_sound part files schema f visible at entry (inl other) = other.0 (whole part visible)
-  part_sound part files schema f visible at entry (inr bad) =
+  part_sound part files schema f visible at entry bad =
       let c = of_core names h s part visible in
       let folder = c.there.folder in
       let table : c.core.table ≡ part.table = ap (λ (p : TablePart). p.table) c.name_is in
@@ -130,7 +132,10 @@ module _ (names : Names) (h : History) (s : Stands names h) where
       let here : files_at (root_text (root.Part part)) names ≡ Some folder.files = subst (λ (p : TablePart). files_at (root_text (root.Part p)) names ≡ Some folder.files) c.name_is folder.there in
       let files_are : folder.files ≡ files = same_some folder.files files (sym here ∙ at) in
       let holds = subst (λ (x : Schema). FolderHolds x c.core.rows files) same (subst (FolderHolds c.there.schema c.core.rows) files_are folder.holds) in
-      none_some (damaged_file schema files) f (folder_sound schema c.core.rows files holds) bad.1
+      elim bad [
+        | inl other ↦ other.0 (may part schema visible (known ∙ ap Some same))
+        | inr file ↦ none_some (damaged_file schema files) f (folder_sound schema c.core.rows files holds) file.1
+      ]
 
   sound : (n : RootName) (files : Files) (f : FileId) → HasItem s.read n → files_at (root_text n) names ≡ Some files → IsDamaged names s.read n files f → ⊥
   sound (root.Create table) files f here at bad = entry_sound table files here at bad.0

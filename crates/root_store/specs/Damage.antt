@@ -1,9 +1,9 @@
 -- What keeps a root from being opened, in the order of checking (docs/replies.md, "Damage").
-use Rattle.std.specs.Prelude.{◌≡◌, ◌≢◌, ◌⊎◌, ℕ, ◌<◌, ◌≤◌, Bool, true, false, List, length, filter, take, slice_get, Some}
-use Rattle.mt_base.specs.declared.partition.Partition.TheVariants.{Whole}
+use Rattle.std.specs.Prelude.{◌≡◌, ◌⊎◌, ℕ, ◌<◌, ◌≤◌, Bool, true, false, List, length, filter, take, slice_get, Some}
 use Rattle.mt_base.specs.declared.name.FileId.{FileId}
 use Rattle.mt_base.specs.declared.name.FileId.TheVariants as file
 use Rattle.mt_values.specs.declared.schema.Schema.{Schema}
+use Rattle.mt_values.specs.Tables.{MayHavePartition}
 use Rattle.mt_outside.specs.Disk.{Names, files_at}
 use Rattle.mt_outside.specs.Files.{Files}
 use Rattle.part_reader.specs.DamagedFile.{damaged_file}
@@ -49,7 +49,8 @@ EntryDamaged names table files = (schema : Schema) → EntryHolds table schema f
 -- of a part of a table whose entry holds this schema: the first damaged file, or the manifest where the table can't have the part's partition
 abbrev pub PartDamaged : Schema → TablePart → Files → FileId → Type 0
 PartDamaged schema part files f =
-    ((part.name.partition ≢ Whole) × (f ≡ file.Manifest)) ⊎ ((part.name.partition ≡ Whole) × (damaged_file schema files ≡ Some f))
+    ((MayHavePartition schema part.name.partition → ⊥) × (f ≡ file.Manifest))
+    ⊎ (MayHavePartition schema part.name.partition × (damaged_file schema files ≡ Some f))
 
 -- a file of the entry or of the visible part that a name is
 abbrev pub IsDamaged : Names → List RootName → RootName → Files → FileId → Type 0

@@ -2,9 +2,9 @@
 use Rattle.std.specs.Prelude.{◌≡◌, ◌⊎◌, ℕ, ◌≤◌, List, [], All, Option, Some, None}
 use Rattle.std.specs.Map.{keys_of}
 use Rattle.std.specs.Option.{ForSome}
-use Rattle.mt_base.specs.declared.partition.Partition.TheVariants.{Whole}
 use Rattle.mt_values.specs.declared.schema.Schema.{Schema}
 use Rattle.mt_values.specs.RootNames.{create_name, part_name}
+use Rattle.mt_values.specs.Tables.{MayHavePartition}
 use Rattle.mt_values.specs.Values.{Row}
 use Rattle.mt_outside.specs.Disk.{Told, names_of}
 use Rattle.mt_outside.specs.Files.{Files}
@@ -24,12 +24,12 @@ use Rattle.root_store.specs.Stores.{table_at}
 abbrev pub EndsByDrawn : {F : Type 0} → CoreStore F → List ℕ → ℕ → Type 0
 EndsByDrawn {F} store table drawn = All (λ (k : Kept (Part F)). k.name.max_block ≤ drawn) (parts_of store.set table)
 
--- a table that commands may follow: its schema is one that a table may have, and its parts are of the whole partition, begin no later than
--- they end, and end by the number that was drawn last
+-- a table that commands may follow: its schema is one that a table may have, and its parts are of partitions that it may have, begin no
+-- later than they end, and end by the number that was drawn last
 pub record IsSoundTable {F : Type 0} (store : CoreStore F) (table : List ℕ) (t : Table) : Type 0 where
   pub schema : IsTableSchema t.schema
   pub ends : EndsByDrawn store table t.drawn
-  pub whole : All (λ (k : Kept (Part F)). k.name.partition ≡ Whole) (parts_of store.set table)
+  pub may : All (λ (k : Kept (Part F)). MayHavePartition t.schema k.name.partition) (parts_of store.set table)
   pub order : All (λ (k : Kept (Part F)). k.name.min_block ≤ k.name.max_block) (parts_of store.set table)
 
 -- each table is so, and no other has parts

@@ -12,6 +12,7 @@ use Rattle.mt_values.specs.Values.{Row}
 use Rattle.mt_outside.specs.Disk.{Names, files_at}
 use Rattle.mt_outside.specs.Files.{Files, bytes_of}
 use Rattle.mt_model.specs.History.{History, IsLegal, creates, schema_of}
+use Rattle.mt_model.specs.Numbers.{last_number}
 use Rattle.part_reader.specs.declared.reading.Part.{Part}
 use Rattle.part_name.specs.declared.part.PartName.{PartName}
 use Rattle.part_reader.specs.Parts.{PartHolds}
@@ -25,7 +26,6 @@ use Rattle.part_set.specs.RootNames.{root_text}
 use Rattle.part_set.specs.Sets.{parts_of}
 use Rattle.part_set.specs.Visible.{HasTable, IsVisible}
 use Rattle.part_history.specs.declared.part.CorePart.{CorePart}
-use Rattle.part_history.specs.Numbers.{numbered}
 use Rattle.part_history.specs.Parts.{AreInBlockOrder, TableStands}
 use Rattle.root_store.specs.declared.store.CoreStore.{CoreStore}
 use Rattle.root_store.specs.declared.store.Table.{Table}
@@ -64,7 +64,7 @@ pub record CoreStands {F : Type 0} (files_of : F → Option Files) (h : History)
   pub length_is : store.length ≡ length h
   pub tables : (table : List ℕ) → option_map (λ (t : Table). t.schema) (table_at store table) ≡ schema_of table h
   pub count : length store.tables.entries ≡ creates h
-  pub drawn : (table : List ℕ) (t : Table) → table_at store table ≡ Some t → t.drawn ≡ length (numbered table h)
+  pub drawn : (table : List ℕ) (t : Table) → table_at store table ≡ Some t → t.drawn ≡ last_number table h
   pub parts : (table : List ℕ) (t : Table) → table_at store table ≡ Some t → PartsAreThere files_of h store table t.schema
   pub no_other : (table : List ℕ) → table_at store table ≡ None → parts_of store.set table ≡ []
 
