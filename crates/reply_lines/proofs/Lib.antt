@@ -1,3 +1,4 @@
+pub mod Causing
 pub mod Counting
 pub mod Ends
 pub mod Refusing

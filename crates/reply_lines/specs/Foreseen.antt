@@ -1,11 +1,11 @@
--- When a statement may have a reply at the end of what a keeper tells, whatever the counts of faults come to.
+-- When a statement may have a reply at the end of what a keeper tells, whatever the outside comes to.
 use Rattle.std.specs.Prelude.{◌≡◌, ◌==◌, ℕ, ◌<◌, ◌≤◌, Bool, List, length, map, Ok}
 use Rattle.mt_values.specs.declared.annals.Noted.{Noted}
 use Rattle.mt_values.specs.declared.statement.SelectText.{SelectText}
 use Rattle.mt_values.specs.declared.statement.Statement.TheVariants as statement
 use Rattle.mt_values.specs.Annals.{Told}
 use Rattle.mt_model.specs.History.{History}
-use Rattle.mt_model.specs.Outside.{Counts, HasRisen}
+use Rattle.mt_model.specs.Outside.{HasRisen, Outside}
 use Rattle.mt_model.specs.Refusals.{code_of}
 use Rattle.mt_model.specs.Session.{Takes}
 
@@ -13,9 +13,9 @@ use Rattle.mt_model.specs.Session.{Takes}
 abbrev pub history : Told → History
 history t = map (λ (n : Noted). n.entry) t.list
 
--- Counts of a run that agree with the disk's count at opening, and with the disk's and the arm's counts as they stand now:
+-- What the outside did in a run agrees with the disk's count at opening, and with the disk's and the arm's counts as they stand now:
 -- neither falls, and a call of the arm that failed shows in the disk's count once the arm is given back.
-pub record Foresees (opened disk arm : ℕ) (n : Counts) : Type 0 where
+pub record Foresees (opened disk arm : ℕ) (n : Outside) : Type 0 where
   pub opened_is : n.opened ≡ opened
   pub later : disk ≤ n.ended
   pub risen : 0 < arm → HasRisen n n.ended
@@ -24,7 +24,7 @@ pub record Foresees (opened disk arm : ℕ) (n : Counts) : Type 0 where
 abbrev pub is_unsettled : List ℕ → Bool
 is_unsettled reply = code_of reply == 16
 
--- the reply is one that the SELECT may have at the end of the history, whatever the counts come to
+-- the reply is one that the SELECT may have at the end of the history, whatever the outside comes to
 abbrev pub Selected : Told → SelectText → ℕ → ℕ → List ℕ → Type 0
 Selected kept text arm opened reply =
-    (n : Counts) (disk : ℕ) → Foresees opened disk arm n → Takes n (history kept) 0 (Ok (statement.Select text)) (length kept.list) (length kept.list) reply
+    (n : Outside) (disk : ℕ) → Foresees opened disk arm n → Takes n (history kept) 0 (Ok (statement.Select text)) (length kept.list) (length kept.list) reply

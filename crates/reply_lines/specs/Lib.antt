@@ -1,3 +1,4 @@
+pub mod Causes
 pub mod Foreseen
 pub mod Lines
 pub mod Names

@@ -42,13 +42,13 @@ pub fn stage_line(alloc: Global, error: DiskError) -> Result<Vec<u8>, NoMemory>
     }
 }
 
-/// The reply to a command whose publish or whose sync failed. It is formed before the commit.
+/// The reply to a command whose publish or whose sync failed, after some commands of its statement were accepted. It is formed before
+/// the commit.
 ///
-/// `NoMemory` where a growth was refused.
-pub fn unsettled_line(alloc: Global) -> Result<Vec<u8>, NoMemory>
-    ensures { IfOk result (λ line. line.items ≡ refusal_line (refusal.Unsettled 0)) }
+/// `NoMemory` where an allocation failed.
+pub fn unsettled_line(alloc: Global, accepted: usize) -> Result<Vec<u8>, NoMemory>
+    ensures { IfOk result (λ line. line.items ≡ refusal_line (refusal.Unsettled accepted)) }
 {
-    let accepted = 0;
     refusal_line(alloc, &Refusal::Unsettled { accepted })
 }
 

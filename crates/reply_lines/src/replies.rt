@@ -18,18 +18,22 @@ pub struct Replies {
     pub unsettled: Vec<u8>,
 }
 
-/// The replies to the next command of a history of this length.
+/// The replies to the next command of a history of this length, after some commands of its statement were accepted.
 ///
-/// `NoMemory` where a growth was refused, and at a history of 2^64 - 1 commands.
-pub fn replies_behind(alloc: Global, before: u64) -> Result<Replies, NoMemory>
+/// `NoMemory` where an allocation failed, and at a history of 2^64 - 1 commands.
+pub fn replies_behind(
+    alloc: Global,
+    before: u64,
+    accepted_before: usize,
+) -> Result<Replies, NoMemory>
     ensures accepted { IfOk result (λ r. r.accepted.items ≡ ok_line (before + 1)) }
-    ensures unsettled { IfOk result (λ r. r.unsettled.items ≡ refusal_line (refusal.Unsettled 0)) }
+    ensures unsettled { IfOk result (λ r. r.unsettled.items ≡ refusal_line (refusal.Unsettled accepted_before)) }
 {
     let Some(length) = before.checked_add(1) else {
         return Err(NoMemory);
     };
     let accepted = ok_line(alloc, length)?;
-    let unsettled = unsettled_line(alloc)?;
+    let unsettled = unsettled_line(alloc, accepted_before)?;
     Ok(Replies {
         accepted,
         unsettled,

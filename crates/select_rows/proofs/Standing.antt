@@ -28,7 +28,7 @@ rows_joined files_of schema table (k ∷ kept) (r ∷ rows) h = ap (λ (rs : Lis
 pub record Held {F : Type 0} (files_of : F → Option Files) (h : History) (table : List ℕ) (schema : Schema) (parts : List (Kept (Part F))) : Type 0 where
   pub rows : List (List Row)
   pub hold : PartsHold files_of schema parts rows
-  pub partly : Partly schema.key (live table schema.key h) (joined rows)
+  pub partly : Partly schema (live table schema h) (joined rows)
 
 module _ {F : Type 0} (files_of : F → Option Files) (h : History) (store : CoreStore F) (s : CoreStands files_of h store) (table : List ℕ) where
   abbrev schema_at : Option Table → Option Schema
@@ -48,6 +48,6 @@ module _ {F : Type 0} (files_of : F → Option Files) (h : History) (store : Cor
         record {
           rows = p.rows;
           hold = p.hold;
-          partly = subst (Partly t.schema.key (live table t.schema.key h)) (rows_joined files_of t.schema table (parts_of store.set table) p.rows p.hold)
+          partly = subst (Partly t.schema (live table t.schema h)) (rows_joined files_of t.schema table (parts_of store.set table) p.rows p.hold)
               (parts_joined h table t.schema s.legal table_schema (core_parts table (parts_of store.set table) p.rows) p.stand p.order);
         }

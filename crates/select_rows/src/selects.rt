@@ -1,11 +1,12 @@
 // Running a SELECT.
-ghost use Rattle.std.specs.Prelude.{◌≡◌, ◌≤◌, ◌<◌, ◌^◌, Ok, Some, true, false, IfOk};
+ghost use Rattle.std.specs.Prelude.{◌≡◌, ◌≤◌, ◌<◌, ◌^◌, Ok, Some, true, false, ℕ, IfOk};
 ghost use Rattle.mt_values.specs.Annals.{Told};
 ghost use Rattle.mt_model.specs.Refusals.{is_damage};
 ghost use Rattle.root_store.specs.Soundness.{HasSoundParts, IsSound};
 ghost use Rattle.root_store.specs.Stores.{CoreStands, table_at};
 ghost use Rattle.part_set.specs.Sets.{parts_of};
 ghost use Rattle.mt_model.specs.Reply.{selected_places};
+ghost use Rattle.reply_lines.specs.Causes.{HasCauses};
 ghost use Rattle.reply_lines.specs.Foreseen.{history};
 ghost use Rattle.select_rows.specs.Selects.{TellsOfDamage};
 ghost use Rattle.reply_lines.specs.Foreseen.{Selected};
@@ -41,6 +42,7 @@ fn read_places<R: Arm>(
     ensures answers { (kept : Told) → CoreStands R.Dir.files (history kept) store.now → IfOk result (λ reply. Selected kept text.now (R.failed arm.new) store.now.opened reply.items) }
     ensures undamaged { HasSoundParts R.Dir.files store.now → IfOk result (λ reply. is_damage reply.items ≡ false) }
     ensures damaged { IfOk result (λ reply. is_damage reply.items ≡ true → TellsOfDamage R.Dir.files store.now text.now reply.items) }
+    ensures causes { (disk : ℕ) → IfOk result (λ reply. HasCauses store.now.opened disk disk (R.failed arm.old) (R.failed arm.new) reply.items) }
     ensures tells { R.tells arm.new ≡ R.tells arm.old }
     ensures later { R.failed arm.old ≤ R.failed arm.new }
 {
@@ -68,6 +70,7 @@ pub fn select<R: Arm, G: Gate>(
     ensures answers { (kept : Told) → CoreStands R.Dir.files (history kept) store.now → IfOk result (λ reply. Selected kept text.now (R.failed arm.new) store.now.opened reply.items) }
     ensures undamaged { HasSoundParts R.Dir.files store.now → IfOk result (λ reply. is_damage reply.items ≡ false) }
     ensures damaged { IfOk result (λ reply. is_damage reply.items ≡ true → TellsOfDamage R.Dir.files store.now text.now reply.items) }
+    ensures causes { (disk : ℕ) → IfOk result (λ reply. HasCauses store.now.opened disk disk (R.failed arm.old) (R.failed arm.new) reply.items) }
     ensures tells { R.tells arm.new ≡ R.tells arm.old }
     ensures later { R.failed arm.old ≤ R.failed arm.new }
 {

@@ -252,7 +252,7 @@ whole_lines n (r ∷ rs) len =
 
 -- a SELECT's answer, from the rows of its table
 pub selects : (h : History) (s : SelectText) (schema : Schema) (places : List ℕ) (rows : List Row) (block : Grid) (place : ℕ) (reply : List ℕ)
-    → take place h ≡ h → schema_of s.table h ≡ Some schema → selected_places schema.columns s.columns ≡ Ok places → Partly schema.key (live s.table schema.key h) rows
+    → take place h ≡ h → schema_of s.table h ≡ Some schema → selected_places schema.columns s.columns ≡ Ok places → Partly schema (live s.table schema h) rows
     → block.rows ≡ map (key_of places) rows → Printed block place reply → Selects h s place reply
 selects h s schema places rows block place reply all there columns partly rows_are p =
     let width = length block.types in
@@ -267,14 +267,12 @@ selects h s schema places rows block place reply all there columns partly rows_a
       rising = sorted_rows width ordered len p.by.rising;
       lines_are = refl;
     }) in
-    let answer : Answer h s.table schema places lines = record { rows = rows; partly = partly; prints = prints } in
+    let answer : Answer h schema s lines = record { columns = places; selected = columns; rows = rows; partly = partly; prints = prints } in
     record {
       schema = schema;
-      columns = places;
       lines = lines;
       there = ap (schema_of s.table) all ∙ there;
-      selected = columns;
-      answer = subst (λ (x : History). Answer x s.table schema places lines) (sym all) answer;
+      answer = subst (λ (x : History). Answer x schema s lines) (sym all) answer;
       reply_is = p.reply_is
           ∙ (ap (λ ls. rows_line (length block.rows) place ++ ls) (whole_lines width ordered len ∙ sym (concat_lines ordered)) ∙ ap (λ n. rows_line n place ++ concat lines) (sym count));
     }

@@ -16,6 +16,7 @@ use Rattle.reply_lines.proofs.Ends.{added_nothing, length_history, whole_front}
 use Rattle.reply_lines.proofs.Refusing.{select_failed}
 use Rattle.statement_work.proofs.Selecting.{columns_are, empty_even, empty_many, joined_typed, lent_back, projected, rows_counted, selected_below, selects, typed_have_all}
 use Rattle.select_rows.proofs.Standing.{rows_held, table_schema}
+use Rattle.reply_lines.proofs.Causing.{says_answer, says_damage, says_failed}
 use Rattle.reply_lines.proofs.Counting.{line_of_stage}
 use Rattle.select_rows.proofs.selects.read_places.Goals as goal
 
@@ -133,3 +134,17 @@ returns-clause-damaged g c =
 
 pub returns-in-Ok-clause-damaged : goal.returns-in-Ok-clause-damaged
 returns-in-Ok-clause-damaged g c = IfOk-weaker c.print.result _ _ (λ reply is bad. absurd (false≢true (sym (ap is_damage is.reply_is) ∙ bad))) c.print.ensures
+
+-- what the outside did where it says so
+pub returns-in-Err-default-Fault-clause-causes : goal.returns-in-Err-default-Fault-clause-causes
+returns-in-Err-default-Fault-clause-causes g c = λ disk.
+    let rose = c.in-Err-default-Fault.ensures.fault c.in-Err-default-Fault.field-0-1-is in
+    IfOk-weaker c.stage_line.result _ _ (λ line is. says_failed c.args.store.now.opened disk disk (g.R.Arm.failed c.args.arm.now) (g.R.Arm.failed c.read_parts.new.arm) line.items failure.Fault is (λ same. rose)) c.stage_line.ensures
+
+pub returns-clause-causes : goal.returns-clause-causes
+returns-clause-causes g c = λ disk.
+    IfOk-weaker c.damaged.result _ _ (λ line is. says_damage c.args.store.now.opened disk disk (g.R.Arm.failed c.args.arm.now) (g.R.Arm.failed c.read_parts.new.arm) line.items _ _ _ is) c.damaged.ensures
+
+pub returns-in-Ok-clause-causes : goal.returns-in-Ok-clause-causes
+returns-in-Ok-clause-causes g c = λ disk.
+    IfOk-weaker c.print.result _ _ (λ reply is. says_answer c.args.store.now.opened disk disk (g.R.Arm.failed c.args.arm.now) (g.R.Arm.failed c.read_parts.new.arm) reply.items _ is.reply_is refl) c.print.ensures

@@ -7,6 +7,7 @@ use Rattle.mt_model.specs.Reply.{selected_places}
 use Rattle.reply_lines.specs.Foreseen.{history}
 use Rattle.std.proofs.lemmas.Bool.{false≢true}
 use Rattle.mt_model.proofs.Causes.{selected_is_cause, undamaged_line}
+use Rattle.reply_lines.proofs.Causing.{says_script}
 use Rattle.reply_lines.proofs.Undamaged.{line_of}
 use Rattle.reply_lines.proofs.Refusing.{select_refused}
 use Rattle.statement_work.proofs.Selecting.{columns_are, no_columns}
@@ -57,3 +58,15 @@ returns-in-Err-clause-damaged g c =
     IfOk-weaker c.refusal_line.result _ _ (λ line is bad.
     let none = line_of line.items c.in-Err.refusal is (undamaged_line c.in-Err.refusal (selected_is_cause c.in-Some.table.now.schema.columns c.args.text.now.columns c.in-Err.refusal chosen)) in
     absurd (false≢true (sym none ∙ bad))) c.refusal_line.ensures
+
+-- what the outside did where it says so
+pub returns-in_default-clause-causes : goal.returns-in_default-clause-causes
+returns-in_default-clause-causes g c = λ disk.
+    let arm = g.R.Arm.failed c.args.arm.now in
+    IfOk-weaker c.no_table_line.result _ _ (λ line is. says_script c.args.store.now.opened disk disk arm arm line.items (refusal.NoTable c.args.text.now.table) is (omega arith)) c.no_table_line.ensures
+
+pub returns-in-Err-clause-causes : goal.returns-in-Err-clause-causes
+returns-in-Err-clause-causes g c = λ disk.
+    let arm = g.R.Arm.failed c.args.arm.now in
+    let chosen = ap (λ (cs : List Column). selected_places cs c.args.text.now.columns) (sym c.as_slice.ensures) ∙ (sym c.in_ok-selected.ensures ∙ c.in-Err.is) in
+    IfOk-weaker c.refusal_line.result _ _ (λ line is. says_script c.args.store.now.opened disk disk arm arm line.items c.in-Err.refusal is (selected_is_cause c.in-Some.table.now.schema.columns c.args.text.now.columns c.in-Err.refusal chosen)) c.refusal_line.ensures
