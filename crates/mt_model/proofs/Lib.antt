@@ -3,6 +3,7 @@ pub mod Causes
 pub mod Commands
 pub mod Counting
 pub mod Determined
+pub mod Gained
 pub mod Giving
 pub mod Growing
 pub mod Histories

@@ -26,37 +26,6 @@ pub record ScriptReplies (n : Outside) (script : List (Result Statement Cause)) 
   pub nothing_else : AddsNothing h 0 last (length h)
   pub sessions : OwnEntries h base
 
--- The statements ran and printed out, and then one more statement ran that has no reply.
-pub record EndsUnanswered (n : Outside) (script : List (Result Statement Cause)) (last : Result Statement Cause) (h : History) (base : ℕ) (out : List ℕ) : Type 0 where
-  pub place : ℕ
-  pub stop : ℕ
-  pub run : SessionRun n h 0 script base place out
-  pub unanswered : Unanswered h 0 last place stop
-  pub nothing_else : AddsNothing h 0 stop (length h)
-  pub sessions : OwnEntries h base
-
 -- a front of a list
 abbrev pub IsFront : List ℕ → List ℕ → Type 0
 IsFront xs ys = (rest : List ℕ) × (xs ++ rest ≡ ys)
-
--- The first statements ran, and all their replies were written.
-pub record FrontRun (n : Outside) (script : List (Result Statement Cause)) (h : History) (base : ℕ) (written : List ℕ) : Type 0 where
-  pub count : ℕ
-  pub run : ScriptRun n (take count script) h base written
-
--- The first statements ran, and all their replies were written; perhaps one more ran that has no reply.
-pub record CutRun (n : Outside) (script : List (Result Statement Cause)) (h : History) (base : ℕ) (written : List ℕ) : Type 0 where
-  pub count : ℕ
-  pub run : ScriptRun n (take count script) h base written ⊎ ((last : Result Statement Cause) × (slice_get script count ≡ Some last) × EndsUnanswered n (take count script) last h base written)
-
--- The first statements ran and one more. Their replies were written, and a front of its reply.
-pub record CutInReply (n : Outside) (script : List (Result Statement Cause)) (h : History) (base : ℕ) (written : List ℕ) : Type 0 where
-  pub count : ℕ
-  pub last : Result Statement Cause
-  pub replies : List (List ℕ)
-  pub reply : List ℕ
-  pub part : List ℕ
-  pub there : slice_get script count ≡ Some last
-  pub run : ScriptReplies n (take count script ++ last ∷ []) h base (replies ++ reply ∷ [])
-  pub front : IsFront part reply
-  pub written_is : written ≡ concat replies ++ part

@@ -126,6 +126,16 @@ Unanswered h session (Ok s) from to =
     AddsNothing h session from to ⊎ ((done : List Command) × (rest : List Command) × StopsAfter h session s from to done rest)
 Unanswered h session (Err why) from to = AddsNothing h session from to
 
+-- The session ran a statement from one place to another, and this is the next of its commands: those before it were accepted, and it was not (docs/definitions.md, "Statements taken").
+abbrev pub IsNext : History → ℕ → Result Statement Cause → ℕ → ℕ → Command → Type 0
+IsNext h session (Ok s) from to c = (done : List Command) × (rest : List Command) × StopsAfter h session s from to done (c ∷ rest)
+IsNext h session (Err why) from to c = ⊥
+
+-- Run one after another, each of the statements had the first of its commands accepted, or none (docs/definitions.md, "Statements taken").
+abbrev pub SessionGives : History → ℕ → List (Result Statement Cause) → ℕ → ℕ → Type 0
+SessionGives h session [] from to = from ≡ to
+SessionGives h session (s ∷ ss) from to = (place : ℕ) × Unanswered h session s from place × SessionGives h session ss place to
+
 -- Run one after another from one place to the same or a later one, the statements may print this.
 abbrev pub SessionRun : Outside → History → ℕ → List (Result Statement Cause) → ℕ → ℕ → List ℕ → Type 0
 SessionRun n h session [] from to out = (from ≡ to) × (out ≡ [])
