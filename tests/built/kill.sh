@@ -12,7 +12,7 @@
 #   of the killed run   a front of the replies to the whole script; none where it found the folder held and ended with 5
 #   of the last run     status 0, the rows of the first n INSERTs into the first table, and of the second table the row of the other
 #                       program, if that was answered; n is the number of whole replies that the killed run wrote, or one more
-# So nothing that was acknowledged is lost, the places of all commands are as many as there are rows, and no place is told twice.
+# So nothing that was acknowledged is lost, the places of all commands are as many as there are rows, and no place is given twice.
 #
 # Only the process is killed, and the system goes on: what it was given is there, synced or not. What a loss of power leaves is not
 # looked at.
@@ -80,7 +80,7 @@ other_differences() {
     *) printf 'status %s of the other program, which wrote %s; ' "$others" "$(head -c 200 "$work/other" | tr '\n' '|')" ;;
     esac
     if grep -qxF -f "$work/other" "$work/out"; then
-        printf 'both programs were told %s; ' "$(cat "$work/other")"
+        printf 'both programs were given %s; ' "$(cat "$work/other")"
     fi
 }
 
