@@ -30,10 +30,9 @@ use Rattle.part_set.proofs.Maps.{found_is}
 use Rattle.root_store.specs.declared.store.CoreStore.{CoreStore}
 use Rattle.root_store.specs.declared.store.Table.{Table}
 use Rattle.root_store.specs.Stores.{fresh_table}
-use Rattle.root_commits.specs.Commits.{EntersTable, fresh_part}
+use Rattle.root_commits.specs.Commits.{EntersPart, EntersTable, fresh_part}
 use Rattle.root_store.specs.Soundness.{IsNameUnder, NamesFit}
 use Rattle.root_store.specs.Stores.{table_at}
-use Rattle.root_commits.proofs.Behind.{PartIsAdded}
 use Rattle.root_commits.proofs.Updated.{it_or, no_some, one_some}
 
 -- ---- dots
@@ -200,7 +199,7 @@ module _ {F : Type 0} (old new : CoreStore F) where
         fits_more clock (create_name table) files before after keep_made (record { table = table; kept = fresh_table schema; there = enters.updates.1; is = inl refl })
 
   -- and the store with one part more, once that was published
-  module _ (table : List ℕ) (partition : Partition) (part : Part F) (t : Table) (a : PartIsAdded table partition part t old new) where
+  module _ (table : List ℕ) (partition : Partition) (part : Part F) (t : Table) (a : EntersPart table partition part t old new) where
     keep_added : (n : List ℕ) → IsNameUnder old n → IsNameUnder new n
     keep_added n under = elim (it_or old new table (Some (record { schema = t.schema; drawn = t.drawn + 1 })) a.updates under.table) [
       | inl same ↦ (

@@ -6,7 +6,7 @@ use Rattle.std.specs.List.{All}
 use Rattle.std.specs.Map.{lookup}
 use Rattle.std.specs.Ordering.{nat_cmp}
 use Rattle.std.proofs.lemmas.Bool.{false≢true}
-use Rattle.std.proofs.lemmas.List.Elements.{All-nil, All-push}
+use Rattle.std.proofs.lemmas.List.Elements.{All-nil}
 use Rattle.mt_values.specs.declared.manifest.Loaded.{Loaded}
 use Rattle.mt_values.specs.declared.schema.Schema.{Schema}
 use Rattle.mt_values.specs.Grammar.{same_bytes}
@@ -24,6 +24,7 @@ use Rattle.root_store.specs.Stores.{fresh_table}
 use Rattle.root_commits.specs.Commits.{EntersSealed, EntersTable, IsSealedOf, SameStore, fresh_part, part_rows, partition_of_block}
 use Rattle.root_store.specs.Soundness.{HasSoundParts, HoldsRows, IsSound}
 use Rattle.root_store.specs.Stores.{table_at}
+use Rattle.root_commits.proofs.Placed.{all_added}
 use Rattle.root_commits.proofs.Updated.{it_or, one_some}
 
 module _ {F : Type 0} (files_of : F → Option Files) where
@@ -51,9 +52,9 @@ module _ {F : Type 0} (files_of : F → Option Files) where
         let kept = one_some (table_at new table) (record { schema = t.schema; drawn = t.drawn + 1 }) x a.enters.updates.1 now in
         let new_part : Kept (Part F) = record { name = fresh_part (partition_of_block t.schema block) (t.drawn + 1); part = a.part } in
         let own : HoldsRows files_of t.schema new_part = (part_rows t.schema block, written_holds files_of t.schema a.part (part_rows t.schema block) is.files (a.files_are ∙ is.sealed_are) (ap (λ (l : Loaded). l.manifest) a.loaded_is ∙ is.loaded_is) is.holds) in
-        let all = All-push (HoldsRows files_of t.schema) (parts_of old.set table) new_part (held table t a.enters.there) own in
+        let all = all_added (HoldsRows files_of t.schema) (parts_of old.set table) (parts_of new.set table) new_part a.enters.added (held table t a.enters.there) own in
         subst (λ (v : List ℕ). All (HoldsRows files_of x.schema) (parts_of new.set v)) same
-        (subst (λ (y : Table). All (HoldsRows files_of y.schema) (parts_of new.set table)) kept (subst (All (HoldsRows files_of t.schema)) (sym a.enters.parts) all)))
+        (subst (λ (y : Table). All (HoldsRows files_of y.schema) (parts_of new.set table)) kept all))
     | inr other ↦ subst (All (HoldsRows files_of x.schema)) (sym (a.enters.others u (apart u other.0))) (held u x (sym other.1 ∙ at))
   ]
     where

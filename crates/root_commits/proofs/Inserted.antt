@@ -1,6 +1,6 @@
 -- The store with one part more.
 use Rattle.std.proofs.Common.{◌≡◌, ◌≢◌, ℕ, ◌+◌, true, false, List, [], ◌∷◌, ◌++◌, Option, Some, None, length, filter, refl, sym, ap, ◌∙◌, subst, append-nil, length-append, inl, inr, ◌⊎◌}
-use Rattle.std.specs.List.{AllZip}
+use Rattle.std.specs.List.{AllZip, insert}
 use Rattle.std.specs.Option.{option_map}
 use Rattle.std.proofs.lemmas.List.Elements.{filter-append}
 use Rattle.mt_base.specs.declared.partition.Partition.{Partition}
@@ -15,7 +15,6 @@ use Rattle.mt_values.specs.Values.{Row}
 use Rattle.mt_outside.specs.Files.{Files}
 use Rattle.mt_model.specs.History.{History, IsInsertInto, entered, is_create, schema_of}
 use Rattle.mt_model.specs.Numbers.{last_number, numbered}
-use Rattle.mt_model.proofs.Commands.{own_partition}
 use Rattle.mt_model.proofs.Histories.{legal_push, numbered_more, schema_more}
 use Rattle.mt_model.proofs.Tables.{itself_same}
 use Rattle.part_reader.proofs.Holding.{written_holds}
@@ -27,28 +26,14 @@ use Rattle.part_history.specs.declared.part.CorePart.{CorePart}
 use Rattle.part_history.specs.Parts.{AreInBlockOrder, TableStands}
 use Rattle.part_history.specs.Entered.{part_of_insert}
 use Rattle.part_history.proofs.Growing.{drawn_apart, drawn_here, table_grown, table_kept}
-use Rattle.part_history.proofs.Ordered.{order_grown}
 use Rattle.root_store.specs.declared.store.CoreStore.{CoreStore}
 use Rattle.root_store.specs.declared.store.Table.{Table}
 use Rattle.root_commits.specs.Commits.{EntersSealed, IsSealedOf, fresh_part, insert_into, insert_of_block, part_rows, partition_of_block}
 use Rattle.root_store.specs.Stores.{CoreStands, PartsAreThere, core_part, core_parts, table_at}
 use Rattle.root_commits.proofs.Entering.{first_none}
+use Rattle.root_commits.proofs.Placed.{core_insert, table_moved, zip_insert}
+use Rattle.root_store.proofs.InOrder.{core_order}
 use Rattle.root_commits.proofs.Updated.{it_or, no_some, one_some}
-
-module _ {F : Type 0} where
-  -- one part more with its rows
-  core_push : (table : List ℕ) (R : Kept (Part F) → List Row → Type 0) (ks : List (Kept (Part F))) (rows : List (List Row)) (k : Kept (Part F)) (r : List Row) → AllZip R ks rows
-      → core_parts table (ks ++ k ∷ []) (rows ++ r ∷ []) ≡ core_parts table ks rows ++ core_part table k r ∷ []
-  core_push table R [] [] k r zip = refl
-  core_push table R [] (s ∷ rows) k r zip = absurd zip
-  core_push table R (l ∷ ks) [] k r zip = absurd zip
-  core_push table R (l ∷ ks) (s ∷ rows) k r zip = ap (λ (ps : List CorePart). core_part table l s ∷ ps) (core_push table R ks rows k r zip.1)
-
-  zip_push : (R : Kept (Part F) → List Row → Type 0) (ks : List (Kept (Part F))) (rows : List (List Row)) (k : Kept (Part F)) (r : List Row) → AllZip R ks rows → R k r → AllZip R (ks ++ k ∷ []) (rows ++ r ∷ [])
-  zip_push R [] [] k r zip holds = (holds, tt)
-  zip_push R [] (s ∷ rows) k r zip holds = absurd zip
-  zip_push R (l ∷ ks) [] k r zip holds = absurd zip
-  zip_push R (l ∷ ks) (s ∷ rows) k r zip holds = (zip.0, zip_push R ks rows k r zip.1 holds)
 
 module _ {F : Type 0} (files_of : F → Option Files) (h : History) (old new : CoreStore F) (session : ℕ) (table : List ℕ) (t : Table) (block : Grid) (sealed : Option Files) (loaded : Loaded)
     (s : CoreStands files_of h old) (rows_fit : IsInsertInto t.schema (insert_into table (partition_of_block t.schema block) block)) (is : IsSealedOf t.schema block sealed loaded) (a : EntersSealed files_of sealed loaded table (partition_of_block t.schema block) t old new) where
@@ -106,14 +91,18 @@ module _ {F : Type 0} (files_of : F → Option Files) (h : History) (old new : C
   grown_there : PartsAreThere files_of h old table t.schema → PartsAreThere files_of (h ++ e ∷ []) new table t.schema
   grown_there p =
       let ks = parts_of old.set table in
-      let parts : core_parts table (parts_of new.set table) (p.rows ++ rows ∷ []) ≡ core_parts table ks p.rows ++ part_of_insert t.schema (length (numbered table h) + 1) i ∷ [] =
-      ap (λ (l : List (Kept (Part F))). core_parts table l (p.rows ++ rows ∷ [])) a.enters.parts
-      ∙ (core_push table (Holds t.schema) ks p.rows kept rows p.hold ∙ ap (λ (q : CorePart). core_parts table ks p.rows ++ q ∷ []) new_part) in
+      let n = a.enters.added.place in
+      let all = insert p.rows n rows in
+      let new_one = part_of_insert t.schema (length (numbered table h) + 1) i in
+      let parts : core_parts table (parts_of new.set table) all ≡ insert (core_parts table ks p.rows) n new_one =
+      ap (λ (l : List (Kept (Part F))). core_parts table l all) a.enters.added.is
+      ∙ (core_insert (Holds t.schema) table ks p.rows n kept rows p.hold ∙ ap (insert (core_parts table ks p.rows) n) new_part) in
       record {
-        rows = p.rows ++ rows ∷ [];
-        hold = subst (λ (l : List (Kept (Part F))). AllZip (Holds t.schema) l (p.rows ++ rows ∷ [])) (sym a.enters.parts) (zip_push (Holds t.schema) ks p.rows kept rows p.hold holds);
-        stand = subst (λ (ps : List CorePart). TableStands table ps (h ++ e ∷ [])) (sym parts) (table_grown h e i t.schema refl known (core_parts table ks p.rows) p.stand);
-        order = subst AreInBlockOrder (sym parts) (order_grown h i t.schema (core_parts table ks p.rows) s.legal (own_partition t.schema i rows_fit) p.stand p.order);
+        rows = all;
+        hold = subst (λ (l : List (Kept (Part F))). AllZip (Holds t.schema) l all) (sym a.enters.added.is) (zip_insert (Holds t.schema) ks p.rows n kept rows p.hold holds);
+        stand = subst (λ (ps : List CorePart). TableStands table ps (h ++ e ∷ [])) (sym parts)
+            (table_moved table (core_parts table ks p.rows) n new_one (h ++ e ∷ []) (table_grown h e i t.schema refl known (core_parts table ks p.rows) p.stand));
+        order = core_order table (parts_of new.set table) all a.enters.ordered;
       }
 
   -- another has its own

@@ -1,5 +1,4 @@
 pub mod Added
-pub mod Behind
 pub mod CrashCommits
 pub mod CrashImages
 pub mod CrashNames
@@ -12,6 +11,7 @@ pub mod Holding
 pub mod Inserted
 pub mod Leaving
 pub mod Partitions
+pub mod Placed
 pub mod Rooted
 pub mod SameStores
 pub mod Sounding

@@ -1,11 +1,11 @@
 -- What a store keeps of its tables, as commands enter it.
-use Rattle.std.proofs.Common.{◌≡◌, ◌≢◌, ℕ, ◌+◌, ◌<◌, ◌≤◌, ◌^◌, ◌-◌, List, [], ◌∷◌, true, false, Option, Some, take, drop, refl, sym, ap, ◌∙◌, subst, arith, inl, inr}
+use Rattle.std.proofs.Common.{◌≡◌, ◌≢◌, ℕ, ◌+◌, ◌<◌, ◌≤◌, ◌^◌, ◌-◌, List, [], ◌∷◌, true, false, Option, Some, refl, sym, ap, ◌∙◌, subst, arith, inl, inr}
 use Rattle.std.specs.BTreeMap.{is_at}
 use Rattle.std.specs.Cmp.Lexicographic.{slice_cmp}
 use Rattle.std.specs.List.{All}
 use Rattle.std.specs.Map.{lookup}
 use Rattle.std.specs.Ordering.{nat_cmp}
-use Rattle.std.proofs.lemmas.List.Elements.{All-append, All-cons, All-drop, All-nil, All-take, All-weaker}
+use Rattle.std.proofs.lemmas.List.Elements.{All-nil, All-weaker}
 use Rattle.mt_base.specs.declared.partition.Partition.{Partition}
 use Rattle.mt_values.specs.declared.schema.Schema.{Schema}
 use Rattle.mt_values.specs.Grammar.{same_bytes}
@@ -23,10 +23,10 @@ use Rattle.durable_commit.specs.declared.causes.Refused.TheVariants as refused
 use Rattle.root_store.specs.declared.store.CoreStore.{CoreStore}
 use Rattle.root_store.specs.declared.store.Table.{Table}
 use Rattle.root_store.specs.Stores.{fresh_table}
-use Rattle.root_commits.specs.Commits.{EntersTable, SameStore, fresh_part}
+use Rattle.root_commits.specs.Commits.{EntersPart, EntersTable, SameStore, fresh_part}
 use Rattle.root_store.specs.Soundness.{IsNameUnder, IsSound, IsSoundTable, NamesFit, NamesFitUnlessRisen}
 use Rattle.root_store.specs.Stores.{table_at}
-use Rattle.root_commits.proofs.Behind.{PartIsAdded}
+use Rattle.root_commits.proofs.Placed.{all_added}
 use Rattle.root_commits.proofs.Updated.{it_or, no_some, one_some}
 
 module _ {F : Type 0} where
@@ -117,7 +117,7 @@ module _ {F : Type 0} where
         here u t same is = subst (IsSoundTable new u) is (subst (λ (v : List ℕ). IsSoundTable new v (fresh_table schema)) same fresh)
 
     -- one part more
-    module _ (table : List ℕ) (partition : Partition) (part : Part F) (t : Table) (a : PartIsAdded table partition part t old new) (may : MayHavePartition t.schema partition) where
+    module _ (table : List ℕ) (partition : Partition) (part : Part F) (t : Table) (a : EntersPart table partition part t old new) (may : MayHavePartition t.schema partition) where
       abbrev kept : Kept (Part F)
       kept = record { name = fresh_part partition (t.drawn + 1); part = part }
 
@@ -127,17 +127,15 @@ module _ {F : Type 0} where
       apart : (u : List ℕ) → same_bytes table u ≡ false → u ≢ table
       apart u differ is = let same : same_bytes table u ≡ true = ap (same_bytes table) is ∙ itself_same table in cc
 
-      -- what holds of the parts and of the new one
-      all_added : (P : Kept (Part F) → Type 0) → All P (parts_of old.set table) → P kept → All P (parts_of new.set table)
-      all_added P all one = subst (All P) (sym a.added.is) (All-append P (take a.added.place (parts_of old.set table)) (kept ∷ drop a.added.place (parts_of old.set table))
-          (All-take P a.added.place (parts_of old.set table) all) (All-cons P kept (drop a.added.place (parts_of old.set table)) one (All-drop P a.added.place (parts_of old.set table) all)))
+      abbrev parts_new : (P : Kept (Part F) → Type 0) → All P (parts_of old.set table) → P kept → All P (parts_of new.set table)
+      parts_new P all one = all_added P (parts_of old.set table) (parts_of new.set table) kept a.added all one
 
       grown : IsSoundTable old table t → IsSoundTable new table more
       grown was = record {
         schema = was.schema;
-        ends = all_added (Ends (t.drawn + 1)) (All-weaker (Ends t.drawn) (Ends (t.drawn + 1)) (λ k le. omega (arith, le)) (parts_of old.set table) was.ends) (omega arith);
-        may = all_added (May t.schema) was.may may;
-        order = all_added Rises was.order (omega arith);
+        ends = parts_new (Ends (t.drawn + 1)) (All-weaker (Ends t.drawn) (Ends (t.drawn + 1)) (λ k le. omega (arith, le)) (parts_of old.set table) was.ends) (omega arith);
+        may = parts_new (May t.schema) was.may may;
+        order = parts_new Rises was.order (omega arith);
       }
 
       pub sound_added : IsSound old → IsSound new

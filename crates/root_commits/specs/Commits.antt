@@ -1,5 +1,5 @@
 -- What refuses a commit, and what it leaves (docs/architecture.md, "Commits").
-use Rattle.std.specs.Prelude.{◌≡◌, ◌≢◌, ℕ, ◌+◌, List, [], ◌∷◌, ◌++◌, get_or, Option, Some, None, Result, Ok, Err, filter, if◌then◌else◌, is_some, length, nat_le}
+use Rattle.std.specs.Prelude.{◌≡◌, ◌≢◌, ℕ, ◌+◌, List, [], ◌∷◌, get_or, Option, Some, None, Result, Ok, Err, filter, if◌then◌else◌, is_some, length, nat_le}
 use Rattle.std.specs.BTreeMap.{Updates}
 use Rattle.std.specs.Cmp.Lexicographic.{slice_cmp}
 use Rattle.std.specs.Ordering.{nat_cmp}
@@ -18,6 +18,7 @@ use Rattle.part_name.specs.declared.part.PartName.{PartName}
 use Rattle.part_reader.specs.declared.reading.Part.{Part}
 use Rattle.part_writer.specs.PartFiles.{manifest_of}
 use Rattle.part_set.specs.declared.kept.Kept.{Kept}
+use Rattle.part_set.specs.Parts.{IsAdded, IsInBlockOrder}
 use Rattle.part_set.specs.Sets.{parts_of}
 use Rattle.durable_commit.specs.declared.causes.Limit.TheVariants as limit
 use Rattle.durable_commit.specs.declared.causes.Refused.{Refused}
@@ -101,12 +102,13 @@ refuses_part store table partition drawn now =
     else if nat_le 4294967295 drawn then Some (refused.Limit limit.Numbers)
     else stopped_by store.opened now
 
--- there is one more part in a partition of a table, after its others, its number drawn, and one more command
+-- there is one more part in a partition of a table, in its place in block order, its number drawn, and one more command
 pub record EntersPart {F : Type 0} (table : List ℕ) (partition : Partition) (part : Part F) (t : Table) (old new : CoreStore F) : Type 0 where
   pub there : table_at old table ≡ Some t
   pub updates : Updates (slice_cmp nat_cmp) old.tables new.tables table (Some (record { schema = t.schema; drawn = t.drawn + 1 }))
   pub count : length new.tables.entries ≡ length old.tables.entries
-  pub parts : parts_of new.set table ≡ parts_of old.set table ++ record { name = fresh_part partition (t.drawn + 1); part = part } ∷ []
+  pub added : IsAdded (parts_of old.set table) (record { name = fresh_part partition (t.drawn + 1); part = part }) (parts_of new.set table)
+  pub ordered : IsInBlockOrder (parts_of new.set table)
   pub others : (u : List ℕ) → u ≢ table → parts_of new.set u ≡ parts_of old.set u
   pub length_is : new.length ≡ old.length + 1
   pub opened_is : new.opened ≡ old.opened

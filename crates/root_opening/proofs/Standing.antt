@@ -1,7 +1,6 @@
 -- The store that a root is opened as stands for the history of the root.
-use Rattle.std.proofs.Common.{◌≡◌, ℕ, ◌+◌, ◌-◌, ◌<◌, ◌≤◌, Bool, true, false, cond, ◌&&◌, ◌||◌, List, [], ◌∷◌, Option, Some, None, length, map, get_or, is_some, refl, sym, ap, ap₂, ◌∙◌, subst, inl, inr, ◌⊎◌, arith, zero, suc, nat_eq, nat_le, nat_lt}
+use Rattle.std.proofs.Common.{◌≡◌, ℕ, ◌+◌, ◌-◌, ◌<◌, ◌≤◌, Bool, true, false, cond, ◌&&◌, ◌||◌, List, [], ◌∷◌, Option, Some, None, length, map, get_or, is_some, refl, sym, ap, ap₂, ◌∙◌, subst, inl, inr, ◌⊎◌, arith, zero, suc}
 use Rattle.std.proofs.lemmas.Bool.{cases_lt, false≢true}
-use Rattle.std.proofs.lemmas.Bool.Decides.{nat_tests}
 use Rattle.std.proofs.lemmas.Cmp.{nat_list_cmp_total}
 use Rattle.std.proofs.lemmas.List.Elements.{All-from_recursion, All-weaker, Contains-get_or, recursion_from_All}
 use Rattle.std.proofs.lemmas.List.Sums.{sum_by-cons}
@@ -11,13 +10,12 @@ use Rattle.std.proofs.lemmas.Map.Views.{All-found}
 use Rattle.std.specs.BTreeMap.{is_at}
 use Rattle.std.specs.Cmp.Lexicographic.{slice_cmp}
 use Rattle.std.specs.List.{All, AllByRecursion, AllZip, Contains as HasItem, count_by, sum_by}
-use Rattle.std.specs.List.Sorted.{IsSorted, IsStrictlySortedBy}
+use Rattle.std.specs.List.Sorted.{IsStrictlySortedBy}
 use Rattle.std.specs.Map.{keys_of, lookup}
 use Rattle.std.specs.Option.{option_map}
-use Rattle.std.specs.Ordering.{is_lt, nat_cmp, ordering_then}
+use Rattle.std.specs.Ordering.{nat_cmp}
 use Rattle.std.specs.declared.cmp.Ordering.TheVariants.{Less}
 use Rattle.mt_base.specs.declared.partition.Partition.{Partition}
-use Rattle.mt_base.specs.declared.partition.Partition.TheVariants.{Whole, Number}
 use Rattle.mt_base.specs.declared.name.FileId.TheVariants as file
 use Rattle.mt_values.specs.declared.schema.Schema.{Schema}
 use Rattle.mt_values.specs.Grammar.{same_bytes}
@@ -40,7 +38,7 @@ use Rattle.part_set.specs.declared.kept.Kept.{Kept}
 use Rattle.part_set.specs.declared.root_name.RootName.{RootName}
 use Rattle.part_set.specs.declared.root_name.RootName.TheVariants as root
 use Rattle.part_set.specs.declared.root_name.TablePart.{TablePart}
-use Rattle.part_set.specs.Parts.{IsInBlockOrder, StandsClear, partition_rank}
+use Rattle.part_set.specs.Parts.{IsInBlockOrder}
 use Rattle.part_set.specs.RootNames.{root_text}
 use Rattle.part_set.specs.Sets as sets
 use Rattle.part_set.specs.Visible.{HasTable, IsVisible}
@@ -48,7 +46,7 @@ use Rattle.part_set.proofs.Items.{item_first, item_none}
 use Rattle.part_set.proofs.Maps.{found_is}
 use Rattle.part_set.proofs.Orphans.{item_more}
 use Rattle.part_history.specs.declared.part.CorePart.{CorePart}
-use Rattle.part_history.specs.Parts.{AreInBlockOrder, PartStands, block_cmp, has_block, parts_of, partition_cmp}
+use Rattle.part_history.specs.Parts.{PartStands, has_block, parts_of}
 use Rattle.part_history.proofs.Growing.{number_drawn}
 use Rattle.part_history.proofs.Numbered.{all_whole, insert_at}
 use Rattle.root_store.specs.declared.store.CoreStore.{CoreStore}
@@ -58,6 +56,7 @@ use Rattle.root_store.specs.Stores.{CoreStands, IsKeptOf, PartsAreThere, StoreOf
 use Rattle.root_store.proofs.Blocks.{HasBlock, blocks}
 use Rattle.root_store.proofs.Clear.{part_stands}
 use Rattle.root_store.proofs.Counted.{Apart, AreTables, AreThere, as_long, as_many, is_among, sizes}
+use Rattle.root_store.proofs.InOrder.{core_order, pairs_head, pairs_tail}
 use Rattle.root_store.proofs.Items.{counted_one, item_either, map_item, mapped, one_counts, unfiltered}
 use Rattle.root_store.proofs.Orphaned.{no_orphan, of_core}
 use Rattle.root_store.proofs.Readings.{one_reading}
@@ -76,33 +75,13 @@ block_moved partition n a b same passes = ap (λ (x : PartName). same_partition 
 meet_at : (partition : Partition) (n : ℕ) (a b : PartName) → HasBlock partition n a → HasBlock partition n b → Meet a b
 meet_at partition n a b x y = record { partition = x.same ∙ sym y.same; low = omega (arith, x.low, y.high); high = omega (arith, y.low, x.high) }
 
-not_below : (p q : Partition) (m n : ℕ) → (nat_lt (partition_rank p) (partition_rank q) || (nat_eq (partition_rank p) (partition_rank q) && nat_le m n)) ≡ true
-    → is_lt (ordering_then (partition_cmp q p) (nat_cmp n m)) ≡ false
-not_below Whole Whole m n is = grind (arith, nat_tests)
-not_below Whole (Number b) m n is = refl
-not_below (Number a) Whole m n is = grind (arith, nat_tests)
-not_below (Number a) (Number b) m n is = grind (arith, nat_tests)
-
 -- ---- lists of parts
 
 false_unless : (b : Bool) → (b ≡ true → ⊥) → b ≡ false
 false_unless true none = absurd (none refl)
 false_unless false none = refl
 
-sorted_next : (x y : CorePart) (ys : List CorePart) → is_lt (block_cmp y x) ≡ false → IsSorted block_cmp (y ∷ ys) → IsSorted block_cmp (x ∷ y ∷ ys)
-sorted_next x y ys above up zero d low high = above
-sorted_next x y ys above up (suc k) d low high =
-    let next : suc k + 1 ≡ suc (k + 1) = omega arith in
-    let below : k + 1 < length (y ∷ ys) = omega arith in
-    rw next (up k d (omega arith) below)
-
 module _ {F : Type 0} (table : List ℕ) where
-  pairs_tail : (k : Kept (Part F)) (ks : List (Kept (Part F))) → IsInBlockOrder (k ∷ ks) → IsInBlockOrder ks
-  pairs_tail k ks order i j d less inside = order (suc i) (suc j) d (omega arith) (omega arith)
-
-  pairs_head : (k : Kept (Part F)) (ks : List (Kept (Part F))) → IsInBlockOrder (k ∷ ks) → (x : Kept (Part F)) → HasItem ks x → StandsClear k.name x.name
-  pairs_head k ks order x has = subst (λ (y : Kept (Part F)). StandsClear k.name y.name) has.2 (order zero (suc has.0) x (omega arith) (omega (arith, has.1)))
-
   none_behind : (test : CorePart → Bool) (ks : List (Kept (Part F))) (rows : List (List Row)) → ((k : Kept (Part F)) (r : List Row) → HasItem ks k → test (core_part table k r) ≡ false) → count_by test (core_parts table ks rows) ≡ 0
   none_behind test [] rows none = refl
   none_behind test (k ∷ ks) [] none = refl
@@ -130,17 +109,6 @@ module _ {F : Type 0} (table : List ℕ) where
       by false other rest =
           let off : ◌≡◌ {A = ℕ} (cond (has_block partition n (core_part table k r)) 1 0) 0 = ap (λ (b : Bool). cond {A = ℕ} b 1 0) other in
           omega (arith, e, off, rest)
-
-  -- kept parts are in block order with their rows
-  core_order : (ks : List (Kept (Part F))) (rows : List (List Row)) → IsInBlockOrder ks → AreInBlockOrder (core_parts table ks rows)
-  core_order [] rows order = λ k d low high. absurd (omega arith)
-  core_order (a ∷ ks) [] order = λ k d low high. absurd (omega arith)
-  core_order (a ∷ []) (r ∷ rows) order = λ k d low high. absurd (omega arith)
-  core_order (a ∷ b ∷ ks) (r ∷ []) order = λ k d low high. absurd (omega arith)
-  core_order (a ∷ b ∷ ks) (r ∷ s ∷ rows) order =
-      sorted_next (core_part table a r) (core_part table b s) (core_parts table ks rows)
-      (not_below a.name.partition b.name.partition a.name.min_block b.name.min_block (pairs_head a (b ∷ ks) order b (item_first b ks)).order)
-      (core_order (b ∷ ks) (s ∷ rows) (pairs_tail a (b ∷ ks) order))
 
   own_table : (ks : List (Kept (Part F))) (rows : List (List Row)) → AllByRecursion (λ (p : CorePart). p.table ≡ table) (core_parts table ks rows)
   own_table [] rows = tt

@@ -4,6 +4,7 @@ pub mod Counted
 pub mod CrashMarks
 pub mod CrashOrder
 pub mod Fitting
+pub mod InOrder
 pub mod Items
 pub mod Orphaned
 pub mod Readings

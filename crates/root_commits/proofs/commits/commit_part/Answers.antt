@@ -20,11 +20,10 @@ use Rattle.durable_commit.specs.declared.causes.Refused.TheVariants as refused
 use Rattle.root_store.specs.declared.store.CoreStore.{CoreStore}
 use Rattle.root_store.specs.declared.store.Table.{Table}
 use Rattle.durable_commit.specs.Commits.{SameList, entry_of}
-use Rattle.root_commits.specs.Commits.{EntersSealed, IsCause, IsSealedOf, fresh_part, insert_of_block, partition_of_block, refuses_part}
+use Rattle.root_commits.specs.Commits.{EntersPart, EntersSealed, IsCause, IsSealedOf, fresh_part, insert_of_block, partition_of_block, refuses_part}
 use Rattle.root_store.specs.Crashes.{Outside, entries_of}
 use Rattle.root_store.specs.Soundness.{NamesFit}
 use Rattle.root_store.specs.Stores.{table_at}
-use Rattle.root_commits.proofs.Behind.{PartIsAdded, enters_part, none_meets}
 use Rattle.root_commits.proofs.CrashCommits.{grows_by_part}
 use Rattle.root_commits.proofs.CrashImages.{either_committed, either_failed, either_same, one_committed, one_same}
 use Rattle.root_commits.proofs.CrashTurns.{kept_committed, kept_failed, kept_untouched, unrisen}
@@ -34,6 +33,7 @@ use Rattle.root_commits.proofs.Inserted.{stands_inserted}
 use Rattle.durable_commit.proofs.WhyRefused.{disk_fault, disk_memory, outside_disk}
 use Rattle.root_commits.proofs.Leaving.{cause_shown, none_shown, shown_number, shown_part_calm, shown_part_other}
 use Rattle.root_commits.proofs.Partitions.{block_may, may_spell}
+use Rattle.root_commits.proofs.Placed.{none_meets}
 use Rattle.root_commits.proofs.Rooted.{root_added}
 use Rattle.root_commits.proofs.Sounding.{names_kept, sound_added, sound_same}
 use Rattle.root_commits.proofs.Updated.{one_some}
@@ -134,7 +134,7 @@ module _ (g : _) (c : goal.After-drop-name-inside-2 g) where
   published : g.D.Disk.told c.commit.new.disk ≡ put (g.D.Disk.clock c.args.disk.now) (part_name c.args.table.now (part_text (fresh_part (partition_of_block t.schema c.args.block) (t.drawn + 1)))) c.args.part.sealed.files (g.D.Disk.told c.args.disk.now)
   published = c.in-Ok-commit.ensures.disk ∙ ap (λ (n : List ℕ). put (g.D.Disk.clock c.args.disk.now) n c.args.part.sealed.files (g.D.Disk.told c.args.disk.now)) (named_is c.args.table.now _ _ _ _ _ c.block_partition-partition.ensures c.name_of_part-fresh.ensures c.in-Ok.ensures.name)
 
-  added : PartIsAdded c.args.table.now (partition_of_block t.schema c.args.block) c.of-part.result t c.args.store.now c.enter_part.new.store
+  added : EntersPart c.args.table.now (partition_of_block t.schema c.args.block) c.of-part.result t c.args.store.now c.enter_part.new.store
   added = record {
     there = c.index-found.ensures;
     updates = subst (λ (n : PartName). Updates (slice_cmp nat_cmp) c.args.store.now.tables c.enter_part.new.store.tables c.args.table.now (Some (record { schema = t.schema; drawn = n.max_block }))) (fresh_is _ _ _ _ c.block_partition-partition.ensures c.name_of_part-fresh.ensures)
@@ -149,13 +149,13 @@ module _ (g : _) (c : goal.After-drop-name-inside-2 g) where
     opened_is = c.enter_part.ensures.opened;
   }
 
-  -- the part is behind the others
+  -- the part has what was sealed
   sealed : EntersSealed g.D.Arm.Dir.Dir.files c.args.part.sealed.files c.args.part.loaded c.args.table.now (partition_of_block t.schema c.args.block) t c.args.store.now c.enter_part.new.store
   sealed = record {
     part = c.of-part.result;
     files_are = ap g.D.Arm.Dir.Dir.files c.of-part.ensures.dir ∙ c.in-Ok-commit.ensures.dir;
     loaded_is = c.of-part.ensures.loaded;
-    enters = enters_part c.args.table.now (partition_of_block t.schema c.args.block) c.of-part.result t c.args.store.now c.enter_part.new.store added (block_may t.schema c.args.block) c.requires.store;
+    enters = added;
   }
 
   -- the table that is there is the one that was read
