@@ -30,13 +30,13 @@ module _ {F : Type 0} (files_of : F → Option Files) where
       let has = map_item (λ (x : Kept (Part F)). x.name) (parts_of store.set table) part (Contains-get_or (parts_of store.set table) k d within) in
       let visible = (o.parts table part.name).1 has in
       let here = visible.here in
-      let whole = (sound.tables table t at).whole k d within in
+      let may = (sound.tables table t at).may k d within in
       by table t part kept.files kept.told kept.manifest.of (λ f bad. undamaged here.0 f (
         root.Part (record { table = table; name = part.name }),
         kept.files,
         slice_get_read o.read (length o.read) here.0 (root.Part (record { table = table; name = part.name })) refl here.1 (sym here.2),
         kept.there,
-        (visible, (t.schema, (o.tables table t at).entry, inr (whole, bad))),
+        (visible, (t.schema, (o.tables table t at).entry, inr (may, bad))),
       )) (damaged_file t.schema kept.files) refl
     where
       by : (table : List ℕ) (t : Table) (part : Kept (Part F)) (files : Files) → files_of part.part.dir ≡ Some files → IsManifestOf (bytes_of file.Manifest files) part.part.loaded.manifest → ((f : FileId) → damaged_file t.schema files ≡ Some f → ⊥) → (found : Option FileId) → damaged_file t.schema files ≡ found

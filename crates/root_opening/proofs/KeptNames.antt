@@ -6,10 +6,10 @@ use Rattle.std.specs.List.{Contains as HasItem, insert}
 use Rattle.std.specs.Option.{IsSome}
 use Rattle.std.specs.Ordering.{nat_cmp}
 use Rattle.std.proofs.lemmas.List.Elements.{All-contains, All-nil, All-push, All-weaker, Contains-append_left, Contains-get_or, Contains-push, Contains-push_cases}
-use Rattle.mt_base.specs.declared.partition.Partition.TheVariants.{Whole}
 use Rattle.mt_base.specs.declared.name.FileId.{FileId}
 use Rattle.mt_values.specs.declared.schema.Schema.{Schema}
 use Rattle.mt_values.specs.RootNames.{create_name}
+use Rattle.mt_values.specs.Tables.{MayHavePartition}
 use Rattle.mt_outside.specs.Disk.{Names, files_at}
 use Rattle.mt_outside.specs.Files.{Files}
 use Rattle.mt_model.specs.History.{IsTableSchema}
@@ -108,7 +108,7 @@ either_table old new table t w updates = elim (true_or_false (is_at (slice_cmp n
 -- one name more, of which nothing more of a table is seen
 module _ (read seen : List RootName) (n : RootName) where
   seen_more : (table : List ℕ) (name : PartName) → IsSeen read seen table name → IsSeen read (seen ++ n ∷ []) table name
-  seen_more table name s = record { visible = s.visible; here = front seen n (root.Part (record { table = table; name = name })) s.here; whole = s.whole }
+  seen_more table name s = record { visible = s.visible; here = front seen n (root.Part (record { table = table; name = name })) s.here }
 
   -- the parts of a table are those that were seen before
   abbrev NoMore : List ℕ → Type 0
@@ -128,6 +128,7 @@ module _ (read seen : List RootName) (n : RootName) where
       known = λ t x at. table_more t x (λ p own visible here. behind seen n (root.Part p) (not_part p visible) here) (k.known t x at);
       all = λ t here. k.all t (behind seen n (root.Create t) (not_table t) here);
       seen_parts = λ t. All-weaker (λ (x : Kept (Part F)). IsSeen read seen t x.name) (λ (x : Kept (Part F)). IsSeen read (seen ++ n ∷ []) t x.name) (λ x. seen_more t x.name) (parts_of store.set t) (k.seen_parts t);
+      may = k.may;
       all_parts = λ p visible here. k.all_parts p visible (behind seen n (root.Part p) (not_part p visible) here);
       order = k.order;
       no_other = k.no_other;
@@ -179,6 +180,10 @@ module _ {F : Type 0} (read seen : List RootName) (old new : CoreStore F) (table
     ];
     seen_parts = λ t. subst (All (λ (x : Kept (Part F)). IsSeen read (seen ++ C ∷ []) t x.name)) (same_parts t)
         (All-weaker (λ (x : Kept (Part F)). IsSeen read seen t x.name) (λ (x : Kept (Part F)). IsSeen read (seen ++ C ∷ []) t x.name) (λ x. seen_more read seen C t x.name) (parts_of old.set t) (k.seen_parts t));
+    may = λ t x at. subst (All (λ (y : Kept (Part F)). MayHavePartition x.schema y.name.partition)) (same_parts t) (elim (either_table old.tables new.tables table t (Some (fresh_table schema)) updates) [
+      | inl here ↦ subst (All (λ (y : Kept (Part F)). MayHavePartition x.schema y.name.partition)) (sym (subst (λ (u : List ℕ). parts_of old.set u ≡ []) here.0 no_parts)) (All-nil (λ (y : Kept (Part F)). MayHavePartition x.schema y.name.partition))
+      | inr other ↦ k.may t x (sym other.1 ∙ at)
+    ]);
     all_parts = λ p visible here. subst (λ (xs : List (Kept (Part F))). HasName xs p.name) (same_parts p.table) (k.all_parts p visible (no_more p.table p refl visible here));
     order = λ t. subst (λ (xs : List (Kept (Part F))). IsInBlockOrder xs) (same_parts t) (k.order t);
     no_other = λ t none. elim (either_table old.tables new.tables table t (Some (fresh_table schema)) updates) [
@@ -213,7 +218,7 @@ drawn_to t n = record { schema = t.schema; drawn = n }
 module _ {F : Type 0} (read seen : List RootName) (old new : CoreStore F) (part : TablePart) (checked : Part F) (t0 : Table) (n : ℕ) (at0 : table_at old part.table ≡ Some t0)
     (updates : Updates (slice_cmp nat_cmp) old.tables new.tables part.table (Some (drawn_to t0 n)))
     (added : IsAdded (parts_of old.set part.table) (record { name = part.name; part = checked }) (parts_of new.set part.table))
-    (others : (t : List ℕ) → t ≢ part.table → parts_of new.set t ≡ parts_of old.set t) (whole : part.name.partition ≡ Whole) where
+    (others : (t : List ℕ) → t ≢ part.table → parts_of new.set t ≡ parts_of old.set t) (may : MayHavePartition t0.schema part.name.partition) where
   abbrev P : RootName
   P = root.Part part
 
@@ -225,7 +230,7 @@ module _ {F : Type 0} (read seen : List RootName) (old new : CoreStore F) (part 
 
   module _ (visible : IsVisible read part) (k : Keeps read seen old) where
     new_seen : IsSeen read (seen ++ P ∷ []) part.table part.name
-    new_seen = record { visible = visible; here = Contains-push seen P; whole = whole }
+    new_seen = record { visible = visible; here = Contains-push seen P }
 
     table_seen : t0.drawn ≤ n → part.name.max_block ≤ n → (n ≡ t0.drawn) ⊎ (n ≡ part.name.max_block) → IsSeenTable read (seen ++ P ∷ []) part.table (drawn_to t0 n)
     table_seen above ends is =
@@ -275,6 +280,15 @@ module _ {F : Type 0} (read seen : List RootName) (old new : CoreStore F) (part 
                 (all_added (λ (x : Kept (Part F)). IsSeen read (seen ++ P ∷ []) part.table x.name) (parts_of old.set part.table) (parts_of new.set part.table) K added (more part.table) new_seen)
             | inr other ↦ subst (All (λ (x : Kept (Part F)). IsSeen read (seen ++ P ∷ []) t x.name)) (other_parts t other.0) (more t)
           ];
+      may = λ t x at. elim (either_table old.tables new.tables part.table t (Some (drawn_to t0 n)) updates) [
+        | inl here ↦ (
+            let one = one_some (table_at new t) (drawn_to t0 n) x here.1 at in
+            let all = all_added (λ (y : Kept (Part F)). MayHavePartition t0.schema y.name.partition) (parts_of old.set part.table) (parts_of new.set part.table) K added (k.may part.table t0 at0) may in
+            subst (λ (z : Table). All (λ (y : Kept (Part F)). MayHavePartition z.schema y.name.partition) (parts_of new.set t)) one
+            (subst (λ (u : List ℕ). All (λ (y : Kept (Part F)). MayHavePartition t0.schema y.name.partition) (parts_of new.set u)) here.0 all)
+            )
+        | inr other ↦ subst (All (λ (y : Kept (Part F)). MayHavePartition x.schema y.name.partition)) (other_parts t other.0) (k.may t x (sym other.1 ∙ at))
+      ];
       all_parts = λ p shown here. elim (Contains-push_cases seen P (root.Part p) here) [
         | inl before ↦ name_there p (k.all_parts p shown before)
         | inr now ↦ subst (λ (q : TablePart). HasName (parts_of new.set q.table) q.name) (one_part part p now) (name_new (parts_of old.set part.table) (parts_of new.set part.table) K added)
@@ -294,7 +308,7 @@ module _ {F : Type 0} (read seen : List RootName) (old new : CoreStore F) (part 
     not_damaged files f there damaged =
         let schema = folders_agree names (create_name part.table) part.table damaged.1.0 t0.schema damaged.1.1 (told.entries part.table t0 at0) in
         elim damaged.1.2 [
-          | inl other ↦ other.0 whole
+          | inl other ↦ other.0 (subst (λ (y : Schema). MayHavePartition y part.name.partition) (sym schema) may)
           | inr bad ↦ (
               let one = one_some (files_at (root_text P) names) files r.files there r.there in
               let sound = r.sound in

@@ -10,7 +10,6 @@ use Rattle.std.proofs.lemmas.Cmp.{nat_cmp_total, tied_itself}
 use Rattle.std.proofs.lemmas.List.{get_or-map, get_or-take, length-map, length-take-le, take_more}
 use Rattle.std.proofs.lemmas.List.Elements.{All-contains, All-nil, All-weaker}
 use Rattle.std.proofs.lemmas.Option.{get_or_from_slice_get, slice_get-get_or}
-use Rattle.mt_base.specs.declared.partition.Partition.TheVariants.{Whole}
 use Rattle.mt_base.specs.declared.name.FileId.{FileId}
 use Rattle.mt_values.specs.RootNames.{create_name, part_name}
 use Rattle.mt_outside.specs.Disk.{Names, Told, files_at, names_of}
@@ -205,7 +204,7 @@ module _ {F : Type 0} (r : Root) (named : IsNamedRoot r) (store : CoreStore F) (
         record {
           schema = s.schema;
           ends = All-weaker (λ (x : Kept (Part F)). IsSeen r.names.items r.names.items table x.name) (λ (x : Kept (Part F)). x.name.max_block ≤ t.drawn) (λ x seen. s.drawn.most (record { table = table; name = x.name }) seen.visible seen.here refl) (parts_of store.set table) (k.seen_parts table);
-          whole = All-weaker (λ (x : Kept (Part F)). IsSeen r.names.items r.names.items table x.name) (λ (x : Kept (Part F)). x.name.partition ≡ Whole) (λ x seen. seen.whole) (parts_of store.set table) (k.seen_parts table);
+          may = k.may table t at;
           order = All-weaker (λ (x : Kept (Part F)). IsSeen r.names.items r.names.items table x.name) (λ (x : Kept (Part F)). x.name.min_block ≤ x.name.max_block) (λ x seen. (read_soundly (record { table = table; name = x.name }) seen.here).1.order) (parts_of store.set table) (k.seen_parts table);
         };
     no_other = k.no_other;
@@ -232,6 +231,7 @@ module _ {F : Type 0} (read : List RootName) (store : CoreStore F) (files_of : F
     known = λ table t at. absurd (none_at table t at);
     all = λ table has. absurd (item_none (root.Create table) has);
     seen_parts = λ table. subst (All (λ (x : Kept (Part F)). IsSeen read [] table x.name)) (sym (no_parts_yet table)) (All-nil (λ (x : Kept (Part F)). IsSeen read [] table x.name));
+    may = λ table t at. absurd (none_at table t at);
     all_parts = λ p visible has. absurd (item_none (root.Part p) has);
     order = λ table. subst (λ (xs : List (Kept (Part F))). IsInBlockOrder xs) (sym (no_parts_yet table)) (λ i j d less inside. absurd (omega (arith, inside)));
     no_other = λ table none. no_parts_yet table;

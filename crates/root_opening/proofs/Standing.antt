@@ -22,10 +22,12 @@ use Rattle.mt_base.specs.declared.name.FileId.TheVariants as file
 use Rattle.mt_values.specs.declared.schema.Schema.{Schema}
 use Rattle.mt_values.specs.Grammar.{same_bytes}
 use Rattle.mt_values.specs.RootNames.{create_name}
+use Rattle.mt_values.specs.Tables.{same_partition}
 use Rattle.mt_values.specs.Values.{Row}
 use Rattle.mt_outside.specs.Disk.{Names, files_at}
 use Rattle.mt_outside.specs.Files.{Files, bytes_of}
 use Rattle.mt_model.specs.History.{History, schema_of}
+use Rattle.mt_model.specs.Numbers.{IsNumberOfInsert, last_number, lies_within, numbered}
 use Rattle.mt_model.proofs.Tables.{itself_same, same_is}
 use Rattle.digest_file.proofs.Manifests.{one_manifest}
 use Rattle.part_name.specs.declared.part.PartName.{PartName}
@@ -45,7 +47,6 @@ use Rattle.part_set.proofs.Items.{item_first, item_none}
 use Rattle.part_set.proofs.Maps.{found_is}
 use Rattle.part_set.proofs.Orphans.{item_more}
 use Rattle.part_history.specs.declared.part.CorePart.{CorePart}
-use Rattle.part_history.specs.Numbers.{IsInsertOf, lies_within, numbered, same_partition}
 use Rattle.part_history.specs.Parts.{AreInBlockOrder, PartStands, block_cmp, has_block, parts_of, partition_cmp}
 use Rattle.part_history.proofs.Growing.{number_drawn}
 use Rattle.part_history.proofs.Numbered.{all_whole, insert_at}
@@ -258,7 +259,7 @@ module _ {F : Type 0} (files_of : F → Option Files) (names : Names) (h : Histo
         subst (λ (r : List RootName). IsVisible r (part_of table here)) same_read ((o.parts table here.name).1 has)
 
     -- a part of the table that has a block is kept
-    kept_here : (partition : Partition) (n : ℕ) (r : RowsOf (sets.parts_of store.set table)) → IsInsertOf table partition n h → 1 ≤ count_by (has_block partition n) (core_parts table (sets.parts_of store.set table) r.rows)
+    kept_here : (partition : Partition) (n : ℕ) (r : RowsOf (sets.parts_of store.set table)) → IsNumberOfInsert table partition n h → 1 ≤ count_by (has_block partition n) (core_parts table (sets.parts_of store.set table) r.rows)
     kept_here partition n r is =
         let once = (s.stand table).once partition n is in
         let found = counted_one (has_block partition n) (parts_of table s.parts) (omega (arith, once)) in
@@ -292,7 +293,7 @@ module _ {F : Type 0} (files_of : F → Option Files) (names : Names) (h : Histo
 
   -- ---- numbers
 
-  drawn_is : (table : List ℕ) (t : Table) → table_at store table ≡ Some t → t.drawn ≡ length (numbered table h)
+  drawn_is : (table : List ℕ) (t : Table) → table_at store table ≡ Some t → t.drawn ≡ last_number table h
   drawn_is table t at =
       let low = upto (o.tables table t at).drawn.drawn in
       let high = reached (cases_lt 0 (length (numbered table h))) in
@@ -314,13 +315,14 @@ module _ {F : Type 0} (files_of : F → Option Files) (names : Names) (h : Histo
       reached (inl some) =
           let n = length (numbered table h) in
           let last = insert_at (numbered table h) (n - 1) (all_whole table h s.legal) (omega (arith, some)) in
-          let insert : IsInsertOf table Whole n h = record { from_one = omega (arith, some); insert = last.insert; there = last.there; partition_is = last.whole } in
-          let once = (s.stand table).once Whole n insert in
-          let found = counted_one (has_block Whole n) (parts_of table s.parts) (omega (arith, once)) in
+          let partition = last.insert.partition in
+          let insert : IsNumberOfInsert table partition n h = record { from_one = omega (arith, some); insert = last.insert; there = last.there; partition_is = refl } in
+          let once = (s.stand table).once partition n insert in
+          let found = counted_one (has_block partition n) (parts_of table s.parts) (omega (arith, once)) in
           let from = unfiltered (λ (x : CorePart). same_bytes x.table table) s.parts found.0 found.1 in
           let visible = subst (λ (r : List RootName). IsVisible r (named found.0)) (sym same_read) ((s.visible (named found.0)).1 (map_item named s.parts found.0 from.0)) in
           let most = (o.tables table t at).drawn.most (named found.0) visible (same_is found.0.table table from.1) in
-          let block = (blocks Whole n found.0 found.2).high in
+          let block = (blocks partition n found.0 found.2).high in
           omega (arith, most, block)
 
   entries_found : All (λ (e : List ℕ × Table). table_at store e.0 ≡ Some e.1) store.tables.entries

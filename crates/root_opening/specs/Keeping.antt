@@ -1,10 +1,10 @@
 -- What the names of a root that were gone over left in the store, and what is told of one of them that is damaged.
 use Rattle.std.specs.Prelude.{◌≡◌, ◌⊎◌, ⊤, ℕ, ◌<◌, ◌≤◌, List, [], All, length, map, slice_get, Option, Some, None, IsSome}
-use Rattle.mt_base.specs.declared.partition.Partition.TheVariants.{Whole}
 use Rattle.mt_base.specs.declared.name.FileId.{FileId}
 use Rattle.mt_base.specs.declared.name.FileId.TheVariants as file
 use Rattle.mt_values.specs.declared.schema.Schema.{Schema}
 use Rattle.mt_values.specs.RootNames.{create_name}
+use Rattle.mt_values.specs.Tables.{MayHavePartition}
 use Rattle.mt_outside.specs.declared.disk.DiskError.{DiskError}
 use Rattle.mt_outside.specs.declared.disk.DiskError.TheVariants as failure
 use Rattle.mt_outside.specs.Disk.{Names, Told, files_at, names_of}
@@ -82,11 +82,10 @@ pub record IsGreatestSeen (read seen : List RootName) (table : List ℕ) (n : �
   pub most : (part : TablePart) → IsVisible read part → HasPart seen part → part.table ≡ table → part.name.max_block ≤ n
   pub drawn : (n ≡ 0) ⊎ ((part : TablePart) × IsVisible read part × (part.table ≡ table) × (part.name.max_block ≡ n))
 
--- a kept part is a visible part of the whole partition, and its name was gone over
+-- a kept part is a visible part, and its name was gone over
 pub record IsSeen (read seen : List RootName) (table : List ℕ) (name : PartName) : Type 0 where
   pub visible : IsVisible read (record { table = table; name = name })
   pub here : HasPart seen (record { table = table; name = name })
-  pub whole : name.partition ≡ Whole
 
 -- what is kept of a table: its name was gone over, its schema is one that a table may have, and its number is that of its parts
 pub record IsSeenTable (read seen : List RootName) (table : List ℕ) (t : Table) : Type 0 where
@@ -94,11 +93,14 @@ pub record IsSeenTable (read seen : List RootName) (table : List ℕ) (t : Table
   pub schema : IsTableSchema t.schema
   pub drawn : IsGreatestSeen read seen table t.drawn
 
--- Of the names gone over the store has the tables and the visible parts, and nothing else, whatever the disk tells.
+-- Of the names gone over the store has the tables and the visible parts, each of a partition that its table may have, and nothing else,
+-- whatever the disk tells.
 pub record Keeps {F : Type 0} (read seen : List RootName) (store : CoreStore F) : Type 0 where
   pub known : (table : List ℕ) (t : Table) → table_at store table ≡ Some t → IsSeenTable read seen table t
   pub all : (table : List ℕ) → HasTable seen table → IsSome (table_at store table)
   pub seen_parts : (table : List ℕ) → All (λ (k : Kept (Part F)). IsSeen read seen table k.name) (parts_of store.set table)
+  pub may : (table : List ℕ) (t : Table) → table_at store table ≡ Some t
+      → All (λ (k : Kept (Part F)). MayHavePartition t.schema k.name.partition) (parts_of store.set table)
   pub all_parts : (part : TablePart) → IsVisible read part → HasPart seen part → HasName (parts_of store.set part.table) part.name
   pub order : (table : List ℕ) → IsInBlockOrder (parts_of store.set table)
   pub no_other : (table : List ℕ) → table_at store table ≡ None → parts_of store.set table ≡ []

@@ -1,8 +1,8 @@
 // The folders of names, opened and checked.
 ghost use Rattle.std.specs.Prelude.{◌≡◌, ◌≤◌, ◌⊎◌, IfErr, IfOk, IsErrOf, IsSome, OnOk, Some, None};
 ghost use Rattle.std.specs.Option.{ForSome};
-ghost use Rattle.mt_base.specs.declared.partition.Partition.TheVariants.{Whole};
 ghost use Rattle.mt_base.specs.declared.name.FileId.TheVariants as file;
+ghost use Rattle.mt_values.specs.Tables.{MayHavePartition};
 ghost use Rattle.mt_outside.specs.Causes.{Rose};
 ghost use Rattle.mt_outside.specs.Disk.{Told, files_at, names_of};
 ghost use Rattle.mt_model.specs.History.{IsTableSchema};
@@ -61,7 +61,7 @@ pub fn check_table<D: Disk>(
 
 /// A part of a table with this schema: its folder is opened, and each of its files checked.
 ///
-/// `Damaged` exactly where the part is of another partition than the whole, or one of its files is damaged: at the first one.
+/// `Damaged` exactly where the part is of a partition that its table may not have, or one of its files is damaged: at the first one.
 pub fn check_table_part<D: Disk>(
     alloc: Global,
     disk: &mut D,
@@ -71,7 +71,7 @@ pub fn check_table_part<D: Disk>(
     schema: &Schema,
 ) -> Result<Part<<D::Arm as Arm>::Dir>, OpenFault>
     requires { ForSome (D.told disk.old) (λ t. IsSome (files_at text.now (names_of t))) }
-    ensures whole { OnOk result (part.now.name.partition ≡ Whole) }
+    ensures may { OnOk result (MayHavePartition schema.now part.now.name.partition) }
     ensures read { (told : Told) → D.told disk.old ≡ Some told → IfOk result (IsRead D.Arm.Dir.files (names_of told) text.now schema.now) }
     ensures damaged { (told : Told) → D.told disk.old ≡ Some told → IfErr result (TellsFile (names_of told) text.now (PartDamaged schema.now part.now)) }
     ensures told { D.told disk.new ≡ D.told disk.old }

@@ -1,6 +1,6 @@
-use Rattle.std.proofs.Common.{◌≢◌, refl, inl, rules}
-use Rattle.mt_base.specs.declared.partition.Partition.TheVariants.{Whole}
+use Rattle.std.proofs.Common.{refl, inl, rules}
 use Rattle.mt_base.specs.declared.name.FileId.TheVariants as file
+use Rattle.mt_values.specs.Tables.{MayHavePartition}
 use Rattle.mt_outside.specs.Disk.{names_of}
 use Rattle.root_store.specs.Damage.{PartDamaged}
 use Rattle.root_opening.proofs.Checked.{damage_told, folder_of}
@@ -9,5 +9,5 @@ use Rattle.root_opening.proofs.checking.check_table_part.Goals as goal
 pub returns-then-ne-clause-damaged : goal.returns-then-ne-clause-damaged
 returns-then-ne-clause-damaged g c = λ told is.
     let folder = folder_of (g.D.Disk.told c.args.disk.now) c.args.text.now told is c.requires in
-    let other : c.args.part.now.name.partition ≢ Whole = search rules in
+    let other : MayHavePartition c.args.schema.now c.args.part.now.name.partition → ⊥ = search rules in
     damage_told (names_of told) c.args.text.now (PartDamaged c.args.schema.now c.args.part.now) folder.files file.Manifest c.damaged.result folder.there (inl (other, refl)) c.damaged.ensures

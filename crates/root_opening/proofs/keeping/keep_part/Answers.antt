@@ -26,7 +26,7 @@ returns-clause-keeps g c = λ read seen visible k.
     let above : table.drawn ≤ n = search rules in
     let ends : part.name.max_block ≤ n = search rules in
     let is : (n ≡ table.drawn) ⊎ (n ≡ part.name.max_block) = search rules in
-    part_kept read seen c.args.store.now _ part c.in_ok-checked.checked table n (sym c.in-Some.ensures.value) updates c.in_ok-add.ensures.ok c.in_ok-add.ensures.others c.in_ok-checked.ensures.whole visible k above ends is c.in_ok-add.ensures.ordered
+    part_kept read seen c.args.store.now _ part c.in_ok-checked.checked table n (sym c.in-Some.ensures.value) updates c.in_ok-add.ensures.ok c.in_ok-add.ensures.others c.in_ok-checked.ensures.may visible k above ends is c.in_ok-add.ensures.ordered
 
 pub returns-clause-keeps_told : goal.returns-clause-keeps_told
 returns-clause-keeps_told g c = λ told read seen is tells.
@@ -35,4 +35,4 @@ returns-clause-keeps_told g c = λ told read seen is tells.
     let n = c.max-table.result in
     let updates = (c.get_mut.follows.holds (record { schema = table.schema; drawn = n })).3 (search rules) in
     let checked = subst (λ (t : List ℕ). IsRead g.D.Arm.Dir.Dir.files (names_of told) t table.schema c.in_ok-checked.checked) c.requires.text (c.in_ok-checked.ensures.read told is) in
-    part_told read seen c.args.store.now _ part c.in_ok-checked.checked table n (sym c.in-Some.ensures.value) updates c.in_ok-add.ensures.ok c.in_ok-add.ensures.others c.in_ok-checked.ensures.whole g.D.Arm.Dir.Dir.files (names_of told) checked tells
+    part_told read seen c.args.store.now _ part c.in_ok-checked.checked table n (sym c.in-Some.ensures.value) updates c.in_ok-add.ensures.ok c.in_ok-add.ensures.others c.in_ok-checked.ensures.may g.D.Arm.Dir.Dir.files (names_of told) checked tells
