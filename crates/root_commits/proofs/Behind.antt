@@ -3,11 +3,14 @@ use Rattle.std.proofs.Common.{◌≡◌, ◌≢◌, ℕ, ◌+◌, ◌<◌, ◌�
 use Rattle.std.proofs.lemmas.Bool.{cases_lt}
 use Rattle.std.proofs.lemmas.Bool.Decides.{nat_tests}
 use Rattle.std.proofs.lemmas.List.{drop_all, take_all}
+use Rattle.std.proofs.lemmas.List.Elements.{All-weaker}
 use Rattle.std.proofs.lemmas.List.Edits.{get_or-insert_above, get_or-insert_at, length-insert}
 use Rattle.std.specs.BTreeMap.{Updates}
 use Rattle.std.specs.Cmp.Lexicographic.{slice_cmp}
 use Rattle.std.specs.List.{All, insert}
 use Rattle.std.specs.Ordering.{nat_cmp}
+use Rattle.mt_base.specs.declared.partition.Partition.{Partition}
+use Rattle.mt_values.specs.Tables.{MayHavePartition}
 use Rattle.part_reader.specs.declared.reading.Part.{Part}
 use Rattle.part_set.specs.declared.kept.Kept.{Kept}
 use Rattle.part_set.specs.Parts.{IsAdded, IsInBlockOrder, NoneMeets, StandsClear, partition_rank}
@@ -18,12 +21,12 @@ use Rattle.root_commits.specs.Commits.{EntersPart, fresh_part}
 use Rattle.root_store.specs.Soundness.{IsSound, IsSoundTable}
 use Rattle.root_store.specs.Stores.{table_at}
 
--- a part more of a table, somewhere among its others, with its number drawn, and one more command
-pub record PartIsAdded {F : Type 0} (table : List ℕ) (part : Part F) (t : Table) (old new : CoreStore F) : Type 0 where
+-- a part more in a partition of a table, somewhere among its others, with its number drawn, and one more command
+pub record PartIsAdded {F : Type 0} (table : List ℕ) (partition : Partition) (part : Part F) (t : Table) (old new : CoreStore F) : Type 0 where
   pub there : table_at old table ≡ Some t
   pub updates : Updates (slice_cmp nat_cmp) old.tables new.tables table (Some (record { schema = t.schema; drawn = t.drawn + 1 }))
   pub count : length new.tables.entries ≡ length old.tables.entries
-  pub added : IsAdded (parts_of old.set table) (record { name = fresh_part (t.drawn + 1); part = part }) (parts_of new.set table)
+  pub added : IsAdded (parts_of old.set table) (record { name = fresh_part partition (t.drawn + 1); part = part }) (parts_of new.set table)
   pub ordered : IsInBlockOrder (parts_of new.set table)
   pub others : (u : List ℕ) → u ≢ table → parts_of new.set u ≡ parts_of old.set u
   pub length_is : new.length ≡ old.length + 1
@@ -67,12 +70,14 @@ begins_low store table t sound = λ k d inside.
     omega (arith, low, high)
 
 -- the part is behind the others
-pub enters_part : {F : Type 0} (table : List ℕ) (part : Part F) (t : Table) (old new : CoreStore F) → PartIsAdded table part t old new → IsSound old → EntersPart table part t old new
-enters_part table part t old new a sound = record {
+pub enters_part : {F : Type 0} (table : List ℕ) (partition : Partition) (part : Part F) (t : Table) (old new : CoreStore F) → PartIsAdded table partition part t old new → MayHavePartition t.schema partition → IsSound old
+    → EntersPart table partition part t old new
+enters_part {F} table partition part t old new a may sound = record {
   there = a.there;
   updates = a.updates;
   count = a.count;
-  parts = added_last (parts_of old.set table) (parts_of new.set table) (record { name = fresh_part (t.drawn + 1); part = part }) a.added a.ordered (sound.tables table t a.there).whole
+  parts = added_last (parts_of old.set table) (parts_of new.set table) (record { name = fresh_part partition (t.drawn + 1); part = part }) a.added a.ordered
+      (All-weaker (λ (k : Kept (Part F)). MayHavePartition t.schema k.name.partition) (λ (k : Kept (Part F)). k.name.partition ≡ partition) (λ k is. is ∙ sym may) (parts_of old.set table) (sound.tables table t a.there).may)
       (begins_low old table t (sound.tables table t a.there));
   others = a.others;
   length_is = a.length_is;
@@ -80,8 +85,8 @@ enters_part table part t old new a sound = record {
 }
 
 -- no part meets one with a greater number than theirs
-pub none_meets : {P : Type 0} (parts : List (Kept P)) (n : ℕ) → All (λ (k : Kept P). k.name.max_block ≤ n) parts → NoneMeets parts (fresh_part (n + 1))
-none_meets parts n ends = λ k d inside meet.
+pub none_meets : {P : Type 0} (parts : List (Kept P)) (partition : Partition) (n : ℕ) → All (λ (k : Kept P). k.name.max_block ≤ n) parts → NoneMeets parts (fresh_part partition (n + 1))
+none_meets parts partition n ends = λ k d inside meet.
     let most = ends k d inside in
     let high = meet.high in
     omega (arith, most, high)

@@ -1,5 +1,5 @@
 -- What crashes leave of a CREATE and of an INSERT whose files were published.
-use Rattle.std.proofs.Common.{◌≡◌, ℕ, ◌+◌, ◌<◌, ◌≤◌, List, Option, Some, None, IsTrue, length, sym, ap, ◌∙◌, subst, arith}
+use Rattle.std.proofs.Common.{◌≡◌, ℕ, ◌+◌, ◌<◌, ◌≤◌, List, [], ◌∷◌, Option, Some, None, IsTrue, length, sym, ap, ◌∙◌, subst, arith}
 use Rattle.std.specs.BTreeMap.{insert_entry}
 use Rattle.std.specs.Cmp.Lexicographic.{slice_cmp}
 use Rattle.std.specs.Option.{option_map}
@@ -15,23 +15,24 @@ use Rattle.mt_values.specs.RootNames.{create_name, part_name}
 use Rattle.mt_values.specs.Values.{Row}
 use Rattle.mt_outside.specs.Disk.{MayBecome, Names}
 use Rattle.mt_outside.specs.Files.{Files, bytes_of}
-use Rattle.mt_model.specs.History.{History, IsInsertInto, IsTableSchema, creates, schema_of}
+use Rattle.mt_model.specs.History.{History, IsInsertInto, IsTableSchema, creates, entered, schema_of}
 use Rattle.part_name.specs.PartNames.{part_text}
 use Rattle.part_set.specs.RootNames.{is_table}
 use Rattle.part_writer.specs.PartFiles.{column_file_bytes, manifest_of}
 use Rattle.digest_file.specs.Spellings.{IsManifestOf}
 use Rattle.stage_dir.specs.Stages.{AreSealed}
 use Rattle.stage_dir.proofs.Images.{is_synced-sealed}
-use Rattle.part_history.specs.Entered.{entered, next_number}
+use Rattle.part_history.specs.Entered.{next_number}
 use Rattle.root_store.specs.declared.store.CoreStore.{CoreStore}
 use Rattle.root_store.specs.declared.store.Table.{Table}
 use Rattle.root_store.specs.ByteOrder.{AreInByteOrder}
-use Rattle.root_commits.specs.Commits.{fresh_part, insert_into, insert_of_block, part_rows}
+use Rattle.root_commits.specs.Commits.{fresh_part, insert_into, insert_of_block, part_rows, partition_of_block}
 use Rattle.root_store.specs.Entries.{EntryHolds}
 use Rattle.root_store.specs.Roots.{FolderHolds, Stands}
 use Rattle.root_store.specs.Stores.{CoreStands, table_at}
 use Rattle.root_commits.proofs.CrashNames.{entry_free_in, part_free_in}
 use Rattle.root_commits.proofs.Growing.{stands_with_part, stands_with_table}
+use Rattle.root_commits.proofs.Partitions.{block_may, may_spell}
 
 -- ---- sealed files
 
@@ -59,20 +60,20 @@ module _ {F : Type 0} (files_of : F → Option Files) (store : CoreStore F) (h :
   -- each root that stands for the history stands for it with a CREATE, once the table's entry is there
   pub grows_by_table : (c : Create) → table_at store c.table ≡ None → length store.tables.entries < 64 → IsTableSchema c.schema → IsTrue (is_table c.table) → EntryHolds c.table c.schema files
       → (old : Names) (left : Files) → AreInByteOrder old → Stands old h → MayBecome files left
-      → Stands (insert_entry (slice_cmp nat_cmp) old (create_name c.table) left) (entered h session (command.Create c))
+      → Stands (insert_entry (slice_cmp nat_cmp) old (create_name c.table) left) (entered h session (command.Create c ∷ []))
   grows_by_table c absent few sound named holds = λ old left rise stands become.
       let none : schema_of c.table h ≡ None = sym (s.tables c.table) ∙ ap (option_map (λ (t : Table). t.schema)) absent in
       let count : creates h < 65536 = (let known = s.count in omega (arith, few, known)) in
       stands_with_table old h session c left rise stands none count sound named (entry_left files left sealed become c.table c.schema holds) (entry_free_in old h stands c.table none)
 
   -- and with an INSERT, once its part is
-  pub grows_by_part : (table : List ℕ) (t : Table) (block : Grid) → table_at store table ≡ Some t → t.drawn < 4294967295 → IsInsertInto t.schema (insert_into table block) → FolderHolds t.schema (part_rows t.schema block) files
+  pub grows_by_part : (table : List ℕ) (t : Table) (block : Grid) → table_at store table ≡ Some t → t.drawn < 4294967295 → IsInsertInto t.schema (insert_into table (partition_of_block t.schema block) block) → FolderHolds t.schema (part_rows t.schema block) files
       → (old : Names) (left : Files) → AreInByteOrder old → Stands old h → MayBecome files left
-      → Stands (insert_entry (slice_cmp nat_cmp) old (part_name table (part_text (fresh_part (t.drawn + 1)))) left) (entered h session (insert_of_block table block))
+      → Stands (insert_entry (slice_cmp nat_cmp) old (part_name table (part_text (fresh_part (partition_of_block t.schema block) (t.drawn + 1)))) left) (entered h session (insert_of_block table (partition_of_block t.schema block) block ∷ []))
   grows_by_part table t block here small rows holds = λ old left rise stands become.
       let known : schema_of table h ≡ Some t.schema = sym (s.tables table) ∙ ap (option_map (λ (u : Table). u.schema)) here in
       let number : t.drawn + 1 ≡ next_number table h = ap (λ n. n + 1) (s.drawn table t here) in
       let few : next_number table h ≤ 4294967295 = omega (arith, number, small) in
-      subst (λ (n : ℕ). Stands (insert_entry (slice_cmp nat_cmp) old (part_name table (part_text (fresh_part n))) left) (entered h session (insert_of_block table block))) (sym number)
-      (stands_with_part old h session (insert_into table block) t.schema left rise stands known rows few (folder_left files left sealed become t.schema (part_rows t.schema block) holds)
-      (part_free_in old h stands table t.schema known few))
+      subst (λ (n : ℕ). Stands (insert_entry (slice_cmp nat_cmp) old (part_name table (part_text (fresh_part (partition_of_block t.schema block) n))) left) (entered h session (insert_of_block table (partition_of_block t.schema block) block ∷ []))) (sym number)
+      (stands_with_part old h session (insert_into table (partition_of_block t.schema block) block) t.schema left rise stands known rows few (folder_left files left sealed become t.schema (part_rows t.schema block) holds)
+      (part_free_in old h stands table (partition_of_block t.schema block) (may_spell t.schema (partition_of_block t.schema block) (block_may t.schema block)) few))

@@ -2,16 +2,16 @@
 use Rattle.std.proofs.Common.{◌≡◌, ℕ, ◌≤◌, List, Option, Some, None, length, refl, sym, ap, ◌∙◌, subst, arith}
 use Rattle.std.specs.List.{Contains as HasItem}
 use Rattle.std.proofs.lemmas.List.Elements.{All-contains}
-use Rattle.mt_values.specs.declared.schema.Schema.{Schema}
+use Rattle.mt_base.specs.declared.partition.Partition.{Partition}
 use Rattle.mt_values.specs.RootNames.{create_name, part_name}
 use Rattle.mt_outside.specs.Disk.{Names, files_at}
 use Rattle.mt_outside.specs.Files.{Files}
 use Rattle.mt_model.specs.History.{History, schema_of}
-use Rattle.part_name.specs.PartNames.{part_text}
+use Rattle.mt_model.specs.Numbers.{numbered}
+use Rattle.part_name.specs.PartNames.{IsPartition, part_text}
 use Rattle.part_set.specs.declared.root_name.RootName.{RootName}
 use Rattle.part_set.specs.declared.root_name.RootName.TheVariants as root
 use Rattle.part_set.specs.RootNames.{IsRootName, root_text}
-use Rattle.part_history.specs.Numbers.{numbered}
 use Rattle.part_history.specs.Entered.{next_number}
 use Rattle.root_commits.specs.Commits.{fresh_part}
 use Rattle.root_store.specs.Roots.{Stands}
@@ -38,18 +38,18 @@ module _ (names : Names) (h : History) (s : Stands names h) where
           entry_is_no_part table part.table part.name (All-contains IsRootName s.read (root.Part part) s.are.sound has).1 (sym is)
 
   -- the part of the next number of a table
-  pub part_free_in : (table : List ℕ) (schema : Schema) → schema_of table h ≡ Some schema → next_number table h ≤ 4294967295
-      → files_at (part_name table (part_text (fresh_part (next_number table h)))) names ≡ None
-  part_free_in table schema known few =
-      some_or_none (files_at (part_name table (part_text (fresh_part (next_number table h)))) names) (λ files at.
-      let found = name_read names s.read (part_name table (part_text (fresh_part (next_number table h)))) files s.are.spelled at in
+  pub part_free_in : (table : List ℕ) (partition : Partition) → IsPartition partition → next_number table h ≤ 4294967295
+      → files_at (part_name table (part_text (fresh_part partition (next_number table h)))) names ≡ None
+  part_free_in table partition fits few =
+      some_or_none (files_at (part_name table (part_text (fresh_part partition (next_number table h)))) names) (λ files at.
+      let found = name_read names s.read (part_name table (part_text (fresh_part partition (next_number table h)))) files s.are.spelled at in
       by found.0 found.1 found.2)
     where
-      by : (n : RootName) → HasItem s.read n → root_text n ≡ part_name table (part_text (fresh_part (next_number table h))) → ⊥
-      by (root.Create t) has is = entry_is_no_part t table (fresh_part (next_number table h)) (fresh_named (length (numbered table h)) (omega (arith, few))) is
+      by : (n : RootName) → HasItem s.read n → root_text n ≡ part_name table (part_text (fresh_part partition (next_number table h))) → ⊥
+      by (root.Create t) has is = entry_is_no_part t table (fresh_part partition (next_number table h)) (fresh_named partition (length (numbered table h)) fits (omega (arith, few))) is
       by (root.Part part) has is =
-          let differ = parts_differ part.table table part.name (fresh_part (next_number table h)) (All-contains IsRootName s.read (root.Part part) s.are.sound has).1
-          (fresh_named (length (numbered table h)) (omega (arith, few))) is in
+          let differ = parts_differ part.table table part.name (fresh_part partition (next_number table h)) (All-contains IsRootName s.read (root.Part part) s.are.sound has).1
+          (fresh_named partition (length (numbered table h)) fits (omega (arith, few))) is in
           let ends = parts_end_by names h s table part has differ.0 in
           let block : part.name.max_block ≡ next_number table h = ap (λ p. p.max_block) differ.1 in
           absurd (omega (arith, ends, block))

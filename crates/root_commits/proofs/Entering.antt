@@ -12,8 +12,9 @@ use Rattle.mt_values.specs.declared.schema.Schema.{Schema}
 use Rattle.mt_values.specs.Grammar.{same_bytes}
 use Rattle.mt_values.specs.Values.{Row}
 use Rattle.mt_outside.specs.Files.{Files}
-use Rattle.mt_model.specs.History.{History, IsAllowed, IsLegal, IsLegalAfter, IsTableSchema, creates, first_of, is_create, schema_of}
-use Rattle.mt_model.proofs.Histories.{legal_push}
+use Rattle.mt_model.specs.History.{History, IsAllowed, IsLegal, IsLegalAfter, IsTableSchema, creates, entered, first_of, is_create, schema_of}
+use Rattle.mt_model.specs.Numbers.{IsNumberOfInsert, draws, last_number, numbered}
+use Rattle.mt_model.proofs.Histories.{legal_push, numbered_more, schema_kept, schema_more}
 use Rattle.mt_model.proofs.Lists.{get_past}
 use Rattle.mt_model.proofs.Tables.{itself_same, same_is}
 use Rattle.part_reader.specs.declared.reading.Part.{Part}
@@ -22,10 +23,8 @@ use Rattle.part_set.specs.declared.kept.Kept.{Kept}
 use Rattle.part_set.specs.declared.set.PartSet.{PartSet}
 use Rattle.part_set.specs.Sets.{parts_of}
 use Rattle.part_history.specs.declared.part.CorePart.{CorePart}
-use Rattle.part_history.specs.Numbers.{IsInsertOf, draws, numbered}
 use Rattle.part_history.specs.Parts.{AreInBlockOrder, PartStands, TableStands}
-use Rattle.part_history.specs.Entered.{entered}
-use Rattle.part_history.proofs.Growing.{numbered_more, schema_kept, schema_more, table_kept}
+use Rattle.part_history.proofs.Growing.{table_kept}
 use Rattle.root_store.specs.declared.store.CoreStore.{CoreStore}
 use Rattle.root_store.specs.declared.store.Table.{Table}
 use Rattle.root_store.specs.Stores.{fresh_table}
@@ -91,7 +90,7 @@ module _ {F : Type 0} (files_of : F → Option Files) (h : History) (old new : C
   none_here : numbered c.table (h ++ e ∷ []) ≡ []
   none_here = none_drawn c.table ∙ none_numbered c.table h s.legal absent
 
-  no_insert : (w : Partition) (n : ℕ) → IsInsertOf c.table w n (h ++ e ∷ []) → ⊥
+  no_insert : (w : Partition) (n : ℕ) → IsNumberOfInsert c.table w n (h ++ e ∷ []) → ⊥
   no_insert w n is =
       let found : None ≡ Some (command.Insert is.insert) =
       sym (get_past [] (n - 1) (omega arith)) ∙ (sym (ap (λ (cs : List Command). slice_get cs (n - 1)) none_here) ∙ is.there) in
@@ -130,7 +129,7 @@ module _ {F : Type 0} (files_of : F → Option Files) (h : History) (old new : C
   one_table : (t : List ℕ) (x : Table) → table_at new t ≡ Some x → c.table ≡ t → fresh_table c.schema ≡ x
   one_table t x is same = one_some (table_at new t) (fresh_table c.schema) x (subst (λ (u : List ℕ). table_at new u ≡ Some (fresh_table c.schema)) same a.updates.1) is
 
-  pub stands_created : IsTableSchema c.schema → length old.tables.entries < 64 → CoreStands files_of (entered h session (command.Create c)) new
+  pub stands_created : IsTableSchema c.schema → length old.tables.entries < 64 → CoreStands files_of (entered h session (command.Create c ∷ [])) new
   stands_created sound few =
       let made = λ (x : Entry). is_create x.command in
       let count : creates h < 65536 = omega (arith, few, s.count) in
@@ -148,7 +147,7 @@ module _ {F : Type 0} (files_of : F → Option Files) (h : History) (old new : C
       tables_at t (inl is) = subst (λ (u : List ℕ). schema_at (table_at new u) ≡ schema_of u (h ++ e ∷ [])) is (ap schema_at a.updates.1 ∙ sym schema_here)
       tables_at t (inr other) = ap schema_at other.1 ∙ (s.tables t ∙ sym (schema_apart t other.0))
 
-      drawn_at : (t : List ℕ) (x : Table) → table_at new t ≡ Some x → IsNewOr t → x.drawn ≡ length (numbered t (h ++ e ∷ []))
+      drawn_at : (t : List ℕ) (x : Table) → table_at new t ≡ Some x → IsNewOr t → x.drawn ≡ last_number t (h ++ e ∷ [])
       drawn_at t x is (inl same) =
           sym (ap (λ (y : Table). y.drawn) (one_table t x is same)) ∙ sym (ap length (subst (λ (u : List ℕ). numbered u (h ++ e ∷ []) ≡ []) same none_here))
       drawn_at t x is (inr other) = s.drawn t x (sym other.1 ∙ is) ∙ ap length (sym (none_drawn t))

@@ -164,8 +164,8 @@ module _ {F : Type 0} (store : CoreStore F) (told : Told) (fit : NamesFit store 
           absurd (omega (arith, drawn, block, low, above))
 
 -- the number of a new part fits
-pub fresh_named : (n : ℕ) → n < 4294967295 → IsPartName (fresh_part (n + 1))
-fresh_named n small = record { partition = tt; min_block = (omega arith, omega arith); max_block = (omega arith, omega arith); order = omega arith; level = omega arith; mutation = tt }
+pub fresh_named : (partition : Partition) (n : ℕ) → IsPartition partition → n < 4294967295 → IsPartName (fresh_part partition (n + 1))
+fresh_named partition n fits small = record { partition = fits; min_block = (omega arith, omega arith); max_block = (omega arith, omega arith); order = omega arith; level = omega arith; mutation = tt }
 
 -- ---- the names after a commit
 
@@ -200,7 +200,7 @@ module _ {F : Type 0} (old new : CoreStore F) where
         fits_more clock (create_name table) files before after keep_made (record { table = table; kept = fresh_table schema; there = enters.updates.1; is = inl refl })
 
   -- and the store with one part more, once that was published
-  module _ (table : List ℕ) (part : Part F) (t : Table) (a : PartIsAdded table part t old new) where
+  module _ (table : List ℕ) (partition : Partition) (part : Part F) (t : Table) (a : PartIsAdded table partition part t old new) where
     keep_added : (n : List ℕ) → IsNameUnder old n → IsNameUnder new n
     keep_added n under = elim (it_or old new table (Some (record { schema = t.schema; drawn = t.drawn + 1 })) a.updates under.table) [
       | inl same ↦ (
@@ -221,13 +221,13 @@ module _ {F : Type 0} (old new : CoreStore F) where
         wider a b le (inl is) = inl is
         wider a b le (inr p) = let low = p.2 in inr (p.0, p.1, omega (arith, low, le), p.3)
 
-    pub added_fits : (clock : ℕ) (files : Option Files) (before after : Option Told) → t.drawn < 4294967295 → ForSome before (NamesFit old)
-        → after ≡ put clock (part_name table (part_text (fresh_part (t.drawn + 1)))) files before → ForSome after (NamesFit new)
-    added_fits clock files before after small =
-        fits_more clock (part_name table (part_text (fresh_part (t.drawn + 1)))) files before after keep_added
+    pub added_fits : (clock : ℕ) (files : Option Files) (before after : Option Told) → IsPartition partition → t.drawn < 4294967295 → ForSome before (NamesFit old)
+        → after ≡ put clock (part_name table (part_text (fresh_part partition (t.drawn + 1)))) files before → ForSome after (NamesFit new)
+    added_fits clock files before after fits small =
+        fits_more clock (part_name table (part_text (fresh_part partition (t.drawn + 1)))) files before after keep_added
         (record {
           table = table;
           kept = record { schema = t.schema; drawn = t.drawn + 1 };
           there = a.updates.1;
-          is = inr (fresh_part (t.drawn + 1), fresh_named t.drawn small, omega arith, refl);
+          is = inr (fresh_part partition (t.drawn + 1), fresh_named partition t.drawn fits small, omega arith, refl);
         })

@@ -12,13 +12,15 @@ use Rattle.mt_values.specs.declared.command.Entry.{Entry}
 use Rattle.mt_values.specs.declared.command.Insert.{Insert}
 use Rattle.mt_values.specs.declared.schema.Schema.{Schema}
 use Rattle.mt_values.specs.Grammar.{same_bytes}
-use Rattle.mt_values.specs.Order.{key_cmp}
 use Rattle.mt_values.specs.RootNames.{create_name}
+use Rattle.mt_values.specs.Tables.{sorting_cmp}
 use Rattle.mt_outside.specs.Disk.{Names, files_at}
 use Rattle.mt_outside.specs.Files.{Files}
-use Rattle.mt_model.specs.History.{History, IsInsertInto, IsTableSchema, creates, first_of, schema_of}
+use Rattle.mt_model.specs.History.{History, IsInsertInto, IsTableSchema, creates, entered, first_of, schema_of}
 use Rattle.mt_model.specs.Live.{sorted}
-use Rattle.mt_model.proofs.Histories.{legal_push}
+use Rattle.mt_model.specs.Numbers.{numbered}
+use Rattle.mt_model.proofs.Commands.{own_partition}
+use Rattle.mt_model.proofs.Histories.{legal_push, schema_kept, schema_more}
 use Rattle.mt_model.proofs.Tables.{itself_same, same_is}
 use Rattle.part_set.specs.declared.root_name.RootName.{RootName}
 use Rattle.part_set.specs.declared.root_name.RootName.TheVariants as root
@@ -26,16 +28,16 @@ use Rattle.part_set.specs.declared.root_name.TablePart.{TablePart}
 use Rattle.part_set.specs.RootNames.{IsRootName, is_table, root_text}
 use Rattle.part_set.specs.Visible.{Covers, HasPart, HasTable, IsVisible}
 use Rattle.part_history.specs.declared.part.CorePart.{CorePart}
-use Rattle.part_history.specs.Numbers.{numbered}
 use Rattle.part_history.specs.Parts.{TableStands, parts_of}
-use Rattle.part_history.specs.Entered.{entered, next_number, part_of_insert}
+use Rattle.part_history.specs.Entered.{next_number, part_of_insert}
 use Rattle.part_history.proofs.Apart.{ends_below}
-use Rattle.part_history.proofs.Growing.{drawn_apart, schema_kept, schema_more, table_grown, table_kept}
+use Rattle.part_history.proofs.Growing.{drawn_apart, table_grown, table_kept}
 use Rattle.root_store.specs.ByteOrder.{AreInByteOrder}
 use Rattle.root_commits.specs.Commits.{fresh_part}
 use Rattle.root_store.specs.Entries.{EntryHolds}
 use Rattle.root_store.specs.Roots.{FolderHolds, HasFolder, PartIsThere, Stands, named}
 use Rattle.root_commits.proofs.Added.{are_read, folder_kept, new_folder, new_read, read_or_new, read_with, still_read, with_name}
+use Rattle.root_commits.proofs.Partitions.{may_spell}
 use Rattle.root_store.proofs.Clear.{of_table}
 use Rattle.root_store.proofs.Fitting.{ends_by}
 use Rattle.root_store.proofs.Orphaned.{of_core, part_named}
@@ -48,7 +50,7 @@ first_none None = refl
 first_none (Some schema) = refl
 
 -- an INSERT gives no table a schema
-schema_inserted : (t : List ℕ) (h : History) (session : ℕ) (i : Insert) → schema_of t (entered h session (command.Insert i)) ≡ schema_of t h
+schema_inserted : (t : List ℕ) (h : History) (session : ℕ) (i : Insert) → schema_of t (entered h session (command.Insert i ∷ [])) ≡ schema_of t h
 schema_inserted t h session i = schema_more t h (record { session = session; command = command.Insert i } ∷ []) ∙ first_none (schema_of t h)
 
 module _ (h : History) (session : ℕ) (c : Create) where
@@ -177,7 +179,7 @@ module _ (names : Names) (h : History) (session : ℕ) (c : Create) (files : Fil
 -- once the entry of a table is there, the root stands for the history with its CREATE
 pub stands_with_table : (names : Names) (h : History) (session : ℕ) (c : Create) (files : Files) → AreInByteOrder names → Stands names h
     → schema_of c.table h ≡ None → creates h < 65536 → IsTableSchema c.schema → IsTrue (is_table c.table) → EntryHolds c.table c.schema files
-    → files_at (create_name c.table) names ≡ None → Stands (insert_entry (slice_cmp nat_cmp) names (create_name c.table) files) (entered h session (command.Create c))
+    → files_at (create_name c.table) names ≡ None → Stands (insert_entry (slice_cmp nat_cmp) names (create_name c.table) files) (entered h session (command.Create c ∷ []))
 stands_with_table names h session c files rise s absent few sound word holds free = table_stands names h session c files s absent holds free few sound word
 
 -- ---- the part of an INSERT
@@ -198,9 +200,9 @@ module _ (names : Names) (h : History) (s : Stands names h) (table : List ℕ) w
   parts_end_by = ends_by s.read s.are.sound s.unmutated table (length (numbered table h)) visible_end_by
 
 module _ (names : Names) (h : History) (session : ℕ) (i : Insert) (schema : Schema) (files : Files) (s : Stands names h) (known : schema_of i.table h ≡ Some schema) (is : IsInsertInto schema i)
-    (few : next_number i.table h ≤ 4294967295) (holds : FolderHolds schema (sorted (key_cmp schema.key) i.block.rows) files) where
+    (few : next_number i.table h ≤ 4294967295) (holds : FolderHolds schema (sorted (sorting_cmp schema) i.block.rows) files) where
   abbrev new : TablePart
-  new = record { table = i.table; name = fresh_part (next_number i.table h) }
+  new = record { table = i.table; name = fresh_part i.partition (next_number i.table h) }
 
   abbrev core : CorePart
   core = part_of_insert schema (next_number i.table h) i
@@ -215,12 +217,12 @@ module _ (names : Names) (h : History) (session : ℕ) (i : Insert) (schema : Sc
   read = read_with (root.Part new) s.read
 
   named_new : named core ≡ new
-  named_new = λ j. record { table = i.table; name = record { partition = is.partition j; min_block = next_number i.table h; max_block = next_number i.table h; level = 0; mutation = None } }
+  named_new = refl
 
   new_named : IsRootName (root.Part new)
   new_named = (
     All-contains IsRootName s.read (root.Create i.table) s.are.sound (table_here names h s i.table (ap is_some known)),
-    record { partition = tt; min_block = (omega arith, few); max_block = (omega arith, few); order = omega arith; level = omega arith; mutation = tt },
+    record { partition = may_spell schema i.partition (own_partition schema i is); min_block = (omega arith, few); max_block = (omega arith, few); order = omega arith; level = omega arith; mutation = tt },
   )
 
   covers_none : (part : TablePart) → HasPart s.read part → Covers new part → ⊥
@@ -301,7 +303,7 @@ module _ (names : Names) (h : History) (session : ℕ) (i : Insert) (schema : Sc
 
 -- once the part of an INSERT is there, the root stands for the history with the INSERT
 pub stands_with_part : (names : Names) (h : History) (session : ℕ) (i : Insert) (schema : Schema) (files : Files) → AreInByteOrder names → Stands names h
-    → schema_of i.table h ≡ Some schema → IsInsertInto schema i → next_number i.table h ≤ 4294967295 → FolderHolds schema (sorted (key_cmp schema.key) i.block.rows) files
-    → files_at (root_text (root.Part (record { table = i.table; name = fresh_part (next_number i.table h) }))) names ≡ None
-    → Stands (insert_entry (slice_cmp nat_cmp) names (root_text (root.Part (record { table = i.table; name = fresh_part (next_number i.table h) }))) files) (entered h session (command.Insert i))
+    → schema_of i.table h ≡ Some schema → IsInsertInto schema i → next_number i.table h ≤ 4294967295 → FolderHolds schema (sorted (sorting_cmp schema) i.block.rows) files
+    → files_at (root_text (root.Part (record { table = i.table; name = fresh_part i.partition (next_number i.table h) }))) names ≡ None
+    → Stands (insert_entry (slice_cmp nat_cmp) names (root_text (root.Part (record { table = i.table; name = fresh_part i.partition (next_number i.table h) }))) files) (entered h session (command.Insert i ∷ []))
 stands_with_part names h session i schema files rise s known is few holds free = part_stands names h session i schema files s known is few holds free

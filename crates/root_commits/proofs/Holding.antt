@@ -20,7 +20,7 @@ use Rattle.part_set.specs.Sets.{parts_of}
 use Rattle.root_store.specs.declared.store.CoreStore.{CoreStore}
 use Rattle.root_store.specs.declared.store.Table.{Table}
 use Rattle.root_store.specs.Stores.{fresh_table}
-use Rattle.root_commits.specs.Commits.{EntersSealed, EntersTable, IsSealedOf, SameStore, fresh_part, part_rows}
+use Rattle.root_commits.specs.Commits.{EntersSealed, EntersTable, IsSealedOf, SameStore, fresh_part, part_rows, partition_of_block}
 use Rattle.root_store.specs.Soundness.{HasSoundParts, HoldsRows, IsSound}
 use Rattle.root_store.specs.Stores.{table_at}
 use Rattle.root_store.proofs.Undamaged.{folder_part}
@@ -43,13 +43,13 @@ module _ {F : Type 0} (files_of : F → Option Files) where
       parts u = ap (λ (s : PartSet (Part F)). parts_of s u) enters.set_is
 
   -- one part more
-  pub held_added : (old new : CoreStore F) (table : List ℕ) (t : Table) (block : Grid) (sealed : Option Files) (loaded : Loaded) → IsSealedOf t.schema block sealed loaded → EntersSealed files_of sealed loaded table t old new
+  pub held_added : (old new : CoreStore F) (table : List ℕ) (t : Table) (block : Grid) (sealed : Option Files) (loaded : Loaded) → IsSealedOf t.schema block sealed loaded → EntersSealed files_of sealed loaded table (partition_of_block t.schema block) t old new
       → HasSoundParts files_of old → HasSoundParts files_of new
   held_added old new table t block sealed loaded is a held = λ u x at. elim (it_or old new table (Some (record { schema = t.schema; drawn = t.drawn + 1 })) a.enters.updates u) [
     | inl same ↦ (
         let now : table_at new table ≡ Some x = subst (λ (v : List ℕ). table_at new v ≡ Some x) (sym same) at in
         let kept = one_some (table_at new table) (record { schema = t.schema; drawn = t.drawn + 1 }) x a.enters.updates.1 now in
-        let new_part : Kept (Part F) = record { name = fresh_part (t.drawn + 1); part = a.part } in
+        let new_part : Kept (Part F) = record { name = fresh_part (partition_of_block t.schema block) (t.drawn + 1); part = a.part } in
         let own : HoldsRows files_of t.schema new_part = (part_rows t.schema block, folder_part files_of t.schema (part_rows t.schema block) is.files a.part is.holds (a.files_are ∙ is.sealed_are) (ap (λ (l : Loaded). l.manifest) a.loaded_is ∙ is.loaded_is)) in
         let all = All-push (HoldsRows files_of t.schema) (parts_of old.set table) new_part (held table t a.enters.there) own in
         subst (λ (v : List ℕ). All (HoldsRows files_of x.schema) (parts_of new.set v)) same

@@ -3,6 +3,7 @@ use Rattle.std.proofs.Common.{◌≡◌, ◌≢◌, ℕ, ◌+◌, true, false, L
 use Rattle.std.specs.List.{AllZip}
 use Rattle.std.specs.Option.{option_map}
 use Rattle.std.proofs.lemmas.List.Elements.{filter-append}
+use Rattle.mt_base.specs.declared.partition.Partition.{Partition}
 use Rattle.mt_values.specs.declared.command.Command.TheVariants as command
 use Rattle.mt_values.specs.declared.command.Entry.{Entry}
 use Rattle.mt_values.specs.declared.command.Insert.{Insert}
@@ -12,22 +13,23 @@ use Rattle.mt_values.specs.Grammar.{same_bytes}
 use Rattle.mt_values.specs.Grid.{Grid}
 use Rattle.mt_values.specs.Values.{Row}
 use Rattle.mt_outside.specs.Files.{Files}
-use Rattle.mt_model.specs.History.{History, IsInsertInto, is_create, schema_of}
-use Rattle.mt_model.proofs.Histories.{legal_push}
+use Rattle.mt_model.specs.History.{History, IsInsertInto, entered, is_create, schema_of}
+use Rattle.mt_model.specs.Numbers.{last_number, numbered}
+use Rattle.mt_model.proofs.Commands.{own_partition}
+use Rattle.mt_model.proofs.Histories.{legal_push, numbered_more, schema_more}
 use Rattle.mt_model.proofs.Tables.{itself_same}
 use Rattle.part_reader.specs.declared.reading.Part.{Part}
 use Rattle.part_reader.specs.Parts.{PartHolds}
 use Rattle.part_set.specs.declared.kept.Kept.{Kept}
 use Rattle.part_set.specs.Sets.{parts_of}
 use Rattle.part_history.specs.declared.part.CorePart.{CorePart}
-use Rattle.part_history.specs.Numbers.{numbered}
 use Rattle.part_history.specs.Parts.{AreInBlockOrder, TableStands}
-use Rattle.part_history.specs.Entered.{entered, part_of_insert}
-use Rattle.part_history.proofs.Growing.{drawn_apart, drawn_here, numbered_more, schema_more, table_grown, table_kept}
+use Rattle.part_history.specs.Entered.{part_of_insert}
+use Rattle.part_history.proofs.Growing.{drawn_apart, drawn_here, table_grown, table_kept}
 use Rattle.part_history.proofs.Ordered.{order_grown}
 use Rattle.root_store.specs.declared.store.CoreStore.{CoreStore}
 use Rattle.root_store.specs.declared.store.Table.{Table}
-use Rattle.root_commits.specs.Commits.{EntersSealed, IsSealedOf, fresh_part, insert_into, insert_of_block, part_rows}
+use Rattle.root_commits.specs.Commits.{EntersSealed, IsSealedOf, fresh_part, insert_into, insert_of_block, part_rows, partition_of_block}
 use Rattle.root_store.specs.Stores.{CoreStands, PartsAreThere, core_part, core_parts, table_at}
 use Rattle.root_commits.proofs.Entering.{first_none}
 use Rattle.root_store.proofs.Undamaged.{folder_part}
@@ -49,12 +51,15 @@ module _ {F : Type 0} where
   zip_push R (l ∷ ks) (s ∷ rows) k r zip holds = (zip.0, zip_push R ks rows k r zip.1 holds)
 
 module _ {F : Type 0} (files_of : F → Option Files) (h : History) (old new : CoreStore F) (session : ℕ) (table : List ℕ) (t : Table) (block : Grid) (sealed : Option Files) (loaded : Loaded)
-    (s : CoreStands files_of h old) (rows_fit : IsInsertInto t.schema (insert_into table block)) (is : IsSealedOf t.schema block sealed loaded) (a : EntersSealed files_of sealed loaded table t old new) where
+    (s : CoreStands files_of h old) (rows_fit : IsInsertInto t.schema (insert_into table (partition_of_block t.schema block) block)) (is : IsSealedOf t.schema block sealed loaded) (a : EntersSealed files_of sealed loaded table (partition_of_block t.schema block) t old new) where
+  abbrev partition : Partition
+  partition = partition_of_block t.schema block
+
   abbrev i : Insert
-  i = insert_into table block
+  i = insert_into table partition block
 
   abbrev e : Entry
-  e = record { session = session; command = insert_of_block table block }
+  e = record { session = session; command = insert_of_block table partition block }
 
   abbrev more : Table
   more = record { schema = t.schema; drawn = t.drawn + 1 }
@@ -63,7 +68,7 @@ module _ {F : Type 0} (files_of : F → Option Files) (h : History) (old new : C
   rows = part_rows t.schema block
 
   abbrev kept : Kept (Part F)
-  kept = record { name = fresh_part (t.drawn + 1); part = a.part }
+  kept = record { name = fresh_part partition (t.drawn + 1); part = a.part }
 
   abbrev schema_at : Option Table → Option Schema
   schema_at found = option_map (λ (x : Table). x.schema) found
@@ -92,7 +97,7 @@ module _ {F : Type 0} (files_of : F → Option Files) (h : History) (old new : C
   Holds schema k r = PartHolds files_of schema k.part r
 
   new_part : core_part table kept rows ≡ part_of_insert t.schema (length (numbered table h) + 1) i
-  new_part = ap (λ (n : ℕ). core_part table (record { name = fresh_part n; part = a.part }) rows) number
+  new_part = ap (λ (n : ℕ). core_part table (record { name = fresh_part partition n; part = a.part }) rows) number
 
   holds : Holds t.schema kept rows
   holds = folder_part files_of t.schema rows is.files a.part is.holds (a.files_are ∙ is.sealed_are) (ap (λ (l : Loaded). l.manifest) a.loaded_is ∙ is.loaded_is)
@@ -108,7 +113,7 @@ module _ {F : Type 0} (files_of : F → Option Files) (h : History) (old new : C
         rows = p.rows ++ rows ∷ [];
         hold = subst (λ (l : List (Kept (Part F))). AllZip (Holds t.schema) l (p.rows ++ rows ∷ [])) (sym a.enters.parts) (zip_push (Holds t.schema) ks p.rows kept rows p.hold holds);
         stand = subst (λ (ps : List CorePart). TableStands table ps (h ++ e ∷ [])) (sym parts) (table_grown h e i t.schema refl known (core_parts table ks p.rows) p.stand);
-        order = subst AreInBlockOrder (sym parts) (order_grown h i t.schema (core_parts table ks p.rows) s.legal refl p.stand p.order);
+        order = subst AreInBlockOrder (sym parts) (order_grown h i t.schema (core_parts table ks p.rows) s.legal (own_partition t.schema i rows_fit) p.stand p.order);
       }
 
   -- another has its own
@@ -133,7 +138,7 @@ module _ {F : Type 0} (files_of : F → Option Files) (h : History) (old new : C
   one_table : (u : List ℕ) (x : Table) → table_at new u ≡ Some x → table ≡ u → more ≡ x
   one_table u x at same = one_some (table_at new u) more x (subst (λ (v : List ℕ). table_at new v ≡ Some more) same a.enters.updates.1) at
 
-  pub stands_inserted : CoreStands files_of (entered h session (insert_of_block table block)) new
+  pub stands_inserted : CoreStands files_of (entered h session (insert_of_block table partition block ∷ [])) new
   stands_inserted =
       let made = λ (x : Entry). is_create x.command in
       record {
@@ -150,7 +155,7 @@ module _ {F : Type 0} (files_of : F → Option Files) (h : History) (old new : C
       tables_at u (inl same) = subst (λ (v : List ℕ). schema_at (table_at new v) ≡ schema_of v (h ++ e ∷ [])) same (ap schema_at a.enters.updates.1 ∙ sym (same_schema table ∙ known))
       tables_at u (inr other) = ap schema_at other.1 ∙ (s.tables u ∙ sym (same_schema u))
 
-      drawn_at : (u : List ℕ) (x : Table) → table_at new u ≡ Some x → IsItOr u → x.drawn ≡ length (numbered u (h ++ e ∷ []))
+      drawn_at : (u : List ℕ) (x : Table) → table_at new u ≡ Some x → IsItOr u → x.drawn ≡ last_number u (h ++ e ∷ [])
       drawn_at u x at (inl same) = sym (ap (λ (y : Table). y.drawn) (one_table u x at same)) ∙ subst (λ (v : List ℕ). t.drawn + 1 ≡ length (numbered v (h ++ e ∷ []))) same drawn_now
       drawn_at u x at (inr other) =
           s.drawn u x (sym other.1 ∙ at) ∙ sym (ap length (numbered_more u h (e ∷ []) ∙ (ap (λ cs. numbered u h ++ cs) (none_drawn u other.0) ∙ append-nil (numbered u h))))

@@ -9,12 +9,13 @@ use Rattle.std.specs.declared.cmp.Ordering.{Ordering}
 use Rattle.std.specs.declared.cmp.Ordering.TheVariants.{Less, Equal, Greater}
 use Rattle.std.proofs.lemmas.Bool.Decides.{nat_tests}
 use Rattle.std.proofs.lemmas.Cmp.{nat_list_cmp_total, tied_itself}
+use Rattle.mt_base.specs.declared.partition.Partition.{Partition}
 use Rattle.part_set.specs.Sets.{parts_of}
 use Rattle.durable_commit.specs.declared.causes.Limit.TheVariants as limit
 use Rattle.durable_commit.specs.declared.causes.Refused.{Refused}
 use Rattle.durable_commit.specs.declared.causes.Refused.TheVariants as refused
 use Rattle.root_store.specs.declared.store.CoreStore.{CoreStore}
-use Rattle.root_commits.specs.Commits.{IsCause, SameStore, refuses_create, refuses_part, whole_parts}
+use Rattle.root_commits.specs.Commits.{IsCause, SameStore, refuses_create, refuses_part, kept_in}
 use Rattle.root_store.specs.Stores.{table_at}
 
 -- a new entry that is taken out again
@@ -99,10 +100,10 @@ module _ {F : Type 0} (store : CoreStore F) (table : List ℕ) (now : ℕ) where
     | inr others ↦ elim others [ inl second ↦ cc | inr third ↦ cc ]
   ]
 
-  module _ (drawn : ℕ) where
-    module _ (none : refuses_part store table drawn now ≡ None) where
-      part_tests : (nat_le 3000 (length (whole_parts (parts_of store.set table))) ≡ false) × (nat_le 4294967295 drawn ≡ false) × (nat_lt store.opened now ≡ false)
-      part_tests = three_none (nat_le 3000 (length (whole_parts (parts_of store.set table)))) (nat_le 4294967295 drawn) (nat_lt store.opened now)
+  module _ (partition : Partition) (drawn : ℕ) where
+    module _ (none : refuses_part store table partition drawn now ≡ None) where
+      part_tests : (nat_le 3000 (length (kept_in partition (parts_of store.set table))) ≡ false) × (nat_le 4294967295 drawn ≡ false) × (nat_lt store.opened now ≡ false)
+      part_tests = three_none (nat_le 3000 (length (kept_in partition (parts_of store.set table)))) (nat_le 4294967295 drawn) (nat_lt store.opened now)
           (refused.Limit limit.Parts) (refused.Limit limit.Numbers) Stopped none
 
       -- where nothing is shown against a part there is a number left
@@ -114,8 +115,8 @@ module _ {F : Type 0} (store : CoreStore F) (table : List ℕ) (now : ℕ) where
       shown_part_calm low = calm store.opened now part_tests.2 low
 
     -- no fault of the disk is shown
-    pub shown_part_other : (cause : Refused) → refuses_part store table drawn now ≡ Some cause → cause ≡ refused.Disk → ⊥
-    shown_part_other cause is same = elim (three_some (nat_le 3000 (length (whole_parts (parts_of store.set table)))) (nat_le 4294967295 drawn) (nat_lt store.opened now)
+    pub shown_part_other : (cause : Refused) → refuses_part store table partition drawn now ≡ Some cause → cause ≡ refused.Disk → ⊥
+    shown_part_other cause is same = elim (three_some (nat_le 3000 (length (kept_in partition (parts_of store.set table)))) (nat_le 4294967295 drawn) (nat_lt store.opened now)
         (refused.Limit limit.Parts) (refused.Limit limit.Numbers) Stopped cause is) [
           | inl first ↦ cc
           | inr others ↦ elim others [ inl second ↦ cc | inr third ↦ cc ]

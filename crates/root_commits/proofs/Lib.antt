@@ -11,6 +11,7 @@ pub mod Growing
 pub mod Holding
 pub mod Inserted
 pub mod Leaving
+pub mod Partitions
 pub mod Rooted
 pub mod SameStores
 pub mod Sounding

@@ -6,9 +6,10 @@ use Rattle.std.specs.List.{All}
 use Rattle.std.specs.Map.{lookup}
 use Rattle.std.specs.Ordering.{nat_cmp}
 use Rattle.std.proofs.lemmas.List.Elements.{All-append, All-cons, All-drop, All-nil, All-take, All-weaker}
-use Rattle.mt_base.specs.declared.partition.Partition.TheVariants.{Whole}
+use Rattle.mt_base.specs.declared.partition.Partition.{Partition}
 use Rattle.mt_values.specs.declared.schema.Schema.{Schema}
 use Rattle.mt_values.specs.Grammar.{same_bytes}
+use Rattle.mt_values.specs.Tables.{MayHavePartition}
 use Rattle.mt_outside.specs.Causes.{Rose}
 use Rattle.mt_outside.specs.Disk.{Told}
 use Rattle.mt_model.specs.History.{IsTableSchema}
@@ -32,8 +33,8 @@ module _ {F : Type 0} where
   abbrev Ends : ℕ → Kept (Part F) → Type 0
   Ends n k = k.name.max_block ≤ n
 
-  abbrev IsWhole : Kept (Part F) → Type 0
-  IsWhole k = k.name.partition ≡ Whole
+  abbrev May : Schema → Kept (Part F) → Type 0
+  May schema k = MayHavePartition schema k.name.partition
 
   abbrev Rises : Kept (Part F) → Type 0
   Rises k = k.name.min_block ≤ k.name.max_block
@@ -43,7 +44,7 @@ module _ {F : Type 0} where
   moved old new table t same sound = record {
     schema = sound.schema;
     ends = subst (All (Ends t.drawn)) (sym same) sound.ends;
-    whole = subst (All IsWhole) (sym same) sound.whole;
+    may = subst (All (May t.schema)) (sym same) sound.may;
     order = subst (All Rises) (sym same) sound.order;
   }
 
@@ -108,7 +109,7 @@ module _ {F : Type 0} where
         fresh = record {
           schema = fits;
           ends = subst (All (Ends 0)) (sym no_parts) (All-nil (Ends 0));
-          whole = subst (All IsWhole) (sym no_parts) (All-nil IsWhole);
+          may = subst (All (May schema)) (sym no_parts) (All-nil (May schema));
           order = subst (All Rises) (sym no_parts) (All-nil Rises);
         }
 
@@ -116,9 +117,9 @@ module _ {F : Type 0} where
         here u t same is = subst (IsSoundTable new u) is (subst (λ (v : List ℕ). IsSoundTable new v (fresh_table schema)) same fresh)
 
     -- one part more
-    module _ (table : List ℕ) (part : Part F) (t : Table) (a : PartIsAdded table part t old new) where
+    module _ (table : List ℕ) (partition : Partition) (part : Part F) (t : Table) (a : PartIsAdded table partition part t old new) (may : MayHavePartition t.schema partition) where
       abbrev kept : Kept (Part F)
-      kept = record { name = fresh_part (t.drawn + 1); part = part }
+      kept = record { name = fresh_part partition (t.drawn + 1); part = part }
 
       abbrev more : Table
       more = record { schema = t.schema; drawn = t.drawn + 1 }
@@ -135,7 +136,7 @@ module _ {F : Type 0} where
       grown was = record {
         schema = was.schema;
         ends = all_added (Ends (t.drawn + 1)) (All-weaker (Ends t.drawn) (Ends (t.drawn + 1)) (λ k le. omega (arith, le)) (parts_of old.set table) was.ends) (omega arith);
-        whole = all_added IsWhole was.whole refl;
+        may = all_added (May t.schema) was.may may;
         order = all_added Rises was.order (omega arith);
       }
 

@@ -2,7 +2,6 @@
 use Rattle.std.proofs.Common.{◌≡◌, inl, inr, ℕ, ◌+◌, ◌-◌, ◌<◌, ◌≤◌, List, [], ◌∷◌, ◌++◌, length, map, take, Option, Some, refl, sym, ap, ◌∙◌, subst, arith, append-nil, length-append}
 use Rattle.std.proofs.lemmas.Bool.{cases_lt}
 use Rattle.std.proofs.lemmas.List.{length-map, length-take}
-use Rattle.mt_base.specs.declared.partition.Partition.TheVariants.{Whole}
 use Rattle.mt_values.specs.declared.annals.Noted.{Noted}
 use Rattle.mt_values.specs.declared.command.Entry.{Entry}
 use Rattle.mt_values.specs.Grammar.{same_bytes}
@@ -11,12 +10,12 @@ use Rattle.mt_outside.specs.Files.{Files}
 use Rattle.mt_outside.proofs.Changes.{survive_same}
 use Rattle.mt_outside.proofs.Crashes.{image_as_read}
 use Rattle.mt_model.specs.History.{History}
+use Rattle.mt_model.specs.Numbers.{IsNumberOfInsert, numbered}
 use Rattle.mt_model.proofs.Tables.{same_is}
 use Rattle.part_set.specs.declared.root_name.RootName.{RootName}
 use Rattle.part_set.specs.declared.root_name.TablePart.{TablePart}
 use Rattle.part_set.specs.Visible.{HasPart}
 use Rattle.part_history.specs.declared.part.CorePart.{CorePart}
-use Rattle.part_history.specs.Numbers.{IsInsertOf, numbered}
 use Rattle.part_history.specs.Parts.{has_block, parts_of}
 use Rattle.part_history.proofs.Numbered.{all_whole, insert_at}
 use Rattle.root_store.specs.ByteOrder.{AreInByteOrder}
@@ -37,11 +36,12 @@ last_there : (names : Names) (h : History) (s : Stands names h) (table : List �
 last_there names h s table some =
     let n = length (numbered table h) in
     let last = insert_at (numbered table h) (n - 1) (all_whole table h s.legal) (omega (arith, some)) in
-    let insert : IsInsertOf table Whole n h = record { from_one = omega (arith, some); insert = last.insert; there = last.there; partition_is = last.whole } in
-    let once = (s.stand table).once Whole n insert in
-    let found = counted_one (has_block Whole n) (parts_of table s.parts) (omega (arith, once)) in
+    let partition = last.insert.partition in
+    let insert : IsNumberOfInsert table partition n h = record { from_one = omega (arith, some); insert = last.insert; there = last.there; partition_is = refl } in
+    let once = (s.stand table).once partition n insert in
+    let found = counted_one (has_block partition n) (parts_of table s.parts) (omega (arith, once)) in
     let from = unfiltered (λ (x : CorePart). same_bytes x.table table) s.parts found.0 found.1 in
-    (named found.0, ((s.visible (named found.0)).1 (map_item named s.parts found.0 from.0)).here, same_is found.0.table table from.1, (blocks Whole n found.0 found.2).high)
+    (named found.0, ((s.visible (named found.0)).1 (map_item named s.parts found.0 from.0)).here, same_is found.0.table table from.1, (blocks partition n found.0 found.2).high)
 
 numbers_low : (a b : Names) (h k : History) (s : Stands a h) (r : Stands b k) → s.read ≡ r.read → (table : List ℕ) → length (numbered table h) ≤ length (numbered table k)
 numbers_low a b h k s r same table = elim (cases_lt 0 (length (numbered table h))) [

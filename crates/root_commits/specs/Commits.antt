@@ -1,15 +1,15 @@
 -- What refuses a commit, and what it leaves (docs/architecture.md, "Commits").
-use Rattle.std.specs.Prelude.{◌≡◌, ◌≢◌, ℕ, ◌+◌, List, [], ◌∷◌, ◌++◌, Option, Some, None, Result, Ok, Err, filter, if◌then◌else◌, is_some, length, nat_le}
+use Rattle.std.specs.Prelude.{◌≡◌, ◌≢◌, ℕ, ◌+◌, List, [], ◌∷◌, ◌++◌, get_or, Option, Some, None, Result, Ok, Err, filter, if◌then◌else◌, is_some, length, nat_le}
 use Rattle.std.specs.BTreeMap.{Updates}
 use Rattle.std.specs.Cmp.Lexicographic.{slice_cmp}
 use Rattle.std.specs.Ordering.{nat_cmp}
-use Rattle.mt_base.specs.declared.partition.Partition.TheVariants.{Whole}
+use Rattle.mt_base.specs.declared.partition.Partition.{Partition}
 use Rattle.mt_values.specs.declared.command.Command.{Command}
 use Rattle.mt_values.specs.declared.command.Insert.{Insert}
 use Rattle.mt_values.specs.declared.schema.Schema.{Schema}
 use Rattle.mt_values.specs.declared.command.Command.TheVariants as command
 use Rattle.mt_values.specs.Grid.{Grid}
-use Rattle.mt_values.specs.Order.{key_cmp}
+use Rattle.mt_values.specs.Tables.{partition_of, same_partition, sorting_cmp}
 use Rattle.mt_values.specs.Values.{Row}
 use Rattle.mt_model.specs.Live.{sorted}
 use Rattle.mt_values.specs.declared.manifest.Loaded.{Loaded}
@@ -19,7 +19,6 @@ use Rattle.part_reader.specs.declared.reading.Part.{Part}
 use Rattle.part_writer.specs.PartFiles.{manifest_of}
 use Rattle.part_set.specs.declared.kept.Kept.{Kept}
 use Rattle.part_set.specs.Sets.{parts_of}
-use Rattle.part_history.specs.Numbers.{same_partition}
 use Rattle.durable_commit.specs.declared.causes.Limit.TheVariants as limit
 use Rattle.durable_commit.specs.declared.causes.Refused.{Refused}
 use Rattle.durable_commit.specs.declared.causes.Refused.TheVariants as refused
@@ -63,17 +62,21 @@ pub record EntersTable {F : Type 0} (table : List ℕ) (schema : Schema) (old ne
   pub length_is : new.length ≡ old.length + 1
   pub opened_is : new.opened ≡ old.opened
 
--- the block, as it is added to a table
-abbrev pub insert_into : List ℕ → Grid → Insert
-insert_into table block = record { table = table; partition = Whole; block = block }
+-- the partition of a block's rows, all of which are of one: that of its first row
+abbrev pub partition_of_block : Schema → Grid → Partition
+partition_of_block schema block = partition_of schema (get_or block.rows 0 [])
 
--- the command that adds a block to a table
-abbrev pub insert_of_block : List ℕ → Grid → Command
-insert_of_block table block = command.Insert (insert_into table block)
+-- the block, as it is added to a partition of a table
+abbrev pub insert_into : List ℕ → Partition → Grid → Insert
+insert_into table partition block = record { table = table; partition = partition; block = block }
 
--- the rows of a block as its part has them: in the order of the key, those of equal keys as they came
+-- the command that adds a block to a partition of a table
+abbrev pub insert_of_block : List ℕ → Partition → Grid → Command
+insert_of_block table partition block = command.Insert (insert_into table partition block)
+
+-- the rows of a block as its part has them: in the order of the table's rows, those that are alike in it as they came
 abbrev pub part_rows : Schema → Grid → List Row
-part_rows schema block = sorted (key_cmp schema.key) block.rows
+part_rows schema block = sorted (sorting_cmp schema) block.rows
 
 -- what was sealed of a block for a table with this schema, where the stage told it: the files of the block's rows, and their manifest
 pub record IsSealedOf (schema : Schema) (block : Grid) (sealed : Option Files) (loaded : Loaded) : Type 0 where
@@ -82,35 +85,35 @@ pub record IsSealedOf (schema : Schema) (block : Grid) (sealed : Option Files) (
   pub holds : FolderHolds schema (part_rows schema block) files
   pub loaded_is : loaded.manifest ≡ manifest_of (length schema.columns) (part_rows schema block)
 
--- the part that a table's next INSERT makes
-abbrev pub fresh_part : ℕ → PartName
-fresh_part n = record { partition = Whole; min_block = n; max_block = n; level = 0; mutation = None }
+-- the part that an INSERT of this number into a partition makes
+abbrev pub fresh_part : Partition → ℕ → PartName
+fresh_part partition n = record { partition = partition; min_block = n; max_block = n; level = 0; mutation = None }
 
--- the parts that are of the whole partition
-abbrev pub whole_parts : {P : Type 0} → List (Kept P) → List (Kept P)
-whole_parts {P} parts = filter (λ (k : Kept P). same_partition k.name.partition Whole) parts
+-- the parts that are of a partition
+abbrev pub kept_in : {P : Type 0} → Partition → List (Kept P) → List (Kept P)
+kept_in {P} partition parts = filter (λ (k : Kept P). same_partition k.name.partition partition) parts
 
--- what the store and the disk's count show against a part of a table of which so many numbers were drawn: the partition has as many
--- parts as may be, or the table has no number left, or the store was stopped
-abbrev pub refuses_part : {F : Type 0} → CoreStore F → List ℕ → ℕ → ℕ → Option Refused
-refuses_part store table drawn now =
-    if nat_le 3000 (length (whole_parts (parts_of store.set table))) then Some (refused.Limit limit.Parts)
+-- what the store and the disk's count show against a part in a partition of a table of which so many numbers were drawn: the partition
+-- has as many parts as may be, or the table has no number left, or the store was stopped
+abbrev pub refuses_part : {F : Type 0} → CoreStore F → List ℕ → Partition → ℕ → ℕ → Option Refused
+refuses_part store table partition drawn now =
+    if nat_le 3000 (length (kept_in partition (parts_of store.set table))) then Some (refused.Limit limit.Parts)
     else if nat_le 4294967295 drawn then Some (refused.Limit limit.Numbers)
     else stopped_by store.opened now
 
--- there is one more part of a table, behind its others, its number drawn, and one more command
-pub record EntersPart {F : Type 0} (table : List ℕ) (part : Part F) (t : Table) (old new : CoreStore F) : Type 0 where
+-- there is one more part in a partition of a table, after its others, its number drawn, and one more command
+pub record EntersPart {F : Type 0} (table : List ℕ) (partition : Partition) (part : Part F) (t : Table) (old new : CoreStore F) : Type 0 where
   pub there : table_at old table ≡ Some t
   pub updates : Updates (slice_cmp nat_cmp) old.tables new.tables table (Some (record { schema = t.schema; drawn = t.drawn + 1 }))
   pub count : length new.tables.entries ≡ length old.tables.entries
-  pub parts : parts_of new.set table ≡ parts_of old.set table ++ record { name = fresh_part (t.drawn + 1); part = part } ∷ []
+  pub parts : parts_of new.set table ≡ parts_of old.set table ++ record { name = fresh_part partition (t.drawn + 1); part = part } ∷ []
   pub others : (u : List ℕ) → u ≢ table → parts_of new.set u ≡ parts_of old.set u
   pub length_is : new.length ≡ old.length + 1
   pub opened_is : new.opened ≡ old.opened
 
 -- the same, where the new part has what was sealed: its files, as its folder tells them, and what is kept of it
-pub record EntersSealed {F : Type 0} (files_of : F → Option Files) (files : Option Files) (loaded : Loaded) (table : List ℕ) (t : Table) (old new : CoreStore F) : Type 0 where
+pub record EntersSealed {F : Type 0} (files_of : F → Option Files) (files : Option Files) (loaded : Loaded) (table : List ℕ) (partition : Partition) (t : Table) (old new : CoreStore F) : Type 0 where
   pub part : Part F
   pub files_are : files_of part.dir ≡ files
   pub loaded_is : part.loaded ≡ loaded
-  pub enters : EntersPart table part t old new
+  pub enters : EntersPart table partition part t old new

@@ -14,13 +14,11 @@ ghost use Rattle.part_set.specs.Sets.{HasRoom, parts_of};
 ghost use Rattle.mt_outside.specs.Causes.{Rose};
 ghost use Rattle.mt_outside.specs.Disk.{MayPut, put};
 ghost use Rattle.mt_outside.specs.Files.{Files};
-ghost use Rattle.mt_model.specs.History.{History, IsInsertInto, IsTableSchema};
-ghost use Rattle.mt_base.specs.declared.partition.Partition.TheVariants.{Whole};
-ghost use Rattle.part_history.specs.Numbers.{same_partition};
-ghost use Rattle.part_history.specs.Entered.{entered};
+ghost use Rattle.mt_model.specs.History.{History, IsInsertInto, IsTableSchema, entered};
+ghost use Rattle.mt_values.specs.Tables.{same_partition};
 ghost use Rattle.durable_commit.specs.Commits.{IsOutside, Notes, SameList, entry_of};
 ghost use Rattle.root_store.specs.Stores.{fresh_table};
-ghost use Rattle.root_commits.specs.Commits.{EntersSealed, EntersTable, IsCause, SameStore, cause_of, fresh_part, IsSealedOf, insert_into, insert_of_block, refuses_create, refuses_part, whole_parts};
+ghost use Rattle.root_commits.specs.Commits.{EntersSealed, EntersTable, IsCause, SameStore, cause_of, fresh_part, IsSealedOf, insert_into, insert_of_block, kept_in, partition_of_block, refuses_create, refuses_part};
 ghost use Rattle.root_commits.specs.Images.{LeavesEither, LeavesOne};
 ghost use Rattle.root_store.specs.Crashes.{KeepsThroughCrashes, Outside};
 ghost use Rattle.root_store.specs.Entries.{EntryHolds};
@@ -31,7 +29,7 @@ ghost use Rattle.root_store.specs.declared.store.Table.{Table as Made};
 use durable_commit::{Limit, Refused, commit, refuse_stopped, take_out};
 use mt_base::{NoMemory, Partition, Twin};
 use mt_outside::{Arm, Disk, DiskError};
-use mt_values::{Annals, Block, Command, Create, Entry, Insert, Name};
+use mt_values::{Annals, Block, Command, Create, Entry, Insert, Name, Schema};
 use part_name::PartName;
 use part_reader::Part;
 use part_set::{Kept, PartSet, RootName, TablePart, spell_name};
@@ -70,31 +68,46 @@ fn refuse_create<F>(store: &CoreStore<F>, table: &Name, now: u64) -> Option<Refu
     refuse_stopped(store.opened, now)
 }
 
-// Whether it is the whole partition.
-fn is_whole(partition: Partition) -> bool
-    ensures { result ≡ same_partition partition Whole }
+// The partition of a block's rows: a table has one alone.
+fn block_partition(_schema: &Schema, _block: &Block) -> Partition
+    ensures { result ≡ partition_of_block _schema.now _block.now }
 {
-    match partition {
-        Partition::Whole => true,
-        Partition::Number(_) => false,
+    Partition::Whole
+}
+
+// Whether both are one partition.
+fn is_one(a: Partition, b: Partition) -> bool
+    ensures { result ≡ same_partition a b }
+{
+    match (a, b) {
+        (Partition::Whole, Partition::Whole) => true,
+        (Partition::Number(m), Partition::Number(n)) => m == n,
+        (Partition::Whole, Partition::Number(_)) | (Partition::Number(_), Partition::Whole) =>
+            false,
     }
 }
 
-// How many of these parts are of the whole partition.
-fn count_whole<P>(parts: &[Kept<P>]) -> usize
-    ensures { result ≡ length (whole_parts parts.now) }
+// How many of these parts are of the partition.
+fn count_in<P>(partition: Partition, parts: &[Kept<P>]) -> usize
+    ensures { result ≡ length (kept_in partition parts.now) }
 {
     parts
         .iter()
-        .filter(|kept| is_whole(kept.name.partition))
+        .filter(|kept| is_one(kept.name.partition, partition))
         .count()
 }
 
-// What the store and the disk's count show against a part of a table of which so many numbers were drawn.
-fn refuse_part<F>(store: &CoreStore<F>, table: &Name, drawn: u32, now: u64) -> Option<Refused>
-    ensures { result ≡ refuses_part store.now table.now drawn now }
+// What the store and the disk's count show against a part in a partition of a table of which so many numbers were drawn.
+fn refuse_part<F>(
+    store: &CoreStore<F>,
+    table: &Name,
+    partition: Partition,
+    drawn: u32,
+    now: u64,
+) -> Option<Refused>
+    ensures { result ≡ refuses_part store.now table.now partition drawn now }
 {
-    if count_whole(store.set.parts(table)) >= MOST_PARTS {
+    if count_in(partition, store.set.parts(table)) >= MOST_PARTS {
         return Some(Refused::Limit(Limit::Parts));
     }
     if drawn >= LAST_NUMBER {
@@ -157,18 +170,18 @@ fn prepare_create<A: Annals>(
     })
 }
 
-// The name of the root under which the part with this number of a table stands.
-fn name_of_table_part(alloc: Global, table: &Name, number: u32) -> Result<Name, NoMemory>
-    ensures { IfOk result (λ name. name ≡ part_name table.now (part_text (fresh_part number))) }
+// The name of the root under which a part of a table stands.
+fn name_of_table_part(alloc: Global, table: &Name, part: PartName) -> Result<Name, NoMemory>
+    ensures { IfOk result (λ name. name ≡ part_name table.now (part_text part)) }
 {
     let root_name = RootName::Part(TablePart {
         table: table.twin(alloc)?,
-        name: name_of_part(number),
+        name: part,
     });
     spell_name(alloc, &root_name)
 }
 
-// Takes all memory of the part with this number of a table. No part is added yet.
+// Takes all memory of the part of a table. No part is added yet.
 //
 // `NoMemory` where a growth was refused, and at a history of 2^64 - 1 commands; the parts are as they were.
 fn prepare_part<P: Drop, A: Annals>(
@@ -176,10 +189,10 @@ fn prepare_part<P: Drop, A: Annals>(
     set: &mut PartSet<P>,
     annals: &mut A,
     table: &Name,
-    number: u32,
+    part: PartName,
     before: u64,
 ) -> Result<Ready, NoMemory>
-    ensures name { IfOk result (λ r. r.name ≡ part_name table.now (part_text (fresh_part number))) }
+    ensures name { IfOk result (λ r. r.name ≡ part_name table.now (part_text part)) }
     ensures table { IfOk result (λ r. r.table ≡ table.now) }
     ensures length { IfOk result (λ r. r.length ≡ before + 1) }
     ensures parts { (t : List ℕ) → parts_of set.new t ≡ parts_of set.old t }
@@ -192,7 +205,7 @@ fn prepare_part<P: Drop, A: Annals>(
     };
     set.reserve(alloc, table)?;
     annals.reserve(alloc)?;
-    let name = name_of_table_part(alloc, table, number)?;
+    let name = name_of_table_part(alloc, table, part)?;
     let table = table.twin(alloc)?;
     Ok(Ready {
         name,
@@ -201,12 +214,12 @@ fn prepare_part<P: Drop, A: Annals>(
     })
 }
 
-// The name of the part that the INSERT with this number into a table makes.
-fn name_of_part(number: u32) -> PartName
-    ensures { result ≡ fresh_part number }
+// The name of the part that the INSERT with this number into a partition makes.
+fn name_of_part(partition: Partition, number: u32) -> PartName
+    ensures { result ≡ fresh_part partition number }
 {
     PartName {
-        partition: Partition::Whole,
+        partition,
         min_block: number,
         max_block: number,
         level: 0,
@@ -251,18 +264,17 @@ pub fn commit_create<D: Disk, A: Annals>(
     ensures mark { OnOk result (D.clock disk.new ≡ D.clock disk.old + 1) }
     ensures annals { OnOk result (Notes (D.clock disk.new) (entry_of session (command.Create create)) (A.told annals.old) (A.told annals.new)) }
     ensures enters { OnOk result (EntersTable create.table create.schema store.old store.new) }
-    ensures stands { (h : History) → CoreStands D.Arm.Dir.files h store.old → OnOk result (CoreStands D.Arm.Dir.files (entered h session (command.Create create)) store.new) }
+    ensures stands { (h : History) → CoreStands D.Arm.Dir.files h store.old → OnOk result (CoreStands D.Arm.Dir.files (entered h session (command.Create create ∷ [])) store.new) }
     ensures root_stands { (h : History) (files : Files) → CoreStands D.Arm.Dir.files h store.old → RootStands (D.told disk.old) h
-        → sealed.files ≡ Some files → EntryHolds create.table create.schema files → OnOk result (RootStands (D.told disk.new) (entered h session (command.Create create))) }
+        → sealed.files ≡ Some files → EntryHolds create.table create.schema files → OnOk result (RootStands (D.told disk.new) (entered h session (command.Create create ∷ []))) }
     ensures images { (h : History) (files : Files) → sealed.files ≡ Some files → EntryHolds create.table create.schema files
         → CoreStands D.Arm.Dir.files h store.old → LeavesOne (D.told disk.old) (D.clock disk.old) h
-        → LeavesEither (D.told disk.new) (D.clock disk.new) (D.clock disk.old) h (entered h session (command.Create create)) }
+        → LeavesEither (D.told disk.new) (D.clock disk.new) (D.clock disk.old) h (entered h session (command.Create create ∷ [])) }
     ensures images_ok { (h : History) (files : Files) → sealed.files ≡ Some files → EntryHolds create.table create.schema files
         → CoreStands D.Arm.Dir.files h store.old → LeavesOne (D.told disk.old) (D.clock disk.old) h
-        → OnOk result (LeavesOne (D.told disk.new) (D.clock disk.new) (entered h session (command.Create create))) }
+        → OnOk result (LeavesOne (D.told disk.new) (D.clock disk.new) (entered h session (command.Create create ∷ []))) }
     ensures images_err { (h : History) → LeavesOne (D.told disk.old) (D.clock disk.old) h → IfErr result (λ r. r.cause ≢ Refused.Disk → LeavesOne (D.told disk.new) (D.clock disk.new) h) }
-    ensures through_crashes {
-        let was : Outside = record { disk = D.told disk.old; clock = D.clock disk.old; failed = D.failed disk.old; annals = A.told annals.old } in
+    ensures through_crashes { let was : Outside = record { disk = D.told disk.old; clock = D.clock disk.old; failed = D.failed disk.old; annals = A.told annals.old } in
         let now : Outside = record { disk = D.told disk.new; clock = D.clock disk.new; failed = D.failed disk.new; annals = A.told annals.new } in
         (first : Told) (start : ℕ) (files : Files) → sealed.files ≡ Some files → EntryHolds create.table create.schema files
         → KeepsThroughCrashes D.Arm.Dir.files store.old was first start → KeepsThroughCrashes D.Arm.Dir.files store.new now first start }
@@ -322,31 +334,31 @@ fn draw(tables: &mut BTreeMap<Name, Table>, table: &Name, number: u32)
     found.drawn = number;
 }
 
-// Enters a part with the number that its table draws now, where there is room for it.
+// Enters a part with this name, whose number its table draws now, where there is room for it.
 fn enter_part<F: Drop>(
     alloc: Global,
     store: &mut CoreStore<F>,
     table: &Name,
-    number: u32,
+    name: PartName,
     part: Part<F>,
     after: u64,
 )
-    requires fresh { NoneMeets (parts_of store.old.set table.now) (fresh_part number) }
+    requires fresh { NoneMeets (parts_of store.old.set table.now) name }
     requires room { HasRoom store.old.set table.now }
-    ensures added { IsAdded (parts_of store.old.set table.now) (record { name = fresh_part number; part = part }) (parts_of store.new.set table.now) }
+    ensures added { IsAdded (parts_of store.old.set table.now) (record { name = name; part = part }) (parts_of store.new.set table.now) }
     ensures ordered { IsInBlockOrder (parts_of store.new.set table.now) }
     ensures others { (t : List ℕ) → t ≢ table.now → parts_of store.new.set t ≡ parts_of store.old.set t }
     ensures updates { (t : Made) → table_at store.old table.now ≡ Some t
-        → Updates (slice_cmp nat_cmp) store.old.tables store.new.tables table.now (Some (record { schema = t.schema; drawn = number })) }
+        → Updates (slice_cmp nat_cmp) store.old.tables store.new.tables table.now (Some (record { schema = t.schema; drawn = name.max_block })) }
     ensures count { length store.new.tables.entries ≡ length store.old.tables.entries }
     ensures length { store.new.length ≡ after }
     ensures opened { store.new.opened ≡ store.old.opened }
 {
-    match store.set.add(alloc, table, name_of_part(number), part) {
+    match store.set.add(alloc, table, name, part) {
         Ok(()) => {}
         Err(_) => unreachable!(),
     }
-    draw(&mut store.tables, table, number);
+    draw(&mut store.tables, table, name.max_block);
     store.length = after;
 }
 
@@ -366,12 +378,12 @@ pub fn commit_part<D: Disk, A: Annals>(
     block: Block,
 ) -> Result<(), Returned<SealedPart<<D::Arm as Arm>::Stage>>>
     requires there { IsSome (table_at store.old table.now) }
-    requires rows { (t : Made) → table_at store.old table.now ≡ Some t → IsInsertInto t.schema (insert_into table.now block) }
+    requires rows { (t : Made) → table_at store.old table.now ≡ Some t → IsInsertInto t.schema (insert_into table.now (partition_of_block t.schema block) block) }
     requires store { IsSound store.old }
     requires names { NamesFitUnlessRisen (D.failed disk.old) (D.told disk.old) store.old }
     requires opened { store.old.opened ≤ D.failed disk.old }
     requires below { store.old.opened < 2 ^ 64 - 1 }
-    ensures cause { (t : Made) → table_at store.old table.now ≡ Some t → IsCause (refuses_part store.old table.now t.drawn (D.failed disk.old)) (cause_of result) }
+    ensures cause { (t : Made) → table_at store.old table.now ≡ Some t → IsCause (refuses_part store.old table.now (partition_of_block t.schema block) t.drawn (D.failed disk.old)) (cause_of result) }
     ensures rose { IfErr result (λ r. r.cause ≡ Refused.Disk → Rose (D.failed disk.old) (D.failed disk.new)) }
     ensures later { D.failed disk.old ≤ D.failed disk.new }
     ensures back { IfErr result (λ r. IfSome r.back (λ s. s ≡ part)) }
@@ -381,29 +393,30 @@ pub fn commit_part<D: Disk, A: Annals>(
     ensures same { OnErr result (SameStore store.old store.new) }
     ensures annals_err { OnErr result (SameList (A.told annals.old) (A.told annals.new)) }
     ensures list_back { IfErr result (λ r. IfSome r.back (λ _. A.told annals.new ≡ A.told annals.old)) }
-    ensures begun { IfErr result (λ r. IsNone r.back → A.told annals.new ≡ option_map (began (entry_of session (insert_of_block table.now block))) (A.told annals.old)) }
+    ensures begun { (t : Made) → table_at store.old table.now ≡ Some t
+        → IfErr result (λ r. IsNone r.back → A.told annals.new ≡ option_map (began (entry_of session (insert_of_block table.now (partition_of_block t.schema block) block))) (A.told annals.old)) }
     ensures mark_err { OnErr result (D.clock disk.new ≡ D.clock disk.old) }
     ensures mark { OnOk result (D.clock disk.new ≡ D.clock disk.old + 1) }
-    ensures annals { OnOk result (Notes (D.clock disk.new) (entry_of session (insert_of_block table.now block)) (A.told annals.old) (A.told annals.new)) }
+    ensures annals { (t : Made) → table_at store.old table.now ≡ Some t
+        → OnOk result (Notes (D.clock disk.new) (entry_of session (insert_of_block table.now (partition_of_block t.schema block) block)) (A.told annals.old) (A.told annals.new)) }
     ensures published { (t : Made) → table_at store.old table.now ≡ Some t
-        → IfErr result (λ r. IsNone r.back → MayPut (D.clock disk.old) (part_name table.now (part_text (fresh_part (t.drawn + 1)))) part.sealed.files (D.told disk.old) (D.told disk.new)) }
+        → IfErr result (λ r. IsNone r.back → MayPut (D.clock disk.old) (part_name table.now (part_text (fresh_part (partition_of_block t.schema block) (t.drawn + 1)))) part.sealed.files (D.told disk.old) (D.told disk.new)) }
     ensures root { (t : Made) → table_at store.old table.now ≡ Some t
-        → OnOk result (D.told disk.new ≡ put (D.clock disk.old) (part_name table.now (part_text (fresh_part (t.drawn + 1)))) part.sealed.files (D.told disk.old)) }
-    ensures enters { (t : Made) → table_at store.old table.now ≡ Some t → OnOk result (EntersSealed D.Arm.Dir.files part.sealed.files part.loaded table.now t store.old store.new) }
+        → OnOk result (D.told disk.new ≡ put (D.clock disk.old) (part_name table.now (part_text (fresh_part (partition_of_block t.schema block) (t.drawn + 1)))) part.sealed.files (D.told disk.old)) }
+    ensures enters { (t : Made) → table_at store.old table.now ≡ Some t → OnOk result (EntersSealed D.Arm.Dir.files part.sealed.files part.loaded table.now (partition_of_block t.schema block) t store.old store.new) }
     ensures stands { (h : History) (t : Made) → CoreStands D.Arm.Dir.files h store.old → table_at store.old table.now ≡ Some t → IsSealedOf t.schema block part.sealed.files part.loaded
-        → OnOk result (CoreStands D.Arm.Dir.files (entered h session (insert_of_block table.now block)) store.new) }
+        → OnOk result (CoreStands D.Arm.Dir.files (entered h session (insert_of_block table.now (partition_of_block t.schema block) block ∷ [])) store.new) }
     ensures root_stands { (h : History) (t : Made) → CoreStands D.Arm.Dir.files h store.old → RootStands (D.told disk.old) h
         → table_at store.old table.now ≡ Some t → IsSealedOf t.schema block part.sealed.files part.loaded
-        → OnOk result (RootStands (D.told disk.new) (entered h session (insert_of_block table.now block))) }
+        → OnOk result (RootStands (D.told disk.new) (entered h session (insert_of_block table.now (partition_of_block t.schema block) block ∷ []))) }
     ensures images { (h : History) (t : Made) → table_at store.old table.now ≡ Some t → IsSealedOf t.schema block part.sealed.files part.loaded
         → CoreStands D.Arm.Dir.files h store.old → LeavesOne (D.told disk.old) (D.clock disk.old) h
-        → LeavesEither (D.told disk.new) (D.clock disk.new) (D.clock disk.old) h (entered h session (insert_of_block table.now block)) }
+        → LeavesEither (D.told disk.new) (D.clock disk.new) (D.clock disk.old) h (entered h session (insert_of_block table.now (partition_of_block t.schema block) block ∷ [])) }
     ensures images_ok { (h : History) (t : Made) → table_at store.old table.now ≡ Some t → IsSealedOf t.schema block part.sealed.files part.loaded
         → CoreStands D.Arm.Dir.files h store.old → LeavesOne (D.told disk.old) (D.clock disk.old) h
-        → OnOk result (LeavesOne (D.told disk.new) (D.clock disk.new) (entered h session (insert_of_block table.now block))) }
+        → OnOk result (LeavesOne (D.told disk.new) (D.clock disk.new) (entered h session (insert_of_block table.now (partition_of_block t.schema block) block ∷ []))) }
     ensures images_err { (h : History) → LeavesOne (D.told disk.old) (D.clock disk.old) h → IfErr result (λ r. r.cause ≢ Refused.Disk → LeavesOne (D.told disk.new) (D.clock disk.new) h) }
-    ensures through_crashes {
-        let was : Outside = record { disk = D.told disk.old; clock = D.clock disk.old; failed = D.failed disk.old; annals = A.told annals.old } in
+    ensures through_crashes { let was : Outside = record { disk = D.told disk.old; clock = D.clock disk.old; failed = D.failed disk.old; annals = A.told annals.old } in
         let now : Outside = record { disk = D.told disk.new; clock = D.clock disk.new; failed = D.failed disk.new; annals = A.told annals.new } in
         (t : Made) (first : Told) (start : ℕ) → table_at store.old table.now ≡ Some t → IsSealedOf t.schema block part.sealed.files part.loaded
         → KeepsThroughCrashes D.Arm.Dir.files store.old was first start → KeepsThroughCrashes D.Arm.Dir.files store.new now first start }
@@ -413,14 +426,16 @@ pub fn commit_part<D: Disk, A: Annals>(
     ensures names { NamesFitUnlessRisen (D.failed disk.new) (D.told disk.new) store.new }
     ensures opened { store.new.opened ≡ store.old.opened }
 {
-    let drawn = store.tables[table].drawn;
-    if let Some(cause) = refuse_part(store, table, drawn, disk.faults()) {
+    let found = &store.tables[table];
+    let drawn = found.drawn;
+    let partition = block_partition(&found.schema, &block);
+    if let Some(cause) = refuse_part(store, table, partition, drawn, disk.faults()) {
         let back = Some(part);
         return Err(Returned { cause, back });
     }
-    let number = drawn + 1;
+    let fresh = name_of_part(partition, drawn + 1);
     let before = store.length;
-    let ready = match prepare_part(alloc, &mut store.set, annals, table, number, before) {
+    let ready = match prepare_part(alloc, &mut store.set, annals, table, fresh, before) {
         Ok(ready) => ready,
         Err(_) => {
             let back = Some(part);
@@ -435,7 +450,7 @@ pub fn commit_part<D: Disk, A: Annals>(
     } = ready;
     let command = Command::Insert(Insert {
         table: into,
-        partition: Partition::Whole,
+        partition,
         block,
     });
     let SealedPart { sealed, loaded } = part;
@@ -454,6 +469,6 @@ pub fn commit_part<D: Disk, A: Annals>(
         }
     };
     let part = Part::of(dir, loaded);
-    enter_part(alloc, store, table, number, part, length);
+    enter_part(alloc, store, table, fresh, part, length);
     Ok(())
 }

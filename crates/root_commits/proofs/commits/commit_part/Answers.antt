@@ -1,9 +1,15 @@
-use Rattle.std.proofs.Common.{◌≡◌, ◌+◌, ◌<◌, ℕ, List, Option, Some, None, Err, le_refl, refl, sym, ap, ◌∙◌, subst, arith}
+use Rattle.std.proofs.Common.{◌≡◌, ◌+◌, ◌<◌, ℕ, List, [], ◌∷◌, Option, Some, None, Err, le_refl, refl, sym, ap, ap₂, ◌∙◌, subst, arith}
+use Rattle.std.specs.BTreeMap.{Updates}
+use Rattle.std.specs.Cmp.Lexicographic.{slice_cmp}
 use Rattle.std.specs.Option.{ForSome, option_map}
+use Rattle.std.specs.Ordering.{nat_cmp}
+use Rattle.mt_base.specs.declared.partition.Partition.{Partition}
 use Rattle.mt_values.specs.declared.command.Entry.{Entry}
 use Rattle.mt_values.specs.Annals.{Told, began, noted}
+use Rattle.mt_values.specs.Grid.{Grid}
 use Rattle.mt_values.specs.RootNames.{part_name}
 use Rattle.mt_outside.specs.Disk.{MayPut, files_at, names_of, put}
+use Rattle.part_name.specs.declared.part.PartName.{PartName}
 use Rattle.part_name.specs.PartNames.{part_text}
 use Rattle.part_reader.specs.declared.reading.Part.{Part}
 use Rattle.part_set.specs.declared.kept.Kept.{Kept}
@@ -14,7 +20,7 @@ use Rattle.durable_commit.specs.declared.causes.Refused.TheVariants as refused
 use Rattle.root_store.specs.declared.store.CoreStore.{CoreStore}
 use Rattle.root_store.specs.declared.store.Table.{Table}
 use Rattle.durable_commit.specs.Commits.{SameList, entry_of}
-use Rattle.root_commits.specs.Commits.{EntersSealed, IsCause, IsSealedOf, fresh_part, insert_of_block, refuses_part}
+use Rattle.root_commits.specs.Commits.{EntersSealed, IsCause, IsSealedOf, fresh_part, insert_of_block, partition_of_block, refuses_part}
 use Rattle.root_store.specs.Crashes.{Outside, entries_of}
 use Rattle.root_store.specs.Soundness.{NamesFit}
 use Rattle.root_store.specs.Stores.{table_at}
@@ -27,50 +33,66 @@ use Rattle.root_commits.proofs.Holding.{held_added, held_same}
 use Rattle.root_commits.proofs.Inserted.{stands_inserted}
 use Rattle.durable_commit.proofs.WhyRefused.{disk_fault, disk_memory, outside_disk}
 use Rattle.root_commits.proofs.Leaving.{cause_shown, none_shown, shown_number, shown_part_calm, shown_part_other}
+use Rattle.root_commits.proofs.Partitions.{block_may, may_spell}
 use Rattle.root_commits.proofs.Rooted.{root_added}
 use Rattle.root_commits.proofs.Sounding.{names_kept, sound_added, sound_same}
 use Rattle.root_commits.proofs.Updated.{one_some}
 use Rattle.durable_commit.proofs.SameLists.{no_disk, not_none, same_list}
 use Rattle.root_commits.proofs.commits.commit_part.Goals as goal
 
+-- what is shown of a partition that is this one, and the name of a part of it
+shown_part : {F : Type 0} (store : CoreStore F) (table : List ℕ) (p q : Partition) (drawn now : ℕ) (found : Option Refused) → p ≡ q → found ≡ refuses_part store table p drawn now → found ≡ refuses_part store table q drawn now
+shown_part store table p q drawn now found same is = is ∙ ap (λ (x : Partition). refuses_part store table x drawn now) same
+
+fresh_is : (name : PartName) (p q : Partition) (n : ℕ) → p ≡ q → name ≡ fresh_part p n → name ≡ fresh_part q n
+fresh_is name p q n same is = is ∙ ap (λ (x : Partition). fresh_part x n) same
+
+named_is : (table text : List ℕ) (name : PartName) (p q : Partition) (n : ℕ) → p ≡ q → name ≡ fresh_part p n → text ≡ part_name table (part_text name) → text ≡ part_name table (part_text (fresh_part q n))
+named_is table text name p q n same is spelled = spelled ∙ ap (λ (x : PartName). part_name table (part_text x)) (fresh_is name p q n same is)
+
+-- the command has the partition of its block
+begun_is : (table : List ℕ) (into : List ℕ) (p q : Partition) (block : Grid) (session : ℕ) → into ≡ table → p ≡ q → entry_of session (insert_of_block into p block) ≡ entry_of session (insert_of_block table q block)
+begun_is table into p q block session same one = ap₂ (λ (u : List ℕ) (x : Partition). entry_of session (insert_of_block u x block)) same one
+
 pub commit-requires-clause-free : goal.commit-requires-clause-free
 commit-requires-clause-free g c κs within = λ root is.
-    let t : Table = c.index.result.now in
-    let none = none_shown (λ n. refuses_part c.args.store.now c.args.table.now t.drawn n) _ _ _ c.refuse_part.ensures c.faults.ensures c.in_default.is in
-    let still = shown_part_calm c.args.store.now c.args.table.now _ t.drawn none c.requires.opened in
-    let small = shown_number c.args.store.now c.args.table.now _ t.drawn none in
-    ap (λ n. files_at n (names_of root)) c.in-Ok.ensures.name
-    ∙ part_free c.args.store.now root (c.requires.names still root is) c.args.table.now t (fresh_part (t.drawn + 1)) c.index.ensures (fresh_named t.drawn small) (omega arith)
+    let t : Table = c.index-found.result.now in
+    let none = none_shown (λ n. refuses_part c.args.store.now c.args.table.now (partition_of_block t.schema c.args.block) t.drawn n) _ _ _ (shown_part c.args.store.now c.args.table.now _ _ c.index-found.result.now.drawn c.faults.result _ c.block_partition-partition.ensures c.refuse_part.ensures) c.faults.ensures c.in_default.is in
+    let still = shown_part_calm c.args.store.now c.args.table.now _ (partition_of_block t.schema c.args.block) t.drawn none c.requires.opened in
+    let small = shown_number c.args.store.now c.args.table.now _ (partition_of_block t.schema c.args.block) t.drawn none in
+    ap (λ n. files_at n (names_of root)) (named_is c.args.table.now _ _ _ _ _ c.block_partition-partition.ensures c.name_of_part-fresh.ensures c.in-Ok.ensures.name)
+    ∙ part_free c.args.store.now root (c.requires.names still root is) c.args.table.now t (fresh_part (partition_of_block t.schema c.args.block) (t.drawn + 1)) c.index-found.ensures (fresh_named (partition_of_block t.schema c.args.block) t.drawn (may_spell t.schema (partition_of_block t.schema c.args.block) (block_may t.schema c.args.block)) small) (omega arith)
 
 pub enter_part-requires-clause-fresh : goal.enter_part-requires-clause-fresh
 enter_part-requires-clause-fresh g c =
-    let t : Table = c.index.result.now in
-    subst (λ (ks : List (Kept (Part g.row.D-Arm-Dir.Denot))). NoneMeets ks (fresh_part (t.drawn + 1))) (sym (c.in-Ok.ensures.parts c.args.table.now))
-    (none_meets (parts_of c.args.store.now.set c.args.table.now) t.drawn (c.requires.store.tables c.args.table.now t c.index.ensures).ends)
+    let t : Table = c.index-found.result.now in
+    subst (λ (n : PartName). NoneMeets (parts_of c.prepare_part.new.set c.args.table.now) n) (sym (fresh_is _ _ _ _ c.block_partition-partition.ensures c.name_of_part-fresh.ensures)) (subst (λ (ks : List (Kept (Part g.row.D-Arm-Dir.Denot))). NoneMeets ks (fresh_part (partition_of_block t.schema c.args.block) (t.drawn + 1))) (sym (c.in-Ok.ensures.parts c.args.table.now))
+    (none_meets (parts_of c.args.store.now.set c.args.table.now) (partition_of_block t.schema c.args.block) t.drawn (c.requires.store.tables c.args.table.now t c.index-found.ensures).ends))
 
 -- the store shows why
 
 -- what is shown of the table that was read is shown of the one that is there
-shown_of : {F : Type 0} (store : CoreStore F) (table : List ℕ) (count : ℕ) (t u : Table) (cause : Option Refused) → table_at store table ≡ Some t → table_at store table ≡ Some u
-    → IsCause (refuses_part store table t.drawn count) cause → IsCause (refuses_part store table u.drawn count) cause
-shown_of store table count t u cause read at shown = subst (λ (x : Table). IsCause (refuses_part store table x.drawn count) cause) (one_some (table_at store table) t u read at) shown
+shown_of : {F : Type 0} (store : CoreStore F) (table : List ℕ) (block : Grid) (count : ℕ) (t u : Table) (cause : Option Refused) → table_at store table ≡ Some t → table_at store table ≡ Some u
+    → IsCause (refuses_part store table (partition_of_block t.schema block) t.drawn count) cause → IsCause (refuses_part store table (partition_of_block u.schema block) u.drawn count) cause
+shown_of store table block count t u cause read at shown =
+    subst (λ (x : Table). IsCause (refuses_part store table (partition_of_block x.schema block) x.drawn count) cause) (one_some (table_at store table) t u read at) shown
 
 pub returns-in-Some-clause-cause : goal.returns-in-Some-clause-cause
 returns-in-Some-clause-cause g c = λ u at.
-    let t : Table = c.index.result.now in
-    shown_of c.args.store.now c.args.table.now (g.D.Disk.failed c.args.disk.now) t u (Some c.in-Some.cause) c.index.ensures at (cause_shown (λ n. refuses_part c.args.store.now c.args.table.now t.drawn n) _ _ _ c.refuse_part.ensures c.faults.ensures (Some c.in-Some.cause) _ c.in-Some.is refl)
+    let t : Table = c.index-found.result.now in
+    shown_of c.args.store.now c.args.table.now c.args.block (g.D.Disk.failed c.args.disk.now) t u (Some c.in-Some.cause) c.index-found.ensures at (cause_shown (λ n. refuses_part c.args.store.now c.args.table.now (partition_of_block t.schema c.args.block) t.drawn n) _ _ _ (shown_part c.args.store.now c.args.table.now _ _ c.index-found.result.now.drawn c.faults.result _ c.block_partition-partition.ensures c.refuse_part.ensures) c.faults.ensures (Some c.in-Some.cause) _ c.in-Some.is refl)
 
 pub returns-in-Some-clause-rose : goal.returns-in-Some-clause-rose
-returns-in-Some-clause-rose g c = λ disk. absurd (shown_part_other c.args.store.now c.args.table.now c.faults.result c.index.result.now.drawn c.in-Some.cause (sym c.refuse_part.ensures ∙ c.in-Some.is) disk)
+returns-in-Some-clause-rose g c = λ disk. absurd (shown_part_other c.args.store.now c.args.table.now c.faults.result (partition_of_block c.index-found.result.now.schema c.args.block) c.index-found.result.now.drawn c.in-Some.cause (sym (shown_part c.args.store.now c.args.table.now _ _ c.index-found.result.now.drawn c.faults.result _ c.block_partition-partition.ensures c.refuse_part.ensures) ∙ c.in-Some.is) disk)
 
 pub returns-in-Some-clause-faulted : goal.returns-in-Some-clause-faulted
-returns-in-Some-clause-faulted g c = λ disk. absurd (shown_part_other c.args.store.now c.args.table.now c.faults.result c.index.result.now.drawn c.in-Some.cause (sym c.refuse_part.ensures ∙ c.in-Some.is) disk)
+returns-in-Some-clause-faulted g c = λ disk. absurd (shown_part_other c.args.store.now c.args.table.now c.faults.result (partition_of_block c.index-found.result.now.schema c.args.block) c.index-found.result.now.drawn c.in-Some.cause (sym (shown_part c.args.store.now c.args.table.now _ _ c.index-found.result.now.drawn c.faults.result _ c.block_partition-partition.ensures c.refuse_part.ensures) ∙ c.in-Some.is) disk)
 
 -- there was no memory
 pub returns-in-Err-clause-cause : goal.returns-in-Err-clause-cause
 returns-in-Err-clause-cause g c = λ u at.
-    let t : Table = c.index.result.now in
-    shown_of c.args.store.now c.args.table.now (g.D.Disk.failed c.args.disk.now) t u (Some refused.NoMemory) c.index.ensures at (cause_shown (λ n. refuses_part c.args.store.now c.args.table.now t.drawn n) _ _ _ c.refuse_part.ensures c.faults.ensures None _ c.in_default.is tt)
+    let t : Table = c.index-found.result.now in
+    shown_of c.args.store.now c.args.table.now c.args.block (g.D.Disk.failed c.args.disk.now) t u (Some refused.NoMemory) c.index-found.ensures at (cause_shown (λ n. refuses_part c.args.store.now c.args.table.now (partition_of_block t.schema c.args.block) t.drawn n) _ _ _ (shown_part c.args.store.now c.args.table.now _ _ c.index-found.result.now.drawn c.faults.result _ c.block_partition-partition.ensures c.refuse_part.ensures) c.faults.ensures None _ c.in_default.is tt)
 
 pub returns-in-Err-clause-store : goal.returns-in-Err-clause-store
 returns-in-Err-clause-store g c = sound_same c.args.store.now _ (record { tables = refl; parts = c.in-Err.ensures.parts; length_is = refl; opened_is = refl }) c.requires.store
@@ -78,8 +100,8 @@ returns-in-Err-clause-store g c = sound_same c.args.store.now _ (record { tables
 -- it was not committed
 pub returns-in-Err-commit-clause-cause : goal.returns-in-Err-commit-clause-cause
 returns-in-Err-commit-clause-cause g c = λ u at.
-    let t : Table = c.index.result.now in
-    shown_of c.args.store.now c.args.table.now (g.D.Disk.failed c.args.disk.now) t u (Some c.of_disk-cause.result) c.index.ensures at (cause_shown (λ n. refuses_part c.args.store.now c.args.table.now t.drawn n) _ _ _ c.refuse_part.ensures c.faults.ensures None _ c.in_default.is
+    let t : Table = c.index-found.result.now in
+    shown_of c.args.store.now c.args.table.now c.args.block (g.D.Disk.failed c.args.disk.now) t u (Some c.of_disk-cause.result) c.index-found.ensures at (cause_shown (λ n. refuses_part c.args.store.now c.args.table.now (partition_of_block t.schema c.args.block) t.drawn n) _ _ _ (shown_part c.args.store.now c.args.table.now _ _ c.index-found.result.now.drawn c.faults.result _ c.block_partition-partition.ensures c.refuse_part.ensures) c.faults.ensures None _ c.in_default.is
     (outside_disk c.in-Err-commit.error c.of_disk-cause.result c.of_disk-cause.ensures))
 
 pub returns-in-Err-commit-clause-rose : goal.returns-in-Err-commit-clause-rose
@@ -97,28 +119,30 @@ returns-in-Err-commit-clause-store g c = sound_same c.args.store.now _ (record {
 -- it was
 module _ (g : _) (c : goal.After-drop-name-inside-2 g) where
   abbrev t : Table
-  t = c.index.result.now
+  t = c.index-found.result.now
 
-  none : refuses_part c.args.store.now c.args.table.now t.drawn (g.D.Disk.failed c.args.disk.now) ≡ None
-  none = none_shown (λ n. refuses_part c.args.store.now c.args.table.now t.drawn n) _ _ _ c.refuse_part.ensures c.faults.ensures c.in_default.is
+  none : refuses_part c.args.store.now c.args.table.now (partition_of_block t.schema c.args.block) t.drawn (g.D.Disk.failed c.args.disk.now) ≡ None
+  none = none_shown (λ n. refuses_part c.args.store.now c.args.table.now (partition_of_block t.schema c.args.block) t.drawn n) _ _ _ (shown_part c.args.store.now c.args.table.now _ _ c.index-found.result.now.drawn c.faults.result _ c.block_partition-partition.ensures c.refuse_part.ensures) c.faults.ensures c.in_default.is
 
   small : t.drawn < 4294967295
-  small = shown_number c.args.store.now c.args.table.now _ t.drawn none
+  small = shown_number c.args.store.now c.args.table.now _ (partition_of_block t.schema c.args.block) t.drawn none
 
   -- each name of the root is one under the store
   fit : ForSome (g.D.Disk.told c.args.disk.now) (NamesFit c.args.store.now)
-  fit = c.requires.names (shown_part_calm c.args.store.now c.args.table.now _ t.drawn none c.requires.opened)
+  fit = c.requires.names (shown_part_calm c.args.store.now c.args.table.now _ (partition_of_block t.schema c.args.block) t.drawn none c.requires.opened)
 
-  published : g.D.Disk.told c.commit.new.disk ≡ put (g.D.Disk.clock c.args.disk.now) (part_name c.args.table.now (part_text (fresh_part (t.drawn + 1)))) c.args.part.sealed.files (g.D.Disk.told c.args.disk.now)
-  published = c.in-Ok-commit.ensures.disk ∙ ap (λ (n : List ℕ). put (g.D.Disk.clock c.args.disk.now) n c.args.part.sealed.files (g.D.Disk.told c.args.disk.now)) c.in-Ok.ensures.name
+  published : g.D.Disk.told c.commit.new.disk ≡ put (g.D.Disk.clock c.args.disk.now) (part_name c.args.table.now (part_text (fresh_part (partition_of_block t.schema c.args.block) (t.drawn + 1)))) c.args.part.sealed.files (g.D.Disk.told c.args.disk.now)
+  published = c.in-Ok-commit.ensures.disk ∙ ap (λ (n : List ℕ). put (g.D.Disk.clock c.args.disk.now) n c.args.part.sealed.files (g.D.Disk.told c.args.disk.now)) (named_is c.args.table.now _ _ _ _ _ c.block_partition-partition.ensures c.name_of_part-fresh.ensures c.in-Ok.ensures.name)
 
-  added : PartIsAdded c.args.table.now c.of-part.result t c.args.store.now c.enter_part.new.store
+  added : PartIsAdded c.args.table.now (partition_of_block t.schema c.args.block) c.of-part.result t c.args.store.now c.enter_part.new.store
   added = record {
-    there = c.index.ensures;
-    updates = c.enter_part.ensures.updates t c.index.ensures;
+    there = c.index-found.ensures;
+    updates = subst (λ (n : PartName). Updates (slice_cmp nat_cmp) c.args.store.now.tables c.enter_part.new.store.tables c.args.table.now (Some (record { schema = t.schema; drawn = n.max_block }))) (fresh_is _ _ _ _ c.block_partition-partition.ensures c.name_of_part-fresh.ensures)
+        (c.enter_part.ensures.updates t c.index-found.ensures);
     count = c.enter_part.ensures.count;
-    added = subst (λ (ks : List (Kept (Part g.row.D-Arm-Dir.Denot))). IsAdded ks (record { name = fresh_part (t.drawn + 1); part = c.of-part.result }) (parts_of c.enter_part.new.store.set c.args.table.now))
-        (c.in-Ok.ensures.parts c.args.table.now) c.enter_part.ensures.added;
+    added = subst (λ (ks : List (Kept (Part g.row.D-Arm-Dir.Denot))). IsAdded ks (record { name = fresh_part (partition_of_block t.schema c.args.block) (t.drawn + 1); part = c.of-part.result }) (parts_of c.enter_part.new.store.set c.args.table.now))
+        (c.in-Ok.ensures.parts c.args.table.now)
+        (subst (λ (n : PartName). IsAdded (parts_of c.prepare_part.new.set c.args.table.now) (record { name = n; part = c.of-part.result }) (parts_of c.enter_part.new.store.set c.args.table.now)) (fresh_is _ _ _ _ c.block_partition-partition.ensures c.name_of_part-fresh.ensures) c.enter_part.ensures.added);
     ordered = c.enter_part.ensures.ordered;
     others = λ u apart. c.enter_part.ensures.others u apart ∙ c.in-Ok.ensures.parts u;
     length_is = c.enter_part.ensures.length ∙ c.in-Ok.ensures.length;
@@ -126,48 +150,48 @@ module _ (g : _) (c : goal.After-drop-name-inside-2 g) where
   }
 
   -- the part is behind the others
-  sealed : EntersSealed g.D.Arm.Dir.Dir.files c.args.part.sealed.files c.args.part.loaded c.args.table.now t c.args.store.now c.enter_part.new.store
+  sealed : EntersSealed g.D.Arm.Dir.Dir.files c.args.part.sealed.files c.args.part.loaded c.args.table.now (partition_of_block t.schema c.args.block) t c.args.store.now c.enter_part.new.store
   sealed = record {
     part = c.of-part.result;
     files_are = ap g.D.Arm.Dir.Dir.files c.of-part.ensures.dir ∙ c.in-Ok-commit.ensures.dir;
     loaded_is = c.of-part.ensures.loaded;
-    enters = enters_part c.args.table.now c.of-part.result t c.args.store.now c.enter_part.new.store added c.requires.store;
+    enters = enters_part c.args.table.now (partition_of_block t.schema c.args.block) c.of-part.result t c.args.store.now c.enter_part.new.store added (block_may t.schema c.args.block) c.requires.store;
   }
 
   -- the table that is there is the one that was read
   same : (u : Table) → table_at c.args.store.now c.args.table.now ≡ Some u → t ≡ u
-  same u at = one_some (table_at c.args.store.now c.args.table.now) t u c.index.ensures at
+  same u at = one_some (table_at c.args.store.now c.args.table.now) t u c.index-found.ensures at
 
 pub returns-clause-enters : goal.returns-clause-enters
 returns-clause-enters g c = λ u at.
-    subst (λ (x : Table). EntersSealed g.D.Arm.Dir.Dir.files c.args.part.sealed.files c.args.part.loaded c.args.table.now x c.args.store.now c.enter_part.new.store) (same g c u at) (sealed g c)
+    subst (λ (x : Table). EntersSealed g.D.Arm.Dir.Dir.files c.args.part.sealed.files c.args.part.loaded c.args.table.now (partition_of_block x.schema c.args.block) x c.args.store.now c.enter_part.new.store) (same g c u at) (sealed g c)
 
 pub returns-clause-cause : goal.returns-clause-cause
 returns-clause-cause g c = λ u at.
-    let t : Table = c.index.result.now in
-    shown_of c.args.store.now c.args.table.now (g.D.Disk.failed c.args.disk.now) t u None c.index.ensures at (cause_shown (λ n. refuses_part c.args.store.now c.args.table.now t.drawn n) _ _ _ c.refuse_part.ensures c.faults.ensures None _ c.in_default.is tt)
+    let t : Table = c.index-found.result.now in
+    shown_of c.args.store.now c.args.table.now c.args.block (g.D.Disk.failed c.args.disk.now) t u None c.index-found.ensures at (cause_shown (λ n. refuses_part c.args.store.now c.args.table.now (partition_of_block t.schema c.args.block) t.drawn n) _ _ _ (shown_part c.args.store.now c.args.table.now _ _ c.index-found.result.now.drawn c.faults.result _ c.block_partition-partition.ensures c.refuse_part.ensures) c.faults.ensures None _ c.in_default.is tt)
 
 pub returns-clause-stands : goal.returns-clause-stands
 returns-clause-stands g c = λ h u s at is.
-    let t : Table = c.index.result.now in
+    let t : Table = c.index-found.result.now in
     let here : IsSealedOf t.schema c.args.block c.args.part.sealed.files c.args.part.loaded =
     subst (λ (x : Table). IsSealedOf x.schema c.args.block c.args.part.sealed.files c.args.part.loaded) (sym (same g c u at)) is in
     stands_inserted g.D.Arm.Dir.Dir.files h c.args.store.now c.enter_part.new.store c.args.session c.args.table.now t c.args.block c.args.part.sealed.files c.args.part.loaded s
-    (c.requires.rows t c.index.ensures) here (sealed g c)
+    (c.requires.rows t c.index-found.ensures) here (sealed g c)
 
 pub returns-clause-root_stands : goal.returns-clause-root_stands
 returns-clause-root_stands g c = λ h u s stands at is.
-    let t : Table = c.index.result.now in
+    let t : Table = c.index-found.result.now in
     let here : IsSealedOf t.schema c.args.block c.args.part.sealed.files c.args.part.loaded =
     subst (λ (x : Table). IsSealedOf x.schema c.args.block c.args.part.sealed.files c.args.part.loaded) (sym (same g c u at)) is in
     root_added g.D.Arm.Dir.Dir.files c.args.store.now h c.args.session (g.D.Disk.clock c.args.disk.now) (g.D.Disk.told c.args.disk.now) (g.D.Disk.told c.commit.new.disk) s stands (fit g c)
-    c.args.table.now t c.args.block c.args.part.sealed.files c.args.part.loaded c.index.ensures (small g c) (c.requires.rows t c.index.ensures) here (published g c)
+    c.args.table.now t c.args.block c.args.part.sealed.files c.args.part.loaded c.index-found.ensures (small g c) (c.requires.rows t c.index-found.ensures) here (published g c)
 
 pub returns-clause-store : goal.returns-clause-store
-returns-clause-store g c = sound_added _ _ _ _ _ (added g c) c.requires.store
+returns-clause-store g c = sound_added _ _ _ _ _ _ (added g c) (block_may (t g c).schema c.args.block) c.requires.store
 
 pub returns-clause-names : goal.returns-clause-names
-returns-clause-names g c = λ _. added_fits _ _ _ _ _ (added g c) _ _ _ _ (small g c) (fit g c) (published g c)
+returns-clause-names g c = λ _. added_fits _ _ _ _ _ _ (added g c) _ _ _ _ (may_spell (t g c).schema _ (block_may (t g c).schema c.args.block)) (small g c) (fit g c) (published g c)
 
 -- what a crash leaves of the disk
 pub returns-in-Some-clause-images : goal.returns-in-Some-clause-images
@@ -192,14 +216,14 @@ pub returns-in-Err-commit-clause-images : goal.returns-in-Err-commit-clause-imag
 returns-in-Err-commit-clause-images g c = λ h u at is stands one.
     let store = c.args.store.now in
     let table = c.args.table.now in
-    let t : Table = c.index.result.now in
-    let none = none_shown (λ n. refuses_part store table t.drawn n) _ _ _ c.refuse_part.ensures c.faults.ensures c.in_default.is in
-    let same_table : t ≡ u = one_some (table_at store table) t u c.index.ensures at in
+    let t : Table = c.index-found.result.now in
+    let none = none_shown (λ n. refuses_part store table (partition_of_block t.schema c.args.block) t.drawn n) _ _ _ (shown_part c.args.store.now c.args.table.now _ _ c.index-found.result.now.drawn c.faults.result _ c.block_partition-partition.ensures c.refuse_part.ensures) c.faults.ensures c.in_default.is in
+    let same_table : t ≡ u = one_some (table_at store table) t u c.index-found.ensures at in
     let here : IsSealedOf t.schema c.args.block c.args.part.sealed.files c.args.part.loaded = subst (λ (x : Table). IsSealedOf x.schema c.args.block c.args.part.sealed.files c.args.part.loaded) (sym same_table) is in
-    let grows = grows_by_part g.D.Arm.Dir.Dir.files store h c.args.session stands here.files (c.in-Err-commit.ensures.sealed here.files here.sealed_are) table t c.args.block c.index.ensures
-    (shown_number store table _ t.drawn none) (c.requires.rows t c.index.ensures) here.holds in
-    either_failed (g.D.Disk.clock c.args.disk.now) (g.D.Disk.clock c.commit.new.disk) (part_name table (part_text (fresh_part (t.drawn + 1)))) c.args.part.sealed.files here.files here.sealed_are (g.D.Disk.told c.args.disk.now) (g.D.Disk.told c.commit.new.disk) h _ one grows
-    c.in-Err-commit.ensures.mark_err (subst (λ (n : List ℕ). MayPut (g.D.Disk.clock c.args.disk.now) n c.args.part.sealed.files (g.D.Disk.told c.args.disk.now) (g.D.Disk.told c.commit.new.disk)) c.in-Ok.ensures.name c.in-Err-commit.ensures.left)
+    let grows = grows_by_part g.D.Arm.Dir.Dir.files store h c.args.session stands here.files (c.in-Err-commit.ensures.sealed here.files here.sealed_are) table t c.args.block c.index-found.ensures
+    (shown_number store table _ (partition_of_block t.schema c.args.block) t.drawn none) (c.requires.rows t c.index-found.ensures) here.holds in
+    either_failed (g.D.Disk.clock c.args.disk.now) (g.D.Disk.clock c.commit.new.disk) (part_name table (part_text (fresh_part (partition_of_block t.schema c.args.block) (t.drawn + 1)))) c.args.part.sealed.files here.files here.sealed_are (g.D.Disk.told c.args.disk.now) (g.D.Disk.told c.commit.new.disk) h _ one grows
+    c.in-Err-commit.ensures.mark_err (subst (λ (n : List ℕ). MayPut (g.D.Disk.clock c.args.disk.now) n c.args.part.sealed.files (g.D.Disk.told c.args.disk.now) (g.D.Disk.told c.commit.new.disk)) (named_is c.args.table.now _ _ _ _ _ c.block_partition-partition.ensures c.name_of_part-fresh.ensures c.in-Ok.ensures.name) c.in-Err-commit.ensures.left)
 
 pub returns-in-Err-commit-clause-images_ok : goal.returns-in-Err-commit-clause-images_ok
 returns-in-Err-commit-clause-images_ok g c = λ h u at is stands one. tt
@@ -213,24 +237,24 @@ pub returns-clause-images : goal.returns-clause-images
 returns-clause-images g c = λ h u at is stands one.
     let store = c.args.store.now in
     let table = c.args.table.now in
-    let t : Table = c.index.result.now in
+    let t : Table = c.index-found.result.now in
     let same_table : t ≡ u = same g c u at in
     let here : IsSealedOf t.schema c.args.block c.args.part.sealed.files c.args.part.loaded = subst (λ (x : Table). IsSealedOf x.schema c.args.block c.args.part.sealed.files c.args.part.loaded) (sym same_table) is in
-    let grows = grows_by_part g.D.Arm.Dir.Dir.files store h c.args.session stands here.files (c.in-Ok-commit.ensures.sealed here.files here.sealed_are) table t c.args.block c.index.ensures
-    (small g c) (c.requires.rows t c.index.ensures) here.holds in
-    either_committed (g.D.Disk.clock c.args.disk.now) (g.D.Disk.clock c.commit.new.disk) (part_name table (part_text (fresh_part (t.drawn + 1)))) c.args.part.sealed.files here.files here.sealed_are (g.D.Disk.told c.args.disk.now) (g.D.Disk.told c.commit.new.disk) h _ one grows
+    let grows = grows_by_part g.D.Arm.Dir.Dir.files store h c.args.session stands here.files (c.in-Ok-commit.ensures.sealed here.files here.sealed_are) table t c.args.block c.index-found.ensures
+    (small g c) (c.requires.rows t c.index-found.ensures) here.holds in
+    either_committed (g.D.Disk.clock c.args.disk.now) (g.D.Disk.clock c.commit.new.disk) (part_name table (part_text (fresh_part (partition_of_block t.schema c.args.block) (t.drawn + 1)))) c.args.part.sealed.files here.files here.sealed_are (g.D.Disk.told c.args.disk.now) (g.D.Disk.told c.commit.new.disk) h _ one grows
     c.in-Ok-commit.ensures.settled (published g c)
 
 pub returns-clause-images_ok : goal.returns-clause-images_ok
 returns-clause-images_ok g c = λ h u at is stands one.
     let store = c.args.store.now in
     let table = c.args.table.now in
-    let t : Table = c.index.result.now in
+    let t : Table = c.index-found.result.now in
     let same_table : t ≡ u = same g c u at in
     let here : IsSealedOf t.schema c.args.block c.args.part.sealed.files c.args.part.loaded = subst (λ (x : Table). IsSealedOf x.schema c.args.block c.args.part.sealed.files c.args.part.loaded) (sym same_table) is in
-    let grows = grows_by_part g.D.Arm.Dir.Dir.files store h c.args.session stands here.files (c.in-Ok-commit.ensures.sealed here.files here.sealed_are) table t c.args.block c.index.ensures
-    (small g c) (c.requires.rows t c.index.ensures) here.holds in
-    one_committed (g.D.Disk.clock c.args.disk.now) (g.D.Disk.clock c.commit.new.disk) (part_name table (part_text (fresh_part (t.drawn + 1)))) c.args.part.sealed.files here.files here.sealed_are (g.D.Disk.told c.args.disk.now) (g.D.Disk.told c.commit.new.disk) h _ one grows
+    let grows = grows_by_part g.D.Arm.Dir.Dir.files store h c.args.session stands here.files (c.in-Ok-commit.ensures.sealed here.files here.sealed_are) table t c.args.block c.index-found.ensures
+    (small g c) (c.requires.rows t c.index-found.ensures) here.holds in
+    one_committed (g.D.Disk.clock c.args.disk.now) (g.D.Disk.clock c.commit.new.disk) (part_name table (part_text (fresh_part (partition_of_block t.schema c.args.block) (t.drawn + 1)))) c.args.part.sealed.files here.files here.sealed_are (g.D.Disk.told c.args.disk.now) (g.D.Disk.told c.commit.new.disk) h _ one grows
     c.in-Ok-commit.ensures.settled (published g c)
 
 pub returns-clause-images_err : goal.returns-clause-images_err
@@ -250,44 +274,44 @@ pub returns-in-Err-commit-clause-through_crashes : goal.returns-in-Err-commit-cl
 returns-in-Err-commit-clause-through_crashes g c = λ u first start at is keeps.
     let store = c.args.store.now in
     let table = c.args.table.now in
-    let t : Table = c.index.result.now in
-    let none = none_shown (λ n. refuses_part store table t.drawn n) _ _ _ c.refuse_part.ensures c.faults.ensures c.in_default.is in
-    let same_table : t ≡ u = one_some (table_at store table) t u c.index.ensures at in
+    let t : Table = c.index-found.result.now in
+    let none = none_shown (λ n. refuses_part store table (partition_of_block t.schema c.args.block) t.drawn n) _ _ _ (shown_part c.args.store.now c.args.table.now _ _ c.index-found.result.now.drawn c.faults.result _ c.block_partition-partition.ensures c.refuse_part.ensures) c.faults.ensures c.in_default.is in
+    let same_table : t ≡ u = one_some (table_at store table) t u c.index-found.ensures at in
     let here : IsSealedOf t.schema c.args.block c.args.part.sealed.files c.args.part.loaded = subst (λ (x : Table). IsSealedOf x.schema c.args.block c.args.part.sealed.files c.args.part.loaded) (sym same_table) is in
-    let calm = keeps.calm (shown_part_calm store table _ t.drawn none c.requires.opened) in
-    let e : Entry = entry_of c.args.session (insert_of_block table c.args.block) in
+    let calm = keeps.calm (shown_part_calm store table _ (partition_of_block t.schema c.args.block) t.drawn none c.requires.opened) in
+    let e : Entry = entry_of c.args.session (insert_of_block table (partition_of_block t.schema c.args.block) c.args.block) in
     let begun =
     c.in-Err-commit.ensures.begun
-    ∙ (ap (λ (u : List ℕ). option_map (began (entry_of c.args.session (insert_of_block u c.args.block))) (g.A.Annals.told c.prepare_part.new.annals)) c.in-Ok.ensures.table ∙ ap (option_map (began e)) c.in-Ok.ensures.told) in
+    ∙ (ap (λ (x : Entry). option_map (began x) (g.A.Annals.told c.prepare_part.new.annals)) (begun_is table _ _ _ c.args.block c.args.session c.in-Ok.ensures.table c.block_partition-partition.ensures) ∙ ap (option_map (began e)) c.in-Ok.ensures.told) in
     let unless = unrisen c.of_disk-cause.result store.opened (g.D.Disk.failed c.args.disk.now) (g.D.Disk.failed c.commit.new.disk) (g.D.Disk.told c.args.disk.now) (g.D.Disk.told c.commit.new.disk)
     c.requires.opened c.requires.below c.in-Err-commit.ensures.cause.later
     (λ disk. c.in-Err-commit.ensures.cause.failed (ap Err (disk_fault c.in-Err-commit.error c.of_disk-cause.result c.of_disk-cause.ensures disk)))
     (λ other. c.in-Err-commit.ensures.memory (ap Err (disk_memory c.in-Err-commit.error c.of_disk-cause.result c.of_disk-cause.ensures other))) in
     let was : Outside = record { disk = g.D.Disk.told c.args.disk.now; clock = g.D.Disk.clock c.args.disk.now; failed = g.D.Disk.failed c.args.disk.now; annals = g.A.Annals.told c.args.annals.now } in
     let now : Outside = record { disk = g.D.Disk.told c.commit.new.disk; clock = g.D.Disk.clock c.commit.new.disk; failed = g.D.Disk.failed c.commit.new.disk; annals = g.A.Annals.told c.commit.new.annals } in
-    kept_failed g.D.Arm.Dir.Dir.files store _ first start was now (part_name table (part_text (fresh_part (t.drawn + 1)))) c.args.part.sealed.files here.files e here.sealed_are calm.0
-    (grows_by_part g.D.Arm.Dir.Dir.files store (entries_of calm.0.kept.list) c.args.session (calm.1 calm.0.kept calm.0.annals_is) here.files (c.in-Err-commit.ensures.sealed here.files here.sealed_are) table t c.args.block c.index.ensures
-    (shown_number store table _ t.drawn none) (c.requires.rows t c.index.ensures) here.holds)
-    c.in-Err-commit.ensures.mark_err (subst (λ (n : List ℕ). MayPut (g.D.Disk.clock c.args.disk.now) n c.args.part.sealed.files (g.D.Disk.told c.args.disk.now) (g.D.Disk.told c.commit.new.disk)) c.in-Ok.ensures.name c.in-Err-commit.ensures.left) begun (record { tables = refl; parts = c.in-Ok.ensures.parts; length_is = refl; opened_is = refl }) calm.1 unless
+    kept_failed g.D.Arm.Dir.Dir.files store _ first start was now (part_name table (part_text (fresh_part (partition_of_block t.schema c.args.block) (t.drawn + 1)))) c.args.part.sealed.files here.files e here.sealed_are calm.0
+    (grows_by_part g.D.Arm.Dir.Dir.files store (entries_of calm.0.kept.list) c.args.session (calm.1 calm.0.kept calm.0.annals_is) here.files (c.in-Err-commit.ensures.sealed here.files here.sealed_are) table t c.args.block c.index-found.ensures
+    (shown_number store table _ (partition_of_block t.schema c.args.block) t.drawn none) (c.requires.rows t c.index-found.ensures) here.holds)
+    c.in-Err-commit.ensures.mark_err (subst (λ (n : List ℕ). MayPut (g.D.Disk.clock c.args.disk.now) n c.args.part.sealed.files (g.D.Disk.told c.args.disk.now) (g.D.Disk.told c.commit.new.disk)) (named_is c.args.table.now _ _ _ _ _ c.block_partition-partition.ensures c.name_of_part-fresh.ensures c.in-Ok.ensures.name) c.in-Err-commit.ensures.left) begun (record { tables = refl; parts = c.in-Ok.ensures.parts; length_is = refl; opened_is = refl }) calm.1 unless
 
 pub returns-clause-through_crashes : goal.returns-clause-through_crashes
 returns-clause-through_crashes g c = λ u first start at is keeps.
     let store = c.args.store.now in
     let table = c.args.table.now in
-    let t : Table = c.index.result.now in
+    let t : Table = c.index-found.result.now in
     let same_table : t ≡ u = same g c u at in
     let here : IsSealedOf t.schema c.args.block c.args.part.sealed.files c.args.part.loaded = subst (λ (x : Table). IsSealedOf x.schema c.args.block c.args.part.sealed.files c.args.part.loaded) (sym same_table) is in
-    let calm = keeps.calm (shown_part_calm store table _ t.drawn (none g c) c.requires.opened) in
-    let e : Entry = entry_of c.args.session (insert_of_block table c.args.block) in
+    let calm = keeps.calm (shown_part_calm store table _ (partition_of_block t.schema c.args.block) t.drawn (none g c) c.requires.opened) in
+    let e : Entry = entry_of c.args.session (insert_of_block table (partition_of_block t.schema c.args.block) c.args.block) in
     let mark = g.D.Disk.clock c.commit.new.disk in
     let notes : g.A.Annals.told c.commit.new.annals ≡ option_map (λ (x : Told). noted mark (began e x)) (g.A.Annals.told c.args.annals.now) =
     c.in-Ok-commit.ensures.annals
-    ∙ (ap (λ (u : List ℕ). option_map (λ (y : Told). noted mark (began (entry_of c.args.session (insert_of_block u c.args.block)) y)) (g.A.Annals.told c.prepare_part.new.annals)) c.in-Ok.ensures.table ∙ ap (option_map (λ (y : Told). noted mark (began e y))) c.in-Ok.ensures.told) in
+    ∙ (ap (λ (x : Entry). option_map (λ (y : Told). noted mark (began x y)) (g.A.Annals.told c.prepare_part.new.annals)) (begun_is table _ _ _ c.args.block c.args.session c.in-Ok.ensures.table c.block_partition-partition.ensures) ∙ ap (option_map (λ (y : Told). noted mark (began e y))) c.in-Ok.ensures.told) in
     let was : Outside = record { disk = g.D.Disk.told c.args.disk.now; clock = g.D.Disk.clock c.args.disk.now; failed = g.D.Disk.failed c.args.disk.now; annals = g.A.Annals.told c.args.annals.now } in
     let now : Outside = record { disk = g.D.Disk.told c.commit.new.disk; clock = g.D.Disk.clock c.commit.new.disk; failed = g.D.Disk.failed c.commit.new.disk; annals = g.A.Annals.told c.commit.new.annals } in
-    kept_committed g.D.Arm.Dir.Dir.files store _ first start was now (part_name table (part_text (fresh_part (t.drawn + 1)))) c.args.part.sealed.files here.files e here.sealed_are calm.0
-    (grows_by_part g.D.Arm.Dir.Dir.files store (entries_of calm.0.kept.list) c.args.session (calm.1 calm.0.kept calm.0.annals_is) here.files (c.in-Ok-commit.ensures.sealed here.files here.sealed_are) table t c.args.block c.index.ensures
-    (small g c) (c.requires.rows t c.index.ensures) here.holds)
+    kept_committed g.D.Arm.Dir.Dir.files store _ first start was now (part_name table (part_text (fresh_part (partition_of_block t.schema c.args.block) (t.drawn + 1)))) c.args.part.sealed.files here.files e here.sealed_are calm.0
+    (grows_by_part g.D.Arm.Dir.Dir.files store (entries_of calm.0.kept.list) c.args.session (calm.1 calm.0.kept calm.0.annals_is) here.files (c.in-Ok-commit.ensures.sealed here.files here.sealed_are) table t c.args.block c.index-found.ensures
+    (small g c) (c.requires.rows t c.index-found.ensures) here.holds)
     c.in-Ok-commit.ensures.settled (published g c) notes (returns-clause-stands g c (entries_of calm.0.kept.list) u (calm.1 calm.0.kept calm.0.annals_is) at is)
 
 -- the parts hold rows
@@ -303,7 +327,7 @@ returns-in-Err-commit-clause-held g c = λ u at is held.
 
 pub returns-clause-held : goal.returns-clause-held
 returns-clause-held g c = λ u at is held.
-    let t : Table = c.index.result.now in
+    let t : Table = c.index-found.result.now in
     let here : IsSealedOf t.schema c.args.block c.args.part.sealed.files c.args.part.loaded = subst (λ (x : Table). IsSealedOf x.schema c.args.block c.args.part.sealed.files c.args.part.loaded) (sym (same g c u at)) is in
     held_added g.D.Arm.Dir.Dir.files c.args.store.now c.enter_part.new.store c.args.table.now t c.args.block c.args.part.sealed.files c.args.part.loaded here (sealed g c) held
 
@@ -327,7 +351,7 @@ pub returns-in-Some-clause-list_back : goal.returns-in-Some-clause-list_back
 returns-in-Some-clause-list_back g c = refl
 
 pub returns-in-Some-clause-begun : goal.returns-in-Some-clause-begun
-returns-in-Some-clause-begun g c = λ none. absurd (not_none none)
+returns-in-Some-clause-begun g c = λ t at none. absurd (not_none none)
 
 pub returns-in-Some-clause-mark_err : goal.returns-in-Some-clause-mark_err
 returns-in-Some-clause-mark_err g c = refl
@@ -336,7 +360,7 @@ pub returns-in-Some-clause-mark : goal.returns-in-Some-clause-mark
 returns-in-Some-clause-mark g c = tt
 
 pub returns-in-Some-clause-annals : goal.returns-in-Some-clause-annals
-returns-in-Some-clause-annals g c = tt
+returns-in-Some-clause-annals g c = λ t at. tt
 
 pub returns-in-Some-clause-unchanged : goal.returns-in-Some-clause-unchanged
 returns-in-Some-clause-unchanged g c = λ other. refl
@@ -387,7 +411,7 @@ pub returns-in-Err-clause-list_back : goal.returns-in-Err-clause-list_back
 returns-in-Err-clause-list_back g c = c.in-Err.ensures.told
 
 pub returns-in-Err-clause-begun : goal.returns-in-Err-clause-begun
-returns-in-Err-clause-begun g c = λ none. absurd (not_none none)
+returns-in-Err-clause-begun g c = λ t at none. absurd (not_none none)
 
 pub returns-in-Err-clause-mark_err : goal.returns-in-Err-clause-mark_err
 returns-in-Err-clause-mark_err g c = refl
@@ -396,7 +420,7 @@ pub returns-in-Err-clause-mark : goal.returns-in-Err-clause-mark
 returns-in-Err-clause-mark g c = tt
 
 pub returns-in-Err-clause-annals : goal.returns-in-Err-clause-annals
-returns-in-Err-clause-annals g c = tt
+returns-in-Err-clause-annals g c = λ t at. tt
 
 pub returns-in-Err-clause-unchanged : goal.returns-in-Err-clause-unchanged
 returns-in-Err-clause-unchanged g c = λ other. refl
@@ -460,7 +484,7 @@ pub returns-in-Err-commit-clause-mark : goal.returns-in-Err-commit-clause-mark
 returns-in-Err-commit-clause-mark g c = tt
 
 pub returns-in-Err-commit-clause-annals : goal.returns-in-Err-commit-clause-annals
-returns-in-Err-commit-clause-annals g c = tt
+returns-in-Err-commit-clause-annals g c = λ t at. tt
 
 pub returns-in-Err-commit-clause-enters : goal.returns-in-Err-commit-clause-enters
 returns-in-Err-commit-clause-enters g c = λ t at. tt
@@ -502,7 +526,7 @@ pub returns-clause-list_back : goal.returns-clause-list_back
 returns-clause-list_back g c = tt
 
 pub returns-clause-begun : goal.returns-clause-begun
-returns-clause-begun g c = tt
+returns-clause-begun g c = λ t at. tt
 
 pub returns-clause-mark_err : goal.returns-clause-mark_err
 returns-clause-mark_err g c = tt
