@@ -1,7 +1,8 @@
 -- One more table.
-use Rattle.std.proofs.Common.{◌≡◌, ℕ, ◌+◌, ◌-◌, ◌<◌, ◌≤◌, ◌^◌, Bool, true, false, cond, List, [], ◌∷◌, ◌++◌, length, take, refl, sym, ap, ◌∙◌, arith, Option, Some, None, Ok, is_some, nat_lt, codes, Result, inl}
+use Rattle.std.proofs.Common.{◌≡◌, ℕ, ◌+◌, ◌<◌, ◌≤◌, ◌^◌, Bool, true, false, cond, List, [], ◌∷◌, ◌++◌, length, refl, sym, ap, ◌∙◌, arith, Option, Some, None, Ok, is_some, nat_lt, codes, Result}
 use Rattle.std.specs.Result.{result_ok}
 use Rattle.std.proofs.lemmas.Bool.Decides.{nat_tests}
+use Rattle.mt_values.specs.declared.command.Command.{Command}
 use Rattle.mt_values.specs.declared.command.Command.TheVariants as command
 use Rattle.mt_values.specs.declared.schema.Schema.{Schema}
 use Rattle.mt_values.specs.declared.statement.Cause.{Cause}
@@ -15,19 +16,20 @@ use Rattle.mt_outside.specs.Disk as root
 use Rattle.mt_outside.specs.Files.{Files}
 use Rattle.mt_model.specs.declared.refusal.Bound.TheVariants as bound
 use Rattle.mt_model.specs.declared.refusal.Refusal.TheVariants as refusal
+use Rattle.mt_model.specs.Commands.{commands_of, create_commands}
 use Rattle.mt_model.specs.History.{History, schema_of, creates}
 use Rattle.mt_model.specs.Reply.{schema_of_text, create_turn, ok_line}
 use Rattle.mt_model.specs.Written.{IsCreateText}
 use Rattle.mt_model.proofs.Tables.{itself_same}
 use Rattle.root_store.specs.declared.store.CoreStore.{CoreStore}
-use Rattle.durable_commit.specs.Commits.{Notes}
+use Rattle.durable_commit.specs.Commits.{Notes, entry_of}
 use Rattle.root_store.specs.Entries.{EntryHolds, schema_by_items, schema_of_entry}
 use Rattle.root_store.specs.Soundness.{RootStands}
 use Rattle.root_store.specs.Stores.{CoreStands}
-use Rattle.command_turn.specs.Answers.{Accepts}
+use Rattle.command_turn.specs.Answers.{Answered}
 use Rattle.reply_lines.specs.Foreseen.{history}
 use Rattle.statement_work.specs.Staged.{entry_files}
-use Rattle.command_turn.proofs.Accepting.{entry_of, accepts_command}
+use Rattle.command_turn.proofs.Accepting.{accepted_one, accepts_command}
 use Rattle.reply_lines.proofs.Ends.{length_history}
 
 -- what refuses a CREATE at its turn
@@ -62,20 +64,23 @@ module _ (c : CreateText) (schema : Schema) (is : IsCreateText c) (text : schema
   pub entry_holds : length c.text < 2 ^ 32 → EntryHolds c.table schema (entry_files c.text)
   entry_holds few = record { text = c.text; few = few; bytes = refl; reads = reads }
 
--- an accepted CREATE
-pub created_accepts : {F : Type 0} (files_of : F → Option Files) (text : CreateText) (schema : Schema) (kept : Told) (mark opened disk arm place : ℕ) (new : CoreStore F) (reply : List ℕ) (old told : Option Told) (root_before now_root : Option root.Told)
-    → place ≡ length (history kept) → schema_of_text text ≡ Ok schema → create_turn text.table (history kept) ≡ None → old ≡ Some kept
-    → Notes mark (entry_of (command.Create (record { table = text.table; schema = schema }))) old told
-    → CoreStands files_of (history kept ++ entry_of (command.Create (record { table = text.table; schema = schema })) ∷ []) new
-    → reply ≡ ok_line (place + 1)
-    → (RootStands root_before (history kept) → RootStands now_root (history kept ++ entry_of (command.Create (record { table = text.table; schema = schema })) ∷ []))
-    → Accepts files_of kept (Ok (statement.Create text)) opened disk arm reply new told root_before now_root
-created_accepts files_of text schema kept mark opened disk arm place new reply old told root_before now_root at is turn was notes stands ok settled =
-    let c = command.Create (record { table = text.table; schema = schema }) in
-    let length_kept : place ≡ length kept.list = at ∙ length_history kept in
-    accepts_command mark c kept files_of (Ok (statement.Create text)) opened disk arm reply new old told root_before now_root was notes stands
-    (λ n now m front added at_m.
-    let back : m + 1 - 1 ≡ m = omega arith in
-    let turned : create_turn text.table (take (m + 1 - 1) now) ≡ None = ap (λ k. create_turn text.table (take k now)) back ∙ (ap (create_turn text.table) front ∙ turn) in
-    inl (ok ∙ ap (λ k. ok_line (k + 1)) (length_kept ∙ sym at_m), record { schema = schema; written = is; turn = turned; adds = added }))
-    settled
+-- the command that a CREATE gives
+module _ (text : CreateText) (schema : Schema) (says : schema_of_text text ≡ Ok schema) where
+  abbrev pub created : Command
+  created = command.Create (record { table = text.table; schema = schema })
+
+  pub create_gives : (h : History) → commands_of h (statement.Create text) ≡ Ok (created ∷ [])
+  create_gives h = ap (create_commands text.table) says
+
+  -- a CREATE that is accepted
+  pub created_accepts : {F : Type 0} (files_of : F → Option Files) (kept : Told) (mark opened disk arm place : ℕ) (new : CoreStore F) (reply : List ℕ) (old told : Option Told) (root_before now_root : Option root.Told)
+      → place ≡ length (history kept) → create_turn text.table (history kept) ≡ None → old ≡ Some kept
+      → Notes mark (entry_of 0 created) old told → CoreStands files_of (history kept ++ entry_of 0 created ∷ []) new → reply ≡ ok_line (place + 1)
+      → (RootStands root_before (history kept) → RootStands now_root (history kept ++ entry_of 0 created ∷ []))
+      → Answered files_of kept (Ok (statement.Create text)) opened disk arm reply new told root_before now_root
+  created_accepts files_of kept mark opened disk arm place new reply old told root_before now_root at turn was notes stands ok settled =
+      let length_kept : place ≡ length kept.list = at ∙ length_history kept in
+      accepts_command mark created kept files_of (Ok (statement.Create text)) opened disk arm reply new old told root_before now_root was notes stands
+      (λ n now m front added at_m.
+      accepted_one n now (history kept) (statement.Create text) created m reply front (create_gives (history kept)) turn added (ok ∙ ap (λ k. ok_line (k + 1)) (length_kept ∙ sym at_m)))
+      settled

@@ -9,20 +9,21 @@ use Rattle.durable_commit.specs.declared.causes.Limit.TheVariants as limit
 use Rattle.durable_commit.specs.declared.causes.Refused.{Refused}
 use Rattle.durable_commit.specs.declared.causes.Refused.TheVariants as refused
 
--- what a command on a table is refused for where it was not committed; nothing for want of memory
-abbrev pub refusal_of_commit : List ℕ → Refused → Option Refusal
-refusal_of_commit table refused.NoMemory = None
-refusal_of_commit table refused.Disk = Some (refusal.Unsettled 0)
-refusal_of_commit table (refused.Stopped opened now) = Some (refusal.Stopped opened now 0)
-refusal_of_commit table refused.Exists = Some (refusal.TableExists table)
-refusal_of_commit table (refused.Limit limit.Tables) = Some (refusal.Past bound.Tables)
-refusal_of_commit table (refused.Limit limit.Parts) = Some (refusal.Full room.Parts 0)
-refusal_of_commit table (refused.Limit limit.Numbers) = Some (refusal.Full room.Numbers 0)
+-- what a command on a table is refused for where it was not committed, after some of its statement's commands were accepted; nothing for want
+-- of memory
+abbrev pub refusal_of_commit : ℕ → List ℕ → Refused → Option Refusal
+refusal_of_commit accepted table refused.NoMemory = None
+refusal_of_commit accepted table refused.Disk = Some (refusal.Unsettled accepted)
+refusal_of_commit accepted table (refused.Stopped opened now) = Some (refusal.Stopped opened now accepted)
+refusal_of_commit accepted table refused.Exists = Some (refusal.TableExists table)
+refusal_of_commit accepted table (refused.Limit limit.Tables) = Some (refusal.Past bound.Tables)
+refusal_of_commit accepted table (refused.Limit limit.Parts) = Some (refusal.Full room.Parts accepted)
+refusal_of_commit accepted table (refused.Limit limit.Numbers) = Some (refusal.Full room.Numbers accepted)
 
 abbrev pub IsLineFor : Option Refusal → List ℕ → Type 0
 IsLineFor None line = ⊥
 IsLineFor (Some why) line = line ≡ refusal_line why
 
 -- the reply where a command on a table was not committed; there is none for want of memory
-abbrev pub IsLineOf : List ℕ → Refused → List ℕ → Type 0
-IsLineOf table cause line = IsLineFor (refusal_of_commit table cause) line
+abbrev pub IsLineOf : ℕ → List ℕ → Refused → List ℕ → Type 0
+IsLineOf accepted table cause line = IsLineFor (refusal_of_commit accepted table cause) line

@@ -7,11 +7,12 @@ ghost use Rattle.mt_model.specs.Written.{IsCreateText};
 ghost use Rattle.root_store.specs.Crashes.{KeepsThroughCrashes, Outside};
 ghost use Rattle.root_store.specs.Soundness.{HasSoundParts, IsSound, NamesFitUnlessRisen};
 ghost use Rattle.root_store.specs.Stores.{CoreStands};
-ghost use Rattle.command_turn.specs.Answers.{Answers};
+ghost use Rattle.command_turn.specs.Answers.{AcceptsNothing, Answers};
 ghost use Rattle.command_turn.specs.Gains.{Gains};
+ghost use Rattle.reply_lines.specs.Causes.{HasCauses};
 ghost use Rattle.reply_lines.specs.Foreseen.{history};
 
-use crate::stopped::refused_line;
+use crate::stopped::{ACCEPTED_BEFORE, refused_line};
 use mt_base::{NoMemory, Twin};
 use mt_model::{refusal_line, resolve};
 use mt_outside::{Arm, Disk};
@@ -41,8 +42,9 @@ pub fn create<D: Disk, A: Annals>(
     ensures answers { (kept : Told) → A.told annals.old ≡ Some kept → D.Arm.tells arm.old ≡ true → CoreStands D.Arm.Dir.files (history kept) store.old
         → Answers D.Arm.Dir.files kept (Ok (statement.Create text.now)) store.old.opened (D.failed disk.new) (D.Arm.failed arm.new) result store.new (A.told annals.new) (D.told disk.old) (D.told disk.new) }
     ensures gains { Gains (Ok (statement.Create text.now)) (D.failed disk.old) store.old (A.told annals.old) (A.told annals.new) }
-    ensures through_crashes {
-        let was : Outside = record { disk = D.told disk.old; clock = D.clock disk.old; failed = D.failed disk.old; annals = A.told annals.old } in
+    ensures causes { IfOk result (λ reply. HasCauses store.old.opened (D.failed disk.old) (D.failed disk.new) (D.Arm.failed arm.old) (D.Arm.failed arm.new) reply.items) }
+    ensures stopped { store.old.opened < D.failed disk.old → AcceptsNothing store.old store.new disk.old disk.new (A.told annals.old) (A.told annals.new) }
+    ensures through_crashes { let was : Outside = record { disk = D.told disk.old; clock = D.clock disk.old; failed = D.failed disk.old; annals = A.told annals.old } in
         let now : Outside = record { disk = D.told disk.new; clock = D.clock disk.new; failed = D.failed disk.new; annals = A.told annals.new } in
         (first : Told) (start : ℕ) → D.Arm.tells arm.old ≡ true
         → KeepsThroughCrashes D.Arm.Dir.files store.old was first start → KeepsThroughCrashes D.Arm.Dir.files store.new now first start }
@@ -60,7 +62,7 @@ pub fn create<D: Disk, A: Annals>(
         Ok(schema) => schema,
         Err(refusal) => return refusal_line(alloc, &refusal),
     };
-    let replies = replies_behind(alloc, store.length)?;
+    let replies = replies_behind(alloc, store.length, ACCEPTED_BEFORE)?;
     let table = text.table.twin(alloc)?;
     let sealed = match seal_entry(alloc, arm, text.text.as_slice()) {
         Ok(sealed) => sealed,
@@ -71,7 +73,13 @@ pub fn create<D: Disk, A: Annals>(
         Ok(()) => Ok(replies.accepted),
         Err(returned) => {
             give_back(arm, returned.back);
-            refused_line(alloc, &text.table, returned.cause, replies.unsettled)
+            refused_line(
+                alloc,
+                ACCEPTED_BEFORE,
+                &text.table,
+                returned.cause,
+                replies.unsettled,
+            )
         }
     }
 }

@@ -10,11 +10,12 @@ ghost use Rattle.root_commits.specs.Commits.{IsSealedOf};
 ghost use Rattle.root_store.specs.Crashes.{KeepsThroughCrashes, Outside};
 ghost use Rattle.root_store.specs.Soundness.{HasSoundParts, IsSound, NamesFitUnlessRisen};
 ghost use Rattle.root_store.specs.Stores.{CoreStands};
-ghost use Rattle.command_turn.specs.Answers.{Answers};
+ghost use Rattle.command_turn.specs.Answers.{AcceptsNothing, Answers};
 ghost use Rattle.command_turn.specs.Gains.{Gains};
+ghost use Rattle.reply_lines.specs.Causes.{HasCauses};
 ghost use Rattle.reply_lines.specs.Foreseen.{history};
 
-use crate::stopped::refused_line;
+use crate::stopped::{ACCEPTED_BEFORE, refused_line};
 use mt_base::NoMemory;
 use mt_model::ok_line;
 use mt_outside::{Arm, Disk, DiskError};
@@ -68,8 +69,9 @@ pub fn insert<D: Disk, A: Annals>(
     ensures answers { (kept : Told) → A.told annals.old ≡ Some kept → D.Arm.tells arm.old ≡ true → CoreStands D.Arm.Dir.files (history kept) store.old
         → Answers D.Arm.Dir.files kept (Ok (statement.Insert text.now)) store.old.opened (D.failed disk.new) (D.Arm.failed arm.new) result store.new (A.told annals.new) (D.told disk.old) (D.told disk.new) }
     ensures gains { Gains (Ok (statement.Insert text.now)) (D.failed disk.old) store.old (A.told annals.old) (A.told annals.new) }
-    ensures through_crashes {
-        let was : Outside = record { disk = D.told disk.old; clock = D.clock disk.old; failed = D.failed disk.old; annals = A.told annals.old } in
+    ensures causes { IfOk result (λ reply. HasCauses store.old.opened (D.failed disk.old) (D.failed disk.new) (D.Arm.failed arm.old) (D.Arm.failed arm.new) reply.items) }
+    ensures stopped { store.old.opened < D.failed disk.old → AcceptsNothing store.old store.new disk.old disk.new (A.told annals.old) (A.told annals.new) }
+    ensures through_crashes { let was : Outside = record { disk = D.told disk.old; clock = D.clock disk.old; failed = D.failed disk.old; annals = A.told annals.old } in
         let now : Outside = record { disk = D.told disk.new; clock = D.clock disk.new; failed = D.failed disk.new; annals = A.told annals.new } in
         (first : Told) (start : ℕ) → D.Arm.tells arm.old ≡ true
         → KeepsThroughCrashes D.Arm.Dir.files store.old was first start → KeepsThroughCrashes D.Arm.Dir.files store.new now first start }
@@ -93,7 +95,7 @@ pub fn insert<D: Disk, A: Annals>(
     if block.is_empty() {
         return ok_line(alloc, store.length);
     }
-    let replies = replies_behind(alloc, store.length)?;
+    let replies = replies_behind(alloc, store.length, ACCEPTED_BEFORE)?;
     let part = match seal_block(alloc, arm, &found.schema, &block) {
         Ok(part) => part,
         Err(error) => return stage_line(alloc, error),
@@ -102,7 +104,13 @@ pub fn insert<D: Disk, A: Annals>(
         Ok(()) => Ok(replies.accepted),
         Err(returned) => {
             give_back(arm, returned.back.map(|part| part.sealed));
-            refused_line(alloc, &text.table, returned.cause, replies.unsettled)
+            refused_line(
+                alloc,
+                ACCEPTED_BEFORE,
+                &text.table,
+                returned.cause,
+                replies.unsettled,
+            )
         }
     }
 }

@@ -10,13 +10,20 @@ use mt_model::{Bound, Refusal, Room, refusal_line};
 use mt_values::Name;
 use std::alloc::Global;
 
-/// Why a command on a table was not committed, as a refusal. None for want of memory.
+/// How many of a statement's commands are accepted before the one that it runs: a statement has one at most.
+pub const ACCEPTED_BEFORE: usize = 0;
+
+/// Why a command on a table was not committed after so many others of its statement were, as a refusal. None for want of memory.
 ///
-/// `NoMemory` where a growth was refused.
-fn refusal_of(alloc: Global, table: &Name, cause: Refused) -> Result<Option<Refusal>, NoMemory>
-    ensures { IfOk result (λ found. found ≡ refusal_of_commit table.now cause) }
+/// `NoMemory` where an allocation failed.
+fn refusal_of(
+    alloc: Global,
+    accepted: usize,
+    table: &Name,
+    cause: Refused,
+) -> Result<Option<Refusal>, NoMemory>
+    ensures { IfOk result (λ found. found ≡ refusal_of_commit accepted table.now cause) }
 {
-    let accepted = 0;
     let refusal = match cause {
         Refused::NoMemory => return Ok(None),
         Refused::Disk => Refusal::Unsettled { accepted },
@@ -39,23 +46,25 @@ fn refusal_of(alloc: Global, table: &Name, cause: Refused) -> Result<Option<Refu
     Ok(Some(refusal))
 }
 
-/// The reply to a command on a table that was not committed. Where the disk failed it is `unsettled`, so that no memory is wanted then.
+/// The reply to a command on a table that was not committed after so many others of its statement were. Where the disk failed it is
+/// `unsettled`, so that no memory is wanted then.
 ///
-/// `NoMemory` where that was why, and where a growth was refused; never where the disk failed.
+/// `NoMemory` where that was why, and where an allocation failed; never where the disk failed.
 pub fn refused_line(
     alloc: Global,
+    accepted: usize,
     table: &Name,
     cause: Refused,
     unsettled: Vec<u8>,
 ) -> Result<Vec<u8>, NoMemory>
-    requires { unsettled.items ≡ refusal_line (refusal.Unsettled 0) }
-    ensures line { IfOk result (λ line. IsLineOf table.now cause line.items) }
+    requires { unsettled.items ≡ refusal_line (refusal.Unsettled accepted) }
+    ensures line { IfOk result (λ line. IsLineOf accepted table.now cause line.items) }
     ensures disk { IfErr result (λ _. cause ≡ Refused.Disk → ⊥) }
 {
     if let Refused::Disk = cause {
         return Ok(unsettled);
     }
-    let Some(refusal) = refusal_of(alloc, table, cause)? else {
+    let Some(refusal) = refusal_of(alloc, accepted, table, cause)? else {
         return Err(NoMemory);
     };
     refusal_line(alloc, &refusal)

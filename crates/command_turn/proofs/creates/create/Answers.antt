@@ -4,26 +4,28 @@ use Rattle.std.specs.Option.{option_map}
 use Rattle.mt_values.specs.declared.command.Command.TheVariants as command
 use Rattle.mt_values.specs.declared.statement.Statement.TheVariants as statement
 use Rattle.mt_values.specs.Annals.{began}
+use Rattle.mt_model.specs.Commands.{create_commands}
 use Rattle.mt_model.specs.Reply.{create_turn}
 use Rattle.mt_model.proofs.Causes.{text_is_cause, undamaged_line}
 use Rattle.mt_model.proofs.Tables.{schema_is}
 use Rattle.mt_model.specs.Refusals.{is_damage, refusal_line}
-use Rattle.durable_commit.specs.Commits.{Notes}
+use Rattle.durable_commit.specs.Commits.{IsOutside, Notes, entry_of}
 use Rattle.root_commits.specs.Commits.{IsCause, refuses_create}
 use Rattle.root_store.specs.Entries.{EntryHolds}
 use Rattle.root_store.specs.Soundness.{RootStands}
 use Rattle.root_store.specs.Stores.{CoreStands}
 use Rattle.reply_lines.specs.Foreseen.{history}
 use Rattle.statement_work.specs.Staged.{entry_files}
-use Rattle.command_turn.proofs.Accepting.{accepts_nothing, answers_line, root_is, entry_of, kept_same, same_kept}
-use Rattle.command_turn.proofs.Creating.{created_accepts, entry_holds, turn_free}
-use Rattle.reply_lines.proofs.Refusing.{create_failed, create_refused}
-use Rattle.command_turn.proofs.Gaining.{gains_noted, gains_refused, still_created, still_refused}
+use Rattle.command_turn.proofs.Accepting.{answered_nothing, answers_kept, answers_line, nothing_accepted}
+use Rattle.command_turn.proofs.Creating.{create_gives, created, created_accepts, entry_holds, turn_free}
+use Rattle.reply_lines.proofs.Refusing.{command_failed, command_refused}
+use Rattle.command_turn.proofs.Gaining.{begun_refused, gains_noted, gains_refused, keeps_refused, leaves_told, stays_refused, still_created, still_refused}
 use Rattle.root_commits.proofs.SameStores.{stands_same}
 use Rattle.command_turn.proofs.Standing.{no_table, tables_made}
 use Rattle.command_turn.specs.Stops.{IsLineOf}
 use Rattle.reply_lines.specs.Lines.{IsLineOfStage}
-use Rattle.command_turn.proofs.Stopping.{create_not_committed, nothing_shown_to_create, root_unless_disk}
+use Rattle.command_turn.proofs.Stopping.{by_disk, create_not_committed, create_risen, nothing_shown_to_create, refused_says, root_unless_disk}
+use Rattle.reply_lines.proofs.Causing.{says_answer, says_failed, says_script}
 use Rattle.reply_lines.proofs.Counting.{line_of_stage}
 use Rattle.reply_lines.proofs.Undamaged.{line_of, stage_line}
 use Rattle.command_turn.proofs.Stopping.{commit_line}
@@ -32,33 +34,26 @@ use Rattle.command_turn.proofs.creates.create.Goals as goal
 -- what it says is refused
 pub returns-in-Err-clause-answers : goal.returns-in-Err-clause-answers
 returns-in-Err-clause-answers g c = λ kept is tells stands.
-    let files = g.D.Arm.Dir.Dir.files in
-    let root = g.D.Disk.told c.args.disk.now in
-    let told = g.A.Annals.told c.args.annals.now in
+    let text = c.args.text.now in
     let opened = c.args.store.now.opened in
-    let disk = g.D.Disk.failed c.args.disk.now in
-    let arm = g.D.Arm.Arm.failed c.args.arm.now in
-    let same = kept_same kept told is in
-    answers_line files kept (Ok (statement.Create c.args.text.now)) opened disk arm c.refusal_line.result c.args.store.now told root root (λ reply. reply ≡ refusal_line c.in-Err.refusal) c.refusal_line.ensures same (root_is c.refusal_line.result root)
-    (λ reply line. accepts_nothing files kept (Ok (statement.Create c.args.text.now)) opened disk arm reply c.args.store.now told root root same stands
-    (λ n f. create_refused n kept reply c.args.text.now c.in-Err.refusal (sym c.in_ok-resolved.ensures ∙ c.in-Err.is) line)
-    (λ calm before. before))
+    let why = c.in-Err.refusal in
+    answers_kept g.D.Arm.Dir.Dir.files kept (Ok (statement.Create text)) opened (g.D.Disk.failed c.args.disk.now) (g.D.Arm.Arm.failed c.args.arm.now) c.refusal_line.result c.args.store.now (g.A.Annals.told c.args.annals.now)
+    (g.D.Disk.told c.args.disk.now) (λ reply. reply ≡ refusal_line why) is stands c.refusal_line.ensures
+    (λ reply line n f. command_refused n kept reply (statement.Create text) why (ap (create_commands text.table) (sym c.in_ok-resolved.ensures ∙ c.in-Err.is)) line)
 
 -- its entry was not sealed
 pub returns-in-Err-seal_entry-clause-answers : goal.returns-in-Err-seal_entry-clause-answers
 returns-in-Err-seal_entry-clause-answers g c = λ kept is tells stands.
-    let files = g.D.Arm.Dir.Dir.files in
-    let root = g.D.Disk.told c.args.disk.now in
-    let told = g.A.Annals.told c.args.annals.now in
+    let text = c.args.text.now in
     let opened = c.args.store.now.opened in
     let disk = g.D.Disk.failed c.args.disk.now in
     let arm = g.D.Arm.Arm.failed c.seal_entry.new.arm in
-    let same = kept_same kept told is in
-    answers_line files kept (Ok (statement.Create c.args.text.now)) opened disk arm c.stage_line.result c.args.store.now told root root (IsLineOfStage c.in-Err-seal_entry.error) c.stage_line.ensures same (root_is c.stage_line.result root)
-    (λ reply line. accepts_nothing files kept (Ok (statement.Create c.args.text.now)) opened disk arm reply c.args.store.now told root root same stands
-    (λ n f. create_failed n kept reply c.args.text.now c.in-Ok.schema (sym c.in_ok-resolved.ensures ∙ c.in-Ok.is)
-    (line_of_stage opened disk arm (g.D.Arm.Arm.failed c.args.arm.now) c.in-Err-seal_entry.error reply n line (λ e. c.in-Err-seal_entry.ensures.cause.failed (ap Err e)) f))
-    (λ calm before. before))
+    let says = sym c.in_ok-resolved.ensures ∙ c.in-Ok.is in
+    let error = c.in-Err-seal_entry.error in
+    answers_kept g.D.Arm.Dir.Dir.files kept (Ok (statement.Create text)) opened disk arm c.stage_line.result c.args.store.now (g.A.Annals.told c.args.annals.now)
+    (g.D.Disk.told c.args.disk.now) (IsLineOfStage error) is stands c.stage_line.ensures
+    (λ reply line n f. command_failed n kept reply (statement.Create text) (created text c.in-Ok.schema says) [] (create_gives text c.in-Ok.schema says (history kept))
+    (line_of_stage opened disk arm (g.D.Arm.Arm.failed c.args.arm.now) error reply n line (λ e. c.in-Err-seal_entry.ensures.cause.failed (ap Err e)) f))
 
 pub commit_create-requires-clause-schema : goal.commit_create-requires-clause-schema
 commit_create-requires-clause-schema g c κs within = schema_is c.args.text.now c.in-Ok.schema (sym c.in_ok-resolved.ensures ∙ c.in-Ok.is) c.requires.written.key
@@ -83,9 +78,9 @@ returns-in-Ok-commit_create-clause-answers g c = λ kept is tells stands.
     let free = nothing_shown_to_create store text.table before (subst (λ (t : List ℕ). IsCause (refuses_create store t before) None) name done.cause) in
     let made = tables_made files h store stands text.table in
     let turn : create_turn text.table h ≡ None = turn_free text.table h (no_table files h store stands text.table free.0) (omega (arith, made, free.1)) in
-    let entry = λ (t : List ℕ). entry_of (command.Create (record { table = t; schema = schema })) in
-    created_accepts files text schema kept mark store.opened (g.D.Disk.failed c.commit_create.new.disk) (g.D.Arm.Arm.failed c.seal_entry.new.arm) store.length c.commit_create.new.store c.in_ok-replies.replies.accepted.items old told was now
-    stands.length_is says turn is
+    let entry = λ (t : List ℕ). entry_of 0 (command.Create (record { table = t; schema = schema })) in
+    created_accepts text schema says files kept mark store.opened (g.D.Disk.failed c.commit_create.new.disk) (g.D.Arm.Arm.failed c.seal_entry.new.arm) store.length c.commit_create.new.store c.in_ok-replies.replies.accepted.items old told was now
+    stands.length_is turn is
     (subst (λ (t : List ℕ). Notes mark (entry t) old told) name done.annals)
     (subst (λ (t : List ℕ). CoreStands files (h ++ entry t ∷ []) c.commit_create.new.store) name (done.stands h stands))
     c.in_ok-replies.ensures.accepted
@@ -101,9 +96,11 @@ returns-in-Err-commit_create-clause-answers g c = λ kept is tells stands.
     let files = g.D.Arm.Dir.Dir.files in
     let store = c.args.store.now in
     let text = c.args.text.now in
+    let schema = c.in-Ok.schema in
     let name = c.in_ok-table.ensures in
     let h = history kept in
     let ended = c.in-Err-commit_create.ensures in
+    let back = c.in-Err-commit_create.returned.back in
     let cause = c.in-Err-commit_create.returned.cause in
     let result = c.refused_line.result in
     let was = g.D.Disk.told c.args.disk.now in
@@ -111,13 +108,20 @@ returns-in-Err-commit_create-clause-answers g c = λ kept is tells stands.
     let before = g.D.Disk.failed c.args.disk.now in
     let disk = g.D.Disk.failed c.commit_create.new.disk in
     let arm = g.D.Arm.Arm.failed c.give_back.new.arm in
+    let old = g.A.Annals.told c.args.annals.now in
     let told = g.A.Annals.told c.commit_create.new.annals in
-    let same = same_kept kept (g.A.Annals.told c.args.annals.now) told is ended.annals_err in
-    answers_line files kept (Ok (statement.Create text)) store.opened disk arm result c.commit_create.new.store told was now (IsLineOf text.table cause) c.refused_line.ensures.line same
-    (IfErr-weaker result _ _ (λ e no. ended.unchanged no) c.refused_line.ensures.disk)
-    (λ reply line. accepts_nothing files kept (Ok (statement.Create text)) store.opened disk arm reply c.commit_create.new.store told was now same
+    let says = sym c.in_ok-resolved.ensures ∙ c.in-Ok.is in
+    let said = statement.Create text in
+    let next = created text schema says in
+    let gives = create_gives text schema says h in
+    let left = leaves_told next kept (IsOutside (Some cause)) back old told is ended.list_back
+    (λ none. subst (λ (t : List ℕ). told ≡ option_map (began (entry_of 0 (command.Create (record { table = t; schema = schema })))) old) name (ended.begun none)) ended.given in
+    answers_line files kept (Ok said) store.opened disk arm result c.commit_create.new.store told was now (IsLineOf 0 text.table cause) c.refused_line.ensures.line
+    (IfErr-weaker result _ _ (λ e no. keeps_refused said next kept gives (IsOutside (Some cause)) told left was now (ended.unchanged no)) c.refused_line.ensures.disk)
+    (λ reply line. answered_nothing files kept left.now (Ok said) store.opened disk arm reply c.commit_create.new.store told was now left.told_is left.list_is
+    (begun_refused said next kept gives (IsOutside (Some cause)) told left reply (by_disk text.table cause reply line))
     (stands_same files h store c.commit_create.new.store stands ended.same)
-    (λ n f. create_not_committed files store kept stands before disk arm cause reply n f c.requires.opened ended.later ended.rose text c.in-Ok.schema (sym c.in_ok-resolved.ensures ∙ c.in-Ok.is) line
+    (λ n f. create_not_committed files store kept stands before disk arm cause reply n f c.requires.opened ended.later ended.rose text schema says line
     (subst (λ (t : List ℕ). IsCause (refuses_create store t before) (Some cause)) name ended.cause))
     (λ calm bef. root_unless_disk text.table cause reply h was now line ended.unchanged calm bef))
 
@@ -157,10 +161,11 @@ returns-in-Ok-commit_create-clause-gains g c =
     let mark = g.D.Disk.clock c.commit_create.new.disk in
     let old = g.A.Annals.told c.args.annals.now in
     let new = g.A.Annals.told c.commit_create.new.annals in
-    let created = λ (t : List ℕ). command.Create (record { table = t; schema = c.in-Ok.schema }) in
-    gains_noted store before (statement.Create text) (created text.table) (refl, sym c.in_ok-resolved.ensures ∙ c.in-Ok.is) old new
+    let says = sym c.in_ok-resolved.ensures ∙ c.in-Ok.is in
+    let by = λ (t : List ℕ). command.Create (record { table = t; schema = c.in-Ok.schema }) in
+    gains_noted store before (statement.Create text) (by text.table) (ap (create_commands text.table) says) old new
     (still_created store text.table before c.requires.opened (subst (λ (t : List ℕ). IsCause (refuses_create store t before) None) name done.cause))
-    mark (subst (λ (t : List ℕ). Notes mark (entry_of (created t)) old new) name done.annals)
+    mark (subst (λ (t : List ℕ). Notes mark (entry_of 0 (by t)) old new) name done.annals)
 
 pub returns-in-Err-commit_create-clause-gains : goal.returns-in-Err-commit_create-clause-gains
 returns-in-Err-commit_create-clause-gains g c =
@@ -172,10 +177,65 @@ returns-in-Err-commit_create-clause-gains g c =
     let before = g.D.Disk.failed c.args.disk.now in
     let old = g.A.Annals.told c.args.annals.now in
     let new = g.A.Annals.told c.commit_create.new.annals in
-    let created = λ (t : List ℕ). command.Create (record { table = t; schema = c.in-Ok.schema }) in
-    gains_refused store before (statement.Create text) (created text.table) (refl, sym c.in_ok-resolved.ensures ∙ c.in-Ok.is) old new c.in-Err-commit_create.returned.back ended.list_back
-    (λ none. subst (λ (t : List ℕ). new ≡ option_map (began (entry_of (created t))) old) name (ended.begun none))
+    let says = sym c.in_ok-resolved.ensures ∙ c.in-Ok.is in
+    let by = λ (t : List ℕ). command.Create (record { table = t; schema = c.in-Ok.schema }) in
+    gains_refused store before (statement.Create text) (by text.table) (ap (create_commands text.table) says) old new c.in-Err-commit_create.returned.back ended.list_back
+    (λ none. subst (λ (t : List ℕ). new ≡ option_map (began (entry_of 0 (by t))) old) name (ended.begun none))
     (λ none. still_refused store text.table before c.requires.opened cause (subst (λ (t : List ℕ). IsCause (refuses_create store t before) (Some cause)) name ended.cause) (ended.given none))
+
+-- what the outside did where the reply says so
+pub returns-in-Err-clause-causes : goal.returns-in-Err-clause-causes
+returns-in-Err-clause-causes g c =
+    let disk = g.D.Disk.failed c.args.disk.now in
+    let arm = g.D.Arm.Arm.failed c.args.arm.now in
+    let why = c.in-Err.refusal in
+    IfOk-weaker c.refusal_line.result _ _ (λ line is. says_script c.args.store.now.opened disk disk arm arm line.items why is (text_is_cause c.args.text.now why (sym c.in_ok-resolved.ensures ∙ c.in-Err.is))) c.refusal_line.ensures
+
+pub returns-in-Err-seal_entry-clause-causes : goal.returns-in-Err-seal_entry-clause-causes
+returns-in-Err-seal_entry-clause-causes g c =
+    let disk = g.D.Disk.failed c.args.disk.now in
+    IfOk-weaker c.stage_line.result _ _ (λ line is. says_failed c.args.store.now.opened disk disk (g.D.Arm.Arm.failed c.args.arm.now) (g.D.Arm.Arm.failed c.seal_entry.new.arm) line.items c.in-Err-seal_entry.error is
+    (λ e. c.in-Err-seal_entry.ensures.cause.failed (ap Err e))) c.stage_line.ensures
+
+pub returns-in-Ok-commit_create-clause-causes : goal.returns-in-Ok-commit_create-clause-causes
+returns-in-Ok-commit_create-clause-causes g c =
+    says_answer c.args.store.now.opened (g.D.Disk.failed c.args.disk.now) (g.D.Disk.failed c.commit_create.new.disk) (g.D.Arm.Arm.failed c.args.arm.now) (g.D.Arm.Arm.failed c.seal_entry.new.arm)
+    c.in_ok-replies.replies.accepted.items _ c.in_ok-replies.ensures.accepted refl
+
+pub returns-in-Err-commit_create-clause-causes : goal.returns-in-Err-commit_create-clause-causes
+returns-in-Err-commit_create-clause-causes g c =
+    let store = c.args.store.now in
+    let table = c.args.text.now.table in
+    let ended = c.in-Err-commit_create.ensures in
+    let cause = c.in-Err-commit_create.returned.cause in
+    let before = g.D.Disk.failed c.args.disk.now in
+    let shown = subst (λ (t : List ℕ). IsCause (refuses_create store t before) (Some cause)) c.in_ok-table.ensures ended.cause in
+    IfOk-weaker c.refused_line.result _ _ (λ line is. refused_says store.opened before (g.D.Disk.failed c.commit_create.new.disk) (g.D.Arm.Arm.failed c.args.arm.now) (g.D.Arm.Arm.failed c.give_back.new.arm) table cause line.items is
+    (create_risen store table before cause shown) ended.rose) c.refused_line.ensures.line
+
+-- where the store was stopped before
+pub returns-in-Err-clause-stopped : goal.returns-in-Err-clause-stopped
+returns-in-Err-clause-stopped g c = λ risen. nothing_accepted c.args.store.now c.args.disk.now (g.A.Annals.told c.args.annals.now)
+
+pub returns-in-Err-seal_entry-clause-stopped : goal.returns-in-Err-seal_entry-clause-stopped
+returns-in-Err-seal_entry-clause-stopped g c = λ risen. nothing_accepted c.args.store.now c.args.disk.now (g.A.Annals.told c.args.annals.now)
+
+pub returns-in-Ok-commit_create-clause-stopped : goal.returns-in-Ok-commit_create-clause-stopped
+returns-in-Ok-commit_create-clause-stopped g c = λ risen.
+    let store = c.args.store.now in
+    let before = g.D.Disk.failed c.args.disk.now in
+    let calm = still_created store c.args.text.now.table before c.requires.opened (subst (λ (t : List ℕ). IsCause (refuses_create store t before) None) c.in_ok-table.ensures c.in-Ok-commit_create.ensures.cause) in
+    absurd (omega (arith, calm, risen))
+
+pub returns-in-Err-commit_create-clause-stopped : goal.returns-in-Err-commit_create-clause-stopped
+returns-in-Err-commit_create-clause-stopped g c = λ risen.
+    let store = c.args.store.now in
+    let ended = c.in-Err-commit_create.ensures in
+    let cause = c.in-Err-commit_create.returned.cause in
+    let before = g.D.Disk.failed c.args.disk.now in
+    let shown = subst (λ (t : List ℕ). IsCause (refuses_create store t before) (Some cause)) c.in_ok-table.ensures ended.cause in
+    stays_refused store c.commit_create.new.store before c.in-Err-commit_create.returned.back c.args.disk.now c.commit_create.new.disk (g.A.Annals.told c.args.annals.now) (g.A.Annals.told c.commit_create.new.annals)
+    (λ none. still_refused store c.args.text.now.table before c.requires.opened cause shown (ended.given none)) risen ended.same ended.unpublished ended.list_back
 
 -- the reply does not tell of damage
 pub returns-in-Err-clause-undamaged : goal.returns-in-Err-clause-undamaged

@@ -1,7 +1,6 @@
 use Rattle.std.proofs.lemmas.Result.{IfErr-weaker, IfOk-weaker}
-use Rattle.std.proofs.Common.{◌≡◌, inl, ◌≤◌, ◌<◌, ℕ, List, Option, Some, Ok, Err, true, false, length, refl, sym, ap, ◌∙◌, subst, arith, IfOk}
+use Rattle.std.proofs.Common.{◌≡◌, inl, ◌<◌, ℕ, Bool, List, [], ◌∷◌, Option, Some, Ok, Err, true, false, length, refl, sym, ap, ◌∙◌, subst, arith, IfOk}
 use Rattle.std.specs.Option.{option_map}
-use Rattle.mt_base.specs.declared.partition.Partition.TheVariants.{Whole}
 use Rattle.tsv_rows.specs.Stops.{Refuses}
 use Rattle.mt_values.specs.declared.row_fault.DataFault.{DataFault}
 use Rattle.mt_values.specs.declared.schema.Schema.{Schema}
@@ -10,103 +9,87 @@ use Rattle.mt_values.specs.declared.statement.Statement.TheVariants as statement
 use Rattle.mt_values.specs.declared.value.ColType.{ColType}
 use Rattle.mt_values.specs.Grid.{AreRowsOf, Grid}
 use Rattle.mt_values.specs.Rows.{inserted_rows}
-use Rattle.mt_values.specs.Values.{AreValues}
+use Rattle.mt_values.specs.Values.{AreValues, Row}
 use Rattle.part_set.specs.Sets.{parts_of}
-use Rattle.part_history.specs.Numbers.{same_partition}
 use Rattle.mt_model.specs.declared.refusal.Refusal.TheVariants as refusal
-use Rattle.mt_model.specs.History.{IsInsertInto, column_types, inserts}
+use Rattle.mt_model.specs.History.{IsInsertInto, column_types}
+use Rattle.mt_model.specs.Commands.{commands_for}
+use Rattle.mt_model.specs.Numbers.{last_number}
 use Rattle.mt_model.specs.Refusals.{is_damage, refusal_line, refusal_of_data}
 use Rattle.mt_model.specs.Reply.{ok_line}
 use Rattle.root_store.specs.declared.store.CoreStore.{CoreStore}
 use Rattle.root_store.specs.declared.store.Table.{Table}
-use Rattle.root_commits.specs.Commits.{insert_into, insert_of_block, whole_parts}
+use Rattle.root_commits.specs.Commits.{insert_into, kept_in, partition_of_block}
 use Rattle.root_store.specs.Stores.{table_at}
 use Rattle.reply_lines.specs.Foreseen.{history}
-use Rattle.command_turn.proofs.Accepting.{accepts_nothing, answers_line, root_is, kept_same, same_kept}
+use Rattle.command_turn.proofs.Accepting.{accepted_none, answered_nothing, answers_kept, answers_line, nothing_accepted}
 use Rattle.reply_lines.proofs.Ends.{length_history}
-use Rattle.command_turn.proofs.Inserting.{empty_accepted, inserted_accepts, no_such_table, not_empty, rows_read, rows_refused, turn_free}
-use Rattle.reply_lines.proofs.Refusing.{insert_failed, insert_refused}
-use Rattle.mt_model.specs.Reply.{rows_for, rows_or_refused}
-use Rattle.command_turn.specs.Gains.{IsCommandBy, schemas_in}
-use Rattle.command_turn.proofs.Gaining.{gains_noted, gains_refused, still_added, still_part_refused}
+use Rattle.command_turn.proofs.Inserting.{data_is_cause, inserted, inserted_accepts, no_rows, no_such_table, not_empty, rows_give, rows_refused, turn_free}
+use Rattle.reply_lines.proofs.Refusing.{command_failed, command_refused}
+use Rattle.command_turn.specs.Gains.{commands_over, schemas_in}
+use Rattle.command_turn.proofs.Gaining.{begun_refused, gains_noted, gains_refused, keeps_refused, leaves_told, stays_refused, still_added, still_part_refused}
 use Rattle.root_commits.proofs.SameStores.{stands_same}
 use Rattle.command_turn.proofs.Standing.{drawn_is, no_table, parts_made, table_schema}
 use Rattle.command_turn.specs.Stops.{IsLineOf}
 use Rattle.reply_lines.specs.Lines.{IsLineOfStage}
-use Rattle.command_turn.proofs.Stopping.{filtered, insert_not_committed, nothing_shown, root_unless_disk}
+use Rattle.command_turn.proofs.Stopping.{by_disk, insert_not_committed, nothing_shown, part_risen, refused_says, root_unless_disk}
+use Rattle.durable_commit.specs.Commits.{IsOutside}
+use Rattle.reply_lines.proofs.Causing.{says_answer, says_failed, says_script}
 use Rattle.reply_lines.proofs.Counting.{line_of_stage}
 use Rattle.reply_lines.proofs.Undamaged.{data_line, stage_line}
 use Rattle.command_turn.proofs.Stopping.{commit_line}
 use Rattle.command_turn.proofs.inserts.insert.Goals as goal
 
--- a block of rows of a table is an INSERT into it
+-- a block of rows of a table is an INSERT into the partition of its rows
 rows_of_table : (schema : Schema) (table : List ℕ) (block : Grid) → 0 < length block.rows → block.types ≡ column_types schema → AreRowsOf block.types block.rows → AreValues block.rows
-    → IsInsertInto schema (insert_into table block)
+    → IsInsertInto schema (insert_into table (partition_of_block schema block) block)
 rows_of_table schema table block some types typed values = record {
   some = some;
   types = types;
   rows = subst (λ (ts : List ColType). AreRowsOf ts block.rows) types typed;
   values = values;
-  partition = refl;
+  own = λ k d within. refl;
 }
+
+-- a block that is not empty has rows
+has_rows : (rows : List Row) (empty : Bool) → empty ≡ false → (rows ≡ [] → empty ≡ true) → 0 < length rows
+has_rows rows empty full none = not_empty rows (λ is. let bad : true ≡ false = sym (none is) ∙ full in cc)
 
 -- there is no such table
 pub returns-in_default-clause-answers : goal.returns-in_default-clause-answers
 returns-in_default-clause-answers g c = λ kept is tells stands.
     let files = g.D.Arm.Dir.Dir.files in
-    let root = g.D.Disk.told c.args.disk.now in
-    let told = g.A.Annals.told c.args.annals.now in
-    let opened = c.args.store.now.opened in
-    let disk = g.D.Disk.failed c.args.disk.now in
-    let arm = g.D.Arm.Arm.failed c.args.arm.now in
-    let st = Ok (statement.Insert c.args.text.now) in
-    let same = kept_same kept told is in
-    let none = no_table files (history kept) c.args.store.now stands c.args.text.now.table (sym c.in_default.ensures.value) in
-    answers_line files kept st opened disk arm c.no_table_line.result c.args.store.now told root root (λ reply. reply ≡ refusal_line (refusal.NoTable c.args.text.now.table)) c.no_table_line.ensures same (root_is c.no_table_line.result root)
-    (λ reply line. accepts_nothing files kept st opened disk arm reply c.args.store.now told root root same stands
-    (λ n f. insert_refused n kept reply c.args.text.now (refusal.NoTable c.args.text.now.table) (no_such_table c.args.text.now (history kept) none) line)
-    (λ calm before. before))
+    let text = c.args.text.now in
+    let none = no_table files (history kept) c.args.store.now stands text.table (sym c.in_default.ensures.value) in
+    answers_kept files kept (Ok (statement.Insert text)) c.args.store.now.opened (g.D.Disk.failed c.args.disk.now) (g.D.Arm.Arm.failed c.args.arm.now) c.no_table_line.result c.args.store.now (g.A.Annals.told c.args.annals.now)
+    (g.D.Disk.told c.args.disk.now) (λ reply. reply ≡ refusal_line (refusal.NoTable text.table)) is stands c.no_table_line.ensures
+    (λ reply line n f. command_refused n kept reply (statement.Insert text) (refusal.NoTable text.table) (no_such_table text (history kept) none) line)
 
 -- the data is refused
 pub returns-in-Err-Refused-clause-answers : goal.returns-in-Err-Refused-clause-answers
 returns-in-Err-Refused-clause-answers g c = λ kept is tells stands.
     let files = g.D.Arm.Dir.Dir.files in
-    let root = g.D.Disk.told c.args.disk.now in
-    let told = g.A.Annals.told c.args.annals.now in
-    let opened = c.args.store.now.opened in
-    let disk = g.D.Disk.failed c.args.disk.now in
-    let arm = g.D.Arm.Arm.failed c.args.arm.now in
-    let st = Ok (statement.Insert c.args.text.now) in
-    let same = kept_same kept told is in
+    let text = c.args.text.now in
     let found = c.in-Some.found.now in
-    let there = table_schema files (history kept) c.args.store.now stands c.args.text.now.table found (sym c.in-Some.ensures.value) in
-    let read = subst (Refuses (inserted_rows (column_types found.schema) c.args.text.now.lines c.args.text.now.ended)) c.in-Err-Refused.field-0-is c.in-Err-Refused.ensures.refused in
+    let there = table_schema files (history kept) c.args.store.now stands text.table found (sym c.in-Some.ensures.value) in
+    let read = subst (Refuses (inserted_rows (column_types found.schema) text.lines text.ended)) c.in-Err-Refused.field-0-is c.in-Err-Refused.ensures.refused in
     let fault = c.in-Err-Refused.fault in
-    answers_line files kept st opened disk arm c.data_line.result c.args.store.now told root root (λ reply. reply ≡ refusal_line (refusal_of_data fault))
-    (subst (λ (f : DataFault). IfOk c.data_line.result (λ line. line.items ≡ refusal_line (refusal_of_data f))) c.in-Err-Refused.fault-is c.data_line.ensures) same (root_is c.data_line.result root)
-    (λ reply line. accepts_nothing files kept st opened disk arm reply c.args.store.now told root root same stands
-    (λ n f. insert_refused n kept reply c.args.text.now (refusal_of_data fault) (rows_refused c.args.text.now (history kept) found.schema there fault read) line)
-    (λ calm before. before))
+    answers_kept files kept (Ok (statement.Insert text)) c.args.store.now.opened (g.D.Disk.failed c.args.disk.now) (g.D.Arm.Arm.failed c.args.arm.now) c.data_line.result c.args.store.now (g.A.Annals.told c.args.annals.now)
+    (g.D.Disk.told c.args.disk.now) (λ reply. reply ≡ refusal_line (refusal_of_data fault)) is stands
+    (subst (λ (f : DataFault). IfOk c.data_line.result (λ line. line.items ≡ refusal_line (refusal_of_data f))) c.in-Err-Refused.fault-is c.data_line.ensures)
+    (λ reply line n f. command_refused n kept reply (statement.Insert text) (refusal_of_data fault) (ap (commands_for text) there ∙ rows_refused text found.schema fault read) line)
 
 -- there are no rows
 pub returns-then-is_empty-clause-answers : goal.returns-then-is_empty-clause-answers
 returns-then-is_empty-clause-answers g c = λ kept is tells stands.
     let files = g.D.Arm.Dir.Dir.files in
-    let root = g.D.Disk.told c.args.disk.now in
-    let told = g.A.Annals.told c.args.annals.now in
-    let opened = c.args.store.now.opened in
-    let disk = g.D.Disk.failed c.args.disk.now in
-    let arm = g.D.Arm.Arm.failed c.args.arm.now in
-    let st = Ok (statement.Insert c.args.text.now) in
-    let same = kept_same kept told is in
+    let text = c.args.text.now in
     let found = c.in-Some.found.now in
-    let there = table_schema files (history kept) c.args.store.now stands c.args.text.now.table found (sym c.in-Some.ensures.value) in
-    let read = c.in-Ok.ensures.rows in
+    let there = table_schema files (history kept) c.args.store.now stands text.table found (sym c.in-Some.ensures.value) in
     let none = c.is_empty.ensures.0 c.if-is_empty.true in
-    answers_line files kept st opened disk arm c.ok_line.result c.args.store.now told root root (λ reply. reply ≡ ok_line c.args.store.now.length) c.ok_line.ensures same (root_is c.ok_line.result root)
-    (λ reply line. accepts_nothing files kept st opened disk arm reply c.args.store.now told root root same stands
-    (λ n f. empty_accepted n c.args.text.now kept reply (rows_read c.args.text.now (history kept) found.schema there c.in-Ok.block.rows read ∙ ap Ok none) (line ∙ ap ok_line (stands.length_is ∙ length_history kept)))
-    (λ calm before. before))
+    answers_kept files kept (Ok (statement.Insert text)) c.args.store.now.opened (g.D.Disk.failed c.args.disk.now) (g.D.Arm.Arm.failed c.args.arm.now) c.ok_line.result c.args.store.now (g.A.Annals.told c.args.annals.now)
+    (g.D.Disk.told c.args.disk.now) (λ reply. reply ≡ ok_line c.args.store.now.length) is stands c.ok_line.ensures
+    (λ reply line n f. accepted_none n kept (statement.Insert text) reply (ap (commands_for text) there ∙ no_rows text found.schema (c.in-Ok.ensures.rows ∙ ap Ok none)) (line ∙ ap ok_line (stands.length_is ∙ length_history kept)))
 
 pub seal_block-requires-clause-schema : goal.seal_block-requires-clause-schema
 seal_block-requires-clause-schema g c κs within = (c.requires.store.tables c.args.text.now.table c.in-Some.found.now (sym c.in-Some.ensures.value)).schema
@@ -115,21 +98,19 @@ seal_block-requires-clause-schema g c κs within = (c.requires.store.tables c.ar
 pub returns-in-Err-clause-answers : goal.returns-in-Err-clause-answers
 returns-in-Err-clause-answers g c = λ kept is tells stands.
     let files = g.D.Arm.Dir.Dir.files in
-    let root = g.D.Disk.told c.args.disk.now in
-    let told = g.A.Annals.told c.args.annals.now in
+    let text = c.args.text.now in
     let opened = c.args.store.now.opened in
     let disk = g.D.Disk.failed c.args.disk.now in
     let arm = g.D.Arm.Arm.failed c.seal_block.new.arm in
-    let same = kept_same kept told is in
     let found = c.in-Some.found.now in
-    let there = table_schema files (history kept) c.args.store.now stands c.args.text.now.table found (sym c.in-Some.ensures.value) in
-    let read = c.in-Ok.ensures.rows in
-    let some = not_empty c.in-Ok.block.rows (λ none. let yes = c.is_empty.ensures.1 none in let bad : true ≡ false = sym yes ∙ c.if-is_empty.false in cc) in
-    answers_line files kept (Ok (statement.Insert c.args.text.now)) opened disk arm c.stage_line.result c.args.store.now told root root (IsLineOfStage c.in-Err.error) c.stage_line.ensures same (root_is c.stage_line.result root)
-    (λ reply line. accepts_nothing files kept (Ok (statement.Insert c.args.text.now)) opened disk arm reply c.args.store.now told root root same stands
-    (λ n f. insert_failed n kept reply c.args.text.now c.in-Ok.block.rows some (rows_read c.args.text.now (history kept) found.schema there c.in-Ok.block.rows read)
-    (line_of_stage opened disk arm (g.D.Arm.Arm.failed c.args.arm.now) c.in-Err.error reply n line (λ e. c.in-Err.ensures.cause.failed (ap Err e)) f))
-    (λ calm before. before))
+    let block = c.in-Ok.block in
+    let there = table_schema files (history kept) c.args.store.now stands text.table found (sym c.in-Some.ensures.value) in
+    let some = has_rows block.rows c.is_empty.result c.if-is_empty.false c.is_empty.ensures.1 in
+    let gives = ap (commands_for text) there ∙ rows_give text found.schema block c.in-Ok.ensures.rows some c.in-Ok.ensures.types in
+    let error = c.in-Err.error in
+    answers_kept files kept (Ok (statement.Insert text)) opened disk arm c.stage_line.result c.args.store.now (g.A.Annals.told c.args.annals.now) (g.D.Disk.told c.args.disk.now) (IsLineOfStage error) is stands c.stage_line.ensures
+    (λ reply line n f. command_failed n kept reply (statement.Insert text) (inserted found.schema text.table block) [] gives
+    (line_of_stage opened disk arm (g.D.Arm.Arm.failed c.args.arm.now) error reply n line (λ e. c.in-Err.ensures.cause.failed (ap Err e)) f))
 
 one_table : (o : Option Table) (a b : Table) → o ≡ Some a → o ≡ Some b → a ≡ b
 one_table o a b first second = let both : Some a ≡ Some b = sym first ∙ second in cc
@@ -137,10 +118,12 @@ one_table o a b first second = let both : Some a ≡ Some b = sym first ∙ seco
 pub commit_part-requires-clause-rows : goal.commit_part-requires-clause-rows
 commit_part-requires-clause-rows g c κs within = λ t there.
     let found = c.in-Some.found.now in
-    let same = one_table (table_at c.args.store.now c.args.text.now.table) found t (sym c.in-Some.ensures.value) there in
-    let some = not_empty c.in-Ok.block.rows (λ none. let yes = c.is_empty.ensures.1 none in let bad : true ≡ false = sym yes ∙ c.if-is_empty.false in cc) in
-    subst (λ (x : Table). IsInsertInto x.schema (insert_into c.args.text.now.table c.in-Ok.block)) same
-    (rows_of_table found.schema c.args.text.now.table c.in-Ok.block some c.in-Ok.ensures.types c.in-Ok-seal_block.ensures.typed c.in-Ok.ensures.values)
+    let block = c.in-Ok.block in
+    let table = c.args.text.now.table in
+    let same = one_table (table_at c.args.store.now table) found t (sym c.in-Some.ensures.value) there in
+    let some = has_rows block.rows c.is_empty.result c.if-is_empty.false c.is_empty.ensures.1 in
+    subst (λ (x : Table). IsInsertInto x.schema (insert_into table (partition_of_block x.schema block) block)) same
+    (rows_of_table found.schema table block some c.in-Ok.ensures.types c.in-Ok-seal_block.ensures.typed c.in-Ok.ensures.values)
 
 -- the part was added
 pub returns-in-Ok-commit_part-clause-answers : goal.returns-in-Ok-commit_part-clause-answers
@@ -150,22 +133,21 @@ returns-in-Ok-commit_part-clause-answers g c = λ kept is tells stands.
     let text = c.args.text.now in
     let h = history kept in
     let found = c.in-Some.found.now in
+    let block = c.in-Ok.block in
+    let partition = partition_of_block found.schema block in
     let at = sym c.in-Some.ensures.value in
     let there = table_schema files h store stands text.table found at in
-    let read = c.in-Ok.ensures.rows in
-    let some = not_empty c.in-Ok.block.rows (λ none. let yes = c.is_empty.ensures.1 none in let bad : true ≡ false = sym yes ∙ c.if-is_empty.false in cc) in
+    let some = has_rows block.rows c.is_empty.result c.if-is_empty.false c.is_empty.ensures.1 in
+    let gives = ap (commands_for text) there ∙ rows_give text found.schema block c.in-Ok.ensures.rows some c.in-Ok.ensures.types in
     let done = c.in-Ok-commit_part.ensures in
     let before = g.D.Disk.failed c.args.disk.now in
-    let free = nothing_shown store text.table found.drawn before (done.cause found at) in
-    let count = length (whole_parts (parts_of store.set text.table)) in
-    let drawn = drawn_is files h store stands text.table found at in
-    let most = parts_made files h store stands text.table found at in
-    let fewer = filtered (λ k. same_partition k.name.partition Whole) (parts_of store.set text.table) in
-    let merged : count ≤ inserts text.table h = omega (arith, most, fewer) in
+    let free = nothing_shown store text.table partition found.drawn before (done.cause found at) in
+    let count = length (kept_in partition (parts_of store.set text.table)) in
+    let turn = turn_free count (last_number text.table h) found.drawn 0 (drawn_is files h store stands text.table found at) free.0 free.1 in
     let sealed = c.in-Ok-seal_block.ensures.sealed tells in
-    inserted_accepts files text kept (g.D.Disk.clock c.commit_part.new.disk) store.opened (g.D.Disk.failed c.commit_part.new.disk) (g.D.Arm.Arm.failed c.seal_block.new.arm) store.length count c.in-Ok.block c.commit_part.new.store
+    inserted_accepts text found.schema block kept gives files (g.D.Disk.clock c.commit_part.new.disk) store.opened (g.D.Disk.failed c.commit_part.new.disk) (g.D.Arm.Arm.failed c.seal_block.new.arm) store.length count c.commit_part.new.store
     c.in_ok-replies.replies.accepted.items (g.A.Annals.told c.args.annals.now) (g.A.Annals.told c.commit_part.new.annals) (g.D.Disk.told c.args.disk.now) (g.D.Disk.told c.commit_part.new.disk)
-    stands.length_is (rows_read text h found.schema there c.in-Ok.block.rows read) some merged (turn_free text.table h count found.drawn drawn free.0 free.1) is done.annals (done.stands h found stands at sealed)
+    stands.length_is (parts_made files h store stands text.table found at partition) turn is (done.annals found at) (done.stands h found stands at sealed)
     c.in_ok-replies.ensures.accepted
     (λ root. done.root_stands h found stands root at sealed)
 
@@ -177,10 +159,11 @@ returns-in-Err-commit_part-clause-answers g c = λ kept is tells stands.
     let text = c.args.text.now in
     let h = history kept in
     let found = c.in-Some.found.now in
+    let block = c.in-Ok.block in
     let at = sym c.in-Some.ensures.value in
     let there = table_schema files h store stands text.table found at in
-    let read = c.in-Ok.ensures.rows in
-    let some = not_empty c.in-Ok.block.rows (λ none. let yes = c.is_empty.ensures.1 none in let bad : true ≡ false = sym yes ∙ c.if-is_empty.false in cc) in
+    let some = has_rows block.rows c.is_empty.result c.if-is_empty.false c.is_empty.ensures.1 in
+    let gives = ap (commands_for text) there ∙ rows_give text found.schema block c.in-Ok.ensures.rows some c.in-Ok.ensures.types in
     let ended = c.in-Err-commit_part.ensures in
     let cause = c.in-Err-commit_part.returned.cause in
     let result = c.refused_line.result in
@@ -189,15 +172,17 @@ returns-in-Err-commit_part-clause-answers g c = λ kept is tells stands.
     let before = g.D.Disk.failed c.args.disk.now in
     let disk = g.D.Disk.failed c.commit_part.new.disk in
     let arm = g.D.Arm.Arm.failed c.give_back.new.arm in
+    let old = g.A.Annals.told c.args.annals.now in
     let told = g.A.Annals.told c.commit_part.new.annals in
-    let st = Ok (statement.Insert text) in
-    let same = same_kept kept (g.A.Annals.told c.args.annals.now) told is ended.annals_err in
-    answers_line files kept st store.opened disk arm result c.commit_part.new.store told was now (IsLineOf text.table cause) c.refused_line.ensures.line same
-    (IfErr-weaker result _ _ (λ e no. ended.unchanged no) c.refused_line.ensures.disk)
-    (λ reply line. accepts_nothing files kept st store.opened disk arm reply c.commit_part.new.store told was now same
+    let said = statement.Insert text in
+    let next = inserted found.schema text.table block in
+    let left = leaves_told next kept (IsOutside (Some cause)) c.in-Err-commit_part.returned.back old told is ended.list_back (ended.begun found at) ended.given in
+    answers_line files kept (Ok said) store.opened disk arm result c.commit_part.new.store told was now (IsLineOf 0 text.table cause) c.refused_line.ensures.line
+    (IfErr-weaker result _ _ (λ e no. keeps_refused said next kept gives (IsOutside (Some cause)) told left was now (ended.unchanged no)) c.refused_line.ensures.disk)
+    (λ reply line. answered_nothing files kept left.now (Ok said) store.opened disk arm reply c.commit_part.new.store told was now left.told_is left.list_is
+    (begun_refused said next kept gives (IsOutside (Some cause)) told left reply (by_disk text.table cause reply line))
     (stands_same files h store c.commit_part.new.store stands ended.same)
-    (λ n f. insert_not_committed files store kept stands before disk arm cause reply n f c.requires.opened ended.later ended.rose text found at c.in-Ok.block.rows some
-    (rows_read text h found.schema there c.in-Ok.block.rows read) line (ended.cause found at))
+    (λ n f. insert_not_committed files store kept stands before disk arm cause reply n f c.requires.opened ended.later ended.rose text found at block gives line (ended.cause found at))
     (λ calm bef. root_unless_disk text.table cause reply h was now line ended.unchanged calm bef))
 
 -- what a crash leaves
@@ -222,41 +207,119 @@ returns-then-is_empty-clause-gains g c = inl refl
 pub returns-in-Err-clause-gains : goal.returns-in-Err-clause-gains
 returns-in-Err-clause-gains g c = inl refl
 
--- the rows of a block, as they read for the table of the store
-module _ {F : Type 0} (store : CoreStore F) (text : InsertText) (found : Table) (at : table_at store text.table ≡ Some found) (block : Grid) (some : 0 < length block.rows) (read : inserted_rows (column_types found.schema) text.lines text.ended ≡ Ok block.rows) where
-  by_rows : IsCommandBy (schemas_in store) (statement.Insert text) (insert_of_block text.table block)
-  by_rows = (
-    block.rows,
-    some,
-    subst (λ (o : Option Schema). rows_for text o ≡ Ok block.rows) (sym (ap (option_map (λ (t : Table). t.schema)) at)) (ap rows_or_refused read),
-    (refl, refl, refl),
-  )
+-- the command of a block, as it reads for the table of the store
+by_rows : {F : Type 0} (store : CoreStore F) (text : InsertText) (found : Table) (block : Grid) → table_at store text.table ≡ Some found → 0 < length block.rows
+    → inserted_rows (column_types found.schema) text.lines text.ended ≡ Ok block.rows → block.types ≡ column_types found.schema
+    → commands_over (schemas_in store) (statement.Insert text) ≡ Ok (inserted found.schema text.table block ∷ [])
+by_rows store text found block at some read types =
+    ap (λ (o : Option Table). commands_for text (option_map (λ (t : Table). t.schema) o)) at ∙ rows_give text found.schema block read some types
 
 pub returns-in-Ok-commit_part-clause-gains : goal.returns-in-Ok-commit_part-clause-gains
 returns-in-Ok-commit_part-clause-gains g c =
     let store = c.args.store.now in
     let text = c.args.text.now in
     let found = c.in-Some.found.now in
+    let block = c.in-Ok.block in
     let at = sym c.in-Some.ensures.value in
-    let some = not_empty c.in-Ok.block.rows (λ none. let yes = c.is_empty.ensures.1 none in let bad : true ≡ false = sym yes ∙ c.if-is_empty.false in cc) in
+    let some = has_rows block.rows c.is_empty.result c.if-is_empty.false c.is_empty.ensures.1 in
     let done = c.in-Ok-commit_part.ensures in
     let before = g.D.Disk.failed c.args.disk.now in
-    gains_noted store before (statement.Insert text) (insert_of_block text.table c.in-Ok.block) (by_rows store text found at c.in-Ok.block some c.in-Ok.ensures.rows)
-    (g.A.Annals.told c.args.annals.now) (g.A.Annals.told c.commit_part.new.annals) (still_added store text.table before c.requires.opened found.drawn (done.cause found at)) (g.D.Disk.clock c.commit_part.new.disk) done.annals
+    gains_noted store before (statement.Insert text) (inserted found.schema text.table block) (by_rows store text found block at some c.in-Ok.ensures.rows c.in-Ok.ensures.types)
+    (g.A.Annals.told c.args.annals.now) (g.A.Annals.told c.commit_part.new.annals)
+    (still_added store text.table before c.requires.opened (partition_of_block found.schema block) found.drawn (done.cause found at)) (g.D.Disk.clock c.commit_part.new.disk) (done.annals found at)
 
 pub returns-in-Err-commit_part-clause-gains : goal.returns-in-Err-commit_part-clause-gains
 returns-in-Err-commit_part-clause-gains g c =
     let store = c.args.store.now in
     let text = c.args.text.now in
     let found = c.in-Some.found.now in
+    let block = c.in-Ok.block in
     let at = sym c.in-Some.ensures.value in
-    let some = not_empty c.in-Ok.block.rows (λ none. let yes = c.is_empty.ensures.1 none in let bad : true ≡ false = sym yes ∙ c.if-is_empty.false in cc) in
+    let some = has_rows block.rows c.is_empty.result c.if-is_empty.false c.is_empty.ensures.1 in
     let ended = c.in-Err-commit_part.ensures in
     let cause = c.in-Err-commit_part.returned.cause in
     let before = g.D.Disk.failed c.args.disk.now in
-    gains_refused store before (statement.Insert text) (insert_of_block text.table c.in-Ok.block) (by_rows store text found at c.in-Ok.block some c.in-Ok.ensures.rows)
-    (g.A.Annals.told c.args.annals.now) (g.A.Annals.told c.commit_part.new.annals) c.in-Err-commit_part.returned.back ended.list_back ended.begun
-    (λ none. still_part_refused store text.table before c.requires.opened found.drawn cause (ended.cause found at) (ended.given none))
+    gains_refused store before (statement.Insert text) (inserted found.schema text.table block) (by_rows store text found block at some c.in-Ok.ensures.rows c.in-Ok.ensures.types)
+    (g.A.Annals.told c.args.annals.now) (g.A.Annals.told c.commit_part.new.annals) c.in-Err-commit_part.returned.back ended.list_back (ended.begun found at)
+    (λ none. still_part_refused store text.table before c.requires.opened (partition_of_block found.schema block) found.drawn cause (ended.cause found at) (ended.given none))
+
+-- what the outside did where the reply says so
+pub returns-in_default-clause-causes : goal.returns-in_default-clause-causes
+returns-in_default-clause-causes g c =
+    let disk = g.D.Disk.failed c.args.disk.now in
+    let arm = g.D.Arm.Arm.failed c.args.arm.now in
+    IfOk-weaker c.no_table_line.result _ _ (λ line is. says_script c.args.store.now.opened disk disk arm arm line.items (refusal.NoTable c.args.text.now.table) is (omega arith)) c.no_table_line.ensures
+
+pub returns-in-Err-Refused-clause-causes : goal.returns-in-Err-Refused-clause-causes
+returns-in-Err-Refused-clause-causes g c =
+    let text = c.args.text.now in
+    let disk = g.D.Disk.failed c.args.disk.now in
+    let arm = g.D.Arm.Arm.failed c.args.arm.now in
+    let schema = c.in-Some.found.now.schema in
+    let read = subst (Refuses (inserted_rows (column_types schema) text.lines text.ended)) c.in-Err-Refused.field-0-is c.in-Err-Refused.ensures.refused in
+    let fault = c.in-Err-Refused.fault in
+    IfOk-weaker c.data_line.result _ _ (λ line is. says_script c.args.store.now.opened disk disk arm arm line.items (refusal_of_data fault) is (data_is_cause text schema fault read))
+    (subst (λ (f : DataFault). IfOk c.data_line.result (λ line. line.items ≡ refusal_line (refusal_of_data f))) c.in-Err-Refused.fault-is c.data_line.ensures)
+
+pub returns-then-is_empty-clause-causes : goal.returns-then-is_empty-clause-causes
+returns-then-is_empty-clause-causes g c =
+    let disk = g.D.Disk.failed c.args.disk.now in
+    let arm = g.D.Arm.Arm.failed c.args.arm.now in
+    IfOk-weaker c.ok_line.result _ _ (λ line is. says_answer c.args.store.now.opened disk disk arm arm line.items _ is refl) c.ok_line.ensures
+
+pub returns-in-Err-clause-causes : goal.returns-in-Err-clause-causes
+returns-in-Err-clause-causes g c =
+    let disk = g.D.Disk.failed c.args.disk.now in
+    IfOk-weaker c.stage_line.result _ _ (λ line is. says_failed c.args.store.now.opened disk disk (g.D.Arm.Arm.failed c.args.arm.now) (g.D.Arm.Arm.failed c.seal_block.new.arm) line.items c.in-Err.error is
+    (λ e. c.in-Err.ensures.cause.failed (ap Err e))) c.stage_line.ensures
+
+pub returns-in-Ok-commit_part-clause-causes : goal.returns-in-Ok-commit_part-clause-causes
+returns-in-Ok-commit_part-clause-causes g c =
+    says_answer c.args.store.now.opened (g.D.Disk.failed c.args.disk.now) (g.D.Disk.failed c.commit_part.new.disk) (g.D.Arm.Arm.failed c.args.arm.now) (g.D.Arm.Arm.failed c.seal_block.new.arm)
+    c.in_ok-replies.replies.accepted.items _ c.in_ok-replies.ensures.accepted refl
+
+pub returns-in-Err-commit_part-clause-causes : goal.returns-in-Err-commit_part-clause-causes
+returns-in-Err-commit_part-clause-causes g c =
+    let store = c.args.store.now in
+    let table = c.args.text.now.table in
+    let found = c.in-Some.found.now in
+    let ended = c.in-Err-commit_part.ensures in
+    let cause = c.in-Err-commit_part.returned.cause in
+    let before = g.D.Disk.failed c.args.disk.now in
+    IfOk-weaker c.refused_line.result _ _ (λ line is. refused_says store.opened before (g.D.Disk.failed c.commit_part.new.disk) (g.D.Arm.Arm.failed c.args.arm.now) (g.D.Arm.Arm.failed c.give_back.new.arm) table cause line.items is
+    (part_risen store table before cause (partition_of_block found.schema c.in-Ok.block) found.drawn (ended.cause found (sym c.in-Some.ensures.value))) ended.rose) c.refused_line.ensures.line
+
+-- where the store was stopped before
+pub returns-in_default-clause-stopped : goal.returns-in_default-clause-stopped
+returns-in_default-clause-stopped g c = λ risen. nothing_accepted c.args.store.now c.args.disk.now (g.A.Annals.told c.args.annals.now)
+
+pub returns-in-Err-Refused-clause-stopped : goal.returns-in-Err-Refused-clause-stopped
+returns-in-Err-Refused-clause-stopped g c = λ risen. nothing_accepted c.args.store.now c.args.disk.now (g.A.Annals.told c.args.annals.now)
+
+pub returns-then-is_empty-clause-stopped : goal.returns-then-is_empty-clause-stopped
+returns-then-is_empty-clause-stopped g c = λ risen. nothing_accepted c.args.store.now c.args.disk.now (g.A.Annals.told c.args.annals.now)
+
+pub returns-in-Err-clause-stopped : goal.returns-in-Err-clause-stopped
+returns-in-Err-clause-stopped g c = λ risen. nothing_accepted c.args.store.now c.args.disk.now (g.A.Annals.told c.args.annals.now)
+
+pub returns-in-Ok-commit_part-clause-stopped : goal.returns-in-Ok-commit_part-clause-stopped
+returns-in-Ok-commit_part-clause-stopped g c = λ risen.
+    let store = c.args.store.now in
+    let found = c.in-Some.found.now in
+    let before = g.D.Disk.failed c.args.disk.now in
+    let calm = still_added store c.args.text.now.table before c.requires.opened (partition_of_block found.schema c.in-Ok.block) found.drawn (c.in-Ok-commit_part.ensures.cause found (sym c.in-Some.ensures.value)) in
+    absurd (omega (arith, calm, risen))
+
+pub returns-in-Err-commit_part-clause-stopped : goal.returns-in-Err-commit_part-clause-stopped
+returns-in-Err-commit_part-clause-stopped g c = λ risen.
+    let store = c.args.store.now in
+    let found = c.in-Some.found.now in
+    let ended = c.in-Err-commit_part.ensures in
+    let cause = c.in-Err-commit_part.returned.cause in
+    let before = g.D.Disk.failed c.args.disk.now in
+    stays_refused store c.commit_part.new.store before c.in-Err-commit_part.returned.back c.args.disk.now c.commit_part.new.disk (g.A.Annals.told c.args.annals.now) (g.A.Annals.told c.commit_part.new.annals)
+    (λ none. still_part_refused store c.args.text.now.table before c.requires.opened (partition_of_block found.schema c.in-Ok.block) found.drawn cause (ended.cause found (sym c.in-Some.ensures.value)) (ended.given none))
+    risen ended.same ended.unpublished ended.list_back
 
 -- the reply does not tell of damage
 pub returns-in_default-clause-undamaged : goal.returns-in_default-clause-undamaged
