@@ -1,5 +1,5 @@
 // From lines to rows: one row, and the lines of an INSERT's data as a block.
-ghost use Rattle.std.specs.Prelude.{◌≡◌, ◌≢◌, [], All, IfErr, IfOk, Ok, Err};
+ghost use Rattle.std.specs.Prelude.{◌≡◌, ◌≢◌, [], All, IfErr, IfOk, Ok, Err, map};
 ghost use Rattle.mt_values.specs.Rows.{at_field, inserted_rows, row_of_line, value_of_field};
 ghost use Rattle.mt_values.specs.Values.{AreValues, IsValue};
 ghost use Rattle.mt_values.specs.Schemas.{column_types};
