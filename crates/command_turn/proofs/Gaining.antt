@@ -1,9 +1,8 @@
 -- What a command that was given to a commit, or was not, did to what is known of annals.
-use Rattle.std.proofs.Common.{◌≡◌, inl, inr, ℕ, ◌≤◌, List, Option, Some, None, Ok, Result, IfSome, Bool, true, false, cond, is_some, nat_le, nat_lt, length, refl, subst}
+use Rattle.std.proofs.Common.{◌≡◌, inl, inr, ℕ, ◌≤◌, List, Option, Some, None, Ok, IfSome, Bool, true, false, cond, is_some, nat_le, nat_lt, length, refl, subst}
 use Rattle.std.specs.Prelude.{IsNone}
 use Rattle.std.specs.Option.{option_map}
 use Rattle.mt_values.specs.declared.command.Command.{Command}
-use Rattle.mt_values.specs.declared.statement.Cause.{Cause}
 use Rattle.mt_values.specs.declared.statement.Statement.{Statement}
 use Rattle.mt_values.specs.Annals.{Told, began}
 use Rattle.part_set.specs.Sets.{parts_of}

@@ -1,5 +1,5 @@
 -- What annals gained by statements, and gain by one more.
-use Rattle.std.proofs.Common.{◌≡◌, ◌⊎◌, inl, inr, ◌<◌, ◌++◌, ◌∷◌, ℕ, List, [], Option, Some, Ok, Err, ap, sym, refl, subst, ◌∙◌, append-nil, append_assoc}
+use Rattle.std.proofs.Common.{◌≡◌, ◌⊎◌, inl, inr, ◌++◌, ◌∷◌, ℕ, List, [], Option, Some, Ok, ap, sym, refl, subst, ◌∙◌, append-nil, append_assoc}
 use Rattle.std.specs.Option.{option_map}
 use Rattle.std.proofs.lemmas.List.{map-append}
 use Rattle.mt_values.specs.declared.annals.Noted.{Noted}
@@ -41,8 +41,13 @@ commands_push [] s h entries last none at =
 commands_push (x ∷ ran) s h entries last (inl later) at = inl (commands_push ran s h entries last later at)
 commands_push (x ∷ ran) s h entries last (inr with) at =
     let here : h ++ entries_of entries ≡ (h ++ with.0.entry ∷ []) ++ entries_of with.1 = ap (λ (ns : List Noted). h ++ entries_of ns) with.2 ∙ sym (append_assoc h (with.0.entry ∷ []) (entries_of with.1)) in
-    inr (with.0, with.1 ++ last ∷ [], ap (λ (ns : List Noted). ns ++ last ∷ []) with.2, with.3,
-    commands_push ran s (h ++ with.0.entry ∷ []) with.1 last with.4 (subst (λ (k : History). IsCommandAt k s last.entry) here at))
+    inr (
+      with.0,
+      with.1 ++ last ∷ [],
+      ap (λ (ns : List Noted). ns ++ last ∷ []) with.2,
+      with.3,
+      commands_push ran s (h ++ with.0.entry ∷ []) with.1 last with.4 (subst (λ (k : History). IsCommandAt k s last.entry) here at),
+    )
 
 -- nothing was gained
 pub gained_nothing : (annals : Option Told) (kept : Told) → annals ≡ Some kept → IsGainedBy [] annals kept

@@ -1,5 +1,5 @@
 // Answering the statements of a script, one after another.
-ghost use Rattle.std.specs.Prelude.{◌≡◌, [], ◌<◌, ◌≤◌, ◌-◌, ◌^◌, Ok, Some, true, false, IfOk, IfSome, OnOk, drop, length, ℕ};
+ghost use Rattle.std.specs.Prelude.{◌≡◌, [], ◌<◌, ◌≤◌, ◌-◌, ◌^◌, Ok, Some, true, false, IfOk, IfSome, drop, length, ℕ};
 ghost use Rattle.std.specs.Option.{option_map};
 ghost use Rattle.mt_values.specs.Annals.{Told};
 ghost use Rattle.mt_values.specs.Script.{next_statement, statements_of};
@@ -76,8 +76,7 @@ pub fn answer<D: Disk, A: Annals, G: Gate>(
     ensures answers { (kept : Told) → A.told annals.old ≡ Some kept → D.Arm.tells arm.old ≡ true → CoreStands D.Arm.Dir.files (history kept) store.old
         → Answers D.Arm.Dir.files kept statement store.old.opened (D.failed disk.new) (D.Arm.failed arm.new) result store.new (A.told annals.new) (D.told disk.old) (D.told disk.new) }
     ensures gains { Gains statement (D.failed disk.old) store.old (A.told annals.old) (A.told annals.new) }
-    ensures through_crashes {
-        let was : Outside = record { disk = D.told disk.old; clock = D.clock disk.old; failed = D.failed disk.old; annals = A.told annals.old } in
+    ensures through_crashes { let was : Outside = record { disk = D.told disk.old; clock = D.clock disk.old; failed = D.failed disk.old; annals = A.told annals.old } in
         let now : Outside = record { disk = D.told disk.new; clock = D.clock disk.new; failed = D.failed disk.new; annals = A.told annals.new } in
         (first : Told) (start : ℕ) → D.Arm.tells arm.old ≡ true
         → KeepsThroughCrashes D.Arm.Dir.files store.old was first start → KeepsThroughCrashes D.Arm.Dir.files store.new now first start }
@@ -115,8 +114,7 @@ pub fn serve<D: Disk, A: Annals, K: Sink, G: Gate>(
     requires below { store.old.opened < 2 ^ 64 - 1 }
     ensures run { (kept : Told) → A.told annals.old ≡ Some kept → D.Arm.tells arm.old ≡ true → CoreStands D.Arm.Dir.files (history kept) store.old → RootStands (D.told disk.old) (history kept)
         → ServedBy result kept script.now store.old.opened (D.failed disk.new) (D.Arm.failed arm.new) (A.told annals.new) (D.told disk.new) (K.written sink.old) (K.written sink.new) }
-    ensures through_crashes {
-        let was : Outside = record { disk = D.told disk.old; clock = D.clock disk.old; failed = D.failed disk.old; annals = A.told annals.old } in
+    ensures through_crashes { let was : Outside = record { disk = D.told disk.old; clock = D.clock disk.old; failed = D.failed disk.old; annals = A.told annals.old } in
         let now : Outside = record { disk = D.told disk.new; clock = D.clock disk.new; failed = D.failed disk.new; annals = A.told annals.new } in
         (first : Told) (start : ℕ) → D.Arm.tells arm.old ≡ true
         → KeepsThroughCrashes D.Arm.Dir.files store.old was first start → IsGainedBy [] (A.told annals.old) first

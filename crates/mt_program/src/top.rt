@@ -94,8 +94,7 @@ fn run_script<D: Disk, A: Annals, S: Source, K: Sink, G: Gate>(
         → CoreStands D.Arm.Dir.files (history kept) store.old → RootStands (D.told disk.old) (history kept)
         → LeftBy result kept script store.old.opened (D.failed disk.new) (D.Arm.failed arm.new) (A.told annals.new) (D.told disk.old) (D.told disk.new) (K.written sink.old) (K.written sink.new) }
     ensures undamaged { D.Arm.tells arm.old ≡ true → HasSoundParts D.Arm.Dir.files store.old → MetNoDamage result }
-    ensures through_crashes {
-        let was : Outside = record { disk = D.told disk.old; clock = D.clock disk.old; failed = D.failed disk.old; annals = A.told annals.old } in
+    ensures through_crashes { let was : Outside = record { disk = D.told disk.old; clock = D.clock disk.old; failed = D.failed disk.old; annals = A.told annals.old } in
         let now : Outside = record { disk = D.told disk.new; clock = D.clock disk.new; failed = D.failed disk.new; annals = A.told annals.new } in
         (first : Told) (start : ℕ) → D.Arm.tells arm.old ≡ true
         → KeepsThroughCrashes D.Arm.Dir.files store.old was first start → IsGainedBy [] (A.told annals.old) first
@@ -171,12 +170,10 @@ fn run_root<D: Disk, A: Annals, S: Source, K: Sink, G: Gate>(
         × (D.told disk.new ≡ D.told disk.old) × (A.told annals.new ≡ A.told annals.old) }
     ensures sound { (kept : Told) (told : root.Told) → A.told annals.old ≡ Some kept → D.told disk.old ≡ Some told → Stands (root.names_of told) (history kept) → D.Arm.tells arm.old ≡ true → MetNoDamage result }
     ensures damaged { (told : root.Told) → D.told disk.old ≡ Some told → D.Arm.tells arm.old ≡ true → MetNoDamage result ⊎ IsDamagedRoot (root.names_of told) }
-    ensures crashes {
-        let now : Outside = record { disk = D.told disk.new; clock = D.clock disk.new; failed = D.failed disk.new; annals = A.told annals.new } in
+    ensures crashes { let now : Outside = record { disk = D.told disk.new; clock = D.clock disk.new; failed = D.failed disk.new; annals = A.told annals.new } in
         (kept : Told) (told : root.Told) → A.told annals.old ≡ Some kept → D.told disk.old ≡ Some told → D.Arm.tells arm.old ≡ true → AllStand told (D.clock disk.old) (history kept)
         → LeavesOfScript (S.left source.old) opened now kept (D.clock disk.old) }
-    ensures settles {
-        let now : Outside = record { disk = D.told disk.new; clock = D.clock disk.new; failed = D.failed disk.new; annals = A.told annals.new } in
+    ensures settles { let now : Outside = record { disk = D.told disk.new; clock = D.clock disk.new; failed = D.failed disk.new; annals = A.told annals.new } in
         (kept : Told) (told : root.Told) → A.told annals.old ≡ Some kept → D.told disk.old ≡ Some told → D.Arm.tells arm.old ≡ true → root.names_of told ≢ [] → AllStand told (D.clock disk.old + 1) (history kept)
         → IsAsBefore (D.told disk.old) (D.told disk.new) (A.told annals.old) (A.told annals.new) (K.written sink.old) (K.written sink.new)
         ⊎ LeavesOfScript (S.left source.old) opened now kept (D.clock disk.old + 1) }
@@ -215,12 +212,10 @@ fn run_opened<D: Disk, A: Annals, S: Source, K: Sink, G: Gate>(
         × (D.told disk.new ≡ D.told disk.old) × (A.told annals.new ≡ A.told annals.old) }
     ensures sound { (kept : Told) (told : root.Told) → A.told annals.old ≡ Some kept → D.told disk.old ≡ Some told → Stands (root.names_of told) (history kept) → result ≡ Status.Damaged → ⊥ }
     ensures damaged { (told : root.Told) → D.told disk.old ≡ Some told → result ≡ Status.Damaged → IsDamagedRoot (root.names_of told) }
-    ensures crashes {
-        let now : Outside = record { disk = D.told disk.new; clock = D.clock disk.new; failed = D.failed disk.new; annals = A.told annals.new } in
+    ensures crashes { let now : Outside = record { disk = D.told disk.new; clock = D.clock disk.new; failed = D.failed disk.new; annals = A.told annals.new } in
         (kept : Told) (told : root.Told) → A.told annals.old ≡ Some kept → D.told disk.old ≡ Some told → AllStand told (D.clock disk.old) (history kept)
         → LeavesOfScript (S.left source.old) (D.failed disk.old) now kept (D.clock disk.old) }
-    ensures settles {
-        let now : Outside = record { disk = D.told disk.new; clock = D.clock disk.new; failed = D.failed disk.new; annals = A.told annals.new } in
+    ensures settles { let now : Outside = record { disk = D.told disk.new; clock = D.clock disk.new; failed = D.failed disk.new; annals = A.told annals.new } in
         (kept : Told) (told : root.Told) → A.told annals.old ≡ Some kept → D.told disk.old ≡ Some told → root.names_of told ≢ [] → AllStand told (D.clock disk.old + 1) (history kept)
         → IsAsBefore (D.told disk.old) (D.told disk.new) (A.told annals.old) (A.told annals.new) (K.written sink.old) (K.written sink.new)
         ⊎ LeavesOfScript (S.left source.old) (D.failed disk.old) now kept (D.clock disk.old + 1) }
@@ -279,12 +274,10 @@ pub fn run<R: Threads + Wait + Sync, D: Disk, A: Annals, S: Source, K: Sink, G: 
         → result.status ≡ 6 → Leaves (CutByMemory (D.told result.disk) (record { opened = D.failed disk; ended = D.failed result.disk })) kept script before (A.told result.annals) (K.written sink.new) }
     ensures too_long { (kept : Told) (script before : List ℕ) → Starts (D.told disk) (A.told annals) (S.left source.old) (K.written sink.old) kept script before
         → result.status ≡ 8 → Leaves (ReadRun (S.left source.new) script (D.told result.disk) (record { opened = D.failed disk; ended = D.failed result.disk })) kept script before (A.told result.annals) (K.written sink.new) }
-    ensures crashes {
-        let now : Outside = record { disk = D.told result.disk; clock = D.clock result.disk; failed = D.failed result.disk; annals = A.told result.annals } in
+    ensures crashes { let now : Outside = record { disk = D.told result.disk; clock = D.clock result.disk; failed = D.failed result.disk; annals = A.told result.annals } in
         (kept : Told) (told : root.Told) → A.told annals ≡ Some kept → D.told disk ≡ Some told → AllStand told (D.clock disk) (history kept)
         → LeavesOfScript (S.left source.old) (D.failed disk) now kept (D.clock disk) }
-    ensures settles {
-        let now : Outside = record { disk = D.told result.disk; clock = D.clock result.disk; failed = D.failed result.disk; annals = A.told result.annals } in
+    ensures settles { let now : Outside = record { disk = D.told result.disk; clock = D.clock result.disk; failed = D.failed result.disk; annals = A.told result.annals } in
         (kept : Told) (told : root.Told) → A.told annals ≡ Some kept → D.told disk ≡ Some told → root.names_of told ≢ [] → AllStand told (D.clock disk + 1) (history kept)
         → IsAsBefore (D.told disk) (D.told result.disk) (A.told annals) (A.told result.annals) (K.written sink.old) (K.written sink.new)
         ⊎ LeavesOfScript (S.left source.old) (D.failed disk) now kept (D.clock disk + 1) }

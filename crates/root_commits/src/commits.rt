@@ -1,5 +1,5 @@
 // A command added to the disk, to what the keeper tells and to the store.
-ghost use Rattle.std.specs.Prelude.{◌≡◌, ◌≢◌, ◌+◌, ◌-◌, ◌<◌, ◌≤◌, ◌^◌, ◌∷◌, ◌++◌, [], ℕ, IsSome, IsTrue, List, Option, Some, None, IfErr, IfOk, IfSome, IsNone, OnErr, OnOk, length};
+ghost use Rattle.std.specs.Prelude.{◌≡◌, ◌≢◌, ◌+◌, ◌-◌, ◌<◌, ◌≤◌, ◌^◌, ℕ, IsSome, IsTrue, List, Option, Some, None, IfErr, IfOk, IfSome, IsNone, OnErr, OnOk, length};
 ghost use Rattle.std.specs.BTreeMap.{Updates, get, insert_entry};
 ghost use Rattle.std.specs.Cmp.Lexicographic.{slice_cmp};
 ghost use Rattle.std.specs.Option.{option_map};
@@ -261,8 +261,7 @@ pub fn commit_create<D: Disk, A: Annals>(
         → CoreStands D.Arm.Dir.files h store.old → LeavesOne (D.told disk.old) (D.clock disk.old) h
         → OnOk result (LeavesOne (D.told disk.new) (D.clock disk.new) (entered h session (command.Create create))) }
     ensures images_err { (h : History) → LeavesOne (D.told disk.old) (D.clock disk.old) h → IfErr result (λ r. r.cause ≢ Refused.Disk → LeavesOne (D.told disk.new) (D.clock disk.new) h) }
-    ensures through_crashes {
-        let was : Outside = record { disk = D.told disk.old; clock = D.clock disk.old; failed = D.failed disk.old; annals = A.told annals.old } in
+    ensures through_crashes { let was : Outside = record { disk = D.told disk.old; clock = D.clock disk.old; failed = D.failed disk.old; annals = A.told annals.old } in
         let now : Outside = record { disk = D.told disk.new; clock = D.clock disk.new; failed = D.failed disk.new; annals = A.told annals.new } in
         (first : Told) (start : ℕ) (files : Files) → sealed.files ≡ Some files → EntryHolds create.table create.schema files
         → KeepsThroughCrashes D.Arm.Dir.files store.old was first start → KeepsThroughCrashes D.Arm.Dir.files store.new now first start }
@@ -402,8 +401,7 @@ pub fn commit_part<D: Disk, A: Annals>(
         → CoreStands D.Arm.Dir.files h store.old → LeavesOne (D.told disk.old) (D.clock disk.old) h
         → OnOk result (LeavesOne (D.told disk.new) (D.clock disk.new) (entered h session (insert_of_block table.now block))) }
     ensures images_err { (h : History) → LeavesOne (D.told disk.old) (D.clock disk.old) h → IfErr result (λ r. r.cause ≢ Refused.Disk → LeavesOne (D.told disk.new) (D.clock disk.new) h) }
-    ensures through_crashes {
-        let was : Outside = record { disk = D.told disk.old; clock = D.clock disk.old; failed = D.failed disk.old; annals = A.told annals.old } in
+    ensures through_crashes { let was : Outside = record { disk = D.told disk.old; clock = D.clock disk.old; failed = D.failed disk.old; annals = A.told annals.old } in
         let now : Outside = record { disk = D.told disk.new; clock = D.clock disk.new; failed = D.failed disk.new; annals = A.told annals.new } in
         (t : Made) (first : Told) (start : ℕ) → table_at store.old table.now ≡ Some t → IsSealedOf t.schema block part.sealed.files part.loaded
         → KeepsThroughCrashes D.Arm.Dir.files store.old was first start → KeepsThroughCrashes D.Arm.Dir.files store.new now first start }
