@@ -1,4 +1,4 @@
-use Rattle.std.proofs.Common.{[], ◌∙◌, ◌+◌, ℕ, None, subst, refl, sym, inl, inr}
+use Rattle.std.proofs.Common.{◌∙◌, ◌+◌, ℕ, subst, refl, sym, inl, inr}
 use Rattle.mt_outside.specs.Disk.{names_of}
 use Rattle.reply_lines.specs.Foreseen.{history}
 use Rattle.mt_program.specs.Endings.{LeftBy}
