@@ -4,7 +4,7 @@ ghost use Rattle.mt_values.specs.declared.statement.Statement.TheVariants as sta
 ghost use Rattle.mt_values.specs.Annals.{Told};
 ghost use Rattle.mt_model.specs.Refusals.{is_damage};
 ghost use Rattle.mt_model.specs.Written.{IsCreateText};
-ghost use Rattle.root_store.specs.Crashes.{KeepsThroughCrashes, Outside};
+ghost use Rattle.root_store.specs.Crashes.{KeepsThroughCrashes, Storage};
 ghost use Rattle.root_store.specs.Soundness.{HasSoundParts, IsSound, NamesFitUnlessRisen};
 ghost use Rattle.root_store.specs.Stores.{CoreStands};
 ghost use Rattle.command_turn.specs.Answers.{AcceptsNothing, Answers};
@@ -44,8 +44,8 @@ pub fn create<D: Disk, A: Annals>(
     ensures gains { Gains (Ok (statement.Create text.now)) (D.failed disk.old) store.old (A.told annals.old) (A.told annals.new) }
     ensures causes { IfOk result (λ reply. HasCauses store.old.opened (D.failed disk.old) (D.failed disk.new) (D.Arm.failed arm.old) (D.Arm.failed arm.new) reply.items) }
     ensures stopped { store.old.opened < D.failed disk.old → AcceptsNothing store.old store.new disk.old disk.new (A.told annals.old) (A.told annals.new) }
-    ensures through_crashes { let was : Outside = record { disk = D.told disk.old; clock = D.clock disk.old; failed = D.failed disk.old; annals = A.told annals.old } in
-        let now : Outside = record { disk = D.told disk.new; clock = D.clock disk.new; failed = D.failed disk.new; annals = A.told annals.new } in
+    ensures through_crashes { let was : Storage = record { disk = D.told disk.old; clock = D.clock disk.old; failed = D.failed disk.old; annals = A.told annals.old } in
+        let now : Storage = record { disk = D.told disk.new; clock = D.clock disk.new; failed = D.failed disk.new; annals = A.told annals.new } in
         (first : Told) (start : ℕ) → D.Arm.tells arm.old ≡ true
         → KeepsThroughCrashes D.Arm.Dir.files store.old was first start → KeepsThroughCrashes D.Arm.Dir.files store.new now first start }
     ensures undamaged { IfOk result (λ reply. is_damage reply.items ≡ false) }

@@ -1,8 +1,13 @@
 -- A run that nothing stands against is answered whole, or wants memory.
-use Rattle.std.proofs.Common.{◌≡◌, ◌⊎◌, ◌+◌, ◌-◌, ◌<◌, ◌≤◌, ◌^◌, ◌++◌, ℕ, Bool, true, List, length, min, Option, Some, None, inl, inr, refl, sym, ap, ◌∙◌, subst, arith, length-append, append-nil}
+use Rattle.std.proofs.Common.{◌≡◌, ◌⊎◌, ◌+◌, ◌-◌, ◌<◌, ◌≤◌, ◌^◌, ◌++◌, ℕ, Bool, true, List, length, min, Option, Some, None, inl, inr, refl, sym, ap, ◌∙◌, subst, arith, length-append, append-nil, map, take}
 use Rattle.std.proofs.lemmas.Bool.{cases_lt, false≢true}
 use Rattle.std.specs.Io.KnownBytes.{Consumes}
+use Rattle.std.proofs.lemmas.List.{map-append}
+use Rattle.std.proofs.Math.Seq.{take-append_seam}
+use Rattle.mt_values.specs.declared.annals.Noted.{Noted}
 use Rattle.mt_values.specs.Annals.{Told}
+use Rattle.mt_model.specs.History.{History}
+use Rattle.reply_lines.proofs.Ends.{length_history}
 use Rattle.mt_values.specs.Script.{statements_of}
 use Rattle.mt_outside.specs.Causes.{Rose}
 use Rattle.mt_model.specs.Causes.{NoneMeets}
@@ -51,14 +56,19 @@ not_risen before now later calm = elim (cases_lt now (min (before + 1) (2 ^ 64 -
   | inr rose ↦ absurd (calm rose)
 ]
 
+-- the entries that were there before come first
+front_is : (kept now : Told) (more : List Noted) → now.list ≡ kept.list ++ more → take (length kept.list) (history now) ≡ history kept
+front_is kept now more is =
+    let entries = λ (n : Noted). n.entry in
+    let all : history now ≡ history kept ++ map entries more = ap (map entries) is ∙ map-append entries kept.list more in
+    ap (take (length kept.list)) all ∙ (ap (λ (m : ℕ). take m (history kept ++ map entries more)) (sym (length_history kept)) ∙ take-append_seam (history kept) (map entries more))
+
 -- where no statement meets a cause, none was refused
-pub none_refused : (before after : World) (kept now : Told) (script written : List ℕ) → before.storage.failed ≤ after.storage.failed → (Rose before.storage.failed after.storage.failed → ⊥) → after.storage.annals ≡ Some now
-    → NoneMeets (history now) (length kept.list) (statements_of script) → Headline status.Refused before after kept script written → ⊥
-none_refused before after kept now script written later calm there none_meets left =
-    let both : Some left.now ≡ Some now = sym left.annals_is ∙ there in
-    let same : left.now ≡ now = cc in
+pub none_refused : (before after : World) (kept : Told) (script written : List ℕ) → before.storage.failed ≤ after.storage.failed → (Rose before.storage.failed after.storage.failed → ⊥)
+    → NoneMeets (history kept) (statements_of script) → Headline status.Refused before after kept script written → ⊥
+none_refused before after kept script written later calm none_meets left =
     let still = not_risen before.storage.failed after.storage.failed later calm in
-    let causes : NoneMeets (history left.now) (length kept.list) (statements_of script) = subst (λ (k : Told). NoneMeets (history k) (length kept.list) (statements_of script)) (sym same) none_meets in
+    let causes : NoneMeets (take (length kept.list) (history left.now)) (statements_of script) = subst (λ (h : History). NoneMeets h (statements_of script)) (sym (front_is kept left.now left.more left.begins)) none_meets in
     let none = calm_script (counts_of before after) (statements_of script) (history left.now) (length kept.list) left.course.replies still.0 still.1 (whole_run before after kept script written true left.now left.course left.rest left.out left.split left.ran left.ends) causes in
     false≢true (sym none ∙ sym left.ends.says.refusals)
   where

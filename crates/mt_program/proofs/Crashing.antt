@@ -5,7 +5,7 @@ use Rattle.mt_values.specs.Script.{statements_of}
 use Rattle.mt_outside.specs.Disk as root
 use Rattle.mt_outside.specs.Files.{Files}
 use Rattle.root_store.specs.declared.store.CoreStore.{CoreStore}
-use Rattle.root_store.specs.Crashes.{AreCalm, AreCrashSafe, IsCrashSafe, KeepsThroughCrashes, Outside, entries_of, none_begun}
+use Rattle.root_store.specs.Crashes.{AreCalm, AreCrashSafe, IsCrashSafe, KeepsThroughCrashes, Storage, entries_of, none_begun}
 use Rattle.root_store.specs.Stores.{CoreStands}
 use Rattle.root_commits.proofs.CrashTurns.{calm_moved, safe_moved}
 use Rattle.root_store.proofs.CrashMarks.{safe_begun, some_one}
@@ -23,12 +23,12 @@ told_is None script is = let none : None ≡ Some script = is in cc
 told_is (Some bytes) script is = let both : Some bytes ≡ Some script = is in let same : bytes ≡ script = cc in same
 
 -- after the last command the store is not needed any more
-left_for_crashes : {F : Type 0} {files_of : F → Option Files} {store : CoreStore F} {now : Outside} {first : Told} {start : ℕ} (opened : ℕ) (statements : List Item)
+left_for_crashes : {F : Type 0} {files_of : F → Option Files} {store : CoreStore F} {now : Storage} {first : Told} {start : ℕ} (opened : ℕ) (statements : List Item)
     → store.opened ≡ opened → KeepsThroughCrashes files_of store now first start → IsGainedBy statements now.annals first → LeavesForCrashes statements opened now first start
 left_for_crashes opened statements same keeps gained = record { safe = keeps.safe; calm = λ is. (keeps.calm (is ∙ sym same)).0; gained = gained }
 
 -- of a script of which some statements ran
-pub left_behind : {F : Type 0} {files_of : F → Option Files} {store : CoreStore F} {now : Outside} {first : Told} {start : ℕ} (opened : ℕ) (statements ran rest : List Item)
+pub left_behind : {F : Type 0} {files_of : F → Option Files} {store : CoreStore F} {now : Storage} {first : Told} {start : ℕ} (opened : ℕ) (statements ran rest : List Item)
     → statements ≡ ran ++ rest → store.opened ≡ opened → KeepsThroughCrashes files_of store now first start → IsGainedBy ran now.annals first → LeavesForCrashes statements opened now first start
 left_behind {now = now} {first = first} opened statements ran rest split same keeps gained =
     left_for_crashes opened statements same keeps (subst (λ (ss : List Item). IsGainedBy ss now.annals first) (sym split) (gained_more first ran rest now.annals gained))
@@ -38,7 +38,7 @@ pub one_more : (script : List ℕ) (ran left : List Item) (st : Item) (rest : Li
 one_more script ran left st rest split is = split ∙ (ap (λ (ss : List Item). ran ++ ss) is ∙ sym (append_assoc ran (st ∷ []) rest))
 
 -- the script was not read
-pub unread : {F : Type 0} {files_of : F → Option Files} {store : CoreStore F} {now : Outside} {first : Told} {start : ℕ} (source : Option (List ℕ))
+pub unread : {F : Type 0} {files_of : F → Option Files} {store : CoreStore F} {now : Storage} {first : Told} {start : ℕ} (source : Option (List ℕ))
     → KeepsThroughCrashes files_of store now first start → IsGainedBy [] now.annals first → LeavesOfScript source store.opened now first start
 unread {store = store} {now = now} {first = first} source keeps gained = record {
   text = told_or_none source;
@@ -46,7 +46,7 @@ unread {store = store} {now = now} {first = first} source keeps gained = record 
   leaves = left_for_crashes store.opened (statements_of (told_or_none source)) refl keeps (gained_more first [] (statements_of (told_or_none source)) now.annals gained);
 }
 
-module _ (told : root.Told) (kept : Told) (now : Outside) (start : ℕ) (disk_is : now.disk ≡ Some told) (annals_is : now.annals ≡ Some kept) (safe : IsCrashSafe told now.clock (none_begun kept.list) kept.list start) where
+module _ (told : root.Told) (kept : Told) (now : Storage) (start : ℕ) (disk_is : now.disk ≡ Some told) (annals_is : now.annals ≡ Some kept) (safe : IsCrashSafe told now.clock (none_begun kept.list) kept.list start) where
   opened_calm : AreCalm now kept start
   opened_calm = record { told = told; kept = kept; disk_is = disk_is; annals_is = annals_is; settled = safe }
 
@@ -76,7 +76,7 @@ module _ (told : root.Told) (kept : Told) (now : Outside) (start : ℕ) (disk_is
   }
 
 -- the disk was handed on, its count of faults no lower, without a change of what is known of it
-pub left_moved : {source : Option (List ℕ)} {opened : ℕ} {first : Told} {start : ℕ} (was now : Outside)
+pub left_moved : {source : Option (List ℕ)} {opened : ℕ} {first : Told} {start : ℕ} (was now : Storage)
     → now.disk ≡ was.disk → now.clock ≡ was.clock → now.annals ≡ was.annals → (now.failed ≡ opened → was.failed ≡ opened) → LeavesOfScript source opened was first start → LeavesOfScript source opened now first start
 left_moved {first = first} {start = start} was now disk mark list back left = record {
   text = left.text;

@@ -1,128 +1,212 @@
 -- What annals gained by statements, and gain by one more.
-use Rattle.std.proofs.Common.{◌≡◌, ◌⊎◌, inl, inr, ◌++◌, ◌∷◌, ℕ, List, [], Option, Some, Ok, ap, sym, refl, subst, ◌∙◌, append-nil, append_assoc}
-use Rattle.std.specs.Option.{option_map}
+use Rattle.std.proofs.Common.{◌≡◌, ◌⊎◌, inl, inr, ◌+◌, ◌-◌, ◌<◌, ◌≤◌, ◌^◌, ◌++◌, ◌∷◌, ℕ, List, [], length, min, Option, Some, None, Ok, Err, ap, sym, refl, subst, ◌∙◌, append-nil, append_assoc, arith, map}
 use Rattle.std.proofs.lemmas.List.{map-append}
+use Rattle.std.proofs.lemmas.List.Elements.{All-append, All-nil}
+use Rattle.std.proofs.lemmas.Bool.{cases_lt}
+use Rattle.std.specs.List.{All}
 use Rattle.mt_values.specs.declared.annals.Noted.{Noted}
 use Rattle.mt_values.specs.declared.command.Command.{Command}
-use Rattle.mt_values.specs.declared.command.Command.TheVariants as command
 use Rattle.mt_values.specs.declared.command.Entry.{Entry}
-use Rattle.mt_values.specs.declared.schema.Schema.{Schema}
-use Rattle.mt_values.specs.declared.statement.Statement.{Statement}
-use Rattle.mt_values.specs.declared.statement.Statement.TheVariants as statement
-use Rattle.mt_values.specs.Annals.{Told, began, noted}
+use Rattle.mt_values.specs.Annals.{Told}
+use Rattle.mt_outside.specs.Disk as root
 use Rattle.mt_outside.specs.Files.{Files}
 use Rattle.mt_model.specs.History.{History}
-use Rattle.mt_model.specs.Reply.{rows_for}
-use Rattle.durable_commit.specs.Commits.{Notes, entry_of}
+use Rattle.mt_model.specs.Outside.{Outside}
+use Rattle.mt_model.specs.Session.{AddsNothing, IsNext, SessionGives, Unanswered}
+use Rattle.mt_model.proofs.Gained.{gives_append, gives_more, next_more, takes_give}
+use Rattle.mt_model.proofs.Growing.{stays}
+use Rattle.durable_commit.specs.Commits.{entry_of}
+use Rattle.reply_lines.specs.Foreseen.{Foresees, history}
+use Rattle.reply_lines.proofs.Ends.{added_nothing, length_history}
 use Rattle.root_store.specs.declared.store.CoreStore.{CoreStore}
-use Rattle.root_store.specs.Crashes.{StandsForKept, entries_of}
-use Rattle.command_turn.specs.Gains.{BeginsCommand, Gains, IsCommandBy}
-use Rattle.mt_program.specs.Crashes.{AreCommandsOf, IsCommandAfter, IsCommandAt, IsGainedBy}
-use Rattle.mt_program.specs.Courses.{Item}
+use Rattle.root_store.specs.Crashes.{StandsForKept}
+use Rattle.root_store.specs.Stores.{CoreStands}
+use Rattle.command_turn.specs.Answers.{Answered, BeginsNext, IsBegun, Keeps}
+use Rattle.mt_program.specs.Crashes.{IsGainedBy}
+use Rattle.mt_program.specs.Courses.{IsBegunBy, IsNextOf, Item}
 
--- no entries are commands of whatever statements
-pub no_commands : (statements : List Item) (h : History) → AreCommandsOf statements h []
-unfolding AreCommandsOf
-no_commands [] h = refl
-no_commands (s ∷ statements) h = inl (no_commands statements h)
+abbrev entries : List Noted → History
+entries list = map (λ (n : Noted). n.entry) list
 
-commands_more : (ran rest : List Item) (h : History) (entries : List Noted) → AreCommandsOf ran h entries → AreCommandsOf (ran ++ rest) h entries
-unfolding AreCommandsOf
-commands_more [] rest h entries none = subst (AreCommandsOf rest h) (sym none) (no_commands rest h)
-commands_more (s ∷ ran) rest h entries (inl later) = inl (commands_more ran rest h entries later)
-commands_more (s ∷ ran) rest h entries (inr of) = inr (of.0, of.1, of.2, of.3, commands_more ran rest (h ++ of.0.entry ∷ []) of.1 of.4)
+-- ---- statements that did not run
 
--- the command of one statement more comes after them
-commands_push : (ran : List Item) (s : Item) (h : History) (entries : List Noted) (last : Noted) → AreCommandsOf ran h entries → IsCommandAt (h ++ entries_of entries) s last.entry → AreCommandsOf (ran ++ s ∷ []) h (entries ++ last ∷ [])
-unfolding AreCommandsOf
-commands_push [] s h entries last none at =
-    let here : h ++ entries_of entries ≡ h = ap (λ (ns : List Noted). h ++ entries_of ns) none ∙ append-nil h in
-    inr (last, [], ap (λ (ns : List Noted). ns ++ last ∷ []) none, subst (λ (k : History). IsCommandAt k s last.entry) here at, refl)
-commands_push (x ∷ ran) s h entries last (inl later) at = inl (commands_push ran s h entries last later at)
-commands_push (x ∷ ran) s h entries last (inr with) at =
-    let here : h ++ entries_of entries ≡ (h ++ with.0.entry ∷ []) ++ entries_of with.1 = ap (λ (ns : List Noted). h ++ entries_of ns) with.2 ∙ sym (append_assoc h (with.0.entry ∷ []) (entries_of with.1)) in
-    inr (
-      with.0,
-      with.1 ++ last ∷ [],
-      ap (λ (ns : List Noted). ns ++ last ∷ []) with.2,
-      with.3,
-      commands_push ran s (h ++ with.0.entry ∷ []) with.1 last with.4 (subst (λ (k : History). IsCommandAt k s last.entry) here at),
-    )
+pub idle : (h : History) (s : Item) (to : ℕ) → to ≤ length h → Unanswered h 0 s to to
+idle h (Ok said) to le = inl (stays h 0 to le)
+idle h (Err why) to le = stays h 0 to le
+
+gives_idle : (h : History) (rest : List Item) (to : ℕ) → to ≤ length h → SessionGives h 0 rest to to
+gives_idle h [] to le = refl
+gives_idle h (s ∷ rest) to le = (to, idle h s to le, gives_idle h rest to le)
+
+gives_join : (h : History) (ran rest : List Item) (from mid to : ℕ) → SessionGives h 0 ran from mid → SessionGives h 0 rest mid to → SessionGives h 0 (ran ++ rest) from to
+gives_join h [] rest from mid to first later = subst (λ (p : ℕ). SessionGives h 0 rest p to) (sym first) later
+gives_join h (s ∷ ran) rest from mid to first later = (first.0, first.1, gives_join h ran rest first.0 mid to first.2 later)
+
+-- ---- what is begun
+
+-- statements after those that ran began nothing
+pub begun_more : (first now : Told) (ran rest : List Item) → IsBegunBy first now ran → IsBegunBy first now (ran ++ rest)
+begun_more first now ran rest (inl same) = inl same
+begun_more first now ran rest (inr (inl none)) = inr (inl none)
+begun_more first now ran rest (inr (inr (c, is, of))) = inr (inr (
+  c,
+  is,
+  record { before = of.before; said = of.said; after = of.after ++ rest; split = ap (λ (xs : List Item). xs ++ rest) of.split ∙ append_assoc of.before (of.said ∷ of.after) rest; place = of.place; gives = of.gives; next = of.next },
+))
+
+-- What one statement did to the annals.
+pub record Stepped (old now : Told) (s : Item) : Type 0 where
+  pub more : List Noted
+  pub list_is : now.list ≡ old.list ++ more
+  pub sessions : All (λ (n : Noted). n.entry.session ≡ 0) more
+  pub gives : Unanswered (history now) 0 s (length old.list) (length now.list)
+  pub begun : ((now.begun ≡ old.begun) × (length now.list ≡ length old.list))
+      ⊎ (now.begun ≡ None)
+      ⊎ ((c : Command) × (now.begun ≡ Some (entry_of 0 c)) × IsNext (history now) 0 s (length old.list) (length now.list) c)
+
+next_of : (old now : Told) (s : Item) (done : List Command) (b : BeginsNext old now s done) → IsNext (history now) 0 s (length old.list) (length now.list) b.next
+next_of old now s done b = subst (λ (st : Item). IsNext (history now) 0 st (length old.list) (length now.list) b.next) (sym b.statement_is) (done, b.rest, b.stops)
+
+-- what the outside may come to
+far : (opened disk : ℕ) → Outside
+far opened disk = record { opened = opened; ended = disk + (2 ^ 64 - 1) }
+
+foreseen : (opened disk arm : ℕ) → Foresees opened disk arm (far opened disk)
+unfolding far
+foreseen opened disk arm = record { opened_is = refl; later = omega arith; risen = λ some. omega arith }
+
+-- a statement that was answered
+pub stepped_answered : {F : Type 0} (files_of : F → Option Files) (old : Told) (s : Item) (opened disk arm : ℕ) (reply : List ℕ) (store : CoreStore F) (told : Option Told) (root_before now_root : Option root.Told)
+    → (a : Answered files_of old s opened disk arm reply store told root_before now_root) → Stepped old a.now s
+stepped_answered files_of old s opened disk arm reply store told root_before now_root a = record {
+  more = a.more;
+  list_is = a.list_is;
+  sessions = a.sessions;
+  gives = takes_give (far opened disk) (history a.now) 0 s (length old.list) (length a.now.list) reply (a.takes (far opened disk) (foreseen opened disk arm));
+  begun = by a.begun;
+}
+  where
+    by : IsBegun old a.now s reply
+        → ((a.now.begun ≡ old.begun) × (length a.now.list ≡ length old.list)) ⊎ (a.now.begun ≡ None) ⊎ ((c : Command) × (a.now.begun ≡ Some (entry_of 0 c)) × IsNext (history a.now) 0 s (length old.list) (length a.now.list) c)
+    by (inl same) = inl same
+    by (inr (inl none)) = inr (inl none.0)
+    by (inr (inr (failed, done, b))) = inr (inr (b.next, b.begun, next_of old a.now s done b))
+
+-- and one that has no reply
+pub stepped_keeps : (old : Told) (s : Item) (told : Option Told) (root_before now_root : Option root.Told) (k : Keeps old s told root_before now_root) → Stepped old k.now s
+stepped_keeps old s told root_before now_root k =
+    let size : length k.now.list ≡ length old.list = ap length k.list_is in
+    record {
+      more = [];
+      list_is = k.list_is ∙ sym (append-nil old.list);
+      sessions = All-nil (λ (n : Noted). n.entry.session ≡ 0);
+      gives = subst (λ (m : ℕ). Unanswered (history k.now) 0 s m (length k.now.list)) size (idle (history k.now) s (length k.now.list) (omega (arith, length_history k.now)));
+      begun = by k.begun;
+    }
+  where
+    by : (k.now.begun ≡ old.begun) ⊎ BeginsNext old k.now s []
+        → ((k.now.begun ≡ old.begun) × (length k.now.list ≡ length old.list)) ⊎ (k.now.begun ≡ None) ⊎ ((c : Command) × (k.now.begun ≡ Some (entry_of 0 c)) × IsNext (history k.now) 0 s (length old.list) (length k.now.list) c)
+    by (inl same) = inl (same, ap length k.list_is)
+    by (inr b) = inr (inr (b.next, b.begun, next_of old k.now s [] b))
+
+-- and one after which the annals are as they were
+stepped_same : (old : Told) (s : Item) → Stepped old old s
+stepped_same old s = record {
+  more = [];
+  list_is = sym (append-nil old.list);
+  sessions = All-nil (λ (n : Noted). n.entry.session ≡ 0);
+  gives = idle (history old) s (length old.list) (omega (arith, length_history old));
+  begun = inl (refl, refl);
+}
+
+-- ---- one statement more
+
+module _ (first old now : Told) (ran : List Item) (s : Item) (step : Stepped old now s) (gives : SessionGives (history old) 0 ran (length first.list) (length old.list)) where
+  grown : history now ≡ history old ++ entries step.more
+  grown = ap entries step.list_is ∙ map-append (λ (n : Noted). n.entry) old.list step.more
+
+  lifted : SessionGives (history now) 0 ran (length first.list) (length old.list)
+  lifted = subst (λ (h : History). SessionGives h 0 ran (length first.list) (length old.list)) (sym grown) (gives_more (history old) (entries step.more) 0 ran (length first.list) (length old.list) gives)
+
+  pub gives_step : SessionGives (history now) 0 (ran ++ s ∷ []) (length first.list) (length now.list)
+  gives_step = gives_append (history now) 0 ran s (length first.list) (length old.list) (length now.list) lifted step.gives
+
+  next_later : length now.list ≡ length old.list → (c : Command) → IsNextOf (history old) (length first.list) ran c → IsNextOf (history now) (length first.list) (ran ++ s ∷ []) c
+  next_later size c of = record {
+    before = of.before;
+    said = of.said;
+    after = of.after ++ s ∷ [];
+    split = ap (λ (xs : List Item). xs ++ s ∷ []) of.split ∙ append_assoc of.before (of.said ∷ of.after) (s ∷ []);
+    place = of.place;
+    gives = subst (λ (h : History). SessionGives h 0 of.before (length first.list) of.place) (sym grown) (gives_more (history old) (entries step.more) 0 of.before (length first.list) of.place of.gives);
+    next = subst (λ (m : ℕ). IsNext (history now) 0 of.said of.place m c) (length_history old ∙ (sym size ∙ sym (length_history now)))
+        (subst (λ (h : History). IsNext h 0 of.said of.place (length (history old)) c) (sym grown) (next_more (history old) (entries step.more) 0 of.said of.place (length (history old)) c of.next));
+  }
+
+  pub begun_step : IsBegunBy first old ran → IsBegunBy first now (ran ++ s ∷ [])
+  begun_step was = by step.begun
+    where
+      kept : (now.begun ≡ old.begun) → length now.list ≡ length old.list → IsBegunBy first old ran → IsBegunBy first now (ran ++ s ∷ [])
+      kept same size (inl still) = inl (same ∙ still.0, size ∙ still.1)
+      kept same size (inr (inl none)) = inr (inl (same ∙ none))
+      kept same size (inr (inr (c, is, of))) = inr (inr (c, same ∙ is, next_later size c of))
+
+      by : ((now.begun ≡ old.begun) × (length now.list ≡ length old.list)) ⊎ (now.begun ≡ None) ⊎ ((c : Command) × (now.begun ≡ Some (entry_of 0 c)) × IsNext (history now) 0 s (length old.list) (length now.list) c)
+          → IsBegunBy first now (ran ++ s ∷ [])
+      by (inl same) = kept same.0 same.1 was
+      by (inr (inl none)) = inr (inl none)
+      by (inr (inr (c, is, next))) = inr (inr (
+        c,
+        is,
+        record {
+          before = ran;
+          said = s;
+          after = [];
+          split = refl;
+          place = length old.list;
+          gives = lifted;
+          next = subst (λ (m : ℕ). IsNext (history now) 0 s (length old.list) m c) (sym (length_history now)) next;
+        },
+      ))
+
+-- ---- what annals gained
 
 -- nothing was gained
 pub gained_nothing : (annals : Option Told) (kept : Told) → annals ≡ Some kept → IsGainedBy [] annals kept
-gained_nothing annals kept is = record { kept = kept; annals_is = is; more = []; more_is = sym (append-nil kept.list); added = no_commands [] (entries_of kept.list); begun = λ e began. inl began }
+gained_nothing annals kept is = record { now = kept; annals_is = is; more = []; more_is = sym (append-nil kept.list); sessions = All-nil (λ (n : Noted). n.entry.session ≡ 0); gives = refl; begun = inl (refl, refl) }
 
-module _ (first : Told) (ran rest : List Item) where
-  after_more : (more : List Noted) (e : Entry) → IsCommandAfter ran (entries_of first.list) more e → IsCommandAfter (ran ++ rest) (entries_of first.list) more e
-  after_more more e of = (of.0, of.1 ++ rest, of.2, ap (λ (xs : List Item). xs ++ rest) of.3 ∙ append_assoc of.0 (of.2 ∷ of.1) rest, of.4, of.5)
+-- what statements gained is gained by these and more
+pub gained_more : (first : Told) (ran rest : List Item) (annals : Option Told) → IsGainedBy ran annals first → IsGainedBy (ran ++ rest) annals first
+gained_more first ran rest annals was = record {
+  now = was.now;
+  annals_is = was.annals_is;
+  more = was.more;
+  more_is = was.more_is;
+  sessions = was.sessions;
+  gives = gives_join (history was.now) ran rest (length first.list) (length was.now.list) (length was.now.list) was.gives (gives_idle (history was.now) rest (length was.now.list) (omega (arith, length_history was.now)));
+  begun = begun_more first was.now ran rest was.begun;
+}
 
-  -- what statements gained is gained by these and more
-  pub gained_more : (annals : Option Told) → IsGainedBy ran annals first → IsGainedBy (ran ++ rest) annals first
-  gained_more annals was = record {
-    kept = was.kept;
-    annals_is = was.annals_is;
-    more = was.more;
-    more_is = was.more_is;
-    added = commands_more ran rest (entries_of first.list) was.more was.added;
-    begun = λ e is. elim (was.begun e is) [
-      | inl at_first ↦ inl at_first
-      | inr of ↦ inr (after_more was.more e of)
-    ];
+module _ (ran : List Item) (s : Item) (old new : Option Told) (first : Told) (was : IsGainedBy ran old first) where
+  gained_step : (now : Told) → new ≡ Some now → Stepped was.now now s → IsGainedBy (ran ++ s ∷ []) new first
+  gained_step now is step = record {
+    now = now;
+    annals_is = is;
+    more = was.more ++ step.more;
+    more_is = step.list_is ∙ (ap (λ (ns : List Noted). ns ++ step.more) was.more_is ∙ append_assoc first.list was.more step.more);
+    sessions = All-append (λ (n : Noted). n.entry.session ≡ 0) was.more step.more was.sessions step.sessions;
+    gives = gives_step first was.now now ran s step was.gives;
+    begun = begun_step first was.now now ran s step was.gives was.begun;
   }
 
--- the command of a statement where the tables have other schemas that are the same
-command_by : (schemas others : List ℕ → Option Schema) → ((table : List ℕ) → schemas table ≡ others table) → (said : Statement) (c : Command) → IsCommandBy schemas said c → IsCommandBy others said c
-command_by schemas others same (statement.Create text) (command.Create made) by = by
-command_by schemas others same (statement.Create text) (command.Insert i) by = absurd by
-command_by schemas others same (statement.Insert i) c by = (by.0, by.1, subst (λ (o : Option Schema). rows_for i o ≡ Ok by.0) (same i.table) by.2, by.3)
-command_by schemas others same (statement.Select text) c by = absurd by
-
--- One statement more ran over a store, which stands for the list as long as the disk's count is the one at opening.
-module _ {F : Type 0} (files_of : F → Option Files) (ran : List Item) (s : Item) (failed : ℕ) (store : CoreStore F) (old new : Option Told) (first : Told) (was : IsGainedBy ran old first)
-    (stands : failed ≡ store.opened → StandsForKept files_of old store) where
-  abbrev h : History
-  h = entries_of first.list
-
-  at_end : (b : BeginsCommand s failed store old new) → IsCommandAt (h ++ entries_of was.more) s (entry_of 0 b.given)
-  at_end b =
-      let here = stands b.still was.kept was.annals_is in
-      let list : entries_of was.kept.list ≡ h ++ entries_of was.more = ap entries_of was.more_is ∙ map-append (λ (n : Noted). n.entry) first.list was.more in
-      subst (λ (k : History). IsCommandAt k s (entry_of 0 b.given)) list
-      (subst (λ (i : Item). IsCommandAt (entries_of was.kept.list) i (entry_of 0 b.given)) (sym b.item_is)
-      (refl, command_by _ _ here.tables b.said b.given b.by))
-
-  gained_begun : (b : BeginsCommand s failed store old new) → new ≡ option_map (began (entry_of 0 b.given)) old → IsGainedBy (ran ++ s ∷ []) new first
-  gained_begun b is = record {
-    kept = began (entry_of 0 b.given) was.kept;
-    annals_is = is ∙ ap (option_map (began (entry_of 0 b.given))) was.annals_is;
-    more = was.more;
-    more_is = was.more_is;
-    added = commands_more ran (s ∷ []) h was.more was.added;
-    begun = λ e is. (
-        let same : entry_of 0 b.given ≡ e = one_entry (entry_of 0 b.given) e is in
-        inr (ran, [], s, refl, subst (IsCommandAt (h ++ entries_of was.more) s) same (at_end b), was.added));
-  }
-    where
-      one_entry : (x y : Entry) → Some x ≡ Some y → x ≡ y
-      one_entry x y same = cc
-
-  gained_noted : (b : BeginsCommand s failed store old new) (mark : ℕ) → Notes mark (entry_of 0 b.given) old new → IsGainedBy (ran ++ s ∷ []) new first
-  gained_noted b mark notes =
-      let last : Noted = record { entry = entry_of 0 b.given; mark = mark } in
-      record {
-        kept = noted mark (began (entry_of 0 b.given) was.kept);
-        annals_is = notes ∙ ap (option_map (λ (t : Told). noted mark (began (entry_of 0 b.given) t))) was.annals_is;
-        more = was.more ++ last ∷ [];
-        more_is = ap (λ (ns : List Noted). ns ++ last ∷ []) was.more_is ∙ append_assoc first.list was.more (last ∷ []);
-        added = commands_push ran s h was.more last was.added (at_end b);
-        begun = λ e is. cc;
-      }
-
-  pub gained_one : Gains s failed store old new → IsGainedBy (ran ++ s ∷ []) new first
-  gained_one (inl same) = subst (λ (a : Option Told). IsGainedBy (ran ++ s ∷ []) a first) (sym same) (gained_more first ran (s ∷ []) old was)
-  gained_one (inr b) = by b.annals
-    where
-      by : (new ≡ option_map (began (entry_of 0 b.given)) old) ⊎ ((mark : ℕ) × Notes mark (entry_of 0 b.given) old new) → IsGainedBy (ran ++ s ∷ []) new first
-      by (inl is) = gained_begun b is
-      by (inr notes) = gained_noted b notes.0 notes.1
+  -- One statement more ran over a store, which stands for the list as long as the disk's count is the one at opening; above it nothing is accepted.
+  pub gained_one : {F : Type 0} (files_of : F → Option Files) (opened failed : ℕ) (store : CoreStore F) → opened ≤ failed → (failed ≡ opened → StandsForKept files_of old store)
+      → ((kept : Told) → old ≡ Some kept → CoreStands files_of (history kept) store → (now : Told) × (new ≡ Some now) × Stepped kept now s)
+      → (opened < failed → new ≡ old) → IsGainedBy (ran ++ s ∷ []) new first
+  gained_one files_of opened failed store low stands steps still = elim (cases_lt opened failed) [
+    | inl risen ↦ gained_step was.now (still risen ∙ was.annals_is) (stepped_same was.now s)
+    | inr calm ↦ (
+        let same : failed ≡ opened = omega (arith, low, calm) in
+        let step = steps was.now was.annals_is (stands same was.now was.annals_is) in
+        gained_step step.0 step.1 step.2)
+  ]

@@ -14,7 +14,7 @@ use Rattle.mt_outside.specs.Disk as root
 use Rattle.mt_outside.specs.declared.disk.DiskError.{DiskError}
 use Rattle.mt_outside.specs.declared.disk.DiskError.TheVariants as failure
 use Rattle.mt_model.specs.History.{History, IsLegal}
-use Rattle.mt_model.specs.Outside.{Counts}
+use Rattle.mt_model.specs.Outside.{Outside}
 use Rattle.mt_model.specs.Script.{OwnEntries}
 use Rattle.mt_model.specs.Session.{AddsNothing}
 use Rattle.run_streams.specs.declared.streams.ReadStop.{ReadStop}
@@ -29,7 +29,7 @@ use Rattle.mt_program.specs.Endings.{IsAnswered, IsEarly, LeftBy, MetNoDamage, s
 use Rattle.mt_program.specs.Headline.{AnsweredAll, AnsweredRead, EndsBy, Headline, NothingRan}
 use Rattle.mt_program.specs.Worlds.{Starts, World, counts_of}
 use Rattle.exit_status.specs.Statuses.{number_of}
-use Rattle.mt_program.specs.Courses.{Course, Item, RunOf}
+use Rattle.mt_program.specs.Courses.{Course, GoesUnanswered, Item, RunOf}
 use Rattle.mt_program.specs.Serving.{Ran, ServedBy}
 use Rattle.root_opening.specs.declared.opening.Damage.{Damage}
 use Rattle.root_opening.specs.declared.opening.OpenFault.{OpenFault}
@@ -40,6 +40,8 @@ use Rattle.root_store.specs.Roots.{Stands}
 use Rattle.root_store.specs.Soundness.{RootStands}
 use Rattle.mt_program.specs.Damage.{WritesDamage, WritesFault, damage_line}
 use Rattle.reply_lines.proofs.Ends.{added_nothing, length_history}
+use Rattle.mt_program.proofs.Gaining.{idle}
+use Rattle.mt_program.proofs.ServedScripts.{none_stopped}
 
 known_after : (b xs : List ℕ) (before after : Option (List ℕ)) → before ≡ Some b → Appends before after xs → after ≡ Some (b ++ xs)
 known_after b xs before None is h = absurd (subst (λ (o : Option (List ℕ)). Appends o None xs) is h)
@@ -65,27 +67,32 @@ own_entries kept opened disk arm done replies told r =
     ap (drop (length kept.list)) all ∙ (ap (λ n. drop n (history kept ++ map entries r.more)) (sym (length_history kept)) ∙ drop-append_seam (history kept) (map entries r.more)) in
     subst (All (λ (e : Entry). e.session ≡ 0)) (sym behind) (All-map (λ (e : Entry). e.session ≡ 0) entries r.more r.sessions)
 
--- statements that each have a reply
-abbrev pub answered : List Item → List (List ℕ) → Course
-answered done replies = record { ran = done; replies = replies; unanswered = None }
+abbrev pub course_of : List Item → List (List ℕ) → Option Item → Course
+course_of done replies last = record { ran = done; replies = replies; unanswered = last }
 
 abbrev pub none_answered : Course
-none_answered = answered [] []
+none_answered = course_of [] [] None
+
+-- a statement that added nothing, or none
+goes_nowhere : (h : History) (last : Option Item) (to : ℕ) → to ≤ length h → GoesUnanswered h last to to
+goes_nowhere h None to le = refl
+goes_nowhere h (Some st) to le = idle h st to le
 
 -- what ran, at counts that were foreseen
-run_of : (n : Counts) (kept : Told) (opened disk arm : ℕ) (done : List Item) (replies : List (List ℕ)) (told : Option Told) → Foresees opened disk arm n → (r : Ran kept opened disk arm done replies told)
-    → RunOf n (history r.now) (length kept.list) (answered done replies)
-run_of n kept opened disk arm done replies told f r = record {
+run_of : (n : Outside) (kept : Told) (opened disk arm : ℕ) (done : List Item) (replies : List (List ℕ)) (last : Option Item) (told : Option Told) → Foresees opened disk arm n → (r : Ran kept opened disk arm done replies told)
+    → RunOf n (history r.now) (length kept.list) (course_of done replies last)
+run_of n kept opened disk arm done replies last told f r = record {
   place = length r.now.list;
   each = r.run n f;
   stop = length r.now.list;
-  last = refl;
+  last = goes_nowhere (history r.now) last (length r.now.list) (omega (arith, length_history r.now));
   nothing_else = subst (λ (m : ℕ). AddsNothing (history r.now) 0 (length r.now.list) m) (sym (length_history r.now)) (added_nothing r.now);
   sessions = own_entries kept opened disk arm done replies told r;
+  stopped = r.stopped n f;
 }
 
 -- no statement ran
-nothing_ran : (n : Counts) (kept : Told) → RunOf n (history kept) (length kept.list) none_answered
+nothing_ran : (n : Outside) (kept : Told) → RunOf n (history kept) (length kept.list) none_answered
 nothing_ran n kept = record {
   place = length kept.list;
   each = refl;
@@ -93,6 +100,7 @@ nothing_ran n kept = record {
   last = refl;
   nothing_else = subst (λ (m : ℕ). AddsNothing (history kept) 0 (length kept.list) m) (sym (length_history kept)) (added_nothing kept);
   sessions = subst (All (λ (e : Entry). e.session ≡ 0)) (sym (drop_all (length kept.list) (history kept) (omega (arith, length_history kept)))) (All-nil (λ (e : Entry). e.session ≡ 0));
+  stopped = none_stopped n (history kept) (length kept.list);
 }
 
 -- a root that stands for a list
@@ -113,6 +121,7 @@ module _ (before after : World) (kept : Told) (script written : List ℕ)
     rest = statements_of script;
     split = refl;
     ran = nothing_ran (counts_of before after) kept;
+    begun = inl (refl, refl);
     out = [];
     sink_is = sink_is ∙ ap Some (sym (append-nil written));
     ends = ends;
@@ -158,17 +167,18 @@ early_same before after kept script written starts same ended is sound =
 module _ (before after : World) (kept : Told) (script written : List ℕ) (opened disk arm : ℕ) (f : Foresees opened disk arm (counts_of before after)) (is : before.sink ≡ Some written) where
   -- what ran is left, and what was written
   left : (how : Ending) (ended : Status) (s : ServedBy how kept script opened disk arm after.storage.annals after.storage.disk before.sink after.sink)
-      → EndsBy ended before after script (answered s.done s.replies) s.rest s.out → Headline ended before after kept script written
+      → EndsBy ended before after script (course_of s.done s.replies s.unanswered) s.rest s.out → Headline ended before after kept script written
   left how ended s ends = record {
     now = s.ran.now;
     annals_is = s.ran.told_is;
     more = s.ran.more;
     begins = s.ran.list_is;
     legal = s.ran.legal;
-    course = answered s.done s.replies;
+    course = course_of s.done s.replies s.unanswered;
     rest = s.rest;
     split = s.split;
-    ran = run_of (counts_of before after) kept opened disk arm s.done s.replies after.storage.annals f s.ran;
+    ran = run_of (counts_of before after) kept opened disk arm s.done s.replies s.unanswered after.storage.annals f s.ran;
+    begun = s.begun;
     out = s.out;
     sink_is = known_after written s.out before.sink after.sink is s.wrote;
     ends = ends;
@@ -176,12 +186,12 @@ module _ (before after : World) (kept : Told) (script written : List ℕ) (opene
   }
 
   all_answered : (tally : Tally) (refused : Bool) → tally.refused ≡ refused → tally.damaged ≡ false → (length script < 2 ^ 40) × (after.source ≡ Some [])
-      → (s : ServedBy (ending.Done tally) kept script opened disk arm after.storage.annals after.storage.disk before.sink after.sink) → AnsweredAll refused after.source script (answered s.done s.replies) s.rest s.out
+      → (s : ServedBy (ending.Done tally) kept script opened disk arm after.storage.annals after.storage.disk before.sink after.sink) → AnsweredAll refused after.source script (course_of s.done s.replies s.unanswered) s.rest s.out
   all_answered tally refused which sound whole s = record {
-    all = s.stops.0;
-    answered = refl;
-    out_is = s.stops.2;
-    says = record { refusals = sym which ∙ s.stops.1.refusals; damages = sym sound ∙ s.stops.1.damages };
+    all = s.stops.1;
+    answered = s.stops.0;
+    out_is = s.stops.3;
+    says = record { refusals = sym which ∙ s.stops.2.refusals; damages = sym sound ∙ s.stops.2.damages };
     short = whole.0;
     read = whole.1;
   }
@@ -200,7 +210,7 @@ module _ (before after : World) (kept : Told) (script written : List ℕ) (opene
       → LeftBy ended kept script opened disk arm after.storage.annals was_root after.storage.disk before.sink after.sink → Headline (status_of risen ended) before after kept script written
   leaves_all was_root risen (Ok (ending.Done tally)) legal stands sound first whole same s = leaves_done tally risen sound whole s
   leaves_all was_root risen (Ok ending.NoMemory) legal stands sound first whole same s = left ending.NoMemory status.NoMemory s s.stops
-  leaves_all was_root risen (Ok ending.WriteFault) legal stands sound first whole same s = left ending.WriteFault status.WriteFault s (refl, s.stops)
+  leaves_all was_root risen (Ok ending.WriteFault) legal stands sound first whole same s = left ending.WriteFault status.WriteFault s s.stops
   leaves_all was_root risen (Err ended) legal stands sound first whole same s =
       early_leaves before after kept script written legal s.0 (s.1 ∙ is) (subst (λ (o : Option root.Told). RootStands o (history kept)) (sym s.2) stands) ended first sound (λ fault. same (ap Err fault))
 

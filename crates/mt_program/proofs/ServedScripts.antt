@@ -1,9 +1,9 @@
 -- One more statement of a script.
-use Rattle.std.proofs.Common.{◌≡◌, ℕ, ◌+◌, ◌-◌, ◌≤◌, Bool, true, false, ◌||◌, List, [], ◌∷◌, ◌++◌, length, map, take, drop, refl, sym, ap, ◌∙◌, subst, Option, Some, None, ◌<◌, append_assoc, append-nil, arith, All}
+use Rattle.std.proofs.Common.{◌≡◌, ℕ, ◌+◌, ◌-◌, ◌≤◌, ◌^◌, Bool, true, false, ◌||◌, List, [], ◌∷◌, ◌++◌, length, map, take, drop, refl, sym, ap, ◌∙◌, subst, Option, Some, None, ◌<◌, ◌⊎◌, inl, inr, suc, length-append, append_assoc, append-nil, arith, All}
 use Rattle.std.specs.List.{concat, list_any}
 use Rattle.std.specs.Option.{option_map, IfSome}
 use Rattle.std.specs.Io.KnownBytes.{Appends}
-use Rattle.std.proofs.lemmas.List.{map-append, drop-drop, length-drop, drop_all}
+use Rattle.std.proofs.lemmas.List.{map-append, drop-drop, length-drop, drop_all, take_all, take-append-le}
 use Rattle.std.proofs.lemmas.List.Elements.{All-append, All-head, All-nil}
 use Rattle.mt_values.specs.declared.annals.Noted.{Noted}
 use Rattle.mt_values.specs.Annals.{Told}
@@ -11,20 +11,24 @@ use Rattle.mt_values.specs.Script.{statements_of, next_statement, statement_and}
 use Rattle.mt_outside.specs.Disk as root
 use Rattle.mt_outside.specs.Files.{Files}
 use Rattle.mt_model.specs.History.{History, IsLegal}
-use Rattle.mt_model.specs.Refusals.{is_damage, is_refusal}
+use Rattle.mt_model.specs.Refusals.{code_of, is_damage, is_refusal}
 use Rattle.mt_model.specs.Session.{SessionReplies}
 use Rattle.mt_model.specs.Written.{IsWritten}
 use Rattle.mt_model.proofs.Keys.{statements_are}
 use Rattle.mt_model.proofs.Replies.{replies_more, replies_append}
 use Rattle.reply_lines.specs.declared.tally.Tally.{Tally}
 use Rattle.root_store.specs.declared.store.CoreStore.{CoreStore}
-use Rattle.durable_commit.specs.Commits.{SameList}
 use Rattle.root_store.specs.Soundness.{RootStands}
 use Rattle.root_store.specs.Stores.{CoreStands}
-use Rattle.command_turn.specs.Answers.{Accepts}
-use Rattle.reply_lines.specs.Foreseen.{history, is_unsettled}
-use Rattle.mt_program.specs.Courses.{AreSettled, Item, Tells}
+use Rattle.command_turn.specs.Answers.{Answered, Keeps}
+use Rattle.std.proofs.lemmas.Bool.Decides.{nat_tests}
+use Rattle.reply_lines.specs.Causes.{HasCauses}
+use Rattle.reply_lines.specs.Foreseen.{Foresees, history, is_unsettled}
+use Rattle.mt_program.specs.Courses.{AreSettled, AreStopped, IsBegunBy, Item, Tells}
 use Rattle.mt_program.specs.Serving.{Ran, Served, ServedBy}
+use Rattle.mt_program.proofs.Gaining.{begun_step, gives_step, stepped_answered, stepped_keeps}
+use Rattle.mt_model.specs.Outside.{Outside}
+use Rattle.reply_lines.proofs.Ends.{length_history}
 use Rattle.mt_program.specs.declared.serving.Ending.TheVariants as ending
 use Rattle.reply_lines.specs.Tallies.{tallied}
 use Rattle.run_streams.specs.Streams.{AppendsFront}
@@ -96,52 +100,137 @@ ran_before kept opened disk arm later more done replies told le less r = record 
   legal = r.legal;
   sessions = r.sessions;
   run = λ n f. r.run n (foresees_before opened disk later arm more n le less f);
+  stopped = λ n f. r.stopped n (foresees_before opened disk later arm more n le less f);
+  risen = λ some. let was = r.risen some in omega (arith, was, le);
 }
 
+-- ---- replies that say that a commit failed
+
+-- a reply of a list with one more at its end is that one, or one before it
+last_or_before : {X : Type 0} (xs : List X) (y : X) (front : List X) (x : X) (more : List X) → xs ++ y ∷ [] ≡ front ++ x ∷ more
+    → ((xs ≡ front) × (y ≡ x)) ⊎ ((rest : List X) × (xs ≡ front ++ x ∷ rest))
+last_or_before [] y [] x [] is = let same : y ≡ x = cc in inl (refl, same)
+last_or_before [] y [] x (z ∷ more) is = cc
+last_or_before [] y (z ∷ []) x more is = cc
+last_or_before [] y (z ∷ w ∷ front) x more is = cc
+last_or_before (z ∷ xs) y [] x more is = let same : z ≡ x = cc in inr (xs, ap (λ w. w ∷ xs) same)
+last_or_before (z ∷ xs) y (w ∷ front) x more is =
+    let same : z ≡ w = cc in
+    let rest : xs ++ y ∷ [] ≡ front ++ x ∷ more = cc in
+    elim (last_or_before xs y front x more rest) [
+      | inl both ↦ inl (ap (λ ws. z ∷ ws) both.0 ∙ ap (λ v. v ∷ front) same, both.1)
+      | inr before ↦ inr (before.0, ap (λ ws. z ∷ ws) before.1 ∙ ap (λ v. v ∷ (front ++ x ∷ before.0)) same)
+    ]
+
+-- a commit that failed shows in the disk's count
+pub unsettled_rose : (was opened disk_old disk_new arm_old arm_new : ℕ) (reply : List ℕ) → was ≡ opened → opened ≤ disk_old → opened < 2 ^ 64 - 1 → HasCauses was disk_old disk_new arm_old arm_new reply → is_unsettled reply ≡ true → opened < disk_new
+unsettled_rose was opened disk_old disk_new arm_old arm_new reply same low below causes failed =
+    let is : code_of reply ≡ 16 = grind (arith, failed, nat_tests) in
+    let rose = causes.unsettled is in
+    omega (arith, rose, low, below)
+
+-- there are as many replies as statements
+replies_length : (n : Outside) (h : History) (ss : List Item) (from to : ℕ) (replies : List (List ℕ)) → SessionReplies n h 0 ss from to replies → length replies ≡ length ss
+replies_length n h [] from to [] r = refl
+replies_length n h [] from to (x ∷ xs) r = absurd r
+replies_length n h (st ∷ ss) from to [] r = absurd r
+replies_length n h (st ∷ ss) from to (x ∷ xs) r = ap suc (replies_length n h ss r.0 to xs r.2)
+
+-- one of the replies says it
+says_so : (replies front more : List (List ℕ)) (reply : List ℕ) → replies ≡ front ++ reply ∷ more → is_unsettled reply ≡ true → list_any is_unsettled replies ≡ true
+says_so replies front more reply is failed = ap (list_any is_unsettled) is ∙ at front
+  where
+    at : (xs : List (List ℕ)) → list_any is_unsettled (xs ++ reply ∷ more) ≡ true
+    at [] = ap (λ b. b || list_any is_unsettled more) failed
+    at (x ∷ xs) = ap (λ b. is_unsettled x || b) (at xs) ∙ or_true (is_unsettled x)
+      where
+        or_true : (b : Bool) → (b || true) ≡ true
+        or_true true = refl
+        or_true false = refl
+
 -- one more statement that was answered
-module _ {F : Type 0} (files_of : F → Option Files) (kept : Told) (opened disk arm later higher : ℕ) (done : List Item) (replies : List (List ℕ)) (st : Item) (reply : List ℕ) (new : CoreStore F) (told after : Option Told) (was_root now_root : Option root.Told) where
-  pub ran_more : disk ≤ later → arm ≤ higher → (r : Ran kept opened disk arm done replies told) → Accepts files_of r.now st opened later higher reply new after was_root now_root
-      → Ran kept opened later higher (done ++ st ∷ []) (replies ++ reply ∷ []) after
-  ran_more le less r a =
-      let entries = λ (n : Noted). n.entry in
-      let grown : history a.now ≡ history r.now ++ map entries a.more = ap (map entries) a.list_is ∙ map-append entries r.now.list a.more in
-      record {
-        now = a.now;
-        more = r.more ++ a.more;
-        told_is = a.told_is;
-        legal = a.stands.legal;
-        list_is = a.list_is ∙ (ap (λ ns. ns ++ a.more) r.list_is ∙ append_assoc kept.list r.more a.more);
-        sessions = All-append (λ (n : Noted). n.entry.session ≡ 0) r.more a.more r.sessions a.sessions;
-        run = λ n f.
-            let ran = r.run n (foresees_before opened disk later arm higher n le less f) in
-            let before : SessionReplies n (history a.now) 0 done (length kept.list) (length r.now.list) replies =
-            subst (λ (h : History). SessionReplies n h 0 done (length kept.list) (length r.now.list) replies) (sym grown) (replies_more n (history r.now) (map entries a.more) 0 done (length kept.list) (length r.now.list) replies ran) in
-            replies_append n (history a.now) 0 done st (length kept.list) (length r.now.list) (length a.now.list) replies reply before (a.takes n f);
-      }
+module _ {F : Type 0} (files_of : F → Option Files) (kept : Told) (opened disk arm later higher : ℕ) (done : List Item) (replies : List (List ℕ)) (st : Item) (reply : List ℕ) (new : CoreStore F) (told after : Option Told) (was_root now_root : Option root.Told)
+    (le : disk ≤ later) (less : arm ≤ higher) (failed : is_unsettled reply ≡ true → opened < later) (still : opened < disk → after ≡ told)
+    (r : Ran kept opened disk arm done replies told) (a : Answered files_of r.now st opened later higher reply new after was_root now_root) where
+  grown : history a.now ≡ history r.now ++ map (λ (n : Noted). n.entry) a.more
+  grown = ap (map (λ (n : Noted). n.entry)) a.list_is ∙ map-append (λ (n : Noted). n.entry) r.now.list a.more
+
+  -- those before it, over the history as it is now
+  before : (n : Outside) → Foresees opened later higher n → SessionReplies n (history a.now) 0 done (length kept.list) (length r.now.list) replies
+  before n f =
+      let ran = r.run n (foresees_before opened disk later arm higher n le less f) in
+      subst (λ (h : History). SessionReplies n h 0 done (length kept.list) (length r.now.list) replies) (sym grown)
+      (replies_more n (history r.now) (map (λ (n : Noted). n.entry) a.more) 0 done (length kept.list) (length r.now.list) replies ran)
+
+  all : (n : Outside) → Foresees opened later higher n → SessionReplies n (history a.now) 0 (done ++ st ∷ []) (length kept.list) (length a.now.list) (replies ++ reply ∷ [])
+  all n f = replies_append n (history a.now) 0 done st (length kept.list) (length r.now.list) (length a.now.list) replies reply (before n f) (a.takes n f)
+
+  -- where a commit had failed before, the annals are as they were
+  as_before : list_any is_unsettled replies ≡ true → history r.now ≡ history a.now
+  as_before some =
+      let both : Some r.now ≡ Some a.now = sym r.told_is ∙ (sym (still (r.risen some)) ∙ a.told_is) in
+      let same : r.now ≡ a.now = cc in
+      ap history same
+
+  stopped_more : (n : Outside) → Foresees opened later higher n → AreStopped n (history a.now) (length kept.list) (done ++ st ∷ []) (replies ++ reply ∷ [])
+  stopped_more n f = λ front more x is unsettled. elim (last_or_before replies reply front x more is) [
+    | inl last ↦ (
+        let count : length replies ≡ length done = replies_length n (history a.now) done (length kept.list) (length r.now.list) replies (before n f) in
+        let size : length front + 1 ≡ length (done ++ st ∷ []) = ap (λ (xs : List (List ℕ)). length xs + 1) (sym last.0) ∙ (ap (λ (m : ℕ). m + 1) count ∙ sym (length-append done (st ∷ []))) in
+        let whole : take (length front + 1) (done ++ st ∷ []) ≡ done ++ st ∷ [] = take_all (length front + 1) (done ++ st ∷ []) (omega (arith, size)) in
+        let replies_are : replies ++ reply ∷ [] ≡ front ++ x ∷ [] = ap (λ (xs : List (List ℕ)). xs ++ reply ∷ []) last.0 ∙ ap (λ (y : List ℕ). front ++ y ∷ []) last.1 in
+        subst (λ (m : ℕ). SessionReplies n (history a.now) 0 (take (length front + 1) (done ++ st ∷ [])) (length kept.list) m (front ++ x ∷ [])) (sym (length_history a.now))
+        (subst (λ (xs : List (List ℕ)). SessionReplies n (history a.now) 0 (take (length front + 1) (done ++ st ∷ [])) (length kept.list) (length a.now.list) xs) replies_are
+        (subst (λ (ss : List Item). SessionReplies n (history a.now) 0 ss (length kept.list) (length a.now.list) (replies ++ reply ∷ [])) (sym whole) (all n f))))
+    | inr earlier ↦ (
+        let was = foresees_before opened disk later arm higher n le less f in
+        let stop = r.stopped n was front earlier.0 x earlier.1 unsettled in
+        let same = as_before (says_so replies front earlier.0 x earlier.1 unsettled) in
+        let count : length replies ≡ length done = replies_length n (history a.now) done (length kept.list) (length r.now.list) replies (before n f) in
+        let size : length replies ≡ length front + suc (length earlier.0) = ap length earlier.1 ∙ length-append front (x ∷ earlier.0) in
+        let front_is : take (length front + 1) (done ++ st ∷ []) ≡ take (length front + 1) done = take-append-le (length front + 1) done (st ∷ []) (omega (arith, count, size)) in
+        subst (λ (ss : List Item). SessionReplies n (history a.now) 0 ss (length kept.list) (length (history a.now)) (front ++ x ∷ [])) (sym front_is)
+        (subst (λ (h : History). SessionReplies n h 0 (take (length front + 1) done) (length kept.list) (length h) (front ++ x ∷ [])) same stop))
+  ]
+
+  risen_more : list_any is_unsettled (replies ++ reply ∷ []) ≡ true → opened < later
+  risen_more some = by (list_any is_unsettled replies) refl (is_unsettled reply) refl (sym (any_push is_unsettled replies reply) ∙ some)
+    where
+      by : (b : Bool) → list_any is_unsettled replies ≡ b → (c : Bool) → is_unsettled reply ≡ c → (b || c) ≡ true → opened < later
+      by true was c is h = let low = r.risen was in omega (arith, low, le)
+      by false was true is h = failed is
+      by false was false is h = cc
+
+  pub ran_more : Ran kept opened later higher (done ++ st ∷ []) (replies ++ reply ∷ []) after
+  ran_more = record {
+    now = a.now;
+    more = r.more ++ a.more;
+    told_is = a.told_is;
+    legal = a.stands.legal;
+    list_is = a.list_is ∙ (ap (λ ns. ns ++ a.more) r.list_is ∙ append_assoc kept.list r.more a.more);
+    sessions = All-append (λ (n : Noted). n.entry.session ≡ 0) r.more a.more r.sessions a.sessions;
+    run = all;
+    stopped = stopped_more;
+    risen = risen_more;
+  }
 
 -- a statement that had no reply
-pub ran_still : (kept : Told) (opened disk arm later more : ℕ) (done : List Item) (replies : List (List ℕ)) (told after : Option Told) → disk ≤ later → arm ≤ more
-    → (r : Ran kept opened disk arm done replies told) → SameList (Some r.now) after → Ran kept opened later more done replies after
-ran_still kept opened disk arm later more done replies told None le less r same = absurd same
-ran_still kept opened disk arm later more done replies told (Some now) le less r same =
-    let h : history now ≡ history r.now = ap (map (λ (n : Noted). n.entry)) same in
+pub ran_still : (kept : Told) (opened disk arm later more : ℕ) (done : List Item) (replies : List (List ℕ)) (st : Item) (told after : Option Told) (was_root now_root : Option root.Told) → disk ≤ later → arm ≤ more
+    → (r : Ran kept opened disk arm done replies told) → Keeps r.now st after was_root now_root → Ran kept opened later more done replies after
+ran_still kept opened disk arm later more done replies st told after was_root now_root le less r k =
+    let h : history k.now ≡ history r.now = ap (map (λ (n : Noted). n.entry)) k.list_is in
     record {
-      now = now;
+      now = k.now;
       more = r.more;
-      told_is = refl;
-      list_is = same ∙ r.list_is;
+      told_is = k.told_is;
+      list_is = k.list_is ∙ r.list_is;
       legal = subst IsLegal (sym h) r.legal;
       sessions = r.sessions;
-      run = λ n f. subst (λ (m : ℕ). SessionReplies n (history now) 0 done (length kept.list) m replies) (sym (ap length same))
+      run = λ n f. subst (λ (m : ℕ). SessionReplies n (history k.now) 0 done (length kept.list) m replies) (sym (ap length k.list_is))
           (subst (λ (x : History). SessionReplies n x 0 done (length kept.list) (length r.now.list) replies) (sym h) (r.run n (foresees_before opened disk later arm more n le less f)));
+      stopped = λ n f. subst (λ (x : History). AreStopped n x (length kept.list) done replies) (sym h) (r.stopped n (foresees_before opened disk later arm more n le less f));
+      risen = λ some. let was = r.risen some in omega (arith, was, le);
     }
-
--- and its history is that before
-still_history : (kept : Told) (opened disk arm later more : ℕ) (done : List Item) (replies : List (List ℕ)) (told after : Option Told) (le : disk ≤ later) (less : arm ≤ more)
-    → (r : Ran kept opened disk arm done replies told) (same : SameList (Some r.now) after) → history (ran_still kept opened disk arm later more done replies told after le less r same).now ≡ history r.now
-unfolding ran_still
-still_history kept opened disk arm later more done replies told None le less r same = absurd same
-still_history kept opened disk arm later more done replies told (Some now) le less r same = ap (map (λ (n : Noted). n.entry)) same
 
 -- what is told of the replies, with one more
 pub tells_more : (t : Tally) (replies : List (List ℕ)) (reply : List ℕ) → Tells t replies → Tells (tallied t reply) (replies ++ reply ∷ [])
@@ -166,11 +255,13 @@ module _ {F : Type 0} (files_of : F → Option Files) (kept : Told) (script : Li
     done = s.done;
     rest = statements_of (drop at script);
     replies = s.replies;
+    unanswered = None;
     out = concat s.replies;
     split = s.split;
     ran = s.ran;
+    begun = s.begun;
     wrote = s.wrote;
-    stops = (none, s.tells, refl);
+    stops = (refl, none, s.tells, refl);
     settled = s.settled;
   }
 
@@ -180,9 +271,11 @@ module _ {F : Type 0} (files_of : F → Option Files) (kept : Told) (script : Li
     done = s.done;
     rest = statements_of (drop at script);
     replies = s.replies;
+    unanswered = None;
     out = concat s.replies;
     split = s.split;
     ran = s.ran;
+    begun = s.begun;
     wrote = s.wrote;
     stops = refl;
     settled = s.settled;
@@ -190,23 +283,27 @@ module _ {F : Type 0} (files_of : F → Option Files) (kept : Told) (script : Li
 
   module _ (later more : ℕ) (le : disk ≤ later) (less : arm ≤ more) where
     -- the next statement had no reply
-    pub served_unanswered : (after : Option Told) (now_root : Option root.Told) → SameList (Some s.ran.now) after → now_root ≡ was_root → ServedBy ending.NoMemory kept script opened later more after now_root before now
-    served_unanswered after now_root same as_was = record {
+    pub served_unanswered : (used : ℕ) (st : Item) → statements_of (drop at script) ≡ st ∷ statements_of (drop (at + used) script) → (after : Option Told) (now_root : Option root.Told) → Keeps s.ran.now st after was_root now_root
+        → ServedBy ending.NoMemory kept script opened later more after now_root before now
+    unfolding ran_still
+    served_unanswered used st left after now_root k = record {
       done = s.done;
-      rest = statements_of (drop at script);
+      rest = statements_of (drop (at + used) script);
       replies = s.replies;
+      unanswered = Some st;
       out = concat s.replies;
-      split = s.split;
-      ran = ran_still kept opened disk arm later more s.done s.replies told after le less s.ran same;
+      split = s.split ∙ (ap (λ ss. s.done ++ ss) left ∙ sym (append_assoc s.done (st ∷ []) (statements_of (drop (at + used) script))));
+      ran = ran_still kept opened disk arm later more s.done s.replies st told after was_root now_root le less s.ran k;
+      begun = begun_step kept s.ran.now k.now s.done st (stepped_keeps s.ran.now st after was_root now_root k) s.given s.begun;
       wrote = s.wrote;
       stops = refl;
       settled = λ none.
-          let stands : RootStands now_root (history s.ran.now) = subst (λ (o : Option root.Told). RootStands o (history s.ran.now)) (sym as_was) (s.settled none) in
-          subst (RootStands now_root) (sym (still_history kept opened disk arm later more s.done s.replies told after le less s.ran same)) stands;
+          let stands : RootStands now_root (history s.ran.now) = subst (λ (o : Option root.Told). RootStands o (history s.ran.now)) (sym k.root_is) (s.settled none) in
+          subst (RootStands now_root) (sym (ap (map (λ (n : Noted). n.entry)) k.list_is)) stands;
     }
 
     module _ (used : ℕ) (st : Item) (left : statements_of (drop at script) ≡ st ∷ statements_of (drop (at + used) script)) (new : CoreStore F) (after : Option Told) (now_root : Option root.Told) (reply : List ℕ) (written : Option (List ℕ))
-        (a : Accepts files_of s.ran.now st opened later more reply new after was_root now_root) where
+        (failed : is_unsettled reply ≡ true → opened < later) (still : opened < disk → after ≡ told) (a : Answered files_of s.ran.now st opened later more reply new after was_root now_root) where
       split_more : statements_of script ≡ (s.done ++ st ∷ []) ++ statements_of (drop (at + used) script)
       split_more = s.split ∙ (ap (λ ss. s.done ++ ss) left ∙ sym (append_assoc s.done (st ∷ []) (statements_of (drop (at + used) script))))
 
@@ -220,7 +317,9 @@ module _ {F : Type 0} (files_of : F → Option Files) (kept : Told) (script : Li
         done = s.done ++ st ∷ [];
         replies = s.replies ++ reply ∷ [];
         split = split_more;
-        ran = ran_more files_of kept opened disk arm later more s.done s.replies st reply new told after was_root now_root le less s.ran a;
+        ran = ran_more files_of kept opened disk arm later more s.done s.replies st reply new told after was_root now_root le less failed still s.ran a;
+        given = gives_step kept s.ran.now a.now s.done st (stepped_answered files_of s.ran.now st opened later more reply new after was_root now_root a) s.given;
+        begun = begun_step kept s.ran.now a.now s.done st (stepped_answered files_of s.ran.now st opened later more reply new after was_root now_root a) s.given s.begun;
         stands = a.stands;
         wrote = subst (Appends before written) (sym (concat_push s.replies reply)) (appends_more before now written (concat s.replies) reply s.wrote wrote);
         tells = tells_more tally s.replies reply s.tells;
@@ -234,13 +333,20 @@ module _ {F : Type 0} (files_of : F → Option Files) (kept : Told) (script : Li
         done = s.done ++ st ∷ [];
         rest = statements_of (drop (at + used) script);
         replies = s.replies ++ reply ∷ [];
+        unanswered = None;
         out = concat s.replies ++ w.0;
         split = split_more;
-        ran = ran_more files_of kept opened disk arm later more s.done s.replies st reply new told after was_root now_root le less s.ran a;
+        ran = ran_more files_of kept opened disk arm later more s.done s.replies st reply new told after was_root now_root le less failed still s.ran a;
+        begun = begun_step kept s.ran.now a.now s.done st (stepped_answered files_of s.ran.now st opened later more reply new after was_root now_root a) s.given s.begun;
         wrote = appends_more before now written (concat s.replies) w.0 s.wrote w.3;
-        stops = record { whole = s.replies; last = reply; part = w.0; replies_are = refl; front = (w.1, sym w.2); out_is = refl };
+        stops = (refl, record { whole = s.replies; last = reply; part = w.0; replies_are = refl; front = (w.1, sym w.2); out_is = refl });
         settled = settled_more;
       }
+
+-- no reply is among none
+pub none_stopped : (n : Outside) (h : History) (base : ℕ) → AreStopped n h base [] []
+none_stopped n h base [] more x is unsettled = cc
+none_stopped n h base (y ∷ front) more x is unsettled = cc
 
 -- nothing was answered yet
 pub served_none : {F : Type 0} (files_of : F → Option Files) (kept : Told) (script : List ℕ) (opened disk arm : ℕ) (tally : Tally) (store : CoreStore F) (told : Option Told) (now_root : Option root.Told) (before : Option (List ℕ))
@@ -249,7 +355,9 @@ served_none files_of kept script opened disk arm tally store told now_root befor
   done = [];
   replies = [];
   split = refl;
-  ran = record { now = kept; more = []; told_is = is; list_is = sym (append-nil kept.list); legal = stands.legal; sessions = All-nil (λ (n : Noted). n.entry.session ≡ 0); run = λ n f. refl };
+  ran = record { now = kept; more = []; told_is = is; list_is = sym (append-nil kept.list); legal = stands.legal; sessions = All-nil (λ (n : Noted). n.entry.session ≡ 0); run = λ n f. refl; stopped = λ n f. none_stopped n (history kept) (length kept.list); risen = λ some. cc };
+  given = refl;
+  begun = inl (refl, refl);
   stands = stands;
   wrote = appends_none before;
   tells = record { refusals = refused; damages = damaged };

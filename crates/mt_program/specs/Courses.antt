@@ -1,16 +1,19 @@
 -- Statements that ran, and their replies (docs/definitions.md, "Runs").
-use Rattle.std.specs.Prelude.{◌≡◌, ℕ, false, List, [], ◌∷◌, ◌++◌, length, Option, Some, None, Result}
+use Rattle.std.specs.Prelude.{◌≡◌, ◌⊎◌, ◌+◌, ℕ, false, true, List, [], ◌∷◌, ◌++◌, length, take, Option, Some, None, Result}
 use Rattle.std.specs.List.{concat, list_any}
 use Rattle.mt_values.specs.declared.statement.Cause.{Cause}
 use Rattle.mt_values.specs.declared.statement.Statement.{Statement}
+use Rattle.mt_values.specs.declared.command.Command.{Command}
+use Rattle.mt_values.specs.Annals.{Told}
 use Rattle.mt_outside.specs.Disk as root
 use Rattle.mt_model.specs.History.{History}
-use Rattle.mt_model.specs.Outside.{Counts}
+use Rattle.mt_model.specs.Outside.{Outside}
 use Rattle.mt_model.specs.Refusals.{is_refusal, is_damage}
 use Rattle.mt_model.specs.Script.{IsFront, OwnEntries}
-use Rattle.mt_model.specs.Session.{AddsNothing, SessionReplies, Unanswered}
+use Rattle.mt_model.specs.Session.{AddsNothing, IsNext, SessionGives, SessionReplies, Unanswered}
 use Rattle.root_store.specs.Soundness.{RootStands}
-use Rattle.reply_lines.specs.Foreseen.{is_unsettled}
+use Rattle.durable_commit.specs.Commits.{entry_of}
+use Rattle.reply_lines.specs.Foreseen.{history, is_unsettled}
 use Rattle.reply_lines.specs.declared.tally.Tally.{Tally}
 
 -- a statement of a script, or why its text is refused
@@ -36,14 +39,39 @@ abbrev pub GoesUnanswered : History → Option Item → ℕ → ℕ → Type 0
 GoesUnanswered h None from to = from ≡ to
 GoesUnanswered h (Some last) from to = Unanswered h 0 last from to
 
--- The statements ran from a place of the history on, each with a reply that it may have. Each entry past the place is theirs.
-pub record RunOf (n : Counts) (h : History) (base : ℕ) (course : Course) : Type 0 where
+-- After a reply which says that a commit failed nothing more is accepted: the statements up to this one run to the end of the history.
+abbrev pub AreStopped : Outside → History → ℕ → List Item → List (List ℕ) → Type 0
+AreStopped n h base ran replies =
+    (front more : List (List ℕ)) (reply : List ℕ) → replies ≡ front ++ reply ∷ more → is_unsettled reply ≡ true
+    → SessionReplies n h 0 (take (length front + 1) ran) base (length h) (front ++ reply ∷ [])
+
+-- The statements ran from a place of the history on, each with a reply that it may have. Each entry past the place is theirs, and after a commit
+-- that failed there is none.
+pub record RunOf (n : Outside) (h : History) (base : ℕ) (course : Course) : Type 0 where
   pub place : ℕ
   pub each : SessionReplies n h 0 course.ran base place course.replies
   pub stop : ℕ
   pub last : GoesUnanswered h course.unanswered place stop
   pub nothing_else : AddsNothing h 0 stop (length h)
   pub sessions : OwnEntries h base
+  pub stopped : AreStopped n h base course.ran course.replies
+
+-- The next command of one of these statements: those before it ran and gave theirs, it ran from there on, and then nothing was accepted.
+pub record IsNextOf (h : History) (base : ℕ) (statements : List Item) (c : Command) : Type 0 where
+  pub before : List Item
+  pub said : Item
+  pub after : List Item
+  pub split : statements ≡ before ++ said ∷ after
+  pub place : ℕ
+  pub gives : SessionGives h 0 before base place
+  pub next : IsNext h 0 said place (length h) c
+
+-- What is begun after statements ran: what was begun before, where nothing was accepted; nothing; or the next command of one of them.
+abbrev pub IsBegunBy : Told → Told → List Item → Type 0
+IsBegunBy first now statements =
+    ((now.begun ≡ first.begun) × (length now.list ≡ length first.list))
+    ⊎ (now.begun ≡ None)
+    ⊎ ((c : Command) × (now.begun ≡ Some (entry_of 0 c)) × IsNextOf (history now) (length first.list) statements c)
 
 -- all replies but the last were written, and a front of that
 pub record IsCut (replies : List (List ℕ)) (out : List ℕ) : Type 0 where

@@ -1,51 +1,34 @@
 -- What a run leaves for a crash, and what it did to the annals (docs/definitions.md, "Crashes").
-use Rattle.std.specs.Prelude.{◌≡◌, ◌⊎◌, ℕ, List, [], ◌∷◌, ◌++◌, Option, Some, Ok, Err}
+use Rattle.std.specs.Prelude.{◌≡◌, ℕ, List, ◌++◌, length, All, Option, Some}
 use Rattle.mt_values.specs.declared.annals.Noted.{Noted}
-use Rattle.mt_values.specs.declared.command.Entry.{Entry}
 use Rattle.mt_values.specs.Annals.{Told}
 use Rattle.mt_values.specs.Script.{statements_of}
 use Rattle.mt_outside.specs.Disk as root
-use Rattle.mt_model.specs.History.{History, schema_of}
-use Rattle.root_store.specs.Crashes.{AreCalm, AreCrashSafe, Outside, entries_of}
-use Rattle.command_turn.specs.Gains.{IsCommandBy}
-use Rattle.mt_program.specs.Courses.{Item}
+use Rattle.mt_model.specs.Session.{SessionGives}
+use Rattle.root_store.specs.Crashes.{AreCalm, AreCrashSafe, Storage}
+use Rattle.reply_lines.specs.Foreseen.{history}
+use Rattle.mt_program.specs.Courses.{IsBegunBy, Item}
 
--- the entry is the command of a statement at the end of a history, of the script's own session
-abbrev pub IsCommandAt : History → Item → Entry → Type 0
-IsCommandAt h (Ok said) e = (e.session ≡ 0) × IsCommandBy (λ (table : List ℕ). schema_of table h) said e.command
-IsCommandAt h (Err cause) e = ⊥
-
--- these entries, which come after a history, are commands of statements, in the statements' order, and each of a statement of its own
-unfoldable pub AreCommandsOf : List Item → History → List Noted → Type 0
-AreCommandsOf [] h entries = entries ≡ []
-AreCommandsOf (s ∷ statements) h entries =
-    AreCommandsOf statements h entries
-    ⊎ ((n : Noted) × (more : List Noted) × (entries ≡ n ∷ more) × IsCommandAt h s n.entry × AreCommandsOf statements (h ++ n.entry ∷ []) more)
-
--- it is the command of a statement after those whose commands these entries are
-abbrev pub IsCommandAfter : List Item → History → List Noted → Entry → Type 0
-IsCommandAfter statements h more e =
-    (before after : List Item) × (s : Item) × (statements ≡ before ++ s ∷ after) × IsCommandAt (h ++ entries_of more) s e × AreCommandsOf before h more
-
--- Annals that are known list what they listed first and then commands of statements. What is begun was begun at first, or is the command of a
--- statement after theirs.
+-- Annals that are known list what they listed first, and then what these statements gave, which ran one after another. What is begun was begun
+-- first, or is the next command of one of them.
 pub record IsGainedBy (statements : List Item) (annals : Option Told) (first : Told) : Type 0 where
-  pub kept : Told
-  pub annals_is : annals ≡ Some kept
+  pub now : Told
+  pub annals_is : annals ≡ Some now
   pub more : List Noted
-  pub more_is : kept.list ≡ first.list ++ more
-  pub added : AreCommandsOf statements (entries_of first.list) more
-  pub begun : (e : Entry) → kept.begun ≡ Some e → (first.begun ≡ Some e) ⊎ IsCommandAfter statements (entries_of first.list) more e
+  pub more_is : now.list ≡ first.list ++ more
+  pub sessions : All (λ (n : Noted). n.entry.session ≡ 0) more
+  pub gives : SessionGives (history now) 0 statements (length first.list) (length now.list)
+  pub begun : IsBegunBy first now statements
 
 -- Whatever a crash leaves holds each entry from the moment on when it was noted. Where the disk's count of faults is the one at opening,
 -- whatever a crash leaves now stands for the whole list. What the annals gained is of these statements.
-pub record LeavesForCrashes (statements : List Item) (opened : ℕ) (now : Outside) (first : Told) (start : ℕ) : Type 0 where
+pub record LeavesForCrashes (statements : List Item) (opened : ℕ) (now : Storage) (first : Told) (start : ℕ) : Type 0 where
   pub safe : AreCrashSafe now first start
   pub calm : now.failed ≡ opened → AreCalm now first start
   pub gained : IsGainedBy statements now.annals first
 
 -- the same of the statements of a text, which is the script where the source is known
-pub record LeavesOfScript (source : Option (List ℕ)) (opened : ℕ) (now : Outside) (first : Told) (start : ℕ) : Type 0 where
+pub record LeavesOfScript (source : Option (List ℕ)) (opened : ℕ) (now : Storage) (first : Told) (start : ℕ) : Type 0 where
   pub text : List ℕ
   pub text_is : (script : List ℕ) → source ≡ Some script → text ≡ script
   pub leaves : LeavesForCrashes (statements_of text) opened now first start

@@ -7,7 +7,7 @@ use Rattle.mt_values.specs.Script.{statements_of}
 use Rattle.mt_model.specs.History.{IsLegal}
 use Rattle.exit_status.specs.Statuses.{number_of}
 use Rattle.reply_lines.specs.Foreseen.{history}
-use Rattle.mt_program.specs.Courses.{AreSettled, Course, IsCut, Item, RunOf, Tells, started}
+use Rattle.mt_program.specs.Courses.{AreSettled, Course, IsBegunBy, IsCut, Item, RunOf, Tells, started}
 use Rattle.mt_program.specs.Worlds.{Starts, World, counts_of}
 use Rattle.exit_status.specs.declared.status.Status.{Status}
 use Rattle.exit_status.specs.declared.status.Status.TheVariants as status
@@ -55,8 +55,8 @@ EndsBy status.Damaged before after script course rest out = ⊥
 EndsBy status.TooLong before after script course rest out = AnsweredRead after.source script course out
 
 -- What a run leaves, by how it ended. The annals hold a list that begins with the one before and is legal. The first statements of the script ran,
--- each with a reply that it may have at its place of that list, and each entry that the list gained is theirs. What was written is their
--- replies. Where none of these says that a commit failed, the root stands for the list, so that the next run opens it.
+-- each with a reply that it may have at its place of that list, and each entry that the list gained is theirs; so is the command that is begun,
+-- if the run began one that was not accepted. What was written is their replies. Where none of these says that a commit failed, the root stands for the list, so that the next run opens it.
 pub record Headline (ended : Status) (before after : World) (kept : Told) (script written : List ℕ) : Type 0 where
   pub now : Told
   pub annals_is : after.storage.annals ≡ Some now
@@ -67,6 +67,7 @@ pub record Headline (ended : Status) (before after : World) (kept : Told) (scrip
   pub rest : List Item
   pub split : statements_of script ≡ started course ++ rest
   pub ran : RunOf (counts_of before after) (history now) (length kept.list) course
+  pub begun : IsBegunBy kept now (started course)
   pub out : List ℕ
   pub sink_is : after.sink ≡ Some (written ++ out)
   pub ends : EndsBy ended before after script course rest out

@@ -28,17 +28,16 @@ pub record NoCountRose (before after : World) : Type 0 where
   pub sink : Rose before.sink_failed after.sink_failed → ⊥
 
 -- Nothing that is handed in stands against a run: the words are a command line, the script is under the bound, and none of its statements, run
--- from a place of the history on, each after the commands of those before it, meets a cause to be refused.
-pub record NothingRefuses (command : List (String Global)) (script : List ℕ) (h : History) (base : ℕ) : Type 0 where
+-- after the history that was there, each after the commands of those before it, meets a cause to be refused.
+pub record NothingRefuses (command : List (String Global)) (script : List ℕ) (h : History) : Type 0 where
   pub words : is_command command ≡ true
   pub short : length script < 2 ^ 40
-  pub causes : NoneMeets h base (statements_of script)
+  pub causes : NoneMeets h (statements_of script)
 
 -- where nothing stands against a run, and no count rose, it ends with 0, or for want of memory
 abbrev pub IsComplete : List (String Global) → World → ℕ → World → Type 0
 IsComplete words before status after =
-    (kept now : Told) (script written : List ℕ) → Starts before kept script written → after.storage.annals ≡ Some now → NothingRefuses words script (history now) (length kept.list)
-    → NoCountRose before after → (status ≡ 0) ⊎ (status ≡ 6)
+    (kept : Told) (script written : List ℕ) → Starts before kept script written → NothingRefuses words script (history kept) → NoCountRose before after → (status ≡ 0) ⊎ (status ≡ 6)
 
 -- a run over a damaged root, by the number with which it ends: its line is written, or nothing, and the disk and the annals are as they were
 pub record NotOpened (number : ℕ) (line : List ℕ) (before after : World) : Type 0 where

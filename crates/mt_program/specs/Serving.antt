@@ -1,6 +1,6 @@
 -- What a script that was served leaves.
-use Rattle.std.specs.Prelude.{◌≡◌, ℕ, List, [], ◌++◌, length, drop, All, Option, Some}
-use Rattle.std.specs.List.{concat}
+use Rattle.std.specs.Prelude.{◌≡◌, ◌<◌, ℕ, true, List, [], ◌++◌, length, drop, All, Option, Some, None}
+use Rattle.std.specs.List.{concat, list_any}
 use Rattle.std.specs.Io.KnownBytes.{Appends}
 use Rattle.mt_values.specs.declared.annals.Noted.{Noted}
 use Rattle.mt_values.specs.Annals.{Told}
@@ -8,12 +8,12 @@ use Rattle.mt_values.specs.Script.{statements_of}
 use Rattle.mt_outside.specs.Disk as root
 use Rattle.mt_outside.specs.Files.{Files}
 use Rattle.mt_model.specs.History.{IsLegal}
-use Rattle.mt_model.specs.Outside.{Counts}
-use Rattle.mt_model.specs.Session.{SessionReplies}
+use Rattle.mt_model.specs.Outside.{Outside}
+use Rattle.mt_model.specs.Session.{SessionGives, SessionReplies}
 use Rattle.root_store.specs.declared.store.CoreStore.{CoreStore}
 use Rattle.root_store.specs.Stores.{CoreStands}
-use Rattle.reply_lines.specs.Foreseen.{Foresees, history}
-use Rattle.mt_program.specs.Courses.{AreSettled, IsCut, Item, Tells}
+use Rattle.reply_lines.specs.Foreseen.{Foresees, history, is_unsettled}
+use Rattle.mt_program.specs.Courses.{AreSettled, AreStopped, IsBegunBy, IsCut, Item, Tells, with_last}
 use Rattle.mt_program.specs.declared.serving.Ending.{Ending}
 use Rattle.mt_program.specs.declared.serving.Ending.TheVariants as ending
 use Rattle.reply_lines.specs.declared.tally.Tally.{Tally}
@@ -26,7 +26,9 @@ pub record Ran (kept : Told) (opened disk arm : ℕ) (done : List Item) (replies
   pub list_is : now.list ≡ kept.list ++ more
   pub legal : IsLegal (history now)
   pub sessions : All (λ (n : Noted). n.entry.session ≡ 0) more
-  pub run : (n : Counts) → Foresees opened disk arm n → SessionReplies n (history now) 0 done (length kept.list) (length now.list) replies
+  pub run : (n : Outside) → Foresees opened disk arm n → SessionReplies n (history now) 0 done (length kept.list) (length now.list) replies
+  pub stopped : (n : Outside) → Foresees opened disk arm n → AreStopped n (history now) (length kept.list) done replies
+  pub risen : list_any is_unsettled replies ≡ true → opened < disk
 
 -- The statements of the script up to a place ran, and their replies were written. The store stands for what the keeper tells.
 pub record Served {F : Type 0} (files_of : F → Option Files) (kept : Told) (script : List ℕ) (opened disk arm at : ℕ) (tally : Tally) (store : CoreStore F) (told : Option Told) (root : Option root.Told) (before after : Option (List ℕ)) : Type 0 where
@@ -34,25 +36,29 @@ pub record Served {F : Type 0} (files_of : F → Option Files) (kept : Told) (sc
   pub replies : List (List ℕ)
   pub split : statements_of script ≡ done ++ statements_of (drop at script)
   pub ran : Ran kept opened disk arm done replies told
+  pub given : SessionGives (history ran.now) 0 done (length kept.list) (length ran.now.list)
+  pub begun : IsBegunBy kept ran.now done
   pub stands : CoreStands files_of (history ran.now) store
   pub wrote : Appends before after (concat replies)
   pub tells : Tells tally replies
   pub settled : AreSettled replies root (history ran.now)
 
 -- which statements are left, and what was written of the replies: all of them whole, but where the sink failed
-abbrev pub StopsBy : Ending → List Item → List (List ℕ) → List ℕ → Type 0
-StopsBy (ending.Done tally) rest replies out = (rest ≡ []) × Tells tally replies × (out ≡ concat replies)
-StopsBy ending.NoMemory rest replies out = out ≡ concat replies
-StopsBy ending.WriteFault rest replies out = IsCut replies out
+abbrev pub StopsBy : Ending → Option Item → List Item → List (List ℕ) → List ℕ → Type 0
+StopsBy (ending.Done tally) unanswered rest replies out = (unanswered ≡ None) × (rest ≡ []) × Tells tally replies × (out ≡ concat replies)
+StopsBy ending.NoMemory unanswered rest replies out = out ≡ concat replies
+StopsBy ending.WriteFault unanswered rest replies out = (unanswered ≡ None) × IsCut replies out
 
--- What a script that was served leaves, by how it ended: the first statements ran. One that ended the run without a reply added nothing.
+-- What a script that was served leaves, by how it ended: the first statements ran. One more may have run that has no reply, and added nothing.
 pub record ServedBy (ended : Ending) (kept : Told) (script : List ℕ) (opened disk arm : ℕ) (told : Option Told) (root : Option root.Told) (before after : Option (List ℕ)) : Type 0 where
   pub done : List Item
   pub rest : List Item
   pub replies : List (List ℕ)
+  pub unanswered : Option Item
   pub out : List ℕ
-  pub split : statements_of script ≡ done ++ rest
+  pub split : statements_of script ≡ with_last done unanswered ++ rest
   pub ran : Ran kept opened disk arm done replies told
+  pub begun : IsBegunBy kept ran.now (with_last done unanswered)
   pub wrote : Appends before after out
-  pub stops : StopsBy ended rest replies out
+  pub stops : StopsBy ended unanswered rest replies out
   pub settled : AreSettled replies root (history ran.now)

@@ -2,21 +2,21 @@
 use Rattle.std.specs.Prelude.{◌≡◌, ℕ, List, Option, Some}
 use Rattle.mt_values.specs.Annals.{Told}
 use Rattle.mt_outside.specs.Disk as root
-use Rattle.mt_model.specs.Outside.{Counts}
-use Rattle.root_store.specs.Crashes.{Outside}
+use Rattle.mt_model.specs.Outside.{Outside}
+use Rattle.root_store.specs.Crashes.{Storage}
 use Rattle.root_store.specs.Roots.{Stands}
 use Rattle.reply_lines.specs.Foreseen.{history}
 
 -- What is known at a moment: of the disk and the annals, what the source has left, what was written to the sink, and how many calls have failed.
 pub record World : Type 0 where
-  pub storage : Outside
+  pub storage : Storage
   pub source : Option (List ℕ)
   pub source_failed : ℕ
   pub sink : Option (List ℕ)
   pub sink_failed : ℕ
 
 -- the disk's counts of faults from one moment to another
-abbrev pub counts_of : World → World → Counts
+abbrev pub counts_of : World → World → Outside
 counts_of before after = record { opened = before.storage.failed; ended = after.storage.failed }
 
 -- All of it is known, and the root stands for the list of the annals.

@@ -6,11 +6,11 @@ ghost use Rattle.mt_values.specs.Script.{next_statement, statements_of};
 ghost use Rattle.mt_outside.specs.Causes.{Rose};
 ghost use Rattle.mt_model.specs.Refusals.{is_damage};
 ghost use Rattle.mt_model.specs.Written.{IsWritten};
-ghost use Rattle.root_store.specs.Crashes.{KeepsThroughCrashes, Outside};
+ghost use Rattle.root_store.specs.Crashes.{KeepsThroughCrashes, Storage};
 ghost use Rattle.root_store.specs.Soundness.{HasSoundParts, IsSound, NamesFitUnlessRisen, RootStands};
 ghost use Rattle.root_store.specs.Stores.{CoreStands};
-ghost use Rattle.command_turn.specs.Answers.{Answers};
-ghost use Rattle.command_turn.specs.Gains.{Gains};
+ghost use Rattle.command_turn.specs.Answers.{AcceptsNothing, Answers};
+ghost use Rattle.reply_lines.specs.Causes.{HasCauses};
 ghost use Rattle.reply_lines.specs.Foreseen.{history};
 ghost use Rattle.mt_program.specs.Crashes.{IsGainedBy, LeavesForCrashes};
 ghost use Rattle.mt_program.specs.Endings.{MetNoDamage};
@@ -75,9 +75,10 @@ pub fn answer<D: Disk, A: Annals, G: Gate>(
     requires below { store.old.opened < 2 ^ 64 - 1 }
     ensures answers { (kept : Told) → A.told annals.old ≡ Some kept → D.Arm.tells arm.old ≡ true → CoreStands D.Arm.Dir.files (history kept) store.old
         → Answers D.Arm.Dir.files kept statement store.old.opened (D.failed disk.new) (D.Arm.failed arm.new) result store.new (A.told annals.new) (D.told disk.old) (D.told disk.new) }
-    ensures gains { Gains statement (D.failed disk.old) store.old (A.told annals.old) (A.told annals.new) }
-    ensures through_crashes { let was : Outside = record { disk = D.told disk.old; clock = D.clock disk.old; failed = D.failed disk.old; annals = A.told annals.old } in
-        let now : Outside = record { disk = D.told disk.new; clock = D.clock disk.new; failed = D.failed disk.new; annals = A.told annals.new } in
+    ensures causes { IfOk result (λ reply. HasCauses store.old.opened (D.failed disk.old) (D.failed disk.new) (D.Arm.failed arm.old) (D.Arm.failed arm.new) reply.items) }
+    ensures stopped { store.old.opened < D.failed disk.old → AcceptsNothing store.old store.new disk.old disk.new (A.told annals.old) (A.told annals.new) }
+    ensures through_crashes { let was : Storage = record { disk = D.told disk.old; clock = D.clock disk.old; failed = D.failed disk.old; annals = A.told annals.old } in
+        let now : Storage = record { disk = D.told disk.new; clock = D.clock disk.new; failed = D.failed disk.new; annals = A.told annals.new } in
         (first : Told) (start : ℕ) → D.Arm.tells arm.old ≡ true
         → KeepsThroughCrashes D.Arm.Dir.files store.old was first start → KeepsThroughCrashes D.Arm.Dir.files store.new now first start }
     ensures undamaged { HasSoundParts D.Arm.Dir.files store.old → IfOk result (λ reply. is_damage reply.items ≡ false) }
@@ -114,8 +115,8 @@ pub fn serve<D: Disk, A: Annals, K: Sink, G: Gate>(
     requires below { store.old.opened < 2 ^ 64 - 1 }
     ensures run { (kept : Told) → A.told annals.old ≡ Some kept → D.Arm.tells arm.old ≡ true → CoreStands D.Arm.Dir.files (history kept) store.old → RootStands (D.told disk.old) (history kept)
         → ServedBy result kept script.now store.old.opened (D.failed disk.new) (D.Arm.failed arm.new) (A.told annals.new) (D.told disk.new) (K.written sink.old) (K.written sink.new) }
-    ensures through_crashes { let was : Outside = record { disk = D.told disk.old; clock = D.clock disk.old; failed = D.failed disk.old; annals = A.told annals.old } in
-        let now : Outside = record { disk = D.told disk.new; clock = D.clock disk.new; failed = D.failed disk.new; annals = A.told annals.new } in
+    ensures through_crashes { let was : Storage = record { disk = D.told disk.old; clock = D.clock disk.old; failed = D.failed disk.old; annals = A.told annals.old } in
+        let now : Storage = record { disk = D.told disk.new; clock = D.clock disk.new; failed = D.failed disk.new; annals = A.told annals.new } in
         (first : Told) (start : ℕ) → D.Arm.tells arm.old ≡ true
         → KeepsThroughCrashes D.Arm.Dir.files store.old was first start → IsGainedBy [] (A.told annals.old) first
         → LeavesForCrashes (statements_of script.now) store.old.opened now first start }

@@ -19,7 +19,7 @@ use Rattle.durable_commit.specs.declared.causes.Refused.TheVariants as refused
 use Rattle.root_store.specs.declared.store.CoreStore.{CoreStore}
 use Rattle.root_store.specs.ByteOrder.{AreInByteOrder}
 use Rattle.root_commits.specs.Commits.{SameStore}
-use Rattle.root_store.specs.Crashes.{AreCalm, AreCrashSafe, IsCrashSafe, KeepsThroughCrashes, Outside, StandsForKept, entries_of, none_begun}
+use Rattle.root_store.specs.Crashes.{AreCalm, AreCrashSafe, IsCrashSafe, KeepsThroughCrashes, Storage, StandsForKept, entries_of, none_begun}
 use Rattle.root_store.specs.Roots.{Stands}
 use Rattle.root_store.specs.Stores.{CoreStands}
 use Rattle.root_store.proofs.CrashMarks.{safe_begun, some_one}
@@ -36,7 +36,7 @@ unrisen refused.Exists opened before after told now low below later rose unchang
 unrisen (refused.Limit l) opened before after told now low below later rose unchanged is = unchanged (λ e. cc)
 
 -- the disk and the annals are as they were, whatever the count of faults comes to
-module _ (was now : Outside) (first : keeper.Told) (start : ℕ) (disk : now.disk ≡ was.disk) (mark : now.clock ≡ was.clock) (list : now.annals ≡ was.annals) where
+module _ (was now : Storage) (first : keeper.Told) (start : ℕ) (disk : now.disk ≡ was.disk) (mark : now.clock ≡ was.clock) (list : now.annals ≡ was.annals) where
   pub safe_moved : AreCrashSafe was first start → AreCrashSafe now first start
   safe_moved s = record {
     told = s.told;
@@ -57,7 +57,7 @@ module _ (was now : Outside) (first : keeper.Told) (start : ℕ) (disk : now.dis
 
 module _ {F : Type 0} (files_of : F → Option Files) (old new : CoreStore F) (first : keeper.Told) (start : ℕ) where
   -- nothing was changed
-  pub kept_untouched : (was now : Outside) → SameStore old new → now.disk ≡ was.disk → now.clock ≡ was.clock → now.failed ≡ was.failed → now.annals ≡ was.annals
+  pub kept_untouched : (was now : Storage) → SameStore old new → now.disk ≡ was.disk → now.clock ≡ was.clock → now.failed ≡ was.failed → now.annals ≡ was.annals
       → KeepsThroughCrashes files_of old was first start → KeepsThroughCrashes files_of new now first start
   kept_untouched was now same disk mark count list keeps = record {
     safe = safe_moved was now first start disk mark list keeps.safe;
@@ -69,7 +69,7 @@ module _ {F : Type 0} (files_of : F → Option Files) (old new : CoreStore F) (f
   }
 
   -- a turn published sealed files whose command makes of each root that stands for the list one that stands for it with the command
-  module _ (was now : Outside) (name : List ℕ) (sealed : Option Files) (files : Files) (e : Entry) (sealed_is : sealed ≡ Some files) (s : AreCalm was first start)
+  module _ (was now : Storage) (name : List ℕ) (sealed : Option Files) (files : Files) (e : Entry) (sealed_is : sealed ≡ Some files) (s : AreCalm was first start)
       (grows : (names : Names) (left : Files) → AreInByteOrder names → Stands names (entries_of s.kept.list) → MayBecome files left → Stands (insert_entry (slice_cmp nat_cmp) names name left) (entries_of s.kept.list ++ e ∷ []))
     where
       abbrev published : Told

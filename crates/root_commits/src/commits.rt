@@ -20,7 +20,7 @@ ghost use Rattle.durable_commit.specs.Commits.{IsOutside, Notes, SameList, entry
 ghost use Rattle.root_store.specs.Stores.{fresh_table};
 ghost use Rattle.root_commits.specs.Commits.{EntersSealed, EntersTable, IsCause, SameStore, cause_of, fresh_part, IsSealedOf, insert_into, insert_of_block, kept_in, partition_of_block, refuses_create, refuses_part};
 ghost use Rattle.root_commits.specs.Images.{LeavesEither, LeavesOne};
-ghost use Rattle.root_store.specs.Crashes.{KeepsThroughCrashes, Outside};
+ghost use Rattle.root_store.specs.Crashes.{KeepsThroughCrashes, Storage};
 ghost use Rattle.root_store.specs.Entries.{EntryHolds};
 ghost use Rattle.root_store.specs.Soundness.{HasSoundParts, IsSound, NamesFitUnlessRisen, RootStands};
 ghost use Rattle.root_store.specs.Stores.{CoreStands, table_at};
@@ -274,8 +274,8 @@ pub fn commit_create<D: Disk, A: Annals>(
         → CoreStands D.Arm.Dir.files h store.old → LeavesOne (D.told disk.old) (D.clock disk.old) h
         → OnOk result (LeavesOne (D.told disk.new) (D.clock disk.new) (entered h session (command.Create create ∷ []))) }
     ensures images_err { (h : History) → LeavesOne (D.told disk.old) (D.clock disk.old) h → IfErr result (λ r. r.cause ≢ Refused.Disk → LeavesOne (D.told disk.new) (D.clock disk.new) h) }
-    ensures through_crashes { let was : Outside = record { disk = D.told disk.old; clock = D.clock disk.old; failed = D.failed disk.old; annals = A.told annals.old } in
-        let now : Outside = record { disk = D.told disk.new; clock = D.clock disk.new; failed = D.failed disk.new; annals = A.told annals.new } in
+    ensures through_crashes { let was : Storage = record { disk = D.told disk.old; clock = D.clock disk.old; failed = D.failed disk.old; annals = A.told annals.old } in
+        let now : Storage = record { disk = D.told disk.new; clock = D.clock disk.new; failed = D.failed disk.new; annals = A.told annals.new } in
         (first : Told) (start : ℕ) (files : Files) → sealed.files ≡ Some files → EntryHolds create.table create.schema files
         → KeepsThroughCrashes D.Arm.Dir.files store.old was first start → KeepsThroughCrashes D.Arm.Dir.files store.new now first start }
     ensures held { HasSoundParts D.Arm.Dir.files store.old → HasSoundParts D.Arm.Dir.files store.new }
@@ -416,8 +416,8 @@ pub fn commit_part<D: Disk, A: Annals>(
         → CoreStands D.Arm.Dir.files h store.old → LeavesOne (D.told disk.old) (D.clock disk.old) h
         → OnOk result (LeavesOne (D.told disk.new) (D.clock disk.new) (entered h session (insert_of_block table.now (partition_of_block t.schema block) block ∷ []))) }
     ensures images_err { (h : History) → LeavesOne (D.told disk.old) (D.clock disk.old) h → IfErr result (λ r. r.cause ≢ Refused.Disk → LeavesOne (D.told disk.new) (D.clock disk.new) h) }
-    ensures through_crashes { let was : Outside = record { disk = D.told disk.old; clock = D.clock disk.old; failed = D.failed disk.old; annals = A.told annals.old } in
-        let now : Outside = record { disk = D.told disk.new; clock = D.clock disk.new; failed = D.failed disk.new; annals = A.told annals.new } in
+    ensures through_crashes { let was : Storage = record { disk = D.told disk.old; clock = D.clock disk.old; failed = D.failed disk.old; annals = A.told annals.old } in
+        let now : Storage = record { disk = D.told disk.new; clock = D.clock disk.new; failed = D.failed disk.new; annals = A.told annals.new } in
         (t : Made) (first : Told) (start : ℕ) → table_at store.old table.now ≡ Some t → IsSealedOf t.schema block part.sealed.files part.loaded
         → KeepsThroughCrashes D.Arm.Dir.files store.old was first start → KeepsThroughCrashes D.Arm.Dir.files store.new now first start }
     ensures held { (t : Made) → table_at store.old table.now ≡ Some t → IsSealedOf t.schema block part.sealed.files part.loaded → HasSoundParts D.Arm.Dir.files store.old → HasSoundParts D.Arm.Dir.files store.new }

@@ -12,7 +12,7 @@ use Rattle.root_store.specs.Roots.{Stands}
 use Rattle.root_store.specs.Stores.{CoreStands}
 
 -- What is known of the outside at some moment: of the disk all changes of its names, its mark and its count of faults; and what annals list.
-pub record Outside : Type 0 where
+pub record Storage : Type 0 where
   pub disk : Option Told
   pub clock : ℕ
   pub failed : ℕ
@@ -61,7 +61,7 @@ pub record IsCrashSafe (told : Told) (clock : ℕ) (kept : keeper.Told) (first :
   pub images : (m mark : ℕ) (names : Names) → IsMarkAfter (length first) start kept.list m mark → Since told clock mark names → HoldsFirst m kept.list kept.begun names
 
 -- The disk and the annals are known, and are crash safe from a start on.
-pub record AreCrashSafe (now : Outside) (first : keeper.Told) (start : ℕ) : Type 0 where
+pub record AreCrashSafe (now : Storage) (first : keeper.Told) (start : ℕ) : Type 0 where
   pub told : Told
   pub kept : keeper.Told
   pub disk_is : now.disk ≡ Some told
@@ -69,7 +69,7 @@ pub record AreCrashSafe (now : Outside) (first : keeper.Told) (start : ℕ) : Ty
   pub safe : IsCrashSafe told now.clock kept first.list start
 
 -- the same, where what is begun has left nothing
-pub record AreCalm (now : Outside) (first : keeper.Told) (start : ℕ) : Type 0 where
+pub record AreCalm (now : Storage) (first : keeper.Told) (start : ℕ) : Type 0 where
   pub told : Told
   pub kept : keeper.Told
   pub disk_is : now.disk ≡ Some told
@@ -82,6 +82,6 @@ StandsForKept files_of annals store = ForSome annals (λ (kept : keeper.Told). C
 
 -- A store over a disk and annals: a crash leaves all that was noted. As long as the disk's count of faults is the one at opening, what
 -- is begun has left nothing, and the store stands for the list.
-pub record KeepsThroughCrashes {F : Type 0} (files_of : F → Option Files) (store : CoreStore F) (now : Outside) (first : keeper.Told) (start : ℕ) : Type 0 where
+pub record KeepsThroughCrashes {F : Type 0} (files_of : F → Option Files) (store : CoreStore F) (now : Storage) (first : keeper.Told) (start : ℕ) : Type 0 where
   pub safe : AreCrashSafe now first start
   pub calm : now.failed ≡ store.opened → AreCalm now first start × StandsForKept files_of now.annals store

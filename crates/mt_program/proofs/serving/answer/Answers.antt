@@ -1,12 +1,13 @@
 use Rattle.std.proofs.lemmas.Result.{IfOk-weaker}
-use Rattle.std.proofs.Common.{◌≡◌, IfOk, Err, Ok, inl, refl, sym, ap, ◌∙◌, subst}
+use Rattle.std.proofs.Common.{◌≡◌, ◌≤◌, IfOk, Err, Ok, sym, ap, ◌∙◌, subst, arith}
 use Rattle.mt_model.specs.declared.refusal.Refusal.{Refusal}
-use Rattle.mt_model.specs.Refusals.{is_damage, refusal_line, refusal_of_cause}
+use Rattle.mt_model.specs.Refusals.{code, is_damage, refusal_line, refusal_of_cause}
 use Rattle.command_turn.specs.Answers.{Answers}
-use Rattle.mt_program.specs.Courses.{Item}
-use Rattle.command_turn.specs.Gains.{Gains}
-use Rattle.command_turn.proofs.Accepting.{accepts_nothing, answers_line, kept_same, root_is}
+use Rattle.command_turn.proofs.Accepting.{answers_kept, nothing_accepted}
 use Rattle.mt_program.proofs.Selecting.{selected_answers}
+use Rattle.mt_values.specs.declared.statement.Cause.{Cause}
+use Rattle.mt_values.specs.declared.statement.Cause.TheVariants as cause
+use Rattle.reply_lines.proofs.Causing.{says_script}
 use Rattle.reply_lines.proofs.Refusing.{text_refused}
 use Rattle.reply_lines.proofs.Undamaged.{cause_line}
 use Rattle.mt_program.proofs.serving.answer.Goals as goal
@@ -32,10 +33,8 @@ returns-in-Err-clause-answers g c = λ kept is tells stands.
     let result = c.refusal_line.result in
     let why = refusal_of_cause c.in-Err.cause in
     let line = subst (λ (w : Refusal). IfOk result (λ line. line.items ≡ refusal_line w)) c.of_cause.ensures c.refusal_line.ensures in
-    let same = kept_same kept told is in
     subst (λ st. Answers files kept st opened disk arm result c.args.store.now told root root) (sym c.in-Err.is)
-    (answers_line files kept (Err c.in-Err.cause) opened disk arm result c.args.store.now told root root (λ reply. reply ≡ refusal_line why) line same (root_is result root)
-    (λ reply line. accepts_nothing files kept (Err c.in-Err.cause) opened disk arm reply c.args.store.now told root root same stands (λ n f. text_refused n kept reply c.in-Err.cause line) (λ calm before. before)))
+    (answers_kept files kept (Err c.in-Err.cause) opened disk arm result c.args.store.now told root (λ reply. reply ≡ refusal_line why) is stands line (λ reply line n f. text_refused n kept reply c.in-Err.cause line))
 
 -- what a crash leaves
 pub returns-in-Ok-Create-clause-through_crashes : goal.returns-in-Ok-Create-clause-through_crashes
@@ -44,20 +43,27 @@ returns-in-Ok-Create-clause-through_crashes g c = λ first start tells keeps. c.
 pub returns-in-Ok-Insert-clause-through_crashes : goal.returns-in-Ok-Insert-clause-through_crashes
 returns-in-Ok-Insert-clause-through_crashes g c = λ first start tells keeps. c.insert.ensures.through_crashes first start tells keeps
 
--- what is known of annals
-pub returns-in-Ok-Create-clause-gains : goal.returns-in-Ok-Create-clause-gains
-returns-in-Ok-Create-clause-gains g c =
-    subst (λ (s : Item). Gains s (g.D.Disk.failed c.args.disk.now) c.args.store.now (g.A.Annals.told c.args.annals.now) (g.A.Annals.told c.create.new.annals)) (sym (c.in-Ok-Create.is ∙ ap Ok c.in-Ok-Create.field-0-is)) c.create.ensures.gains
+-- a stopped store
+pub returns-in-Ok-Select-clause-stopped : goal.returns-in-Ok-Select-clause-stopped
+returns-in-Ok-Select-clause-stopped g c = λ risen. nothing_accepted c.args.store.now c.args.disk.now (g.A.Annals.told c.args.annals.now)
 
-pub returns-in-Ok-Insert-clause-gains : goal.returns-in-Ok-Insert-clause-gains
-returns-in-Ok-Insert-clause-gains g c =
-    subst (λ (s : Item). Gains s (g.D.Disk.failed c.args.disk.now) c.args.store.now (g.A.Annals.told c.args.annals.now) (g.A.Annals.told c.insert.new.annals)) (sym (c.in-Ok-Insert.is ∙ ap Ok c.in-Ok-Insert.field-0-is)) c.insert.ensures.gains
+pub returns-in-Err-clause-stopped : goal.returns-in-Err-clause-stopped
+returns-in-Err-clause-stopped g c = λ risen. nothing_accepted c.args.store.now c.args.disk.now (g.A.Annals.told c.args.annals.now)
 
-pub returns-in-Ok-Select-clause-gains : goal.returns-in-Ok-Select-clause-gains
-returns-in-Ok-Select-clause-gains g c = inl refl
+-- the causes of a reply
+pub returns-in-Ok-Select-clause-causes : goal.returns-in-Ok-Select-clause-causes
+returns-in-Ok-Select-clause-causes g c = c.select.ensures.causes (g.D.Disk.failed c.args.disk.now)
 
-pub returns-in-Err-clause-gains : goal.returns-in-Err-clause-gains
-returns-in-Err-clause-gains g c = inl refl
+pub returns-in-Err-clause-causes : goal.returns-in-Err-clause-causes
+returns-in-Err-clause-causes g c =
+    let cause = c.in-Err.cause in
+    IfOk-weaker c.refusal_line.result _ _
+    (λ line is. says_script c.args.store.now.opened (g.D.Disk.failed c.args.disk.now) (g.D.Disk.failed c.args.disk.now) (g.D.Arm.Arm.failed c.args.arm.now) (g.D.Arm.Arm.failed c.args.arm.now) line.items (refusal_of_cause cause) (is ∙ ap refusal_line c.of_cause.ensures) (text_code cause)) c.refusal_line.ensures
+  where
+    text_code : (cause : Cause) → code (refusal_of_cause cause) ≤ 14
+    text_code (cause.Grammar place) = omega arith
+    text_code cause.LongStatement = omega arith
+    text_code cause.LongName = omega arith
 
 -- the reply does not tell of damage
 pub returns-in-Err-clause-undamaged : goal.returns-in-Err-clause-undamaged

@@ -1,9 +1,9 @@
-use Rattle.std.proofs.Common.{◌∙◌, ◌∷◌, ◌++◌, [], refl, sym, subst, arith, ◌+◌, drop}
+use Rattle.std.proofs.Common.{◌≡◌, ◌<◌, ◌∙◌, ◌∷◌, ◌++◌, [], refl, sym, subst, arith, ◌+◌, drop}
 use Rattle.mt_values.specs.Script.{statements_of}
-use Rattle.mt_program.proofs.ServedScripts.{served_none, served_all, served_so_far, served_unanswered, served_more, served_cut, no_statement, nothing_left, one_statement, is_written, Found, Used, used_within}
-use Rattle.mt_program.proofs.Gaining.{gained_one}
+use Rattle.mt_program.proofs.ServedScripts.{served_none, served_all, served_so_far, served_unanswered, served_more, served_cut, unsettled_rose, no_statement, nothing_left, one_statement, is_written, Found, Used, used_within}
+use Rattle.mt_program.proofs.Gaining.{gained_one, stepped_answered, stepped_keeps}
 use Rattle.mt_program.proofs.Crashing.{left_behind, one_more}
-use Rattle.command_turn.specs.Answers.{Accepts}
+use Rattle.command_turn.specs.Answers.{Answered}
 use Rattle.mt_program.specs.Serving.{Served}
 use Rattle.mt_program.proofs.Undamaged.{tallied_undamaged}
 use Rattle.mt_program.proofs.serving.serve.Goals as goal
@@ -56,9 +56,10 @@ returns-in-Err-answer-clause-run g c = λ kept is tells stands settled.
     let s = c.statements.invariant.served kept is tells stands settled in
     let found = subst (λ o. Found c.args.script.now c.statements.at o) c.in-Ok-Some.field-0-is c.in-Ok-Some.ensures.found in
     let left = one_statement c.args.script.now c.statements.at c.in-Ok-Some.found.1 c.in-Ok-Some.found.0 found in
-    let same = c.in-Err-answer.ensures.answers s.ran.now s.ran.told_is (c.statements.invariant.tells ∙ tells) s.stands in
+    let keeps = c.in-Err-answer.ensures.answers s.ran.now s.ran.told_is (c.statements.invariant.tells ∙ tells) s.stands in
     served_unanswered g.D.Arm.Dir.Dir.files kept c.args.script.now c.args.store.now.opened (g.D.Disk.failed c.statements.disk) (g.D.Arm.Arm.failed c.statements.arm) c.statements.at c.statements.tally c.statements.store (g.A.Annals.told c.statements.annals) (g.D.Disk.told c.statements.disk)
-    (g.K.Sink.written c.args.sink.now) (g.K.Sink.written c.statements.sink) s (g.D.Disk.failed c.answer.new.disk) (g.D.Arm.Arm.failed c.answer.new.arm) c.in-Err-answer.ensures.disk_later c.in-Err-answer.ensures.arm_later (g.A.Annals.told c.answer.new.annals) (g.D.Disk.told c.answer.new.disk) same.0 same.1
+    (g.K.Sink.written c.args.sink.now) (g.K.Sink.written c.statements.sink) s (g.D.Disk.failed c.answer.new.disk) (g.D.Arm.Arm.failed c.answer.new.arm) c.in-Err-answer.ensures.disk_later c.in-Err-answer.ensures.arm_later
+    c.in-Ok-Some.found.1 c.in-Ok-Some.found.0 left (g.A.Annals.told c.answer.new.annals) (g.D.Disk.told c.answer.new.disk) keeps
 
 pub returns-in-Err-write_reply-clause-run : goal.returns-in-Err-write_reply-clause-run
 returns-in-Err-write_reply-clause-run g c = λ kept is tells stands settled.
@@ -68,11 +69,15 @@ returns-in-Err-write_reply-clause-run g c = λ kept is tells stands settled.
     let left = one_statement c.args.script.now c.statements.at c.in-Ok-Some.found.1 c.in-Ok-Some.found.0 found in
     let disk = g.D.Disk.failed c.answer.new.disk in
     let arm = g.D.Arm.Arm.failed c.answer.new.arm in
-    let a = subst (λ o. Accepts files s.ran.now c.in-Ok-Some.found.0 o disk arm c.in-Ok.reply.items c.answer.new.store (g.A.Annals.told c.answer.new.annals) (g.D.Disk.told c.statements.disk) (g.D.Disk.told c.answer.new.disk)) c.statements.invariant.opened
+    let a = subst (λ o. Answered files s.ran.now c.in-Ok-Some.found.0 o disk arm c.in-Ok.reply.items c.answer.new.store (g.A.Annals.told c.answer.new.annals) (g.D.Disk.told c.statements.disk) (g.D.Disk.told c.answer.new.disk)) c.statements.invariant.opened
     (c.in-Ok.ensures.answers s.ran.now s.ran.told_is (c.statements.invariant.tells ∙ tells) s.stands) in
+    let low = c.requires.opened in
+    let later = c.statements.invariant.disk_later in
+    let failed = unsettled_rose c.statements.store.opened c.args.store.now.opened (g.D.Disk.failed c.statements.disk) disk (g.D.Arm.Arm.failed c.statements.arm) arm c.in-Ok.reply.items c.statements.invariant.opened (omega arith) c.requires.below c.in-Ok.ensures.causes in
+    let still : c.args.store.now.opened < g.D.Disk.failed c.statements.disk → g.A.Annals.told c.answer.new.annals ≡ g.A.Annals.told c.statements.annals = λ risen. (c.in-Ok.ensures.stopped (omega (arith, c.statements.invariant.opened, risen))).annals_is in
     served_cut files kept c.args.script.now c.args.store.now.opened (g.D.Disk.failed c.statements.disk) (g.D.Arm.Arm.failed c.statements.arm) c.statements.at c.statements.tally c.statements.store (g.A.Annals.told c.statements.annals) (g.D.Disk.told c.statements.disk)
     (g.K.Sink.written c.args.sink.now) (g.K.Sink.written c.statements.sink) s disk arm c.in-Ok.ensures.disk_later c.in-Ok.ensures.arm_later
-    c.in-Ok-Some.found.1 c.in-Ok-Some.found.0 left c.answer.new.store (g.A.Annals.told c.answer.new.annals) (g.D.Disk.told c.answer.new.disk) c.in-Ok.reply.items (g.K.Sink.written c.write_reply.new.sink) a (rw c.deref.ensures.value at c.in-Err-write_reply.ensures.front)
+    c.in-Ok-Some.found.1 c.in-Ok-Some.found.0 left c.answer.new.store (g.A.Annals.told c.answer.new.annals) (g.D.Disk.told c.answer.new.disk) c.in-Ok.reply.items (g.K.Sink.written c.write_reply.new.sink) failed still a (rw c.deref.ensures.value at c.in-Err-write_reply.ensures.front)
 
 pub statements-preserved : goal.statements-preserved
 statements-preserved g c = record {
@@ -87,11 +92,15 @@ statements-preserved g c = record {
       let left = one_statement c.args.script.now c.statements.at c.in-Ok-Some.found.1 c.in-Ok-Some.found.0 found in
       let disk = g.D.Disk.failed c.answer.new.disk in
       let arm = g.D.Arm.Arm.failed c.answer.new.arm in
-      let a = subst (λ o. Accepts files s.ran.now c.in-Ok-Some.found.0 o disk arm c.in-Ok.reply.items c.answer.new.store (g.A.Annals.told c.answer.new.annals) (g.D.Disk.told c.statements.disk) (g.D.Disk.told c.answer.new.disk)) c.statements.invariant.opened
+      let a = subst (λ o. Answered files s.ran.now c.in-Ok-Some.found.0 o disk arm c.in-Ok.reply.items c.answer.new.store (g.A.Annals.told c.answer.new.annals) (g.D.Disk.told c.statements.disk) (g.D.Disk.told c.answer.new.disk)) c.statements.invariant.opened
       (c.in-Ok.ensures.answers s.ran.now s.ran.told_is (c.statements.invariant.tells ∙ tells) s.stands) in
+      let low = c.requires.opened in
+      let later = c.statements.invariant.disk_later in
+      let failed = unsettled_rose c.statements.store.opened c.args.store.now.opened (g.D.Disk.failed c.statements.disk) disk (g.D.Arm.Arm.failed c.statements.arm) arm c.in-Ok.reply.items c.statements.invariant.opened (omega arith) c.requires.below c.in-Ok.ensures.causes in
+      let still : c.args.store.now.opened < g.D.Disk.failed c.statements.disk → g.A.Annals.told c.answer.new.annals ≡ g.A.Annals.told c.statements.annals = λ risen. (c.in-Ok.ensures.stopped (omega (arith, c.statements.invariant.opened, risen))).annals_is in
       let more = served_more files kept c.args.script.now c.args.store.now.opened (g.D.Disk.failed c.statements.disk) (g.D.Arm.Arm.failed c.statements.arm) c.statements.at c.statements.tally c.statements.store (g.A.Annals.told c.statements.annals) (g.D.Disk.told c.statements.disk)
       (g.K.Sink.written c.args.sink.now) (g.K.Sink.written c.statements.sink) s disk arm c.in-Ok.ensures.disk_later c.in-Ok.ensures.arm_later
-      c.in-Ok-Some.found.1 c.in-Ok-Some.found.0 left c.answer.new.store (g.A.Annals.told c.answer.new.annals) (g.D.Disk.told c.answer.new.disk) c.in-Ok.reply.items (g.K.Sink.written c.write_reply.new.sink) a (rw c.deref.ensures.value at c.in-Ok-write_reply.ensures.all) in
+      c.in-Ok-Some.found.1 c.in-Ok-Some.found.0 left c.answer.new.store (g.A.Annals.told c.answer.new.annals) (g.D.Disk.told c.answer.new.disk) c.in-Ok.reply.items (g.K.Sink.written c.write_reply.new.sink) failed still a (rw c.deref.ensures.value at c.in-Ok-write_reply.ensures.all) in
       subst (λ t. Served files kept c.args.script.now c.args.store.now.opened disk arm (c.statements.at + c.in-Ok-Some.found.1) t c.answer.new.store (g.A.Annals.told c.answer.new.annals) (g.D.Disk.told c.answer.new.disk) (g.K.Sink.written c.args.sink.now) (g.K.Sink.written c.write_reply.new.sink))
       (sym (rw c.deref.ensures.value at c.in-Ok-write_reply.ensures.tally)) more;
   held = λ tells held. c.in-Ok.ensures.held (c.statements.invariant.tells ∙ tells) (c.statements.invariant.held tells held);
@@ -105,7 +114,12 @@ statements-preserved g c = record {
         was.0 ++ c.in-Ok-Some.found.0 ∷ [],
         one_more c.args.script.now was.0 _ c.in-Ok-Some.found.0 _ was.1 left,
         c.in-Ok.ensures.through_crashes first start (c.statements.invariant.tells ∙ tells) was.2,
-        gained_one g.D.Arm.Dir.Dir.files was.0 c.in-Ok-Some.found.0 (g.D.Disk.failed c.statements.disk) c.statements.store (g.A.Annals.told c.statements.annals) (g.A.Annals.told c.answer.new.annals) first was.3 (λ still. (was.2.calm still).1) c.in-Ok.ensures.gains,
+        gained_one was.0 c.in-Ok-Some.found.0 (g.A.Annals.told c.statements.annals) (g.A.Annals.told c.answer.new.annals) first was.3 g.D.Arm.Dir.Dir.files c.statements.store.opened (g.D.Disk.failed c.statements.disk) c.statements.store (omega (arith, c.requires.opened, c.statements.invariant.opened, c.statements.invariant.disk_later))
+    (λ still. (was.2.calm still).1)
+    (λ kept is stands.
+        let a = c.in-Ok.ensures.answers kept is (c.statements.invariant.tells ∙ tells) stands in
+        (a.now, a.told_is, stepped_answered g.D.Arm.Dir.Dir.files kept c.in-Ok-Some.found.0 c.statements.store.opened (g.D.Disk.failed c.answer.new.disk) (g.D.Arm.Arm.failed c.answer.new.arm) c.in-Ok.reply.items c.answer.new.store (g.A.Annals.told c.answer.new.annals) (g.D.Disk.told c.statements.disk) (g.D.Disk.told c.answer.new.disk) a))
+    (λ risen. (c.in-Ok.ensures.stopped risen).annals_is),
       );
   within = used_within c.args.script.now c.statements.at c.in-Ok-Some.found.1 c.statements.invariant.within (subst (λ o. Used c.args.script.now c.statements.at o) c.in-Ok-Some.field-0-is c.in-Ok-Some.ensures.used).1;
   disk_later = omega arith;
@@ -137,7 +151,12 @@ returns-in-Err-answer-clause-through_crashes g c = λ first start tells keeps ga
     let was = c.statements.invariant.keeps first start tells keeps gained in
     left_behind c.args.store.now.opened (statements_of c.args.script.now) (was.0 ++ c.in-Ok-Some.found.0 ∷ []) (statements_of (drop (c.statements.at + c.in-Ok-Some.found.1) c.args.script.now))
     (one_more c.args.script.now was.0 _ c.in-Ok-Some.found.0 _ was.1 left) (c.in-Err-answer.ensures.opened ∙ c.statements.invariant.opened) (c.in-Err-answer.ensures.through_crashes first start (c.statements.invariant.tells ∙ tells) was.2)
-    (gained_one g.D.Arm.Dir.Dir.files was.0 c.in-Ok-Some.found.0 (g.D.Disk.failed c.statements.disk) c.statements.store (g.A.Annals.told c.statements.annals) (g.A.Annals.told c.answer.new.annals) first was.3 (λ still. (was.2.calm still).1) c.in-Err-answer.ensures.gains)
+    (gained_one was.0 c.in-Ok-Some.found.0 (g.A.Annals.told c.statements.annals) (g.A.Annals.told c.answer.new.annals) first was.3 g.D.Arm.Dir.Dir.files c.statements.store.opened (g.D.Disk.failed c.statements.disk) c.statements.store (omega (arith, c.requires.opened, c.statements.invariant.opened, c.statements.invariant.disk_later))
+    (λ still. (was.2.calm still).1)
+    (λ kept is stands.
+        let k = c.in-Err-answer.ensures.answers kept is (c.statements.invariant.tells ∙ tells) stands in
+        (k.now, k.told_is, stepped_keeps kept c.in-Ok-Some.found.0 (g.A.Annals.told c.answer.new.annals) (g.D.Disk.told c.statements.disk) (g.D.Disk.told c.answer.new.disk) k))
+    (λ risen. (c.in-Err-answer.ensures.stopped risen).annals_is))
 
 pub returns-in-Err-write_reply-clause-through_crashes : goal.returns-in-Err-write_reply-clause-through_crashes
 returns-in-Err-write_reply-clause-through_crashes g c = λ first start tells keeps gained.
@@ -146,7 +165,12 @@ returns-in-Err-write_reply-clause-through_crashes g c = λ first start tells kee
     let was = c.statements.invariant.keeps first start tells keeps gained in
     left_behind c.args.store.now.opened (statements_of c.args.script.now) (was.0 ++ c.in-Ok-Some.found.0 ∷ []) (statements_of (drop (c.statements.at + c.in-Ok-Some.found.1) c.args.script.now))
     (one_more c.args.script.now was.0 _ c.in-Ok-Some.found.0 _ was.1 left) (c.in-Ok.ensures.opened ∙ c.statements.invariant.opened) (c.in-Ok.ensures.through_crashes first start (c.statements.invariant.tells ∙ tells) was.2)
-    (gained_one g.D.Arm.Dir.Dir.files was.0 c.in-Ok-Some.found.0 (g.D.Disk.failed c.statements.disk) c.statements.store (g.A.Annals.told c.statements.annals) (g.A.Annals.told c.answer.new.annals) first was.3 (λ still. (was.2.calm still).1) c.in-Ok.ensures.gains)
+    (gained_one was.0 c.in-Ok-Some.found.0 (g.A.Annals.told c.statements.annals) (g.A.Annals.told c.answer.new.annals) first was.3 g.D.Arm.Dir.Dir.files c.statements.store.opened (g.D.Disk.failed c.statements.disk) c.statements.store (omega (arith, c.requires.opened, c.statements.invariant.opened, c.statements.invariant.disk_later))
+    (λ still. (was.2.calm still).1)
+    (λ kept is stands.
+        let a = c.in-Ok.ensures.answers kept is (c.statements.invariant.tells ∙ tells) stands in
+        (a.now, a.told_is, stepped_answered g.D.Arm.Dir.Dir.files kept c.in-Ok-Some.found.0 c.statements.store.opened (g.D.Disk.failed c.answer.new.disk) (g.D.Arm.Arm.failed c.answer.new.arm) c.in-Ok.reply.items c.answer.new.store (g.A.Annals.told c.answer.new.annals) (g.D.Disk.told c.statements.disk) (g.D.Disk.told c.answer.new.disk) a))
+    (λ risen. (c.in-Ok.ensures.stopped risen).annals_is))
 
 pub returns-clause-through_crashes : goal.returns-clause-through_crashes
 returns-clause-through_crashes g c = λ first start tells keeps gained.

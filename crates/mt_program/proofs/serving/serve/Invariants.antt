@@ -6,7 +6,7 @@ use Rattle.reply_lines.specs.Foreseen.{history}
 use Rattle.mt_program.specs.Courses.{Item}
 use Rattle.mt_program.specs.Serving.{Served}
 use Rattle.mt_program.specs.Crashes.{IsGainedBy}
-use Rattle.root_store.specs.Crashes.{KeepsThroughCrashes, Outside}
+use Rattle.root_store.specs.Crashes.{KeepsThroughCrashes, Storage}
 use Rattle.root_store.specs.Soundness.{HasSoundParts, IsSound, NamesFitUnlessRisen, RootStands}
 use Rattle.root_store.specs.Stores.{CoreStands}
 use Rattle.mt_program.proofs.serving.serve.Given as goal
@@ -18,8 +18,8 @@ invariant-statements g l =
     let written = g.K.Sink.written in
     let faults = g.D.Disk.failed in
     let arm_faults = g.D.Arm.Arm.failed in
-    let was : Outside = record { disk = g.D.Disk.told l.initial.disk; clock = g.D.Disk.clock l.initial.disk; failed = faults l.initial.disk; annals = told l.initial.annals } in
-    let now : Outside = record { disk = g.D.Disk.told l.disk; clock = g.D.Disk.clock l.disk; failed = faults l.disk; annals = told l.annals } in
+    let was : Storage = record { disk = g.D.Disk.told l.initial.disk; clock = g.D.Disk.clock l.initial.disk; failed = faults l.initial.disk; annals = told l.initial.annals } in
+    let now : Storage = record { disk = g.D.Disk.told l.disk; clock = g.D.Disk.clock l.disk; failed = faults l.disk; annals = told l.annals } in
     record {
       names : NamesFitUnlessRisen (faults l.disk) (g.D.Disk.told l.disk) l.store;
       sound : IsSound l.store;

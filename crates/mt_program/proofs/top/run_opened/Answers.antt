@@ -2,7 +2,7 @@ use Rattle.std.proofs.Common.{◌≡◌, ◌⊎◌, ◌≤◌, ◌<◌, ℕ, tru
 use Rattle.std.specs.Prelude.{is_some}
 use Rattle.std.proofs.lemmas.Bool.Decides.{nat_tests}
 use Rattle.mt_outside.specs.Causes.{Rose}
-use Rattle.mt_model.specs.Outside.{Counts}
+use Rattle.mt_model.specs.Outside.{Outside}
 use Rattle.mt_outside.specs.Disk as root
 use Rattle.reply_lines.specs.Foreseen.{Foresees, history}
 use Rattle.mt_program.specs.Damage.{WritesDamage, damage_line}
@@ -12,7 +12,7 @@ use Rattle.mt_program.specs.Worlds.{World}
 use Rattle.exit_status.specs.declared.status.Status.{Status}
 use Rattle.exit_status.specs.declared.status.Status.TheVariants as status
 use Rattle.reply_lines.proofs.Counting.{risen_back, some_rose}
-use Rattle.root_store.specs.Crashes.{AllStand, Outside}
+use Rattle.root_store.specs.Crashes.{AllStand, Storage}
 use Rattle.root_store.proofs.CrashMarks.{safe_at_start, safe_opened}
 use Rattle.mt_program.specs.Crashes.{LeavesOfScript}
 use Rattle.mt_program.proofs.Crashing.{left_moved, nothing_of_script}
@@ -64,7 +64,7 @@ returns-clause-headline g c = λ kept script written starts.
       sink = g.K.Sink.written c.run_root-ended.new.sink;
       sink_failed = g.K.Sink.failed c.run_root-ended.new.sink;
     } in
-    let n : Counts = record { opened = g.D.Disk.failed c.args.disk.now; ended = g.D.Disk.failed c.take_back.new.self } in
+    let n : Outside = record { opened = g.D.Disk.failed c.args.disk.now; ended = g.D.Disk.failed c.take_back.new.self } in
     let disk = g.D.Disk.failed c.run_root-ended.new.disk in
     let arm = g.D.Arm.Arm.failed c.run_root-ended.new.arm in
     let opened = c.faults-opened.ensures in
@@ -174,18 +174,18 @@ returns-clause-calm g c = λ done.
 -- what a crash leaves
 pub returns-then-opened-clause-crashes : goal.returns-then-opened-clause-crashes
 returns-then-opened-clause-crashes g c = λ kept told is known all.
-    let now : Outside = record { disk = g.D.Disk.told c.args.disk.now; clock = g.D.Disk.clock c.args.disk.now; failed = g.D.Disk.failed c.args.disk.now; annals = g.A.Annals.told c.args.annals.now } in
+    let now : Storage = record { disk = g.D.Disk.told c.args.disk.now; clock = g.D.Disk.clock c.args.disk.now; failed = g.D.Disk.failed c.args.disk.now; annals = g.A.Annals.told c.args.annals.now } in
     nothing_of_script told kept now _ known is (safe_at_start told (g.D.Disk.clock c.args.disk.now) kept.list all) (g.S.Source.left c.args.source.now) _
 
 pub returns-in-Err-clause-crashes : goal.returns-in-Err-clause-crashes
 returns-in-Err-clause-crashes g c = λ kept told is known all.
-    let now : Outside = record { disk = g.D.Disk.told c.start.new.self; clock = g.D.Disk.clock c.start.new.self; failed = g.D.Disk.failed c.start.new.self; annals = g.A.Annals.told c.args.annals.now } in
+    let now : Storage = record { disk = g.D.Disk.told c.start.new.self; clock = g.D.Disk.clock c.start.new.self; failed = g.D.Disk.failed c.start.new.self; annals = g.A.Annals.told c.args.annals.now } in
     nothing_of_script told kept now _ (c.start.ensures.told ∙ known) is
     (safe_opened told (g.D.Disk.clock c.args.disk.now) (g.D.Disk.clock c.start.new.self) kept.list all (inl c.start.ensures.clock)) (g.S.Source.left c.args.source.now) _
 
 pub returns-in-Err-arm-clause-crashes : goal.returns-in-Err-arm-clause-crashes
 returns-in-Err-arm-clause-crashes g c = λ kept told is known all.
-    let now : Outside = record { disk = g.D.Disk.told c.arm.new.self; clock = g.D.Disk.clock c.arm.new.self; failed = g.D.Disk.failed c.arm.new.self; annals = g.A.Annals.told c.args.annals.now } in
+    let now : Storage = record { disk = g.D.Disk.told c.arm.new.self; clock = g.D.Disk.clock c.arm.new.self; failed = g.D.Disk.failed c.arm.new.self; annals = g.A.Annals.told c.args.annals.now } in
     nothing_of_script told kept now _ (c.in-Err-arm.ensures.told ∙ (c.start.ensures.told ∙ known)) is
     (safe_opened told (g.D.Disk.clock c.args.disk.now) (g.D.Disk.clock c.arm.new.self) kept.list all (inl (c.in-Err-arm.ensures.clock ∙ c.start.ensures.clock))) (g.S.Source.left c.args.source.now) _
 
@@ -195,8 +195,8 @@ returns-clause-crashes g c = λ kept told is known all.
     let tells = c.in-Ok.ensures.tells ∙ ap is_some (c.start.ensures.told ∙ known) in
     let mark : g.D.Disk.clock c.arm.new.self ≡ g.D.Disk.clock c.args.disk.now = c.in-Ok.ensures.clock ∙ c.start.ensures.clock in
     let left = c.run_root-ended.ensures.crashes kept told is here tells (subst (λ m. AllStand told m (history kept)) (sym mark) all) in
-    let ran : Outside = record { disk = g.D.Disk.told c.run_root-ended.new.disk; clock = g.D.Disk.clock c.run_root-ended.new.disk; failed = g.D.Disk.failed c.run_root-ended.new.disk; annals = g.A.Annals.told c.run_root-ended.new.annals } in
-    let now : Outside = record { disk = g.D.Disk.told c.take_back.new.self; clock = g.D.Disk.clock c.take_back.new.self; failed = g.D.Disk.failed c.take_back.new.self; annals = g.A.Annals.told c.run_root-ended.new.annals } in
+    let ran : Storage = record { disk = g.D.Disk.told c.run_root-ended.new.disk; clock = g.D.Disk.clock c.run_root-ended.new.disk; failed = g.D.Disk.failed c.run_root-ended.new.disk; annals = g.A.Annals.told c.run_root-ended.new.annals } in
+    let now : Storage = record { disk = g.D.Disk.told c.take_back.new.self; clock = g.D.Disk.clock c.take_back.new.self; failed = g.D.Disk.failed c.take_back.new.self; annals = g.A.Annals.told c.run_root-ended.new.annals } in
     let from_start = subst (λ m. LeavesOfScript (g.S.Source.left c.args.source.now) c.faults-opened.result ran kept m) mark left in
     let from_opened = subst (λ m. LeavesOfScript (g.S.Source.left c.args.source.now) m ran kept (g.D.Disk.clock c.args.disk.now)) c.faults-opened.ensures from_start in
     let start_later = c.start.ensures.cause.later in
@@ -221,8 +221,8 @@ returns-clause-settles g c = λ kept told is known some all.
     let tells = c.in-Ok.ensures.tells ∙ ap is_some (c.start.ensures.told ∙ known) in
     let mark : g.D.Disk.clock c.arm.new.self ≡ g.D.Disk.clock c.args.disk.now = c.in-Ok.ensures.clock ∙ c.start.ensures.clock in
     let left = c.run_root-ended.ensures.settles kept told is here tells some (subst (λ m. AllStand told (m + 1) (history kept)) (sym mark) all) in
-    let ran : Outside = record { disk = g.D.Disk.told c.run_root-ended.new.disk; clock = g.D.Disk.clock c.run_root-ended.new.disk; failed = g.D.Disk.failed c.run_root-ended.new.disk; annals = g.A.Annals.told c.run_root-ended.new.annals } in
-    let now : Outside = record { disk = g.D.Disk.told c.take_back.new.self; clock = g.D.Disk.clock c.take_back.new.self; failed = g.D.Disk.failed c.take_back.new.self; annals = g.A.Annals.told c.run_root-ended.new.annals } in
+    let ran : Storage = record { disk = g.D.Disk.told c.run_root-ended.new.disk; clock = g.D.Disk.clock c.run_root-ended.new.disk; failed = g.D.Disk.failed c.run_root-ended.new.disk; annals = g.A.Annals.told c.run_root-ended.new.annals } in
+    let now : Storage = record { disk = g.D.Disk.told c.take_back.new.self; clock = g.D.Disk.clock c.take_back.new.self; failed = g.D.Disk.failed c.take_back.new.self; annals = g.A.Annals.told c.run_root-ended.new.annals } in
     elim left [
       | inl same ↦ inl (record { names = c.take_back.ensures.told ∙ (same.names ∙ (c.in-Ok.ensures.told ∙ c.start.ensures.told)); list = same.list; output = same.output })
       | inr leaves ↦ (

@@ -2,7 +2,7 @@ use Rattle.std.proofs.Common.{◌∙◌, ◌+◌, ℕ, subst, refl, sym, inl, in
 use Rattle.mt_outside.specs.Disk.{names_of}
 use Rattle.reply_lines.specs.Foreseen.{history}
 use Rattle.mt_program.specs.Endings.{LeftBy}
-use Rattle.root_store.specs.Crashes.{IsCrashSafe, Outside, none_begun}
+use Rattle.root_store.specs.Crashes.{IsCrashSafe, Storage, none_begun}
 use Rattle.root_store.proofs.CrashMarks.{safe_at_start, stands_as_read}
 use Rattle.mt_program.proofs.Crashing.{keeps_opened, nothing_of_script}
 use Rattle.mt_program.proofs.Gaining.{gained_nothing}
@@ -56,7 +56,7 @@ returns-clause-damaged g c = λ names is tells. inl (c.run_script.ensures.undama
 -- what a crash leaves
 pub returns-in-Err-clause-crashes : goal.returns-in-Err-clause-crashes
 returns-in-Err-clause-crashes g c = λ kept told is known tells all.
-    let now : Outside = record { disk = g.D.Disk.told c.open.new.disk; clock = g.D.Disk.clock c.open.new.disk; failed = g.D.Disk.failed c.open.new.disk; annals = g.A.Annals.told c.args.annals.now } in
+    let now : Storage = record { disk = g.D.Disk.told c.open.new.disk; clock = g.D.Disk.clock c.open.new.disk; failed = g.D.Disk.failed c.open.new.disk; annals = g.A.Annals.told c.args.annals.now } in
     nothing_of_script told kept now (g.D.Disk.clock c.args.disk.now) (c.in-Err.ensures.told ∙ known) is (c.in-Err.ensures.crashes told kept.list known all) (g.S.Source.left c.args.source.now) c.args.opened
 
 pub returns-clause-crashes : goal.returns-clause-crashes
@@ -64,7 +64,7 @@ returns-clause-crashes g c = λ kept told is known tells all.
     let files = g.D.Arm.Dir.Dir.files in
     let start = g.D.Disk.clock c.args.disk.now in
     let core = stands_reopened c.in-Ok.store c.args.opened files (history kept) (c.in-Ok.ensures.stands told (history kept) known (stands_as_read told start (history kept) all)) in
-    let now : Outside = record { disk = g.D.Disk.told c.open.new.disk; clock = g.D.Disk.clock c.open.new.disk; failed = g.D.Disk.failed c.open.new.disk; annals = g.A.Annals.told c.args.annals.now } in
+    let now : Storage = record { disk = g.D.Disk.told c.open.new.disk; clock = g.D.Disk.clock c.open.new.disk; failed = g.D.Disk.failed c.open.new.disk; annals = g.A.Annals.told c.args.annals.now } in
     let keeps = keeps_opened told kept now start (c.in-Ok.ensures.told ∙ known) is (c.in-Ok.ensures.crashes told kept.list known all) files (reopened c.in-Ok.store c.args.opened) core in
     c.run_script.ensures.through_crashes kept start (c.in-Ok.ensures.tells ∙ tells) keeps (gained_nothing (g.A.Annals.told c.args.annals.now) kept is)
 
@@ -85,6 +85,6 @@ returns-clause-settles g c = λ kept told is known tells some all.
     let start = g.D.Disk.clock c.args.disk.now + 1 in
     let core = stands_reopened c.in-Ok.store c.args.opened files (history kept) (c.in-Ok.ensures.stands told (history kept) known (stands_as_read told start (history kept) all)) in
     let safe = subst (λ (m : ℕ). IsCrashSafe told m (none_begun kept.list) kept.list start) (sym (c.in-Ok.ensures.settled told known some)) (safe_at_start told start kept.list all) in
-    let now : Outside = record { disk = g.D.Disk.told c.open.new.disk; clock = g.D.Disk.clock c.open.new.disk; failed = g.D.Disk.failed c.open.new.disk; annals = g.A.Annals.told c.args.annals.now } in
+    let now : Storage = record { disk = g.D.Disk.told c.open.new.disk; clock = g.D.Disk.clock c.open.new.disk; failed = g.D.Disk.failed c.open.new.disk; annals = g.A.Annals.told c.args.annals.now } in
     let keeps = keeps_opened told kept now start (c.in-Ok.ensures.told ∙ known) is safe files (reopened c.in-Ok.store c.args.opened) core in
     inr (c.run_script.ensures.through_crashes kept start (c.in-Ok.ensures.tells ∙ tells) keeps (gained_nothing (g.A.Annals.told c.args.annals.now) kept is))

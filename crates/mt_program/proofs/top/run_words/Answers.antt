@@ -1,5 +1,5 @@
 use Rattle.std.proofs.Common.{◌∙◌, ◌≡◌, ◌⊎◌, ◌≤◌, ℕ, inl, refl, sym, subst}
-use Rattle.root_store.specs.Crashes.{Outside}
+use Rattle.root_store.specs.Crashes.{Storage}
 use Rattle.root_store.proofs.CrashMarks.{safe_at_start}
 use Rattle.exit_status.specs.declared.status.Status.{Status}
 use Rattle.exit_status.specs.declared.status.Status.TheVariants as status
@@ -22,7 +22,7 @@ returns-then-not-is_command_line-clause-headline g c = λ kept script written st
 
 -- nothing stands against the run
 pub returns-clause-complete : goal.returns-clause-complete
-returns-clause-complete g c = λ kept now script written starts there nothing calm.
+returns-clause-complete g c = λ kept script written starts nothing calm.
     let ended = c.run_opened-ended.result in
     let done = c.run_opened-ended.ensures in
     let before : World = record {
@@ -48,7 +48,7 @@ returns-clause-complete g c = λ kept now script written starts there nothing ca
     subst (λ (n : ℕ). (n ≡ 0) ⊎ (n ≡ 6)) (sym c.number-status-2.ensures)
     (zero_or_six ended done.words (λ is. calm.source (done.read is)) (λ is. calm.sink (done.write is)) (λ is. calm.disk (done.disk is)) (λ is. done.sound kept starts.told starts.annals_is starts.disk_is starts.stands is)
     (λ is. not_too_long script (g.S.Source.left c.args.source.now) (g.S.Source.left c.run_opened-ended.new.source) starts.source_is nothing.short (done.long is))
-    (λ is. none_refused before after kept now script written done.later calm.disk there nothing.causes (by_status {before = before} {after = after} (sym is) left)))
+    (λ is. none_refused before after kept script written done.later calm.disk nothing.causes (by_status {before = before} {after = after} (sym is) left)))
 
 -- what a crash leaves
 pub returns-clause-crashes : goal.returns-clause-crashes
@@ -57,7 +57,7 @@ returns-clause-crashes g c = record { kept = c.run_opened-ended.ensures.crashes;
 pub returns-then-not-is_command_line-clause-crashes : goal.returns-then-not-is_command_line-clause-crashes
 returns-then-not-is_command_line-clause-crashes g c = record {
   kept = λ kept told is known all.
-      let now : Outside = record { disk = g.D.Disk.told c.args.disk; clock = g.D.Disk.clock c.args.disk; failed = g.D.Disk.failed c.args.disk; annals = g.A.Annals.told c.args.annals } in
+      let now : Storage = record { disk = g.D.Disk.told c.args.disk; clock = g.D.Disk.clock c.args.disk; failed = g.D.Disk.failed c.args.disk; annals = g.A.Annals.told c.args.annals } in
       nothing_of_script told kept now _ known is (safe_at_start told (g.D.Disk.clock c.args.disk) kept.list all) (g.S.Source.left c.args.source.now) _;
   settles = λ kept told is known some all. inl (record { names = refl; list = refl; output = refl });
 }

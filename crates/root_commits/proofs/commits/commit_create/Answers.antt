@@ -8,7 +8,7 @@ use Rattle.mt_outside.specs.Disk.{MayPut, files_at, names_of, put}
 use Rattle.durable_commit.specs.Commits.{SameList}
 use Rattle.root_store.specs.Stores.{fresh_table}
 use Rattle.root_commits.specs.Commits.{refuses_create}
-use Rattle.root_store.specs.Crashes.{Outside, entries_of}
+use Rattle.root_store.specs.Crashes.{Storage, entries_of}
 use Rattle.root_store.specs.Soundness.{NamesFit}
 use Rattle.root_store.specs.Stores.{table_at}
 use Rattle.root_commits.proofs.CrashCommits.{grows_by_table}
@@ -190,8 +190,8 @@ returns-in-Some-clause-through_crashes g c = λ first start files is holds keeps
 
 pub returns-in-Err-clause-through_crashes : goal.returns-in-Err-clause-through_crashes
 returns-in-Err-clause-through_crashes g c = λ first start files is holds keeps.
-    let was : Outside = record { disk = g.D.Disk.told c.args.disk.now; clock = g.D.Disk.clock c.args.disk.now; failed = g.D.Disk.failed c.args.disk.now; annals = g.A.Annals.told c.args.annals.now } in
-    let now : Outside = record { disk = g.D.Disk.told c.args.disk.now; clock = g.D.Disk.clock c.args.disk.now; failed = g.D.Disk.failed c.args.disk.now; annals = g.A.Annals.told c.prepare_create.new.annals } in
+    let was : Storage = record { disk = g.D.Disk.told c.args.disk.now; clock = g.D.Disk.clock c.args.disk.now; failed = g.D.Disk.failed c.args.disk.now; annals = g.A.Annals.told c.args.annals.now } in
+    let now : Storage = record { disk = g.D.Disk.told c.args.disk.now; clock = g.D.Disk.clock c.args.disk.now; failed = g.D.Disk.failed c.args.disk.now; annals = g.A.Annals.told c.prepare_create.new.annals } in
     kept_untouched g.D.Arm.Dir.Dir.files c.args.store.now _ first start was now (returns-in-Err-clause-same g c) refl refl refl c.in-Err.ensures.told keeps
 
 pub returns-clause-through_crashes : goal.returns-clause-through_crashes
@@ -206,8 +206,8 @@ returns-clause-through_crashes g c = λ first start files is holds keeps.
     let unless = unrisen c.take_out-cause.result store.opened (g.D.Disk.failed c.args.disk.now) (g.D.Disk.failed c.commit.new.disk) (g.D.Disk.told c.args.disk.now) (g.D.Disk.told c.commit.new.disk)
     c.requires.opened c.requires.below c.in-Err-commit.ensures.cause.later (returns-clause-rose g c)
     (λ other. c.in-Err-commit.ensures.memory (ap Err (disk_memory c.in-Err-commit.error c.take_out-cause.result c.take_out-cause.ensures.cause other))) in
-    let was : Outside = record { disk = g.D.Disk.told c.args.disk.now; clock = g.D.Disk.clock c.args.disk.now; failed = g.D.Disk.failed c.args.disk.now; annals = g.A.Annals.told c.args.annals.now } in
-    let now : Outside = record { disk = g.D.Disk.told c.commit.new.disk; clock = g.D.Disk.clock c.commit.new.disk; failed = g.D.Disk.failed c.commit.new.disk; annals = g.A.Annals.told c.commit.new.annals } in
+    let was : Storage = record { disk = g.D.Disk.told c.args.disk.now; clock = g.D.Disk.clock c.args.disk.now; failed = g.D.Disk.failed c.args.disk.now; annals = g.A.Annals.told c.args.annals.now } in
+    let now : Storage = record { disk = g.D.Disk.told c.commit.new.disk; clock = g.D.Disk.clock c.commit.new.disk; failed = g.D.Disk.failed c.commit.new.disk; annals = g.A.Annals.told c.commit.new.annals } in
     kept_failed g.D.Arm.Dir.Dir.files store _ first start was now (create_name table) c.args.sealed.files files e is calm.0
     (grows_by_table g.D.Arm.Dir.Dir.files store (entries_of calm.0.kept.list) c.args.session (calm.1 calm.0.kept calm.0.annals_is) files (c.in-Err-commit.ensures.sealed files is) c.args.create
     (shown_absent store table _ none) (shown_few store table _ none) c.requires.schema c.requires.named holds)
@@ -219,8 +219,8 @@ returns-in-Ok-commit-clause-through_crashes g c = λ first start files is holds 
     let table = c.args.create.table in
     let calm = keeps.calm (shown_calm store table _ (none g c) c.requires.opened) in
     let e : Entry = record { session = c.args.session; command = command.Create c.args.create } in
-    let was : Outside = record { disk = g.D.Disk.told c.args.disk.now; clock = g.D.Disk.clock c.args.disk.now; failed = g.D.Disk.failed c.args.disk.now; annals = g.A.Annals.told c.args.annals.now } in
-    let now : Outside = record { disk = g.D.Disk.told c.commit.new.disk; clock = g.D.Disk.clock c.commit.new.disk; failed = g.D.Disk.failed c.commit.new.disk; annals = g.A.Annals.told c.commit.new.annals } in
+    let was : Storage = record { disk = g.D.Disk.told c.args.disk.now; clock = g.D.Disk.clock c.args.disk.now; failed = g.D.Disk.failed c.args.disk.now; annals = g.A.Annals.told c.args.annals.now } in
+    let now : Storage = record { disk = g.D.Disk.told c.commit.new.disk; clock = g.D.Disk.clock c.commit.new.disk; failed = g.D.Disk.failed c.commit.new.disk; annals = g.A.Annals.told c.commit.new.annals } in
     kept_committed g.D.Arm.Dir.Dir.files store _ first start was now (create_name table) c.args.sealed.files files e is calm.0
     (grows_by_table g.D.Arm.Dir.Dir.files store (entries_of calm.0.kept.list) c.args.session (calm.1 calm.0.kept calm.0.annals_is) files (c.in-Ok-commit.ensures.sealed files is) c.args.create
     (absent g c) (few g c) c.requires.schema c.requires.named holds)

@@ -21,7 +21,7 @@ use Rattle.root_store.specs.declared.store.CoreStore.{CoreStore}
 use Rattle.root_store.specs.declared.store.Table.{Table}
 use Rattle.durable_commit.specs.Commits.{SameList, entry_of}
 use Rattle.root_commits.specs.Commits.{EntersPart, EntersSealed, IsCause, IsSealedOf, fresh_part, insert_of_block, partition_of_block, refuses_part}
-use Rattle.root_store.specs.Crashes.{Outside, entries_of}
+use Rattle.root_store.specs.Crashes.{Storage, entries_of}
 use Rattle.root_store.specs.Soundness.{NamesFit}
 use Rattle.root_store.specs.Stores.{table_at}
 use Rattle.root_commits.proofs.CrashCommits.{grows_by_part}
@@ -266,8 +266,8 @@ returns-in-Some-clause-through_crashes g c = λ u first start at is keeps. keeps
 
 pub returns-in-Err-clause-through_crashes : goal.returns-in-Err-clause-through_crashes
 returns-in-Err-clause-through_crashes g c = λ u first start at is keeps.
-    let was : Outside = record { disk = g.D.Disk.told c.args.disk.now; clock = g.D.Disk.clock c.args.disk.now; failed = g.D.Disk.failed c.args.disk.now; annals = g.A.Annals.told c.args.annals.now } in
-    let now : Outside = record { disk = g.D.Disk.told c.args.disk.now; clock = g.D.Disk.clock c.args.disk.now; failed = g.D.Disk.failed c.args.disk.now; annals = g.A.Annals.told c.prepare_part.new.annals } in
+    let was : Storage = record { disk = g.D.Disk.told c.args.disk.now; clock = g.D.Disk.clock c.args.disk.now; failed = g.D.Disk.failed c.args.disk.now; annals = g.A.Annals.told c.args.annals.now } in
+    let now : Storage = record { disk = g.D.Disk.told c.args.disk.now; clock = g.D.Disk.clock c.args.disk.now; failed = g.D.Disk.failed c.args.disk.now; annals = g.A.Annals.told c.prepare_part.new.annals } in
     kept_untouched g.D.Arm.Dir.Dir.files c.args.store.now _ first start was now (record { tables = refl; parts = c.in-Err.ensures.parts; length_is = refl; opened_is = refl }) refl refl refl c.in-Err.ensures.told keeps
 
 pub returns-in-Err-commit-clause-through_crashes : goal.returns-in-Err-commit-clause-through_crashes
@@ -287,8 +287,8 @@ returns-in-Err-commit-clause-through_crashes g c = λ u first start at is keeps.
     c.requires.opened c.requires.below c.in-Err-commit.ensures.cause.later
     (λ disk. c.in-Err-commit.ensures.cause.failed (ap Err (disk_fault c.in-Err-commit.error c.of_disk-cause.result c.of_disk-cause.ensures disk)))
     (λ other. c.in-Err-commit.ensures.memory (ap Err (disk_memory c.in-Err-commit.error c.of_disk-cause.result c.of_disk-cause.ensures other))) in
-    let was : Outside = record { disk = g.D.Disk.told c.args.disk.now; clock = g.D.Disk.clock c.args.disk.now; failed = g.D.Disk.failed c.args.disk.now; annals = g.A.Annals.told c.args.annals.now } in
-    let now : Outside = record { disk = g.D.Disk.told c.commit.new.disk; clock = g.D.Disk.clock c.commit.new.disk; failed = g.D.Disk.failed c.commit.new.disk; annals = g.A.Annals.told c.commit.new.annals } in
+    let was : Storage = record { disk = g.D.Disk.told c.args.disk.now; clock = g.D.Disk.clock c.args.disk.now; failed = g.D.Disk.failed c.args.disk.now; annals = g.A.Annals.told c.args.annals.now } in
+    let now : Storage = record { disk = g.D.Disk.told c.commit.new.disk; clock = g.D.Disk.clock c.commit.new.disk; failed = g.D.Disk.failed c.commit.new.disk; annals = g.A.Annals.told c.commit.new.annals } in
     kept_failed g.D.Arm.Dir.Dir.files store _ first start was now (part_name table (part_text (fresh_part (partition_of_block t.schema c.args.block) (t.drawn + 1)))) c.args.part.sealed.files here.files e here.sealed_are calm.0
     (grows_by_part g.D.Arm.Dir.Dir.files store (entries_of calm.0.kept.list) c.args.session (calm.1 calm.0.kept calm.0.annals_is) here.files (c.in-Err-commit.ensures.sealed here.files here.sealed_are) table t c.args.block c.index-found.ensures
     (shown_number store table _ (partition_of_block t.schema c.args.block) t.drawn none) (c.requires.rows t c.index-found.ensures) here.holds)
@@ -307,8 +307,8 @@ returns-clause-through_crashes g c = λ u first start at is keeps.
     let notes : g.A.Annals.told c.commit.new.annals ≡ option_map (λ (x : Told). noted mark (began e x)) (g.A.Annals.told c.args.annals.now) =
     c.in-Ok-commit.ensures.annals
     ∙ (ap (λ (x : Entry). option_map (λ (y : Told). noted mark (began x y)) (g.A.Annals.told c.prepare_part.new.annals)) (begun_is table _ _ _ c.args.block c.args.session c.in-Ok.ensures.table c.block_partition-partition.ensures) ∙ ap (option_map (λ (y : Told). noted mark (began e y))) c.in-Ok.ensures.told) in
-    let was : Outside = record { disk = g.D.Disk.told c.args.disk.now; clock = g.D.Disk.clock c.args.disk.now; failed = g.D.Disk.failed c.args.disk.now; annals = g.A.Annals.told c.args.annals.now } in
-    let now : Outside = record { disk = g.D.Disk.told c.commit.new.disk; clock = g.D.Disk.clock c.commit.new.disk; failed = g.D.Disk.failed c.commit.new.disk; annals = g.A.Annals.told c.commit.new.annals } in
+    let was : Storage = record { disk = g.D.Disk.told c.args.disk.now; clock = g.D.Disk.clock c.args.disk.now; failed = g.D.Disk.failed c.args.disk.now; annals = g.A.Annals.told c.args.annals.now } in
+    let now : Storage = record { disk = g.D.Disk.told c.commit.new.disk; clock = g.D.Disk.clock c.commit.new.disk; failed = g.D.Disk.failed c.commit.new.disk; annals = g.A.Annals.told c.commit.new.annals } in
     kept_committed g.D.Arm.Dir.Dir.files store _ first start was now (part_name table (part_text (fresh_part (partition_of_block t.schema c.args.block) (t.drawn + 1)))) c.args.part.sealed.files here.files e here.sealed_are calm.0
     (grows_by_part g.D.Arm.Dir.Dir.files store (entries_of calm.0.kept.list) c.args.session (calm.1 calm.0.kept calm.0.annals_is) here.files (c.in-Ok-commit.ensures.sealed here.files here.sealed_are) table t c.args.block c.index-found.ensures
     (small g c) (c.requires.rows t c.index-found.ensures) here.holds)
