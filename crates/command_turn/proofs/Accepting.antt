@@ -62,6 +62,11 @@ pub answers_line : {F : Type 0} (files_of : F → Option Files) (kept : Told) (s
 answers_line files_of kept st opened disk arm (Ok text) store told root_before now_root P is same none accepts = accepts text.items is
 answers_line files_of kept st opened disk arm (Err e) store told root_before now_root P is same none accepts = (same, none)
 
+-- what holds in any case holds of an error
+pub in_any_case : {T E P : Type 0} (line : Result T E) → P → IfErr line (λ _. P)
+in_any_case (Ok x) p = tt
+in_any_case (Err e) p = p
+
 -- a root that nothing was done to
 pub root_is : (line : Result (Vec ℕ Global) NoMemory) (r : Option root.Told) → IfErr line (λ _. r ≡ r)
 root_is (Ok text) r = tt

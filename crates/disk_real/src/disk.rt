@@ -9,7 +9,7 @@ use crate::system::{
 };
 use disk_names::{owned, path_in, root_name};
 use mt_base::{Name, NoMemory};
-use mt_outside::{Arm, Disk, DiskError, Stage};
+use mt_outside::{Disk, DiskError};
 use outside_streams::Faults;
 use std::alloc::Global;
 use std::marker::Model;
@@ -163,7 +163,7 @@ impl<R: System + Send> Disk for RealDisk<R> {
     }
 
     fn take_back(&mut self, arm: RealArm<R>) {
-        self.faults.take(arm.faults());
+        self.faults.take(arm.into_count());
     }
 
     /// In the order of their bytes. An entry that can't be read, or whose name is no UTF-8, is a fault.
@@ -186,8 +186,9 @@ impl<R: System + Send> Disk for RealDisk<R> {
     ) -> Result<RealDir, DiskError> {
         let given = self.give(alloc, &stage, name);
         if given.is_err() {
-            let _ = self.faults.note(stage.remove());
+            let _ = stage.remove();
         }
+        let _ = stage.into_count();
         self.faults.note(given)
     }
 

@@ -14,7 +14,6 @@ use std::marker::Model;
 /// A folder that is being made. Contracts see how many of its calls have failed.
 ///
 /// It keeps the file open that it wrote last.
-#[derive(Drop)]
 pub struct RealStage<R> {
     rt: R,
     alloc: Global,
@@ -113,6 +112,20 @@ impl<R: System> RealStage<R> {
         ensures { IsTrue result ↔ 0 < self.now }
     {
         self.faults.count > 0
+    }
+
+    /// Ends the stage: how many of its calls have failed. Its folder stays.
+    pub(crate) fn into_count(self) -> u64
+        ensures { result ≡ self }
+    {
+        let RealStage {
+            rt: _,
+            alloc: _,
+            path: _,
+            kept: _,
+            faults,
+        } = self;
+        faults.count
     }
 
     /// Removes the folder with its files, where it is there. It takes no memory, since no folder lies in it.

@@ -41,6 +41,7 @@ pub fn check_part<R: Arm>(
     ensures tells { R.tells arm.new ≡ R.tells arm.old }
     ensures later { R.failed arm.old ≤ R.failed arm.new }
     ensures fault { IsErrOf result PartFault.Fault → Rose (R.failed arm.old) (R.failed arm.new) }
+    ensures calm { (IsErrOf result PartFault.Fault → ⊥) → R.failed arm.new ≡ R.failed arm.old }
 {
     for (number, column) in schema.columns.as_slice().iter().enumerate() {
         // No file has a number past these.
@@ -67,6 +68,7 @@ fn check_file<R: Arm>(
     ensures tells { R.tells arm.new ≡ R.tells arm.old }
     ensures later { R.failed arm.old ≤ R.failed arm.new }
     ensures fault { IsErrOf result PartFault.Fault → Rose (R.failed arm.old) (R.failed arm.new) }
+    ensures calm { (IsErrOf result PartFault.Fault → ⊥) → R.failed arm.new ≡ R.failed arm.old }
 {
     let bytes = read_file(alloc, arm, &part.dir, FileId::Column(number))?;
     check_bytes(&part.loaded.manifest, number, col_type, &bytes)

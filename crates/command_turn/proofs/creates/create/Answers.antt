@@ -13,7 +13,7 @@ use Rattle.root_store.specs.Soundness.{RootStands}
 use Rattle.root_store.specs.Stores.{CoreStands}
 use Rattle.reply_lines.specs.Foreseen.{history}
 use Rattle.statement_work.specs.Staged.{entry_files}
-use Rattle.command_turn.proofs.Accepting.{accepts_nothing, answers_line, root_is, entry_of, kept_same, same_kept}
+use Rattle.command_turn.proofs.Accepting.{accepts_nothing, answers_line, in_any_case, root_is, entry_of, kept_same, same_kept}
 use Rattle.command_turn.proofs.Creating.{created_accepts, entry_holds, turn_free}
 use Rattle.reply_lines.proofs.Refusing.{create_failed, create_refused}
 use Rattle.part_set.proofs.Items.{item_first}
@@ -25,6 +25,9 @@ use Rattle.command_turn.proofs.Stopping.{create_not_committed, nothing_shown_to_
 use Rattle.reply_lines.proofs.Counting.{line_of_stage}
 use Rattle.reply_lines.proofs.Undamaged.{line_of, stage_line}
 use Rattle.command_turn.proofs.Stopping.{commit_line}
+use Rattle.std.proofs.lemmas.Option.{IfSome_then}
+use Rattle.mt_outside.proofs.Unfailed.{unfailed}
+use Rattle.stage_dir.specs.Stages.{Filled}
 use Rattle.command_turn.proofs.creates.create.Goals as goal
 
 -- what it says is refused
@@ -52,7 +55,7 @@ returns-in-Err-seal_entry-clause-answers g c = λ kept is tells stands.
     let disk = g.D.Disk.failed c.args.disk.now in
     let arm = g.D.Arm.Arm.failed c.seal_entry.new.arm in
     let same = kept_same kept told is in
-    answers_line files kept (Ok (statement.Create c.args.text.now)) opened disk arm c.stage_line.result c.args.store.now told root root (IsLineOfStage c.in-Err-seal_entry.error) c.stage_line.ensures same (root_is c.stage_line.result root)
+    answers_line files kept (Ok (statement.Create c.args.text.now)) opened disk arm c.stage_line.result c.args.store.now told root root (IsLineOfStage c.in-Err-seal_entry.error) c.stage_line.ensures.line same (root_is c.stage_line.result root)
     (λ reply line. accepts_nothing files kept (Ok (statement.Create c.args.text.now)) opened disk arm reply c.args.store.now told root root same stands
     (λ n f. create_failed n kept reply c.args.text.now c.in-Ok.schema (sym c.in_ok-resolved.ensures ∙ c.in-Ok.is)
     (line_of_stage opened disk arm (g.D.Arm.Arm.failed c.args.arm.now) c.in-Err-seal_entry.error reply n line (λ e. c.in-Err-seal_entry.ensures.cause.failed (ap Err e)) f))
@@ -102,7 +105,7 @@ returns-in-Err-commit_create-clause-answers g c = λ kept is tells stands.
     let name = c.in_ok-table.ensures in
     let h = history kept in
     let ended = c.in-Err-commit_create.ensures in
-    let cause = c.in-Err-commit_create.returned.cause in
+    let cause = c.in-Err-commit_create.field-0.cause in
     let result = c.refused_line.result in
     let was = g.D.Disk.told c.args.disk.now in
     let now = g.D.Disk.told c.commit_create.new.disk in
@@ -145,10 +148,40 @@ pub returns-in-Err-clause-undamaged : goal.returns-in-Err-clause-undamaged
 returns-in-Err-clause-undamaged g c = IfOk-weaker c.refusal_line.result _ _ (λ line is. line_of line.items c.in-Err.refusal is (undamaged_line c.in-Err.refusal (text_is_cause c.args.text.now c.in-Err.refusal (sym c.in_ok-resolved.ensures ∙ c.in-Err.is)))) c.refusal_line.ensures
 
 pub returns-in-Err-seal_entry-clause-undamaged : goal.returns-in-Err-seal_entry-clause-undamaged
-returns-in-Err-seal_entry-clause-undamaged g c = IfOk-weaker c.stage_line.result _ _ (λ line is. stage_line c.in-Err-seal_entry.error line.items is) c.stage_line.ensures
+returns-in-Err-seal_entry-clause-undamaged g c = IfOk-weaker c.stage_line.result _ _ (λ line is. stage_line c.in-Err-seal_entry.error line.items is) c.stage_line.ensures.line
 
 pub returns-in-Ok-commit_create-clause-undamaged : goal.returns-in-Ok-commit_create-clause-undamaged
 returns-in-Ok-commit_create-clause-undamaged g c = ap is_damage c.in_ok-replies.ensures.accepted
 
 pub returns-in-Err-commit_create-clause-undamaged : goal.returns-in-Err-commit_create-clause-undamaged
-returns-in-Err-commit_create-clause-undamaged g c = IfOk-weaker c.refused_line.result _ _ (λ line is. commit_line c.args.text.now.table c.in-Err-commit_create.returned.cause line.items is) c.refused_line.ensures.line
+returns-in-Err-commit_create-clause-undamaged g c = IfOk-weaker c.refused_line.result _ _ (λ line is. commit_line c.args.text.now.table c.in-Err-commit_create.field-0.cause line.items is) c.refused_line.ensures.line
+
+-- without a fault no count rose
+pub returns-in-Err-clause-memory : goal.returns-in-Err-clause-memory
+returns-in-Err-clause-memory g c = in_any_case c.refusal_line.result refl
+
+pub returns-in-Err-clause-arm_memory : goal.returns-in-Err-clause-arm_memory
+returns-in-Err-clause-arm_memory g c = in_any_case c.refusal_line.result refl
+
+pub returns-in-Err-seal_entry-clause-memory : goal.returns-in-Err-seal_entry-clause-memory
+returns-in-Err-seal_entry-clause-memory g c = in_any_case c.stage_line.result refl
+
+pub returns-in-Err-seal_entry-clause-arm_memory : goal.returns-in-Err-seal_entry-clause-arm_memory
+returns-in-Err-seal_entry-clause-arm_memory g c =
+    IfErr-weaker c.stage_line.result _ _ (λ e calm. unfailed _ _ c.in-Err-seal_entry.error (λ is. c.in-Err-seal_entry.ensures.cause.memory (ap Err is)) calm) c.stage_line.ensures.fault
+
+pub returns-in-Ok-commit_create-clause-memory : goal.returns-in-Ok-commit_create-clause-memory
+returns-in-Ok-commit_create-clause-memory g c = tt
+
+pub returns-in-Ok-commit_create-clause-arm_memory : goal.returns-in-Ok-commit_create-clause-arm_memory
+returns-in-Ok-commit_create-clause-arm_memory g c = tt
+
+pub returns-in-Err-commit_create-clause-memory : goal.returns-in-Err-commit_create-clause-memory
+returns-in-Err-commit_create-clause-memory g c =
+    IfErr-weaker c.refused_line.result _ _ (λ e other. c.in-Err-commit_create.ensures.calm c.in-Ok-seal_entry.ensures.none_failed other) c.refused_line.ensures.disk
+
+pub returns-in-Err-commit_create-clause-arm_memory : goal.returns-in-Err-commit_create-clause-arm_memory
+returns-in-Err-commit_create-clause-arm_memory g c =
+    in_any_case c.refused_line.result
+    (c.give_back.ensures.none_failed (IfSome_then c.in-Err-commit_create.field-0.back c.in-Err-commit_create.ensures.back (λ s same. ap (λ (x : Filled). x.failed) same ∙ c.in-Ok-seal_entry.ensures.none_failed))
+    ∙ c.in-Ok-seal_entry.ensures.cause.ok)

@@ -19,7 +19,7 @@ use Rattle.root_store.specs.declared.store.Table.{Table}
 use Rattle.root_commits.specs.Commits.{insert_into, whole_parts}
 use Rattle.root_store.specs.Stores.{table_at}
 use Rattle.reply_lines.specs.Foreseen.{history}
-use Rattle.command_turn.proofs.Accepting.{accepts_nothing, answers_line, root_is, kept_same, same_kept}
+use Rattle.command_turn.proofs.Accepting.{accepts_nothing, answers_line, in_any_case, root_is, kept_same, same_kept}
 use Rattle.reply_lines.proofs.Ends.{length_history}
 use Rattle.command_turn.proofs.Inserting.{empty_accepted, inserted_accepts, no_such_table, not_empty, rows_read, rows_refused, turn_free}
 use Rattle.reply_lines.proofs.Refusing.{insert_failed, insert_refused}
@@ -33,6 +33,9 @@ use Rattle.command_turn.proofs.Stopping.{filtered, insert_not_committed, nothing
 use Rattle.reply_lines.proofs.Counting.{line_of_stage}
 use Rattle.reply_lines.proofs.Undamaged.{data_line, stage_line}
 use Rattle.command_turn.proofs.Stopping.{commit_line}
+use Rattle.std.proofs.lemmas.Option.{IfSome_then}
+use Rattle.mt_outside.proofs.Unfailed.{unfailed}
+use Rattle.part_writer.specs.declared.writing.SealedPart.{SealedPart}
 use Rattle.command_turn.proofs.inserts.insert.Goals as goal
 
 -- a block of rows of a table is an INSERT into it
@@ -121,7 +124,7 @@ returns-in-Err-clause-answers g c = λ kept is tells stands.
     let there = table_schema files (history kept) c.args.store.now stands c.args.text.now.table found (sym c.in-Some.ensures.value) in
     let read = c.in-Ok.ensures.rows in
     let some = not_empty c.in-Ok.block.rows (λ none. let yes = c.is_empty.ensures.1 none in let bad : true ≡ false = sym yes ∙ c.if-is_empty.false in cc) in
-    answers_line files kept (Ok (statement.Insert c.args.text.now)) opened disk arm c.stage_line.result c.args.store.now told root root (IsLineOfStage c.in-Err.error) c.stage_line.ensures same (root_is c.stage_line.result root)
+    answers_line files kept (Ok (statement.Insert c.args.text.now)) opened disk arm c.stage_line.result c.args.store.now told root root (IsLineOfStage c.in-Err.error) c.stage_line.ensures.line same (root_is c.stage_line.result root)
     (λ reply line. accepts_nothing files kept (Ok (statement.Insert c.args.text.now)) opened disk arm reply c.args.store.now told root root same stands
     (λ n f. insert_failed n kept reply c.args.text.now c.in-Ok.block.rows some (rows_read c.args.text.now (history kept) found.schema there c.in-Ok.block.rows read)
     (line_of_stage opened disk arm (g.D.Arm.Arm.failed c.args.arm.now) c.in-Err.error reply n line (λ e. c.in-Err.ensures.cause.failed (ap Err e)) f))
@@ -178,13 +181,13 @@ returns-in-Err-commit_part-clause-answers g c = λ kept is tells stands.
     let read = c.in-Ok.ensures.rows in
     let some = not_empty c.in-Ok.block.rows (λ none. let yes = c.is_empty.ensures.1 none in let bad : true ≡ false = sym yes ∙ c.if-is_empty.false in cc) in
     let ended = c.in-Err-commit_part.ensures in
-    let cause = c.in-Err-commit_part.returned.cause in
+    let cause = c.in-Err-commit_part.field-0.cause in
     let result = c.refused_line.result in
     let was = g.D.Disk.told c.args.disk.now in
     let now = g.D.Disk.told c.commit_part.new.disk in
     let before = g.D.Disk.failed c.args.disk.now in
     let disk = g.D.Disk.failed c.commit_part.new.disk in
-    let arm = g.D.Arm.Arm.failed c.give_back.new.arm in
+    let arm = g.D.Arm.Arm.failed c.give_back_part.new.arm in
     let told = g.A.Annals.told c.commit_part.new.annals in
     let st = Ok (statement.Insert text) in
     let same = same_kept kept (g.A.Annals.told c.args.annals.now) told is ended.annals_err in
@@ -224,13 +227,13 @@ pub returns-then-is_empty-clause-undamaged : goal.returns-then-is_empty-clause-u
 returns-then-is_empty-clause-undamaged g c = IfOk-weaker c.ok_line.result _ _ (λ line is. ap is_damage is) c.ok_line.ensures
 
 pub returns-in-Err-clause-undamaged : goal.returns-in-Err-clause-undamaged
-returns-in-Err-clause-undamaged g c = IfOk-weaker c.stage_line.result _ _ (λ line is. stage_line c.in-Err.error _ is) c.stage_line.ensures
+returns-in-Err-clause-undamaged g c = IfOk-weaker c.stage_line.result _ _ (λ line is. stage_line c.in-Err.error _ is) c.stage_line.ensures.line
 
 pub returns-in-Ok-commit_part-clause-undamaged : goal.returns-in-Ok-commit_part-clause-undamaged
 returns-in-Ok-commit_part-clause-undamaged g c = ap is_damage c.in_ok-replies.ensures.accepted
 
 pub returns-in-Err-commit_part-clause-undamaged : goal.returns-in-Err-commit_part-clause-undamaged
-returns-in-Err-commit_part-clause-undamaged g c = IfOk-weaker c.refused_line.result _ _ (λ line is. commit_line c.args.text.now.table c.in-Err-commit_part.returned.cause _ is) c.refused_line.ensures.line
+returns-in-Err-commit_part-clause-undamaged g c = IfOk-weaker c.refused_line.result _ _ (λ line is. commit_line c.args.text.now.table c.in-Err-commit_part.field-0.cause _ is) c.refused_line.ensures.line
 
 -- the parts of the store hold rows
 pub returns-in-Ok-commit_part-clause-held : goal.returns-in-Ok-commit_part-clause-held
@@ -238,3 +241,45 @@ returns-in-Ok-commit_part-clause-held g c = λ tells held. c.commit_part.ensures
 
 pub returns-in-Err-commit_part-clause-held : goal.returns-in-Err-commit_part-clause-held
 returns-in-Err-commit_part-clause-held g c = λ tells held. c.commit_part.ensures.held c.in-Some.found.now (sym c.in-Some.ensures.value) (c.in-Ok-seal_block.ensures.sealed tells) held
+
+-- without a fault no count rose
+pub returns-in_default-clause-memory : goal.returns-in_default-clause-memory
+returns-in_default-clause-memory g c = in_any_case c.no_table_line.result refl
+
+pub returns-in_default-clause-arm_memory : goal.returns-in_default-clause-arm_memory
+returns-in_default-clause-arm_memory g c = in_any_case c.no_table_line.result refl
+
+pub returns-in-Err-Refused-clause-memory : goal.returns-in-Err-Refused-clause-memory
+returns-in-Err-Refused-clause-memory g c = in_any_case c.data_line.result refl
+
+pub returns-in-Err-Refused-clause-arm_memory : goal.returns-in-Err-Refused-clause-arm_memory
+returns-in-Err-Refused-clause-arm_memory g c = in_any_case c.data_line.result refl
+
+pub returns-then-is_empty-clause-memory : goal.returns-then-is_empty-clause-memory
+returns-then-is_empty-clause-memory g c = in_any_case c.ok_line.result refl
+
+pub returns-then-is_empty-clause-arm_memory : goal.returns-then-is_empty-clause-arm_memory
+returns-then-is_empty-clause-arm_memory g c = in_any_case c.ok_line.result refl
+
+pub returns-in-Err-clause-memory : goal.returns-in-Err-clause-memory
+returns-in-Err-clause-memory g c = in_any_case c.stage_line.result refl
+
+pub returns-in-Err-clause-arm_memory : goal.returns-in-Err-clause-arm_memory
+returns-in-Err-clause-arm_memory g c =
+    IfErr-weaker c.stage_line.result _ _ (λ e calm. unfailed _ _ c.in-Err.error (λ is. c.in-Err.ensures.cause.memory (ap Err is)) calm) c.stage_line.ensures.fault
+
+pub returns-in-Ok-commit_part-clause-memory : goal.returns-in-Ok-commit_part-clause-memory
+returns-in-Ok-commit_part-clause-memory g c = tt
+
+pub returns-in-Ok-commit_part-clause-arm_memory : goal.returns-in-Ok-commit_part-clause-arm_memory
+returns-in-Ok-commit_part-clause-arm_memory g c = tt
+
+pub returns-in-Err-commit_part-clause-memory : goal.returns-in-Err-commit_part-clause-memory
+returns-in-Err-commit_part-clause-memory g c =
+    IfErr-weaker c.refused_line.result _ _ (λ e other. c.in-Err-commit_part.ensures.calm c.in-Ok-seal_block.ensures.none_failed other) c.refused_line.ensures.disk
+
+pub returns-in-Err-commit_part-clause-arm_memory : goal.returns-in-Err-commit_part-clause-arm_memory
+returns-in-Err-commit_part-clause-arm_memory g c =
+    in_any_case c.refused_line.result
+    (c.give_back_part.ensures.none_failed (IfSome_then c.in-Err-commit_part.field-0.back c.in-Err-commit_part.ensures.back (λ p same. ap (λ (x : SealedPart _). x.sealed.failed) same ∙ c.in-Ok-seal_block.ensures.none_failed))
+    ∙ c.in-Ok-seal_block.ensures.cause.ok)

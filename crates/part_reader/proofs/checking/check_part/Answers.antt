@@ -28,7 +28,7 @@ loop-number-preserved g c = record {
       (type_there c.args.schema.now.columns c.as_slice-column-items.result.now c.loop-number.number c.column-item.result c.as_slice-column-items.ensures c.loop-number-test.true c.column-item.is)
       c.loop-number.invariant.checked c.in_ok-check_file.ensures.checked;
   tells = c.in_ok-check_file.ensures.tells ∙ c.loop-number.invariant.tells;
-  later = omega (arith, c.loop-number.invariant.later, c.in_ok-check_file.ensures.later);
+  count = c.in_ok-check_file.ensures.calm (λ fault. cc) ∙ c.loop-number.invariant.count;
 }
 
 -- the fault is that of the column that was read last

@@ -1,5 +1,5 @@
 -- the columns gone over are checked
-use Rattle.std.proofs.Common.{◌≡◌, ◌≤◌, take}
+use Rattle.std.proofs.Common.{◌≡◌, take}
 use Rattle.part_reader.specs.Sound.{AreChecked, column_types}
 use Rattle.part_reader.proofs.checking.check_part.Given as goal
 
@@ -7,5 +7,5 @@ abbrev pub invariant-loop-number : goal.invariant-loop-number
 invariant-loop-number g l = record {
   checked : AreChecked (g.R.Dir.Dir.files l.part.dir) l.part.loaded.manifest 0 (take l.number (column_types l.schema));
   tells : g.R.Arm.tells l.arm ≡ g.R.Arm.tells l.initial.arm;
-  later : g.R.Arm.failed l.initial.arm ≤ g.R.Arm.failed l.arm;
+  count : g.R.Arm.failed l.arm ≡ g.R.Arm.failed l.initial.arm;
 }

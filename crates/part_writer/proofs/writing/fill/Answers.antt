@@ -1,4 +1,4 @@
-use Rattle.std.proofs.Common.{◌≡◌, ℕ, ◌++◌, ◌∷◌, [], List, length, All, sym, ap, ap₂, ◌∙◌, subst, arith, below_more}
+use Rattle.std.proofs.Common.{◌≡◌, ℕ, ◌++◌, ◌∷◌, [], List, length, All, refl, sym, ap, ap₂, ◌∙◌, subst, arith, below_more}
 use Rattle.std.specs.Option.{option_map}
 use Rattle.std.specs.List.{range_with_len}
 use Rattle.std.proofs.lemmas.List.{length-map}
@@ -25,7 +25,7 @@ loop-column-init g c = record {
   intact = c.requires.intact;
   marks = c.in_ok-files.ensures;
   encodable = λ k below. absurd (omega arith);
-  later = omega arith;
+  count = refl;
 }
 
 pub write_column-requires-clause-new : goal.write_column-requires-clause-new
@@ -43,7 +43,7 @@ loop-column-preserved g c =
       intact = now.intact;
       marks = c.in_ok-push.ensures.ok ∙ ap₂ (λ (ms : List FileMark) (m : FileMark). ms ++ m ∷ []) before.marks now.mark ∙ sym (marks_more rows n);
       encodable = below_more (λ k. All FitsType (column_of k rows)) n before.encodable now.encodable;
-      later = omega (arith, now.cause.later);
+      count = now.cause.ok ∙ before.count;
     }
 
 pub manifest_bytes-requires : goal.manifest_bytes-requires

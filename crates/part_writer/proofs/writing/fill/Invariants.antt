@@ -1,5 +1,5 @@
 -- the files of the columns gone over are written, and the manifest has their marks
-use Rattle.std.proofs.Common.{◌≡◌, ℕ, ◌<◌, ◌≤◌, All, map}
+use Rattle.std.proofs.Common.{◌≡◌, ℕ, ◌<◌, All, map}
 use Rattle.std.specs.List.{range_with_len}
 use Rattle.std.specs.Option.{option_map}
 use Rattle.mt_values.specs.Grid.{column_of, picked}
@@ -16,5 +16,5 @@ invariant-loop-column g l = record {
   intact : IsIntact l.stage;
   marks : l.files ≡ map (λ column. mark_of (column_file_bytes (picked l.block.rows l.order) column)) (range_with_len 0 l.column);
   encodable : (c : ℕ) → c < l.column → All FitsType (column_of c (picked l.block.rows l.order));
-  later : l.initial.stage.failed ≤ l.stage.failed;
+  count : l.stage.failed ≡ l.initial.stage.failed;
 }
