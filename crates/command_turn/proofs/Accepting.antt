@@ -63,6 +63,11 @@ answers_kept files_of kept st opened disk arm (Ok text) store told root_same P t
 answers_kept files_of kept st opened disk arm (Err e) store told root_same P told_is stands is takes =
     record { now = kept; told_is = told_is; list_is = refl; begun = inl refl; root_is = refl }
 
+-- what holds in any case holds of an error
+pub in_any_case : {T E P : Type 0} (line : Result T E) → P → IfErr line (λ _. P)
+in_any_case (Ok x) p = tt
+in_any_case (Err e) p = p
+
 -- what was not touched
 pub nothing_accepted : {F D : Type 0} (store : CoreStore F) (disk : D) (annals : Option Told) → AcceptsNothing store store disk disk annals annals
 nothing_accepted store disk annals = record {

@@ -1,5 +1,5 @@
 // Running a CREATE.
-ghost use Rattle.std.specs.Prelude.{◌≡◌, ◌-◌, ◌<◌, ◌≤◌, ◌^◌, Ok, Some, true, false, IfOk, ℕ};
+ghost use Rattle.std.specs.Prelude.{◌≡◌, ◌-◌, ◌<◌, ◌≤◌, ◌^◌, Ok, Some, true, false, IfOk, OnErr, ℕ};
 ghost use Rattle.mt_values.specs.declared.statement.Statement.TheVariants as statement;
 ghost use Rattle.mt_values.specs.Annals.{Told};
 ghost use Rattle.mt_model.specs.Refusals.{is_damage};
@@ -18,14 +18,14 @@ use mt_model::{refusal_line, resolve};
 use mt_outside::{Arm, Disk};
 use mt_values::{Annals, Create, CreateText};
 use reply_lines::{replies_behind, stage_line};
-use root_commits::commit_create;
+use root_commits::{Returned, commit_create};
 use root_store::CoreStore;
 use statement_work::{give_back, seal_entry};
 use std::alloc::Global;
 
 /// Makes a table, unless the CREATE is refused. All memory is taken before the commit.
 ///
-/// `NoMemory` where a growth was refused; the keeper tells the same list, and the root is as it was.
+/// `NoMemory` where a growth was refused; the keeper tells the same list, the root is as it was, and no count of faults rose.
 pub fn create<D: Disk, A: Annals>(
     alloc: Global,
     store: &mut CoreStore<<D::Arm as Arm>::Dir>,
@@ -56,6 +56,8 @@ pub fn create<D: Disk, A: Annals>(
     ensures tells { D.Arm.tells arm.new ≡ D.Arm.tells arm.old }
     ensures disk_later { D.failed disk.old ≤ D.failed disk.new }
     ensures arm_later { D.Arm.failed arm.old ≤ D.Arm.failed arm.new }
+    ensures memory { OnErr result (D.failed disk.new ≡ D.failed disk.old) }
+    ensures arm_memory { OnErr result (D.Arm.failed arm.new ≡ D.Arm.failed arm.old) }
 {
     let resolved = resolve(alloc, text)?;
     let schema = match resolved {
@@ -66,18 +68,18 @@ pub fn create<D: Disk, A: Annals>(
     let table = text.table.twin(alloc)?;
     let sealed = match seal_entry(alloc, arm, text.text.as_slice()) {
         Ok(sealed) => sealed,
-        Err(error) => return stage_line(alloc, error),
+        Err(error) => return stage_line(error, replies.failed),
     };
     let made = Create { table, schema };
     match commit_create(alloc, store, disk, annals, 0, made, sealed) {
         Ok(()) => Ok(replies.accepted),
-        Err(returned) => {
-            give_back(arm, returned.back);
+        Err(Returned { cause, back }) => {
+            give_back(arm, back);
             refused_line(
                 alloc,
                 ACCEPTED_BEFORE,
                 &text.table,
-                returned.cause,
+                cause,
                 replies.unsettled,
             )
         }

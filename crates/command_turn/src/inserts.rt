@@ -1,8 +1,9 @@
 // Running an INSERT.
-ghost use Rattle.std.specs.Prelude.{◌≡◌, ◌-◌, ◌<◌, ◌≤◌, ◌^◌, Ok, Some, true, false, IfOk, OnOk, ℕ};
+ghost use Rattle.std.specs.Prelude.{◌≡◌, ◌-◌, ◌<◌, ◌≤◌, ◌^◌, Ok, Some, true, false, IfOk, IfSome, OnErr, OnOk, ℕ};
 ghost use Rattle.mt_values.specs.declared.statement.Statement.TheVariants as statement;
 ghost use Rattle.mt_values.specs.Annals.{Told};
 ghost use Rattle.mt_values.specs.Grid.{AreRowsOf};
+ghost use Rattle.mt_outside.specs.Causes.{Rose};
 ghost use Rattle.mt_outside.specs.DiskCauses.{HasDiskCause};
 ghost use Rattle.mt_model.specs.History.{IsTableSchema, column_types};
 ghost use Rattle.mt_model.specs.Refusals.{is_damage};
@@ -22,7 +23,7 @@ use mt_outside::{Arm, Disk, DiskError};
 use mt_values::{Annals, Block, InsertText, Schema};
 use part_writer::{SealedPart, write_part};
 use reply_lines::{data_line, no_table_line, replies_behind, stage_line};
-use root_commits::commit_part;
+use root_commits::{Returned, commit_part};
 use root_store::CoreStore;
 use statement_work::{give_back, read_block};
 use std::alloc::Global;
@@ -41,6 +42,7 @@ fn seal_block<R: Arm>(
     requires types { block.now.types ≡ column_types schema.now }
     requires schema { IsTableSchema schema.now }
     ensures sealed { R.tells arm.old ≡ true → IfOk result (λ s. IsSealedOf schema.now block.now s.sealed.files s.loaded) }
+    ensures none_failed { IfOk result (λ s. s.sealed.failed ≡ 0) }
     ensures typed { OnOk result (AreRowsOf block.now.types block.now.rows) }
     ensures tells { R.tells arm.new ≡ R.tells arm.old }
     ensures cause { HasDiskCause (R.failed arm.old) (R.failed arm.new) result }
@@ -51,9 +53,21 @@ fn seal_block<R: Arm>(
     Ok(write_part(alloc, arm, schema, block, &order)?)
 }
 
+/// Gives the arm back the part that it sealed, where that was not given to the disk.
+fn give_back_part<R: Arm>(arm: &mut R, back: Option<SealedPart<R::Stage>>)
+    ensures tells { R.tells arm.new ≡ R.tells arm.old }
+    ensures taken { IfSome back (λ p. 0 < p.sealed.failed → Rose (R.failed arm.old) (R.failed arm.new)) }
+    ensures none_failed { IfSome back (λ p. p.sealed.failed ≡ 0) → R.failed arm.new ≡ R.failed arm.old }
+    ensures later { R.failed arm.old ≤ R.failed arm.new }
+{
+    if let Some(SealedPart { sealed, loaded: _ }) = back {
+        give_back(arm, Some(sealed));
+    }
+}
+
 /// Adds the rows of an INSERT to its table, unless it is refused. All memory is taken before the commit.
 ///
-/// `NoMemory` where a growth was refused; the keeper tells the same list, and the root is as it was.
+/// `NoMemory` where a growth was refused; the keeper tells the same list, the root is as it was, and no count of faults rose.
 pub fn insert<D: Disk, A: Annals>(
     alloc: Global,
     store: &mut CoreStore<<D::Arm as Arm>::Dir>,
@@ -83,6 +97,8 @@ pub fn insert<D: Disk, A: Annals>(
     ensures tells { D.Arm.tells arm.new ≡ D.Arm.tells arm.old }
     ensures disk_later { D.failed disk.old ≤ D.failed disk.new }
     ensures arm_later { D.Arm.failed arm.old ≤ D.Arm.failed arm.new }
+    ensures memory { OnErr result (D.failed disk.new ≡ D.failed disk.old) }
+    ensures arm_memory { OnErr result (D.Arm.failed arm.new ≡ D.Arm.failed arm.old) }
 {
     let Some(found) = store.tables.get(&text.table) else {
         return no_table_line(alloc, &text.table);
@@ -98,17 +114,17 @@ pub fn insert<D: Disk, A: Annals>(
     let replies = replies_behind(alloc, store.length, ACCEPTED_BEFORE)?;
     let part = match seal_block(alloc, arm, &found.schema, &block) {
         Ok(part) => part,
-        Err(error) => return stage_line(alloc, error),
+        Err(error) => return stage_line(error, replies.failed),
     };
     match commit_part(alloc, store, disk, annals, 0, &text.table, part, block) {
         Ok(()) => Ok(replies.accepted),
-        Err(returned) => {
-            give_back(arm, returned.back.map(|part| part.sealed));
+        Err(Returned { cause, back }) => {
+            give_back_part(arm, back);
             refused_line(
                 alloc,
                 ACCEPTED_BEFORE,
                 &text.table,
-                returned.cause,
+                cause,
                 replies.unsettled,
             )
         }

@@ -8,13 +8,12 @@ ghost use Rattle.call_plan.specs.Plan.{FailsAsListed, next_stage, taken};
 use crate::folder::{MemDir, MemStage};
 use call_plan::{CallKind, Plan};
 use mt_base::NoMemory;
-use mt_outside::{Arm, DiskError, Stage, Written};
+use mt_outside::{Arm, DiskError, Written};
 use mt_values::FileId;
 use std::alloc::Global;
 use std::marker::Model;
 
 /// An arm of a disk in memory. Contracts see which of its calls fail.
-#[derive(Drop)]
 pub struct MemArm {
     plan: Plan,
 }
@@ -60,6 +59,14 @@ impl MemArm {
     {
         MemArm { plan }
     }
+
+    /// How many calls have failed.
+    pub(crate) fn into_count(self) -> u64
+        ensures { result ≡ self.failed }
+    {
+        let MemArm { plan } = self;
+        plan.failed
+    }
 }
 
 impl Arm for MemArm {
@@ -92,10 +99,12 @@ impl Arm for MemArm {
 
     fn abandon(&mut self, stage: MemStage)
         ensures taken { 0 < stage.plan.failed → Rose self.old.failed self.new.failed }
+        ensures none_failed { stage.plan.failed ≡ 0 → self.new.failed ≡ self.old.failed }
         ensures later { self.old.failed ≤ self.new.failed }
         ensures exactly { self.new ≡ taken stage.plan.failed self.old }
     {
-        self.plan.take(stage.faults());
+        let (_, failed) = stage.into_parts();
+        self.plan.take(failed);
     }
 
     fn read(

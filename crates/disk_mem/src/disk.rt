@@ -1,7 +1,7 @@
 // The disk in memory.
 ghost use Rattle.std.specs.Prelude.{◌≡◌, ◌+◌, ◌-◌, ◌^◌, ◌<◌, ◌≤◌, ◌++◌, [], Some, None, IfOk, OnOk, OnErr, IsErr, IsErrOf, IsSome, is_some, map};
 ghost use Rattle.mt_outside.specs.Causes.{Rose};
-ghost use Rattle.mt_outside.specs.DiskCauses.{HasDiskCause};
+ghost use Rattle.mt_outside.specs.DiskCauses.{HasDiskCause, HasStageCause};
 ghost use Rattle.mt_outside.specs.Disk.{AllBy, Image, names_of, files_at, with_change};
 ghost use Rattle.outside_streams.specs.Counts.{next};
 ghost use Rattle.crash_choice.specs.Images.{image_told};
@@ -14,7 +14,7 @@ use crate::folder::{MemDir, MemStage};
 use crate::root::Root;
 use call_plan::{CallKind, Listed};
 use mt_base::NoMemory;
-use mt_outside::{Arm, Change, Disk, DiskError, Stage};
+use mt_outside::{Change, Disk, DiskError};
 use mt_values::Name;
 use std::alloc::Global;
 use std::marker::Model;
@@ -139,10 +139,11 @@ impl Disk for MemDisk {
         ensures told { self.new.told ≡ self.old.told }
         ensures clock { self.new.clock ≡ self.old.clock }
         ensures taken { 0 < arm.failed → Rose self.old.plan.failed self.new.plan.failed }
+        ensures none_failed { arm.failed ≡ 0 → self.new.plan.failed ≡ self.old.plan.failed }
         ensures later { self.old.plan.failed ≤ self.new.plan.failed }
         ensures exactly { self.new ≡ takes arm.failed self.old }
     {
-        self.calls.plan.take(arm.faults());
+        self.calls.plan.take(arm.into_count());
     }
 
     fn list(&mut self, alloc: Global) -> Result<Vec<Name>, DiskError>
@@ -186,14 +187,15 @@ impl Disk for MemDisk {
         ensures err { OnErr result (self.new.told ≡ self.old.told) }
         ensures clock { self.new.clock ≡ self.old.clock }
         ensures taken { 0 < stage.plan.failed → Rose self.old.plan.failed self.new.plan.failed }
-        ensures cause { HasDiskCause self.old.plan.failed self.new.plan.failed result }
+        ensures cause { HasStageCause stage.plan.failed self.old.plan.failed self.new.plan.failed result }
         ensures exactly { FailsOrStops CallKind.Publish (takes stage.plan.failed self.old) self.new result }
     {
-        self.calls.plan.take(stage.faults());
+        let (files, failed) = stage.into_parts();
+        self.calls.plan.take(failed);
         if self.calls.call(CallKind::Publish, false) {
             return Err(DiskError::Fault);
         }
-        match self.root.put(alloc, name, stage.into_files()) {
+        match self.root.put(alloc, name, files) {
             Ok(dir) => Ok(dir),
             Err(NoMemory) => Err(DiskError::NoMemory),
         }

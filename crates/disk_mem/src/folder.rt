@@ -13,7 +13,6 @@ use std::marker::Model;
 use std::sync::Arc;
 
 /// A folder that is being made.
-#[derive(Drop)]
 pub struct MemStage {
     alloc: Global,
     files: Vec<Written>,
@@ -129,11 +128,16 @@ impl MemStage {
         }
     }
 
-    /// The files as they are.
-    pub(crate) fn into_files(self) -> Files
-        ensures { result ≡ self.files }
+    /// The files as they are, and how many calls have failed.
+    pub(crate) fn into_parts(self) -> (Files, u64)
+        ensures { result ≡ (self.files, self.plan.failed) }
     {
-        Seq::of(self.files)
+        let MemStage {
+            alloc: _,
+            files,
+            plan,
+        } = self;
+        (Seq::of(files), plan.failed)
     }
 }
 

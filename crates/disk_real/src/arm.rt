@@ -6,7 +6,7 @@ use crate::numbers::draw;
 use crate::system::{Found, System, find, is_folder, open_to_read, read_at};
 use disk_names::owned;
 use mt_base::{FileId, NoMemory};
-use mt_outside::{Arm, DiskError, Stage};
+use mt_outside::{Arm, DiskError};
 use outside_streams::Faults;
 use std::alloc::Global;
 use std::fs::File;
@@ -23,7 +23,6 @@ struct Opened {
 /// An arm of a real disk. Contracts see how many of its calls have failed.
 ///
 /// It keeps the file open that it read last.
-#[derive(Drop)]
 pub struct RealArm<R> {
     rt: R,
     alloc: Global,
@@ -64,6 +63,22 @@ impl<R: System> RealArm<R> {
             kept: None,
             faults: Faults::none(),
         })
+    }
+
+    /// Ends the arm: how many of its calls have failed.
+    pub(crate) fn into_count(self) -> u64
+        ensures { result ≡ self }
+    {
+        let RealArm {
+            rt: _,
+            alloc: _,
+            root: _,
+            number: _,
+            stages: _,
+            kept: _,
+            faults,
+        } = self;
+        faults.count
     }
 
     // Makes the folder `.stage_<arm>_<stage>` of the root.
@@ -158,10 +173,10 @@ impl<R: System + Send> Arm for RealArm<R> {
         self.faults.note(made)
     }
 
+    /// The stage is removed, as far as that can be done: what is left of it is no name, and goes where a stage gets its number again.
     fn abandon(&mut self, stage: RealStage<R>) {
-        self.faults.take(stage.faults());
-        let removed = stage.remove();
-        let _ = self.faults.note(removed);
+        let _ = stage.remove();
+        self.faults.take(stage.into_count());
     }
 
     fn read(

@@ -9,7 +9,7 @@ use crate::root::Root;
 use crate::system::{System, is_folder, names_in, publish_folder, sync_folder, take_away};
 use disk_names::{path_in, root_name};
 use mt_base::{Name, NoMemory};
-use mt_outside::{Arm, Disk, DiskError, Stage};
+use mt_outside::{Disk, DiskError};
 use outside_streams::Faults;
 use std::alloc::Global;
 use std::marker::Model;
@@ -200,7 +200,7 @@ impl<R: System + Send> Disk for RealDisk<R> {
     }
 
     fn take_back(&mut self, arm: RealArm<R>) {
-        self.faults.take(arm.faults());
+        self.faults.take(arm.into_count());
     }
 
     /// In the order of their bytes, whether they are UTF-8 or not.
@@ -223,8 +223,9 @@ impl<R: System + Send> Disk for RealDisk<R> {
     ) -> Result<RealDir, DiskError> {
         let given = self.give(alloc, &stage, name);
         if given.is_err() {
-            let _ = self.faults.note(stage.remove());
+            let _ = stage.remove();
         }
+        let _ = stage.into_count();
         self.faults.note(given)
     }
 

@@ -16,7 +16,6 @@ use std::marker::Model;
 /// A folder that is being made. Contracts see how many of its calls have failed, and which of its files were written since their last sync.
 ///
 /// Each file stays open from its first write until it is synced, by the handle that wrote it.
-#[derive(Drop)]
 pub struct RealStage<R> {
     rt: R,
     alloc: Global,
@@ -118,6 +117,20 @@ impl<R: System> RealStage<R> {
         ensures { IsTrue result ↔ 0 < self.now.failed }
     {
         self.faults.count > 0
+    }
+
+    /// Ends the stage: how many of its calls have failed. Its folder stays.
+    pub(crate) fn into_count(self) -> u64
+        ensures { result ≡ self.failed }
+    {
+        let RealStage {
+            rt: _,
+            alloc: _,
+            path: _,
+            handles: _,
+            faults,
+        } = self;
+        faults.count
     }
 
     /// Removes the folder with its files, where it is there. It takes no memory, since no folder lies in it.

@@ -2,7 +2,7 @@
 ghost use Rattle.std.specs.Prelude.{◌≡◌, ◌+◌, IsSome, None, IfOk, IsErrOf, OnErr, OnOk};
 ghost use Rattle.std.specs.Option.{ForSome, option_map};
 ghost use Rattle.mt_values.specs.Annals.{began, noted};
-ghost use Rattle.mt_outside.specs.DiskCauses.{HasDiskCause};
+ghost use Rattle.mt_outside.specs.DiskCauses.{HasDiskCause, HasStageCause};
 ghost use Rattle.mt_outside.specs.Disk.{MayPut, files_at, names_of, put};
 ghost use Rattle.stage_dir.specs.Stages.{AreSealed};
 ghost use Rattle.durable_commit.specs.Commits.{Notes, SameList};
@@ -35,6 +35,7 @@ fn settle<D: Disk, A: Annals>(disk: &mut D, annals: &mut A) -> Result<(), DiskEr
 
 /// Publishes what was sealed, settles it and notes the command. The keeper has room for it.
 ///
+/// `Fault` only where the disk's count rose in this call, which it does for no other cause where no call of the stage had failed.
 /// After an error the keeper tells the same list; after a fault the name is there or not.
 pub fn commit<D: Disk, A: Annals>(
     alloc: Global,
@@ -56,7 +57,7 @@ pub fn commit<D: Disk, A: Annals>(
     ensures sealed { ForSome sealed.files AreSealed }
     ensures left { OnErr result (MayPut (D.clock disk.old) name.now sealed.files (D.told disk.old) (D.told disk.new)) }
     ensures memory { IsErrOf result DiskError.NoMemory → D.told disk.new ≡ D.told disk.old }
-    ensures cause { HasDiskCause (D.failed disk.old) (D.failed disk.new) result }
+    ensures cause { HasStageCause sealed.failed (D.failed disk.old) (D.failed disk.new) result }
 {
     annals.begin(entry);
     let dir = match disk.publish(alloc, sealed.into_stage(), name) {

@@ -3,7 +3,7 @@ ghost use Rattle.std.specs.Prelude.{◌≡◌, ◌+◌, ◌-◌, ◌<◌, ◌≤
 ghost use Rattle.std.specs.Option.{option_map, option_and_then, ForSome};
 ghost use Rattle.mt_outside.specs.declared.disk.Written.{Written};
 ghost use Rattle.mt_outside.specs.Causes.{Rose};
-ghost use Rattle.mt_outside.specs.DiskCauses.{HasDiskCause};
+ghost use Rattle.mt_outside.specs.DiskCauses.{HasDiskCause, HasStageCause};
 ghost use Rattle.mt_outside.specs.Files.{bytes_of, appended, settled_file, ReadsAt};
 ghost use Rattle.mt_outside.specs.Disk.{Told, names_of, files_at, put, cut, MayPut, MayCut};
 
@@ -17,7 +17,7 @@ pub enum DiskError {
     /// The outside failed. The object's count of faults rose in this call, or stands at its type's end.
     #[error("the disk failed")]
     Fault,
-    /// A growth was refused.
+    /// A growth was refused. The object's count of faults stays.
     #[error("out of memory")]
     NoMemory,
 }
@@ -60,7 +60,9 @@ pub struct Stamped<F> {
 }
 
 /// A folder that is being made. Its owner alone writes it.
-pub trait Stage: Drop + Send {
+///
+/// It can't be let go: it is published, or given up by the arm that made it. So its count of failed calls reaches the disk.
+pub trait Stage: Send {
     /// The files with their bytes, where the stage tells.
     ghost files: { Self → Option (List Written) };
 
@@ -98,7 +100,9 @@ pub trait Dir: Sized + Drop + Send + Sync {
 }
 
 /// What reads folders and makes stages, for one session or merger.
-pub trait Arm: Drop + Send {
+///
+/// It can't be let go: the disk that made it takes it back. So its count of failed calls reaches the disk.
+pub trait Arm: Send {
     type Stage: Stage;
 
     type Dir: Dir;
@@ -116,10 +120,11 @@ pub trait Arm: Drop + Send {
         ensures tells { tells self.new ≡ tells self.old }
         ensures cause { HasDiskCause (failed self.old) (failed self.new) result };
 
-    /// Gives a stage up. Where a call of it had failed, the arm's count rises. Takes no memory.
+    /// Gives a stage up. Where a call of it had failed, the arm's count rises, and else it stays. Takes no memory.
     fn abandon(&mut self, stage: Self::Stage)
         ensures tells { tells self.new ≡ tells self.old }
         ensures taken { 0 < Self.Stage.failed stage → Rose (failed self.old) (failed self.new) }
+        ensures none_failed { Self.Stage.failed stage ≡ 0 → failed self.new ≡ failed self.old }
         ensures later { failed self.old ≤ failed self.new };
 
     /// Reads the bytes of a file from a place on, as many as fit, fewer only at the file's end; a file that is not there has none.
@@ -170,11 +175,12 @@ pub trait Disk: Drop + Send {
         ensures clock { clock self.new ≡ clock self.old }
         ensures cause { HasDiskCause (failed self.old) (failed self.new) result };
 
-    /// Takes an arm back. Where a call of it had failed, the disk's count rises. Takes no memory.
+    /// Takes an arm back. Where a call of it had failed, the disk's count rises, and else it stays. Takes no memory.
     fn take_back(&mut self, arm: Self::Arm)
         ensures told { told self.new ≡ told self.old }
         ensures clock { clock self.new ≡ clock self.old }
         ensures taken { 0 < Self.Arm.failed arm → Rose (failed self.old) (failed self.new) }
+        ensures none_failed { Self.Arm.failed arm ≡ 0 → failed self.new ≡ failed self.old }
         ensures later { failed self.old ≤ failed self.new };
 
     /// The names as they read, without stages.
@@ -208,7 +214,7 @@ pub trait Disk: Drop + Send {
         ensures memory { IsErrOf result DiskError.NoMemory → told self.new ≡ told self.old }
         ensures clock { clock self.new ≡ clock self.old }
         ensures taken { 0 < Self.Arm.Stage.failed stage → Rose (failed self.old) (failed self.new) }
-        ensures cause { HasDiskCause (failed self.old) (failed self.new) result };
+        ensures cause { HasStageCause (Self.Arm.Stage.failed stage) (failed self.old) (failed self.new) result };
 
     /// Takes a name away that is there. It answers no want of memory.
     ///

@@ -1,5 +1,5 @@
 // Answering the statements of a script, one after another.
-ghost use Rattle.std.specs.Prelude.{◌≡◌, [], ◌<◌, ◌≤◌, ◌-◌, ◌^◌, Ok, Some, true, false, IfOk, IfSome, drop, length, ℕ};
+ghost use Rattle.std.specs.Prelude.{◌≡◌, [], ◌<◌, ◌≤◌, ◌-◌, ◌^◌, Ok, Some, true, false, IfOk, IfSome, OnErr, drop, length, ℕ};
 ghost use Rattle.std.specs.Option.{option_map};
 ghost use Rattle.mt_values.specs.Annals.{Told};
 ghost use Rattle.mt_values.specs.Script.{next_statement, statements_of};
@@ -58,7 +58,7 @@ fn read_next(
 
 /// Answers a statement, or the text that is none.
 ///
-/// `NoMemory` where a growth was refused; the keeper tells the same list, and the root is as it was.
+/// `NoMemory` where a growth was refused; the keeper tells the same list, the root is as it was, and no count of faults rose.
 pub fn answer<D: Disk, A: Annals, G: Gate>(
     alloc: Global,
     store: &mut CoreStore<<D::Arm as Arm>::Dir>,
@@ -89,6 +89,8 @@ pub fn answer<D: Disk, A: Annals, G: Gate>(
     ensures tells { D.Arm.tells arm.new ≡ D.Arm.tells arm.old }
     ensures disk_later { D.failed disk.old ≤ D.failed disk.new }
     ensures arm_later { D.Arm.failed arm.old ≤ D.Arm.failed arm.new }
+    ensures memory { OnErr result (D.failed disk.new ≡ D.failed disk.old) }
+    ensures arm_memory { OnErr result (D.Arm.failed arm.new ≡ D.Arm.failed arm.old) }
 {
     match statement {
         Ok(Statement::Create(text)) => create(alloc, store, disk, arm, annals, &text),

@@ -26,6 +26,7 @@ pub fn check_files<R: Arm>(
     ensures tells { R.tells arm.new ≡ R.tells arm.old }
     ensures later { R.failed arm.old ≤ R.failed arm.new }
     ensures fault { IsErrOf result PartFault.Fault → Rose (R.failed arm.old) (R.failed arm.new) }
+    ensures calm { (IsErrOf result PartFault.Fault → ⊥) → R.failed arm.new ≡ R.failed arm.old }
 {
     let part = open_part(alloc, dir, schema, arm)?;
     match check_part(alloc, &part, schema, arm) {

@@ -43,6 +43,7 @@ pub fn check_part<R: Arm>(
     ensures tells { R.tells arm.new ≡ R.tells arm.old }
     ensures later { R.failed arm.old ≤ R.failed arm.new }
     ensures fault { IsErrOf result PartFault.Fault → Rose (R.failed arm.old) (R.failed arm.new) }
+    ensures calm { (IsErrOf result PartFault.Fault → ⊥) → R.failed arm.new ≡ R.failed arm.old }
 {
     for place in 0..content_count(schema) {
         // No file has a place past these.
@@ -73,6 +74,7 @@ fn check_file<R: Arm>(
     ensures tells { R.tells arm.new ≡ R.tells arm.old }
     ensures later { R.failed arm.old ≤ R.failed arm.new }
     ensures fault { IsErrOf result PartFault.Fault → Rose (R.failed arm.old) (R.failed arm.new) }
+    ensures calm { (IsErrOf result PartFault.Fault → ⊥) → R.failed arm.new ≡ R.failed arm.old }
 {
     let bytes = read_file(alloc, arm, &part.dir, file)?;
     check_bytes(schema, &part.loaded.manifest, file, &bytes)

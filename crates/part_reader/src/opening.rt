@@ -48,6 +48,7 @@ pub fn open_part<R: Arm>(
     ensures tells { R.tells arm.new ≡ R.tells arm.old }
     ensures later { R.failed arm.old ≤ R.failed arm.new }
     ensures fault { IsErrOf result PartFault.Fault → Rose (R.failed arm.old) (R.failed arm.new) }
+    ensures calm { (IsErrOf result PartFault.Fault → ⊥) → R.failed arm.new ≡ R.failed arm.old }
 {
     let bytes = read_file(alloc, arm, &dir, FileId::Manifest)?;
     let manifest = manifest_in(alloc, &bytes, schema)?;

@@ -121,6 +121,7 @@ pub fn read_columns<R: Arm>(
     ensures tells { R.tells arm.new ≡ R.tells arm.old }
     ensures later { R.failed arm.old ≤ R.failed arm.new }
     ensures fault { IsErrOf result PartFault.Fault → Rose (R.failed arm.old) (R.failed arm.new) }
+    ensures calm { (IsErrOf result PartFault.Fault → ⊥) → R.failed arm.new ≡ R.failed arm.old }
 {
     for (number, place) in places.iter().enumerate() {
         read_column(alloc, arm, part, *place, &mut columns[number])?;
@@ -143,6 +144,7 @@ fn read_column<R: Arm>(
     ensures tells { R.tells arm.new ≡ R.tells arm.old }
     ensures later { R.failed arm.old ≤ R.failed arm.new }
     ensures fault { IsErrOf result PartFault.Fault → Rose (R.failed arm.old) (R.failed arm.new) }
+    ensures calm { (IsErrOf result PartFault.Fault → ⊥) → R.failed arm.new ≡ R.failed arm.old }
 {
     let bytes = read_file(alloc, arm, &part.dir, FileId::Column(number))?;
     add_values(&part.loaded.manifest, number, &bytes, column)

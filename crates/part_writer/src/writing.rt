@@ -2,7 +2,7 @@
 ghost use Rattle.std.specs.Prelude.{◌≡◌, ◌++◌, ◌∷◌, ◌<◌, ◌^◌, [], Some, All, IfOk, OnOk, false, length, true};
 ghost use Rattle.std.specs.Option.{option_map};
 ghost use Rattle.sha2.specs.Sha256.{sha256};
-ghost use Rattle.mt_outside.specs.DiskCauses.{HasDiskCause};
+ghost use Rattle.mt_outside.specs.DiskCauses.{HasDiskCause, HasStageCause};
 ghost use Rattle.mt_values.specs.Grid.{picked};
 ghost use Rattle.mt_values.specs.Manifests.{manifest_bytes};
 ghost use Rattle.mt_values.specs.Schemas.{column_types};
@@ -24,8 +24,7 @@ use std::alloc::Global;
 /// How many rows a granule has. No file says yet where one begins.
 const GRANULARITY: u32 = 8192;
 
-/// The sealed files of a part, and what is kept of them in memory.
-#[derive(Drop)]
+/// The sealed files of a part, and what is kept of them in memory. It can't be let go, as its stage can't.
 pub struct SealedPart<S: Stage> {
     pub sealed: Sealed<S>,
     pub loaded: Loaded,
@@ -33,7 +32,7 @@ pub struct SealedPart<S: Stage> {
 
 /// The files of the block's rows in this order, sealed, and their manifest.
 ///
-/// `Fault` only where the arm's count rose in this call, `NoMemory` where a growth was refused.
+/// `Fault` only where the arm's count rose in this call, `NoMemory` where a growth was refused; without a fault the count stays.
 /// After an error the stage was given back to the arm.
 pub fn write_part<R: Arm>(
     alloc: Global,
@@ -47,6 +46,7 @@ pub fn write_part<R: Arm>(
     requires few { length schema.now.columns < 2 ^ 32 }
     ensures files { IfOk result (λ s. R.tells arm.old ≡ true → s.sealed.files ≡ Some (all_synced (files_of_part schema.now (picked block.now.rows order.now)))) }
     ensures loaded { IfOk result (λ s. s.loaded.manifest ≡ manifest_of schema.now (picked block.now.rows order.now)) }
+    ensures none_failed { IfOk result (λ s. s.sealed.failed ≡ 0) }
     ensures encodable { IfOk result (λ _. All (λ (row : Row). All FitsType row) (picked block.now.rows order.now)) }
     ensures readable { IfOk result (λ s. IsManifestOf (manifest_bytes sha256 s.loaded.manifest) s.loaded.manifest) }
     ensures tells { R.tells arm.new ≡ R.tells arm.old }
@@ -73,8 +73,9 @@ fn seal_part<R: Arm>(
     requires { IsIntact stage }
     ensures files { IfOk result (λ s. s.sealed.files ≡ option_map settled stage.files) }
     ensures loaded { IfOk result (λ s. s.loaded ≡ loaded) }
+    ensures failed { IfOk result (λ s. s.sealed.failed ≡ stage.failed) }
     ensures tells { R.tells arm.new ≡ R.tells arm.old }
-    ensures cause { HasDiskCause (R.failed arm.old) (R.failed arm.new) result }
+    ensures cause { HasStageCause stage.failed (R.failed arm.old) (R.failed arm.new) result }
 {
     match seal(stage) {
         Ok(sealed) => Ok(SealedPart { sealed, loaded }),

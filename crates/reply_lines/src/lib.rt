@@ -9,7 +9,7 @@ mod replies;
 mod tally;
 mod writing;
 
-pub use lines::{damaged, data_line, no_table_line, stage_line, unsettled_line};
+pub use lines::{damaged, data_line, failed_line, no_table_line, stage_line, unsettled_line};
 pub use names::file_name;
 pub use printing::print;
 pub use replies::{Replies, replies_behind};

@@ -1,5 +1,5 @@
 // The lines that refuse a statement, for what it says or for the outside.
-ghost use Rattle.std.specs.Prelude.{◌≡◌, IfOk};
+ghost use Rattle.std.specs.Prelude.{◌≡◌, IfErr, IfOk};
 ghost use Rattle.mt_model.specs.declared.refusal.Refusal.TheVariants as refusal;
 ghost use Rattle.mt_model.specs.Refusals.{refusal_line, refusal_of_data};
 ghost use Rattle.part_name.specs.PartNames.{part_text};
@@ -30,16 +30,28 @@ pub fn data_line(alloc: Global, fault: DataFault) -> Result<Vec<u8>, NoMemory>
     refusal_line(alloc, &why)
 }
 
-/// The reply to a statement for which parts were not read, or a stage was not sealed.
+/// The reply to a statement for which parts were not read, or a stage was not sealed. Where the arm failed it is `failed`, so that no
+/// memory is wanted then.
 ///
-/// `NoMemory` where that was why, and where a growth was refused.
-pub fn stage_line(alloc: Global, error: DiskError) -> Result<Vec<u8>, NoMemory>
-    ensures { IfOk result (λ line. IsLineOfStage error line.items) }
+/// `NoMemory` where that was why; never where the arm failed.
+pub fn stage_line(error: DiskError, failed: Vec<u8>) -> Result<Vec<u8>, NoMemory>
+    requires { failed.items ≡ refusal_line refusal.Failed }
+    ensures line { IfOk result (λ line. IsLineOfStage error line.items) }
+    ensures fault { IfErr result (λ _. error ≡ DiskError.Fault → ⊥) }
 {
     match error {
         DiskError::NoMemory => Err(NoMemory),
-        DiskError::Fault => refusal_line(alloc, &Refusal::Failed),
+        DiskError::Fault => Ok(failed),
     }
+}
+
+/// The reply to a statement of which a call on the arm or on a stage failed. It is formed before these calls.
+///
+/// `NoMemory` where an allocation failed.
+pub fn failed_line(alloc: Global) -> Result<Vec<u8>, NoMemory>
+    ensures { IfOk result (λ line. line.items ≡ refusal_line refusal.Failed) }
+{
+    refusal_line(alloc, &Refusal::Failed)
 }
 
 /// The reply to a command whose publish or whose sync failed, after some commands of its statement were accepted. It is formed before

@@ -49,7 +49,6 @@ const MOST_PARTS: usize = 3000;
 const LAST_NUMBER: u32 = 4_294_967_295;
 
 /// Why a command was not committed, and what was sealed for it, where it was not given to the disk.
-#[derive(Drop)]
 pub struct Returned<S> {
     pub cause: Refused,
     pub back: Option<S>,
@@ -280,6 +279,7 @@ pub fn commit_create<D: Disk, A: Annals>(
         → KeepsThroughCrashes D.Arm.Dir.files store.old was first start → KeepsThroughCrashes D.Arm.Dir.files store.new now first start }
     ensures held { HasSoundParts D.Arm.Dir.files store.old → HasSoundParts D.Arm.Dir.files store.new }
     ensures unchanged { IfErr result (λ r. r.cause ≢ Refused.Disk → D.told disk.new ≡ D.told disk.old) }
+    ensures calm { sealed.failed ≡ 0 → IfErr result (λ r. r.cause ≢ Refused.Disk → D.failed disk.new ≡ D.failed disk.old) }
     ensures store { IsSound store.new }
     ensures names { NamesFitUnlessRisen (D.failed disk.new) (D.told disk.new) store.new }
     ensures opened { store.new.opened ≡ store.old.opened }
@@ -422,6 +422,7 @@ pub fn commit_part<D: Disk, A: Annals>(
         → KeepsThroughCrashes D.Arm.Dir.files store.old was first start → KeepsThroughCrashes D.Arm.Dir.files store.new now first start }
     ensures held { (t : Made) → table_at store.old table.now ≡ Some t → IsSealedOf t.schema block part.sealed.files part.loaded → HasSoundParts D.Arm.Dir.files store.old → HasSoundParts D.Arm.Dir.files store.new }
     ensures unchanged { IfErr result (λ r. r.cause ≢ Refused.Disk → D.told disk.new ≡ D.told disk.old) }
+    ensures calm { part.sealed.failed ≡ 0 → IfErr result (λ r. r.cause ≢ Refused.Disk → D.failed disk.new ≡ D.failed disk.old) }
     ensures store { IsSound store.new }
     ensures names { NamesFitUnlessRisen (D.failed disk.new) (D.told disk.new) store.new }
     ensures opened { store.new.opened ≡ store.old.opened }

@@ -51,6 +51,8 @@ pub fn check_table<D: Disk>(
     ensures later { D.failed disk.old ≤ D.failed disk.new }
     ensures arm_later { D.Arm.failed arm.old ≤ D.Arm.failed arm.new }
     ensures fault { IsErrOf result OpenFault.Disk → Rose (D.failed disk.old) (D.failed disk.new) ⊎ Rose (D.Arm.failed arm.old) (D.Arm.failed arm.new) }
+    ensures calm { (IsErrOf result OpenFault.Disk → ⊥) → D.failed disk.new ≡ D.failed disk.old }
+    ensures arm_calm { (IsErrOf result OpenFault.Disk → ⊥) → D.Arm.failed arm.new ≡ D.Arm.failed arm.old }
 {
     let dir = disk.open(alloc, text)?;
     match open_entry(alloc, arm, &dir, table)? {
@@ -80,6 +82,8 @@ pub fn check_table_part<D: Disk>(
     ensures later { D.failed disk.old ≤ D.failed disk.new }
     ensures arm_later { D.Arm.failed arm.old ≤ D.Arm.failed arm.new }
     ensures fault { IsErrOf result OpenFault.Disk → Rose (D.failed disk.old) (D.failed disk.new) ⊎ Rose (D.Arm.failed arm.old) (D.Arm.failed arm.new) }
+    ensures calm { (IsErrOf result OpenFault.Disk → ⊥) → D.failed disk.new ≡ D.failed disk.old }
+    ensures arm_calm { (IsErrOf result OpenFault.Disk → ⊥) → D.Arm.failed arm.new ≡ D.Arm.failed arm.old }
 {
     if part.name.partition != Partition::Whole {
         return Err(damaged(alloc, text, FileId::Manifest));

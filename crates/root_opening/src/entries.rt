@@ -115,6 +115,7 @@ pub fn open_entry<R: Arm>(
     ensures tells { R.tells arm.new ≡ R.tells arm.old }
     ensures later { R.failed arm.old ≤ R.failed arm.new }
     ensures fault { IsErrOf result DiskError.Fault → Rose (R.failed arm.old) (R.failed arm.new) }
+    ensures calm { (IsErrOf result DiskError.Fault → ⊥) → R.failed arm.new ≡ R.failed arm.old }
 {
     let bytes = match read_file(alloc, arm, dir, FileId::Entry) {
         Ok(bytes) => bytes,

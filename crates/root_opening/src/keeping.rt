@@ -55,6 +55,8 @@ fn keep_table<D: Disk>(
     ensures later { D.failed disk.old ≤ D.failed disk.new }
     ensures arm_later { D.Arm.failed arm.old ≤ D.Arm.failed arm.new }
     ensures fault { IsErrOf result OpenFault.Disk → Rose (D.failed disk.old) (D.failed disk.new) ⊎ Rose (D.Arm.failed arm.old) (D.Arm.failed arm.new) }
+    ensures calm { (IsErrOf result OpenFault.Disk → ⊥) → D.failed disk.new ≡ D.failed disk.old }
+    ensures arm_calm { (IsErrOf result OpenFault.Disk → ⊥) → D.Arm.failed arm.new ≡ D.Arm.failed arm.old }
 {
     let schema = check_table(alloc, disk, arm, text, table)?;
     put_table(alloc, &mut store.tables, table, schema)?;
@@ -86,6 +88,8 @@ fn keep_part<D: Disk>(
     ensures later { D.failed disk.old ≤ D.failed disk.new }
     ensures arm_later { D.Arm.failed arm.old ≤ D.Arm.failed arm.new }
     ensures fault { IsErrOf result OpenFault.Disk → Rose (D.failed disk.old) (D.failed disk.new) ⊎ Rose (D.Arm.failed arm.old) (D.Arm.failed arm.new) }
+    ensures calm { (IsErrOf result OpenFault.Disk → ⊥) → D.failed disk.new ≡ D.failed disk.old }
+    ensures arm_calm { (IsErrOf result OpenFault.Disk → ⊥) → D.Arm.failed arm.new ≡ D.Arm.failed arm.old }
 {
     let Some(table) = store.tables.get_mut(&part.table) else {
         unreachable!()
@@ -121,6 +125,8 @@ fn keep_name<D: Disk>(
     ensures later { D.failed disk.old ≤ D.failed disk.new }
     ensures arm_later { D.Arm.failed arm.old ≤ D.Arm.failed arm.new }
     ensures fault { IsErrOf result OpenFault.Disk → Rose (D.failed disk.old) (D.failed disk.new) ⊎ Rose (D.Arm.failed arm.old) (D.Arm.failed arm.new) }
+    ensures calm { (IsErrOf result OpenFault.Disk → ⊥) → D.failed disk.new ≡ D.failed disk.old }
+    ensures arm_calm { (IsErrOf result OpenFault.Disk → ⊥) → D.Arm.failed arm.new ≡ D.Arm.failed arm.old }
 {
     let text = &root.texts[place];
     match &root.names[place] {
@@ -155,6 +161,8 @@ fn keep_names<D: Disk>(
     ensures later { D.failed disk.old ≤ D.failed disk.new }
     ensures arm_later { D.Arm.failed arm.old ≤ D.Arm.failed arm.new }
     ensures fault { IsErrOf result OpenFault.Disk → Rose (D.failed disk.old) (D.failed disk.new) ⊎ Rose (D.Arm.failed arm.old) (D.Arm.failed arm.new) }
+    ensures calm { (IsErrOf result OpenFault.Disk → ⊥) → D.failed disk.new ≡ D.failed disk.old }
+    ensures arm_calm { (IsErrOf result OpenFault.Disk → ⊥) → D.Arm.failed arm.new ≡ D.Arm.failed arm.old }
 {
     let mut store = CoreStore::new(alloc, opened);
     for place in 0..root.names.len() {
@@ -203,6 +211,8 @@ pub fn keep_root<D: Disk>(
     ensures later { D.failed disk.old ≤ D.failed disk.new }
     ensures arm_later { D.Arm.failed arm.old ≤ D.Arm.failed arm.new }
     ensures fault { IsErrOf result OpenFault.Disk → Rose (D.failed disk.old) (D.failed disk.new) ⊎ Rose (D.Arm.failed arm.old) (D.Arm.failed arm.new) }
+    ensures calm { (IsErrOf result OpenFault.Disk → ⊥) → D.failed disk.new ≡ D.failed disk.old }
+    ensures arm_calm { (IsErrOf result OpenFault.Disk → ⊥) → D.Arm.failed arm.new ≡ D.Arm.failed arm.old }
 {
     let mut store = keep_names(alloc, disk, arm, root, opened)?;
     store.length = length_of(&store.tables)?;

@@ -159,7 +159,8 @@ fn read_root(alloc: Global, texts: Vec<Name>) -> Result<Root, OpenFault>
 /// Opens the root: reads its names, reads each entry and checks each file of each visible part, and settles the names that it read.
 ///
 /// `Damaged` exactly where something keeps the root from being opened, which it tells: never where the root stands for a history.
-/// `Disk` only where the count of the disk or of the arm rose in this call; `NoMemory` where a growth was refused. No name is changed.
+/// `Disk` only where the count of the disk or of the arm rose in this call; `NoMemory` where a growth was refused. But for `Disk` both
+/// counts stay. No name is changed.
 pub fn open<D: Disk>(
     alloc: Global,
     disk: &mut D,
@@ -181,6 +182,8 @@ pub fn open<D: Disk>(
     ensures later { D.failed disk.old ≤ D.failed disk.new }
     ensures arm_later { D.Arm.failed arm.old ≤ D.Arm.failed arm.new }
     ensures fault { IfErr result (λ e. e ≡ OpenFault.Disk → Rose (D.failed disk.old) (D.failed disk.new) ⊎ Rose (D.Arm.failed arm.old) (D.Arm.failed arm.new)) }
+    ensures calm { (IsErrOf result OpenFault.Disk → ⊥) → D.failed disk.new ≡ D.failed disk.old }
+    ensures arm_calm { (IsErrOf result OpenFault.Disk → ⊥) → D.Arm.failed arm.new ≡ D.Arm.failed arm.old }
 {
     let opened = disk.faults();
     let root = read_root(alloc, disk.list(alloc)?)?;

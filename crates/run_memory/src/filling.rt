@@ -44,9 +44,10 @@ impl Answer {
         self.add_file(stage, file.id, &bytes);
     }
 
-    // Publishes a stage under a name that is not there.
-    fn publish(&mut self, disk: &mut MemDisk, stage: MemStage, name: &Name) {
+    // Publishes a stage of an arm under a name that is not there.
+    fn publish(&mut self, disk: &mut MemDisk, arm: &mut MemArm, stage: MemStage, name: &Name) {
         if disk.holds(name) {
+            arm.abandon(stage);
             self.fail("a name stands twice");
         } else {
             let published = disk.publish(self.alloc, stage, name).is_ok();
@@ -58,6 +59,7 @@ impl Answer {
     fn publish_folder(
         &mut self,
         disk: &mut MemDisk,
+        arm: &mut MemArm,
         stage: MemStage,
         folder: &Folder,
         damages: &[Damage],
@@ -67,7 +69,7 @@ impl Answer {
             let change = change_of(damages, &folder.name, file.id);
             self.add_damaged(&mut stage, file, change);
         }
-        self.publish(disk, stage, &folder.name);
+        self.publish(disk, arm, stage, &folder.name);
     }
 
     // Publishes folders by an arm, and settles them.
@@ -80,7 +82,7 @@ impl Answer {
     ) {
         for folder in root {
             match arm.stage(self.alloc) {
-                Ok(stage) => self.publish_folder(disk, stage, folder, damages),
+                Ok(stage) => self.publish_folder(disk, arm, stage, folder, damages),
                 Err(_) => self.note(false),
             }
         }

@@ -1,5 +1,5 @@
 // Running a SELECT.
-ghost use Rattle.std.specs.Prelude.{◌≡◌, ◌≤◌, ◌<◌, ◌^◌, Ok, Some, true, false, ℕ, IfOk};
+ghost use Rattle.std.specs.Prelude.{◌≡◌, ◌≤◌, ◌<◌, ◌^◌, Ok, Some, true, false, ℕ, IfOk, OnErr};
 ghost use Rattle.mt_values.specs.Annals.{Told};
 ghost use Rattle.mt_model.specs.Refusals.{is_damage};
 ghost use Rattle.root_store.specs.Soundness.{HasSoundParts, IsSound};
@@ -17,14 +17,14 @@ use mt_model::{refusal_line, selected_columns};
 use mt_outside::{Arm, DiskError, Gate, Point, Who};
 use mt_values::SelectText;
 use part_reader::PartFault;
-use reply_lines::{damaged, no_table_line, print, stage_line};
+use reply_lines::{damaged, failed_line, no_table_line, print, stage_line};
 use root_store::{CoreStore, Table};
 use statement_work::{count_rows, empty_columns, read_parts};
 use std::alloc::Global;
 
 /// The rows of a table, so many, of the columns at these places, which are the selected ones.
 ///
-/// `NoMemory` where a growth was refused.
+/// `NoMemory` where a growth was refused; the arm's count stays.
 fn read_places<R: Arm>(
     alloc: Global,
     store: &CoreStore<R::Dir>,
@@ -45,20 +45,22 @@ fn read_places<R: Arm>(
     ensures causes { (disk : ℕ) → IfOk result (λ reply. HasCauses store.now.opened disk disk (R.failed arm.old) (R.failed arm.new) reply.items) }
     ensures tells { R.tells arm.new ≡ R.tells arm.old }
     ensures later { R.failed arm.old ≤ R.failed arm.new }
+    ensures memory { OnErr result (R.failed arm.new ≡ R.failed arm.old) }
 {
     let parts = store.set.parts(&text.table);
     let mut columns = empty_columns(alloc, &table.schema, places)?;
+    let failed = failed_line(alloc)?;
     match read_parts(alloc, arm, parts, places, &mut columns) {
         Ok(()) => print(alloc, store.length, columns, rows),
         Err((_, PartFault::NoMemory)) => Err(NoMemory),
-        Err((_, PartFault::Fault)) => stage_line(alloc, DiskError::Fault),
+        Err((_, PartFault::Fault)) => stage_line(DiskError::Fault, failed),
         Err((part, PartFault::Damaged { file, .. })) => damaged(alloc, text, &part, file),
     }
 }
 
 /// The rows of a table, of the selected columns, sorted by these from left to right, unless the SELECT is refused.
 ///
-/// `NoMemory` where a growth was refused.
+/// `NoMemory` where a growth was refused; the arm's count stays.
 pub fn select<R: Arm, G: Gate>(
     alloc: Global,
     store: &CoreStore<R::Dir>,
@@ -73,6 +75,7 @@ pub fn select<R: Arm, G: Gate>(
     ensures causes { (disk : ℕ) → IfOk result (λ reply. HasCauses store.now.opened disk disk (R.failed arm.old) (R.failed arm.new) reply.items) }
     ensures tells { R.tells arm.new ≡ R.tells arm.old }
     ensures later { R.failed arm.old ≤ R.failed arm.new }
+    ensures memory { OnErr result (R.failed arm.new ≡ R.failed arm.old) }
 {
     let Some(table) = store.tables.get(&text.table) else {
         return no_table_line(alloc, &text.table);

@@ -6,7 +6,7 @@ use Rattle.mt_base.specs.declared.name.FileId.{FileId}
 use Rattle.mt_base.specs.Files.{same_file}
 use Rattle.mt_outside.specs.declared.disk.Written.{Written}
 use Rattle.mt_outside.specs.declared.disk.DiskError.{DiskError}
-use Rattle.mt_outside.specs.declared.disk.DiskError.TheVariants.{Fault}
+use Rattle.mt_outside.specs.declared.disk.DiskError.TheVariants.{Fault, NoMemory}
 use Rattle.mt_outside.specs.Causes.{Rose}
 use Rattle.mt_outside.specs.Files.{Files}
 
@@ -54,7 +54,8 @@ pub record AreSealed (files : Files) : Type 0 where
   pub once : EachOnce (names_in files)
   pub synced : All (λ (w : Written). w.synced ≡ true) files
 
--- a count never falls, and a fault is the cause only where it rose
+-- a count never falls; it rises where a fault is the cause, and there alone
 pub record IsCauseOf (before now : ℕ) (cause : DiskError) : Type 0 where
   pub later : before ≤ now
   pub failed : cause ≡ Fault → Rose before now
+  pub memory : cause ≡ NoMemory → now ≡ before

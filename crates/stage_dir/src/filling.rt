@@ -9,8 +9,7 @@ use mt_outside::{DiskError, Stage};
 use std::alloc::Global;
 use std::marker::Model;
 
-/// A stage that is being filled. Contracts see which files were written, what the stage tells of them, and how many of its calls have failed.
-#[derive(Drop)]
+/// A stage that is being filled. It can't be let go, as its stage can't. Contracts see which files were written, what the stage tells of them, and how many of its calls have failed.
 pub struct Open<S: Stage> {
     stage: S,
     names: Seq<FileId>,
@@ -27,7 +26,6 @@ impl<S: Stage> Model for Open<S> {
 }
 
 /// A stage whose files are all written and synced.
-#[derive(Drop)]
 pub struct Sealed<S: Stage> {
     stage: S,
 }
@@ -44,7 +42,6 @@ impl<S: Stage> Model for Sealed<S> {
 }
 
 /// A stage that could not be sealed, and why. What is left of it is there to be given up.
-#[derive(Drop)]
 pub struct Unsealed<S: Stage> {
     pub cause: DiskError,
     pub rest: Open<S>,
@@ -108,7 +105,8 @@ fn is_among(names: &[FileId], file: FileId) -> bool
 
 /// Writes a file that was not written yet, with these bytes. Where there are none it is an empty file.
 ///
-/// `Fault` only where the stage's count rose in this call, `NoMemory` where a growth was refused. After an error the stage can only be given up.
+/// `Fault` only where the stage's count rose in this call, `NoMemory` where a growth was refused; without a fault the count stays.
+/// After an error the stage can only be given up.
 pub fn write_file<S: Stage>(
     stage: &mut Open<S>,
     file: FileId,
@@ -146,7 +144,7 @@ fn sync_files<S: Stage>(stage: &mut S, names: &[FileId]) -> Result<(), DiskError
 pub fn seal<S: Stage>(stage: Open<S>) -> Result<Sealed<S>, Unsealed<S>>
     requires { IsIntact stage }
     ensures files { IfOk result (λ s. s.files ≡ option_map settled stage.files) }
-    ensures later { IfOk result (λ s. stage.failed ≤ s.failed) }
+    ensures failed { IfOk result (λ s. s.failed ≡ stage.failed) }
     ensures names { IfErr result (λ u. u.rest.names ≡ stage.names) }
     ensures kept { IfErr result (λ u. option_map contents u.rest.files ≡ option_map contents stage.files) }
     ensures cause { IfErr result (λ u. IsCauseOf stage.failed u.rest.failed u.cause) }

@@ -70,6 +70,8 @@ pub fn read_parts<R: Arm>(
     ensures tells { R.tells arm.new ≡ R.tells arm.old }
     ensures later { R.failed arm.old ≤ R.failed arm.new }
     ensures fault { IfErr result (λ e. e.1 ≡ PartFault.Fault → Rose (R.failed arm.old) (R.failed arm.new)) }
+    ensures calm { OnOk result (R.failed arm.new ≡ R.failed arm.old) }
+    ensures calm_err { IfErr result (λ e. (e.1 ≡ PartFault.Fault → ⊥) → R.failed arm.new ≡ R.failed arm.old) }
 {
     for kept in parts {
         match read_columns(alloc, arm, &kept.part, places, columns) {

@@ -16,7 +16,7 @@ use Rattle.root_store.specs.Soundness.{RootStands}
 use Rattle.root_store.specs.Stores.{CoreStands}
 use Rattle.reply_lines.specs.Foreseen.{history}
 use Rattle.statement_work.specs.Staged.{entry_files}
-use Rattle.command_turn.proofs.Accepting.{answered_nothing, answers_kept, answers_line, nothing_accepted}
+use Rattle.command_turn.proofs.Accepting.{answered_nothing, answers_kept, answers_line, in_any_case, nothing_accepted}
 use Rattle.command_turn.proofs.Creating.{create_gives, created, created_accepts, entry_holds, turn_free}
 use Rattle.reply_lines.proofs.Refusing.{command_failed, command_refused}
 use Rattle.command_turn.proofs.Gaining.{begun_refused, gains_noted, gains_refused, keeps_refused, leaves_told, stays_refused, still_created, still_refused}
@@ -29,6 +29,9 @@ use Rattle.reply_lines.proofs.Causing.{says_answer, says_failed, says_script}
 use Rattle.reply_lines.proofs.Counting.{line_of_stage}
 use Rattle.reply_lines.proofs.Undamaged.{line_of, stage_line}
 use Rattle.command_turn.proofs.Stopping.{commit_line}
+use Rattle.std.proofs.lemmas.Option.{IfSome_then}
+use Rattle.mt_outside.proofs.Unfailed.{unfailed}
+use Rattle.stage_dir.specs.Stages.{Filled}
 use Rattle.command_turn.proofs.creates.create.Goals as goal
 
 -- what it says is refused
@@ -51,7 +54,7 @@ returns-in-Err-seal_entry-clause-answers g c = λ kept is tells stands.
     let says = sym c.in_ok-resolved.ensures ∙ c.in-Ok.is in
     let error = c.in-Err-seal_entry.error in
     answers_kept g.D.Arm.Dir.Dir.files kept (Ok (statement.Create text)) opened disk arm c.stage_line.result c.args.store.now (g.A.Annals.told c.args.annals.now)
-    (g.D.Disk.told c.args.disk.now) (IsLineOfStage error) is stands c.stage_line.ensures
+    (g.D.Disk.told c.args.disk.now) (IsLineOfStage error) is stands c.stage_line.ensures.line
     (λ reply line n f. command_failed n kept reply (statement.Create text) (created text c.in-Ok.schema says) [] (create_gives text c.in-Ok.schema says (history kept))
     (line_of_stage opened disk arm (g.D.Arm.Arm.failed c.args.arm.now) error reply n line (λ e. c.in-Err-seal_entry.ensures.cause.failed (ap Err e)) f))
 
@@ -100,8 +103,8 @@ returns-in-Err-commit_create-clause-answers g c = λ kept is tells stands.
     let name = c.in_ok-table.ensures in
     let h = history kept in
     let ended = c.in-Err-commit_create.ensures in
-    let back = c.in-Err-commit_create.returned.back in
-    let cause = c.in-Err-commit_create.returned.cause in
+    let back = c.in-Err-commit_create.field-0.back in
+    let cause = c.in-Err-commit_create.field-0.cause in
     let result = c.refused_line.result in
     let was = g.D.Disk.told c.args.disk.now in
     let now = g.D.Disk.told c.commit_create.new.disk in
@@ -173,13 +176,13 @@ returns-in-Err-commit_create-clause-gains g c =
     let text = c.args.text.now in
     let name = c.in_ok-table.ensures in
     let ended = c.in-Err-commit_create.ensures in
-    let cause = c.in-Err-commit_create.returned.cause in
+    let cause = c.in-Err-commit_create.field-0.cause in
     let before = g.D.Disk.failed c.args.disk.now in
     let old = g.A.Annals.told c.args.annals.now in
     let new = g.A.Annals.told c.commit_create.new.annals in
     let says = sym c.in_ok-resolved.ensures ∙ c.in-Ok.is in
     let by = λ (t : List ℕ). command.Create (record { table = t; schema = c.in-Ok.schema }) in
-    gains_refused store before (statement.Create text) (by text.table) (ap (create_commands text.table) says) old new c.in-Err-commit_create.returned.back ended.list_back
+    gains_refused store before (statement.Create text) (by text.table) (ap (create_commands text.table) says) old new c.in-Err-commit_create.field-0.back ended.list_back
     (λ none. subst (λ (t : List ℕ). new ≡ option_map (began (entry_of 0 (by t))) old) name (ended.begun none))
     (λ none. still_refused store text.table before c.requires.opened cause (subst (λ (t : List ℕ). IsCause (refuses_create store t before) (Some cause)) name ended.cause) (ended.given none))
 
@@ -195,7 +198,7 @@ pub returns-in-Err-seal_entry-clause-causes : goal.returns-in-Err-seal_entry-cla
 returns-in-Err-seal_entry-clause-causes g c =
     let disk = g.D.Disk.failed c.args.disk.now in
     IfOk-weaker c.stage_line.result _ _ (λ line is. says_failed c.args.store.now.opened disk disk (g.D.Arm.Arm.failed c.args.arm.now) (g.D.Arm.Arm.failed c.seal_entry.new.arm) line.items c.in-Err-seal_entry.error is
-    (λ e. c.in-Err-seal_entry.ensures.cause.failed (ap Err e))) c.stage_line.ensures
+    (λ e. c.in-Err-seal_entry.ensures.cause.failed (ap Err e))) c.stage_line.ensures.line
 
 pub returns-in-Ok-commit_create-clause-causes : goal.returns-in-Ok-commit_create-clause-causes
 returns-in-Ok-commit_create-clause-causes g c =
@@ -207,7 +210,7 @@ returns-in-Err-commit_create-clause-causes g c =
     let store = c.args.store.now in
     let table = c.args.text.now.table in
     let ended = c.in-Err-commit_create.ensures in
-    let cause = c.in-Err-commit_create.returned.cause in
+    let cause = c.in-Err-commit_create.field-0.cause in
     let before = g.D.Disk.failed c.args.disk.now in
     let shown = subst (λ (t : List ℕ). IsCause (refuses_create store t before) (Some cause)) c.in_ok-table.ensures ended.cause in
     IfOk-weaker c.refused_line.result _ _ (λ line is. refused_says store.opened before (g.D.Disk.failed c.commit_create.new.disk) (g.D.Arm.Arm.failed c.args.arm.now) (g.D.Arm.Arm.failed c.give_back.new.arm) table cause line.items is
@@ -231,10 +234,10 @@ pub returns-in-Err-commit_create-clause-stopped : goal.returns-in-Err-commit_cre
 returns-in-Err-commit_create-clause-stopped g c = λ risen.
     let store = c.args.store.now in
     let ended = c.in-Err-commit_create.ensures in
-    let cause = c.in-Err-commit_create.returned.cause in
+    let cause = c.in-Err-commit_create.field-0.cause in
     let before = g.D.Disk.failed c.args.disk.now in
     let shown = subst (λ (t : List ℕ). IsCause (refuses_create store t before) (Some cause)) c.in_ok-table.ensures ended.cause in
-    stays_refused store c.commit_create.new.store before c.in-Err-commit_create.returned.back c.args.disk.now c.commit_create.new.disk (g.A.Annals.told c.args.annals.now) (g.A.Annals.told c.commit_create.new.annals)
+    stays_refused store c.commit_create.new.store before c.in-Err-commit_create.field-0.back c.args.disk.now c.commit_create.new.disk (g.A.Annals.told c.args.annals.now) (g.A.Annals.told c.commit_create.new.annals)
     (λ none. still_refused store c.args.text.now.table before c.requires.opened cause shown (ended.given none)) risen ended.same ended.unpublished ended.list_back
 
 -- the reply does not tell of damage
@@ -242,10 +245,40 @@ pub returns-in-Err-clause-undamaged : goal.returns-in-Err-clause-undamaged
 returns-in-Err-clause-undamaged g c = IfOk-weaker c.refusal_line.result _ _ (λ line is. line_of line.items c.in-Err.refusal is (undamaged_line c.in-Err.refusal (text_is_cause c.args.text.now c.in-Err.refusal (sym c.in_ok-resolved.ensures ∙ c.in-Err.is)))) c.refusal_line.ensures
 
 pub returns-in-Err-seal_entry-clause-undamaged : goal.returns-in-Err-seal_entry-clause-undamaged
-returns-in-Err-seal_entry-clause-undamaged g c = IfOk-weaker c.stage_line.result _ _ (λ line is. stage_line c.in-Err-seal_entry.error line.items is) c.stage_line.ensures
+returns-in-Err-seal_entry-clause-undamaged g c = IfOk-weaker c.stage_line.result _ _ (λ line is. stage_line c.in-Err-seal_entry.error line.items is) c.stage_line.ensures.line
 
 pub returns-in-Ok-commit_create-clause-undamaged : goal.returns-in-Ok-commit_create-clause-undamaged
 returns-in-Ok-commit_create-clause-undamaged g c = ap is_damage c.in_ok-replies.ensures.accepted
 
 pub returns-in-Err-commit_create-clause-undamaged : goal.returns-in-Err-commit_create-clause-undamaged
-returns-in-Err-commit_create-clause-undamaged g c = IfOk-weaker c.refused_line.result _ _ (λ line is. commit_line c.args.text.now.table c.in-Err-commit_create.returned.cause line.items is) c.refused_line.ensures.line
+returns-in-Err-commit_create-clause-undamaged g c = IfOk-weaker c.refused_line.result _ _ (λ line is. commit_line c.args.text.now.table c.in-Err-commit_create.field-0.cause line.items is) c.refused_line.ensures.line
+
+-- without a fault no count rose
+pub returns-in-Err-clause-memory : goal.returns-in-Err-clause-memory
+returns-in-Err-clause-memory g c = in_any_case c.refusal_line.result refl
+
+pub returns-in-Err-clause-arm_memory : goal.returns-in-Err-clause-arm_memory
+returns-in-Err-clause-arm_memory g c = in_any_case c.refusal_line.result refl
+
+pub returns-in-Err-seal_entry-clause-memory : goal.returns-in-Err-seal_entry-clause-memory
+returns-in-Err-seal_entry-clause-memory g c = in_any_case c.stage_line.result refl
+
+pub returns-in-Err-seal_entry-clause-arm_memory : goal.returns-in-Err-seal_entry-clause-arm_memory
+returns-in-Err-seal_entry-clause-arm_memory g c =
+    IfErr-weaker c.stage_line.result _ _ (λ e calm. unfailed _ _ c.in-Err-seal_entry.error (λ is. c.in-Err-seal_entry.ensures.cause.memory (ap Err is)) calm) c.stage_line.ensures.fault
+
+pub returns-in-Ok-commit_create-clause-memory : goal.returns-in-Ok-commit_create-clause-memory
+returns-in-Ok-commit_create-clause-memory g c = tt
+
+pub returns-in-Ok-commit_create-clause-arm_memory : goal.returns-in-Ok-commit_create-clause-arm_memory
+returns-in-Ok-commit_create-clause-arm_memory g c = tt
+
+pub returns-in-Err-commit_create-clause-memory : goal.returns-in-Err-commit_create-clause-memory
+returns-in-Err-commit_create-clause-memory g c =
+    IfErr-weaker c.refused_line.result _ _ (λ e other. c.in-Err-commit_create.ensures.calm c.in-Ok-seal_entry.ensures.none_failed other) c.refused_line.ensures.disk
+
+pub returns-in-Err-commit_create-clause-arm_memory : goal.returns-in-Err-commit_create-clause-arm_memory
+returns-in-Err-commit_create-clause-arm_memory g c =
+    in_any_case c.refused_line.result
+    (c.give_back.ensures.none_failed (IfSome_then c.in-Err-commit_create.field-0.back c.in-Err-commit_create.ensures.back (λ s same. ap (λ (x : Filled). x.failed) same ∙ c.in-Ok-seal_entry.ensures.none_failed))
+    ∙ c.in-Ok-seal_entry.ensures.cause.ok)

@@ -22,7 +22,7 @@ use Rattle.root_store.specs.declared.store.Table.{Table}
 use Rattle.root_commits.specs.Commits.{insert_into, kept_in, partition_of_block}
 use Rattle.root_store.specs.Stores.{table_at}
 use Rattle.reply_lines.specs.Foreseen.{history}
-use Rattle.command_turn.proofs.Accepting.{accepted_none, answered_nothing, answers_kept, answers_line, nothing_accepted}
+use Rattle.command_turn.proofs.Accepting.{accepted_none, answered_nothing, answers_kept, answers_line, in_any_case, nothing_accepted}
 use Rattle.reply_lines.proofs.Ends.{length_history}
 use Rattle.command_turn.proofs.Inserting.{data_is_cause, inserted, inserted_accepts, no_rows, no_such_table, not_empty, rows_give, rows_refused, turn_free}
 use Rattle.reply_lines.proofs.Refusing.{command_failed, command_refused}
@@ -38,6 +38,9 @@ use Rattle.reply_lines.proofs.Causing.{says_answer, says_failed, says_script}
 use Rattle.reply_lines.proofs.Counting.{line_of_stage}
 use Rattle.reply_lines.proofs.Undamaged.{data_line, stage_line}
 use Rattle.command_turn.proofs.Stopping.{commit_line}
+use Rattle.std.proofs.lemmas.Option.{IfSome_then}
+use Rattle.mt_outside.proofs.Unfailed.{unfailed}
+use Rattle.part_writer.specs.declared.writing.SealedPart.{SealedPart}
 use Rattle.command_turn.proofs.inserts.insert.Goals as goal
 
 -- a block of rows of a table is an INSERT into the partition of its rows
@@ -108,7 +111,7 @@ returns-in-Err-clause-answers g c = λ kept is tells stands.
     let some = has_rows block.rows c.is_empty.result c.if-is_empty.false c.is_empty.ensures.1 in
     let gives = ap (commands_for text) there ∙ rows_give text found.schema block c.in-Ok.ensures.rows some c.in-Ok.ensures.types in
     let error = c.in-Err.error in
-    answers_kept files kept (Ok (statement.Insert text)) opened disk arm c.stage_line.result c.args.store.now (g.A.Annals.told c.args.annals.now) (g.D.Disk.told c.args.disk.now) (IsLineOfStage error) is stands c.stage_line.ensures
+    answers_kept files kept (Ok (statement.Insert text)) opened disk arm c.stage_line.result c.args.store.now (g.A.Annals.told c.args.annals.now) (g.D.Disk.told c.args.disk.now) (IsLineOfStage error) is stands c.stage_line.ensures.line
     (λ reply line n f. command_failed n kept reply (statement.Insert text) (inserted found.schema text.table block) [] gives
     (line_of_stage opened disk arm (g.D.Arm.Arm.failed c.args.arm.now) error reply n line (λ e. c.in-Err.ensures.cause.failed (ap Err e)) f))
 
@@ -165,18 +168,18 @@ returns-in-Err-commit_part-clause-answers g c = λ kept is tells stands.
     let some = has_rows block.rows c.is_empty.result c.if-is_empty.false c.is_empty.ensures.1 in
     let gives = ap (commands_for text) there ∙ rows_give text found.schema block c.in-Ok.ensures.rows some c.in-Ok.ensures.types in
     let ended = c.in-Err-commit_part.ensures in
-    let cause = c.in-Err-commit_part.returned.cause in
+    let cause = c.in-Err-commit_part.field-0.cause in
     let result = c.refused_line.result in
     let was = g.D.Disk.told c.args.disk.now in
     let now = g.D.Disk.told c.commit_part.new.disk in
     let before = g.D.Disk.failed c.args.disk.now in
     let disk = g.D.Disk.failed c.commit_part.new.disk in
-    let arm = g.D.Arm.Arm.failed c.give_back.new.arm in
+    let arm = g.D.Arm.Arm.failed c.give_back_part.new.arm in
     let old = g.A.Annals.told c.args.annals.now in
     let told = g.A.Annals.told c.commit_part.new.annals in
     let said = statement.Insert text in
     let next = inserted found.schema text.table block in
-    let left = leaves_told next kept (IsOutside (Some cause)) c.in-Err-commit_part.returned.back old told is ended.list_back (ended.begun found at) ended.given in
+    let left = leaves_told next kept (IsOutside (Some cause)) c.in-Err-commit_part.field-0.back old told is ended.list_back (ended.begun found at) ended.given in
     answers_line files kept (Ok said) store.opened disk arm result c.commit_part.new.store told was now (IsLineOf 0 text.table cause) c.refused_line.ensures.line
     (IfErr-weaker result _ _ (λ e no. keeps_refused said next kept gives (IsOutside (Some cause)) told left was now (ended.unchanged no)) c.refused_line.ensures.disk)
     (λ reply line. answered_nothing files kept left.now (Ok said) store.opened disk arm reply c.commit_part.new.store told was now left.told_is left.list_is
@@ -237,10 +240,10 @@ returns-in-Err-commit_part-clause-gains g c =
     let at = sym c.in-Some.ensures.value in
     let some = has_rows block.rows c.is_empty.result c.if-is_empty.false c.is_empty.ensures.1 in
     let ended = c.in-Err-commit_part.ensures in
-    let cause = c.in-Err-commit_part.returned.cause in
+    let cause = c.in-Err-commit_part.field-0.cause in
     let before = g.D.Disk.failed c.args.disk.now in
     gains_refused store before (statement.Insert text) (inserted found.schema text.table block) (by_rows store text found block at some c.in-Ok.ensures.rows c.in-Ok.ensures.types)
-    (g.A.Annals.told c.args.annals.now) (g.A.Annals.told c.commit_part.new.annals) c.in-Err-commit_part.returned.back ended.list_back (ended.begun found at)
+    (g.A.Annals.told c.args.annals.now) (g.A.Annals.told c.commit_part.new.annals) c.in-Err-commit_part.field-0.back ended.list_back (ended.begun found at)
     (λ none. still_part_refused store text.table before c.requires.opened (partition_of_block found.schema block) found.drawn cause (ended.cause found at) (ended.given none))
 
 -- what the outside did where the reply says so
@@ -271,7 +274,7 @@ pub returns-in-Err-clause-causes : goal.returns-in-Err-clause-causes
 returns-in-Err-clause-causes g c =
     let disk = g.D.Disk.failed c.args.disk.now in
     IfOk-weaker c.stage_line.result _ _ (λ line is. says_failed c.args.store.now.opened disk disk (g.D.Arm.Arm.failed c.args.arm.now) (g.D.Arm.Arm.failed c.seal_block.new.arm) line.items c.in-Err.error is
-    (λ e. c.in-Err.ensures.cause.failed (ap Err e))) c.stage_line.ensures
+    (λ e. c.in-Err.ensures.cause.failed (ap Err e))) c.stage_line.ensures.line
 
 pub returns-in-Ok-commit_part-clause-causes : goal.returns-in-Ok-commit_part-clause-causes
 returns-in-Ok-commit_part-clause-causes g c =
@@ -284,9 +287,9 @@ returns-in-Err-commit_part-clause-causes g c =
     let table = c.args.text.now.table in
     let found = c.in-Some.found.now in
     let ended = c.in-Err-commit_part.ensures in
-    let cause = c.in-Err-commit_part.returned.cause in
+    let cause = c.in-Err-commit_part.field-0.cause in
     let before = g.D.Disk.failed c.args.disk.now in
-    IfOk-weaker c.refused_line.result _ _ (λ line is. refused_says store.opened before (g.D.Disk.failed c.commit_part.new.disk) (g.D.Arm.Arm.failed c.args.arm.now) (g.D.Arm.Arm.failed c.give_back.new.arm) table cause line.items is
+    IfOk-weaker c.refused_line.result _ _ (λ line is. refused_says store.opened before (g.D.Disk.failed c.commit_part.new.disk) (g.D.Arm.Arm.failed c.args.arm.now) (g.D.Arm.Arm.failed c.give_back_part.new.arm) table cause line.items is
     (part_risen store table before cause (partition_of_block found.schema c.in-Ok.block) found.drawn (ended.cause found (sym c.in-Some.ensures.value))) ended.rose) c.refused_line.ensures.line
 
 -- where the store was stopped before
@@ -315,9 +318,9 @@ returns-in-Err-commit_part-clause-stopped g c = λ risen.
     let store = c.args.store.now in
     let found = c.in-Some.found.now in
     let ended = c.in-Err-commit_part.ensures in
-    let cause = c.in-Err-commit_part.returned.cause in
+    let cause = c.in-Err-commit_part.field-0.cause in
     let before = g.D.Disk.failed c.args.disk.now in
-    stays_refused store c.commit_part.new.store before c.in-Err-commit_part.returned.back c.args.disk.now c.commit_part.new.disk (g.A.Annals.told c.args.annals.now) (g.A.Annals.told c.commit_part.new.annals)
+    stays_refused store c.commit_part.new.store before c.in-Err-commit_part.field-0.back c.args.disk.now c.commit_part.new.disk (g.A.Annals.told c.args.annals.now) (g.A.Annals.told c.commit_part.new.annals)
     (λ none. still_part_refused store c.args.text.now.table before c.requires.opened (partition_of_block found.schema c.in-Ok.block) found.drawn cause (ended.cause found (sym c.in-Some.ensures.value)) (ended.given none))
     risen ended.same ended.unpublished ended.list_back
 
@@ -332,13 +335,13 @@ pub returns-then-is_empty-clause-undamaged : goal.returns-then-is_empty-clause-u
 returns-then-is_empty-clause-undamaged g c = IfOk-weaker c.ok_line.result _ _ (λ line is. ap is_damage is) c.ok_line.ensures
 
 pub returns-in-Err-clause-undamaged : goal.returns-in-Err-clause-undamaged
-returns-in-Err-clause-undamaged g c = IfOk-weaker c.stage_line.result _ _ (λ line is. stage_line c.in-Err.error _ is) c.stage_line.ensures
+returns-in-Err-clause-undamaged g c = IfOk-weaker c.stage_line.result _ _ (λ line is. stage_line c.in-Err.error _ is) c.stage_line.ensures.line
 
 pub returns-in-Ok-commit_part-clause-undamaged : goal.returns-in-Ok-commit_part-clause-undamaged
 returns-in-Ok-commit_part-clause-undamaged g c = ap is_damage c.in_ok-replies.ensures.accepted
 
 pub returns-in-Err-commit_part-clause-undamaged : goal.returns-in-Err-commit_part-clause-undamaged
-returns-in-Err-commit_part-clause-undamaged g c = IfOk-weaker c.refused_line.result _ _ (λ line is. commit_line c.args.text.now.table c.in-Err-commit_part.returned.cause _ is) c.refused_line.ensures.line
+returns-in-Err-commit_part-clause-undamaged g c = IfOk-weaker c.refused_line.result _ _ (λ line is. commit_line c.args.text.now.table c.in-Err-commit_part.field-0.cause _ is) c.refused_line.ensures.line
 
 -- the parts of the store hold rows
 pub returns-in-Ok-commit_part-clause-held : goal.returns-in-Ok-commit_part-clause-held
@@ -346,3 +349,45 @@ returns-in-Ok-commit_part-clause-held g c = λ tells held. c.commit_part.ensures
 
 pub returns-in-Err-commit_part-clause-held : goal.returns-in-Err-commit_part-clause-held
 returns-in-Err-commit_part-clause-held g c = λ tells held. c.commit_part.ensures.held c.in-Some.found.now (sym c.in-Some.ensures.value) (c.in-Ok-seal_block.ensures.sealed tells) held
+
+-- without a fault no count rose
+pub returns-in_default-clause-memory : goal.returns-in_default-clause-memory
+returns-in_default-clause-memory g c = in_any_case c.no_table_line.result refl
+
+pub returns-in_default-clause-arm_memory : goal.returns-in_default-clause-arm_memory
+returns-in_default-clause-arm_memory g c = in_any_case c.no_table_line.result refl
+
+pub returns-in-Err-Refused-clause-memory : goal.returns-in-Err-Refused-clause-memory
+returns-in-Err-Refused-clause-memory g c = in_any_case c.data_line.result refl
+
+pub returns-in-Err-Refused-clause-arm_memory : goal.returns-in-Err-Refused-clause-arm_memory
+returns-in-Err-Refused-clause-arm_memory g c = in_any_case c.data_line.result refl
+
+pub returns-then-is_empty-clause-memory : goal.returns-then-is_empty-clause-memory
+returns-then-is_empty-clause-memory g c = in_any_case c.ok_line.result refl
+
+pub returns-then-is_empty-clause-arm_memory : goal.returns-then-is_empty-clause-arm_memory
+returns-then-is_empty-clause-arm_memory g c = in_any_case c.ok_line.result refl
+
+pub returns-in-Err-clause-memory : goal.returns-in-Err-clause-memory
+returns-in-Err-clause-memory g c = in_any_case c.stage_line.result refl
+
+pub returns-in-Err-clause-arm_memory : goal.returns-in-Err-clause-arm_memory
+returns-in-Err-clause-arm_memory g c =
+    IfErr-weaker c.stage_line.result _ _ (λ e calm. unfailed _ _ c.in-Err.error (λ is. c.in-Err.ensures.cause.memory (ap Err is)) calm) c.stage_line.ensures.fault
+
+pub returns-in-Ok-commit_part-clause-memory : goal.returns-in-Ok-commit_part-clause-memory
+returns-in-Ok-commit_part-clause-memory g c = tt
+
+pub returns-in-Ok-commit_part-clause-arm_memory : goal.returns-in-Ok-commit_part-clause-arm_memory
+returns-in-Ok-commit_part-clause-arm_memory g c = tt
+
+pub returns-in-Err-commit_part-clause-memory : goal.returns-in-Err-commit_part-clause-memory
+returns-in-Err-commit_part-clause-memory g c =
+    IfErr-weaker c.refused_line.result _ _ (λ e other. c.in-Err-commit_part.ensures.calm c.in-Ok-seal_block.ensures.none_failed other) c.refused_line.ensures.disk
+
+pub returns-in-Err-commit_part-clause-arm_memory : goal.returns-in-Err-commit_part-clause-arm_memory
+returns-in-Err-commit_part-clause-arm_memory g c =
+    in_any_case c.refused_line.result
+    (c.give_back_part.ensures.none_failed (IfSome_then c.in-Err-commit_part.field-0.back c.in-Err-commit_part.ensures.back (λ p same. ap (λ (x : SealedPart _). x.sealed.failed) same ∙ c.in-Ok-seal_block.ensures.none_failed))
+    ∙ c.in-Ok-seal_block.ensures.cause.ok)

@@ -37,7 +37,7 @@ loop-place-preserved g c = record {
   checked = checked_more (g.R.Dir.Dir.files c.args.part.now.dir) c.args.schema.now c.args.part.now.loaded.manifest (content_ids c.args.schema.now) c.loop-place.place c.in-Some.file (sym c.in-Some.ensures)
       c.loop-place.invariant.checked c.in_ok-check_file.ensures.checked;
   tells = c.in_ok-check_file.ensures.tells ∙ c.loop-place.invariant.tells;
-  later = omega (arith, c.loop-place.invariant.later, c.in_ok-check_file.ensures.later);
+  count = c.in_ok-check_file.ensures.calm (λ fault. cc) ∙ c.loop-place.invariant.count;
 }
 
 -- the fault is that of the file that was read last

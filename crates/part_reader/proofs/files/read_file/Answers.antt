@@ -7,7 +7,7 @@ loop-read-preserved g c = record {
   read = λ files known.
       piece_more (g.R.Dir.Dir.files c.args.dir.now) files c.args.file _ _ _ _ _ _ _ known c.in_ok-count.ensures.bytes c.in_ok-count.ensures.bound c.len.ensures c.in_ok-extend_from_slice.ensures.len (c.loop-read.invariant.read files known) c.in_ok-extend_from_slice.ensures.items;
   tells = c.in_ok-count.ensures.tells ∙ c.loop-read.invariant.tells;
-  later = omega (arith, c.in_ok-count.ensures.cause.later);
+  count = c.in_ok-count.ensures.cause.ok ∙ c.loop-read.invariant.count;
 }
 
 pub returns-then-count-eq0-clause-bytes : goal.returns-then-count-eq0-clause-bytes

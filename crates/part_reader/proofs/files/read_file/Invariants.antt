@@ -1,5 +1,5 @@
 -- what was read so far is a front of the file
-use Rattle.std.proofs.Common.{◌≡◌, ◌≤◌, Some, take, vec_len}
+use Rattle.std.proofs.Common.{◌≡◌, Some, take, vec_len}
 use Rattle.mt_outside.specs.Files.{Files, bytes_of}
 use Rattle.part_reader.proofs.files.read_file.Given as goal
 
@@ -7,5 +7,5 @@ abbrev pub invariant-loop-read : goal.invariant-loop-read
 invariant-loop-read g l = record {
   read : (files : Files) → g.R.Dir.Dir.files l.dir ≡ Some files → take (vec_len l.bytes) (bytes_of l.file files) ≡ l.bytes.items;
   tells : g.R.Arm.tells l.arm ≡ g.R.Arm.tells l.initial.arm;
-  later : g.R.Arm.failed l.initial.arm ≤ g.R.Arm.failed l.arm;
+  count : g.R.Arm.failed l.arm ≡ g.R.Arm.failed l.initial.arm;
 }

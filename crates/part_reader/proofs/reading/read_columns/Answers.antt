@@ -20,7 +20,7 @@ loop-number-preserved g c =
           c.loop-number.invariant.read c.in_ok-read_column.ensures.read;
       rest = rest_more olds c.loop-number.columns _ i c.read_column.new.column c.loop-number.invariant.rest refl;
       tells = c.in_ok-read_column.ensures.tells ∙ c.loop-number.invariant.tells;
-      later = omega (arith, c.in_ok-read_column.ensures.later);
+      count = c.in_ok-read_column.ensures.calm (λ fault. cc) ∙ c.loop-number.invariant.count;
     }
 
 -- the fault is that of the column that was read last

@@ -9,5 +9,5 @@ invariant-loop-number g l = record {
   read : AreRead (g.R.Dir.Dir.files l.part.dir) l.part.loaded.manifest (take l.number l.places) (take l.number l.initial.columns) (take l.number l.columns);
   rest : (k : ℕ) (d : Cells) → l.number ≤ k → get_or l.columns k d ≡ get_or l.initial.columns k d;
   tells : g.R.Arm.tells l.arm ≡ g.R.Arm.tells l.initial.arm;
-  later : g.R.Arm.failed l.initial.arm ≤ g.R.Arm.failed l.arm;
+  count : g.R.Arm.failed l.arm ≡ g.R.Arm.failed l.initial.arm;
 }

@@ -1,4 +1,4 @@
-use Rattle.std.proofs.Common.{◌≡◌, ℕ, ◌+◌, ◌≤◌, ◌++◌, ◌∷◌, [], List, length, All, sym, ap, ap₂, ◌∙◌, subst, arith, map, take}
+use Rattle.std.proofs.Common.{◌≡◌, ℕ, ◌+◌, ◌≤◌, ◌++◌, ◌∷◌, [], List, length, All, refl, sym, ap, ap₂, ◌∙◌, subst, arith, map, take}
 use Rattle.std.specs.Option.{option_map}
 use Rattle.std.proofs.lemmas.List.{length-map, length-take-le, take_all}
 use Rattle.std.proofs.lemmas.List.Elements.{All-push}
@@ -35,7 +35,7 @@ loop-place-init g c = record {
   intact = c.requires.intact;
   marks = c.in_ok-files.ensures;
   encodable = λ k d below. absurd (omega arith);
-  later = omega arith;
+  count = refl;
 }
 
 pub write_content-requires-clause-content : goal.write_content-requires-clause-content
@@ -60,7 +60,7 @@ loop-place-preserved g c =
       intact = now.intact;
       marks = c.in_ok-push.ensures.ok ∙ ap₂ (λ (ms : List FileMark) (m : FileMark). ms ++ m ∷ []) before.marks now.mark ∙ sym (marks_more schema rows (take n (content_ids schema)) f) ∙ ap (λ (fs : List FileId). marks_of (map (with_bytes schema rows) fs)) (sym more);
       encodable = subst (All (IsEncodable rows)) (sym more) (All-push (IsEncodable rows) (take n (content_ids schema)) f before.encodable now.encodable);
-      later = omega (arith, now.cause.later);
+      count = now.cause.ok ∙ before.count;
     }
 
 -- after the last file all are written

@@ -1,5 +1,5 @@
 -- the files gone over are written, and the manifest has their marks
-use Rattle.std.proofs.Common.{◌≡◌, ◌≤◌, All, map, take}
+use Rattle.std.proofs.Common.{◌≡◌, All, map, take}
 use Rattle.std.specs.Option.{option_map}
 use Rattle.mt_values.specs.Grid.{picked}
 use Rattle.stage_dir.specs.Stages.{IsIntact, settled}
@@ -17,5 +17,5 @@ invariant-loop-place g l =
       intact : IsIntact l.stage;
       marks : l.files ≡ marks_of (map (with_bytes l.schema rows) files);
       encodable : All (IsEncodable rows) files;
-      later : l.initial.stage.failed ≤ l.stage.failed;
+      count : l.stage.failed ≡ l.initial.stage.failed;
     }

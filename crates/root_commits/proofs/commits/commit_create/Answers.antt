@@ -270,6 +270,9 @@ returns-in-Some-clause-annals g c = tt
 pub returns-in-Some-clause-unchanged : goal.returns-in-Some-clause-unchanged
 returns-in-Some-clause-unchanged g c = λ other. refl
 
+pub returns-in-Some-clause-calm : goal.returns-in-Some-clause-calm
+returns-in-Some-clause-calm g c = λ none other. refl
+
 pub returns-in-Some-clause-opened : goal.returns-in-Some-clause-opened
 returns-in-Some-clause-opened g c = refl
 
@@ -330,6 +333,9 @@ returns-in-Err-clause-annals g c = tt
 pub returns-in-Err-clause-unchanged : goal.returns-in-Err-clause-unchanged
 returns-in-Err-clause-unchanged g c = λ other. refl
 
+pub returns-in-Err-clause-calm : goal.returns-in-Err-clause-calm
+returns-in-Err-clause-calm g c = λ none other. refl
+
 pub returns-in-Err-clause-opened : goal.returns-in-Err-clause-opened
 returns-in-Err-clause-opened g c = refl
 
@@ -381,6 +387,9 @@ returns-clause-given g c = λ none. outside_disk c.in-Err-commit.error c.take_ou
 
 pub returns-clause-unchanged : goal.returns-clause-unchanged
 returns-clause-unchanged g c = λ other. c.in-Err-commit.ensures.memory (ap Err (disk_memory c.in-Err-commit.error c.take_out-cause.result c.take_out-cause.ensures.cause other))
+
+pub returns-clause-calm : goal.returns-clause-calm
+returns-clause-calm g c = λ none other. c.in-Err-commit.ensures.cause.memory none (ap Err (disk_memory c.in-Err-commit.error c.take_out-cause.result c.take_out-cause.ensures.cause other))
 
 pub returns-clause-root : goal.returns-clause-root
 returns-clause-root g c = tt
@@ -441,6 +450,9 @@ returns-in-Ok-commit-clause-mark g c = c.in-Ok-commit.ensures.settled
 
 pub returns-in-Ok-commit-clause-unchanged : goal.returns-in-Ok-commit-clause-unchanged
 returns-in-Ok-commit-clause-unchanged g c = tt
+
+pub returns-in-Ok-commit-clause-calm : goal.returns-in-Ok-commit-clause-calm
+returns-in-Ok-commit-clause-calm g c = λ none. tt
 
 pub returns-in-Ok-commit-clause-published : goal.returns-in-Ok-commit-clause-published
 returns-in-Ok-commit-clause-published g c = tt

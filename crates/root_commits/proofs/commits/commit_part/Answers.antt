@@ -365,6 +365,9 @@ returns-in-Some-clause-annals g c = λ t at. tt
 pub returns-in-Some-clause-unchanged : goal.returns-in-Some-clause-unchanged
 returns-in-Some-clause-unchanged g c = λ other. refl
 
+pub returns-in-Some-clause-calm : goal.returns-in-Some-clause-calm
+returns-in-Some-clause-calm g c = λ none other. refl
+
 pub returns-in-Some-clause-opened : goal.returns-in-Some-clause-opened
 returns-in-Some-clause-opened g c = refl
 
@@ -425,6 +428,9 @@ returns-in-Err-clause-annals g c = λ t at. tt
 pub returns-in-Err-clause-unchanged : goal.returns-in-Err-clause-unchanged
 returns-in-Err-clause-unchanged g c = λ other. refl
 
+pub returns-in-Err-clause-calm : goal.returns-in-Err-clause-calm
+returns-in-Err-clause-calm g c = λ none other. refl
+
 pub returns-in-Err-clause-opened : goal.returns-in-Err-clause-opened
 returns-in-Err-clause-opened g c = refl
 
@@ -476,6 +482,9 @@ returns-in-Err-commit-clause-given g c = λ none. outside_disk c.in-Err-commit.e
 
 pub returns-in-Err-commit-clause-unchanged : goal.returns-in-Err-commit-clause-unchanged
 returns-in-Err-commit-clause-unchanged g c = λ other. c.in-Err-commit.ensures.memory (ap Err (disk_memory c.in-Err-commit.error c.of_disk-cause.result c.of_disk-cause.ensures other))
+
+pub returns-in-Err-commit-clause-calm : goal.returns-in-Err-commit-clause-calm
+returns-in-Err-commit-clause-calm g c = λ none other. c.in-Err-commit.ensures.cause.memory none (ap Err (disk_memory c.in-Err-commit.error c.of_disk-cause.result c.of_disk-cause.ensures other))
 
 pub returns-in-Err-commit-clause-root : goal.returns-in-Err-commit-clause-root
 returns-in-Err-commit-clause-root g c = λ t at. tt
@@ -536,6 +545,9 @@ returns-clause-mark g c = c.in-Ok-commit.ensures.settled
 
 pub returns-clause-unchanged : goal.returns-clause-unchanged
 returns-clause-unchanged g c = tt
+
+pub returns-clause-calm : goal.returns-clause-calm
+returns-clause-calm g c = λ none. tt
 
 pub returns-clause-published : goal.returns-clause-published
 returns-clause-published g c = λ t at. tt

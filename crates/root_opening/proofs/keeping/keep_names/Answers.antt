@@ -1,4 +1,4 @@
-use Rattle.std.proofs.Common.{◌∙◌, le_trans, refl, arith}
+use Rattle.std.proofs.Common.{◌∙◌, refl, arith}
 use Rattle.mt_outside.specs.Disk.{names_of}
 use Rattle.root_opening.proofs.NextNames.{keeps_none, told_none}
 use Rattle.root_opening.proofs.keeping.keep_names.Goals as goal
@@ -14,8 +14,8 @@ loop-place-init g c =
       told = refl;
       clock = refl;
       tells = refl;
-      later = omega arith;
-      arm_later = omega arith;
+      count = refl;
+      arm_count = refl;
     }
 
 -- one name more is gone over
@@ -27,8 +27,8 @@ loop-place-preserved g c = record {
   told = c.in_ok-keep_name.ensures.told ∙ c.loop-place.invariant.told;
   clock = c.in_ok-keep_name.ensures.clock ∙ c.loop-place.invariant.clock;
   tells = c.in_ok-keep_name.ensures.tells ∙ c.loop-place.invariant.tells;
-  later = le_trans c.loop-place.invariant.later c.in_ok-keep_name.ensures.later;
-  arm_later = le_trans c.loop-place.invariant.arm_later c.in_ok-keep_name.ensures.arm_later;
+  count = c.in_ok-keep_name.ensures.calm (λ fault. cc) ∙ c.loop-place.invariant.count;
+  arm_count = c.in_ok-keep_name.ensures.arm_calm (λ fault. cc) ∙ c.loop-place.invariant.arm_count;
 }
 
 -- what the disk tells stays
@@ -42,10 +42,10 @@ pub returns-in_err-keep_name-clause-tells : goal.returns-in_err-keep_name-clause
 returns-in_err-keep_name-clause-tells g c = c.in_err-keep_name.ensures.tells ∙ c.loop-place.invariant.tells
 
 pub returns-in_err-keep_name-clause-later : goal.returns-in_err-keep_name-clause-later
-returns-in_err-keep_name-clause-later g c = le_trans c.loop-place.invariant.later c.in_err-keep_name.ensures.later
+returns-in_err-keep_name-clause-later g c = let same = c.loop-place.invariant.count in let more = c.in_err-keep_name.ensures.later in omega arith
 
 pub returns-in_err-keep_name-clause-arm_later : goal.returns-in_err-keep_name-clause-arm_later
-returns-in_err-keep_name-clause-arm_later g c = le_trans c.loop-place.invariant.arm_later c.in_err-keep_name.ensures.arm_later
+returns-in_err-keep_name-clause-arm_later g c = let same = c.loop-place.invariant.arm_count in let more = c.in_err-keep_name.ensures.arm_later in omega arith
 
 pub returns-clause-damaged : goal.returns-clause-damaged
 returns-clause-damaged g c = λ told is. tt
@@ -63,7 +63,7 @@ pub returns-clause-tells : goal.returns-clause-tells
 returns-clause-tells g c = c.loop-place.invariant.tells
 
 pub returns-clause-later : goal.returns-clause-later
-returns-clause-later g c = c.loop-place.invariant.later
+returns-clause-later g c = let same = c.loop-place.invariant.count in omega arith
 
 pub returns-clause-arm_later : goal.returns-clause-arm_later
-returns-clause-arm_later g c = c.loop-place.invariant.arm_later
+returns-clause-arm_later g c = let same = c.loop-place.invariant.arm_count in omega arith

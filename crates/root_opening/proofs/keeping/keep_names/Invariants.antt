@@ -1,5 +1,5 @@
 -- the names in front of the place were gone over, and the disk tells the same
-use Rattle.std.proofs.Common.{◌≡◌, ◌≤◌, Some, take}
+use Rattle.std.proofs.Common.{◌≡◌, Some, take}
 use Rattle.mt_outside.specs.Disk.{Told, names_of}
 use Rattle.root_opening.specs.Keeping.{Keeps, KeepsTold}
 use Rattle.root_opening.proofs.keeping.keep_names.Given as goal
@@ -12,6 +12,6 @@ invariant-loop-place g l = record {
   told : g.D.Disk.told l.disk ≡ g.D.Disk.told l.initial.disk;
   clock : g.D.Disk.clock l.disk ≡ g.D.Disk.clock l.initial.disk;
   tells : g.D.Arm.Arm.tells l.arm ≡ g.D.Arm.Arm.tells l.initial.arm;
-  later : g.D.Disk.failed l.initial.disk ≤ g.D.Disk.failed l.disk;
-  arm_later : g.D.Arm.Arm.failed l.initial.arm ≤ g.D.Arm.Arm.failed l.arm;
+  count : g.D.Disk.failed l.disk ≡ g.D.Disk.failed l.initial.disk;
+  arm_count : g.D.Arm.Arm.failed l.arm ≡ g.D.Arm.Arm.failed l.initial.arm;
 }

@@ -38,7 +38,7 @@ returns-in-Err-default-Fault-clause-answers g c = λ kept stands.
     let chosen = c.requires.places in
     let rose = c.in-Err-default-Fault.ensures.fault c.in-Err-default-Fault.field-0-1-is in
     IfOk-weaker c.stage_line.result _ _ (λ line is n disk f. select_failed n kept line.items c.args.text.now c.args.places.now (columns_are c.args.text.now (history kept) table.schema there ∙ chosen)
-    (line_of_stage c.args.store.now.opened disk (g.R.Arm.failed c.read_parts.new.arm) (g.R.Arm.failed c.args.arm.now) failure.Fault line.items n is (λ same. rose) f)) c.stage_line.ensures
+    (line_of_stage c.args.store.now.opened disk (g.R.Arm.failed c.read_parts.new.arm) (g.R.Arm.failed c.args.arm.now) failure.Fault line.items n is (λ same. rose) f)) c.stage_line.ensures.line
 
 -- a part is not damaged
 pub returns-clause-answers : goal.returns-clause-answers
@@ -98,7 +98,7 @@ returns-in-Ok-clause-answers g c = λ kept stands.
 
 -- the reply does not tell of damage
 pub returns-in-Err-default-Fault-clause-undamaged : goal.returns-in-Err-default-Fault-clause-undamaged
-returns-in-Err-default-Fault-clause-undamaged g c = λ held. IfOk-weaker c.stage_line.result _ _ (λ line is. stage_line failure.Fault line.items is) c.stage_line.ensures
+returns-in-Err-default-Fault-clause-undamaged g c = λ held. IfOk-weaker c.stage_line.result _ _ (λ line is. stage_line failure.Fault line.items is) c.stage_line.ensures.line
 
 pub returns-clause-undamaged : goal.returns-clause-undamaged
 returns-clause-undamaged g c = λ held.
@@ -117,7 +117,7 @@ returns-in-Ok-clause-undamaged g c = λ held. IfOk-weaker c.print.result _ _ (λ
 
 -- what it tells where it does
 pub returns-in-Err-default-Fault-clause-damaged : goal.returns-in-Err-default-Fault-clause-damaged
-returns-in-Err-default-Fault-clause-damaged g c = IfOk-weaker c.stage_line.result _ _ (λ line is bad. absurd (false≢true (sym (stage_line failure.Fault line.items is) ∙ bad))) c.stage_line.ensures
+returns-in-Err-default-Fault-clause-damaged g c = IfOk-weaker c.stage_line.result _ _ (λ line is bad. absurd (false≢true (sym (stage_line failure.Fault line.items is) ∙ bad))) c.stage_line.ensures.line
 
 pub returns-clause-damaged : goal.returns-clause-damaged
 returns-clause-damaged g c =
@@ -139,7 +139,7 @@ returns-in-Ok-clause-damaged g c = IfOk-weaker c.print.result _ _ (λ reply is b
 pub returns-in-Err-default-Fault-clause-causes : goal.returns-in-Err-default-Fault-clause-causes
 returns-in-Err-default-Fault-clause-causes g c = λ disk.
     let rose = c.in-Err-default-Fault.ensures.fault c.in-Err-default-Fault.field-0-1-is in
-    IfOk-weaker c.stage_line.result _ _ (λ line is. says_failed c.args.store.now.opened disk disk (g.R.Arm.failed c.args.arm.now) (g.R.Arm.failed c.read_parts.new.arm) line.items failure.Fault is (λ same. rose)) c.stage_line.ensures
+    IfOk-weaker c.stage_line.result _ _ (λ line is. says_failed c.args.store.now.opened disk disk (g.R.Arm.failed c.args.arm.now) (g.R.Arm.failed c.read_parts.new.arm) line.items failure.Fault is (λ same. rose)) c.stage_line.ensures.line
 
 pub returns-clause-causes : goal.returns-clause-causes
 returns-clause-causes g c = λ disk.

@@ -17,7 +17,7 @@ loop-name-preserved g c =
       files =
           told_more (g.S.Stage.files c.args.stage.now) names c.requires.told i (g.S.Stage.files c.loop-name.stage) (g.S.Stage.files c.sync.new.self) name inside (get_or_default names i Entry name inside) c.requires.once
           c.loop-name.invariant.files c.in_ok-sync.ensures.files;
-      later = omega (arith, c.in_ok-sync.ensures.cause.later);
+      count = c.in_ok-sync.ensures.cause.ok ∙ c.loop-name.invariant.count;
     }
 
 pub returns-in_err-sync-clause-kept : goal.returns-in_err-sync-clause-kept

@@ -31,7 +31,7 @@ loop-kept-preserved g c = record {
       (c.in-Ok.ensures.even (rows_kept (take c.loop-kept.kept-index c.args.parts.now)) (c.loop-kept.invariant.even zero));
   many = same_many c.loop-kept.columns c.read_columns.new.columns c.in-Ok.ensures.types ∙ c.loop-kept.invariant.many;
   tells = c.in-Ok.ensures.tells ∙ c.loop-kept.invariant.tells;
-  later = let more = c.in-Ok.ensures.later in omega arith;
+  count = c.in-Ok.ensures.calm (λ fault. cc) ∙ c.loop-kept.invariant.count;
 }
 
 pub returns-in-Err-clause-sound : goal.returns-in-Err-clause-sound
@@ -41,7 +41,7 @@ returns-in-Err-clause-sound g c = λ schema rows hold within have.
     c.in-Err.ensures.sound schema h.rows (holds_at files schema c.kept-item.result.part h.rows c.args.places.now h.holds within) (c.loop-kept.invariant.types ∙ have)
 
 pub returns-in-Err-clause-fault : goal.returns-in-Err-clause-fault
-returns-in-Err-clause-fault g c = λ is. let later = c.loop-kept.invariant.later in let rose = c.in-Err.ensures.fault (ap Err is) in omega arith
+returns-in-Err-clause-fault g c = λ is. let same = c.loop-kept.invariant.count in let rose = c.in-Err.ensures.fault (ap Err is) in omega arith
 
 pub returns-clause-values : goal.returns-clause-values
 returns-clause-values g c = λ schema rows hold within have empty.

@@ -1,5 +1,5 @@
 -- the values of the parts gone over
-use Rattle.std.proofs.Common.{◌≡◌, ◌≤◌, [], All, List, length, map, take}
+use Rattle.std.proofs.Common.{◌≡◌, [], All, List, length, map, take}
 use Rattle.mt_values.specs.declared.schema.Schema.{Schema}
 use Rattle.mt_values.specs.Grid.{Cells}
 use Rattle.mt_values.specs.Values.{Row}
@@ -14,5 +14,5 @@ invariant-loop-kept g l = record {
   even : All (λ (c : Cells). length c.values ≡ 0) l.initial.columns → All (λ (c : Cells). length c.values ≡ rows_kept (take l.kept-index l.parts)) l.columns;
   many : length l.columns ≡ length l.initial.columns;
   tells : g.R.Arm.tells l.arm ≡ g.R.Arm.tells l.initial.arm;
-  later : g.R.Arm.failed l.initial.arm ≤ g.R.Arm.failed l.arm;
+  count : g.R.Arm.failed l.arm ≡ g.R.Arm.failed l.initial.arm;
 }
