@@ -1,9 +1,5 @@
 -- What `==` of values, rows and schemas says.
-use Rattle.std.proofs.Common.{◌≡◌, ℕ, Bool, true, false, Decides, List, ap, ap₂, nat_eq, not, Result, Ok, Err, IfOk, ◌↔◌, refl, ◌&&◌, ◌∙◌}
-use Rattle.mt_base.specs.declared.memory.NoMemory.{NoMemory}
-use Rattle.mt_base.specs.declared.partition.Partition.{Partition}
-use Rattle.mt_values.specs.declared.command.Insert.{Insert}
-use Rattle.mt_values.specs.Grid.{Grid}
+use Rattle.std.proofs.Common.{◌≡◌, ℕ, Bool, true, false, Decides, List, ap, ap₂, nat_eq, refl, ◌&&◌, ◌∙◌}
 use Rattle.std.specs.Cmp.Lexicographic.{pointwise, pointwise_decides}
 use Rattle.std.proofs.lemmas.Bool.Decides.{Decides-eqb, Decides-int_eq, Decides-like, Decides-and, Decides-at}
 use Rattle.mt_values.specs.declared.value.ColType.{ColType}
@@ -65,22 +61,6 @@ column_same x y = Decides-like (pointwise nat_eq x.name y.name && types.eq-value
 schema_same : (x y : Schema) → Decides (schemas.eq-value.it x y) (x ≡ y)
 schema_same x y = Decides-like (pointwise columns.eq-value.it x.columns y.columns && pointwise nat_eq x.key y.key) (λ p. ap₂ (λ (c : List Column) (k : List ℕ). record { columns = c; key = k }) p.0 p.1) (λ e. (ap (λ (c : Schema). c.columns) e, ap (λ (c : Schema). c.key) e))
     (Decides-and (pointwise columns.eq-value.it x.columns y.columns) (pointwise nat_eq x.key y.key) (pointwise_decides column_same x.columns y.columns) (texts_same x.key y.key))
-
-not_false : (b : Bool) → false ≡ not b → b ≡ true
-not_false true e = refl
-not_false false e = cc
-
-alike : (x y : Insert) → x.table ≡ y.table → x.partition ≡ y.partition → x.block ≡ y.block → x ≡ y
-alike x y table partition block =
-    ap (λ (t : List ℕ). record { table = t; partition = x.partition; block = x.block }) table
-    ∙ ap₂ (λ (p : Partition) (b : Grid). record { table = y.table; partition = p; block = b }) partition block
-
--- two INSERTs into one table and one partition
-pub inserts_alike : (x y : Insert) (r : Result Bool NoMemory) → false ≡ not (pointwise nat_eq x.table y.table) → x.partition ≡ y.partition → IfOk r (λ same. (same ≡ true) ↔ (x.block ≡ y.block)) → IfOk r (λ same. (same ≡ true) ↔ (x ≡ y))
-inserts_alike x y (Ok b) named partition same =
-    let table : x.table ≡ y.table = (texts_same x.table y.table).0 (not_false (pointwise nat_eq x.table y.table) named) in
-    (λ e. alike x y table partition (same.0 e), λ e. same.1 (ap (λ (i : Insert). i.block) e))
-inserts_alike x y (Err e) named partition same = tt
 
 -- two tables to be made, of one name or of two
 pub creates_alike : (x y : Create) (r : Bool) → pointwise nat_eq x.table y.table ≡ true → r ≡ schemas.eq-value.it x.schema y.schema → Decides r (x ≡ y)
