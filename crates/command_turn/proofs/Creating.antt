@@ -11,6 +11,7 @@ use Rattle.mt_values.specs.declared.statement.Statement.{Statement}
 use Rattle.mt_values.specs.declared.statement.Statement.TheVariants as statement
 use Rattle.mt_values.specs.Annals.{Told}
 use Rattle.mt_values.specs.Script.{statements_of, statement_and}
+use Rattle.root_store.proofs.EntryReads.{reads_as}
 use Rattle.mt_values.proofs.ScriptBounds.{statements_of_step}
 use Rattle.mt_outside.specs.Disk as root
 use Rattle.mt_outside.specs.Files.{Files}
@@ -62,7 +63,7 @@ module _ (c : CreateText) (schema : Schema) (is : IsCreateText c) (text : schema
       ∙ (ap (λ b. cond b (result_ok (schema_of_text c)) None) (itself_same c.table) ∙ ap result_ok text)
 
   pub entry_holds : length c.text < 2 ^ 32 → EntryHolds c.table schema (entry_files c.text)
-  entry_holds few = record { text = c.text; few = few; bytes = refl; reads = reads }
+  entry_holds few = record { text = c.text; few = few; bytes = refl; reads = reads_as c.table c.text schema reads }
 
 -- the command that a CREATE gives
 module _ (text : CreateText) (schema : Schema) (says : schema_of_text text ≡ Ok schema) where

@@ -1,4 +1,4 @@
-pub mod Accepted
-pub mod Exchanged
+pub mod Coming
 pub mod Inserting
 pub mod Steps
+pub mod Turning

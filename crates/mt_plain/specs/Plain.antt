@@ -1,58 +1,55 @@
 -- What the plain program accepts at the end of a history, and what it adds to one.
-use Rattle.std.specs.Prelude.{◌≡◌, ℕ, List, [], ◌∷◌, ◌++◌, All, Option, Some, Result, Ok, Err, length}
-use Rattle.mt_values.specs.Values.{Row, AreValues}
-use Rattle.mt_values.specs.Grid.{Grid, AreRowsOf}
+use Rattle.std.specs.Prelude.{◌≡◌, ℕ, ◌+◌, List, [], ◌∷◌, ◌++◌, All, Option, Some, None, length}
+use Rattle.mt_values.specs.declared.command.Command.{Command}
+use Rattle.mt_values.specs.declared.command.Command.TheVariants as command
 use Rattle.mt_values.specs.declared.command.Entry.{Entry}
 use Rattle.mt_values.specs.declared.schema.Schema.{Schema}
-use Rattle.mt_values.specs.declared.statement.CreateText.{CreateText}
-use Rattle.mt_values.specs.declared.statement.InsertText.{InsertText}
 use Rattle.mt_model.specs.declared.refusal.Refusal.{Refusal}
-use Rattle.mt_model.specs.History.{History, schema_of, inserts, column_types}
-use Rattle.mt_model.specs.Answer.{Answer}
-use Rattle.mt_model.specs.Outside.{Counts}
-use Rattle.mt_model.specs.Reply.{unless_refused, schema_of_text, create_turn, rows_of_insert, rows_reply, insert_turn}
+use Rattle.mt_model.specs.History.{History, IsInsertInto, IsTableSchema, entered, inserts, schema_of}
+use Rattle.mt_model.specs.Numbers.{last_number}
+use Rattle.mt_model.specs.Outside.{Outside}
+use Rattle.mt_model.specs.Refusals.{refusal_line}
+use Rattle.mt_model.specs.Reply.{create_turn, insert_turn, ok_line}
 
 -- an outside without a fault
-abbrev pub calm : Counts
+abbrev pub calm : Outside
 calm = record { opened = 0; ended = 0 }
 
--- what a statement gives, unless it is refused for what it says, or else at its turn
-abbrev pub at_turn : {X : Type 0} → Option Refusal → Result X Refusal → Result X Refusal
-at_turn turn (Err why) = Err why
-at_turn turn (Ok x) = unless_refused turn x
+-- why a command is refused at its turn, after so many of its statement's commands; nothing was merged, so a partition has one part an INSERT
+abbrev pub unmerged_turn : History → ℕ → Command → Option Refusal
+unmerged_turn h accepted (command.Create c) = create_turn c.table h
+unmerged_turn h accepted (command.Insert i) = insert_turn (inserts i.table i.partition h) (last_number i.table h) accepted
 
--- the schema that a CREATE gives a table at the end of a history
-abbrev pub created : CreateText → History → Result Schema Refusal
-created c h = at_turn (create_turn c.table h) (schema_of_text c)
+-- the history that commands leave, and why one of them was refused
+pub record AfterTurns : Type 0 where
+  pub history : History
+  pub refused : Option Refusal
 
--- rows at the turn of their command; no rows have none
-abbrev pub rows_at_turn : Option Refusal → Result (List Row) Refusal → Result (List Row) Refusal
-rows_at_turn turn (Err why) = Err why
-rows_at_turn turn (Ok []) = Ok []
-rows_at_turn turn (Ok (row ∷ rows)) = unless_refused turn (row ∷ rows)
+-- where a turn refuses its command, it and those after it add nothing
+abbrev pub unless_turn_refuses : Option Refusal → History → AfterTurns → AfterTurns
+unless_turn_refuses (Some why) h rest = record { history = h; refused = Some why }
+unless_turn_refuses None h rest = rest
 
--- nothing was merged: the table has one part an INSERT
-abbrev pub unmerged_turn : List ℕ → History → Option Refusal
-unmerged_turn table h = insert_turn (inserts table h) table h
+-- what commands leave of a history, each at its turn, after so many of their statement's commands
+abbrev pub after_turns : ℕ → List Command → History → AfterTurns
+after_turns accepted [] h = record { history = h; refused = None }
+after_turns accepted (c ∷ cs) h = unless_turn_refuses (unmerged_turn h accepted c) h (after_turns (accepted + 1) cs (entered h 0 (c ∷ [])))
 
--- the rows that an INSERT adds at the end of a history
-abbrev pub inserted : InsertText → History → Result (List Row) Refusal
-inserted i h = rows_at_turn (unmerged_turn i.table h) (rows_of_insert i h)
+-- the reply at the end of a history, where a refusal came or none
+abbrev pub reply_at : ℕ → Option Refusal → List ℕ
+reply_at place None = ok_line place
+reply_at place (Some why) = refusal_line why
 
--- the block has the rows that an INSERT adds at the end of a history, and they are its table's
-pub record IsInserted (i : InsertText) (h : History) (block : Grid) : Type 0 where
-  pub rows : inserted i h ≡ Ok block.rows
-  pub schema : Schema
-  pub there : schema_of i.table h ≡ Some schema
-  pub types : block.types ≡ column_types schema
-  pub typed : AreRowsOf (column_types schema) block.rows
-  pub values : AreValues block.rows
+-- a statement's commands came to their turns and left this history and this reply
+pub record TookTurns (commands : List Command) (old new : History) (reply : List ℕ) : Type 0 where
+  pub refused : Option Refusal
+  pub after : after_turns 0 commands old ≡ record { history = new; refused = refused }
+  pub reply_is : reply ≡ reply_at (length new) refused
 
--- the reply answers a SELECT of these columns from a table of this schema behind the whole history
-pub record IsReply (h : History) (table : List ℕ) (schema : Schema) (columns : List ℕ) (reply : List ℕ) : Type 0 where
-  pub lines : List (List ℕ)
-  pub answer : Answer h table schema columns lines
-  pub is : reply ≡ rows_reply lines (length h)
+-- a command may come after a history, if its turn refuses nothing
+abbrev pub MayCome : History → Command → Type 0
+MayCome h (command.Create c) = IsTableSchema c.schema
+MayCome h (command.Insert i) = (schema : Schema) × (schema_of i.table h ≡ Some schema) × IsInsertInto schema i
 
 -- the history stayed or grew, and what was added is session 0's
 pub record Grows (old new : History) : Type 0 where

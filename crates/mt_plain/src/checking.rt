@@ -1,7 +1,6 @@
 // Whether a history and a text are those of a script's run.
-ghost use Rattle.std.specs.Prelude.{◌≡◌, ◌↔◌, IfOk, IsTrue, true};
+ghost use Rattle.std.specs.Prelude.{◌≡◌, ◌↔◌, IfOk, true};
 ghost use Rattle.mt_model.specs.History.{FewInserts};
-ghost use Rattle.mt_model.specs.Same.{SameCommand, SameEntry, SameHistory};
 ghost use Rattle.mt_model.specs.Script.{ScriptRun};
 ghost use Rattle.mt_plain.specs.Plain.{calm};
 
@@ -14,8 +13,9 @@ use std::alloc::Global;
 /// Whether a script without a history before it, over an outside without faults, may have left this history and printed
 /// this text.
 ///
-/// A yes is right of every history. A no is right of a history in which no table has 3000 INSERTs: the plain program merges
-/// nothing, and so it refuses more INSERTs into a table that has 3000, where a program that merges may take them.
+/// A yes is right of every history. A no is right of a history in which no partition of a table has 3000 INSERTs: the plain
+/// program merges nothing, and so it refuses more INSERTs into a partition that has 3000, where a program that merges may
+/// take them.
 ///
 /// `NoMemory` where a growth was refused.
 pub fn allows(
@@ -35,9 +35,9 @@ pub fn allows(
     }
 }
 
-/// Whether two histories are the same but for how blocks are kept.
+/// Whether two histories are one.
 fn same_histories(alloc: Global, a: &[Entry], b: &[Entry]) -> Result<bool, NoMemory>
-    ensures { IfOk result (λ same. (same ≡ true) ↔ SameHistory a.now b.now) }
+    ensures { IfOk result (λ same. (same ≡ true) ↔ (a.now ≡ b.now)) }
 {
     if a.len() != b.len() {
         return Ok(false);
@@ -50,9 +50,9 @@ fn same_histories(alloc: Global, a: &[Entry], b: &[Entry]) -> Result<bool, NoMem
     Ok(true)
 }
 
-/// Whether two entries are the same but for how a block is kept.
+/// Whether two entries are one.
 fn same_entries(alloc: Global, a: &Entry, b: &Entry) -> Result<bool, NoMemory>
-    ensures { IfOk result (λ same. (same ≡ true) ↔ SameEntry a.now b.now) }
+    ensures { IfOk result (λ same. (same ≡ true) ↔ (a.now ≡ b.now)) }
 {
     if a.session != b.session {
         return Ok(false);
@@ -60,9 +60,9 @@ fn same_entries(alloc: Global, a: &Entry, b: &Entry) -> Result<bool, NoMemory>
     same_commands(alloc, &a.command, &b.command)
 }
 
-/// Whether two commands are the same but for how a block is kept.
+/// Whether two commands are one.
 fn same_commands(alloc: Global, a: &Command, b: &Command) -> Result<bool, NoMemory>
-    ensures { IfOk result (λ same. (same ≡ true) ↔ SameCommand a.now b.now) }
+    ensures { IfOk result (λ same. (same ≡ true) ↔ (a.now ≡ b.now)) }
 {
     match (a, b) {
         (Command::Create(c), Command::Create(d)) => Ok(same_creates(c, d)),
@@ -71,9 +71,9 @@ fn same_commands(alloc: Global, a: &Command, b: &Command) -> Result<bool, NoMemo
     }
 }
 
-/// Whether two INSERTs add the same rows to the same table and partition.
+/// Whether two INSERTs are one: whether they add the same block to the same table and partition.
 fn same_inserts(alloc: Global, a: &Insert, b: &Insert) -> Result<bool, NoMemory>
-    ensures { IfOk result (λ same. (same ≡ true) ↔ ((a.now.table ≡ b.now.table) × (a.now.partition ≡ b.now.partition) × (a.now.block.rows ≡ b.now.block.rows))) }
+    ensures { IfOk result (λ same. (same ≡ true) ↔ (a.now ≡ b.now)) }
 {
     if a.table != b.table || a.partition != b.partition {
         return Ok(false);

@@ -1,26 +1,25 @@
 // The live rows of a table.
 ghost use Rattle.std.specs.Prelude.{◌≡◌, ◌++◌, IfOk, OnOk};
-ghost use Rattle.mt_values.specs.Order.{key_cmp};
 ghost use Rattle.mt_model.specs.Live.{live, rows_after};
 
 use super::sorting::sorted_rows;
 use mt_base::NoMemory;
-use mt_values::{Command, Entry, Name, Row};
+use mt_values::{Command, Entry, Name, Row, Schema};
 use plain_base::{Order, rows_of};
 use std::alloc::Global;
 
-/// The rows of a table with this sorting key after all commands.
+/// The rows of a table of this schema after all commands.
 pub fn live_rows(
     alloc: Global,
     table: &Name,
-    key: &[u32],
+    schema: &Schema,
     entries: &[Entry],
 ) -> Result<Vec<Row>, NoMemory>
-    ensures { IfOk result (λ rows. rows.items ≡ live table.now key.now entries.now) }
+    ensures { IfOk result (λ rows. rows.items ≡ live table.now schema.now entries.now) }
 {
     let mut rows = Vec::new(alloc);
     for entry in entries {
-        add_rows(alloc, table, key, &mut rows, &entry.command)?;
+        add_rows(alloc, table, schema, &mut rows, &entry.command)?;
     }
     Ok(rows)
 }
@@ -29,15 +28,19 @@ pub fn live_rows(
 fn add_rows(
     alloc: Global,
     table: &Name,
-    key: &[u32],
+    schema: &Schema,
     rows: &mut Vec<Row>,
     command: &Command,
 ) -> Result<(), NoMemory>
-    ensures { OnOk result (rows.new.items ≡ rows_after table.now key.now rows.old.items command.now) }
+    ensures { OnOk result (rows.new.items ≡ rows_after table.now schema.now rows.old.items command.now) }
 {
     if let Command::Insert(insert) = command {
         if insert.table == *table {
-            let mut added = sorted_rows(alloc, Order::Key(key), rows_of(alloc, &insert.block)?)?;
+            let mut added = sorted_rows(
+                alloc,
+                Order::Table(schema),
+                rows_of(alloc, &insert.block)?,
+            )?;
             rows.append(&mut added)?;
         }
     }

@@ -1,19 +1,20 @@
 // Statements, run one after another.
-ghost use Rattle.std.specs.Prelude.{◌≡◌, ◌↔◌, ◌<◌, All, IfOk, OnOk, OnErr, Some, length, true};
+ghost use Rattle.std.specs.Prelude.{◌≡◌, ◌<◌, All, IfOk, OnOk, OnErr, length};
 ghost use Rattle.mt_values.specs.declared.statement.Statement.TheVariants as statement;
-ghost use Rattle.mt_model.specs.History.{IsLegal, schema_of};
+ghost use Rattle.mt_model.specs.History.{IsLegal};
 ghost use Rattle.mt_model.specs.Refusals as refusals;
 ghost use Rattle.mt_model.specs.Session.{Takes, TakesStatement};
 ghost use Rattle.mt_model.specs.Script.{ScriptRun};
 ghost use Rattle.mt_model.specs.Written.{IsStatementText, IsWritten};
-ghost use Rattle.mt_plain.specs.Plain.{Grows, IsReply, calm};
+ghost use Rattle.mt_plain.specs.Plain.{Grows, TookTurns, calm};
 
-use super::accepting::{created_schema, inserted_block};
+use super::commands::{create_commands, insert_commands};
 use super::selecting::answer;
+use super::turns::accept;
 use mt_base::{NoMemory, Twin};
-use mt_model::{Refusal, ok_line, refusal_line, selected_columns};
-use mt_values::{Block, Cause, CreateText, Entry, InsertText, Name, Schema, SelectText, Statement};
-use plain_base::{add_create, add_insert, rows_reply, schema_of};
+use mt_model::{Refusal, ok_line, refusal_line};
+use mt_values::{Cause, Command, CreateText, Entry, InsertText, SelectText, Statement};
+use plain_base::{rows_reply, schema_of};
 use std::alloc::Global;
 
 /// The accepted commands of a run, and what it printed.
@@ -39,7 +40,7 @@ pub fn run(alloc: Global, statements: &[Result<Statement, Cause>]) -> Result<Out
     Ok(Outcome { history, out })
 }
 
-/// Runs one statement behind the last entry of a history, over an outside without faults, and gives its reply.
+/// Runs one statement after the last entry of a history, over an outside without faults, and gives its reply.
 ///
 /// `NoMemory` where a growth was refused; the history stays as it was. It also answers a SELECT from a table of 2^32
 /// columns and more, which no legal history has.
@@ -52,6 +53,27 @@ pub fn step(
     ensures grows { OnOk result (Grows history.old.items history.new.items) }
     ensures legal { IsWritten statement.now → IsLegal history.old.items → IsLegal history.new.items }
     ensures err { OnErr result (history.new.items ≡ history.old.items) }
+{
+    let before = history.len();
+    match reply_to(alloc, history, statement) {
+        Ok(reply) => Ok(reply),
+        Err(NoMemory) => {
+            // The commands that were accepted go again.
+            history.truncate(before);
+            Err(NoMemory)
+        }
+    }
+}
+
+/// Runs one statement. Where memory was short, some of its commands may stay.
+fn reply_to(
+    alloc: Global,
+    history: &mut Vec<Entry>,
+    statement: &Result<Statement, Cause>,
+) -> Result<Vec<u8>, NoMemory>
+    ensures takes { IfOk result (λ reply. Takes calm history.new.items 0 statement.now (length history.old.items) (length history.new.items) reply.items) }
+    ensures grows { Grows history.old.items history.new.items }
+    ensures legal { OnOk result (IsWritten statement.now → IsLegal history.old.items → IsLegal history.new.items) }
 {
     match statement {
         Ok(statement) => step_statement(alloc, history, statement),
@@ -73,9 +95,8 @@ fn step_statement(
     statement: &Statement,
 ) -> Result<Vec<u8>, NoMemory>
     ensures takes { IfOk result (λ reply. TakesStatement calm history.new.items 0 statement.now (length history.old.items) (length history.new.items) reply.items) }
-    ensures grows { OnOk result (Grows history.old.items history.new.items) }
-    ensures legal { IsStatementText statement.now → IsLegal history.old.items → IsLegal history.new.items }
-    ensures err { OnErr result (history.new.items ≡ history.old.items) }
+    ensures grows { Grows history.old.items history.new.items }
+    ensures legal { OnOk result (IsStatementText statement.now → IsLegal history.old.items → IsLegal history.new.items) }
 {
     match statement {
         Statement::Create(create) => step_create(alloc, history, create),
@@ -91,16 +112,11 @@ fn step_create(
     create: &CreateText,
 ) -> Result<Vec<u8>, NoMemory>
     ensures takes { IfOk result (λ reply. TakesStatement calm history.new.items 0 (statement.Create create.now) (length history.old.items) (length history.new.items) reply.items) }
-    ensures grows { OnOk result (Grows history.old.items history.new.items) }
-    ensures legal { 0 < length create.now.key → IsLegal history.old.items → IsLegal history.new.items }
-    ensures err { OnErr result (history.new.items ≡ history.old.items) }
+    ensures grows { Grows history.old.items history.new.items }
+    ensures legal { OnOk result (0 < length create.now.key → IsLegal history.old.items → IsLegal history.new.items) }
 {
-    match created_schema(alloc, history, create)? {
-        Ok(schema) => {
-            let reply = ok_line(alloc, history.len() as u64 + 1)?;
-            add_create(alloc, history, &create.table, schema)?;
-            Ok(reply)
-        }
+    match create_commands(alloc, create)? {
+        Ok(commands) => take_turns(alloc, history, commands),
         Err(refusal) => refused(alloc, refusal),
     }
 }
@@ -112,70 +128,39 @@ fn step_insert(
     insert: &InsertText,
 ) -> Result<Vec<u8>, NoMemory>
     ensures takes { IfOk result (λ reply. TakesStatement calm history.new.items 0 (statement.Insert insert.now) (length history.old.items) (length history.new.items) reply.items) }
-    ensures grows { OnOk result (Grows history.old.items history.new.items) }
-    ensures legal { IsLegal history.old.items → IsLegal history.new.items }
-    ensures err { OnErr result (history.new.items ≡ history.old.items) }
+    ensures grows { Grows history.old.items history.new.items }
+    ensures legal { OnOk result (IsLegal history.old.items → IsLegal history.new.items) }
 {
-    match inserted_block(alloc, history, insert)? {
-        Ok(block) => {
-            if adds_nothing(&block) {
-                return ok_line(alloc, history.len() as u64);
-            }
-            let reply = ok_line(alloc, history.len() as u64 + 1)?;
-            add_insert(alloc, history, &insert.table, block)?;
-            Ok(reply)
-        }
+    match insert_commands(alloc, history, insert)? {
+        Ok(commands) => take_turns(alloc, history, commands),
         Err(refusal) => refused(alloc, refusal),
     }
 }
 
-/// Whether an INSERT of this block has no entry: the block has no rows.
-fn adds_nothing(block: &Block) -> bool
-    ensures { (result ≡ true) ↔ (length block.now.rows ≡ 0) }
+/// Accepts the commands of a statement, each at its turn, up to the first that is refused, and replies.
+fn take_turns(
+    alloc: Global,
+    history: &mut Vec<Entry>,
+    commands: Vec<Command>,
+) -> Result<Vec<u8>, NoMemory>
+    ensures took { IfOk result (λ reply. TookTurns commands.items history.old.items history.new.items reply.items) }
+    ensures grows { Grows history.old.items history.new.items }
 {
-    block.len() == 0
+    match accept(alloc, history, commands)? {
+        None => ok_line(alloc, history.len() as u64),
+        Some(refusal) => refused(alloc, refusal),
+    }
 }
 
 /// Answers a SELECT.
 fn step_select(alloc: Global, history: &[Entry], select: &SelectText) -> Result<Vec<u8>, NoMemory>
     ensures { IfOk result (λ reply. TakesStatement calm history.now 0 (statement.Select select.now) (length history.now) (length history.now) reply.items) }
 {
-    match schema_of(history, &select.table) {
-        Some(schema) => select_from(alloc, history, select, schema),
-        None => refused(alloc, Refusal::NoTable(select.table.twin(alloc)?)),
-    }
-}
-
-/// Answers a SELECT from a table of this schema.
-fn select_from(
-    alloc: Global,
-    history: &[Entry],
-    select: &SelectText,
-    schema: &Schema,
-) -> Result<Vec<u8>, NoMemory>
-    requires { schema_of select.now.table history.now ≡ Some schema.now }
-    ensures { IfOk result (λ reply. TakesStatement calm history.now 0 (statement.Select select.now) (length history.now) (length history.now) reply.items) }
-{
-    let columns = schema.columns.as_slice();
-    if columns.len() > u32::MAX as usize {
-        return Err(NoMemory);
-    }
-    match selected_columns(alloc, columns, &select.columns)? {
-        Ok(places) => select_reply(alloc, history, &select.table, schema, places.as_slice()),
+    let Some(schema) = schema_of(history, &select.table) else {
+        return refused(alloc, Refusal::NoTable(select.table.twin(alloc)?));
+    };
+    match answer(alloc, history, schema, select)? {
+        Ok(lines) => rows_reply(alloc, &lines, history.len() as u64),
         Err(refusal) => refused(alloc, refusal),
     }
-}
-
-/// The reply of a SELECT of these columns from a table of this schema.
-fn select_reply(
-    alloc: Global,
-    history: &[Entry],
-    table: &Name,
-    schema: &Schema,
-    columns: &[u32],
-) -> Result<Vec<u8>, NoMemory>
-    ensures { IfOk result (λ reply. IsReply history.now table.now schema.now columns.now reply.items) }
-{
-    let lines = answer(alloc, history, table, schema, columns)?;
-    rows_reply(alloc, &lines, history.len() as u64)
 }

@@ -1,27 +1,36 @@
 // The answers of SELECTs.
-ghost use Rattle.std.specs.Prelude.{IfOk};
+ghost use Rattle.std.specs.Prelude.{◌≡◌, Err, IfOk, MatchResult};
 ghost use Rattle.mt_model.specs.Answer.{Answer};
+ghost use Rattle.mt_model.specs.Reply.{selected_places};
 
 use super::lines::lines_of;
 use super::live::live_rows;
 use mt_base::NoMemory;
-use mt_values::{Bytes, Entry, Name, Schema};
+use mt_model::{Refusal, selected_columns};
+use mt_values::{Bytes, Entry, Schema, SelectText};
 use plain_base::picked_rows;
 use std::alloc::Global;
 
-/// The lines of a SELECT of these columns from a table of this schema.
+/// The lines of a SELECT from a table of this schema, or the first name of it that is no column's.
 ///
-/// `NoMemory` where a growth was refused.
+/// `NoMemory` where a growth was refused, and for a table of 2^32 columns and more, which no legal history has.
 pub fn answer(
     alloc: Global,
     entries: &[Entry],
-    table: &Name,
     schema: &Schema,
-    columns: &[u32],
-) -> Result<Vec<Bytes>, NoMemory>
-    ensures { IfOk result (λ lines. Answer entries.now table.now schema.now columns.now lines.items) }
+    select: &SelectText,
+) -> Result<Result<Vec<Bytes>, Refusal>, NoMemory>
+    ensures { IfOk result (λ given. MatchResult given (λ lines. Answer entries.now schema.now select.now lines.items) (λ why. selected_places schema.now.columns select.now.columns ≡ Err why)) }
 {
-    let rows = live_rows(alloc, table, schema.key.as_slice(), entries)?;
-    let picked = picked_rows(alloc, columns, &rows)?;
-    lines_of(alloc, picked)
+    let columns = schema.columns.as_slice();
+    if columns.len() > u32::MAX as usize {
+        return Err(NoMemory);
+    }
+    let places = match selected_columns(alloc, columns, &select.columns)? {
+        Ok(places) => places,
+        Err(refusal) => return Ok(Err(refusal)),
+    };
+    let rows = live_rows(alloc, &select.table, schema, entries)?;
+    let picked = picked_rows(alloc, places.as_slice(), &rows)?;
+    Ok(Ok(lines_of(alloc, picked)?))
 }

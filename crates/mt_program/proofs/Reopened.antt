@@ -15,7 +15,7 @@ reopened store opened = record { tables = store.tables; set = store.set; length 
 module _ {F : Type 0} (store : CoreStore F) (opened : ℕ) where
   pub sound_reopened : IsSound store → IsSound (reopened store opened)
   sound_reopened s = record {
-    tables = λ table t at. let one = s.tables table t at in record { schema = one.schema; order = one.order; ends = one.ends; whole = one.whole };
+    tables = λ table t at. let one = s.tables table t at in record { schema = one.schema; order = one.order; ends = one.ends; may = one.may };
     no_other = s.no_other;
   }
 

@@ -1,7 +1,5 @@
 -- What `==` of values, rows and schemas says.
-use Rattle.std.proofs.Common.{◌≡◌, ℕ, Bool, true, false, Decides, List, ap, ap₂, nat_eq, not, Result, Ok, Err, IfOk, ◌↔◌, refl, ◌&&◌, ◌∙◌}
-use Rattle.mt_base.specs.declared.memory.NoMemory.{NoMemory}
-use Rattle.mt_values.specs.declared.command.Insert.{Insert}
+use Rattle.std.proofs.Common.{◌≡◌, ℕ, Bool, true, false, Decides, List, ap, ap₂, nat_eq, refl, ◌&&◌, ◌∙◌}
 use Rattle.std.specs.Cmp.Lexicographic.{pointwise, pointwise_decides}
 use Rattle.std.proofs.lemmas.Bool.Decides.{Decides-eqb, Decides-int_eq, Decides-like, Decides-and, Decides-at}
 use Rattle.mt_values.specs.declared.value.ColType.{ColType}
@@ -52,6 +50,10 @@ type_same type.Int64 type.Int64 = (λ e. refl, λ e. refl)
 type_same type.Text type.Text = (λ e. refl, λ e. refl)
 type_same x y = (λ e. cc, λ e. cc)
 
+-- two lists of types
+pub types_same : (a b : List ColType) → Decides (pointwise types.eq-value.it a b) (a ≡ b)
+types_same a b = pointwise_decides type_same a b
+
 column_same : (x y : Column) → Decides (columns.eq-value.it x y) (x ≡ y)
 column_same x y = Decides-like (pointwise nat_eq x.name y.name && types.eq-value.it x.col_type y.col_type) (λ p. ap₂ (λ (n : List ℕ) (t : ColType). record { name = n; col_type = t }) p.0 p.1) (λ e. (ap (λ (c : Column). c.name) e, ap (λ (c : Column). c.col_type) e))
     (Decides-and (pointwise nat_eq x.name y.name) (types.eq-value.it x.col_type y.col_type) (texts_same x.name y.name) (type_same x.col_type y.col_type))
@@ -59,16 +61,6 @@ column_same x y = Decides-like (pointwise nat_eq x.name y.name && types.eq-value
 schema_same : (x y : Schema) → Decides (schemas.eq-value.it x y) (x ≡ y)
 schema_same x y = Decides-like (pointwise columns.eq-value.it x.columns y.columns && pointwise nat_eq x.key y.key) (λ p. ap₂ (λ (c : List Column) (k : List ℕ). record { columns = c; key = k }) p.0 p.1) (λ e. (ap (λ (c : Schema). c.columns) e, ap (λ (c : Schema). c.key) e))
     (Decides-and (pointwise columns.eq-value.it x.columns y.columns) (pointwise nat_eq x.key y.key) (pointwise_decides column_same x.columns y.columns) (texts_same x.key y.key))
-
-not_false : (b : Bool) → false ≡ not b → b ≡ true
-not_false true e = refl
-not_false false e = cc
-
--- two INSERTs into one table and one partition
-pub inserts_alike : (x y : Insert) (r : Result Bool NoMemory) → false ≡ not (pointwise nat_eq x.table y.table) → x.partition ≡ y.partition → IfOk r (λ same. (same ≡ true) ↔ (x.block.rows ≡ y.block.rows))
-    → IfOk r (λ same. (same ≡ true) ↔ ((x.table ≡ y.table) × (x.partition ≡ y.partition) × (x.block.rows ≡ y.block.rows)))
-inserts_alike x y (Ok b) named partition same = let table : x.table ≡ y.table = (texts_same x.table y.table).0 (not_false (pointwise nat_eq x.table y.table) named) in (λ e. (table, partition, same.0 e), λ all. same.1 all.2)
-inserts_alike x y (Err e) named partition same = tt
 
 -- two tables to be made, of one name or of two
 pub creates_alike : (x y : Create) (r : Bool) → pointwise nat_eq x.table y.table ≡ true → r ≡ schemas.eq-value.it x.schema y.schema → Decides r (x ≡ y)

@@ -2,7 +2,7 @@
 ghost use Rattle.std.specs.Prelude.{◌≡◌, ◌↔◌, IfOk, true};
 
 use mt_base::NoMemory;
-use mt_values::{Block, Row};
+use mt_values::{Block, ColType, Row};
 use std::alloc::Global;
 
 /// The rows of a block, in its order.
@@ -17,13 +17,36 @@ pub fn rows_of(alloc: Global, block: &Block) -> Result<Vec<Row>, NoMemory>
     Ok(rows)
 }
 
-/// Whether two blocks have the same rows.
-pub fn same_blocks(alloc: Global, a: &Block, b: &Block) -> Result<bool, NoMemory>
-    ensures { IfOk result (λ same. (same ≡ true) ↔ (a.now.rows ≡ b.now.rows)) }
+/// The types of a block's columns, in order.
+#[tactic(auto, using(mt_model::proofs::Lists::take_got))]
+fn types_of(alloc: Global, block: &Block) -> Result<Vec<ColType>, NoMemory>
+    ensures { IfOk result (λ types. types.items ≡ block.now.types) }
 {
+    let mut types = Vec::new(alloc);
+    for place in 0..block.width() {
+        types.push(block.column(place).col_type())?;
+    }
+    Ok(types)
+}
+
+/// Whether two blocks are one: whether they have the same types of columns and the same rows.
+pub fn same_blocks(alloc: Global, a: &Block, b: &Block) -> Result<bool, NoMemory>
+    ensures { IfOk result (λ same. (same ≡ true) ↔ (a.now ≡ b.now)) }
+{
+    let types = types_of(alloc, a)?;
+    if !same_types(&types, &types_of(alloc, b)?) {
+        return Ok(false);
+    }
     let rows = rows_of(alloc, a)?;
     let others = rows_of(alloc, b)?;
     Ok(same_rows(&rows, &others))
+}
+
+/// Whether two lists of types are one.
+fn same_types(a: &[ColType], b: &[ColType]) -> bool
+    ensures { (result ≡ true) ↔ (a.now ≡ b.now) }
+{
+    a == b
 }
 
 /// Whether two lists of rows are one.

@@ -5,15 +5,15 @@ ghost use Rattle.plain_base.specs.Order.{cmp_by};
 
 use super::keys::key_values;
 use mt_base::NoMemory;
-use mt_values::{Row, cmp_value};
+use mt_values::{Row, Schema, cmp_value};
 use std::alloc::Global;
 use std::cmp::Ordering;
 
 /// What rows are sorted by.
 #[derive(Clone, Copy)]
 pub enum Order<'a> {
-    /// The values at these places.
-    Key(&'a [u32]),
+    /// The order of a table's rows, by its sorting key.
+    Table(&'a Schema),
     /// All values, from left to right.
     Whole,
 }
@@ -23,7 +23,8 @@ pub fn compare(alloc: Global, order: Order, a: &Row, b: &Row) -> Result<Ordering
     ensures { IfOk result (λ found. found ≡ cmp_by order.entry a.now b.now) }
 {
     match order {
-        Order::Key(places) => {
+        Order::Table(schema) => {
+            let places = schema.key.as_slice();
             let first = key_values(alloc, places, a)?;
             let second = key_values(alloc, places, b)?;
             Ok(cmp_rows(&first, &second))

@@ -1,6 +1,7 @@
 // The rows of data.
-ghost use Rattle.std.specs.Prelude.{◌≡◌, ◌^◌, ◌<◌, All, Err, Ok, IfOk, MatchResult};
+ghost use Rattle.std.specs.Prelude.{◌≡◌, Err, Ok, IfOk, MatchResult};
 ghost use Rattle.mt_values.specs.Rows.{inserted_rows};
+ghost use Rattle.mt_values.specs.Values.{AreValues};
 ghost use Rattle.mt_model.specs.History as history;
 
 use mt_base::{NoMemory, Seq};
@@ -28,7 +29,7 @@ pub fn read_block(
 ) -> Result<Result<Block, DataFault>, NoMemory>
     ensures rows { IfOk result (λ given. MatchResult given (λ b. inserted_rows types.now lines.now ended ≡ Ok b.rows) (λ fault. inserted_rows types.now lines.now ended ≡ Err fault)) }
     ensures types { IfOk result (λ given. IfOk given (λ b. b.types ≡ types.now)) }
-    ensures bytes { All (λ b. b < 2 ^ 8) lines.now }
+    ensures values { IfOk result (λ given. IfOk given (λ b. AreValues b.rows)) }
 {
     match read_rows(alloc, types, lines, ended) {
         Ok(block) => Ok(Ok(block)),

@@ -1,48 +1,15 @@
 // Entries at the end of a history.
-ghost use Rattle.std.specs.Prelude.{◌≡◌, ◌++◌, ◌∷◌, [], OnOk, OnErr};
-ghost use Rattle.mt_values.specs.declared.command.Command.TheVariants as command;
-ghost use Rattle.mt_base.specs.declared.partition.Partition.TheVariants.{Whole};
+ghost use Rattle.std.specs.Prelude.{◌≡◌, ◌∷◌, [], OnOk, OnErr};
+ghost use Rattle.mt_model.specs.History.{entered};
 
-use mt_base::{NoMemory, Twin};
-use mt_values::{Block, Command, Create, Entry, Insert, Name, Partition, Schema};
-use std::alloc::Global;
+use mt_base::NoMemory;
+use mt_values::{Command, Entry};
 
-/// Adds a CREATE of session 0 at the end of a history.
-pub fn add_create(
-    alloc: Global,
-    history: &mut Vec<Entry>,
-    table: &Name,
-    schema: Schema,
-) -> Result<(), NoMemory>
-    ensures ok { OnOk result (history.new.items ≡ history.old.items ++ record { session = 0; command = command.Create (record { table = table.now; schema = schema }) } ∷ []) }
+/// Adds a command of session 0 at the end of a history.
+pub fn enter(history: &mut Vec<Entry>, command: Command) -> Result<(), NoMemory>
+    ensures ok { OnOk result (history.new.items ≡ entered history.old.items 0 (command ∷ [])) }
     ensures err { OnErr result (history.new.items ≡ history.old.items) }
 {
-    let table = table.twin(alloc)?;
-    let command = Command::Create(Create { table, schema });
-    history.push(Entry {
-        session: 0,
-        command,
-    })?;
-    Ok(())
-}
-
-/// Adds an INSERT of session 0 at the end of a history.
-pub fn add_insert(
-    alloc: Global,
-    history: &mut Vec<Entry>,
-    table: &Name,
-    block: Block,
-) -> Result<(), NoMemory>
-    ensures ok { OnOk result (history.new.items ≡ history.old.items ++ record { session = 0; command = command.Insert (record { table = table.now; partition = Whole; block = block }) } ∷ []) }
-    ensures err { OnErr result (history.new.items ≡ history.old.items) }
-{
-    let table = table.twin(alloc)?;
-    let partition = Partition::Whole;
-    let command = Command::Insert(Insert {
-        table,
-        partition,
-        block,
-    });
     history.push(Entry {
         session: 0,
         command,

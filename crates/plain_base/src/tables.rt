@@ -1,8 +1,10 @@
 // The tables of a history.
 ghost use Rattle.std.specs.Prelude.{◌≡◌, ◌↔◌, option_copied, true};
 ghost use Rattle.mt_model.specs.History as history;
+ghost use Rattle.mt_model.specs.Numbers as numbers;
 
-use mt_values::{Command, Create, Entry, Name, Schema};
+use super::partitions::same_partition;
+use mt_values::{Command, Create, Entry, Name, Partition, Schema};
 
 /// The schema of a table, where there is the table.
 pub fn schema_of<'a>(entries: &'a [Entry], table: &Name) -> Option<&'a Schema>
@@ -31,14 +33,27 @@ pub fn creates(entries: &[Entry]) -> usize
     count
 }
 
-/// How many INSERTs into a table were accepted.
-pub fn inserts(entries: &[Entry], table: &Name) -> usize
-    ensures { result ≡ history.inserts table.now entries.now }
+/// How many INSERTs into a partition of a table were accepted.
+pub fn inserts(entries: &[Entry], table: &Name, partition: Partition) -> usize
+    ensures { result ≡ history.inserts table.now partition entries.now }
 {
     entries
         .iter()
-        .filter(|entry| inserts_into(&entry.command, table))
+        .filter(|entry| inserts_into(&entry.command, table, partition))
         .count()
+}
+
+/// The last number of a table that was drawn; 0 where none was.
+pub fn last_number(entries: &[Entry], table: &Name) -> usize
+    ensures { result ≡ numbers.last_number table.now entries.now }
+{
+    let mut last = 0;
+    for entry in entries {
+        if draws(&entry.command, table) {
+            last += 1;
+        }
+    }
+    last
 }
 
 /// Whether a command makes a table.
@@ -51,9 +66,21 @@ fn is_create(command: &Command) -> bool
     }
 }
 
-/// Whether a command adds rows to a table.
-fn inserts_into(command: &Command, table: &Name) -> bool
-    ensures { result ≡ history.inserts_into table.now command.now }
+/// Whether a command adds rows to a partition of a table.
+fn inserts_into(command: &Command, table: &Name, partition: Partition) -> bool
+    ensures { result ≡ history.inserts_into table.now partition command.now }
+{
+    match command {
+        Command::Create(_) => false,
+        Command::Insert(insert) => {
+            insert.table == *table && same_partition(insert.partition, partition)
+        }
+    }
+}
+
+/// Whether a command draws a number of a table.
+fn draws(command: &Command, table: &Name) -> bool
+    ensures { result ≡ numbers.draws table.now command.now }
 {
     match command {
         Command::Create(_) => false,

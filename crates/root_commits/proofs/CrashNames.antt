@@ -17,6 +17,7 @@ use Rattle.root_commits.specs.Commits.{fresh_part}
 use Rattle.root_store.specs.Roots.{Stands}
 use Rattle.root_commits.proofs.FreeNames.{entries_differ, entry_is_no_part, fresh_named, parts_differ}
 use Rattle.root_commits.proofs.Growing.{parts_end_by}
+use Rattle.root_store.proofs.EntriesOf.{entry_known}
 use Rattle.root_store.proofs.Readings.{name_read}
 
 module _ (names : Names) (h : History) (s : Stands names h) where
@@ -30,7 +31,7 @@ module _ (names : Names) (h : History) (s : Stands names h) where
     where
       by : (n : RootName) → HasItem s.read n → root_text n ≡ create_name table → ⊥
       by (root.Create t) has is =
-          let known = s.no_other t has in
+          let known = entry_known names h s t has in
           let same : schema_of t h ≡ None = subst (λ (u : List ℕ). schema_of u h ≡ None) (sym (entries_differ t table is)) none in
           let both : None ≡ Some known.0 = sym same ∙ known.1 in
           cc

@@ -1,5 +1,5 @@
 -- A root that stands for a history stands for it with one command more, once what the command makes is among its names.
-use Rattle.std.proofs.Common.{◌≡◌, ℕ, ◌<◌, ◌≤◌, Bool, true, false, cond, List, [], ◌∷◌, ◌++◌, Option, Some, None, IsTrue, length, map, is_some, refl, sym, ap, ◌∙◌, subst, append-nil, arith, inl, inr, ◌⊎◌}
+use Rattle.std.proofs.Common.{◌≡◌, ℕ, ◌<◌, ◌≤◌, Bool, true, false, cond, List, [], ◌∷◌, ◌++◌, Some, None, IsTrue, length, map, is_some, refl, sym, ap, ◌∙◌, subst, append-nil, arith, inl, inr, ◌⊎◌}
 use Rattle.std.proofs.lemmas.List.{map-append}
 use Rattle.std.proofs.lemmas.List.Elements.{All-contains, All-push, All-weaker, Contains-append_left, Contains-push, Contains-push_cases, filter-append}
 use Rattle.std.specs.BTreeMap.{insert_entry}
@@ -16,17 +16,17 @@ use Rattle.mt_values.specs.RootNames.{create_name}
 use Rattle.mt_values.specs.Tables.{sorting_cmp}
 use Rattle.mt_outside.specs.Disk.{Names, files_at}
 use Rattle.mt_outside.specs.Files.{Files}
-use Rattle.mt_model.specs.History.{History, IsInsertInto, IsTableSchema, creates, entered, first_of, schema_of}
+use Rattle.mt_model.specs.History.{History, IsInsertInto, IsTableSchema, creates, entered, schema_of}
 use Rattle.mt_model.specs.Live.{sorted}
 use Rattle.mt_model.specs.Numbers.{numbered}
 use Rattle.mt_model.proofs.Commands.{own_partition}
-use Rattle.mt_model.proofs.Histories.{legal_push, schema_kept, schema_more}
-use Rattle.mt_model.proofs.Tables.{itself_same, same_is}
+use Rattle.mt_model.proofs.Histories.{legal_push, schema_kept}
+use Rattle.mt_model.proofs.Tables.{same_is}
 use Rattle.part_set.specs.declared.root_name.RootName.{RootName}
 use Rattle.part_set.specs.declared.root_name.RootName.TheVariants as root
 use Rattle.part_set.specs.declared.root_name.TablePart.{TablePart}
 use Rattle.part_set.specs.RootNames.{IsRootName, is_table, root_text}
-use Rattle.part_set.specs.Visible.{Covers, HasPart, HasTable, IsVisible}
+use Rattle.part_set.specs.Visible.{Covers, HasPart, IsVisible}
 use Rattle.part_history.specs.declared.part.CorePart.{CorePart}
 use Rattle.part_history.specs.Parts.{TableStands, parts_of}
 use Rattle.part_history.specs.Entered.{next_number, part_of_insert}
@@ -34,8 +34,8 @@ use Rattle.part_history.proofs.Apart.{ends_below}
 use Rattle.part_history.proofs.Growing.{drawn_apart, table_grown, table_kept}
 use Rattle.root_store.specs.ByteOrder.{AreInByteOrder}
 use Rattle.root_commits.specs.Commits.{fresh_part}
-use Rattle.root_store.specs.Entries.{EntryHolds}
-use Rattle.root_store.specs.Roots.{FolderHolds, HasFolder, PartIsThere, Stands, named}
+use Rattle.root_store.specs.Entries.{EntryHolds, HoldsEntry, entry_name}
+use Rattle.root_store.specs.Roots.{FolderHolds, HasFolder, IsOfEntry, PartIsThere, Stands, named}
 use Rattle.root_commits.proofs.Added.{are_read, folder_kept, new_folder, new_read, read_or_new, read_with, still_read, with_name}
 use Rattle.root_commits.proofs.Partitions.{may_spell}
 use Rattle.root_store.proofs.Clear.{of_table}
@@ -43,30 +43,8 @@ use Rattle.root_store.proofs.Fitting.{ends_by}
 use Rattle.root_store.proofs.Orphaned.{of_core, part_named}
 use Rattle.root_store.proofs.Tabled.{table_here}
 
--- ---- schemas
-
-first_none : (o : Option Schema) → first_of o None ≡ o
-first_none None = refl
-first_none (Some schema) = refl
-
--- an INSERT gives no table a schema
-schema_inserted : (t : List ℕ) (h : History) (session : ℕ) (i : Insert) → schema_of t (entered h session (command.Insert i ∷ [])) ≡ schema_of t h
-schema_inserted t h session i = schema_more t h (record { session = session; command = command.Insert i } ∷ []) ∙ first_none (schema_of t h)
-
-module _ (h : History) (session : ℕ) (c : Create) where
-  abbrev last : Entry
-  last = record { session = session; command = command.Create c }
-
-  -- a CREATE gives its table the schema, where there was no such table
-  schema_created : schema_of c.table h ≡ None → schema_of c.table (h ++ last ∷ []) ≡ Some c.schema
-  schema_created absent =
-      schema_more c.table h (last ∷ [])
-      ∙ (ap (λ (o : Option Schema). first_of o (schema_of c.table (last ∷ []))) absent ∙ ap (λ (b : Bool). first_of (cond b (Some c.schema) None) None) (itself_same c.table))
-
-  -- and no other one
-  schema_apart : (t : List ℕ) → same_bytes c.table t ≡ false → schema_of t (h ++ last ∷ []) ≡ schema_of t h
-  schema_apart t apart =
-      schema_more t h (last ∷ []) ∙ (ap (λ (b : Bool). first_of (schema_of t h) (first_of (cond b (Some c.schema) None) None)) apart ∙ first_none (schema_of t h))
+abbrev last : History → ℕ → Create → Entry
+last h session c = record { session = session; command = command.Create c }
 
 -- ---- visible parts
 
@@ -137,28 +115,24 @@ module _ (names : Names) (h : History) (session : ℕ) (c : Create) (files : Fil
   abbrev made : List RootName
   made = read_with (root.Create c.table) s.read
 
-  -- each table of the longer history has its entry
-  entry_there : (t : List ℕ) (schema : Schema) → schema_of t (h ++ last h session c ∷ []) ≡ Some schema → HasFolder (with_name names (create_name c.table) files) (create_name t) (EntryHolds t schema)
-  entry_there t schema is = by (same_bytes c.table t) refl
+  -- each command that has an entry has it
+  entry_there : (e : Entry) (name : List ℕ) → HasItem (h ++ last h session c ∷ []) e → entry_name e.command ≡ Some name → HasFolder (with_name names (create_name c.table) files) name (HoldsEntry e.command)
+  entry_there e name has is = elim (Contains-push_cases h (last h session c) e has) [
+    | inl old ↦ folder_kept names (create_name c.table) files name (HoldsEntry e.command) free (s.entries e name old is)
+    | inr new ↦ subst (λ (x : Entry). entry_name x.command ≡ Some name → HasFolder (with_name names (create_name c.table) files) name (HoldsEntry x.command)) new own is
+  ]
     where
-      by : (b : Bool) → same_bytes c.table t ≡ b → HasFolder (with_name names (create_name c.table) files) (create_name t) (EntryHolds t schema)
-      by true here =
-          let same = same_is c.table t here in
-          let found = subst (λ (u : List ℕ). schema_of u (h ++ last h session c ∷ []) ≡ Some c.schema) same (schema_created h session c absent) in
-          let schemas : c.schema ≡ schema = cc in
-          let own : HasFolder (with_name names (create_name c.table) files) (create_name c.table) (EntryHolds c.table c.schema) =
-          record { files = files; there = new_folder names (create_name c.table) files; holds = holds } in
-          subst (λ (x : Schema). HasFolder (with_name names (create_name c.table) files) (create_name t) (EntryHolds t x)) schemas
-          (subst (λ (u : List ℕ). HasFolder (with_name names (create_name c.table) files) (create_name u) (EntryHolds u c.schema)) same own)
-      by false apart = folder_kept names (create_name c.table) files (create_name t) (EntryHolds t schema) free (s.tables t schema (sym (schema_apart h session c t apart) ∙ is))
+      own : Some (create_name c.table) ≡ Some name → HasFolder (with_name names (create_name c.table) files) name (EntryHolds c.table c.schema)
+      own named =
+          let same : create_name c.table ≡ name = cc in
+          subst (λ (n : List ℕ). HasFolder (with_name names (create_name c.table) files) n (EntryHolds c.table c.schema)) same
+          (record { files = files; there = new_folder names (create_name c.table) files; holds = holds })
 
   -- and no other name is an entry
-  table_known : (t : List ℕ) → HasTable made t → (schema : Schema) × (schema_of t (h ++ last h session c ∷ []) ≡ Some schema)
-  table_known t has = elim (read_or_new (root.Create c.table) s.read (root.Create t) has) [
-    | inl old ↦ (let known = s.no_other t old in (known.0, schema_kept t h (last h session c ∷ []) known.0 known.1))
-    | inr new ↦ (
-        let same : c.table ≡ t = cc in
-        (c.schema, subst (λ (u : List ℕ). schema_of u (h ++ last h session c ∷ []) ≡ Some c.schema) same (schema_created h session c absent)))
+  entry_of_one : (n : RootName) → HasItem made n → IsOfEntry n → (e : Entry) × HasItem (h ++ last h session c ∷ []) e × (entry_name e.command ≡ Some (root_text n))
+  entry_of_one n has is = elim (read_or_new (root.Create c.table) s.read n has) [
+    | inl old ↦ (let known = s.no_other n old is in (known.0, Contains-append_left h (last h session c ∷ []) known.0 known.1, known.2))
+    | inr new ↦ (last h session c, Contains-push h (last h session c), ap (λ (x : RootName). Some (root_text x)) new)
   ]
 
   table_stands : creates h < 65536 → IsTableSchema c.schema → IsTrue (is_table c.table) → Stands (with_name names (create_name c.table) files) (h ++ last h session c ∷ [])
@@ -167,8 +141,8 @@ module _ (names : Names) (h : History) (session : ℕ) (c : Create) (files : Fil
     read = made;
     are = are_read (root.Create c.table) word names files s.read s.are;
     unmutated = λ part has. s.unmutated part (part_was s.read c.table part has);
-    tables = entry_there;
-    no_other = table_known;
+    entries = entry_there;
+    no_other = entry_of_one;
     parts = s.parts;
     visible = λ part. (λ visible. (s.visible part).0 (table_shows_none s.read c.table part visible), λ has. table_hides_none s.read c.table part ((s.visible part).1 has));
     stand = λ t. table_kept t (parts_of t s.parts) h (last h session c ∷ []) refl (s.stand t);
@@ -280,6 +254,9 @@ module _ (names : Names) (h : History) (session : ℕ) (i : Insert) (schema : Sc
     };
   }
 
+  no_entry : (name : List ℕ) → None ≡ Some name → ⊥
+  no_entry name is = cc
+
   part_stands : files_at text names ≡ None → Stands (with_name names text files) (h ++ entry ∷ [])
   part_stands free = record {
     legal = legal_push h entry s.legal (schema, known, is);
@@ -289,10 +266,13 @@ module _ (names : Names) (h : History) (session : ℕ) (i : Insert) (schema : Sc
       | inl old ↦ s.unmutated part old
       | inr same ↦ sym (ap (λ (p : TablePart). p.name.mutation) same)
     ];
-    tables = λ t found there. folder_kept names text files (create_name t) (EntryHolds t found) free (s.tables t found (sym (schema_inserted t h session i) ∙ there));
-    no_other = λ t has. elim (read_or_new (root.Part new) s.read (root.Create t) has) [
-      | inl old ↦ (let was = s.no_other t old in (was.0, schema_kept t h (entry ∷ []) was.0 was.1))
-      | inr same ↦ cc
+    entries = λ e name has named_is. elim (Contains-push_cases h entry e has) [
+      | inl old ↦ folder_kept names text files name (HoldsEntry e.command) free (s.entries e name old named_is)
+      | inr new_one ↦ absurd (no_entry name (ap (λ (x : Entry). entry_name x.command) new_one ∙ named_is))
+    ];
+    no_other = λ n has of_entry. elim (read_or_new (root.Part new) s.read n has) [
+      | inl old ↦ (let was = s.no_other n old of_entry in (was.0, Contains-append_left h (entry ∷ []) was.0 was.1, was.2))
+      | inr same ↦ absurd (subst IsOfEntry (sym same) of_entry)
     ];
     parts = s.parts ++ core ∷ [];
     visible = λ part. (visible_there part, there_visible part);

@@ -1,5 +1,5 @@
 -- What refuses a commit, and what it leaves (docs/architecture.md, "Commits").
-use Rattle.std.specs.Prelude.{◌≡◌, ◌≢◌, ℕ, ◌+◌, List, [], ◌∷◌, get_or, Option, Some, None, Result, Ok, Err, filter, if◌then◌else◌, is_some, length, nat_le}
+use Rattle.std.specs.Prelude.{◌≡◌, ◌≢◌, ℕ, ◌+◌, List, [], get_or, Option, Some, None, Result, Ok, Err, filter, if◌then◌else◌, is_some, length, nat_le}
 use Rattle.std.specs.BTreeMap.{Updates}
 use Rattle.std.specs.Cmp.Lexicographic.{slice_cmp}
 use Rattle.std.specs.Ordering.{nat_cmp}

@@ -1,5 +1,5 @@
 // A command added to the disk, to what the keeper tells and to the store.
-ghost use Rattle.std.specs.Prelude.{◌≡◌, ◌≢◌, ◌+◌, ◌-◌, ◌<◌, ◌≤◌, ◌^◌, ℕ, IsSome, IsTrue, List, Option, Some, None, IfErr, IfOk, IfSome, IsNone, OnErr, OnOk, length};
+ghost use Rattle.std.specs.Prelude.{◌≡◌, ◌∷◌, [], ◌≢◌, ◌+◌, ◌-◌, ◌<◌, ◌≤◌, ◌^◌, ℕ, IsSome, IsTrue, List, Option, Some, None, IfErr, IfOk, IfSome, IsNone, OnErr, OnOk, length};
 ghost use Rattle.std.specs.BTreeMap.{Updates, get, insert_entry};
 ghost use Rattle.std.specs.Cmp.Lexicographic.{slice_cmp};
 ghost use Rattle.std.specs.Option.{option_map};

@@ -8,6 +8,7 @@ use Rattle.mt_values.specs.Script.{Step, next_statement, statement_and, statemen
 use Rattle.mt_values.proofs.ScriptBounds.{statements_of_step}
 use Rattle.digest_file.specs.Spellings.{IsEntryOf}
 use Rattle.root_store.specs.Entries.{IsEntryWith, schema_by, schema_by_items, schema_of_entry}
+use Rattle.root_store.proofs.EntryReads.{reads_as}
 
 -- a script without a statement gives a table no schema
 pub none_read : (table script : List ℕ) → next_statement script ≡ None → schema_by_items table (statements_of script) ≡ None
@@ -37,7 +38,7 @@ sliced script at = take_all (length script - at) (drop at script) (omega (arith,
 -- the schema that is found is that of the entry
 pub entry_found : (table bytes text : List ℕ) → IsEntryOf bytes text → (found : Option Schema) → found ≡ schema_of_entry table text → IfSome found (λ schema. IsEntryWith table schema bytes)
 entry_found table bytes text entry None is = tt
-entry_found table bytes text entry (Some schema) is = record { text = text; few = entry.few; bytes = entry.spelled; reads = sym is }
+entry_found table bytes text entry (Some schema) is = record { text = text; few = entry.few; bytes = entry.spelled; reads = reads_as table text schema (sym is) }
 
 -- and the entry's schema is found
 pub entry_read : (table text other : List ℕ) (schema : Schema) → text ≡ other → schema_of_entry table other ≡ Some schema → (found : Option Schema) → found ≡ schema_of_entry table text → found ≡ Some schema

@@ -1,5 +1,5 @@
 -- The store that a root is opened as stands for the history of the root.
-use Rattle.std.proofs.Common.{◌≡◌, ℕ, ◌+◌, ◌-◌, ◌<◌, ◌≤◌, Bool, true, false, cond, ◌&&◌, ◌||◌, List, [], ◌∷◌, Option, Some, None, length, map, get_or, is_some, refl, sym, ap, ap₂, ◌∙◌, subst, inl, inr, ◌⊎◌, arith, zero, suc}
+use Rattle.std.proofs.Common.{◌≡◌, ℕ, ◌+◌, ◌-◌, ◌<◌, ◌≤◌, Bool, true, false, cond, ◌&&◌, ◌||◌, List, [], ◌∷◌, Option, Some, None, length, map, get_or, is_some, refl, sym, ap, ap₂, ◌∙◌, subst, inl, inr, ◌⊎◌, arith}
 use Rattle.std.proofs.lemmas.Bool.{cases_lt, false≢true}
 use Rattle.std.proofs.lemmas.Cmp.{nat_list_cmp_total}
 use Rattle.std.proofs.lemmas.List.Elements.{All-from_recursion, All-weaker, Contains-get_or, recursion_from_All}
@@ -56,6 +56,7 @@ use Rattle.root_store.specs.Stores.{CoreStands, IsKeptOf, PartsAreThere, StoreOf
 use Rattle.root_store.proofs.Blocks.{HasBlock, blocks}
 use Rattle.root_store.proofs.Clear.{part_stands}
 use Rattle.root_store.proofs.Counted.{Apart, AreTables, AreThere, as_long, as_many, is_among, sizes}
+use Rattle.root_store.proofs.EntriesOf.{entry_known, table_entry}
 use Rattle.root_store.proofs.InOrder.{core_order, pairs_head, pairs_tail}
 use Rattle.root_store.proofs.Items.{counted_one, item_either, map_item, mapped, one_counts, unfiltered}
 use Rattle.root_store.proofs.Orphaned.{no_orphan, of_core}
@@ -177,8 +178,8 @@ module _ {F : Type 0} (files_of : F → Option Files) (names : Names) (h : Histo
   schema_at : (table : List ℕ) (t : Table) → table_at store table ≡ Some t → schema_of table h ≡ Some t.schema
   schema_at table t at =
       let kept = o.tables table t at in
-      let known = s.no_other table (subst (λ (r : List RootName). HasTable r table) same_read kept.here) in
-      known.1 ∙ ap Some (sym (folders_agree names (create_name table) table t.schema known.0 kept.entry (s.tables table known.0 known.1)))
+      let known = entry_known names h s table (subst (λ (r : List RootName). HasTable r table) same_read kept.here) in
+      known.1 ∙ ap Some (sym (folders_agree names (create_name table) table t.schema known.0 kept.entry (table_entry names h s table known.0 known.1)))
 
   -- the tables of the store are those of the history
   tables_are : (table : List ℕ) → option_map (λ (t : Table). t.schema) (table_at store table) ≡ schema_of table h

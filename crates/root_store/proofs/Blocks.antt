@@ -1,5 +1,5 @@
 -- The blocks of a part.
-use Rattle.std.proofs.Common.{◌≡◌, ℕ, ◌≤◌, Bool, true, false, ◌&&◌, refl, ap, nat_le}
+use Rattle.std.proofs.Common.{◌≡◌, ℕ, ◌≤◌, Bool, true, false, ◌&&◌, refl, nat_le}
 use Rattle.std.proofs.lemmas.Bool.{leb-true}
 use Rattle.mt_base.specs.declared.partition.Partition.{Partition}
 use Rattle.part_name.specs.declared.part.PartName.{PartName}

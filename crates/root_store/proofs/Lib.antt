@@ -3,6 +3,8 @@ pub mod Clear
 pub mod Counted
 pub mod CrashMarks
 pub mod CrashOrder
+pub mod EntriesOf
+pub mod EntryReads
 pub mod Fitting
 pub mod InOrder
 pub mod Items

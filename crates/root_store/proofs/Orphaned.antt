@@ -15,6 +15,7 @@ use Rattle.part_set.specs.RootNames.{IsRootName}
 use Rattle.part_set.specs.Visible.{Covers, HasPart, HasTable, IsOrphan, IsVisible}
 use Rattle.part_history.specs.declared.part.CorePart.{CorePart}
 use Rattle.root_store.specs.Roots.{PartIsThere, Stands, named}
+use Rattle.root_store.proofs.EntriesOf.{table_entry}
 use Rattle.root_store.proofs.Items.{mapped}
 use Rattle.root_store.proofs.Readings.{table_read}
 
@@ -65,7 +66,7 @@ module _ (names : Names) (h : History) (s : Stands names h) where
   table_there : (part : TablePart) → IsVisible s.read part → HasTable s.read part.table
   table_there part visible =
       let c = of_core part visible in
-      let folder = s.tables c.core.table c.there.schema c.there.schema_is in
+      let folder = table_entry names h s c.core.table c.there.schema c.there.schema_is in
       subst (HasTable s.read) (ap (λ (p : TablePart). p.table) c.name_is) (table_read names s.read c.core.table folder.files s.are folder.there)
 
   -- nor can that of a hidden one be missing, since a greater part covers it

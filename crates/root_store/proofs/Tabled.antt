@@ -23,6 +23,7 @@ use Rattle.root_store.specs.ByteOrder.{AreInByteOrder}
 use Rattle.root_store.specs.Damage.{is_create, most_tables}
 use Rattle.root_store.specs.Roots.{Stands}
 use Rattle.root_store.proofs.Counted.{Apart, AreTables, AreThere, as_many, creates_few, is_among}
+use Rattle.root_store.proofs.EntriesOf.{entry_known, table_entry}
 use Rattle.root_store.proofs.Items.{item_either}
 use Rattle.root_store.proofs.Readings.{table_read}
 
@@ -84,7 +85,7 @@ there_in h (Part p ∷ names) all = there_in h names (λ u has. all u (item_more
 module _ (names : Names) (h : History) (s : Stands names h) where
   -- a table among the names is one of the history
   pub table_known : (t : List ℕ) → HasTable s.read t → is_some (schema_of t h) ≡ true
-  table_known t has = ap is_some (s.no_other t has).1
+  table_known t has = ap is_some (entry_known names h s t has).1
 
   -- and each of those is among the names
   pub table_here : (t : List ℕ) → is_some (schema_of t h) ≡ true → HasTable s.read t
@@ -92,7 +93,7 @@ module _ (names : Names) (h : History) (s : Stands names h) where
     where
       by : (o : Option Schema) → schema_of t h ≡ o → is_some o ≡ true → HasTable s.read t
       by None is none = cc
-      by (Some schema) is one = let folder = s.tables t schema is in table_read names s.read t folder.files s.are folder.there
+      by (Some schema) is one = let folder = table_entry names h s t schema is in table_read names s.read t folder.files s.are folder.there
 
   pub are_tables : AreInByteOrder names → AreTables h (tables_in s.read)
   are_tables rise = record {

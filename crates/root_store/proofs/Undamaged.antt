@@ -26,9 +26,11 @@ use Rattle.part_history.specs.declared.part.CorePart.{CorePart}
 use Rattle.part_history.specs.Parts.{parts_of}
 use Rattle.part_history.proofs.Apart.{may_have}
 use Rattle.root_store.specs.Damage.{DamagedAt, IsDamaged, PartDamaged}
-use Rattle.root_store.specs.Entries.{EntryHolds, schema_of_entry}
+use Rattle.root_store.specs.Entries.{EntryHolds, ReadsAs, create_of}
 use Rattle.root_store.specs.Roots.{FolderHolds, HasFolder, Stands}
 use Rattle.root_store.proofs.Clear.{of_table}
+use Rattle.root_store.proofs.EntriesOf.{entry_known, table_entry}
+use Rattle.root_store.proofs.EntryReads.{one_schema}
 use Rattle.root_store.proofs.Orphaned.{of_core}
 use Rattle.root_store.proofs.Readings.{item_at}
 
@@ -56,7 +58,7 @@ same_some x y e = cc
 pub entry_is_one : (table : List ℕ) (a b : Schema) (files : Files) → EntryHolds table a files → EntryHolds table b files → a ≡ b
 entry_is_one table a b files x y =
     let texts : x.text ≡ y.text = text_is_one x.text y.text (sym x.bytes ∙ y.bytes) in
-    same_some a b (sym x.reads ∙ (ap (schema_of_entry table) texts ∙ y.reads))
+    one_schema y.text table a b (subst (λ (t : List ℕ). ReadsAs t (create_of table a)) texts x.reads) y.reads
 
 -- so do two that have one name
 pub folders_agree : (names : Names) (name table : List ℕ) (a b : Schema) → HasFolder names name (EntryHolds table a) → HasFolder names name (EntryHolds table b) → a ≡ b
@@ -81,8 +83,8 @@ module _ (names : Names) (h : History) (s : Stands names h) where
 
   entry_sound : (table : List ℕ) (files : Files) → HasItem s.read (root.Create table) → files_at (create_name table) names ≡ Some files → ((schema : Schema) → EntryHolds table schema files → ⊥) → ⊥
   entry_sound table files here at damaged =
-      let known = s.no_other table here in
-      let folder = s.tables table known.0 known.1 in
+      let known = entry_known names h s table here in
+      let folder = table_entry names h s table known.0 known.1 in
       damaged known.0 (subst (EntryHolds table known.0) (same_some folder.files files (sym folder.there ∙ at)) folder.holds)
 
   -- the folder of a visible part holds rows under the schema that its table's entry gives
@@ -93,7 +95,7 @@ module _ (names : Names) (h : History) (s : Stands names h) where
       let folder = c.there.folder in
       let table : c.core.table ≡ part.table = ap (λ (p : TablePart). p.table) c.name_is in
       let known : schema_of part.table h ≡ Some c.there.schema = subst (λ (t : List ℕ). schema_of t h ≡ Some c.there.schema) table c.there.schema_is in
-      let same : c.there.schema ≡ schema = folders_agree names (create_name part.table) part.table c.there.schema schema (s.tables part.table c.there.schema known) entry in
+      let same : c.there.schema ≡ schema = folders_agree names (create_name part.table) part.table c.there.schema schema (table_entry names h s part.table c.there.schema known) entry in
       let here : files_at (root_text (root.Part part)) names ≡ Some folder.files = subst (λ (p : TablePart). files_at (root_text (root.Part p)) names ≡ Some folder.files) c.name_is folder.there in
       let files_are : folder.files ≡ files = same_some folder.files files (sym here ∙ at) in
       let holds = subst (λ (x : Schema). FolderHolds x c.core.rows files) same (subst (FolderHolds c.there.schema c.core.rows) files_are folder.holds) in

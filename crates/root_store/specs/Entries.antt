@@ -1,16 +1,20 @@
--- The entries of tables (docs/formats.md, "Entries").
+-- The entries of commands (docs/formats.md, "Entries").
 use Rattle.std.specs.Prelude.{◌≡◌, ℕ, ◌<◌, ◌^◌, length, List, [], ◌∷◌, ◌++◌, codes, Option, Some, None, Result, Ok, Err, if◌then◌else◌}
 use Rattle.std.specs.Result.{result_ok}
 use Rattle.sha2.specs.Sha256.{sha256}
 use Rattle.mt_base.specs.declared.name.FileId.TheVariants as file
+use Rattle.mt_values.specs.declared.command.Command.{Command}
+use Rattle.mt_values.specs.declared.command.Command.TheVariants as command
 use Rattle.mt_values.specs.declared.schema.Schema.{Schema}
 use Rattle.mt_values.specs.declared.statement.Cause.{Cause}
 use Rattle.mt_values.specs.declared.statement.Statement.{Statement}
 use Rattle.mt_values.specs.declared.statement.Statement.TheVariants as statement
 use Rattle.mt_values.specs.Grammar.{same_bytes}
 use Rattle.mt_values.specs.Manifests.{entry_bytes}
+use Rattle.mt_values.specs.RootNames.{create_name}
 use Rattle.mt_values.specs.Script.{statements_of}
 use Rattle.mt_outside.specs.Files.{Files, bytes_of}
+use Rattle.mt_model.specs.Commands.{commands_of}
 use Rattle.mt_model.specs.Reply.{schema_of_text}
 
 -- the schema that a statement gives a table: it is a CREATE of the table that no rule refuses
@@ -30,13 +34,36 @@ schema_by_items table (Ok s ∷ item ∷ items) = None
 abbrev pub schema_of_entry : List ℕ → List ℕ → Option Schema
 schema_of_entry table text = schema_by_items table (statements_of (text ++ codes ";"))
 
--- bytes are the entry of a table with this schema: those of a text whose length fits the number in front of it
-pub record IsEntryWith (table : List ℕ) (schema : Schema) (entry : List ℕ) : Type 0 where
+-- a text reads as a command: the text and a semicolon are one statement, which gives this command and no other (docs/formats.md, "Entries")
+pub record ReadsAs (text : List ℕ) (command : Command) : Type 0 where
+  pub statement : Statement
+  pub alone : statements_of (text ++ codes ";") ≡ Ok statement ∷ []
+  pub gives : commands_of [] statement ≡ Ok (command ∷ [])
+
+-- bytes are the entry of a command: those of a text that reads as it, and whose length fits the number before it
+pub record IsEntryFor (command : Command) (entry : List ℕ) : Type 0 where
   pub text : List ℕ
   pub few : length text < 2 ^ 32
   pub bytes : entry ≡ entry_bytes sha256 text
-  pub reads : schema_of_entry table text ≡ Some schema
+  pub reads : ReadsAs text command
 
--- a folder holds it (docs/formats.md, "Entries")
+-- a folder holds the entry of a command (docs/formats.md, "Entries")
+abbrev pub HoldsEntry : Command → Files → Type 0
+HoldsEntry command files = IsEntryFor command (bytes_of file.Entry files)
+
+-- the name under which a root has the entry of a command: a CREATE's is that of its table, and an INSERT has none
+abbrev pub entry_name : Command → Option (List ℕ)
+entry_name (command.Create c) = Some (create_name c.table)
+entry_name (command.Insert i) = None
+
+-- the command that makes a table
+abbrev pub create_of : List ℕ → Schema → Command
+create_of table schema = command.Create (record { table = table; schema = schema })
+
+-- bytes are the entry of a table with this schema: that of its CREATE
+abbrev pub IsEntryWith : List ℕ → Schema → List ℕ → Type 0
+IsEntryWith table schema entry = IsEntryFor (create_of table schema) entry
+
+-- a folder holds it
 abbrev pub EntryHolds : List ℕ → Schema → Files → Type 0
-EntryHolds table schema files = IsEntryWith table schema (bytes_of file.Entry files)
+EntryHolds table schema files = HoldsEntry (create_of table schema) files

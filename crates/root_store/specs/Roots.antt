@@ -1,8 +1,8 @@
 -- Which roots stand for a history (docs/definitions.md, "Roots").
 use Rattle.std.specs.Prelude.{◌≡◌, ◌↔◌, ℕ, List, map, All, Some, None}
 use Rattle.std.specs.List.{Contains as HasItem}
+use Rattle.mt_values.specs.declared.command.Entry.{Entry}
 use Rattle.mt_values.specs.declared.schema.Schema.{Schema}
-use Rattle.mt_values.specs.RootNames.{create_name}
 use Rattle.mt_outside.specs.Disk.{Names, files_at}
 use Rattle.mt_outside.specs.Files.{Files}
 use Rattle.mt_model.specs.History.{History, IsLegal, schema_of}
@@ -10,11 +10,11 @@ use Rattle.part_set.specs.declared.root_name.RootName.{RootName}
 use Rattle.part_set.specs.declared.root_name.RootName.TheVariants as root
 use Rattle.part_set.specs.declared.root_name.TablePart.{TablePart}
 use Rattle.part_set.specs.RootNames.{IsRootName, root_text}
-use Rattle.part_set.specs.Visible.{HasPart, HasTable, IsVisible}
+use Rattle.part_set.specs.Visible.{HasPart, IsVisible}
 pub use Rattle.part_reader.specs.Parts.{FolderHolds}
 use Rattle.part_history.specs.declared.part.CorePart.{CorePart}
 use Rattle.part_history.specs.Parts.{PartsStand}
-use Rattle.root_store.specs.Entries.{EntryHolds}
+use Rattle.root_store.specs.Entries.{HoldsEntry, entry_name}
 
 -- the root has a folder of this name, and it is so
 pub record HasFolder (names : Names) (name : List ℕ) (Holds : Files → Type 0) : Type 0 where
@@ -37,16 +37,21 @@ pub record AreRead (names : Names) (read : List RootName) : Type 0 where
   pub sound : All IsRootName read
   pub spelled : map root_text read ≡ map (λ (n : List ℕ × Files). n.0) names
 
+-- a name that is the name of an entry
+abbrev pub IsOfEntry : RootName → Type 0
+IsOfEntry (root.Create table) = Unit {0}
+IsOfEntry (root.Part part) = ⊥
+
 -- The names of a root, with their files, stand for a history (docs/definitions.md, "Roots"). Each name is one of the grammar, and none is of
--- a mutated part. There is an entry for each table, which reads as its CREATE, and no other. The visible parts hold rows with which
--- they stand for the history.
+-- a mutated part. The entries are exactly those of the history's commands that have one, each of which reads as its command. The visible
+-- parts hold rows with which they stand for the history.
 pub record Stands (names : Names) (h : History) : Type 0 where
   pub legal : IsLegal h
   pub read : List RootName
   pub are : AreRead names read
   pub unmutated : (part : TablePart) → HasPart read part → part.name.mutation ≡ None
-  pub tables : (table : List ℕ) (schema : Schema) → schema_of table h ≡ Some schema → HasFolder names (create_name table) (EntryHolds table schema)
-  pub no_other : (table : List ℕ) → HasTable read table → (schema : Schema) × (schema_of table h ≡ Some schema)
+  pub entries : (e : Entry) (name : List ℕ) → HasItem h e → entry_name e.command ≡ Some name → HasFolder names name (HoldsEntry e.command)
+  pub no_other : (n : RootName) → HasItem read n → IsOfEntry n → (e : Entry) × HasItem h e × (entry_name e.command ≡ Some (root_text n))
   pub parts : List CorePart
   pub visible : (part : TablePart) → IsVisible read part ↔ HasItem (map named parts) part
   pub stand : PartsStand parts h

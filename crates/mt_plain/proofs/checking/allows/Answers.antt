@@ -4,41 +4,28 @@ use Rattle.mt_base.specs.declared.memory.NoMemory.{NoMemory}
 use Rattle.mt_values.specs.declared.statement.Cause.{Cause}
 use Rattle.mt_values.specs.declared.statement.Statement.{Statement}
 use Rattle.mt_model.specs.History.{History, FewInserts}
-use Rattle.mt_model.specs.Same.{SameHistory}
 use Rattle.mt_model.specs.Script.{ScriptRun}
 use Rattle.mt_plain.specs.Plain.{calm}
-use Rattle.mt_plain.proofs.Exchanged.{script_same, same_back}
 use Rattle.mt_model.proofs.OneWay.{one_way}
 use Rattle.mt_plain.proofs.checking.allows.Goals as goal
 
--- beside a run, a history that is the same and has the same output is one of the script's
-same_allowed : (ss : List (Result Statement Cause)) (h g : History) (out : List ℕ) (r : Result Bool NoMemory) → ScriptRun calm ss h 0 out → IfOk r (λ same. (same ≡ true) ↔ SameHistory h g) → IfOk r (λ b. b ≡ true → ScriptRun calm ss g 0 out)
-same_allowed ss h g out (Ok b) run same = λ e. script_same calm h g ss out (same.0 e) run
-same_allowed ss h g out (Err e) run same = tt
-
--- and one of the script's with few INSERTs is the same
-allowed_same : (ss : List (Result Statement Cause)) (h g : History) (out : List ℕ) (r : Result Bool NoMemory) → ScriptRun calm ss h 0 out → IfOk r (λ same. (same ≡ true) ↔ SameHistory h g)
+-- one of the script's histories with few INSERTs is the one that was left
+allowed_same : (ss : List (Result Statement Cause)) (h g : History) (out : List ℕ) (r : Result Bool NoMemory) → ScriptRun calm ss h 0 out → IfOk r (λ same. (same ≡ true) ↔ (h ≡ g))
     → FewInserts g → ScriptRun calm ss g 0 out → IfOk r (λ b. b ≡ true)
-allowed_same ss h g out (Ok b) run same few other = same.1 (same_back g h (one_way calm ss g h 0 out out refl (omega arith) few refl other run).1)
+allowed_same ss h g out (Ok b) run same few other = same.1 (sym (one_way calm ss g h 0 out out refl (omega arith) few (λ table schema is. tt) refl other run).1)
 allowed_same ss h g out (Err e) run same few other = tt
 
-pub returns-then-eq : goal.returns-then-eq
-returns-then-eq c =
+pub returns-then-eq-clause-exact : goal.returns-then-eq-clause-exact
+returns-then-eq-clause-exact c =
     let h = c.in_ok-done.done.history.items in
     let ss = c.args.statements.now in
     let g = c.args.entries.now in
     let out : c.in_ok-done.done.out.items ≡ c.args.printed.now = sym c.as_slice.ensures.value ∙ same_text c.as_slice.result.now c.args.printed.now c.if-eq.ensures in
     let run = subst (λ (o : List ℕ). ScriptRun calm ss h 0 o) out c.in_ok-done.ensures.run in
-    let same = subst (λ (x : History). IfOk c.same_histories.result (λ same. (same ≡ true) ↔ SameHistory x g)) c.deref.ensures.value c.same_histories.ensures in
-    record {
-      allowed = same_allowed ss h g c.args.printed.now c.same_histories.result run same;
-      exact = allowed_same ss h g c.args.printed.now c.same_histories.result run same;
-    }
+    let same = subst (λ (x : History). IfOk c.same_histories.result (λ same. (same ≡ true) ↔ (x ≡ g))) c.deref.ensures.value c.same_histories.ensures in
+    allowed_same ss h g c.args.printed.now c.same_histories.result run same
 
-pub returns : goal.returns
-returns c = record {
-  allowed = λ e. cc;
-  exact = λ few run.
-      let one = one_way calm c.args.statements.now c.args.entries.now c.in_ok-done.done.history.items 0 c.args.printed.now c.in_ok-done.done.out.items refl (omega arith) few refl run c.in_ok-done.ensures.run in
-      absurd (other_text c.as_slice.result.now c.args.printed.now c.if-eq.ensures (c.as_slice.ensures.value ∙ sym one.0));
-}
+pub returns-clause-exact : goal.returns-clause-exact
+returns-clause-exact c = λ few run.
+    let one = one_way calm c.args.statements.now c.args.entries.now c.in_ok-done.done.history.items 0 c.args.printed.now c.in_ok-done.done.out.items refl (omega arith) few (λ table schema is. tt) refl run c.in_ok-done.ensures.run in
+    absurd (other_text c.as_slice.result.now c.args.printed.now c.if-eq.ensures (c.as_slice.ensures.value ∙ sym one.0))

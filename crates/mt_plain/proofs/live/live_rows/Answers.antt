@@ -8,7 +8,7 @@ use Rattle.mt_plain.proofs.live.live_rows.Goals as goal
 pub loop-entry-preserved : goal.loop-entry-preserved
 loop-entry-preserved c =
     let t = c.args.table.now in
-    let k = c.args.key.now in
+    let k = c.args.schema.now in
     let es = c.args.entries.now in
     let rows = c.loop-entry.rows.items in
     let rest = drop (c.loop-entry.entry-index + 1) es in

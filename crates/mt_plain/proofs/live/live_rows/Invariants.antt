@@ -4,4 +4,4 @@ use Rattle.mt_model.specs.Live.{live, live_from}
 use Rattle.mt_plain.proofs.live.live_rows.Given as goal
 
 abbrev pub invariant-loop-entry : goal.invariant-loop-entry
-invariant-loop-entry l = live_from l.table l.key l.rows.items (drop l.entry-index l.entries) ≡ live l.table l.key l.entries
+invariant-loop-entry l = live_from l.table l.schema l.rows.items (drop l.entry-index l.entries) ≡ live l.table l.schema l.entries

@@ -5,16 +5,10 @@ use Rattle.mt_model.specs.Refusals.{refusal_line}
 use Rattle.mt_plain.proofs.Steps.{when_ok, no_table_takes}
 use Rattle.mt_plain.proofs.running.step_select.Goals as goal
 
-pub select_from-requires : goal.select_from-requires
-select_from-requires c = sym c.in-Some.ensures
-
-pub returns-in-Some : goal.returns-in-Some
-returns-in-Some c = c.select_from.ensures
-
-pub returns-in_ok-twin-in-None : goal.returns-in_ok-twin-in-None
-returns-in_ok-twin-in-None c =
+pub returns-in_default : goal.returns-in_default
+returns-in_default c =
     let h = c.args.history.now in
     let t = c.args.select.now in
-    let none : schema_of t.table h ≡ None = sym c.in-None.ensures in
-    let named = ap (λ (n : List ℕ). refusal_line (refusal.NoTable n)) c.in_ok-twin-in-None.ensures in
-    when_ok c.refused.result (λ line. line.items ≡ refusal_line (refusal.NoTable c.in_ok-twin-in-None.field-0)) _ (λ line is. no_table_takes h t line.items none (is ∙ named)) c.refused.ensures
+    let none : schema_of t.table h ≡ None = sym c.in_default.ensures in
+    let named = ap (λ (n : List ℕ). refusal_line (refusal.NoTable n)) c.in_ok-twin.ensures in
+    when_ok c.refused.result (λ line. line.items ≡ refusal_line (refusal.NoTable c.in_ok-twin.field-0)) _ (λ line is. no_table_takes h t line.items none (is ∙ named)) c.refused.ensures

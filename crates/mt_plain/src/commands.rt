@@ -1,0 +1,100 @@
+// The commands that statements give.
+ghost use Rattle.std.specs.Prelude.{◌≡◌, ◌<◌, ◌^◌, All, Err, Ok, IfOk, MatchResult, length};
+ghost use Rattle.mt_values.specs.declared.statement.Statement.TheVariants as statement;
+ghost use Rattle.mt_values.specs.Grid.{AreRowsOf};
+ghost use Rattle.mt_model.specs.Commands as commands;
+ghost use Rattle.mt_model.specs.History as history;
+ghost use Rattle.mt_model.specs.Reply as reply;
+ghost use Rattle.mt_plain.specs.Plain.{MayCome};
+
+use mt_base::{NoMemory, Twin};
+use mt_model::{Refusal, resolve};
+use mt_values::{
+    Block, Command, Create, CreateText, Entry, Insert, InsertText, Name, Partition, Row, Schema,
+};
+use plain_base::{column_types, partitions_of, read_block, rows_in, rows_of, schema_of};
+use std::alloc::Global;
+
+/// The command of a CREATE, or why its text refuses it.
+pub fn create_commands(
+    alloc: Global,
+    create: &CreateText,
+) -> Result<Result<Vec<Command>, Refusal>, NoMemory>
+    ensures { IfOk result (λ given. MatchResult given (λ v. commands.create_commands create.now.table (reply.schema_of_text create.now) ≡ Ok v.items) (λ why. commands.create_commands create.now.table (reply.schema_of_text create.now) ≡ Err why)) }
+{
+    let schema = match resolve(alloc, create)? {
+        Ok(schema) => schema,
+        Err(refusal) => return Ok(Err(refusal)),
+    };
+    let table = create.table.twin(alloc)?;
+    let mut commands = Vec::new(alloc);
+    commands.push(Command::Create(Create { table, schema }))?;
+    Ok(Ok(commands))
+}
+
+/// The commands of an INSERT at the end of a history, one for each partition of its rows, or why its table or its data
+/// refuses it.
+pub fn insert_commands(
+    alloc: Global,
+    entries: &[Entry],
+    insert: &InsertText,
+) -> Result<Result<Vec<Command>, Refusal>, NoMemory>
+    ensures given { IfOk result (λ given. MatchResult given (λ v. commands.commands_of entries.now (statement.Insert insert.now) ≡ Ok v.items) (λ why. commands.commands_of entries.now (statement.Insert insert.now) ≡ Err why)) }
+    ensures may_come { IfOk result (λ given. IfOk given (λ v. All (MayCome entries.now) v.items)) }
+{
+    let Some(schema) = schema_of(entries, &insert.table) else {
+        return Ok(Err(Refusal::NoTable(insert.table.twin(alloc)?)));
+    };
+    let types = column_types(alloc, schema)?;
+    let lines = insert.lines.as_slice();
+    let block = match read_block(alloc, types.as_slice(), lines, insert.ended)? {
+        Ok(block) => block,
+        Err(fault) => return Ok(Err(Refusal::of_data(fault))),
+    };
+    // Its length says that each row has a value of each column's type.
+    prove!(block.len() < 4294967296);
+    let rows = rows_of(alloc, &block)?;
+    Ok(Ok(commands_of_rows(alloc, schema, &insert.table, &rows)?))
+}
+
+/// The commands that add rows to a table of this schema, one for each of their partitions.
+fn commands_of_rows(
+    alloc: Global,
+    schema: &Schema,
+    table: &Name,
+    rows: &[Row],
+) -> Result<Vec<Command>, NoMemory>
+    requires typed { AreRowsOf (history.column_types schema.now) rows.now }
+    requires few { length rows.now < 2 ^ 32 }
+    ensures { IfOk result (λ v. v.items ≡ commands.insert_commands schema.now table.now rows.now) }
+{
+    let partitions = partitions_of(alloc, schema, rows)?;
+    let mut commands = Vec::new(alloc);
+    for partition in &partitions {
+        commands.push(insert_command(alloc, schema, table, rows, *partition)?)?;
+    }
+    Ok(commands)
+}
+
+/// The command that adds those of the rows that are of one partition.
+fn insert_command(
+    alloc: Global,
+    schema: &Schema,
+    table: &Name,
+    rows: &[Row],
+    partition: Partition,
+) -> Result<Command, NoMemory>
+    requires typed { AreRowsOf (history.column_types schema.now) rows.now }
+    requires few { length rows.now < 2 ^ 32 }
+    ensures { IfOk result (λ command. command ≡ commands.insert_command schema.now table.now rows.now partition) }
+{
+    let types = column_types(alloc, schema)?;
+    let own = rows_in(alloc, schema, partition, rows)?;
+    let block = Block::from_rows(alloc, types.as_slice(), &own)?;
+    let table = table.twin(alloc)?;
+    Ok(Command::Insert(Insert {
+        table,
+        partition,
+        block,
+    }))
+}
