@@ -115,11 +115,11 @@ statements-preserved g c = record {
         one_more c.args.script.now was.0 _ c.in-Ok-Some.found.0 _ was.1 left,
         c.in-Ok.ensures.through_crashes first start (c.statements.invariant.tells ∙ tells) was.2,
         gained_one was.0 c.in-Ok-Some.found.0 (g.A.Annals.told c.statements.annals) (g.A.Annals.told c.answer.new.annals) first was.3 g.D.Arm.Dir.Dir.files c.statements.store.opened (g.D.Disk.failed c.statements.disk) c.statements.store (omega (arith, c.requires.opened, c.statements.invariant.opened, c.statements.invariant.disk_later))
-    (λ still. (was.2.calm still).1)
-    (λ kept is stands.
-        let a = c.in-Ok.ensures.answers kept is (c.statements.invariant.tells ∙ tells) stands in
-        (a.now, a.told_is, stepped_answered g.D.Arm.Dir.Dir.files kept c.in-Ok-Some.found.0 c.statements.store.opened (g.D.Disk.failed c.answer.new.disk) (g.D.Arm.Arm.failed c.answer.new.arm) c.in-Ok.reply.items c.answer.new.store (g.A.Annals.told c.answer.new.annals) (g.D.Disk.told c.statements.disk) (g.D.Disk.told c.answer.new.disk) a))
-    (λ risen. (c.in-Ok.ensures.stopped risen).annals_is),
+            (λ still. (was.2.calm still).1)
+            (λ kept is stands.
+            let a = c.in-Ok.ensures.answers kept is (c.statements.invariant.tells ∙ tells) stands in
+            (a.now, a.told_is, stepped_answered g.D.Arm.Dir.Dir.files kept c.in-Ok-Some.found.0 c.statements.store.opened (g.D.Disk.failed c.answer.new.disk) (g.D.Arm.Arm.failed c.answer.new.arm) c.in-Ok.reply.items c.answer.new.store (g.A.Annals.told c.answer.new.annals) (g.D.Disk.told c.statements.disk) (g.D.Disk.told c.answer.new.disk) a))
+            (λ risen. (c.in-Ok.ensures.stopped risen).annals_is),
       );
   within = used_within c.args.script.now c.statements.at c.in-Ok-Some.found.1 c.statements.invariant.within (subst (λ o. Used c.args.script.now c.statements.at o) c.in-Ok-Some.field-0-is c.in-Ok-Some.ensures.used).1;
   disk_later = omega arith;
@@ -154,8 +154,8 @@ returns-in-Err-answer-clause-through_crashes g c = λ first start tells keeps ga
     (gained_one was.0 c.in-Ok-Some.found.0 (g.A.Annals.told c.statements.annals) (g.A.Annals.told c.answer.new.annals) first was.3 g.D.Arm.Dir.Dir.files c.statements.store.opened (g.D.Disk.failed c.statements.disk) c.statements.store (omega (arith, c.requires.opened, c.statements.invariant.opened, c.statements.invariant.disk_later))
     (λ still. (was.2.calm still).1)
     (λ kept is stands.
-        let k = c.in-Err-answer.ensures.answers kept is (c.statements.invariant.tells ∙ tells) stands in
-        (k.now, k.told_is, stepped_keeps kept c.in-Ok-Some.found.0 (g.A.Annals.told c.answer.new.annals) (g.D.Disk.told c.statements.disk) (g.D.Disk.told c.answer.new.disk) k))
+    let k = c.in-Err-answer.ensures.answers kept is (c.statements.invariant.tells ∙ tells) stands in
+    (k.now, k.told_is, stepped_keeps kept c.in-Ok-Some.found.0 (g.A.Annals.told c.answer.new.annals) (g.D.Disk.told c.statements.disk) (g.D.Disk.told c.answer.new.disk) k))
     (λ risen. (c.in-Err-answer.ensures.stopped risen).annals_is))
 
 pub returns-in-Err-write_reply-clause-through_crashes : goal.returns-in-Err-write_reply-clause-through_crashes
@@ -168,8 +168,8 @@ returns-in-Err-write_reply-clause-through_crashes g c = λ first start tells kee
     (gained_one was.0 c.in-Ok-Some.found.0 (g.A.Annals.told c.statements.annals) (g.A.Annals.told c.answer.new.annals) first was.3 g.D.Arm.Dir.Dir.files c.statements.store.opened (g.D.Disk.failed c.statements.disk) c.statements.store (omega (arith, c.requires.opened, c.statements.invariant.opened, c.statements.invariant.disk_later))
     (λ still. (was.2.calm still).1)
     (λ kept is stands.
-        let a = c.in-Ok.ensures.answers kept is (c.statements.invariant.tells ∙ tells) stands in
-        (a.now, a.told_is, stepped_answered g.D.Arm.Dir.Dir.files kept c.in-Ok-Some.found.0 c.statements.store.opened (g.D.Disk.failed c.answer.new.disk) (g.D.Arm.Arm.failed c.answer.new.arm) c.in-Ok.reply.items c.answer.new.store (g.A.Annals.told c.answer.new.annals) (g.D.Disk.told c.statements.disk) (g.D.Disk.told c.answer.new.disk) a))
+    let a = c.in-Ok.ensures.answers kept is (c.statements.invariant.tells ∙ tells) stands in
+    (a.now, a.told_is, stepped_answered g.D.Arm.Dir.Dir.files kept c.in-Ok-Some.found.0 c.statements.store.opened (g.D.Disk.failed c.answer.new.disk) (g.D.Arm.Arm.failed c.answer.new.arm) c.in-Ok.reply.items c.answer.new.store (g.A.Annals.told c.answer.new.annals) (g.D.Disk.told c.statements.disk) (g.D.Disk.told c.answer.new.disk) a))
     (λ risen. (c.in-Ok.ensures.stopped risen).annals_is))
 
 pub returns-clause-through_crashes : goal.returns-clause-through_crashes
