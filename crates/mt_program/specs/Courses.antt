@@ -56,7 +56,8 @@ pub record RunOf (n : Outside) (h : History) (base : ℕ) (course : Course) : Ty
   pub sessions : OwnEntries h base
   pub stopped : AreStopped n h base course.ran course.replies
 
--- The next command of one of these statements: those before it ran and gave theirs, it ran from there on, and then nothing was accepted.
+-- The next command of one of these statements: those before it gave each the first of its commands, or none, it ran from there on, and then
+-- nothing was accepted.
 pub record IsNextOf (h : History) (base : ℕ) (statements : List Item) (c : Command) : Type 0 where
   pub before : List Item
   pub said : Item

@@ -32,7 +32,7 @@ pub record AnsweredRead (source : Option (List ℕ)) (script : List ℕ) (course
   pub out_is : out ≡ concat course.replies
   pub wholly : AreWhollyRead (length course.ran) script source
 
--- No statement ran, and the outside is as it was, its counts of faults aside.
+-- No statement ran, and what the disk, the annals, the source and the sink tell is as it was. The disk's mark and the counts of faults are left open.
 pub record NothingRan (before after : World) (course : Course) : Type 0 where
   pub none : course.ran ≡ []
   pub answered : course.unanswered ≡ None
@@ -55,8 +55,8 @@ EndsBy status.Damaged before after script course rest out = ⊥
 EndsBy status.TooLong before after script course rest out = AnsweredRead after.source script course out
 
 -- What a run leaves, by how it ended. The annals hold a list that begins with the one before and is legal. The first statements of the script ran,
--- each with a reply that it may have at its place of that list, and each entry that the list gained is theirs; so is the command that is begun,
--- if the run began one that was not accepted. What was written is their replies. Where none of these says that a commit failed, the root stands for the list, so that the next run opens it.
+-- each with a reply that it may have at its place of that list, and each entry that the list gained is theirs. What is begun was
+-- begun before, or is nothing, or the next command of one of them. What was written is their replies. Where none of these says that a commit failed, the root stands for the list, so that the next run opens it.
 pub record Headline (ended : Status) (before after : World) (kept : Told) (script written : List ℕ) : Type 0 where
   pub now : Told
   pub annals_is : after.storage.annals ≡ Some now

@@ -39,7 +39,7 @@ abbrev pub IsComplete : List (String Global) → World → ℕ → World → Typ
 IsComplete words before status after =
     (kept : Told) (script written : List ℕ) → Starts before kept script written → NothingRefuses words script (history kept) → NoCountRose before after → (status ≡ 0) ⊎ (status ≡ 6)
 
--- a run over a damaged root, by the number with which it ends: its line is written, or nothing, and the disk and the annals are as they were
+-- a run over a damaged root, by the number with which it ends: its line is written, or nothing, and what the disk and the annals tell is as it was
 pub record NotOpened (number : ℕ) (line : List ℕ) (before after : World) : Type 0 where
   pub ended : Status
   pub number_is : number ≡ number_of ended
@@ -55,7 +55,7 @@ pub record OfDamage (before : World) (status : ℕ) (after : World) : Type 0 whe
   pub sound : (kept : Told) (told : root.Told) → before.storage.annals ≡ Some kept → before.storage.disk ≡ Some told → Stands (root.names_of told) (history kept) → status ≡ 7 → ⊥
 
 -- What a crash leaves, at whatever moment of the run. Where whatever a crash left of the disk before stood for the list of the annals, it holds
--- all that was noted; where only the root as it read did, that is so once opening has settled what it read, and before that nothing changed.
+-- all that was noted; where only the root as it read did, and has a name, that is so once opening has settled what it read, and before that nothing changed.
 pub record OfCrashes (before after : World) : Type 0 where
   pub kept : (first : Told) (told : root.Told) → before.storage.annals ≡ Some first → before.storage.disk ≡ Some told → AllStand told before.storage.clock (history first)
       → LeavesOfScript before.source before.storage.failed after.storage first before.storage.clock
