@@ -17,6 +17,7 @@
 #   NAME.after    a script that is run at the end, with the same words in the same folder
 #   NAME.stdout   what is to be printed, to the byte; none: nothing
 #   NAME.status   the status that is wanted; none: 0
+#   NAME.seconds  how long the run may take, where it has to wait for many syncs; none: 60
 #   NAME.replies  what the run beside it is to print, which is to end with 0
 #   NAME.found    what the run at the end is to print, whatever its status
 #   NAME.files    what is to lie in the folder of the run at the end, in the order of the paths' bytes: a file as its path, a space
@@ -97,14 +98,17 @@ run_in_room() {
     (cd "$work/room" && exec timeout 60 "$program" "$@")
 }
 
-# The same, with the standard streams closed that the case wants closed.
+# The same for as long as the case may take, with the standard streams closed that it wants closed.
 run_closed() {
-    local name=$1 number closing=
+    local name=$1 number closing= seconds=60
     shift
+    if [ -e "$cases/$name.seconds" ]; then
+        seconds=$(cat "$cases/$name.seconds")
+    fi
     for number in $(cat "$cases/$name.closed" 2>/dev/null); do
         closing="$closing $number>&-"
     done
-    (cd "$work/room" && exec timeout 60 bash -c "exec \"\$0\" \"\$@\" $closing" "$program" "$@")
+    (cd "$work/room" && exec timeout "$seconds" bash -c "exec \"\$0\" \"\$@\" $closing" "$program" "$@")
 }
 
 # Starts the run beside the case's, and waits until it holds the folder. It is given its script later.
