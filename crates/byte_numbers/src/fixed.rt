@@ -1,5 +1,5 @@
 // Numbers of a fixed width as bytes, the lowest first.
-ghost use Rattle.std.specs.Prelude.{◌≡◌, ◌≤◌, ◌++◌, OnOk, length, take};
+ghost use Rattle.std.specs.Prelude.{◌≡◌, ◌≤◌, ◌++◌, OnErr, OnOk, length, take};
 ghost use Rattle.std.specs.Int.{w16, w32, w64, to_le_bytes};
 
 use byteorder::{ByteOrder, LittleEndian};
@@ -10,7 +10,8 @@ use mt_values::Bytes;
 ///
 /// `NoMemory` where the growth was refused; the bytes stay as they were.
 pub fn push_u16(bytes: &mut Bytes, number: u16) -> Result<(), NoMemory>
-    ensures { OnOk result (bytes.new ≡ bytes.old ++ to_le_bytes w16 number) }
+    ensures ok { OnOk result (bytes.new ≡ bytes.old ++ to_le_bytes w16 number) }
+    ensures err { OnErr result (bytes.new ≡ bytes.old) }
 {
     let mut spelled = [0; 2];
     LittleEndian::write_u16(&mut spelled, number);
@@ -21,7 +22,8 @@ pub fn push_u16(bytes: &mut Bytes, number: u16) -> Result<(), NoMemory>
 ///
 /// `NoMemory` where the growth was refused; the bytes stay as they were.
 pub fn push_u32(bytes: &mut Bytes, number: u32) -> Result<(), NoMemory>
-    ensures { OnOk result (bytes.new ≡ bytes.old ++ to_le_bytes w32 number) }
+    ensures ok { OnOk result (bytes.new ≡ bytes.old ++ to_le_bytes w32 number) }
+    ensures err { OnErr result (bytes.new ≡ bytes.old) }
 {
     let mut spelled = [0; 4];
     LittleEndian::write_u32(&mut spelled, number);
@@ -32,7 +34,8 @@ pub fn push_u32(bytes: &mut Bytes, number: u32) -> Result<(), NoMemory>
 ///
 /// `NoMemory` where the growth was refused; the bytes stay as they were.
 pub fn push_u64(bytes: &mut Bytes, number: u64) -> Result<(), NoMemory>
-    ensures { OnOk result (bytes.new ≡ bytes.old ++ to_le_bytes w64 number) }
+    ensures ok { OnOk result (bytes.new ≡ bytes.old ++ to_le_bytes w64 number) }
+    ensures err { OnErr result (bytes.new ≡ bytes.old) }
 {
     let mut spelled = [0; 8];
     LittleEndian::write_u64(&mut spelled, number);

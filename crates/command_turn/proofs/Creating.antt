@@ -1,5 +1,5 @@
 -- One more table.
-use Rattle.std.proofs.Common.{◌≡◌, ℕ, ◌+◌, ◌<◌, ◌≤◌, ◌^◌, Bool, true, false, cond, List, [], ◌∷◌, ◌++◌, length, refl, sym, ap, ◌∙◌, arith, Option, Some, None, Ok, is_some, nat_lt, codes, Result}
+use Rattle.std.proofs.Common.{◌≡◌, ◌&&◌, ℕ, ◌+◌, ◌<◌, ◌≤◌, ◌^◌, Bool, true, false, cond, List, [], ◌∷◌, ◌++◌, length, refl, sym, ap, ap₂, ◌∙◌, arith, Option, Some, None, Ok, is_some, nat_lt, codes, Result}
 use Rattle.std.specs.Result.{result_ok}
 use Rattle.std.proofs.lemmas.Bool.Decides.{nat_tests}
 use Rattle.mt_values.specs.declared.command.Command.{Command}
@@ -59,8 +59,8 @@ module _ (c : CreateText) (schema : Schema) (is : IsCreateText c) (text : schema
   reads =
       let alone : statements_of (c.text ++ codes ";") ≡ Ok (statement.Create c) ∷ [] =
       statements_of_step (c.text ++ codes ";") ∙ (ap (statement_and statements_of) is.again ∙ ap (λ (ss : Items). Ok (statement.Create c) ∷ ss) (statements_of_step [])) in
-      ap (schema_by_items c.table) alone
-      ∙ (ap (λ b. cond b (result_ok (schema_of_text c)) None) (itself_same c.table) ∙ ap result_ok text)
+      ap (schema_by_items c.table c.text) alone
+      ∙ (ap₂ (λ (a b : Bool). cond (a && b) (result_ok (schema_of_text c)) None) (itself_same c.table) (itself_same c.text) ∙ ap result_ok text)
 
   pub entry_holds : length c.text < 2 ^ 32 → EntryHolds c.table schema (entry_files c.text)
   entry_holds few = record { text = c.text; few = few; bytes = refl; reads = reads_as c.table c.text schema reads }

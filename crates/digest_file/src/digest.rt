@@ -1,5 +1,5 @@
 // The digest of bytes, written behind them and looked for there.
-ghost use Rattle.std.specs.Prelude.{◌≡◌, ◌<◌, ◌≤◌, ◌++◌, MatchOption, MatchResult, OnOk, drop, length, take};
+ghost use Rattle.std.specs.Prelude.{◌≡◌, ◌<◌, ◌≤◌, ◌++◌, MatchOption, MatchResult, OnErr, OnOk, drop, length, take};
 ghost use Rattle.sha2.specs.Sha256.{sha256};
 ghost use Rattle.mt_values.specs.Manifests.{IsMarkOf, with_digest};
 ghost use Rattle.digest_file.specs.Frames.{MissesDigest, PartAt};
@@ -32,7 +32,8 @@ fn digest_of(bytes: &[u8]) -> [u8; 32]
 ///
 /// `NoMemory` where the growth was refused; the bytes stay as they were.
 pub fn push_digest(bytes: &mut Bytes) -> Result<(), NoMemory>
-    ensures { OnOk result (bytes.new ≡ with_digest sha256 bytes.old) }
+    ensures ok { OnOk result (bytes.new ≡ with_digest sha256 bytes.old) }
+    ensures err { OnErr result (bytes.new ≡ bytes.old) }
 {
     let digest = digest_of(bytes.as_slice());
     bytes.extend(&digest)

@@ -1,4 +1,4 @@
--- The files of a stage that are not synced yet (docs/architecture.md, "The real folder").
+-- The files of a stage that are not synced yet (docs/folder.md).
 use Rattle.std.specs.Prelude.{List, Bool, filter, not}
 use Rattle.std.specs.List.{list_any}
 use Rattle.mt_base.specs.declared.name.FileId.{FileId}

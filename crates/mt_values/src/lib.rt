@@ -25,7 +25,7 @@ pub use cell::Cell;
 pub use column::ColumnData;
 pub use command::{Command, Create, Entry, Insert};
 pub use manifest::{FileMark, Loaded, Manifest};
-pub use mt_base::{Bytes, FileId, Name, Partition};
+pub use mt_base::{Bytes, FileId, Name, Partition, Rows, Twin};
 pub use order::{cmp_key, cmp_value, orders_are_exact, orders_are_total};
 pub use row_fault::{DataFault, FieldFault, RowFault};
 pub use schema::{Column, Schema, SchemaFault, has_name};

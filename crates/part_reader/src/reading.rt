@@ -14,7 +14,7 @@ ghost use Rattle.part_reader.specs.Parts.{HoldsAt, with_columns};
 use crate::files::read_file;
 use crate::marked::add_values;
 use mt_outside::{Arm, DiskError};
-use mt_values::{ColumnData, FileId, FileMark, Loaded};
+use mt_values::{ColumnData, FileId, FileMark, Loaded, Rows};
 use std::alloc::{AllocError, Global};
 use thiserror::Error;
 
@@ -33,11 +33,13 @@ impl<F> Part<F> {
     {
         Part { dir, loaded }
     }
+}
 
-    /// The number of rows that the manifest says. Takes no memory.
-    pub fn rows(&self) -> u64
-        ensures { result ≡ self.now.loaded.manifest.rows }
-    {
+impl<F> Rows for Part<F> {
+    /// The number that the manifest says.
+    ghost row_count = { λ p. p.loaded.manifest.rows };
+
+    fn rows(&self) -> u64 {
         self.loaded.manifest.rows
     }
 }

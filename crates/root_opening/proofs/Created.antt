@@ -1,5 +1,5 @@
 -- The schema that an entry gives a table is one that a table may have.
-use Rattle.std.proofs.Common.{◌≡◌, ℕ, ◌<◌, ◌++◌, Bool, true, false, cond, List, [], ◌∷◌, length, arith, codes, Option, Some, None, IfSome, Ok, Err, Result, IfOk, All}
+use Rattle.std.proofs.Common.{◌≡◌, ◌&&◌, ℕ, ◌<◌, ◌++◌, Bool, true, false, cond, List, [], ◌∷◌, length, arith, codes, Option, Some, None, IfSome, Ok, Err, Result, IfOk, All}
 use Rattle.std.specs.Result.{result_ok}
 use Rattle.mt_values.specs.declared.schema.Schema.{Schema}
 use Rattle.mt_values.specs.declared.statement.Cause.{Cause}
@@ -24,23 +24,23 @@ ok_is : (r : Result Schema Refusal) (schema : Schema) → result_ok r ≡ Some s
 ok_is (Ok x) schema is = cc
 ok_is (Err why) schema is = absurd cc
 
-by_statement : (table : List ℕ) (schema : Schema) (s : Statement) → schema_by table s ≡ Some schema → IsWritten (Ok s) → IsTableSchema schema
-by_statement table schema (statement.Insert i) is written = absurd cc
-by_statement table schema (statement.Select i) is written = absurd cc
-by_statement table schema (statement.Create c) is written = by (same_bytes c.table table) is
+by_statement : (table text : List ℕ) (schema : Schema) (s : Statement) → schema_by table text s ≡ Some schema → IsWritten (Ok s) → IsTableSchema schema
+by_statement table text schema (statement.Insert i) is written = absurd cc
+by_statement table text schema (statement.Select i) is written = absurd cc
+by_statement table text schema (statement.Create c) is written = by (same_bytes c.table table && same_bytes c.text text) is
   where
     by : (b : Bool) → cond b (result_ok (schema_of_text c)) None ≡ Some schema → IsTableSchema schema
     by true found = schema_is c schema (ok_is (schema_of_text c) schema found) (key_named c written)
     by false none = absurd cc
 
-by_items : (table : List ℕ) (schema : Schema) (items : List (Result Statement Cause)) → schema_by_items table items ≡ Some schema → All IsWritten items → IsTableSchema schema
-by_items table schema [] is written = absurd cc
-by_items table schema (Err why ∷ items) is written = absurd cc
-by_items table schema (Ok s ∷ item ∷ items) is written = absurd cc
-by_items table schema (Ok s ∷ []) is written = by_statement table schema s is (written 0 (Ok s) (omega arith))
+by_items : (table text : List ℕ) (schema : Schema) (items : List (Result Statement Cause)) → schema_by_items table text items ≡ Some schema → All IsWritten items → IsTableSchema schema
+by_items table text schema [] is written = absurd cc
+by_items table text schema (Err why ∷ items) is written = absurd cc
+by_items table text schema (Ok s ∷ item ∷ items) is written = absurd cc
+by_items table text schema (Ok s ∷ []) is written = by_statement table text schema s is (written 0 (Ok s) (omega arith))
 
 pub created : (table text : List ℕ) (schema : Schema) → schema_of_entry table text ≡ Some schema → IsTableSchema schema
-created table text schema is = by_items table schema (statements_of (text ++ codes ";")) is (statements_are (text ++ codes ";"))
+created table text schema is = by_items table text schema (statements_of (text ++ codes ";")) is (statements_are (text ++ codes ";"))
 
 pub created_found : (table text : List ℕ) (found : Option Schema) → found ≡ schema_of_entry table text → IfSome found IsTableSchema
 created_found table text None is = tt

@@ -16,14 +16,19 @@ use part_reader::{PartFault, read_file};
 use sql_read::{Next, next_statement};
 use std::alloc::Global;
 
-// The schema that a statement gives a table: none where it is no CREATE of the table, or is refused.
-fn schema_by(alloc: Global, table: &Name, statement: &Statement) -> Result<Option<Schema>, NoMemory>
-    ensures { IfOk result (λ found. found ≡ schema_by table.now statement.now) }
+// The schema that a statement with this text gives a table: none where it is no CREATE of the table, has another text, or is refused.
+fn schema_by(
+    alloc: Global,
+    table: &Name,
+    text: &[u8],
+    statement: &Statement,
+) -> Result<Option<Schema>, NoMemory>
+    ensures { IfOk result (λ found. found ≡ schema_by table.now text.now statement.now) }
 {
     let Statement::Create(create) = statement else {
         return Ok(None);
     };
-    if create.table == *table {
+    if create.table == *table && create.text.as_slice() == text {
         Ok(resolve(alloc, create)?.ok())
     } else {
         Ok(None)
@@ -38,50 +43,57 @@ fn has_statement(alloc: Global, script: &[u8]) -> Result<bool, NoMemory>
         Next::Found(_, _) => Ok(true),
         Next::Refused(_, _) => Ok(true),
         Next::End => Ok(false),
-        Next::NeedMore => Err(NoMemory),
+        Next::NeedMore => unreachable!(),
         Next::NoMemory => Err(NoMemory),
     }
 }
 
-// The schema that a statement gives a table, where no other stands behind it.
+// The schema that a statement with this text gives a table, where no other comes after it.
 #[tactic(auto, using(crate::proofs::EntryScripts::alone_read, crate::proofs::EntryScripts::behind_read, crate::proofs::EntryScripts::read_on))]
 fn schema_alone(
     alloc: Global,
     table: &Name,
+    text: &[u8],
     statement: &Statement,
-    behind: &[u8],
+    after: &[u8],
 ) -> Result<Option<Schema>, NoMemory>
-    ensures { IfOk result (λ found. found ≡ schema_by_items table.now (Ok statement.now ∷ statement_and statements_of (next_statement behind.now))) }
+    ensures { IfOk result (λ found. found ≡ schema_by_items table.now text.now (Ok statement.now ∷ statement_and statements_of (next_statement after.now))) }
 {
-    match has_statement(alloc, behind) {
-        Ok(false) => schema_by(alloc, table, statement),
+    match has_statement(alloc, after) {
+        Ok(false) => schema_by(alloc, table, text, statement),
         Ok(true) => Ok(None),
         Err(error) => Err(error),
     }
 }
 
-// The schema that the one statement of a script gives a table: none where the script has no statement or more of them.
+// The schema that the one statement of a script gives a table: none where the script has no statement or more of them, or its statement
+// has another text.
 #[tactic(auto, using(crate::proofs::EntryScripts::none_read, crate::proofs::EntryScripts::refused_read))]
-fn schema_in(alloc: Global, table: &Name, script: &[u8]) -> Result<Option<Schema>, NoMemory>
-    ensures { IfOk result (λ found. found ≡ schema_by_items table.now (statements_of script.now)) }
+fn schema_in(
+    alloc: Global,
+    table: &Name,
+    text: &[u8],
+    script: &[u8],
+) -> Result<Option<Schema>, NoMemory>
+    ensures { IfOk result (λ found. found ≡ schema_by_items table.now text.now (statements_of script.now)) }
 {
     match next_statement(alloc, script, true) {
-        Next::Found(statement, used) => schema_alone(alloc, table, &statement, &script[used..]),
+        Next::Found(statement, used) => schema_alone(alloc, table, text, &statement, &script[used..]),
         Next::Refused(_, _) => Ok(None),
         Next::End => Ok(None),
-        Next::NeedMore => Err(NoMemory),
+        Next::NeedMore => unreachable!(),
         Next::NoMemory => Err(NoMemory),
     }
 }
 
-// The schema that the text of an entry gives a table, with the semicolon that the entry leaves out behind it.
+// The schema that the text of an entry gives a table. The entry leaves out the semicolon that comes after it.
 fn schema_of_text(alloc: Global, table: &Name, text: &[u8]) -> Result<Option<Schema>, NoMemory>
     ensures { IfOk result (λ found. found ≡ schema_of_entry table.now text.now) }
 {
     let mut script = Seq::with_capacity(alloc, text.len() + 1)?;
     script.extend(text)?;
     script.extend(b";".as_slice())?;
-    schema_in(alloc, table, script.as_slice())
+    schema_in(alloc, table, text, script.as_slice())
 }
 
 /// The schema that the bytes of `entry.bin` give a table: none exactly where they are no entry, or its text is no CREATE of the table,

@@ -1,5 +1,5 @@
 -- What the text of an entry reads as, and the schema that is found in it.
-use Rattle.std.proofs.Common.{◌≡◌, ◌++◌, Bool, true, false, cond, List, ℕ, [], ◌∷◌, codes, Some, None, Ok, Err, Result, refl, sym, ap, ap₂, ◌∙◌}
+use Rattle.std.proofs.Common.{◌≡◌, ◌&&◌, ◌++◌, Bool, Option, true, false, cond, List, ℕ, [], ◌∷◌, codes, Some, None, Ok, Err, Result, refl, sym, ap, ap₂, ◌∙◌}
 use Rattle.std.specs.Result.{result_ok}
 use Rattle.mt_values.specs.declared.command.Command.{Command}
 use Rattle.mt_values.specs.declared.command.Command.TheVariants as command
@@ -15,7 +15,7 @@ use Rattle.mt_model.specs.declared.refusal.Refusal.{Refusal}
 use Rattle.mt_model.specs.Commands.{commands_of, create_commands, no_commands}
 use Rattle.mt_model.specs.Reply.{columns_of_select, schema_of_text}
 use Rattle.mt_model.proofs.Tables.{itself_same, same_is}
-use Rattle.root_store.specs.Entries.{ReadsAs, create_of, schema_by, schema_by_items, schema_of_entry}
+use Rattle.root_store.specs.Entries.{ReadsAs, create_of, schema_by, schema_by_items, schema_of_entry, text_of}
 
 abbrev Item : Type 0
 Item = Result Statement Cause
@@ -48,21 +48,29 @@ ok_is : (r : Result Schema Refusal) (schema : Schema) → result_ok r ≡ Some s
 ok_is (Ok x) schema is = cc
 ok_is (Err why) schema is = absurd cc
 
-statement_gives : (table : List ℕ) (schema : Schema) (s : Statement) → schema_by table s ≡ Some schema → commands_of [] s ≡ Ok (create_of table schema ∷ [])
-statement_gives table schema (statement.Insert i) is = absurd cc
-statement_gives table schema (statement.Select s) is = absurd cc
-statement_gives table schema (statement.Create c) is = by (same_bytes c.table table) refl is
-  where
-    by : (b : Bool) → same_bytes c.table table ≡ b → cond b (result_ok (schema_of_text c)) None ≡ Some schema → create_commands c.table (schema_of_text c) ≡ Ok (create_of table schema ∷ [])
-    by true same found =
-        ap (create_commands c.table) (ok_is (schema_of_text c) schema found) ∙ ap (λ (t : List ℕ). Ok (create_of t schema ∷ [])) (same_is c.table table same)
-    by false other none = absurd cc
+-- what a statement is by which a schema is found: it gives the command, and its text is the entry's
+abbrev IsFound : List ℕ → List ℕ → Schema → Statement → Type 0
+IsFound table text schema s = (commands_of [] s ≡ Ok (create_of table schema ∷ [])) × (text_of s ≡ Some text)
 
-items_read : (table text : List ℕ) (schema : Schema) (items : List Item) → statements_of (text ++ codes ";") ≡ items → schema_by_items table items ≡ Some schema → ReadsAs text (create_of table schema)
+statement_gives : (table text : List ℕ) (schema : Schema) (s : Statement) → schema_by table text s ≡ Some schema → IsFound table text schema s
+statement_gives table text schema (statement.Insert i) is = absurd cc
+statement_gives table text schema (statement.Select s) is = absurd cc
+statement_gives table text schema (statement.Create c) is = by (same_bytes c.table table) (same_bytes c.text text) refl refl is
+  where
+    by : (a b : Bool) → same_bytes c.table table ≡ a → same_bytes c.text text ≡ b → cond (a && b) (result_ok (schema_of_text c)) None ≡ Some schema → IsFound table text schema (statement.Create c)
+    by true true same spelled found =
+        (ap (create_commands c.table) (ok_is (schema_of_text c) schema found) ∙ ap (λ (t : List ℕ). Ok (create_of t schema ∷ [])) (same_is c.table table same)
+        , ap Some (same_is c.text text spelled))
+    by true false same other none = absurd cc
+    by false b other spelled none = absurd cc
+
+items_read : (table text : List ℕ) (schema : Schema) (items : List Item) → statements_of (text ++ codes ";") ≡ items → schema_by_items table text items ≡ Some schema → ReadsAs text (create_of table schema)
 items_read table text schema [] are is = absurd cc
 items_read table text schema (Err why ∷ items) are is = absurd cc
 items_read table text schema (Ok s ∷ item ∷ items) are is = absurd cc
-items_read table text schema (Ok s ∷ []) are is = record { statement = s; alone = are; gives = statement_gives table schema s is }
+items_read table text schema (Ok s ∷ []) are is =
+    let found = statement_gives table text schema s is in
+    record { statement = s; alone = are; spelled = found.1; gives = found.0 }
 
 -- the text of an entry in which a schema is found reads as the CREATE of the table
 pub reads_as : (table text : List ℕ) (schema : Schema) → schema_of_entry table text ≡ Some schema → ReadsAs text (create_of table schema)
@@ -72,18 +80,23 @@ no_create : (r : Result (List ℕ) Refusal) (c : Command) → no_commands r ≡ 
 no_create (Ok columns) c is = cc
 no_create (Err why) c is = cc
 
-created_by : (table : List ℕ) (schema : Schema) (c : CreateText) (r : Result Schema Refusal) → schema_of_text c ≡ r → create_commands c.table r ≡ Ok (create_of table schema ∷ []) → schema_by table (statement.Create c) ≡ Some schema
-created_by table schema c (Err why) text is = absurd cc
-created_by table schema c (Ok x) text is =
+created_by : (table text : List ℕ) (schema : Schema) (c : CreateText) (r : Result Schema Refusal) → c.text ≡ text → schema_of_text c ≡ r → create_commands c.table r ≡ Ok (create_of table schema ∷ [])
+    → schema_by table text (statement.Create c) ≡ Some schema
+created_by table text schema c (Err why) spelled read is = absurd cc
+created_by table text schema c (Ok x) spelled read is =
     let one = one_create (record { table = c.table; schema = x }) (record { table = table; schema = schema }) (one_given (create_of c.table x) (create_of table schema) is) in
     let own : same_bytes c.table table ≡ true = ap (λ (d : Create). same_bytes c.table d.table) (sym one) ∙ itself_same c.table in
-    ap₂ (λ (b : Bool) (r : Result Schema Refusal). cond b (result_ok r) None) own text ∙ ap (λ (d : Create). Some d.schema) one
+    let itself : same_bytes c.text text ≡ true = ap (same_bytes c.text) (sym spelled) ∙ itself_same c.text in
+    ap₂ (λ (b : Bool) (r : Result Schema Refusal). cond b (result_ok r) None) (ap₂ (λ (a b : Bool). a && b) own itself) read ∙ ap (λ (d : Create). Some d.schema) one
 
-given_by : (table : List ℕ) (schema : Schema) (s : Statement) → commands_of [] s ≡ Ok (create_of table schema ∷ []) → schema_by table s ≡ Some schema
-given_by table schema (statement.Create c) is = created_by table schema c (schema_of_text c) refl is
-given_by table schema (statement.Insert i) is = absurd cc
-given_by table schema (statement.Select s) is = absurd (no_create (columns_of_select s []) (create_of table schema) is)
+one_text : (a b : List ℕ) → ◌≡◌ {A = Option (List ℕ)} (Some a) (Some b) → a ≡ b
+one_text a b is = cc
+
+given_by : (table text : List ℕ) (schema : Schema) (s : Statement) → text_of s ≡ Some text → commands_of [] s ≡ Ok (create_of table schema ∷ []) → schema_by table text s ≡ Some schema
+given_by table text schema (statement.Create c) spelled is = created_by table text schema c (schema_of_text c) (one_text c.text text spelled) refl is
+given_by table text schema (statement.Insert i) spelled is = absurd cc
+given_by table text schema (statement.Select s) spelled is = absurd (no_create (columns_of_select s []) (create_of table schema) is)
 
 -- and one that reads so has the schema
 pub found_as : (table text : List ℕ) (schema : Schema) → ReadsAs text (create_of table schema) → schema_of_entry table text ≡ Some schema
-found_as table text schema reads = ap (schema_by_items table) reads.alone ∙ given_by table schema reads.statement reads.gives
+found_as table text schema reads = ap (schema_by_items table text) reads.alone ∙ given_by table text schema reads.statement reads.spelled reads.gives

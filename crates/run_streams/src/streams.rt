@@ -44,7 +44,7 @@ impl From<ReadFault> for ReadStop {
 
 /// All the bytes of a source, which are fewer than 2^40.
 ///
-/// `Fault` only where the source's count rose; `TooLong` only once 2^40 bytes were read.
+/// `Fault` only where the source's count rose, and else it stays; `TooLong` only once 2^40 bytes were read.
 #[tactic(auto, using(crate::proofs::Known::consumes_more, crate::proofs::Known::consumes_none))]
 pub fn read_all<S: Source>(alloc: Global, source: &mut S) -> Result<Vec<u8>, ReadStop>
     ensures all { IfOk result (λ v. Consumes (S.left source.old) (S.left source.new) v.items × IsAtEnd (S.left source.new)) }
@@ -52,6 +52,7 @@ pub fn read_all<S: Source>(alloc: Global, source: &mut S) -> Result<Vec<u8>, Rea
     ensures fault { IsErrOf result ReadStop.Fault → Rose (S.failed source.old) (S.failed source.new) }
     ensures long { IsErrOf result ReadStop.TooLong → ConsumesMost (S.left source.old) (S.left source.new) }
     ensures later { S.failed source.old ≤ S.failed source.new }
+    ensures calm { (IsErrOf result ReadStop.Fault → ⊥) → S.failed source.new ≡ S.failed source.old }
 {
     let mut bytes = Vec::new(alloc);
     let mut buf = [0; 65536];

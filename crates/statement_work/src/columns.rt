@@ -7,7 +7,7 @@ ghost use Rattle.mt_outside.specs.Causes.{Rose};
 ghost use Rattle.part_reader.specs.Faults.{IsNoDamage};
 ghost use Rattle.statement_work.specs.Scans.{ArePlacesOf, ExplainsParts, HaveTypes, PartsHold, joined, rows_kept, values_at};
 
-use mt_base::NoMemory;
+use mt_base::{NoMemory, Rows};
 use mt_outside::Arm;
 use mt_values::{ColumnData, Schema};
 use part_name::PartName;
@@ -40,7 +40,7 @@ pub fn count_rows<F>(parts: &[Kept<Part<F>>]) -> Option<usize>
 {
     let mut rows: u64 = 0;
     for kept in parts {
-        rows = rows.checked_add(kept.part.loaded.manifest.rows)?;
+        rows = rows.checked_add(kept.part.rows())?;
     }
     if rows > u32::MAX as u64 {
         return None;
