@@ -2,7 +2,7 @@
 use Rattle.std.proofs.Common.{◌≡◌, ◌⊎◌, ℕ, ◌+◌, ◌-◌, ◌<◌, ◌≤◌, ◌^◌, Bool, true, false, cond, List, [], ◌∷◌, ◌++◌, Option, Some, None, Result, Ok, Err, length, take, drop, refl, sym, zero, suc, ◌==◌, ap, ◌∙◌, subst, inl, inr, arith, nat_le, nat_lt, is_some, ◌&&◌, ◌||◌}
 use Rattle.std.proofs.lemmas.Bool.{false≢true}
 use Rattle.std.proofs.lemmas.Bool.Decides.{nat_tests}
-use Rattle.std.specs.List.{list_any}
+use Rattle.std.specs.Option.{option_map}
 use Rattle.mt_values.specs.declared.command.Command.{Command}
 use Rattle.mt_values.specs.declared.command.Command.TheVariants as command
 use Rattle.mt_values.specs.declared.row_fault.DataFault.{DataFault}
@@ -13,6 +13,8 @@ use Rattle.mt_values.specs.declared.row_fault.RowFault.{RowFault}
 use Rattle.mt_values.specs.declared.row_fault.RowFault.TheVariants as row_fault
 use Rattle.mt_values.specs.declared.schema.Column.{Column}
 use Rattle.mt_values.specs.declared.schema.Schema.{Schema}
+use Rattle.mt_values.specs.declared.schema.SchemaFault.{SchemaFault}
+use Rattle.mt_values.specs.declared.schema.SchemaFault.TheVariants as schema_fault
 use Rattle.mt_values.specs.declared.statement.Cause.{Cause}
 use Rattle.mt_values.specs.declared.statement.Cause.TheVariants as cause
 use Rattle.mt_values.specs.declared.statement.Selected.{Selected}
@@ -21,14 +23,14 @@ use Rattle.mt_values.specs.declared.value.ColType.{ColType}
 use Rattle.mt_values.specs.declared.value.Value.{Value}
 use Rattle.mt_values.specs.Grammar.{same_bytes}
 use Rattle.mt_values.specs.Rows.{fields_from, value_of_field, at_field, value_onto, row_of_fields, row_of_line, row_limit, row_onto, rows_behind, rows_within, inserted_rows}
-use Rattle.mt_values.specs.Schemas.{first_repeat, same_name}
+use Rattle.mt_values.specs.Schemas.{schema_fault as rule_of}
 use Rattle.mt_values.specs.Script.{line_from}
 use Rattle.mt_values.specs.Values.{Row}
 use Rattle.mt_model.specs.declared.refusal.Bound.TheVariants as bound
 use Rattle.mt_model.specs.declared.refusal.Refusal.{Refusal}
 use Rattle.mt_model.specs.declared.refusal.Refusal.TheVariants as refusal
 use Rattle.mt_model.specs.declared.refusal.Room.TheVariants as room
-use Rattle.mt_model.specs.Reply.{place_of, found_or, place_onto, places_of, double_column_at, double_key_at, first_refusal, double_name, too_many_columns, unless_refused, schema_with_key, schema_of_text, create_turn, rows_or_refused, rows_for, rows_of_insert, insert_turn, selected_places, columns_for, columns_of_select}
+use Rattle.mt_model.specs.Reply.{place_of, found_or, place_onto, places_of, first_refusal, refusal_of_rules, refusal_of_schema, refusal_of_table, too_many_columns, unless_refused, schema_with_key, schema_of_text, create_turn, rows_or_refused, rows_for, rows_of_insert, insert_turn, selected_places, columns_for, columns_of_select}
 use Rattle.mt_values.specs.declared.statement.Statement.{Statement}
 use Rattle.mt_values.specs.declared.statement.Statement.TheVariants as statement
 use Rattle.mt_values.specs.declared.statement.CreateText.{CreateText}
@@ -93,15 +95,16 @@ places_tell : (columns : List Column) (names : List (List ℕ)) → Scripted (pl
 places_tell columns [] = tt
 places_tell columns (name ∷ names) = onto_tells (found_or name (place_of columns name)) (places_of columns names) (found_tells name (place_of columns name)) (places_tell columns names)
 
-repeat_tells : {X : Type 0} (same : X → X → Bool) (tell : ℕ → X → Refusal) → ((place : ℕ) (x : X) → OfText (tell place x)) → (place : ℕ) (earlier xs : List X) → Tells (first_repeat same tell place earlier xs)
-repeat_tells same tell of place earlier [] = tt
-repeat_tells same tell of place earlier (x ∷ xs) =
-    tells_if (list_any (λ y. same y x) earlier) (Some (tell place x)) (first_repeat same tell (place + 1) (earlier ++ x ∷ []) xs) (of place x) (repeat_tells same tell of (place + 1) (earlier ++ x ∷ []) xs)
+rules_tell : (columns : List Column) (o : Option SchemaFault) → Tells (option_map (refusal_of_schema columns) o)
+rules_tell columns None = tt
+rules_tell columns (Some schema_fault.NoColumns) = (omega arith, refl)
+rules_tell columns (Some (schema_fault.DoubleColumn place)) = (omega arith, refl)
+rules_tell columns (Some (schema_fault.DoubleKey place)) = (omega arith, refl)
 
-double_tells : (c : CreateText) → Tells (double_name c)
-double_tells c =
-    tells_first (first_repeat same_name double_column_at 0 [] c.columns) (first_repeat same_bytes double_key_at 0 [] c.key)
-    (repeat_tells same_name double_column_at (λ place x. (omega arith, refl)) 0 [] c.columns) (repeat_tells same_bytes double_key_at (λ place x. (omega arith, refl)) 0 [] c.key)
+table_tells : (schema : Schema) → Tells (refusal_of_table schema)
+table_tells schema =
+    tells_first (refusal_of_rules schema) (too_many_columns schema.columns) (rules_tell schema.columns (rule_of schema))
+    (tells_if (nat_le (length schema.columns) 64) None (Some (refusal.Past bound.Columns)) tt (omega arith, refl))
 
 unless_tells : {X : Type 0} (o : Option Refusal) (x : X) → Tells o → Scripted (unless_refused o x)
 unless_tells None x h = tt
@@ -112,9 +115,7 @@ text_tells c = by (places_of c.columns c.key) (places_tell c.columns c.key)
   where
     by : (r : Result (List ℕ) Refusal) → Scripted r → Scripted (schema_with_key c r)
     by (Err why) h = h
-    by (Ok key) h =
-        unless_tells (first_refusal (double_name c) (too_many_columns c)) (record { columns = c.columns; key = key })
-        (tells_first (double_name c) (too_many_columns c) (double_tells c) (tells_if (nat_le (length c.columns) 64) None (Some (refusal.Past bound.Columns)) tt (omega arith, refl)))
+    by (Ok key) h = unless_tells (refusal_of_table (record { columns = c.columns; key = key })) (record { columns = c.columns; key = key }) (table_tells (record { columns = c.columns; key = key }))
 
 create_turn_tells : (table : List ℕ) (h : History) → Tells (create_turn table h)
 create_turn_tells table h =

@@ -24,7 +24,9 @@ and_number n = 32 ∷ decimal n
 abbrev pub and_name : List ℕ → List ℕ
 and_name name = 32 ∷ name
 
+-- the word of a rule of schemas
 abbrev pub reason_word : Reason → List ℕ
+reason_word reason.NoColumns = codes "no_columns"
 reason_word reason.DoubleColumn = codes "double_column"
 reason_word reason.DoubleKey = codes "double_key"
 

@@ -4,6 +4,8 @@ use mt_values::{Cause, DataFault, Name, RowFault};
 /// A rule of schemas that a CREATE breaks.
 #[derive(Clone, Copy)]
 pub enum Reason {
+    /// There is no column.
+    NoColumns,
     /// Two columns have one name.
     DoubleColumn,
     /// The key names a column twice.

@@ -26,8 +26,8 @@ pub struct Schema {
 pub enum SchemaFault {
     /// There is no column.
     NoColumns,
-    /// The column at this place, from 0, has the name of an earlier one. The greatest `u32` stands for the places past it.
-    DoubleColumn(u32),
+    /// The column at this place, from 0, has the name of an earlier one.
+    DoubleColumn(usize),
     /// The key names the column at this place a second time.
     DoubleKey(u32),
 }
@@ -60,7 +60,7 @@ fn double_column(columns: &[Column]) -> Option<SchemaFault>
 {
     for (place, column) in columns.iter().enumerate() {
         if has_name(&columns[..place], &column.name) {
-            return Some(SchemaFault::DoubleColumn(place.min(u32::MAX as usize) as u32));
+            return Some(SchemaFault::DoubleColumn(place));
         }
     }
     None
