@@ -1,10 +1,11 @@
-//! What every other crate stands on: a list that contracts see as a list, want of memory, equal copies, a partition, names and files.
+//! What every other crate stands on: a list that contracts see as a list, out of memory and why a call stopped, equal copies, a partition, names and files.
 #![tactic(auto)]
 
 mod memory;
 mod name;
 mod partition;
 mod seq;
+mod stop;
 mod text;
 mod twin;
 
@@ -12,5 +13,6 @@ pub use memory::NoMemory;
 pub use name::{Bytes, FileId, Name};
 pub use partition::Partition;
 pub use seq::Seq;
+pub use stop::Stop;
 pub use text::joined;
 pub use twin::{Rows, Twin};

@@ -122,82 +122,23 @@ create_turn_tells table h =
     tells_if (is_some (schema_of table h)) (Some (refusal.TableExists table)) (cond (nat_lt (creates h) 64) None (Some (refusal.Past bound.Tables))) (omega arith, refl)
     (tells_if (nat_lt (creates h) 64) None (Some (refusal.Past bound.Tables)) tt (omega arith, refl))
 
--- a fault of data is not want of memory
-abbrev OfRow : RowFault → Type 0
-OfRow row_fault.NoMemory = ⊥
-OfRow fault = Unit {0}
+row_tells : (fault : RowFault) → OfText (refusal_of_row fault)
+row_tells (row_fault.Fields line found wanted) = (omega arith, refl)
+row_tells (row_fault.Field line field) = (omega arith, refl)
+row_tells row_fault.Value = (omega arith, refl)
 
-abbrev OfData : DataFault → Type 0
-OfData (data_fault.Row fault) = OfRow fault
-OfData fault = Unit {0}
-
-abbrev RowErrs : {A : Type 0} → Result A RowFault → Type 0
-RowErrs (Ok x) = Unit {0}
-RowErrs (Err fault) = OfRow fault
-
-abbrev DataErrs : Result (List Row) DataFault → Type 0
-DataErrs (Ok rows) = Unit {0}
-DataErrs (Err fault) = OfData fault
-
-field_errs : (line place : ℕ) (r : Result Value FieldFault) → RowErrs (at_field line place r)
-field_errs line place (Ok v) = tt
-field_errs line place (Err field_fault.NotOfType) = tt
-field_errs line place (Err field_fault.TooLong) = tt
-
-value_errs : (r : Result Value RowFault) (rest : Result Row RowFault) → RowErrs r → RowErrs rest → RowErrs (value_onto r rest)
-value_errs (Err fault) rest h k = h
-value_errs (Ok v) (Err fault) h k = k
-value_errs (Ok v) (Ok vs) h k = tt
-
-row_errs : (line place : ℕ) (types : List ColType) (fields : List (List ℕ)) → RowErrs (row_of_fields line place types fields)
-row_errs line place [] fields = tt
-row_errs line place (t ∷ ts) [] = tt
-row_errs line place (t ∷ ts) (f ∷ fs) = value_errs (at_field line place (value_of_field t f)) (row_of_fields line (place + 1) ts fs) (field_errs line place (value_of_field t f)) (row_errs line (place + 1) ts fs)
-
-line_errs : (types : List ColType) (line : ℕ) (text : List ℕ) → RowErrs (row_of_line types line text)
-line_errs types line text = by (length (fields_from false text) == length types) (row_errs line 1 types (fields_from false text))
-  where
-    by : (b : Bool) → RowErrs (row_of_fields line 1 types (fields_from false text)) → RowErrs (cond b (row_of_fields line 1 types (fields_from false text)) (Err (row_fault.Fields line (length (fields_from false text)) (length types))))
-    by true h = h
-    by false h = tt
-
-row_onto_errs : (r : Result Row RowFault) (rest : Result (List Row) DataFault) → RowErrs r → DataErrs rest → DataErrs (row_onto r rest)
-row_onto_errs (Err fault) rest h k = h
-row_onto_errs (Ok row) (Err fault) h k = k
-row_onto_errs (Ok row) (Ok rows) h k = tt
-
-data_errs_if : (c : Bool) (r q : Result (List Row) DataFault) → DataErrs r → DataErrs q → DataErrs (cond c r q)
-data_errs_if true r q h k = h
-data_errs_if false r q h k = k
-
-behind_errs : (types : List ColType) (ended : Bool) (count : ℕ) (f : ℕ → List ℕ → Result (List Row) DataFault) (o : Option (List ℕ × List ℕ)) → ((c : ℕ) (text : List ℕ) → DataErrs (f c text)) → DataErrs (rows_behind f types ended count o)
-behind_errs types ended count f None more = data_errs_if ended (Ok []) (Err (data_fault.Unended count)) tt tt
-behind_errs types ended count f (Some found) more =
-    data_errs_if (nat_le row_limit count) (Err data_fault.TooMany) (row_onto (row_of_line types (count + 1) found.0) (f (count + 1) found.1)) tt
-    (row_onto_errs (row_of_line types (count + 1) found.0) (f (count + 1) found.1) (line_errs types (count + 1) found.0) (more (count + 1) found.1))
-
-rows_errs : (n : ℕ) (types : List ColType) (ended : Bool) (count : ℕ) (text : List ℕ) → DataErrs (rows_within n types ended count text)
-rows_errs zero types ended count text = tt
-rows_errs (suc n) types ended count text = behind_errs types ended count (rows_within n types ended) (line_from false text) (rows_errs n types ended)
-
-row_tells : (fault : RowFault) → OfRow fault → OfText (refusal_of_row fault)
-row_tells row_fault.NoMemory h = absurd h
-row_tells (row_fault.Fields line found wanted) h = (omega arith, refl)
-row_tells (row_fault.Field line field) h = (omega arith, refl)
-row_tells row_fault.Value h = (omega arith, refl)
-
-data_tells : (fault : DataFault) → OfData fault → OfText (refusal_of_data fault)
-data_tells (data_fault.Row fault) h = row_tells fault h
-data_tells data_fault.TooMany h = (omega arith, refl)
-data_tells (data_fault.Unended rows) h = (omega arith, refl)
+data_tells : (fault : DataFault) → OfText (refusal_of_data fault)
+data_tells (data_fault.Row fault) = row_tells fault
+data_tells data_fault.TooMany = (omega arith, refl)
+data_tells (data_fault.Unended rows) = (omega arith, refl)
 
 rows_tell : (i : InsertText) (o : Option Schema) → Scripted (rows_for i o)
 rows_tell i None = (omega arith, refl)
-rows_tell i (Some schema) = by (inserted_rows (column_types schema) i.lines i.ended) (rows_errs (length i.lines + 1) (column_types schema) i.ended 0 i.lines)
+rows_tell i (Some schema) = by (inserted_rows (column_types schema) i.lines i.ended)
   where
-    by : (r : Result (List Row) DataFault) → DataErrs r → Scripted (rows_or_refused r)
-    by (Ok rows) h = tt
-    by (Err fault) h = data_tells fault h
+    by : (r : Result (List Row) DataFault) → Scripted (rows_or_refused r)
+    by (Ok rows) = tt
+    by (Err fault) = data_tells fault
 
 full_tells : (parts drawn accepted : ℕ) (why : Refusal) → insert_turn parts drawn accepted ≡ Some why → OfScript why
 full_tells parts drawn accepted why is = by (nat_le 3000 parts) (nat_le 4294967295 drawn) is

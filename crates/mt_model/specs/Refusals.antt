@@ -110,7 +110,6 @@ refusal_of_cause cause.LongStatement = refusal.Past bound.Statement
 refusal_of_cause cause.LongName = refusal.Past bound.Name
 
 abbrev pub refusal_of_row : RowFault → Refusal
-refusal_of_row row_fault.NoMemory = refusal.Failed
 refusal_of_row (row_fault.Fields line found wanted) = refusal.Fields line found wanted
 refusal_of_row (row_fault.Field line field) = refusal.Field line field
 refusal_of_row row_fault.Value = refusal.Past bound.Value

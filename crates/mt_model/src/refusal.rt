@@ -124,7 +124,6 @@ impl Refusal {
         ensures { result ≡ refusals.refusal_of_row fault }
     {
         match fault {
-            RowFault::NoMemory => Refusal::Failed,
             RowFault::Fields {
                 line,
                 found,

@@ -4,10 +4,10 @@ ghost use Rattle.mt_values.specs.Rows.{inserted_rows};
 ghost use Rattle.mt_values.specs.Values.{AreValues};
 ghost use Rattle.mt_model.specs.History as history;
 
-use mt_base::{NoMemory, Seq};
+use mt_base::{NoMemory, Seq, Stop};
 use mt_values::{Block, ColType, DataFault, Schema};
 use std::alloc::Global;
-use tsv_rows::{ReadStop, read_rows};
+use tsv_rows::read_rows;
 
 /// The types of a table's columns, in order.
 pub fn column_types(alloc: Global, schema: &Schema) -> Result<Seq<ColType>, NoMemory>
@@ -33,7 +33,7 @@ pub fn read_block(
 {
     match read_rows(alloc, types, lines, ended) {
         Ok(block) => Ok(Ok(block)),
-        Err(ReadStop::NoMemory) => Err(NoMemory),
-        Err(ReadStop::Refused(fault)) => Ok(Err(fault)),
+        Err(Stop::NoMemory) => Err(NoMemory),
+        Err(Stop::Refused(fault)) => Ok(Err(fault)),
     }
 }

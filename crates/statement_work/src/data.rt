@@ -3,12 +3,12 @@ ghost use Rattle.std.specs.Prelude.{◌≡◌, Ok, IfErr, IfOk};
 ghost use Rattle.mt_values.specs.Rows.{inserted_rows};
 ghost use Rattle.mt_values.specs.Values.{AreValues};
 ghost use Rattle.mt_model.specs.History.{column_types};
-ghost use Rattle.tsv_rows.specs.Stops.{Refuses};
+ghost use Rattle.mt_base.specs.Stops.{Refuses};
 
-use mt_base::NoMemory;
-use mt_values::{Block, ColType, InsertText, Schema};
+use mt_base::{NoMemory, Stop};
+use mt_values::{Block, ColType, DataFault, InsertText, Schema};
 use std::alloc::Global;
-use tsv_rows::{ReadStop, read_rows};
+use tsv_rows::read_rows;
 
 /// The types of a table's columns, in order.
 pub fn types_of_columns(alloc: Global, schema: &Schema) -> Result<Vec<ColType>, NoMemory>
@@ -21,8 +21,12 @@ pub fn types_of_columns(alloc: Global, schema: &Schema) -> Result<Vec<ColType>, 
     Ok(types)
 }
 
-/// The rows of an INSERT, as they read for a table's columns, or why they are refused.
-pub fn read_block(alloc: Global, schema: &Schema, text: &InsertText) -> Result<Block, ReadStop>
+/// The rows of an INSERT, read for a table's columns, or why they are refused.
+pub fn read_block(
+    alloc: Global,
+    schema: &Schema,
+    text: &InsertText,
+) -> Result<Block, Stop<DataFault>>
     ensures rows { IfOk result (λ block. inserted_rows (column_types schema.now) text.now.lines text.now.ended ≡ Ok block.rows) }
     ensures types { IfOk result (λ block. block.types ≡ column_types schema.now) }
     ensures values { IfOk result (λ block. AreValues block.rows) }

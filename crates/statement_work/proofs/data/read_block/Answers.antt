@@ -1,5 +1,5 @@
 use Rattle.std.proofs.Common.{◌≡◌, ◌∙◌, ℕ, List, IfErr, IfOk, Ok, subst}
-use Rattle.tsv_rows.specs.Stops.{Refuses}
+use Rattle.mt_base.specs.Stops.{Refuses}
 use Rattle.mt_values.specs.declared.value.ColType.{ColType}
 use Rattle.mt_values.specs.Rows.{inserted_rows}
 use Rattle.mt_model.specs.History.{column_types}
