@@ -1,6 +1,7 @@
-//! What every other crate stands on: a list that contracts see as a list, out of memory and why a call stopped, equal copies, a partition, names and files.
+//! What every other crate stands on: a list that contracts see as a list, out of memory and why a call stopped, equal copies, a partition, names and files, and the bounds that the program keeps.
 #![tactic(auto)]
 
+mod limits;
 mod memory;
 mod name;
 mod partition;
@@ -9,6 +10,10 @@ mod stop;
 mod text;
 mod twin;
 
+pub use limits::{
+    COLUMN_LIMIT, NAME_LIMIT, NUMBER_LIMIT, PART_LIMIT, ROOT_TABLE_LIMIT, ROW_LIMIT, STATEMENT_LIMIT,
+    TABLE_LIMIT, TEXT_LIMIT,
+};
 pub use memory::NoMemory;
 pub use name::{Bytes, FileId, Name};
 pub use partition::Partition;

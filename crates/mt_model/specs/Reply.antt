@@ -3,6 +3,7 @@ use Rattle.std.specs.Prelude.{ℕ, List, [], ◌∷◌, ◌++◌, length, Option
 use Rattle.std.specs.Fmt.{decimal}
 use Rattle.std.specs.List.{position, concat, range_with_len}
 use Rattle.std.specs.Option.{option_map}
+use Rattle.mt_base.specs.Limits.{column_limit, number_limit, part_limit, table_limit}
 use Rattle.mt_values.specs.declared.row_fault.DataFault.{DataFault}
 use Rattle.mt_values.specs.declared.schema.Column.{Column}
 use Rattle.mt_values.specs.declared.schema.Schema.{Schema}
@@ -82,9 +83,9 @@ abbrev pub first_refusal : Option Refusal → Option Refusal → Option Refusal
 first_refusal (Some r) other = Some r
 first_refusal None other = other
 
--- a table has at most 64 columns
+-- a table has no more columns than its bound
 abbrev pub too_many_columns : List Column → Option Refusal
-too_many_columns columns = if nat_le (length columns) 64 then None else Some (refusal.Past bound.Columns)
+too_many_columns columns = if nat_le (length columns) column_limit then None else Some (refusal.Past bound.Columns)
 
 -- the first refusal of a schema: by its rules, then by the bound of its columns
 abbrev pub refusal_of_table : Schema → Option Refusal
@@ -108,11 +109,11 @@ schema_with_key c (Ok key) = table_schema (record { columns = c.columns; key = k
 abbrev pub schema_of_text : CreateText → Result Schema Refusal
 schema_of_text c = schema_with_key c (places_of c.columns c.key)
 
--- at its turn: there is no table of its name, and there are fewer than 64
+-- at its turn: there is no table of its name, and there is room for one more
 abbrev pub create_turn : List ℕ → History → Option Refusal
 create_turn table h =
     if is_some (schema_of table h) then Some (refusal.TableExists table)
-    else if nat_lt (creates h) 64 then None
+    else if nat_lt (creates h) table_limit then None
     else Some (refusal.Past bound.Tables)
 
 -- ---- INSERT
@@ -130,11 +131,11 @@ abbrev pub rows_of_insert : InsertText → History → Result (List Row) Refusal
 rows_of_insert i h = rows_for i (schema_of i.table h)
 
 -- At the turn of its next command, by the parts of the partition, the last number of the table, and how many of the statement's commands were
--- accepted before: there are fewer than 3000 parts, and a number is left (docs/replies.md, "Refusals").
+-- accepted before: the partition has room for a part, and the table a number (docs/replies.md, "Refusals").
 abbrev pub insert_turn : ℕ → ℕ → ℕ → Option Refusal
 insert_turn parts drawn accepted =
-    if nat_le 3000 parts then Some (refusal.Full room.Parts accepted)
-    else if nat_le 4294967295 drawn then Some (refusal.Full room.Numbers accepted)
+    if nat_le part_limit parts then Some (refusal.Full room.Parts accepted)
+    else if nat_le number_limit drawn then Some (refusal.Full room.Numbers accepted)
     else None
 
 -- ---- SELECT

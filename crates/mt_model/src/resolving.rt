@@ -3,12 +3,9 @@ ghost use Rattle.std.specs.Prelude.{◌≡◌, ◌<◌, ◌^◌, IfOk, IfSome, l
 ghost use Rattle.mt_model.specs.Reply as reply;
 
 use crate::refusal::{Bound, Reason, Refusal};
-use mt_base::{NoMemory, Seq, Twin};
+use mt_base::{COLUMN_LIMIT, NoMemory, Seq, Twin};
 use mt_values::{Column, CreateText, Name, Schema, SchemaFault, Selected, all_places};
 use std::alloc::Global;
-
-/// The most columns that a table may have.
-const MOST_COLUMNS: usize = 64;
 
 /// The schema that a CREATE writes, or the first thing that it is refused for: a name of its key that is no column's, a
 /// rule of schemas that is broken, too many columns.
@@ -32,7 +29,7 @@ pub fn resolve(alloc: Global, create: &CreateText) -> Result<Result<Schema, Refu
     if let Err(fault) = schema.check() {
         return Ok(Err(refusal_of_schema(alloc, columns, fault)?));
     }
-    if columns.len() > MOST_COLUMNS {
+    if columns.len() > COLUMN_LIMIT {
         return Ok(Err(Refusal::Past(Bound::Columns)));
     }
     Ok(Ok(schema))

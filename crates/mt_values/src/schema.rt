@@ -1,11 +1,12 @@
 // The columns of a table and its sorting key.
-ghost use Rattle.std.specs.Prelude.{◌≡◌, None, Some, MatchResult, nat_eq};
+ghost use Rattle.std.specs.Prelude.{◌≡◌, None, Some, IfOk, MatchResult, nat_eq};
 ghost use Rattle.std.specs.Cmp.Lexicographic.{pointwise};
 ghost use Rattle.std.specs.List.{list_any};
 ghost use Rattle.mt_values.specs.Schemas.{column_fault, key_fault};
 
 use crate::{ColType, Name};
-use mt_base::Seq;
+use mt_base::{NoMemory, Seq};
+use std::alloc::Global;
 
 /// A column of a table.
 #[derive(Debug, Drop, PartialEq, Eq)]
@@ -33,7 +34,7 @@ pub enum SchemaFault {
 }
 
 impl Schema {
-    ghost use Rattle.mt_values.specs.Schemas.{schema_fault};
+    ghost use Rattle.mt_values.specs.Schemas.{column_types, schema_fault};
 
     /// Finds the first rule that the schema breaks. Takes no memory.
     ///
@@ -51,6 +52,19 @@ impl Schema {
             Some(fault) => Err(fault),
             None => Ok(()),
         }
+    }
+
+    /// The types of the columns, in order.
+    ///
+    /// `NoMemory` where an allocation failed.
+    pub fn types(&self, alloc: Global) -> Result<Seq<ColType>, NoMemory>
+        ensures { IfOk result (λ types. types ≡ column_types self.now) }
+    {
+        let mut types = Seq::with_capacity(alloc, self.columns.len())?;
+        for column in self.columns.as_slice() {
+            types.push(column.col_type)?;
+        }
+        Ok(types)
     }
 }
 

@@ -6,13 +6,10 @@ ghost use Rattle.mt_values.specs.Readers.{expect};
 ghost use Rattle.mt_values.specs.Tokens.{is_keyword};
 ghost use Rattle.sql_read.specs.Reads.{Reads, Skips, first_is};
 
-use mt_base::{NoMemory, Twin};
+use mt_base::{NAME_LIMIT, NoMemory, Twin};
 use mt_values::{ColType, Name, Placed, Slip, Symbol, Token};
 use std::alloc::Global;
 use std::marker::Model;
-
-/// The most bytes of a name.
-const NAME_LIMIT: usize = 64;
 
 /// Why reading stopped.
 #[derive(Clone, Copy)]

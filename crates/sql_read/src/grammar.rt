@@ -8,12 +8,9 @@ ghost use Rattle.sql_read.specs.Reads.{IsRead};
 
 use crate::cursor::{Cursor, Stop};
 use crate::tokens::tokens_and_end;
-use mt_base::NoMemory;
+use mt_base::{NoMemory, STATEMENT_LIMIT};
 use mt_values::{Cause, Placed, Slip, Statement};
 use std::alloc::Global;
-
-/// The most bytes of a statement, from its first token up to its semicolon.
-const STATEMENT_LIMIT: usize = 1_048_576;
 
 // The statement that the tokens are, by their first one.
 #[tactic(auto, using(crate::proofs::Choices::choose_this, crate::proofs::Choices::choose_other))]

@@ -6,11 +6,8 @@ ghost use Rattle.tsv_lines.specs.Fields.{EndFields, line_at, line_found, marked,
 
 use crate::numbers::{signed_below, unsigned_up_to};
 use crate::texts::{plain_len, unescape};
-use mt_base::NoMemory;
+use mt_base::{NoMemory, TEXT_LIMIT};
 use mt_values::{Cell, ColType, FieldFault};
-
-/// A text has no more bytes than this.
-const LONGEST_TEXT: usize = 1_048_576;
 
 // Whether the byte is a line feed, where lines are looked for.
 fn is_feed(lines: bool, byte: u8) -> bool
@@ -92,7 +89,7 @@ fn number_of_field(col_type: ColType, field: &[u8]) -> Option<Cell<'static>>
 fn text_within(bytes: &[u8]) -> Result<Cell<'_>, FieldFault>
     ensures { value_read result ≡ text_of (Some bytes.now) }
 {
-    if bytes.len() > LONGEST_TEXT {
+    if bytes.len() > TEXT_LIMIT {
         return Err(FieldFault::TooLong);
     }
     Ok(Cell::Text(bytes))

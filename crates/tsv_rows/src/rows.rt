@@ -5,13 +5,10 @@ ghost use Rattle.mt_values.specs.Values.{AreValues, IsValue};
 ghost use Rattle.mt_values.specs.Schemas.{column_types};
 ghost use Rattle.mt_base.specs.Stops.{Refuses};
 
-use mt_base::{NoMemory, Seq, Stop};
+use mt_base::{NoMemory, ROW_LIMIT, Seq, Stop};
 use mt_values::{Block, ColType, ColumnData, DataFault, Row, RowFault, Schema, Value};
 use std::alloc::Global;
 use tsv_lines::{cell_of_field, fault_of_count, fault_of_field, field_at, mark_fields, read_line};
-
-/// An INSERT has no more rows than this.
-const MOST_ROWS: usize = 1_048_576;
 
 // The value of the field at a place in its line, from 1, or the line's fault.
 fn read_value(
@@ -90,7 +87,7 @@ pub fn read_rows(
     let mut count = 0;
     let mut at = 0;
     'lines: while let Some(len) = mark_fields(&lines[at..], true, &mut ends)? {
-        if count >= MOST_ROWS {
+        if count >= ROW_LIMIT {
             return Err(Stop::Refused(DataFault::TooMany));
         }
         let text = &lines[at..at + len];

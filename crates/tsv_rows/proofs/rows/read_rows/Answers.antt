@@ -50,9 +50,9 @@ returns-in_err-fault c =
 pub lines-init : goal.lines-init
 lines-init c = record { kept = rw c.in_ok-columns.ensures (no_lines c.args.types.now c.args.lines.now c.args.ended); within = omega arith }
 
-pub returns-then-count-ge-MOST_ROWS : goal.returns-then-count-ge-MOST_ROWS
-returns-then-count-ge-MOST_ROWS c =
-    let d = (goal.at.returns-then-count-ge-MOST_ROWS c).In-Some in
+pub returns-then-count-ge-ROW_LIMIT : goal.returns-then-count-ge-ROW_LIMIT
+returns-then-count-ge-ROW_LIMIT c =
+    let d = (goal.at.returns-then-count-ge-ROW_LIMIT c).In-Some in
     let text = drop c.lines.at c.args.lines.now in
     record {
       rows = tt;
@@ -60,7 +60,7 @@ returns-then-count-ge-MOST_ROWS c =
       values = tt;
       refused =
           lines_many c.args.types.now c.args.lines.now c.args.ended text c.lines.columns.items c.lines.count c.lines.invariant.kept (take c.in-Some.len text) (drop (c.in-Some.len + 1) text) (found d)
-          c.if-count-ge-MOST_ROWS.true;
+          c.if-count-ge-ROW_LIMIT.true;
     }
 
 pub returns-in-Err : goal.returns-in-Err
@@ -73,7 +73,7 @@ returns-in-Err c =
       values = tt;
       refused =
           lines_refused c.args.types.now c.args.lines.now c.args.ended text c.lines.columns.items c.lines.count c.lines.invariant.kept (take c.in-Some.len text) (drop (c.in-Some.len + 1) text)
-          (found (goal.at.returns-in-Err c).In-Some) c.if-count-ge-MOST_ROWS.false c.in-Err.fault (rw c.in-Err.is at (read_is d));
+          (found (goal.at.returns-in-Err c).In-Some) c.if-count-ge-ROW_LIMIT.false c.in-Err.fault (rw c.in-Err.is at (read_is d));
     }
 
 pub lines-preserved : goal.lines-preserved
@@ -91,7 +91,7 @@ lines-preserved c =
       kept =
           rw (whole, ← behind)
           (lines_more c.args.types.now c.args.lines.now c.args.ended text c.lines.columns.items c.lines.count c.lines.invariant.kept (take len text) (drop (len + 1) text) (found e)
-          c.if-count-ge-MOST_ROWS.false new read);
+          c.if-count-ge-ROW_LIMIT.false new read);
       within = omega (arith, inside e, length-drop c.lines.at c.args.lines.now);
     }
 
