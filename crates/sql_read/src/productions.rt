@@ -116,7 +116,12 @@ impl Cursor<'_> {
     }
 
     // Two keywords and a name, as CREATE TABLE name.
-    fn table_behind(&mut self, alloc: Global, first: &[u8], second: &[u8]) -> Result<Name, Stop<Slip>>
+    fn table_behind(
+        &mut self,
+        alloc: Global,
+        first: &[u8],
+        second: &[u8],
+    ) -> Result<Name, Stop<Slip>>
         ensures { Reads (table_behind first.now second.now) self.old result self.new }
     {
         self.keyword(first)?;
@@ -183,7 +188,12 @@ impl Cursor<'_> {
     }
 
     /// An INSERT with these lines of data, which are copied, once, and only where the statement is of the grammar.
-    pub fn insert(&mut self, alloc: Global, lines: &[u8], ended: bool) -> Result<Statement, Stop<Slip>>
+    pub fn insert(
+        &mut self,
+        alloc: Global,
+        lines: &[u8],
+        ended: bool,
+    ) -> Result<Statement, Stop<Slip>>
         ensures { IsRead (insert lines.now ended) self.old result self.new }
     {
         let table = self.table_behind(alloc, b"INSERT", b"INTO")?;

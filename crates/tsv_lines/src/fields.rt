@@ -96,10 +96,7 @@ fn text_within(bytes: &[u8]) -> Result<Cell<'_>, Stop<FieldFault>>
 }
 
 // The text that a field is. It lies in the field itself, or in `said` where the field has escapes.
-fn text_of_field<'a>(
-    field: &'a [u8],
-    said: &'a mut Vec<u8>,
-) -> Result<Cell<'a>, Stop<FieldFault>>
+fn text_of_field<'a>(field: &'a [u8], said: &'a mut Vec<u8>) -> Result<Cell<'a>, Stop<FieldFault>>
     ensures { IsValueRead (value_of_field type.Text field.now) result }
 {
     if plain_len(field) == field.len() {

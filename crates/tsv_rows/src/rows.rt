@@ -32,7 +32,12 @@ fn read_value(
 ///
 /// `Stop::NoMemory` where an allocation failed. A fault is that of the number of fields, or else of the first faulty
 /// field from the left.
-pub fn read_row(alloc: Global, schema: &Schema, text: &[u8], line: usize) -> Result<Row, Stop<RowFault>>
+pub fn read_row(
+    alloc: Global,
+    schema: &Schema,
+    text: &[u8],
+    line: usize,
+) -> Result<Row, Stop<RowFault>>
     ensures row { IfOk result (λ row. row_of_line (column_types schema.now) line text.now ≡ Ok row) }
     ensures refused { IfErr result (Refuses (row_of_line (column_types schema.now) line text.now)) }
     ensures values { IfOk result (All IsValue) }
