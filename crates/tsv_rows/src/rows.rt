@@ -22,9 +22,10 @@ fn read_value(
     ensures value { IfOk result (λ v. Ok v ≡ value_of_field col_type field.now) }
     ensures refused { IfErr result (Refuses (at_field line place (value_of_field col_type field.now))) }
 {
-    match cell_of_field(col_type, field, said)? {
+    match cell_of_field(col_type, field, said) {
         Ok(cell) => Ok(cell.to_value(alloc)?),
-        Err(fault) => Err(Stop::Refused(fault_of_field(line, place, fault))),
+        Err(Stop::Refused(fault)) => Err(Stop::Refused(fault_of_field(line, place, fault))),
+        Err(Stop::NoMemory) => Err(Stop::NoMemory),
     }
 }
 
@@ -96,8 +97,10 @@ pub fn read_rows(
             return Err(Stop::Refused(DataFault::TooMany));
         }
         let text = &lines[at..at + len];
-        if let Err(fault) = read_line(&mut columns, text, &ends, count + 1, &mut said)? {
-            return Err(Stop::Refused(DataFault::Row(fault)));
+        match read_line(&mut columns, text, &ends, count + 1, &mut said) {
+            Ok(()) => {}
+            Err(Stop::Refused(fault)) => return Err(Stop::Refused(DataFault::Row(fault))),
+            Err(Stop::NoMemory) => return Err(Stop::NoMemory),
         }
         count += 1;
         at += len + 1;
