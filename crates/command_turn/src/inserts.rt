@@ -17,7 +17,7 @@ ghost use Rattle.reply_lines.specs.Causes.{HasCauses};
 ghost use Rattle.reply_lines.specs.Foreseen.{history};
 
 use crate::stopped::{ACCEPTED_BEFORE, refused_line};
-use mt_base::NoMemory;
+use mt_base::{NoMemory, Stop};
 use mt_model::ok_line;
 use mt_outside::{Arm, Disk, DiskError};
 use mt_values::{Annals, Block, InsertText, Schema};
@@ -27,7 +27,6 @@ use root_commits::{Returned, commit_part};
 use root_store::CoreStore;
 use statement_work::{give_back, read_block};
 use std::alloc::Global;
-use tsv_rows::ReadStop;
 
 /// The files of a block as a part of a table, sealed: its rows in the order of the key, those of equal keys as they came.
 ///
@@ -105,8 +104,8 @@ pub fn insert<D: Disk, A: Annals>(
     };
     let block = match read_block(alloc, &found.schema, text) {
         Ok(block) => block,
-        Err(ReadStop::NoMemory) => return Err(NoMemory),
-        Err(ReadStop::Refused(fault)) => return data_line(alloc, fault),
+        Err(Stop::NoMemory) => return Err(NoMemory),
+        Err(Stop::Refused(fault)) => return data_line(alloc, fault),
     };
     if block.is_empty() {
         return ok_line(alloc, store.length);

@@ -6,7 +6,6 @@ mod arm;
 mod calls;
 mod disk;
 mod folder;
-mod gate;
 mod image;
 mod root;
 
@@ -18,5 +17,5 @@ pub use crash_choice::{
 };
 pub use disk::MemDisk;
 pub use folder::{MemDir, MemStage};
-pub use gate::OpenGate;
+pub use mt_outside::OpenGate;
 pub use outside_streams::{MemSink, MemSource};

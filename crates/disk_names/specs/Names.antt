@@ -1,17 +1,6 @@
--- What the files of a folder and the folders of a root are called on a real disk (docs/formats.md, "Files" and "Names").
+-- What the folders of a root are called on a real disk (docs/formats.md, "Names").
 use Rattle.std.specs.Prelude.{ℕ, List, [], ◌∷◌, ◌++◌, Bool, false, ◌||◌, ◌&&◌, ◌==◌, nat_le, not, Option, None, Some, slice_get, filter, if◌then◌else◌, codes, decimal}
 use Rattle.std.specs.List.{list_all}
-use Rattle.mt_base.specs.declared.name.FileId.{FileId}
-use Rattle.mt_base.specs.declared.name.FileId.TheVariants as file
-
--- the name of a file in its folder
-abbrev pub file_name : FileId → List ℕ
-file_name file.Entry = codes "entry.bin"
-file_name file.Manifest = codes "manifest.bin"
-file_name file.Marks = codes "marks.bin"
-file_name file.Primary = codes "primary.bin"
-file_name (file.Skip number) = codes "s" ++ decimal number ++ codes ".bin"
-file_name (file.Column number) = codes "c" ++ decimal number ++ codes ".bin"
 
 -- a letter, a digit, an underscore or a dot
 abbrev pub is_name_byte : ℕ → Bool

@@ -1,38 +1,16 @@
 // Names of files and folders, and their paths.
 ghost use Rattle.std.specs.Prelude.{◌≡◌, ◌++◌, IfOk, IfSome, IsTrue, codes, decimal, string_bytes};
 ghost use Rattle.std.specs.List.{list_all};
-ghost use Rattle.disk_names.specs.Names.{file_name, is_name_byte, is_root_name};
+ghost use Rattle.disk_names.specs.Names.{is_name_byte, is_root_name};
 
-use mt_base::{FileId, Name, NoMemory};
+use mt_base::{Name, NoMemory};
 use std::alloc::Global;
-
-/// The name of a file in its folder: `entry.bin`, `manifest.bin`, `marks.bin`, `primary.bin`, and `s0.bin` and `c0.bin` and so on for the skip indexes
-/// and the columns.
-pub fn file_name(alloc: Global, file: FileId) -> Result<String, NoMemory>
-    ensures { IfOk result (λ name. string_bytes name ≡ file_name file) }
-{
-    match file {
-        FileId::Entry => owned(alloc, "entry.bin"),
-        FileId::Manifest => owned(alloc, "manifest.bin"),
-        FileId::Marks => owned(alloc, "marks.bin"),
-        FileId::Primary => owned(alloc, "primary.bin"),
-        FileId::Skip(number) => numbered(alloc, "s", number),
-        FileId::Column(number) => numbered(alloc, "c", number),
-    }
-}
 
 /// A copy of a text.
 pub fn owned(alloc: Global, text: &str) -> Result<String, NoMemory>
     ensures { IfOk result (λ copy. string_bytes copy ≡ text.now) }
 {
     Ok(String::from_str(alloc, text)?)
-}
-
-// The name of a file with a number.
-fn numbered(alloc: Global, letter: &str, number: u32) -> Result<String, NoMemory>
-    ensures { IfOk result (λ name. string_bytes name ≡ letter.now ++ decimal number ++ codes ".bin") }
-{
-    Ok(format!(in alloc; "{letter}{number}.bin")?)
 }
 
 // A letter, a digit, an underscore or a dot.

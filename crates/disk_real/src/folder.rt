@@ -5,7 +5,7 @@ ghost use Rattle.disk_real.specs.Stages.{has, without};
 use crate::handles::Handles;
 use crate::system::{System, fault, make_folder, open_at_end, remove_folder, sync_file};
 use crate::tries::write_whole;
-use disk_names::{file_name, path_in};
+use disk_names::path_in;
 use mt_base::{FileId, NoMemory};
 use mt_outside::{Dir, DiskError, Stage};
 use outside_streams::Faults;
@@ -87,7 +87,7 @@ impl Dir for RealDir {
 
 /// The path of a file in a folder.
 pub(crate) fn file_path(alloc: Global, folder: &str, file: FileId) -> Result<String, NoMemory> {
-    let name = file_name(alloc, file)?;
+    let name = file.name(alloc)?;
     path_in(alloc, folder, &name)
 }
 

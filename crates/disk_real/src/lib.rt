@@ -1,11 +1,10 @@
-//! The real outside: a folder of the system as a disk, std's readers and writers as streams, and a gate that holds nobody.
+//! The real outside: a folder of the system as a disk, and std's readers and writers as streams.
 //! What it keeps and gives is told to no proof; its counts of faults are proved.
 #![tactic(auto)]
 
 mod arm;
 mod disk;
 mod folder;
-mod gate;
 mod handles;
 mod numbers;
 mod root;
@@ -15,9 +14,9 @@ mod tries;
 
 pub use arm::RealArm;
 pub use disk::RealDisk;
-pub use disk_names::{file_name, is_root_name};
+pub use disk_names::is_root_name;
 pub use folder::{RealDir, RealStage};
-pub use gate::OpenGate;
+pub use mt_outside::OpenGate;
 pub use outside_streams::{MOST_TRIES, StdSink, StdSource};
 pub use standard::{StandardNumbers, hold_standard_numbers};
 pub use system::System;

@@ -1,5 +1,8 @@
 // Bytes, names of the root, and the files behind them.
-use crate::Seq;
+ghost use Rattle.std.specs.Prelude.{◌≡◌, ◌++◌, IfOk, codes, decimal, string_bytes};
+
+use crate::{NoMemory, Seq};
+use std::alloc::Global;
 
 /// Bytes, as those of a String value.
 pub type Bytes = Seq<u8>;
@@ -22,8 +25,7 @@ pub enum FileId {
 }
 
 impl FileId {
-    ghost use Rattle.std.specs.Prelude.{◌≡◌};
-    ghost use Rattle.mt_base.specs.Files.{same_file};
+    ghost use Rattle.mt_base.specs.Files.{file_name, same_file};
 
     /// Whether both are one file.
     pub fn is(self, other: FileId) -> bool
@@ -31,4 +33,26 @@ impl FileId {
     {
         self == other
     }
+
+    /// The name of the file in its folder: `entry.bin`, `manifest.bin`, `marks.bin`, `primary.bin`, and `s0.bin` and `c0.bin` and so
+    /// on for the skip indexes and the columns.
+    pub fn name(self, alloc: Global) -> Result<String, NoMemory>
+        ensures { IfOk result (λ name. string_bytes name ≡ file_name self) }
+    {
+        match self {
+            FileId::Entry => Ok(String::from_str(alloc, "entry.bin")?),
+            FileId::Manifest => Ok(String::from_str(alloc, "manifest.bin")?),
+            FileId::Marks => Ok(String::from_str(alloc, "marks.bin")?),
+            FileId::Primary => Ok(String::from_str(alloc, "primary.bin")?),
+            FileId::Skip(number) => numbered(alloc, "s", number),
+            FileId::Column(number) => numbered(alloc, "c", number),
+        }
+    }
+}
+
+// The name of a file that is one of many, with its number.
+fn numbered(alloc: Global, letter: &str, number: u32) -> Result<String, NoMemory>
+    ensures { IfOk result (λ name. string_bytes name ≡ letter.now ++ decimal number ++ codes ".bin") }
+{
+    Ok(format!(in alloc; "{letter}{number}.bin")?)
 }

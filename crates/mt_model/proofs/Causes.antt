@@ -2,7 +2,7 @@
 use Rattle.std.proofs.Common.{◌≡◌, ◌⊎◌, ℕ, ◌+◌, ◌-◌, ◌<◌, ◌≤◌, ◌^◌, Bool, true, false, cond, List, [], ◌∷◌, ◌++◌, Option, Some, None, Result, Ok, Err, length, take, drop, refl, sym, zero, suc, ◌==◌, ap, ◌∙◌, subst, inl, inr, arith, nat_le, nat_lt, is_some, ◌&&◌, ◌||◌}
 use Rattle.std.proofs.lemmas.Bool.{false≢true}
 use Rattle.std.proofs.lemmas.Bool.Decides.{nat_tests}
-use Rattle.std.specs.List.{list_any}
+use Rattle.std.specs.Option.{option_map}
 use Rattle.mt_values.specs.declared.command.Command.{Command}
 use Rattle.mt_values.specs.declared.command.Command.TheVariants as command
 use Rattle.mt_values.specs.declared.row_fault.DataFault.{DataFault}
@@ -13,6 +13,8 @@ use Rattle.mt_values.specs.declared.row_fault.RowFault.{RowFault}
 use Rattle.mt_values.specs.declared.row_fault.RowFault.TheVariants as row_fault
 use Rattle.mt_values.specs.declared.schema.Column.{Column}
 use Rattle.mt_values.specs.declared.schema.Schema.{Schema}
+use Rattle.mt_values.specs.declared.schema.SchemaFault.{SchemaFault}
+use Rattle.mt_values.specs.declared.schema.SchemaFault.TheVariants as schema_fault
 use Rattle.mt_values.specs.declared.statement.Cause.{Cause}
 use Rattle.mt_values.specs.declared.statement.Cause.TheVariants as cause
 use Rattle.mt_values.specs.declared.statement.Selected.{Selected}
@@ -21,14 +23,14 @@ use Rattle.mt_values.specs.declared.value.ColType.{ColType}
 use Rattle.mt_values.specs.declared.value.Value.{Value}
 use Rattle.mt_values.specs.Grammar.{same_bytes}
 use Rattle.mt_values.specs.Rows.{fields_from, value_of_field, at_field, value_onto, row_of_fields, row_of_line, row_limit, row_onto, rows_behind, rows_within, inserted_rows}
-use Rattle.mt_values.specs.Schemas.{first_repeat, same_name}
+use Rattle.mt_values.specs.Schemas.{schema_fault as rule_of}
 use Rattle.mt_values.specs.Script.{line_from}
 use Rattle.mt_values.specs.Values.{Row}
 use Rattle.mt_model.specs.declared.refusal.Bound.TheVariants as bound
 use Rattle.mt_model.specs.declared.refusal.Refusal.{Refusal}
 use Rattle.mt_model.specs.declared.refusal.Refusal.TheVariants as refusal
 use Rattle.mt_model.specs.declared.refusal.Room.TheVariants as room
-use Rattle.mt_model.specs.Reply.{place_of, found_or, place_onto, places_of, double_column_at, double_key_at, first_refusal, double_name, too_many_columns, unless_refused, schema_with_key, schema_of_text, create_turn, rows_or_refused, rows_for, rows_of_insert, insert_turn, selected_places, columns_for, columns_of_select}
+use Rattle.mt_model.specs.Reply.{place_of, found_or, place_onto, places_of, first_refusal, refusal_of_rules, refusal_of_schema, refusal_of_table, too_many_columns, unless_refused, schema_with_key, schema_of_text, create_turn, rows_or_refused, rows_for, rows_of_insert, insert_turn, selected_places, columns_for, columns_of_select}
 use Rattle.mt_values.specs.declared.statement.Statement.{Statement}
 use Rattle.mt_values.specs.declared.statement.Statement.TheVariants as statement
 use Rattle.mt_values.specs.declared.statement.CreateText.{CreateText}
@@ -93,15 +95,16 @@ places_tell : (columns : List Column) (names : List (List ℕ)) → Scripted (pl
 places_tell columns [] = tt
 places_tell columns (name ∷ names) = onto_tells (found_or name (place_of columns name)) (places_of columns names) (found_tells name (place_of columns name)) (places_tell columns names)
 
-repeat_tells : {X : Type 0} (same : X → X → Bool) (tell : ℕ → X → Refusal) → ((place : ℕ) (x : X) → OfText (tell place x)) → (place : ℕ) (earlier xs : List X) → Tells (first_repeat same tell place earlier xs)
-repeat_tells same tell of place earlier [] = tt
-repeat_tells same tell of place earlier (x ∷ xs) =
-    tells_if (list_any (λ y. same y x) earlier) (Some (tell place x)) (first_repeat same tell (place + 1) (earlier ++ x ∷ []) xs) (of place x) (repeat_tells same tell of (place + 1) (earlier ++ x ∷ []) xs)
+rules_tell : (columns : List Column) (o : Option SchemaFault) → Tells (option_map (refusal_of_schema columns) o)
+rules_tell columns None = tt
+rules_tell columns (Some schema_fault.NoColumns) = (omega arith, refl)
+rules_tell columns (Some (schema_fault.DoubleColumn place)) = (omega arith, refl)
+rules_tell columns (Some (schema_fault.DoubleKey place)) = (omega arith, refl)
 
-double_tells : (c : CreateText) → Tells (double_name c)
-double_tells c =
-    tells_first (first_repeat same_name double_column_at 0 [] c.columns) (first_repeat same_bytes double_key_at 0 [] c.key)
-    (repeat_tells same_name double_column_at (λ place x. (omega arith, refl)) 0 [] c.columns) (repeat_tells same_bytes double_key_at (λ place x. (omega arith, refl)) 0 [] c.key)
+table_tells : (schema : Schema) → Tells (refusal_of_table schema)
+table_tells schema =
+    tells_first (refusal_of_rules schema) (too_many_columns schema.columns) (rules_tell schema.columns (rule_of schema))
+    (tells_if (nat_le (length schema.columns) 64) None (Some (refusal.Past bound.Columns)) tt (omega arith, refl))
 
 unless_tells : {X : Type 0} (o : Option Refusal) (x : X) → Tells o → Scripted (unless_refused o x)
 unless_tells None x h = tt
@@ -112,91 +115,30 @@ text_tells c = by (places_of c.columns c.key) (places_tell c.columns c.key)
   where
     by : (r : Result (List ℕ) Refusal) → Scripted r → Scripted (schema_with_key c r)
     by (Err why) h = h
-    by (Ok key) h =
-        unless_tells (first_refusal (double_name c) (too_many_columns c)) (record { columns = c.columns; key = key })
-        (tells_first (double_name c) (too_many_columns c) (double_tells c) (tells_if (nat_le (length c.columns) 64) None (Some (refusal.Past bound.Columns)) tt (omega arith, refl)))
+    by (Ok key) h = unless_tells (refusal_of_table (record { columns = c.columns; key = key })) (record { columns = c.columns; key = key }) (table_tells (record { columns = c.columns; key = key }))
 
 create_turn_tells : (table : List ℕ) (h : History) → Tells (create_turn table h)
 create_turn_tells table h =
     tells_if (is_some (schema_of table h)) (Some (refusal.TableExists table)) (cond (nat_lt (creates h) 64) None (Some (refusal.Past bound.Tables))) (omega arith, refl)
     (tells_if (nat_lt (creates h) 64) None (Some (refusal.Past bound.Tables)) tt (omega arith, refl))
 
--- a fault of data is not want of memory
-abbrev OfRow : RowFault → Type 0
-OfRow row_fault.NoMemory = ⊥
-OfRow fault = Unit {0}
+row_tells : (fault : RowFault) → OfText (refusal_of_row fault)
+row_tells (row_fault.Fields line found wanted) = (omega arith, refl)
+row_tells (row_fault.Field line field) = (omega arith, refl)
+row_tells row_fault.Value = (omega arith, refl)
 
-abbrev OfData : DataFault → Type 0
-OfData (data_fault.Row fault) = OfRow fault
-OfData fault = Unit {0}
-
-abbrev RowErrs : {A : Type 0} → Result A RowFault → Type 0
-RowErrs (Ok x) = Unit {0}
-RowErrs (Err fault) = OfRow fault
-
-abbrev DataErrs : Result (List Row) DataFault → Type 0
-DataErrs (Ok rows) = Unit {0}
-DataErrs (Err fault) = OfData fault
-
-field_errs : (line place : ℕ) (r : Result Value FieldFault) → RowErrs (at_field line place r)
-field_errs line place (Ok v) = tt
-field_errs line place (Err field_fault.NotOfType) = tt
-field_errs line place (Err field_fault.TooLong) = tt
-
-value_errs : (r : Result Value RowFault) (rest : Result Row RowFault) → RowErrs r → RowErrs rest → RowErrs (value_onto r rest)
-value_errs (Err fault) rest h k = h
-value_errs (Ok v) (Err fault) h k = k
-value_errs (Ok v) (Ok vs) h k = tt
-
-row_errs : (line place : ℕ) (types : List ColType) (fields : List (List ℕ)) → RowErrs (row_of_fields line place types fields)
-row_errs line place [] fields = tt
-row_errs line place (t ∷ ts) [] = tt
-row_errs line place (t ∷ ts) (f ∷ fs) = value_errs (at_field line place (value_of_field t f)) (row_of_fields line (place + 1) ts fs) (field_errs line place (value_of_field t f)) (row_errs line (place + 1) ts fs)
-
-line_errs : (types : List ColType) (line : ℕ) (text : List ℕ) → RowErrs (row_of_line types line text)
-line_errs types line text = by (length (fields_from false text) == length types) (row_errs line 1 types (fields_from false text))
-  where
-    by : (b : Bool) → RowErrs (row_of_fields line 1 types (fields_from false text)) → RowErrs (cond b (row_of_fields line 1 types (fields_from false text)) (Err (row_fault.Fields line (length (fields_from false text)) (length types))))
-    by true h = h
-    by false h = tt
-
-row_onto_errs : (r : Result Row RowFault) (rest : Result (List Row) DataFault) → RowErrs r → DataErrs rest → DataErrs (row_onto r rest)
-row_onto_errs (Err fault) rest h k = h
-row_onto_errs (Ok row) (Err fault) h k = k
-row_onto_errs (Ok row) (Ok rows) h k = tt
-
-data_errs_if : (c : Bool) (r q : Result (List Row) DataFault) → DataErrs r → DataErrs q → DataErrs (cond c r q)
-data_errs_if true r q h k = h
-data_errs_if false r q h k = k
-
-behind_errs : (types : List ColType) (ended : Bool) (count : ℕ) (f : ℕ → List ℕ → Result (List Row) DataFault) (o : Option (List ℕ × List ℕ)) → ((c : ℕ) (text : List ℕ) → DataErrs (f c text)) → DataErrs (rows_behind f types ended count o)
-behind_errs types ended count f None more = data_errs_if ended (Ok []) (Err (data_fault.Unended count)) tt tt
-behind_errs types ended count f (Some found) more =
-    data_errs_if (nat_le row_limit count) (Err data_fault.TooMany) (row_onto (row_of_line types (count + 1) found.0) (f (count + 1) found.1)) tt
-    (row_onto_errs (row_of_line types (count + 1) found.0) (f (count + 1) found.1) (line_errs types (count + 1) found.0) (more (count + 1) found.1))
-
-rows_errs : (n : ℕ) (types : List ColType) (ended : Bool) (count : ℕ) (text : List ℕ) → DataErrs (rows_within n types ended count text)
-rows_errs zero types ended count text = tt
-rows_errs (suc n) types ended count text = behind_errs types ended count (rows_within n types ended) (line_from false text) (rows_errs n types ended)
-
-row_tells : (fault : RowFault) → OfRow fault → OfText (refusal_of_row fault)
-row_tells row_fault.NoMemory h = absurd h
-row_tells (row_fault.Fields line found wanted) h = (omega arith, refl)
-row_tells (row_fault.Field line field) h = (omega arith, refl)
-row_tells row_fault.Value h = (omega arith, refl)
-
-data_tells : (fault : DataFault) → OfData fault → OfText (refusal_of_data fault)
-data_tells (data_fault.Row fault) h = row_tells fault h
-data_tells data_fault.TooMany h = (omega arith, refl)
-data_tells (data_fault.Unended rows) h = (omega arith, refl)
+data_tells : (fault : DataFault) → OfText (refusal_of_data fault)
+data_tells (data_fault.Row fault) = row_tells fault
+data_tells data_fault.TooMany = (omega arith, refl)
+data_tells (data_fault.Unended rows) = (omega arith, refl)
 
 rows_tell : (i : InsertText) (o : Option Schema) → Scripted (rows_for i o)
 rows_tell i None = (omega arith, refl)
-rows_tell i (Some schema) = by (inserted_rows (column_types schema) i.lines i.ended) (rows_errs (length i.lines + 1) (column_types schema) i.ended 0 i.lines)
+rows_tell i (Some schema) = by (inserted_rows (column_types schema) i.lines i.ended)
   where
-    by : (r : Result (List Row) DataFault) → DataErrs r → Scripted (rows_or_refused r)
-    by (Ok rows) h = tt
-    by (Err fault) h = data_tells fault h
+    by : (r : Result (List Row) DataFault) → Scripted (rows_or_refused r)
+    by (Ok rows) = tt
+    by (Err fault) = data_tells fault
 
 full_tells : (parts drawn accepted : ℕ) (why : Refusal) → insert_turn parts drawn accepted ≡ Some why → OfScript why
 full_tells parts drawn accepted why is = by (nat_le 3000 parts) (nat_le 4294967295 drawn) is

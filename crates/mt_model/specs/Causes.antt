@@ -1,8 +1,7 @@
 -- What the script itself gives a statement to be refused for (docs/definitions.md, "Runs").
 use Rattle.std.specs.Prelude.{◌≡◌, ◌⊎◌, ℕ, List, [], ◌∷◌, ◌++◌, length, Result, Ok, Err}
 use Rattle.mt_values.specs.declared.command.Command.{Command}
-use Rattle.mt_values.specs.declared.statement.Cause.{Cause}
-use Rattle.mt_values.specs.declared.statement.Statement.{Statement}
+use Rattle.mt_values.specs.Script.{Item}
 use Rattle.mt_model.specs.declared.refusal.Refusal.{Refusal}
 use Rattle.mt_model.specs.Commands.{commands_of}
 use Rattle.mt_model.specs.History.{History, entered}
@@ -10,7 +9,7 @@ use Rattle.mt_model.specs.Session.{TurnRefuses}
 
 -- After a history a statement meets a cause to be refused for what the script says: by its text, its table or its data, or at the turn of a command,
 -- once those before it were accepted. How many parts a partition has is left open: merges leave at most one an INSERT (docs/definitions.md, "Runs").
-abbrev pub MeetsCause : History → Result Statement Cause → Type 0
+abbrev pub MeetsCause : History → Item → Type 0
 MeetsCause h (Err why) = Unit {0}
 MeetsCause h (Ok s) =
     ((why : Refusal) × (commands_of h s ≡ Err why))
@@ -22,11 +21,11 @@ commands_or_none (Ok commands) = commands
 commands_or_none (Err why) = []
 
 -- the commands that a statement gives after a history, where nothing refuses it (docs/definitions.md, "Runs")
-abbrev pub given : History → Result Statement Cause → List Command
+abbrev pub given : History → Item → List Command
 given h (Ok s) = commands_or_none (commands_of h s)
 given h (Err why) = []
 
 -- Statements run after a history, each after the commands of those before it, and none of them meets a cause to be refused (docs/definitions.md, "Runs").
-abbrev pub NoneMeets : History → List (Result Statement Cause) → Type 0
+abbrev pub NoneMeets : History → List Item → Type 0
 NoneMeets h [] = Unit {0}
 NoneMeets h (s ∷ ss) = (MeetsCause h s → ⊥) × NoneMeets (entered h 0 (given h s)) ss

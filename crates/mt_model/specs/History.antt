@@ -5,6 +5,7 @@ use Rattle.mt_values.specs.declared.command.Command.{Command}
 use Rattle.mt_values.specs.declared.command.Command.TheVariants as command
 use Rattle.mt_values.specs.declared.command.Insert.{Insert}
 use Rattle.mt_base.specs.declared.partition.Partition.{Partition}
+use Rattle.mt_base.specs.Limits.{column_limit, part_limit, root_table_limit}
 use Rattle.mt_values.specs.declared.schema.Schema.{Schema}
 use Rattle.mt_values.specs.Grammar.{same_bytes}
 pub use Rattle.mt_values.specs.Schemas.{column_types}
@@ -50,7 +51,7 @@ inserts table partition h = length (filter (λ (e : Entry). inserts_into table p
 
 -- Each partition of a table has fewer than 3000 INSERTs, so it never has 3000 parts: merges leave at most one part an INSERT (docs/definitions.md, "Histories").
 abbrev pub FewInserts : History → Type 0
-FewInserts h = (table : List ℕ) (partition : Partition) → inserts table partition h < 3000
+FewInserts h = (table : List ℕ) (partition : Partition) → inserts table partition h < part_limit
 
 -- the history with these commands of a session as its last entries (docs/definitions.md, "Histories")
 abbrev pub entered : History → ℕ → List Command → History
@@ -61,7 +62,7 @@ pub record IsTableSchema (schema : Schema) : Type 0 where
   pub sound : schema_fault schema ≡ None
   pub key : 0 < length schema.key
   pub own : All (λ place. place < length schema.columns) schema.key
-  pub few : length schema.columns ≤ 64
+  pub few : length schema.columns ≤ column_limit
 
 -- rows of one partition of a table: at least one, each with a value of each column's type and within its range (docs/definitions.md, "Histories")
 pub record IsInsertInto (schema : Schema) (i : Insert) : Type 0 where
@@ -73,7 +74,7 @@ pub record IsInsertInto (schema : Schema) (i : Insert) : Type 0 where
 
 -- a command that may come after a history
 abbrev pub IsAllowed : History → Command → Type 0
-IsAllowed h (command.Create c) = (schema_of c.table h ≡ None) × (creates h < 65536) × IsTableSchema c.schema
+IsAllowed h (command.Create c) = (schema_of c.table h ≡ None) × (creates h < root_table_limit) × IsTableSchema c.schema
 IsAllowed h (command.Insert i) = (schema : Schema) × (schema_of i.table h ≡ Some schema) × IsInsertInto schema i
 
 -- each command may come after those before it

@@ -24,7 +24,9 @@ and_number n = 32 ∷ decimal n
 abbrev pub and_name : List ℕ → List ℕ
 and_name name = 32 ∷ name
 
+-- the word of a rule of schemas
 abbrev pub reason_word : Reason → List ℕ
+reason_word reason.NoColumns = codes "no_columns"
 reason_word reason.DoubleColumn = codes "double_column"
 reason_word reason.DoubleKey = codes "double_key"
 
@@ -108,7 +110,6 @@ refusal_of_cause cause.LongStatement = refusal.Past bound.Statement
 refusal_of_cause cause.LongName = refusal.Past bound.Name
 
 abbrev pub refusal_of_row : RowFault → Refusal
-refusal_of_row row_fault.NoMemory = refusal.Failed
 refusal_of_row (row_fault.Fields line found wanted) = refusal.Fields line found wanted
 refusal_of_row (row_fault.Field line field) = refusal.Field line field
 refusal_of_row row_fault.Value = refusal.Past bound.Value

@@ -1,10 +1,14 @@
 -- The lines of replies, and when a statement is refused (docs/replies.md).
-use Rattle.std.specs.Prelude.{ℕ, List, [], ◌∷◌, ◌++◌, length, Option, Some, None, Result, Ok, Err, is_some, nat_le, nat_lt, codes, if◌then◌else◌}
+use Rattle.std.specs.Prelude.{ℕ, List, [], ◌∷◌, ◌++◌, length, Option, Some, None, Result, Ok, Err, is_some, nat_le, nat_lt, slice_get, codes, if◌then◌else◌}
 use Rattle.std.specs.Fmt.{decimal}
 use Rattle.std.specs.List.{position, concat, range_with_len}
+use Rattle.std.specs.Option.{option_map}
+use Rattle.mt_base.specs.Limits.{column_limit, number_limit, part_limit, table_limit}
 use Rattle.mt_values.specs.declared.row_fault.DataFault.{DataFault}
 use Rattle.mt_values.specs.declared.schema.Column.{Column}
 use Rattle.mt_values.specs.declared.schema.Schema.{Schema}
+use Rattle.mt_values.specs.declared.schema.SchemaFault.{SchemaFault}
+use Rattle.mt_values.specs.declared.schema.SchemaFault.TheVariants as fault
 use Rattle.mt_values.specs.declared.statement.CreateText.{CreateText}
 use Rattle.mt_values.specs.declared.statement.InsertText.{InsertText}
 use Rattle.mt_values.specs.declared.statement.SelectText.{SelectText}
@@ -13,7 +17,7 @@ use Rattle.mt_values.specs.declared.statement.Selected.TheVariants as selected
 use Rattle.mt_values.specs.Values.{Row}
 use Rattle.mt_values.specs.Grammar.{same_bytes}
 use Rattle.mt_values.specs.Rows.{inserted_rows}
-use Rattle.mt_values.specs.Schemas.{first_repeat, same_name}
+use Rattle.mt_values.specs.Schemas.{schema_fault}
 use Rattle.mt_model.specs.declared.refusal.Bound.TheVariants as bound
 use Rattle.mt_model.specs.declared.refusal.Reason.TheVariants as reason
 use Rattle.mt_model.specs.declared.refusal.Refusal.{Refusal}
@@ -55,42 +59,61 @@ places_of columns (name ∷ names) = place_onto (found_or name (place_of columns
 
 -- ---- CREATE
 
-abbrev pub double_column_at : ℕ → Column → Refusal
-double_column_at place column = refusal.Schema reason.DoubleColumn column.name
+-- the name of a column, where there is one
+abbrev pub name_of : Option Column → List ℕ
+name_of None = []
+name_of (Some column) = column.name
 
-abbrev pub double_key_at : ℕ → List ℕ → Refusal
-double_key_at place name = refusal.Schema reason.DoubleKey name
+-- the name of the column at a place
+abbrev pub name_at : List Column → ℕ → List ℕ
+name_at columns place = name_of (slice_get columns place)
+
+-- the refusal of a schema with these columns for the rule that it breaks; no column has the name "-"
+abbrev pub refusal_of_schema : List Column → SchemaFault → Refusal
+refusal_of_schema columns fault.NoColumns = refusal.Schema reason.NoColumns (codes "-")
+refusal_of_schema columns (fault.DoubleColumn place) = refusal.Schema reason.DoubleColumn (name_at columns place)
+refusal_of_schema columns (fault.DoubleKey place) = refusal.Schema reason.DoubleKey (name_at columns place)
+
+-- the refusal of a schema for the first rule that it breaks (docs/definitions.md, "Schemas")
+abbrev pub refusal_of_rules : Schema → Option Refusal
+refusal_of_rules schema = option_map (refusal_of_schema schema.columns) (schema_fault schema)
 
 -- the first refusal of two
 abbrev pub first_refusal : Option Refusal → Option Refusal → Option Refusal
 first_refusal (Some r) other = Some r
 first_refusal None other = other
 
--- a name that stands twice: of the columns first, then of the key; the first repeated mention is told
-abbrev pub double_name : CreateText → Option Refusal
-double_name c = first_refusal (first_repeat same_name double_column_at 0 [] c.columns) (first_repeat same_bytes double_key_at 0 [] c.key)
+-- a table has no more columns than its bound
+abbrev pub too_many_columns : List Column → Option Refusal
+too_many_columns columns = if nat_le (length columns) column_limit then None else Some (refusal.Past bound.Columns)
 
--- a table has at most 64 columns
-abbrev pub too_many_columns : CreateText → Option Refusal
-too_many_columns c = if nat_le (length c.columns) 64 then None else Some (refusal.Past bound.Columns)
+-- the first refusal of a schema: by its rules, then by the bound of its columns
+abbrev pub refusal_of_table : Schema → Option Refusal
+refusal_of_table schema = first_refusal (refusal_of_rules schema) (too_many_columns schema.columns)
 
+-- what is given, unless it is refused
 abbrev pub unless_refused : {X : Type 0} → Option Refusal → X → Result X Refusal
 unless_refused (Some r) x = Err r
 unless_refused None x = Ok x
 
+-- the schema, where nothing refuses it
+abbrev pub table_schema : Schema → Result Schema Refusal
+table_schema schema = unless_refused (refusal_of_table schema) schema
+
+-- the schema of a CREATE with a key of these places
 abbrev pub schema_with_key : CreateText → Result (List ℕ) Refusal → Result Schema Refusal
 schema_with_key c (Err r) = Err r
-schema_with_key c (Ok key) = unless_refused (first_refusal (double_name c) (too_many_columns c)) (record { columns = c.columns; key = key })
+schema_with_key c (Ok key) = table_schema (record { columns = c.columns; key = key })
 
--- the schema that a CREATE writes: its key names columns of its own, no name stands twice, and there are not too many columns
+-- the schema that a CREATE writes: its key names columns of its own, no rule of schemas is broken, and there are not too many columns
 abbrev pub schema_of_text : CreateText → Result Schema Refusal
 schema_of_text c = schema_with_key c (places_of c.columns c.key)
 
--- at its turn: there is no table of its name, and there are fewer than 64
+-- at its turn: there is no table of its name, and there is room for one more
 abbrev pub create_turn : List ℕ → History → Option Refusal
 create_turn table h =
     if is_some (schema_of table h) then Some (refusal.TableExists table)
-    else if nat_lt (creates h) 64 then None
+    else if nat_lt (creates h) table_limit then None
     else Some (refusal.Past bound.Tables)
 
 -- ---- INSERT
@@ -108,11 +131,11 @@ abbrev pub rows_of_insert : InsertText → History → Result (List Row) Refusal
 rows_of_insert i h = rows_for i (schema_of i.table h)
 
 -- At the turn of its next command, by the parts of the partition, the last number of the table, and how many of the statement's commands were
--- accepted before: there are fewer than 3000 parts, and a number is left (docs/replies.md, "Refusals").
+-- accepted before: the partition has room for a part, and the table a number (docs/replies.md, "Refusals").
 abbrev pub insert_turn : ℕ → ℕ → ℕ → Option Refusal
 insert_turn parts drawn accepted =
-    if nat_le 3000 parts then Some (refusal.Full room.Parts accepted)
-    else if nat_le 4294967295 drawn then Some (refusal.Full room.Numbers accepted)
+    if nat_le part_limit parts then Some (refusal.Full room.Parts accepted)
+    else if nat_le number_limit drawn then Some (refusal.Full room.Numbers accepted)
     else None
 
 -- ---- SELECT

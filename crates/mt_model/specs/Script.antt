@@ -1,9 +1,8 @@
 -- What a run of a script may print (docs/definitions.md, "Runs").
-use Rattle.std.specs.Prelude.{◌++◌, ◌⊎◌, ◌≡◌, ◌∷◌, [], ℕ, List, length, drop, All, take, slice_get, Some, Result}
+use Rattle.std.specs.Prelude.{◌++◌, ◌⊎◌, ◌≡◌, ◌∷◌, [], ℕ, List, length, drop, All, take, slice_get, Some}
 use Rattle.std.specs.List.{concat}
 use Rattle.mt_values.specs.declared.command.Entry.{Entry}
-use Rattle.mt_values.specs.declared.statement.Cause.{Cause}
-use Rattle.mt_values.specs.declared.statement.Statement.{Statement}
+use Rattle.mt_values.specs.Script.{Item}
 use Rattle.mt_model.specs.History.{History}
 use Rattle.mt_model.specs.Outside.{Outside}
 use Rattle.mt_model.specs.Session.{SessionRun, SessionReplies, AddsNothing, Unanswered}
@@ -13,14 +12,14 @@ abbrev pub OwnEntries : History → ℕ → Type 0
 OwnEntries h base = All (λ (e : Entry). e.session ≡ 0) (drop base h)
 
 -- The statements ran and printed out. The entries past base are theirs, each once.
-pub record ScriptRun (n : Outside) (script : List (Result Statement Cause)) (h : History) (base : ℕ) (out : List ℕ) : Type 0 where
+pub record ScriptRun (n : Outside) (script : List Item) (h : History) (base : ℕ) (out : List ℕ) : Type 0 where
   pub last : ℕ
   pub run : SessionRun n h 0 script base last out
   pub nothing_else : AddsNothing h 0 last (length h)
   pub sessions : OwnEntries h base
 
 -- The same, reply by reply.
-pub record ScriptReplies (n : Outside) (script : List (Result Statement Cause)) (h : History) (base : ℕ) (replies : List (List ℕ)) : Type 0 where
+pub record ScriptReplies (n : Outside) (script : List Item) (h : History) (base : ℕ) (replies : List (List ℕ)) : Type 0 where
   pub last : ℕ
   pub run : SessionReplies n h 0 script base last replies
   pub nothing_else : AddsNothing h 0 last (length h)

@@ -1,10 +1,10 @@
 -- What a session may print (docs/definitions.md, "Runs").
-use Rattle.std.specs.Prelude.{◌≡◌, ◌⊎◌, ℕ, ◌-◌, ◌<◌, ◌≤◌, List, [], ◌∷◌, ◌++◌, length, take, drop, Some, None, Result, Ok, Err, slice_get}
+use Rattle.std.specs.Prelude.{◌≡◌, ◌⊎◌, ℕ, ◌-◌, ◌<◌, ◌≤◌, List, [], ◌∷◌, ◌++◌, length, take, drop, Some, None, Ok, Err, slice_get}
 use Rattle.mt_values.specs.declared.command.Command.{Command}
 use Rattle.mt_values.specs.declared.command.Command.TheVariants as command
 use Rattle.mt_values.specs.declared.schema.Schema.{Schema}
-use Rattle.mt_values.specs.declared.statement.Cause.{Cause}
 use Rattle.mt_values.specs.declared.statement.Statement.{Statement}
+use Rattle.mt_values.specs.Script.{Item}
 use Rattle.mt_values.specs.declared.statement.Statement.TheVariants as statement
 use Rattle.mt_values.specs.declared.statement.SelectText.{SelectText}
 use Rattle.mt_model.specs.Answer.{Answer}
@@ -116,34 +116,34 @@ TakesStatement n h session (statement.Select s) from to reply =
     (Selects h s to reply × AddsNothing h session from to) ⊎ SelectRefused n h session s from to reply
 
 -- the same of a text, which is a statement or is refused as it is read (docs/definitions.md, "Statements taken")
-abbrev pub Takes : Outside → History → ℕ → Result Statement Cause → ℕ → ℕ → List ℕ → Type 0
+abbrev pub Takes : Outside → History → ℕ → Item → ℕ → ℕ → List ℕ → Type 0
 Takes n h session (Ok s) from to reply = TakesStatement n h session s from to reply
 Takes n h session (Err why) from to reply = RefusedAs h session from to (refusal_of_cause why) reply
 
 -- A statement that ended the run without a reply, as for want of memory: its commands that were accepted before stand (docs/definitions.md, "Statements taken").
-abbrev pub Unanswered : History → ℕ → Result Statement Cause → ℕ → ℕ → Type 0
+abbrev pub Unanswered : History → ℕ → Item → ℕ → ℕ → Type 0
 Unanswered h session (Ok s) from to =
     AddsNothing h session from to ⊎ ((done : List Command) × (rest : List Command) × StopsAfter h session s from to done rest)
 Unanswered h session (Err why) from to = AddsNothing h session from to
 
 -- The session ran a statement from one place to another, and this is the next of its commands: those before it were accepted, and it was not (docs/definitions.md, "Statements taken").
-abbrev pub IsNext : History → ℕ → Result Statement Cause → ℕ → ℕ → Command → Type 0
+abbrev pub IsNext : History → ℕ → Item → ℕ → ℕ → Command → Type 0
 IsNext h session (Ok s) from to c = (done : List Command) × (rest : List Command) × StopsAfter h session s from to done (c ∷ rest)
 IsNext h session (Err why) from to c = ⊥
 
 -- Run one after another, each of the statements had the first of its commands accepted, or none (docs/definitions.md, "Statements taken").
-abbrev pub SessionGives : History → ℕ → List (Result Statement Cause) → ℕ → ℕ → Type 0
+abbrev pub SessionGives : History → ℕ → List Item → ℕ → ℕ → Type 0
 SessionGives h session [] from to = from ≡ to
 SessionGives h session (s ∷ ss) from to = (place : ℕ) × Unanswered h session s from place × SessionGives h session ss place to
 
 -- Run one after another from one place to the same or a later one, the statements may print this.
-abbrev pub SessionRun : Outside → History → ℕ → List (Result Statement Cause) → ℕ → ℕ → List ℕ → Type 0
+abbrev pub SessionRun : Outside → History → ℕ → List Item → ℕ → ℕ → List ℕ → Type 0
 SessionRun n h session [] from to out = (from ≡ to) × (out ≡ [])
 SessionRun n h session (s ∷ ss) from to out =
     (place : ℕ) × (reply rest : List ℕ) × Takes n h session s from place reply × SessionRun n h session ss place to rest × (out ≡ reply ++ rest)
 
 -- The same, reply by reply.
-abbrev pub SessionReplies : Outside → History → ℕ → List (Result Statement Cause) → ℕ → ℕ → List (List ℕ) → Type 0
+abbrev pub SessionReplies : Outside → History → ℕ → List Item → ℕ → ℕ → List (List ℕ) → Type 0
 SessionReplies n h session [] from to [] = from ≡ to
 SessionReplies n h session (s ∷ ss) from to (reply ∷ replies) = (place : ℕ) × Takes n h session s from place reply × SessionReplies n h session ss place to replies
 SessionReplies n h session [] from to (reply ∷ replies) = ⊥

@@ -1,13 +1,12 @@
 -- What the grammar gives the statements of each script (docs/definitions.md, "Histories").
-use Rattle.std.specs.Prelude.{◌≡◌, ◌<◌, ◌++◌, ℕ, List, [], length, true, false, Some, Result, Ok, Err, codes}
+use Rattle.std.specs.Prelude.{◌≡◌, ◌<◌, ◌++◌, ℕ, List, [], length, true, false, Some, Ok, Err, codes}
 use Rattle.std.specs.List.{list_all}
-use Rattle.mt_values.specs.declared.statement.Cause.{Cause}
 use Rattle.mt_values.specs.declared.statement.CreateText.{CreateText}
 use Rattle.mt_values.specs.declared.statement.Statement.{Statement}
 use Rattle.mt_values.specs.declared.statement.Statement.TheVariants as statement
 use Rattle.mt_values.specs.Tokens.{in_word, word_begins}
 use Rattle.mt_values.specs.Grammar.{is_reserved}
-use Rattle.mt_values.specs.Script.{next_statement}
+use Rattle.mt_values.specs.Script.{Item, next_statement}
 
 -- a name as the grammar has it: a letter or an underscore, then letters, digits and underscores, and no reserved word
 pub record IsName (name : List ℕ) : Type 0 where
@@ -28,6 +27,6 @@ IsStatementText (statement.Insert i) = Unit {0}
 IsStatementText (statement.Select s) = Unit {0}
 
 -- so it is of a text that is a statement
-abbrev pub IsWritten : Result Statement Cause → Type 0
+abbrev pub IsWritten : Item → Type 0
 IsWritten (Ok s) = IsStatementText s
 IsWritten (Err why) = Unit {0}

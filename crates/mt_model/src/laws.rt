@@ -1,6 +1,6 @@
 // Laws of the definitions: what follows from them, whatever a program does. Each function has an empty body and the law as its contract.
 ghost use Rattle.std.specs.List.{list_any};
-ghost use Rattle.std.specs.Prelude.{◌≡◌, ◌⊎◌, ◌-◌, ◌^◌, ◌<◌, ◌≤◌, ◌++◌, ◌∷◌, [], ℕ, Bool, List, length, take, true, false, All, None, Ok, Result};
+ghost use Rattle.std.specs.Prelude.{◌≡◌, ◌⊎◌, ◌-◌, ◌^◌, ◌<◌, ◌≤◌, ◌++◌, ◌∷◌, [], ℕ, Bool, List, length, take, true, false, All, None, Ok};
 ghost use Rattle.std.specs.List.Sorted.{IsPermutation, IsSorted};
 ghost use Rattle.mt_values.specs.declared.value.ColType.{ColType};
 ghost use Rattle.mt_values.specs.declared.schema.Column.{Column};
@@ -10,7 +10,6 @@ ghost use Rattle.mt_values.specs.declared.command.Command.{Command};
 ghost use Rattle.mt_values.specs.declared.command.Command.TheVariants as command;
 ghost use Rattle.mt_values.specs.declared.command.Entry.{Entry};
 ghost use Rattle.mt_values.specs.declared.command.Insert.{Insert};
-ghost use Rattle.mt_values.specs.declared.statement.Cause.{Cause};
 ghost use Rattle.mt_values.specs.declared.statement.CreateText.{CreateText};
 ghost use Rattle.mt_values.specs.declared.statement.SelectText.{SelectText};
 ghost use Rattle.mt_values.specs.declared.statement.Statement.{Statement};
@@ -22,7 +21,7 @@ ghost use Rattle.mt_values.specs.Tables.{IsPlain, MayHavePartition, partition_of
 ghost use Rattle.mt_values.specs.Tokens.{string_within, tokens_within};
 ghost use Rattle.mt_values.specs.Readers.{Reader, listed_within};
 ghost use Rattle.mt_values.specs.Grammar.{column, is_symbol, one_name, the};
-ghost use Rattle.mt_values.specs.Script.{data_ended_within, data_within, statements_of, statements_within};
+ghost use Rattle.mt_values.specs.Script.{Item, data_ended_within, data_within, statements_of, statements_within};
 ghost use Rattle.mt_values.specs.Rows.{inserted_rows, row_limit, rows_within, unescaped_within};
 ghost use Rattle.mt_model.specs.Causes.{MeetsCause, NoneMeets};
 ghost use Rattle.mt_model.specs.declared.refusal.Refusal.{Refusal};
@@ -108,7 +107,7 @@ pub fn refusals_have_numbers()
 
 /// A refused statement adds those commands to the history that its line counts, and no others.
 pub fn refused_statements_add_what_they_count()
-    ensures { (n : Outside) (h : History) (session : ℕ) (statement : Result Statement Cause) (from to : ℕ) (reply : List ℕ)
+    ensures { (n : Outside) (h : History) (session : ℕ) (statement : Item) (from to : ℕ) (reply : List ℕ)
         → Takes n h session statement from to reply → 0 < code_of reply
         → (why : Refusal) × (done : List Command) × (reply ≡ refusal_line why) × (length done ≡ accepted_by why) × AddsOnly h session done from to }
 {}
@@ -116,39 +115,39 @@ pub fn refused_statements_add_what_they_count()
 /// A reply tells of a fault of the outside only where the disk's count rose. Where it did not, and stands below its type's
 /// end, a statement is accepted or refused for what the script says. No reply tells of damage.
 pub fn faults_are_of_the_outside()
-    ensures risen { (n : Outside) (h : History) (session : ℕ) (statement : Result Statement Cause) (from to : ℕ) (reply : List ℕ)
+    ensures risen { (n : Outside) (h : History) (session : ℕ) (statement : Item) (from to : ℕ) (reply : List ℕ)
         → Takes n h session statement from to reply → 14 < code_of reply → HasRisen n n.ended }
     ensures still { (n : Outside) → n.ended ≡ n.opened → n.ended < 2 ^ 64 - 1 → HasRisen n n.ended → ⊥ }
-    ensures calm { (n : Outside) (h : History) (session : ℕ) (statement : Result Statement Cause) (from to : ℕ) (reply : List ℕ)
+    ensures calm { (n : Outside) (h : History) (session : ℕ) (statement : Item) (from to : ℕ) (reply : List ℕ)
         → n.ended ≡ n.opened → n.ended < 2 ^ 64 - 1 → Takes n h session statement from to reply → (code_of reply ≡ 0) ⊎ (is_refusal reply ≡ true) }
-    ensures undamaged { (n : Outside) (h : History) (session : ℕ) (statement : Result Statement Cause) (from to : ℕ) (reply : List ℕ)
+    ensures undamaged { (n : Outside) (h : History) (session : ℕ) (statement : Item) (from to : ℕ) (reply : List ℕ)
         → Takes n h session statement from to reply → is_damage reply ≡ false }
 {}
 
 /// A statement is refused for what the script says only where it meets a cause at its place. Where the disk's count did not rise and stands below
 /// its type's end, and none of a script's statements meets a cause after those before it, none of them is refused.
 pub fn refusals_have_a_cause()
-    ensures one { (n : Outside) (h : History) (session : ℕ) (statement : Result Statement Cause) (from to : ℕ) (reply : List ℕ)
+    ensures one { (n : Outside) (h : History) (session : ℕ) (statement : Item) (from to : ℕ) (reply : List ℕ)
         → Takes n h session statement from to reply → is_refusal reply ≡ true → MeetsCause (take to h) statement }
-    ensures script { (n : Outside) (script : List (Result Statement Cause)) (h : History) (base : ℕ) (replies : List (List ℕ))
+    ensures script { (n : Outside) (script : List Item) (h : History) (base : ℕ) (replies : List (List ℕ))
         → n.ended ≡ n.opened → n.ended < 2 ^ 64 - 1 → ScriptReplies n script h base replies → NoneMeets (take base h) script → list_any is_refusal replies ≡ false }
 {}
 
 /// The places of a session's statements never fall, and none is above the length of the history.
 pub fn places_never_fall()
-    ensures { (n : Outside) (h : History) (session : ℕ) (statements : List (Result Statement Cause)) (from to : ℕ) (out : List ℕ)
+    ensures { (n : Outside) (h : History) (session : ℕ) (statements : List Item) (from to : ℕ) (out : List ℕ)
         → SessionRun n h session statements from to out → from ≤ length h → (from ≤ to) × (to ≤ length h) }
 {}
 
 /// What a session printed stays right as the history grows.
 pub fn runs_stay_as_histories_grow()
-    ensures { (n : Outside) (h more : History) (session : ℕ) (statements : List (Result Statement Cause)) (from to : ℕ) (out : List ℕ)
+    ensures { (n : Outside) (h more : History) (session : ℕ) (statements : List Item) (from to : ℕ) (out : List ℕ)
         → SessionRun n h session statements from to out → SessionRun n (h ++ more) session statements from to out }
 {}
 
 /// What a session printed stays right as the disk's count of faults rises.
 pub fn runs_stay_as_counts_rise()
-    ensures { (n m : Outside) (h : History) (session : ℕ) (statements : List (Result Statement Cause)) (from to : ℕ) (out : List ℕ)
+    ensures { (n m : Outside) (h : History) (session : ℕ) (statements : List Item) (from to : ℕ) (out : List ℕ)
         → n.opened ≡ m.opened → n.ended ≤ m.ended → SessionRun n h session statements from to out → SessionRun m h session statements from to out }
 {}
 
@@ -157,7 +156,7 @@ pub fn runs_stay_as_counts_rise()
 /// each command that is accepted, are determined. A partition with 3000 INSERTs may have 3000 parts or fewer, by what was
 /// merged, and refuse the next one or not.
 pub fn scripts_run_in_one_way()
-    ensures { (n : Outside) (script : List (Result Statement Cause)) (h g : History) (base : ℕ) (a b : List ℕ)
+    ensures { (n : Outside) (script : List Item) (h g : History) (base : ℕ) (a b : List ℕ)
         → n.ended ≡ n.opened → n.ended < 2 ^ 64 - 1 → FewInserts h → ArePlain h → take base h ≡ take base g
         → ScriptRun n script h base a → ScriptRun n script g base b → (a ≡ b) × (h ≡ g) }
 {}

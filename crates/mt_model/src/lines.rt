@@ -46,6 +46,7 @@ fn refusal_text(alloc: Global, refusal: &Refusal) -> Result<Vec<u8>, NoMemory>
         Refusal::NoTable(table) => named(alloc, b"E02", table),
         Refusal::TableExists(table) => named(alloc, b"E03", table),
         Refusal::NoColumn(column) => named(alloc, b"E04", column),
+        Refusal::Schema(Reason::NoColumns, column) => named(alloc, b"E05 no_columns", column),
         Refusal::Schema(Reason::DoubleColumn, column) => named(alloc, b"E05 double_column", column),
         Refusal::Schema(Reason::DoubleKey, column) => named(alloc, b"E05 double_key", column),
         Refusal::Fields {

@@ -4,6 +4,8 @@ use mt_values::{Cause, DataFault, Name, RowFault};
 /// A rule of schemas that a CREATE breaks.
 #[derive(Clone, Copy)]
 pub enum Reason {
+    /// There is no column.
+    NoColumns,
     /// Two columns have one name.
     DoubleColumn,
     /// The key names a column twice.
@@ -122,7 +124,6 @@ impl Refusal {
         ensures { result ≡ refusals.refusal_of_row fault }
     {
         match fault {
-            RowFault::NoMemory => Refusal::Failed,
             RowFault::Fields {
                 line,
                 found,

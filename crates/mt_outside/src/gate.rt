@@ -30,3 +30,15 @@ pub trait Gate: Drop + Send {
     /// A gate for another session or merger.
     fn fork(&self) -> Self;
 }
+
+/// A gate that holds nobody.
+#[derive(Clone, Copy)]
+pub struct OpenGate;
+
+impl Gate for OpenGate {
+    fn pass(&mut self, _who: Who, _point: Point) {}
+
+    fn fork(&self) -> Self {
+        OpenGate
+    }
+}

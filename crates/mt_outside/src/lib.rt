@@ -1,4 +1,4 @@
-//! The outside as the engine sees it: a source and a sink of bytes, a disk of folders, and a gate for tests.
+//! The outside as the engine sees it: a source and a sink of bytes, a disk of folders, a gate for tests, and one that holds nobody.
 #![tactic(auto)]
 
 mod disk;
@@ -7,7 +7,7 @@ mod laws;
 mod streams;
 
 pub use disk::{Arm, Change, Dir, Disk, DiskError, Files, Stage, Stamped, Written};
-pub use gate::{Gate, Point, Who};
+pub use gate::{Gate, OpenGate, Point, Who};
 pub use laws::{
     changes_add_their_own_moments, images_now, images_only_grow, publishes_add_one_name,
     syncs_add_no_image, syncs_settle,

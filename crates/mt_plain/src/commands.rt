@@ -12,7 +12,7 @@ use mt_model::{Refusal, resolve};
 use mt_values::{
     Block, Command, Create, CreateText, Entry, Insert, InsertText, Name, Partition, Row, Schema,
 };
-use plain_base::{column_types, partitions_of, read_block, rows_in, rows_of, schema_of};
+use plain_base::{partitions_of, read_block, rows_in, rows_of, schema_of};
 use std::alloc::Global;
 
 /// The command of a CREATE, or why its text refuses it.
@@ -45,7 +45,7 @@ pub fn insert_commands(
     let Some(schema) = schema_of(entries, &insert.table) else {
         return Ok(Err(Refusal::NoTable(insert.table.twin(alloc)?)));
     };
-    let types = column_types(alloc, schema)?;
+    let types = schema.types(alloc)?;
     let lines = insert.lines.as_slice();
     let block = match read_block(alloc, types.as_slice(), lines, insert.ended)? {
         Ok(block) => block,
@@ -88,7 +88,7 @@ fn insert_command(
     requires few { length rows.now < 2 ^ 32 }
     ensures { IfOk result (λ command. command ≡ commands.insert_command schema.now table.now rows.now partition) }
 {
-    let types = column_types(alloc, schema)?;
+    let types = schema.types(alloc)?;
     let own = rows_in(alloc, schema, partition, rows)?;
     let block = Block::from_rows(alloc, types.as_slice(), &own)?;
     let table = table.twin(alloc)?;

@@ -5,20 +5,11 @@ ghost use Rattle.mt_model.specs.Numbers as numbers;
 ghost use Rattle.mt_model.specs.Reply as reply;
 ghost use Rattle.mt_plain.specs.Plain.{Grows, after_turns, unmerged_turn};
 
-use mt_base::{NoMemory, Twin};
+use mt_base::{NUMBER_LIMIT, NoMemory, PART_LIMIT, TABLE_LIMIT, Twin};
 use mt_model::{Bound, Refusal, Room};
 use mt_values::{Command, Entry, Insert, Name};
 use plain_base::{creates, enter, inserts, last_number, schema_of};
 use std::alloc::Global;
-
-/// The most tables.
-const MOST_TABLES: usize = 64;
-
-/// The fewest INSERTs into a partition that leave no room for another part, since nothing is merged.
-const FULL_PARTITION: usize = 3000;
-
-/// The last number that a table has.
-const LAST_NUMBER: usize = 4294967295;
 
 /// Accepts commands of session 0 at the end of a history, each at its turn, up to the first that is refused, and says why
 /// that one is.
@@ -69,7 +60,7 @@ pub fn create_turn(
     if schema_of(entries, table).is_some() {
         return Ok(Some(Refusal::TableExists(table.twin(alloc)?)));
     }
-    if creates(entries) < MOST_TABLES {
+    if creates(entries) < TABLE_LIMIT {
         return Ok(None);
     }
     Ok(Some(Refusal::Past(Bound::Tables)))
@@ -80,11 +71,11 @@ fn insert_turn(entries: &[Entry], accepted: usize, insert: &Insert) -> Option<Re
     ensures { result ≡ reply.insert_turn (history.inserts insert.now.table insert.now.partition entries.now) (numbers.last_number insert.now.table entries.now) accepted }
 {
     let parts = inserts(entries, &insert.table, insert.partition);
-    if parts >= FULL_PARTITION {
+    if parts >= PART_LIMIT {
         let room = Room::Parts;
         return Some(Refusal::Full { room, accepted });
     }
-    if last_number(entries, &insert.table) >= LAST_NUMBER {
+    if last_number(entries, &insert.table) >= NUMBER_LIMIT as usize {
         let room = Room::Numbers;
         return Some(Refusal::Full { room, accepted });
     }

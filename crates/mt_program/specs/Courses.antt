@@ -1,10 +1,9 @@
 -- Statements that ran, and their replies (docs/definitions.md, "Runs").
-use Rattle.std.specs.Prelude.{◌≡◌, ◌⊎◌, ◌+◌, ℕ, false, true, List, [], ◌∷◌, ◌++◌, length, take, Option, Some, None, Result}
+use Rattle.std.specs.Prelude.{◌≡◌, ◌⊎◌, ◌+◌, ℕ, false, true, List, [], ◌∷◌, ◌++◌, length, take, Option, Some, None}
 use Rattle.std.specs.List.{concat, list_any}
-use Rattle.mt_values.specs.declared.statement.Cause.{Cause}
-use Rattle.mt_values.specs.declared.statement.Statement.{Statement}
 use Rattle.mt_values.specs.declared.command.Command.{Command}
 use Rattle.mt_values.specs.Annals.{Told}
+pub use Rattle.mt_values.specs.Script.{Item}
 use Rattle.mt_outside.specs.Disk as root
 use Rattle.mt_model.specs.History.{History}
 use Rattle.mt_model.specs.Outside.{Outside}
@@ -15,10 +14,6 @@ use Rattle.root_store.specs.Soundness.{RootStands}
 use Rattle.durable_commit.specs.Commits.{entry_of}
 use Rattle.reply_lines.specs.Foreseen.{history, is_unsettled}
 use Rattle.reply_lines.specs.declared.tally.Tally.{Tally}
-
--- a statement of a script, or why its text is refused
-abbrev pub Item : Type 0
-Item = Result Statement Cause
 
 -- The statements that ran, in order, with their replies, and the one after them where it ran without a reply.
 pub record Course : Type 0 where

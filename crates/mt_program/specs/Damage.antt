@@ -9,7 +9,7 @@ use Rattle.root_opening.specs.declared.opening.Damage.TheVariants as damage
 use Rattle.root_opening.specs.declared.opening.OpenFault.{OpenFault}
 use Rattle.root_opening.specs.declared.opening.OpenFault.TheVariants as fault
 use Rattle.root_opening.specs.Opening.{IsRootDamage}
-use Rattle.reply_lines.specs.Names.{file_name}
+use Rattle.mt_base.specs.Files.{file_name}
 use Rattle.run_streams.specs.Streams.{AppendsFront}
 use Rattle.exit_status.specs.declared.status.Status.{Status}
 use Rattle.exit_status.specs.declared.status.Status.TheVariants as status

@@ -3,7 +3,6 @@ ghost use Rattle.std.specs.Prelude.{◌≡◌, IfOk};
 ghost use Rattle.mt_program.specs.Damage.{damage_line};
 
 use mt_base::{NoMemory, joined};
-use reply_lines::file_name;
 use root_log::Damage;
 use std::alloc::Global;
 use tsv_rows::write_text;
@@ -24,8 +23,8 @@ pub fn damage_line(alloc: Global, damage: &Damage) -> Result<Vec<u8>, NoMemory>
             joined(alloc, &[b"DAMAGED overlap ", first, b" ", second, b"\n"])
         }
         Damage::File(name, file) => {
-            let file = file_name(alloc, *file)?;
-            let (name, file) = (name.as_slice(), file.as_slice());
+            let file = file.name(alloc)?;
+            let (name, file) = (name.as_slice(), file.as_bytes());
             joined(alloc, &[b"DAMAGED file ", name, b" ", file, b"\n"])
         }
     }

@@ -17,6 +17,8 @@ use Rattle.mt_values.specs.declared.statement.Slip.{Slip}
 use Rattle.mt_values.specs.declared.statement.Slip.TheVariants as slip
 use Rattle.mt_values.specs.declared.statement.Statement.{Statement}
 use Rattle.mt_values.specs.declared.statement.Statement.TheVariants as statement
+pub use Rattle.mt_base.specs.Limits.{statement_limit}
+use Rattle.mt_base.specs.Limits.{name_limit}
 use Rattle.mt_values.specs.Tokens.{is_keyword, tokens_of}
 use Rattle.mt_values.specs.Readers.{Reader, Reading, Test, Part, done, expect, choose, listed}
 
@@ -30,13 +32,9 @@ is_reserved word =
     is_keyword (codes "AND") word || is_keyword (codes "OR") word || is_keyword (codes "NOT") word || is_keyword (codes "IN") word
     || is_keyword (codes "FROM") word || is_keyword (codes "FINAL") word || is_keyword (codes "WHERE") word || is_keyword (codes "INDEX") word
 
--- a name has at most 64 bytes
+-- a name is not too long
 abbrev pub fits_name : List ℕ → Bool
-fits_name name = nat_le (length name) 64
-
--- a statement has at most 1 MiB from its first token up to the semicolon
-abbrev pub statement_limit : ℕ
-statement_limit = 1048576
+fits_name name = nat_le (length name) name_limit
 
 -- ---- single tokens
 

@@ -3,6 +3,7 @@ use Rattle.std.specs.Prelude.{ℕ, suc, zero, ℤ, pos, negsuc, ◌+◌, ◌-◌
 use Rattle.std.specs.List.{list_all}
 use Rattle.std.specs.Option.{option_map, option_and_then}
 use Rattle.std.specs.Char.{is_ascii_digit}
+pub use Rattle.mt_base.specs.Limits.{row_limit, text_limit}
 use Rattle.mt_values.specs.declared.value.ColType.{ColType}
 use Rattle.mt_values.specs.declared.value.ColType.TheVariants as type
 use Rattle.mt_values.specs.declared.value.Value.{Value}
@@ -78,10 +79,6 @@ unescaped_within (suc n) (b ∷ bs) =
 abbrev pub unescaped : List ℕ → Option (List ℕ)
 unescaped text = unescaped_within (length text + 1) text
 
--- a String has at most 1 MiB
-abbrev pub text_limit : ℕ
-text_limit = 1048576
-
 -- ---- values
 
 abbrev pub or_not_of_type : {X : Type 0} → (X → Value) → Option X → Result Value FieldFault
@@ -133,10 +130,6 @@ row_of_line types line text =
     else Err (row_fault.Fields line (length (fields_from false text)) (length types))
 
 -- ---- data
-
--- an INSERT has at most 1,048,576 rows
-abbrev pub row_limit : ℕ
-row_limit = 1048576
 
 abbrev pub row_onto : Result Row RowFault → Result (List Row) DataFault → Result (List Row) DataFault
 row_onto (Err fault) rest = Err (data_fault.Row fault)

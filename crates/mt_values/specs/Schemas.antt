@@ -1,5 +1,5 @@
 -- The types of a schema's columns, and which rule it breaks first.
-use Rattle.std.specs.Prelude.{ℕ, ◌+◌, ◌-◌, ◌^◌, List, [], ◌∷◌, ◌++◌, Option, Some, None, Bool, if◌then◌else◌, map, min, nat_eq}
+use Rattle.std.specs.Prelude.{ℕ, ◌+◌, List, [], ◌∷◌, ◌++◌, Option, Some, None, Bool, if◌then◌else◌, map, nat_eq}
 use Rattle.std.specs.List.{list_any}
 use Rattle.std.specs.Cmp.Lexicographic.{pointwise}
 use Rattle.mt_values.specs.declared.schema.Column.{Column}
@@ -22,10 +22,11 @@ first_repeat same tell place earlier (x ∷ xs) =
 abbrev pub same_name : Column → Column → Bool
 same_name a b = pointwise nat_eq a.name b.name
 
--- the place of a column; the greatest u32 stands for those past it
+-- the fault of the column at a place, whose name is an earlier one's
 abbrev pub double_column_at : ℕ → Column → SchemaFault
-double_column_at place column = fault.DoubleColumn (min place (2 ^ 32 - 1))
+double_column_at place column = fault.DoubleColumn place
 
+-- the fault of a key's mention of a column, by the mention's place and the column's
 abbrev pub double_key_at : ℕ → ℕ → SchemaFault
 double_key_at place column = fault.DoubleKey column
 
@@ -42,6 +43,7 @@ abbrev pub fault_or : Option SchemaFault → Option SchemaFault → Option Schem
 fault_or None other = other
 fault_or (Some found) other = Some found
 
+-- the first rule that columns with a key of these places break
 abbrev pub fault_of : List Column → List ℕ → Option SchemaFault
 fault_of [] key = Some fault.NoColumns
 fault_of (column ∷ columns) key = fault_or (column_fault (column ∷ columns)) (key_fault key)

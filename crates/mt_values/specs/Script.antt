@@ -89,20 +89,24 @@ line_rest text = take_while is_line_byte text
 abbrev pub behind_line : List ℕ → List ℕ
 behind_line text = drop (prefix_len is_line_byte text + 1) text
 
+-- an item of a script: a statement, or why its text is refused
+abbrev pub Item : Type 0
+Item = Result Statement Cause
+
 -- A text behind which a byte stands, at this place, that may not. What is faulty before it comes first.
-abbrev pub refused_behind : ℕ → Result Statement Cause → Result Statement Cause
+abbrev pub refused_behind : ℕ → Item → Item
 refused_behind place (Ok s) = Err (cause.Grammar place)
 refused_behind place (Err c) = Err c
 
 -- An INSERT of this text with its data. Behind its semicolon only blanks may stand on this rest of its line.
-abbrev pub with_line_rest : List ℕ → List ℕ → Data → Result Statement Cause
+abbrev pub with_line_rest : List ℕ → List ℕ → Data → Item
 with_line_rest text line d =
     if list_all is_space line then statement_of text true d.lines d.ended
     else refused_behind (length text + 1 + prefix_len is_space line) (statement_of text true d.lines d.ended)
 
--- what a script begins with: a statement, or why its text is refused; and the script behind it and its data
+-- the item that a script begins with; and the script behind it and its data
 abbrev pub Step : Type 0
-Step = Result Statement Cause × List ℕ
+Step = Item × List ℕ
 
 abbrev pub with_data : List ℕ → List ℕ → Data → Step
 with_data text line d = (with_line_rest text line d, d.rest)
@@ -131,17 +135,17 @@ abbrev pub next_statement : List ℕ → Option Step
 next_statement script = next_from (behind is_between false script)
 
 -- a statement in front of those that the rest of the script gives
-abbrev pub statement_and : (List ℕ → List (Result Statement Cause)) → Option Step → List (Result Statement Cause)
+abbrev pub statement_and : (List ℕ → List Item) → Option Step → List Item
 statement_and more None = []
 statement_and more (Some found) = found.0 ∷ more found.1
 
 -- at most so many statements of a script
-abbrev pub statements_within : ℕ → List ℕ → List (Result Statement Cause)
+abbrev pub statements_within : ℕ → List ℕ → List Item
 statements_within zero script = []
 statements_within (suc n) script = statement_and (statements_within n) (next_statement script)
 
 -- the statements of a script, in order; a script has no more of them than bytes
-abbrev pub statements_of : List ℕ → List (Result Statement Cause)
+abbrev pub statements_of : List ℕ → List Item
 statements_of script = statements_within (length script + 1) script
 
 -- ---- a script of which more bytes may come

@@ -1,6 +1,7 @@
 -- Values and rows (docs/definitions.md, "Values").
 use Rattle.std.specs.Prelude.{◌<◌, ◌≤◌, ◌^◌, List, length, map, All, FitsSigned}
 use Rattle.std.specs.Int.{w8, w16, w32, w64}
+use Rattle.mt_base.specs.Limits.{text_limit}
 use Rattle.mt_values.specs.declared.value.ColType.{ColType}
 use Rattle.mt_values.specs.declared.value.ColType.TheVariants as type
 use Rattle.mt_values.specs.declared.value.Value.{Value}
@@ -40,7 +41,7 @@ FitsType (value.Text bytes) = Unit {0}
 
 -- a value that a column may hold: a number within its type's range, or at most 1 MiB of bytes
 abbrev pub IsValue : Value → Type 0
-IsValue (value.Text bytes) = All (λ b. b < 2 ^ 8) bytes × (length bytes ≤ 1048576)
+IsValue (value.Text bytes) = All (λ b. b < 2 ^ 8) bytes × (length bytes ≤ text_limit)
 IsValue v = FitsType v
 
 -- every value of the rows is one that a column may hold

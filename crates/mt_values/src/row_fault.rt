@@ -1,7 +1,5 @@
 // Why the bytes of an INSERT's data are not its rows.
 
-use mt_base::NoMemory;
-
 /// Why a field is no value of its column.
 #[derive(Clone, Copy)]
 pub enum FieldFault {
@@ -14,8 +12,6 @@ pub enum FieldFault {
 /// Why a line is no row. Lines count the rows of data from 1, fields those of a line from 1.
 #[derive(Clone, Copy, Debug)]
 pub enum RowFault {
-    /// A growth was refused.
-    NoMemory,
     /// It has another number of fields than the table has columns.
     Fields {
         line: usize,
@@ -29,17 +25,6 @@ pub enum RowFault {
     },
     /// A field is a text of more bytes than a text may have, and each field before it is of its column's type.
     Value,
-}
-
-impl From<NoMemory> for RowFault {
-    ghost use Rattle.std.specs.Prelude.{◌≡◌};
-    ghost use Rattle.mt_values.specs.declared.row_fault.RowFault.TheVariants as row_fault;
-
-    ghost from_gives = { λ _ fault. fault ≡ row_fault.NoMemory };
-
-    fn from(_: NoMemory) -> Self {
-        RowFault::NoMemory
-    }
 }
 
 /// Why data is not the rows of an INSERT.

@@ -1,11 +1,12 @@
 // The columns of a table and its sorting key.
-ghost use Rattle.std.specs.Prelude.{◌≡◌, None, Some, MatchResult, nat_eq};
+ghost use Rattle.std.specs.Prelude.{◌≡◌, None, Some, IfOk, MatchResult, nat_eq};
 ghost use Rattle.std.specs.Cmp.Lexicographic.{pointwise};
 ghost use Rattle.std.specs.List.{list_any};
 ghost use Rattle.mt_values.specs.Schemas.{column_fault, key_fault};
 
 use crate::{ColType, Name};
-use mt_base::Seq;
+use mt_base::{NoMemory, Seq};
+use std::alloc::Global;
 
 /// A column of a table.
 #[derive(Debug, Drop, PartialEq, Eq)]
@@ -26,14 +27,14 @@ pub struct Schema {
 pub enum SchemaFault {
     /// There is no column.
     NoColumns,
-    /// The column at this place, from 0, has the name of an earlier one. The greatest `u32` stands for the places past it.
-    DoubleColumn(u32),
+    /// The column at this place, from 0, has the name of an earlier one.
+    DoubleColumn(usize),
     /// The key names the column at this place a second time.
     DoubleKey(u32),
 }
 
 impl Schema {
-    ghost use Rattle.mt_values.specs.Schemas.{schema_fault};
+    ghost use Rattle.mt_values.specs.Schemas.{column_types, schema_fault};
 
     /// Finds the first rule that the schema breaks. Takes no memory.
     ///
@@ -52,6 +53,19 @@ impl Schema {
             None => Ok(()),
         }
     }
+
+    /// The types of the columns, in order.
+    ///
+    /// `NoMemory` where an allocation failed.
+    pub fn types(&self, alloc: Global) -> Result<Seq<ColType>, NoMemory>
+        ensures { IfOk result (λ types. types ≡ column_types self.now) }
+    {
+        let mut types = Seq::with_capacity(alloc, self.columns.len())?;
+        for column in self.columns.as_slice() {
+            types.push(column.col_type)?;
+        }
+        Ok(types)
+    }
 }
 
 /// The fault of the first column that has the name of an earlier one.
@@ -60,7 +74,7 @@ fn double_column(columns: &[Column]) -> Option<SchemaFault>
 {
     for (place, column) in columns.iter().enumerate() {
         if has_name(&columns[..place], &column.name) {
-            return Some(SchemaFault::DoubleColumn(place.min(u32::MAX as usize) as u32));
+            return Some(SchemaFault::DoubleColumn(place));
         }
     }
     None

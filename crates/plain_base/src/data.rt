@@ -2,23 +2,11 @@
 ghost use Rattle.std.specs.Prelude.{◌≡◌, Err, Ok, IfOk, MatchResult};
 ghost use Rattle.mt_values.specs.Rows.{inserted_rows};
 ghost use Rattle.mt_values.specs.Values.{AreValues};
-ghost use Rattle.mt_model.specs.History as history;
 
-use mt_base::{NoMemory, Seq};
-use mt_values::{Block, ColType, DataFault, Schema};
+use mt_base::{NoMemory, Stop};
+use mt_values::{Block, ColType, DataFault};
 use std::alloc::Global;
-use tsv_rows::{ReadStop, read_rows};
-
-/// The types of a table's columns, in order.
-pub fn column_types(alloc: Global, schema: &Schema) -> Result<Seq<ColType>, NoMemory>
-    ensures { IfOk result (λ types. types ≡ history.column_types schema.now) }
-{
-    let mut types = Seq::new(alloc);
-    for column in schema.columns.as_slice() {
-        types.push(column.col_type)?;
-    }
-    Ok(types)
-}
+use tsv_rows::read_rows;
 
 /// The rows of data as a block, or the fault of the data.
 pub fn read_block(
@@ -33,7 +21,7 @@ pub fn read_block(
 {
     match read_rows(alloc, types, lines, ended) {
         Ok(block) => Ok(Ok(block)),
-        Err(ReadStop::NoMemory) => Err(NoMemory),
-        Err(ReadStop::Refused(fault)) => Ok(Err(fault)),
+        Err(Stop::NoMemory) => Err(NoMemory),
+        Err(Stop::Refused(fault)) => Ok(Err(fault)),
     }
 }

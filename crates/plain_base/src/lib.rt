@@ -13,7 +13,7 @@ mod tables;
 
 pub use blocks::{rows_of, same_blocks};
 pub use comparing::{Order, compare};
-pub use data::{column_types, read_block};
+pub use data::read_block;
 pub use entries::enter;
 pub use keys::{key_values, picked_rows};
 pub use lines::all_lines;

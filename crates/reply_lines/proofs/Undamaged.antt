@@ -22,7 +22,6 @@ cause_line cause.LongStatement = refl
 cause_line cause.LongName = refl
 
 pub data_line : (why : DataFault) → is_damage (refusal_line (refusal_of_data why)) ≡ false
-data_line (data_fault.Row row_fault.NoMemory) = refl
 data_line (data_fault.Row (row_fault.Fields line found wanted)) = refl
 data_line (data_fault.Row (row_fault.Field line field)) = refl
 data_line (data_fault.Row row_fault.Value) = refl

@@ -3,14 +3,12 @@
 #![tactic(auto)]
 
 mod lines;
-mod names;
 mod printing;
 mod replies;
 mod tally;
 mod writing;
 
 pub use lines::{damaged, data_line, failed_line, no_table_line, stage_line, unsettled_line};
-pub use names::file_name;
 pub use printing::print;
 pub use replies::{Replies, replies_behind};
 pub use tally::{Tally, reply_code};

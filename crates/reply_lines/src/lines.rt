@@ -4,9 +4,8 @@ ghost use Rattle.mt_model.specs.declared.refusal.Refusal.TheVariants as refusal;
 ghost use Rattle.mt_model.specs.Refusals.{refusal_line, refusal_of_data};
 ghost use Rattle.part_name.specs.PartNames.{part_text};
 ghost use Rattle.reply_lines.specs.Lines.{IsLineOfStage};
-ghost use Rattle.reply_lines.specs.Names.{file_name};
+ghost use Rattle.mt_base.specs.Files.{file_name};
 
-use crate::names::file_name;
 use mt_base::{NoMemory, Seq, Twin};
 use mt_model::{Refusal, refusal_line};
 use mt_outside::DiskError;
@@ -75,7 +74,7 @@ pub fn damaged(
 {
     let table = text.table.twin(alloc)?;
     let part = Seq::of(part_text(alloc, part)?);
-    let file = file_name(alloc, file)?;
+    let file = Seq::of(file.name(alloc)?.into_bytes());
     let why = Refusal::Damaged { table, part, file };
     refusal_line(alloc, &why)
 }

@@ -4,6 +4,7 @@ use Rattle.std.specs.BTreeMap.{Updates}
 use Rattle.std.specs.Cmp.Lexicographic.{slice_cmp}
 use Rattle.std.specs.Ordering.{nat_cmp}
 use Rattle.mt_base.specs.declared.partition.Partition.{Partition}
+use Rattle.mt_base.specs.Limits.{number_limit, part_limit, table_limit}
 use Rattle.mt_values.specs.declared.command.Command.{Command}
 use Rattle.mt_values.specs.declared.command.Insert.{Insert}
 use Rattle.mt_values.specs.declared.schema.Schema.{Schema}
@@ -44,7 +45,7 @@ IsCause None cause = IsOutside cause
 abbrev pub refuses_create : {F : Type 0} → CoreStore F → List ℕ → ℕ → Option Refused
 refuses_create store table now =
     if is_some (table_at store table) then Some refused.Exists
-    else if nat_le 64 (length store.tables.entries) then Some (refused.Limit limit.Tables)
+    else if nat_le table_limit (length store.tables.entries) then Some (refused.Limit limit.Tables)
     else stopped_by store.opened now
 
 -- the same tables and parts, whatever room there is for more
@@ -98,8 +99,8 @@ kept_in {P} partition parts = filter (λ (k : Kept P). same_partition k.name.par
 -- has as many parts as may be, or the table has no number left, or the store was stopped
 abbrev pub refuses_part : {F : Type 0} → CoreStore F → List ℕ → Partition → ℕ → ℕ → Option Refused
 refuses_part store table partition drawn now =
-    if nat_le 3000 (length (kept_in partition (parts_of store.set table))) then Some (refused.Limit limit.Parts)
-    else if nat_le 4294967295 drawn then Some (refused.Limit limit.Numbers)
+    if nat_le part_limit (length (kept_in partition (parts_of store.set table))) then Some (refused.Limit limit.Parts)
+    else if nat_le number_limit drawn then Some (refused.Limit limit.Numbers)
     else stopped_by store.opened now
 
 -- there is one more part in a partition of a table, in its place in block order, its number drawn, and one more command

@@ -8,13 +8,10 @@ ghost use Rattle.part_set.specs.RootNames.{IsRootName, root_text};
 ghost use Rattle.root_store.specs.Damage.{is_create, most_tables};
 ghost use Rattle.root_opening.specs.Names.{AreNamesOf, IsBadBehind, IsFirstBadText, IsOfPlace, TellsBad, creates_in};
 
-use mt_base::{NoMemory, Seq};
+use mt_base::{NoMemory, ROOT_TABLE_LIMIT, Seq};
 use mt_values::Name;
 use part_set::{RootName, read_name};
 use std::alloc::Global;
-
-/// More tables than this are not opened.
-const MOST_TABLES: usize = 65536;
 
 /// Why the names of a root are not read.
 #[derive(Clone, Copy)]
@@ -56,7 +53,7 @@ fn next_name(alloc: Global, text: &Name, tables: usize) -> Result<Option<RootNam
     let Some(name) = read_name(alloc, text.as_slice())? else {
         return Ok(None);
     };
-    if tables == MOST_TABLES && tables_of(&name) == 1 {
+    if tables == ROOT_TABLE_LIMIT && tables_of(&name) == 1 {
         return Ok(None);
     }
     Ok(Some(name))

@@ -7,6 +7,7 @@ use Rattle.mt_values.specs.Tables.{MayHavePartition}
 use Rattle.mt_outside.specs.Disk.{Names, files_at}
 use Rattle.mt_outside.specs.Files.{Files}
 use Rattle.part_reader.specs.DamagedFile.{damaged_file}
+pub use Rattle.mt_base.specs.Limits.{root_table_limit as most_tables}
 use Rattle.part_set.specs.declared.root_name.RootName.{RootName}
 use Rattle.part_set.specs.declared.root_name.RootName.TheVariants as root
 use Rattle.part_set.specs.declared.root_name.TablePart.{TablePart}
@@ -14,10 +15,6 @@ use Rattle.part_set.specs.RootNames.{IsRootName, root_text}
 use Rattle.part_set.specs.Visible.{IsVisible}
 use Rattle.root_store.specs.Entries.{EntryHolds}
 use Rattle.root_store.specs.Roots.{AreRead, HasFolder}
-
--- more tables than this are not opened
-abbrev pub most_tables : ℕ
-most_tables = 65536
 
 abbrev pub is_create : RootName → Bool
 is_create (root.Create table) = true

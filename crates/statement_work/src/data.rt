@@ -3,31 +3,24 @@ ghost use Rattle.std.specs.Prelude.{◌≡◌, Ok, IfErr, IfOk};
 ghost use Rattle.mt_values.specs.Rows.{inserted_rows};
 ghost use Rattle.mt_values.specs.Values.{AreValues};
 ghost use Rattle.mt_model.specs.History.{column_types};
-ghost use Rattle.tsv_rows.specs.Stops.{Refuses};
+ghost use Rattle.mt_base.specs.Stops.{Refuses};
 
-use mt_base::NoMemory;
-use mt_values::{Block, ColType, InsertText, Schema};
+use mt_base::Stop;
+use mt_values::{Block, DataFault, InsertText, Schema};
 use std::alloc::Global;
-use tsv_rows::{ReadStop, read_rows};
+use tsv_rows::read_rows;
 
-/// The types of a table's columns, in order.
-pub fn types_of_columns(alloc: Global, schema: &Schema) -> Result<Vec<ColType>, NoMemory>
-    ensures { IfOk result (λ v. v.items ≡ column_types schema.now) }
-{
-    let mut types = Vec::with_capacity(alloc, schema.columns.len())?;
-    for column in schema.columns.as_slice() {
-        types.push(column.col_type)?;
-    }
-    Ok(types)
-}
-
-/// The rows of an INSERT, as they read for a table's columns, or why they are refused.
-pub fn read_block(alloc: Global, schema: &Schema, text: &InsertText) -> Result<Block, ReadStop>
+/// The rows of an INSERT, read for a table's columns, or why they are refused.
+pub fn read_block(
+    alloc: Global,
+    schema: &Schema,
+    text: &InsertText,
+) -> Result<Block, Stop<DataFault>>
     ensures rows { IfOk result (λ block. inserted_rows (column_types schema.now) text.now.lines text.now.ended ≡ Ok block.rows) }
     ensures types { IfOk result (λ block. block.types ≡ column_types schema.now) }
     ensures values { IfOk result (λ block. AreValues block.rows) }
     ensures refused { IfErr result (Refuses (inserted_rows (column_types schema.now) text.now.lines text.now.ended)) }
 {
-    let types = types_of_columns(alloc, schema)?;
-    read_rows(alloc, &types, text.lines.as_slice(), text.ended)
+    let types = schema.types(alloc)?;
+    read_rows(alloc, types.as_slice(), text.lines.as_slice(), text.ended)
 }

@@ -7,5 +7,5 @@ mod data;
 mod staging;
 
 pub use columns::{count_rows, empty_columns, read_parts};
-pub use data::{read_block, types_of_columns};
+pub use data::read_block;
 pub use staging::{give_back, seal_entry};

@@ -1,5 +1,6 @@
 -- What each event gives, and the state that it leaves (docs/definitions.md, "The core").
 use Rattle.std.specs.Prelude.{◌≡◌, ◌+◌, ◌<◌, ◌≤◌, ℕ, true, false, List, [], ◌∷◌, ◌++◌, Some, None, IsSome, length, slice_get, take}
+use Rattle.mt_base.specs.Limits.{number_limit, root_table_limit}
 use Rattle.mt_values.specs.declared.command.Command.{Command}
 use Rattle.mt_values.specs.declared.command.Command.TheVariants as command
 use Rattle.mt_values.specs.declared.command.Create.{Create}
@@ -52,17 +53,17 @@ pub record AddsPart (part : CorePart) (old new : List CorePart) : Type 0 where
 -- a CREATE: accepted, or refused since there is the table, or else since there are 65,536 (docs/definitions.md, "The core")
 abbrev pub CreateGives : Core → ℕ → Create → Outcome → Core → Type 0
 CreateGives old session c (outcome.Accepted place) new =
-    (schema_of c.table old.history ≡ None) × (creates old.history < 65536) × (place ≡ length old.history + 1)
+    (schema_of c.table old.history ≡ None) × (creates old.history < root_table_limit) × (place ≡ length old.history + 1)
     × (new ≡ record { parts = old.parts; history = entered old.history session (command.Create c ∷ []); snapshots = old.snapshots })
 CreateGives old session c (outcome.Refused guard.TableExists) new = IsSome (schema_of c.table old.history) × (new ≡ old)
-CreateGives old session c (outcome.Refused guard.Creates) new = (schema_of c.table old.history ≡ None) × (65536 ≤ creates old.history) × (new ≡ old)
+CreateGives old session c (outcome.Refused guard.Creates) new = (schema_of c.table old.history ≡ None) × (root_table_limit ≤ creates old.history) × (new ≡ old)
 CreateGives old session c given new = ⊥
 
 -- an INSERT that is accepted: its entry comes behind the others, and its part behind those of its table
 pub record AcceptsInsert (old : Core) (session : ℕ) (i : Insert) (place : ℕ) (new : Core) : Type 0 where
   pub schema : Schema
   pub there : schema_of i.table old.history ≡ Some schema
-  pub room : next_number i.table old.history ≤ 4294967295
+  pub room : next_number i.table old.history ≤ number_limit
   pub place_is : place ≡ length old.history + 1
   pub parts : AddsPart (part_of_insert schema (next_number i.table old.history) i) old.parts new.parts
   pub history : new.history ≡ entered old.history session (command.Insert i ∷ [])
@@ -72,7 +73,7 @@ pub record AcceptsInsert (old : Core) (session : ℕ) (i : Insert) (place : ℕ)
 abbrev pub InsertGives : Core → ℕ → Insert → Outcome → Core → Type 0
 InsertGives old session i (outcome.Accepted place) new = AcceptsInsert old session i place new
 InsertGives old session i (outcome.Refused guard.NoTable) new = (schema_of i.table old.history ≡ None) × (new ≡ old)
-InsertGives old session i (outcome.Refused guard.Numbers) new = IsSome (schema_of i.table old.history) × (4294967295 < next_number i.table old.history) × (new ≡ old)
+InsertGives old session i (outcome.Refused guard.Numbers) new = IsSome (schema_of i.table old.history) × (number_limit < next_number i.table old.history) × (new ≡ old)
 InsertGives old session i given new = ⊥
 
 -- an accept: what its CREATE or its INSERT gives (docs/definitions.md, "The core")

@@ -11,13 +11,10 @@ ghost use Rattle.table_core.specs.Store.{IsStore, core_of};
 
 use crate::store::Store;
 use crate::{Accept, CorePart, Crash, Event, Guard, Outcome, Snapshot};
-use mt_base::{NoMemory, Seq, Twin};
+use mt_base::{NoMemory, ROOT_TABLE_LIMIT, Seq, Twin};
 use mt_values::{Block, Create, Insert, Name, Row, Schema};
 use part_name::PartName;
 use std::alloc::Global;
-
-/// As many tables are made at most.
-const MOST_TABLES: usize = 65_536;
 
 /// What happens at an event.
 ///
@@ -95,7 +92,7 @@ fn make_table(
     if store.find(&create.table).is_some() {
         return Ok(Outcome::Refused(Guard::TableExists));
     }
-    if store.tables.len() >= MOST_TABLES {
+    if store.tables.len() >= ROOT_TABLE_LIMIT {
         return Ok(Outcome::Refused(Guard::Creates));
     }
     let length = store.entries.len() + 1;

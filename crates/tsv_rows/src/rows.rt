@@ -1,37 +1,14 @@
 // From lines to rows: one row, and the lines of an INSERT's data as a block.
-ghost use Rattle.std.specs.Prelude.{◌≡◌, ◌≢◌, [], All, IfErr, IfOk, Ok, Err, map};
+ghost use Rattle.std.specs.Prelude.{◌≡◌, [], All, IfErr, IfOk, Ok, map};
 ghost use Rattle.mt_values.specs.Rows.{at_field, inserted_rows, row_of_line, value_of_field};
 ghost use Rattle.mt_values.specs.Values.{AreValues, IsValue};
 ghost use Rattle.mt_values.specs.Schemas.{column_types};
-ghost use Rattle.tsv_rows.specs.Stops.{Refuses};
+ghost use Rattle.mt_base.specs.Stops.{Refuses};
 
-use mt_base::{NoMemory, Seq};
+use mt_base::{NoMemory, ROW_LIMIT, Seq, Stop};
 use mt_values::{Block, ColType, ColumnData, DataFault, Row, RowFault, Schema, Value};
 use std::alloc::Global;
 use tsv_lines::{cell_of_field, fault_of_count, fault_of_field, field_at, mark_fields, read_line};
-
-/// An INSERT has no more rows than this.
-const MOST_ROWS: usize = 1_048_576;
-
-/// Why reading an INSERT's data gave no rows.
-#[derive(Clone, Copy)]
-pub enum ReadStop {
-    /// A growth was refused.
-    NoMemory,
-    /// The data is not the rows of an INSERT.
-    Refused(DataFault),
-}
-
-impl From<NoMemory> for ReadStop {
-    ghost use Rattle.std.specs.Prelude.{◌≡◌};
-    ghost use Rattle.tsv_rows.specs.declared.rows.ReadStop.TheVariants as read_stop;
-
-    ghost from_gives = { λ _ stop. stop ≡ read_stop.NoMemory };
-
-    fn from(_: NoMemory) -> Self {
-        ReadStop::NoMemory
-    }
-}
 
 // The value of the field at a place in its line, from 1, or the line's fault.
 fn read_value(
@@ -41,30 +18,36 @@ fn read_value(
     line: usize,
     place: usize,
     said: &mut Vec<u8>,
-) -> Result<Value, RowFault>
+) -> Result<Value, Stop<RowFault>>
     ensures value { IfOk result (λ v. Ok v ≡ value_of_field col_type field.now) }
-    ensures fault { IfErr result (λ fault. fault ≢ RowFault.NoMemory → at_field line place (value_of_field col_type field.now) ≡ Err fault) }
+    ensures refused { IfErr result (Refuses (at_field line place (value_of_field col_type field.now))) }
 {
-    match cell_of_field(col_type, field, said)? {
+    match cell_of_field(col_type, field, said) {
         Ok(cell) => Ok(cell.to_value(alloc)?),
-        Err(fault) => Err(fault_of_field(line, place, fault)),
+        Err(Stop::Refused(fault)) => Err(Stop::Refused(fault_of_field(line, place, fault))),
+        Err(Stop::NoMemory) => Err(Stop::NoMemory),
     }
 }
 
 /// The row that a line is, or why it is none. The line stands without its line feed, and counts from 1.
 ///
-/// `RowFault::NoMemory` where a growth was refused. Else the fault is that of the number of fields, or of the first
-/// faulty field from the left.
-pub fn read_row(alloc: Global, schema: &Schema, text: &[u8], line: usize) -> Result<Row, RowFault>
+/// `Stop::NoMemory` where an allocation failed. A fault is that of the number of fields, or else of the first faulty
+/// field from the left.
+pub fn read_row(
+    alloc: Global,
+    schema: &Schema,
+    text: &[u8],
+    line: usize,
+) -> Result<Row, Stop<RowFault>>
     ensures row { IfOk result (λ row. row_of_line (column_types schema.now) line text.now ≡ Ok row) }
-    ensures fault { IfErr result (λ fault. fault ≢ RowFault.NoMemory → row_of_line (column_types schema.now) line text.now ≡ Err fault) }
+    ensures refused { IfErr result (Refuses (row_of_line (column_types schema.now) line text.now)) }
     ensures values { IfOk result (All IsValue) }
 {
     let columns = schema.columns.as_slice();
     let mut ends = Vec::new(alloc);
     mark_fields(text, false, &mut ends)?;
     if let Some(fault) = fault_of_count(line, ends.len(), columns.len()) {
-        return Err(fault);
+        return Err(Stop::Refused(fault));
     }
     let mut row = Seq::with_capacity(alloc, columns.len())?;
     let mut said = Vec::new(alloc);
@@ -92,13 +75,13 @@ fn empty_columns(alloc: Global, types: &[ColType]) -> Result<Vec<ColumnData>, No
 /// The rows of an INSERT's data, read straight into columns, or why the data is refused. `ended` says that the line
 /// came which ends data. The first faulty line decides, and of its faults that of the number of its fields comes first.
 ///
-/// `ReadStop::NoMemory` where a growth was refused.
+/// `Stop::NoMemory` where an allocation failed.
 pub fn read_rows(
     alloc: Global,
     types: &[ColType],
     lines: &[u8],
     ended: bool,
-) -> Result<Block, ReadStop>
+) -> Result<Block, Stop<DataFault>>
     ensures rows { IfOk result (λ b. inserted_rows types.now lines.now ended ≡ Ok b.rows) }
     ensures types { IfOk result (λ b. b.types ≡ types.now) }
     ensures values { IfOk result (λ b. AreValues b.rows) }
@@ -110,18 +93,20 @@ pub fn read_rows(
     let mut count = 0;
     let mut at = 0;
     'lines: while let Some(len) = mark_fields(&lines[at..], true, &mut ends)? {
-        if count >= MOST_ROWS {
-            return Err(ReadStop::Refused(DataFault::TooMany));
+        if count >= ROW_LIMIT {
+            return Err(Stop::Refused(DataFault::TooMany));
         }
         let text = &lines[at..at + len];
-        if let Err(fault) = read_line(&mut columns, text, &ends, count + 1, &mut said)? {
-            return Err(ReadStop::Refused(DataFault::Row(fault)));
+        match read_line(&mut columns, text, &ends, count + 1, &mut said) {
+            Ok(()) => {}
+            Err(Stop::Refused(fault)) => return Err(Stop::Refused(DataFault::Row(fault))),
+            Err(Stop::NoMemory) => return Err(Stop::NoMemory),
         }
         count += 1;
         at += len + 1;
     }
     if !ended {
-        return Err(ReadStop::Refused(DataFault::Unended { rows: count }));
+        return Err(Stop::Refused(DataFault::Unended { rows: count }));
     }
     Ok(Block::of_columns(columns, count))
 }

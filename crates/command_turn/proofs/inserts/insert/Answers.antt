@@ -1,7 +1,7 @@
 use Rattle.std.proofs.lemmas.Result.{IfErr-weaker, IfOk-weaker}
 use Rattle.std.proofs.Common.{◌≡◌, inl, ◌<◌, ℕ, Bool, List, [], ◌∷◌, Option, Some, Ok, Err, true, false, length, refl, sym, ap, ◌∙◌, subst, arith, IfOk}
 use Rattle.std.specs.Option.{option_map}
-use Rattle.tsv_rows.specs.Stops.{Refuses}
+use Rattle.mt_base.specs.Stops.{Refuses}
 use Rattle.mt_values.specs.declared.row_fault.DataFault.{DataFault}
 use Rattle.mt_values.specs.declared.schema.Schema.{Schema}
 use Rattle.mt_values.specs.declared.statement.InsertText.{InsertText}

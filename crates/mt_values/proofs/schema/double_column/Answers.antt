@@ -1,5 +1,4 @@
-use Rattle.std.proofs.Common.{sym, ap, ◌∙◌, Some}
-use Rattle.mt_values.specs.declared.schema.SchemaFault.TheVariants as fault
+use Rattle.std.proofs.Common.{sym, ◌∙◌}
 use Rattle.mt_values.specs.Schemas.{same_name, double_column_at}
 use Rattle.mt_values.proofs.Repeats.{repeat_found, repeat_more}
 use Rattle.mt_values.proofs.schema.double_column.Goals as goal
@@ -7,8 +6,7 @@ use Rattle.mt_values.proofs.schema.double_column.Goals as goal
 pub returns-then-has_name : goal.returns-then-has_name
 returns-then-has_name c =
     let columns = c.args.columns.now in
-    ap (λ n. Some (fault.DoubleColumn n)) c.min.ensures
-    ∙ sym (repeat_found same_name double_column_at columns c.loop-place.place c.index-columns-place.result c.loop-place-test.true c.index-columns-place.is (sym c.has_name.ensures ∙ c.if-has_name.true))
+    sym (repeat_found same_name double_column_at columns c.loop-place.place c.index-columns-place.result c.loop-place-test.true c.index-columns-place.is (sym c.has_name.ensures ∙ c.if-has_name.true))
     ∙ c.loop-place.invariant
 
 pub loop-place-preserved : goal.loop-place-preserved

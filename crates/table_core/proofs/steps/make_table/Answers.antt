@@ -12,13 +12,13 @@ returns-then-is_some-clause-gives c =
     let found = found_some c.find.result (StandsAt store.tables.entries table) (sym c.is_some.ensures ∙ c.if-is_some.true) c.find.ensures.there in
     (ap is_some (schema_here store c.requires.store table found.0 found.1), refl)
 
-pub returns-then-len-ge-MOST_TABLES-clause-gives : goal.returns-then-len-ge-MOST_TABLES-clause-gives
-returns-then-len-ge-MOST_TABLES-clause-gives c =
+pub returns-then-len-ge-ROOT_TABLE_LIMIT-clause-gives : goal.returns-then-len-ge-ROOT_TABLE_LIMIT-clause-gives
+returns-then-len-ge-ROOT_TABLE_LIMIT-clause-gives c =
     let store = c.args.store.now in
     let table = c.args.create.table in
     let none = found_none c.find.result (All (IsNotNamed table) store.tables.entries) (sym c.is_some.ensures ∙ c.if-is_some.false) c.find.ensures.none in
     let made = tables_made store c.requires.store in
-    let many : 65536 ≤ creates store.entries.items = omega (arith, made, c.len.ensures.len, c.if-len-ge-MOST_TABLES.true) in
+    let many : 65536 ≤ creates store.entries.items = omega (arith, made, c.len.ensures.len, c.if-len-ge-ROOT_TABLE_LIMIT.true) in
     (no_table store c.requires.store table none, many, refl)
 
 pub returns-clause-gives : goal.returns-clause-gives
@@ -27,7 +27,7 @@ returns-clause-gives c =
     let create = c.args.create in
     let none = found_none c.find.result (All (IsNotNamed create.table) store.tables.entries) (sym c.is_some.ensures ∙ c.if-is_some.false) c.find.ensures.none in
     let made = tables_made store c.requires.store in
-    let few : creates store.entries.items < 65536 = omega (arith, made, c.len.ensures.len, c.if-len-ge-MOST_TABLES.false) in
+    let few : creates store.entries.items < 65536 = omega (arith, made, c.len.ensures.len, c.if-len-ge-ROOT_TABLE_LIMIT.false) in
     let entries = store.entries.ok.0 in
     let place : c.len-length.result + 1 ≡ length store.entries.items + 1 = omega (arith, c.len-length.ensures, entries) in
     let done = c.in_ok-enter_table.ensures in (
@@ -43,6 +43,6 @@ returns-clause-store c =
     let create = c.args.create in
     let none = found_none c.find.result (All (IsNotNamed create.table) store.tables.entries) (sym c.is_some.ensures ∙ c.if-is_some.false) c.find.ensures.none in
     let made = tables_made store c.requires.store in
-    let few : creates store.entries.items < 65536 = omega (arith, made, c.len.ensures.len, c.if-len-ge-MOST_TABLES.false) in
+    let few : creates store.entries.items < 65536 = omega (arith, made, c.len.ensures.len, c.if-len-ge-ROOT_TABLE_LIMIT.false) in
     let done = c.in_ok-enter_table.ensures in
     create_store store c.enter_table.new.self c.args.session create c.requires.store done.tables done.entries done.snapshots c.requires.schema (no_table store c.requires.store create.table none) few

@@ -1,36 +1,40 @@
-use Rattle.std.proofs.Common.{◌≡◌, ◌≢◌, refl, ◌∙◌, ◌<◌, ◌^◌, Some, Ok, Err, List, ℕ, All, sym, ap, ap₂, false, map, length, get_or, slice_get, arith}
+use Rattle.std.proofs.Common.{◌≡◌, ◌≢◌, refl, ◌∙◌, ◌<◌, ◌^◌, Some, Ok, Err, List, ℕ, All, Result, ◌+◌, drop, sym, ap, ap₂, false, map, length, get_or, slice_get, arith}
 use Rattle.std.proofs.lemmas.List.{length-map}
 use Rattle.std.proofs.lemmas.List.Elements.{All-from_get_or}
 use Rattle.std.proofs.lemmas.Option.{slice_get-get_or, slice_get-map}
 use Rattle.std.proofs.lemmas.Result.{err_from_is_err_and}
 use Rattle.std.specs.Option.{option_map}
-use Rattle.mt_values.specs.Rows.{fields_from, row_of_line}
-use Rattle.mt_values.specs.Values.{IsValue}
+use Rattle.mt_base.specs.declared.stop.Stop.{Stop}
+use Rattle.mt_base.specs.declared.stop.Stop.TheVariants.{NoMemory, Refused}
+use Rattle.mt_base.specs.Stops.{Refuses}
+use Rattle.mt_values.specs.Rows.{at_field, fields_from, row_of_fields, row_of_line, value_of_field}
+use Rattle.mt_values.specs.Values.{IsValue, Row}
+use Rattle.mt_values.specs.declared.row_fault.RowFault.{RowFault}
 use Rattle.mt_values.specs.declared.row_fault.RowFault.TheVariants as row_fault
 use Rattle.mt_values.specs.declared.schema.Column.{Column}
 use Rattle.mt_values.specs.declared.value.ColType.{ColType}
 use Rattle.mt_values.proofs.RowValues.{AreBytes, if_ok, row_values}
 use Rattle.tsv_lines.specs.Fields.{EndFields}
-use Rattle.tsv_lines.proofs.LineRows.{other_count, same_count, row_begin, row_miscounted, row_more, row_faulty, row_whole}
+use Rattle.tsv_lines.proofs.LineRows.{fronted_ok, other_count, same_count, row_begin, row_miscounted, row_more, row_faulty, row_whole}
 use Rattle.tsv_lines.proofs.Marking.{whole_marked}
 use Rattle.tsv_rows.proofs.rows.read_row.Goals as goal
 use Rattle.tsv_rows.proofs.rows.read_row.Goals.{After-len, After-read_value, After-drop-ends-2}
 
--- want of memory says nothing of the line
+-- out of memory says nothing of the line
 pub returns-in_err-mark_fields : goal.returns-in_err-mark_fields
 returns-in_err-mark_fields c =
     let p = err_from_is_err_and c.from_residual.result c.from_residual.ensures.1 in
-    rw (p.1, p.2) (record { row = tt; fault = λ some. absurd (some refl); values = tt })
+    rw (p.1, p.2) (record { row = tt; refused = tt; values = tt })
 
 pub returns-in_err-row : goal.returns-in_err-row
 returns-in_err-row c =
     let p = err_from_is_err_and c.from_residual-in_err-row.result c.from_residual-in_err-row.ensures.1 in
-    rw (p.1, p.2) (record { row = tt; fault = λ some. absurd (some refl); values = tt })
+    rw (p.1, p.2) (record { row = tt; refused = tt; values = tt })
 
 pub returns-in_err-push : goal.returns-in_err-push
 returns-in_err-push c =
     let p = err_from_is_err_and c.from_residual-in_err-push.result c.from_residual-in_err-push.ensures.1 in
-    rw (p.1, p.2) (record { row = tt; fault = λ some. absurd (some refl); values = tt })
+    rw (p.1, p.2) (record { row = tt; refused = tt; values = tt })
 
 types : After-len → List ColType
 types c = map (λ (column : Column). column.col_type) c.args.schema.now.columns
@@ -56,7 +60,7 @@ returns-in-Some c =
     ap₂ (row_fault.Fields c.args.line) (sym (count d)) (size d) ∙ sym told.1 in
     record {
       row = tt;
-      fault = λ some. sym (row_miscounted (types d) c.args.line c.args.text.now c.mark_fields.new.ends.items (ends d) other) ∙ ap Err same;
+      refused = sym (row_miscounted (types d) c.args.line c.args.text.now c.mark_fields.new.ends.items (ends d) other) ∙ ap Err same;
       values = tt;
     }
 
@@ -79,6 +83,13 @@ type_at c =
     slice_get-map (λ (d : Column). d.col_type) columns c.loop-place.place
     ∙ ap (option_map (λ (d : Column). d.col_type)) (slice_get-get_or columns c.loop-place.place column within ∙ ap Some (sym is))
 
+-- why a field stops the reading is why the line does
+field_refused : (types : List ColType) (fields : List (List ℕ)) (line i : ℕ) (t : ColType) (f : List ℕ) → slice_get types i ≡ Some t → slice_get fields i ≡ Some f
+    → (row : Row) (whole : Result Row RowFault) → fronted_ok row (row_of_fields line (i + 1) (drop i types) (drop i fields)) ≡ whole
+    → (why : Stop RowFault) → Refuses (at_field line (i + 1) (value_of_field t f)) why → Refuses whole why
+field_refused types fields line i t f typed field row whole is NoMemory read = tt
+field_refused types fields line i t f typed field row whole is (Refused fault) read = sym (row_faulty types fields line i t f typed field row fault read ∙ is)
+
 pub returns-in_err-value : goal.returns-in_err-value
 returns-in_err-value c =
     let d = (goal.at.returns-in_err-value c).After-read_value in
@@ -89,7 +100,9 @@ returns-in_err-value c =
     rw (p.1, p.2)
     (record {
       row = tt;
-      fault = λ some. sym (row_faulty types fields c.args.line c.loop-place.place c.index-columns-place.result.col_type c.field_at-field.result.now (type_at d) field c.loop-place.row c.in_err-value.field-0.0 (c.in_err-value.ensures.fault some) ∙ c.loop-place.invariant);
+      refused =
+          field_refused types fields c.args.line c.loop-place.place c.index-columns-place.result.col_type c.field_at-field.result.now (type_at d) field c.loop-place.row _ c.loop-place.invariant
+          c.in_err-value.field-0.0 c.in_err-value.ensures.refused;
       values = tt;
     })
 
@@ -111,6 +124,6 @@ returns c =
     let bytes : AreBytes c.args.text.now = All-from_get_or (λ (b : ℕ). b < 2 ^ 8) c.args.text.now 0 (λ i h. omega (arith, c.type_inv.text i)) in
     record {
       row = sym read;
-      fault = tt;
+      refused = tt;
       values = if_ok (All IsValue) (row_of_line types c.args.line c.args.text.now) c.loop-place.row (sym read) (row_values types c.args.line c.args.text.now bytes);
     }

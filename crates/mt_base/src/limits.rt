@@ -1,0 +1,28 @@
+// The bounds that the program keeps (docs/replies.md, "Refusals").
+
+/// No more tables than this are made in a root.
+pub const TABLE_LIMIT: usize = 64;
+
+/// A root of more tables than this is not opened.
+pub const ROOT_TABLE_LIMIT: usize = 65_536;
+
+/// A table has no more columns than this.
+pub const COLUMN_LIMIT: usize = 64;
+
+/// A partition of a table has no more parts than this.
+pub const PART_LIMIT: usize = 3000;
+
+/// The commands of a table have no greater number than this.
+pub const NUMBER_LIMIT: u32 = 4_294_967_295;
+
+/// An INSERT has no more rows than this.
+pub const ROW_LIMIT: usize = 1_048_576;
+
+/// A String has no more bytes than this.
+pub const TEXT_LIMIT: usize = 1_048_576;
+
+/// A statement has no more bytes than this, from its first token up to its semicolon.
+pub const STATEMENT_LIMIT: usize = 1_048_576;
+
+/// A name has no more bytes than this.
+pub const NAME_LIMIT: usize = 64;
