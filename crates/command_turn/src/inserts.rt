@@ -94,6 +94,7 @@ pub fn insert<D: Disk, A: Annals>(
     ensures store { IsSound store.new }
     ensures opened { store.new.opened ≡ store.old.opened }
     ensures tells { D.Arm.tells arm.new ≡ D.Arm.tells arm.old }
+    ensures started { D.started disk.new ≡ D.started disk.old }
     ensures disk_later { D.failed disk.old ≤ D.failed disk.new }
     ensures arm_later { D.Arm.failed arm.old ≤ D.Arm.failed arm.new }
     ensures memory { OnErr result (D.failed disk.new ≡ D.failed disk.old) }

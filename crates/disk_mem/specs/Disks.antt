@@ -1,5 +1,5 @@
 -- A disk in memory as contracts see it.
-use Rattle.std.specs.Prelude.{◌≡◌, ◌⊎◌, ◌↔◌, ◌-◌, ◌^◌, ◌==◌, ◌||◌, ℕ, Bool, false, Option, Some, None, IsTrue, Result, IsErrOf}
+use Rattle.std.specs.Prelude.{◌≡◌, ◌⊎◌, ◌↔◌, ◌-◌, ◌^◌, ◌==◌, ◌||◌, ℕ, List, Bool, false, Option, Some, None, IsTrue, Result, IsErrOf}
 use Rattle.mt_outside.specs.declared.disk.DiskError.{DiskError}
 use Rattle.mt_outside.specs.declared.disk.DiskError.TheVariants.{Fault}
 use Rattle.mt_outside.specs.Disk.{Told}
@@ -8,9 +8,10 @@ use Rattle.call_plan.specs.declared.plan.CallKind.TheVariants as kind
 use Rattle.call_plan.specs.declared.plan.Plan.{Plan}
 use Rattle.call_plan.specs.Plan.{IsListed, is_listed, called, taken}
 
--- what it tells, its mark, which of its calls fail, and how many more of them pass where it is to stop
+-- what it tells, the path that it was started with, its mark, which of its calls fail, and how many more of them pass where it is to stop
 pub record DiskState : Type 0 where
   pub told : Told
+  pub started : Option (List ℕ)
   pub clock : ℕ
   pub plan : Plan
   pub stop : Option ℕ
@@ -31,7 +32,7 @@ one_less (Some left) = Some (left - 1)
 
 -- the disk after it took over a count of failed calls
 abbrev pub takes : ℕ → DiskState → DiskState
-takes count disk = record { told = disk.told; clock = disk.clock; plan = taken count disk.plan; stop = disk.stop }
+takes count disk = record { told = disk.told; started = disk.started; clock = disk.clock; plan = taken count disk.plan; stop = disk.stop }
 
 -- a call of the disk: it answers a fault exactly where it is listed or the disk was stopped, and the count rises by one then and stays otherwise
 pub record FailsOrStops {T : Type 0} (kind : CallKind) (old new : DiskState) (result : Result T DiskError) : Type 0 where

@@ -19,32 +19,38 @@ use mt_values::Name;
 use std::alloc::Global;
 use std::marker::Model;
 
-/// A disk in memory, which tells all. Contracts see what it tells, its mark and which of its calls fail.
+/// A disk in memory, which tells all. Contracts see what it tells, the path that it was started with, its mark and which of its calls fail.
 #[derive(Drop)]
 pub struct MemDisk {
     alloc: Global,
+    // The path of the last start. It is shown, and nothing depends on it.
+    path: Option<String>,
     root: Root,
     calls: DiskCalls,
 }
 
 impl Model for MemDisk {
+    ghost use Rattle.std.specs.Prelude.{string_bytes};
+    ghost use Rattle.std.specs.Option.{option_map};
     ghost use Rattle.disk_mem.specs.Disks.{DiskState};
 
     ghost Value = { DiskState };
 
-    ghost view = { λ d. record { told = d.root.changes.items; clock = d.root.clock; plan = d.calls.plan; stop = d.calls.stop } };
+    ghost view = { λ d. record { told = d.root.changes.items; started = option_map string_bytes d.path; clock = d.root.clock; plan = d.calls.plan; stop = d.calls.stop } };
 }
 
 impl MemDisk {
-    /// An empty disk, of which no call fails.
+    /// An empty disk that was not started, of which no call fails.
     pub fn new(alloc: Global) -> Result<MemDisk, NoMemory>
         ensures told { IfOk result (λ d. d.told ≡ []) }
+        ensures started { IfOk result (λ d. d.started ≡ None) }
         ensures clock { IfOk result (λ d. d.clock ≡ 0) }
         ensures plan { IfOk result (λ d. d.plan ≡ fresh None None []) }
         ensures stop { IfOk result (λ d. d.stop ≡ None) }
     {
         Ok(MemDisk {
             alloc,
+            path: None,
             root: Root::new(alloc),
             calls: DiskCalls::none(alloc),
         })
@@ -77,11 +83,12 @@ impl MemDisk {
     /// A disk as a crash now may leave it. The settled publishes and removes have happened; of the others bit i of the choice, for i below 63, says
     /// whether the one with this number, from 0, has, and those from the 63rd on have. Where bit 63 is set, each file whose last append wasn't synced
     /// has as many zero bytes as half its length, rounded down. All that happened is settled: the mark is one above, as far as 64 bits count.
-    /// No call of the new disk is listed, none was made, and no stop is set.
+    /// The new disk was not started. No call of it is listed, none was made, and no stop is set.
     #[tactic(auto, using(crash_choice::proofs::Images::image_leads))]
     pub fn image(&self, choice: u64) -> Result<MemDisk, NoMemory>
         ensures image { IfOk result (λ d. Image self.now.told self.now.clock (names_of d.told)) }
         ensures told { IfOk result (λ d. d.told ≡ image_told choice self.now.clock self.now.told) }
+        ensures started { IfOk result (λ d. d.started ≡ None) }
         ensures mark { IfOk result (λ d. d.clock ≡ next self.now.clock) }
         ensures by_mark { IfOk result (λ d. AllBy d.clock d.told) }
         ensures plan { IfOk result (λ d. d.plan ≡ fresh None None []) }
@@ -90,6 +97,7 @@ impl MemDisk {
         let alloc = self.alloc;
         Ok(MemDisk {
             alloc,
+            path: None,
             root: self.root.image(alloc, choice)?,
             calls: DiskCalls::none(alloc),
         })
@@ -105,7 +113,12 @@ impl Disk for MemDisk {
 
     ghost failed = { λ d. d.plan.failed };
 
-    fn start(&mut self, _path: &str) -> Result<(), DiskError>
+    ghost started = { λ d. d.started };
+
+    /// Keeps the path. Nothing else of the disk changes.
+    fn start(&mut self, path: &str) -> Result<(), DiskError>
+        ensures started { OnOk result (self.new.started ≡ Some path.now) }
+        ensures not_started { OnErr result (self.new.started ≡ self.old.started) }
         ensures told { self.new.told ≡ self.old.told }
         ensures clock { self.new.clock ≡ self.old.clock }
         ensures cause { HasDiskCause self.old.plan.failed self.new.plan.failed result }
@@ -114,13 +127,20 @@ impl Disk for MemDisk {
         if self.calls.call(CallKind::Start, false) {
             return Err(DiskError::Fault);
         }
-        Ok(())
+        match String::from_str(self.alloc, path) {
+            Ok(path) => {
+                self.path = Some(path);
+                Ok(())
+            }
+            Err(_) => Err(DiskError::NoMemory),
+        }
     }
 
     fn arm(&mut self, alloc: Global) -> Result<MemArm, DiskError>
         ensures none_failed { IfOk result (λ a. a.failed ≡ 0) }
         ensures told { self.new.told ≡ self.old.told }
         ensures clock { self.new.clock ≡ self.old.clock }
+        ensures started { self.new.started ≡ self.old.started }
         ensures cause { HasDiskCause self.old.plan.failed self.new.plan.failed result }
         ensures plan { IfOk result (λ a. a ≡ next_arm self.old.plan) }
         ensures exactly { FailsOrStops CallKind.Arm self.old self.new result }
@@ -138,6 +158,7 @@ impl Disk for MemDisk {
     fn take_back(&mut self, arm: MemArm)
         ensures told { self.new.told ≡ self.old.told }
         ensures clock { self.new.clock ≡ self.old.clock }
+        ensures started { self.new.started ≡ self.old.started }
         ensures taken { 0 < arm.failed → Rose self.old.plan.failed self.new.plan.failed }
         ensures none_failed { arm.failed ≡ 0 → self.new.plan.failed ≡ self.old.plan.failed }
         ensures later { self.old.plan.failed ≤ self.new.plan.failed }
@@ -150,6 +171,7 @@ impl Disk for MemDisk {
         ensures names { IfOk result (λ v. v.items ≡ map (λ e. e.0) (names_of self.old.told)) }
         ensures told { self.new.told ≡ self.old.told }
         ensures clock { self.new.clock ≡ self.old.clock }
+        ensures started { self.new.started ≡ self.old.started }
         ensures cause { HasDiskCause self.old.plan.failed self.new.plan.failed result }
         ensures exactly { FailsOrStops CallKind.List self.old self.new result }
     {
@@ -167,6 +189,7 @@ impl Disk for MemDisk {
         ensures files { IfOk result (λ d. Some d ≡ files_at name.now (names_of self.old.told)) }
         ensures told { self.new.told ≡ self.old.told }
         ensures clock { self.new.clock ≡ self.old.clock }
+        ensures started { self.new.started ≡ self.old.started }
         ensures cause { HasDiskCause self.old.plan.failed self.new.plan.failed result }
         ensures exactly { FailsOrStops CallKind.Open self.old self.new result }
     {
@@ -186,6 +209,7 @@ impl Disk for MemDisk {
         ensures dir { IfOk result (λ d. d ≡ stage.files) }
         ensures err { OnErr result (self.new.told ≡ self.old.told) }
         ensures clock { self.new.clock ≡ self.old.clock }
+        ensures started { self.new.started ≡ self.old.started }
         ensures taken { 0 < stage.plan.failed → Rose self.old.plan.failed self.new.plan.failed }
         ensures cause { HasStageCause stage.plan.failed self.old.plan.failed self.new.plan.failed result }
         ensures exactly { FailsOrStops CallKind.Publish (takes stage.plan.failed self.old) self.new result }
@@ -207,6 +231,7 @@ impl Disk for MemDisk {
         ensures ok { OnOk result (self.new.told ≡ with_change self.old.clock (Change.Remove name.now) self.old.told) }
         ensures err { OnErr result (self.new.told ≡ self.old.told) }
         ensures clock { self.new.clock ≡ self.old.clock }
+        ensures started { self.new.started ≡ self.old.started }
         ensures takes_none { IsErrOf result DiskError.NoMemory → ⊥ }
         ensures cause { HasDiskCause self.old.plan.failed self.new.plan.failed result }
         ensures exactly { FailsOrStops CallKind.Remove self.old self.new result }
@@ -222,6 +247,7 @@ impl Disk for MemDisk {
         ensures told { self.new.told ≡ self.old.told }
         ensures clock { OnOk result (self.new.clock ≡ self.old.clock + 1) }
         ensures clock_err { OnErr result (self.new.clock ≡ self.old.clock) }
+        ensures started { self.new.started ≡ self.old.started }
         ensures last { self.old.clock ≡ 2 ^ 64 - 1 → IsErr result }
         ensures takes_none { IsErrOf result DiskError.NoMemory → ⊥ }
         ensures cause { HasDiskCause self.old.plan.failed self.new.plan.failed result }

@@ -1,12 +1,12 @@
 -- What contracts see of the real outside: counts, where folders lie, and no contents (docs/architecture.md, "Counts of faults").
-use Rattle.std.specs.Prelude.{ℕ, List, Bool}
+use Rattle.std.specs.Prelude.{ℕ, List, Option}
 use Rattle.mt_base.specs.declared.name.FileId.{FileId}
 
--- the mark of a disk, how many of its calls have failed, as far as 64 bits count, and whether it holds a folder, which no other disk holds then
+-- the mark of a disk, how many of its calls have failed, as far as 64 bits count, and the path of the folder that it holds, which no other disk holds then
 pub record DiskState : Type 0 where
   pub clock : ℕ
   pub failed : ℕ
-  pub holds : Bool
+  pub started : Option (List ℕ)
 
 -- how many calls of a stage have failed, as far as 64 bits count, and which of its files were written since their last sync
 pub record StageState : Type 0 where

@@ -1,5 +1,5 @@
 // A folder of the system as a disk.
-ghost use Rattle.std.specs.Prelude.{◌≡◌, ◌<◌, ◌⊎◌, IfOk, IsErr, IsErrOf, IsTrue, OnErr, OnOk, true, false};
+ghost use Rattle.std.specs.Prelude.{◌≡◌, ◌<◌, ◌⊎◌, IfOk, IsErr, IsErrOf, IsSome, IsTrue, None, OnErr, OnOk, Some};
 ghost use Rattle.disk_names.specs.Names.{is_root_name};
 
 use crate::arm::RealArm;
@@ -14,8 +14,8 @@ use outside_streams::Faults;
 use std::alloc::Global;
 use std::marker::Model;
 
-/// A folder of the system as a disk, which tells nothing of what it holds. Contracts see its mark, how many of its calls have failed, and whether it
-/// was started.
+/// A folder of the system as a disk, which tells nothing of what it holds. Contracts see its mark, how many of its calls have failed, and the path
+/// that it was started with.
 ///
 /// Until it is started, each of its calls that reach the folder is a fault.
 #[derive(Drop)]
@@ -33,12 +33,13 @@ pub struct RealDisk<R> {
 }
 
 impl<R> Model for RealDisk<R> {
-    ghost use Rattle.std.specs.Prelude.{is_some};
+    ghost use Rattle.std.specs.Prelude.{string_bytes};
+    ghost use Rattle.std.specs.Option.{option_map};
     ghost use Rattle.disk_real.specs.States.{DiskState};
 
     ghost Value = { DiskState };
 
-    ghost view = { λ d. record { clock = d.clock; failed = d.faults.count; holds = is_some d.root } };
+    ghost view = { λ d. record { clock = d.clock; failed = d.faults.count; started = option_map (λ r. string_bytes r.path) d.root } };
 }
 
 impl<R: System> RealDisk<R> {
@@ -46,7 +47,7 @@ impl<R: System> RealDisk<R> {
     pub fn new(rt: R, alloc: Global) -> RealDisk<R>
         ensures clock { result.clock ≡ 0 }
         ensures failed { result.failed ≡ 0 }
-        ensures holds { result.holds ≡ false }
+        ensures started { result.started ≡ None }
     {
         RealDisk {
             rt,
@@ -64,8 +65,8 @@ impl<R: System> RealDisk<R> {
     fn begin(&mut self, path: &str) -> Result<(), DiskError>
         ensures clock { self.new.clock ≡ self.old.clock }
         ensures failed { self.new.failed ≡ self.old.failed }
-        ensures held { OnOk result (self.new.holds ≡ true) }
-        ensures once { self.old.holds ≡ true → IsErrOf result DiskError.Fault }
+        ensures started { OnOk result (self.new.started ≡ Some path.now) }
+        ensures once { IsSome self.old.started → IsErrOf result DiskError.Fault }
         ensures err { OnErr result (self.new ≡ self.old) }
     {
         if self.root.is_some() {
@@ -77,7 +78,7 @@ impl<R: System> RealDisk<R> {
 
     // The path of the folder. Before the start there is none.
     fn path(&self) -> Result<&str, DiskError>
-        ensures { self.now.holds ≡ false → IsErrOf result DiskError.Fault }
+        ensures { self.now.started ≡ None → IsErrOf result DiskError.Fault }
     {
         match &self.root {
             Some(root) => Ok(root.path()),
@@ -89,7 +90,7 @@ impl<R: System> RealDisk<R> {
     fn make_arm(&mut self, alloc: Global) -> Result<RealArm<R>, DiskError>
         ensures same { self.new ≡ self.old }
         ensures none_failed { IfOk result (λ a. a ≡ 0) }
-        ensures unstarted { self.old.holds ≡ false → IsErr result }
+        ensures unstarted { self.old.started ≡ None → IsErr result }
     {
         let number = draw(&mut self.arms)?;
         RealArm::new(&self.rt, alloc, self.path()?, number)
@@ -97,7 +98,7 @@ impl<R: System> RealDisk<R> {
 
     // The path of the folder that has this name.
     fn path_of(&self, alloc: Global, name: &Name) -> Result<String, DiskError>
-        ensures unstarted { self.now.holds ≡ false → IsErr result }
+        ensures unstarted { self.now.started ≡ None → IsErr result }
         ensures name { IsTrue (is_root_name name.now) ⊎ IsErr result }
     {
         let root = self.path()?;
@@ -109,7 +110,7 @@ impl<R: System> RealDisk<R> {
 
     // The names in the folder, which may be given by a link to it.
     fn names(&self, alloc: Global) -> Result<Vec<Name>, DiskError>
-        ensures unstarted { self.now.holds ≡ false → IsErr result }
+        ensures unstarted { self.now.started ≡ None → IsErr result }
     {
         let here = path_in(alloc, self.path()?, ".")?;
         names_in(&self.rt, alloc, &here)
@@ -117,7 +118,7 @@ impl<R: System> RealDisk<R> {
 
     // Settles the names in the folder.
     fn settle(&self) -> Result<(), DiskError>
-        ensures unstarted { self.now.holds ≡ false → IsErr result }
+        ensures unstarted { self.now.started ≡ None → IsErr result }
     {
         sync_folder(&self.rt, self.path()?)
     }
@@ -186,6 +187,8 @@ impl<R: System + Send> Disk for RealDisk<R> {
     ghost clock = { λ d. d.clock };
 
     ghost failed = { λ d. d.failed };
+
+    ghost started = { λ d. d.started };
 
     /// The folder is held until the disk is dropped. One that another disk holds is a fault, at once and with nothing read or changed. So is one that
     /// can't be made, locked or settled, and a second start. Parents are not made. A path may be a link to a folder.

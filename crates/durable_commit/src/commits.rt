@@ -21,6 +21,7 @@ fn settle<D: Disk, A: Annals>(disk: &mut D, annals: &mut A) -> Result<(), DiskEr
     ensures clock { OnOk result (D.clock disk.new ≡ D.clock disk.old + 1) }
     ensures clock_err { OnErr result (D.clock disk.new ≡ D.clock disk.old) }
     ensures told { D.told disk.new ≡ D.told disk.old }
+    ensures started { D.started disk.new ≡ D.started disk.old }
     ensures takes_none { IsErrOf result DiskError.NoMemory → ⊥ }
     ensures cause { HasDiskCause (D.failed disk.old) (D.failed disk.new) result }
 {
@@ -57,6 +58,7 @@ pub fn commit<D: Disk, A: Annals>(
     ensures sealed { ForSome sealed.files AreSealed }
     ensures left { OnErr result (MayPut (D.clock disk.old) name.now sealed.files (D.told disk.old) (D.told disk.new)) }
     ensures memory { IsErrOf result DiskError.NoMemory → D.told disk.new ≡ D.told disk.old }
+    ensures started { D.started disk.new ≡ D.started disk.old }
     ensures cause { HasStageCause sealed.failed (D.failed disk.old) (D.failed disk.new) result }
 {
     annals.begin(entry);

@@ -161,8 +161,13 @@ pub trait Disk: Drop + Send {
     /// How many calls have failed, those of given back arms and published stages included, as far as 64 bits count.
     ghost failed: { Self → ℕ };
 
+    /// The path of the folder that was started, and none before.
+    ghost started: { Self → Option (List ℕ) };
+
     /// Names the folder, and makes it where it is not there.
     fn start(&mut self, path: &str) -> Result<(), DiskError>
+        ensures started { OnOk result (started self.new ≡ Some path.now) }
+        ensures not_started { OnErr result (started self.new ≡ started self.old) }
         ensures told { told self.new ≡ told self.old }
         ensures clock { clock self.new ≡ clock self.old }
         ensures cause { HasDiskCause (failed self.old) (failed self.new) result };
@@ -173,12 +178,14 @@ pub trait Disk: Drop + Send {
         ensures none_failed { IfOk result (λ a. Self.Arm.failed a ≡ 0) }
         ensures told { told self.new ≡ told self.old }
         ensures clock { clock self.new ≡ clock self.old }
+        ensures started { started self.new ≡ started self.old }
         ensures cause { HasDiskCause (failed self.old) (failed self.new) result };
 
     /// Takes an arm back. Where a call of it had failed, the disk's count rises, and else it stays. Takes no memory.
     fn take_back(&mut self, arm: Self::Arm)
         ensures told { told self.new ≡ told self.old }
         ensures clock { clock self.new ≡ clock self.old }
+        ensures started { started self.new ≡ started self.old }
         ensures taken { 0 < Self.Arm.failed arm → Rose (failed self.old) (failed self.new) }
         ensures none_failed { Self.Arm.failed arm ≡ 0 → failed self.new ≡ failed self.old }
         ensures later { failed self.old ≤ failed self.new };
@@ -188,6 +195,7 @@ pub trait Disk: Drop + Send {
         ensures names { IfOk result (λ v. IfSome (told self.old) (λ t. v.items ≡ map (λ e. e.0) (names_of t))) }
         ensures told { told self.new ≡ told self.old }
         ensures clock { clock self.new ≡ clock self.old }
+        ensures started { started self.new ≡ started self.old }
         ensures cause { HasDiskCause (failed self.old) (failed self.new) result };
 
     /// The folder of a name that is there.
@@ -196,6 +204,7 @@ pub trait Disk: Drop + Send {
         ensures files { IfOk result (λ d. Self.Arm.Dir.files d ≡ option_and_then (λ t. files_at name.now (names_of t)) (told self.old)) }
         ensures told { told self.new ≡ told self.old }
         ensures clock { clock self.new ≡ clock self.old }
+        ensures started { started self.new ≡ started self.old }
         ensures cause { HasDiskCause (failed self.old) (failed self.new) result };
 
     /// Gives a stage a name that is not there. Where a call of the stage had failed, the disk's count rises.
@@ -213,6 +222,7 @@ pub trait Disk: Drop + Send {
         ensures fault { IsErrOf result DiskError.Fault → MayPut (clock self.old) name.now (Self.Arm.Stage.files stage) (told self.old) (told self.new) }
         ensures memory { IsErrOf result DiskError.NoMemory → told self.new ≡ told self.old }
         ensures clock { clock self.new ≡ clock self.old }
+        ensures started { started self.new ≡ started self.old }
         ensures taken { 0 < Self.Arm.Stage.failed stage → Rose (failed self.old) (failed self.new) }
         ensures cause { HasStageCause (Self.Arm.Stage.failed stage) (failed self.old) (failed self.new) result };
 
@@ -224,6 +234,7 @@ pub trait Disk: Drop + Send {
         ensures ok { OnOk result (told self.new ≡ cut (clock self.old) name.now (told self.old)) }
         ensures fault { OnErr result (MayCut (clock self.old) name.now (told self.old) (told self.new)) }
         ensures clock { clock self.new ≡ clock self.old }
+        ensures started { started self.new ≡ started self.old }
         ensures takes_none { IsErrOf result DiskError.NoMemory → ⊥ }
         ensures cause { HasDiskCause (failed self.old) (failed self.new) result };
 
@@ -235,6 +246,7 @@ pub trait Disk: Drop + Send {
         ensures told { told self.new ≡ told self.old }
         ensures clock { OnOk result (clock self.new ≡ clock self.old + 1) }
         ensures clock_err { OnErr result (clock self.new ≡ clock self.old) }
+        ensures started { started self.new ≡ started self.old }
         ensures last { clock self.old ≡ 2 ^ 64 - 1 → IsErr result }
         ensures takes_none { IsErrOf result DiskError.NoMemory → ⊥ }
         ensures cause { HasDiskCause (failed self.old) (failed self.new) result };

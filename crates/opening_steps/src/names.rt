@@ -37,6 +37,7 @@ pub fn settle<D: Disk>(disk: &mut D, texts: &[Name]) -> Result<(), DiskError>
     ensures mark { (D.clock disk.new ≡ D.clock disk.old) ⊎ (D.clock disk.new ≡ D.clock disk.old + 1) }
     ensures mark_err { OnErr result (D.clock disk.new ≡ D.clock disk.old) }
     ensures told { D.told disk.new ≡ D.told disk.old }
+    ensures started { D.started disk.new ≡ D.started disk.old }
     ensures cause { HasDiskCause (D.failed disk.old) (D.failed disk.new) result }
 {
     if texts.is_empty() {

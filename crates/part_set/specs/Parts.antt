@@ -1,5 +1,5 @@
 -- How the parts of one table stand to each other (docs/definitions.md, "Visible parts").
-use Rattle.std.specs.Prelude.{◌≡◌, ℕ, ◌+◌, ◌≤◌, ◌<◌, Bool, ◌==◌, ◌&&◌, ◌||◌, nat_lt, nat_le, List, length, map, IsTrue}
+use Rattle.std.specs.Prelude.{◌≡◌, ◌≢◌, ℕ, ◌+◌, ◌≤◌, ◌<◌, Bool, ◌==◌, ◌&&◌, ◌||◌, nat_lt, nat_le, List, length, map, IsTrue}
 use Rattle.std.specs.List.{All, AllPairs, Contains as HasItem, insert}
 use Rattle.mt_base.specs.declared.partition.Partition.{Partition}
 use Rattle.mt_base.specs.declared.partition.Partition.TheVariants.{Whole, Number}
@@ -47,8 +47,9 @@ pub record LiesBetween (first middle last : PartName) : Type 0 where
   pub above : first.max_block < middle.min_block
   pub below : middle.max_block < last.min_block
 
--- two parts of one partition, with none of these between their blocks
+-- two different parts of one partition, with none of these between their blocks
 pub record AreNeighbours {P : Type 0} (parts : List (Kept P)) (a b : PartName) : Type 0 where
+  pub different : a ≢ b
   pub partition : a.partition ≡ b.partition
   pub none : All (λ kept. LiesBetween a kept.name b → ⊥) parts
   pub none_back : All (λ kept. LiesBetween b kept.name a → ⊥) parts

@@ -48,13 +48,13 @@ impl<P> PartSet<P> {
         }
     }
 
-    /// Whether both parts are of one partition, and no kept part of the table lies between their blocks.
+    /// Whether these are two different parts of one partition, and no kept part of the table lies between their blocks.
     pub fn neighbours(&self, table: &Name, a: &PartName, b: &PartName) -> bool
         ensures { IsTrue result ↔ AreNeighbours (parts_of self.now table.now) a.now b.now }
     {
         match self.tables.get(table) {
             Some(parts) => parts.neighbours(a, b),
-            None => a.partition == b.partition,
+            None => a != b && a.partition == b.partition,
         }
     }
 }

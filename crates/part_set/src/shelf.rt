@@ -101,7 +101,7 @@ impl<P> TableParts<P> {
         has_name(self.parts.as_slice(), name)
     }
 
-    /// Whether both parts are of one partition, and none of these lies between their blocks.
+    /// Whether these are two different parts of one partition, and none of the kept ones lies between their blocks.
     pub fn neighbours(&self, a: &PartName, b: &PartName) -> bool
         ensures { IsTrue result ↔ AreNeighbours self.now.parts a.now b.now }
     {
@@ -109,11 +109,11 @@ impl<P> TableParts<P> {
     }
 }
 
-// Whether both parts are of one partition, and none of these lies between their blocks.
+// Whether these are two different parts of one partition, and none of the kept ones lies between their blocks.
 fn are_neighbours<P>(parts: &[Kept<P>], a: &PartName, b: &PartName) -> bool
     ensures { IsTrue result ↔ AreNeighbours parts.now a.now b.now }
 {
-    if a.partition != b.partition {
+    if a == b || a.partition != b.partition {
         return false;
     }
     for kept in parts {

@@ -239,6 +239,7 @@ pub fn commit_create<D: Disk, A: Annals>(
     requires below { store.old.opened < 2 ^ 64 - 1 }
     ensures cause { IsCause (refuses_create store.old create.table (D.failed disk.old)) (cause_of result) }
     ensures rose { IfErr result (λ r. r.cause ≡ Refused.Disk → Rose (D.failed disk.old) (D.failed disk.new)) }
+    ensures started { D.started disk.new ≡ D.started disk.old }
     ensures later { D.failed disk.old ≤ D.failed disk.new }
     ensures back { IfErr result (λ r. IfSome r.back (λ s. s ≡ sealed)) }
     ensures unpublished { IfErr result (λ r. IfSome r.back (λ _. disk.new ≡ disk.old)) }
@@ -376,6 +377,7 @@ pub fn commit_part<D: Disk, A: Annals>(
     requires below { store.old.opened < 2 ^ 64 - 1 }
     ensures cause { (t : Made) → table_at store.old table.now ≡ Some t → IsCause (refuses_part store.old table.now (partition_of_block t.schema block) t.drawn (D.failed disk.old)) (cause_of result) }
     ensures rose { IfErr result (λ r. r.cause ≡ Refused.Disk → Rose (D.failed disk.old) (D.failed disk.new)) }
+    ensures started { D.started disk.new ≡ D.started disk.old }
     ensures later { D.failed disk.old ≤ D.failed disk.new }
     ensures back { IfErr result (λ r. IfSome r.back (λ s. s ≡ part)) }
     ensures unpublished { IfErr result (λ r. IfSome r.back (λ _. disk.new ≡ disk.old)) }

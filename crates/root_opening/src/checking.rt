@@ -47,6 +47,7 @@ pub fn check_table<D: Disk>(
         → IfErr result (TellsFile (names_of told) text.now (λ files f. EntryDamaged (names_of told) table.now files × (f ≡ file.Entry))) }
     ensures told { D.told disk.new ≡ D.told disk.old }
     ensures clock { D.clock disk.new ≡ D.clock disk.old }
+    ensures started { D.started disk.new ≡ D.started disk.old }
     ensures tells { D.Arm.tells arm.new ≡ D.Arm.tells arm.old }
     ensures later { D.failed disk.old ≤ D.failed disk.new }
     ensures arm_later { D.Arm.failed arm.old ≤ D.Arm.failed arm.new }
@@ -78,6 +79,7 @@ pub fn check_table_part<D: Disk>(
     ensures damaged { (told : Told) → D.told disk.old ≡ Some told → IfErr result (TellsFile (names_of told) text.now (PartDamaged schema.now part.now)) }
     ensures told { D.told disk.new ≡ D.told disk.old }
     ensures clock { D.clock disk.new ≡ D.clock disk.old }
+    ensures started { D.started disk.new ≡ D.started disk.old }
     ensures tells { D.Arm.tells arm.new ≡ D.Arm.tells arm.old }
     ensures later { D.failed disk.old ≤ D.failed disk.new }
     ensures arm_later { D.Arm.failed arm.old ≤ D.Arm.failed arm.new }

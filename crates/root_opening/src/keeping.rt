@@ -51,6 +51,7 @@ fn keep_table<D: Disk>(
     ensures opened { store.new.opened ≡ store.old.opened }
     ensures told { D.told disk.new ≡ D.told disk.old }
     ensures clock { D.clock disk.new ≡ D.clock disk.old }
+    ensures started { D.started disk.new ≡ D.started disk.old }
     ensures tells { D.Arm.tells arm.new ≡ D.Arm.tells arm.old }
     ensures later { D.failed disk.old ≤ D.failed disk.new }
     ensures arm_later { D.Arm.failed arm.old ≤ D.Arm.failed arm.new }
@@ -84,6 +85,7 @@ fn keep_part<D: Disk>(
     ensures opened { store.new.opened ≡ store.old.opened }
     ensures told { D.told disk.new ≡ D.told disk.old }
     ensures clock { D.clock disk.new ≡ D.clock disk.old }
+    ensures started { D.started disk.new ≡ D.started disk.old }
     ensures tells { D.Arm.tells arm.new ≡ D.Arm.tells arm.old }
     ensures later { D.failed disk.old ≤ D.failed disk.new }
     ensures arm_later { D.Arm.failed arm.old ≤ D.Arm.failed arm.new }
@@ -121,6 +123,7 @@ fn keep_name<D: Disk>(
     ensures opened { store.new.opened ≡ store.old.opened }
     ensures told { D.told disk.new ≡ D.told disk.old }
     ensures clock { D.clock disk.new ≡ D.clock disk.old }
+    ensures started { D.started disk.new ≡ D.started disk.old }
     ensures tells { D.Arm.tells arm.new ≡ D.Arm.tells arm.old }
     ensures later { D.failed disk.old ≤ D.failed disk.new }
     ensures arm_later { D.Arm.failed arm.old ≤ D.Arm.failed arm.new }
@@ -157,6 +160,7 @@ fn keep_names<D: Disk>(
     ensures opened { IfOk result (λ store. store.opened ≡ opened) }
     ensures told { D.told disk.new ≡ D.told disk.old }
     ensures clock { D.clock disk.new ≡ D.clock disk.old }
+    ensures started { D.started disk.new ≡ D.started disk.old }
     ensures tells { D.Arm.tells arm.new ≡ D.Arm.tells arm.old }
     ensures later { D.failed disk.old ≤ D.failed disk.new }
     ensures arm_later { D.Arm.failed arm.old ≤ D.Arm.failed arm.new }
@@ -207,6 +211,7 @@ pub fn keep_root<D: Disk>(
     ensures opened { IfOk result (λ store. store.opened ≡ opened) }
     ensures told { D.told disk.new ≡ D.told disk.old }
     ensures clock { D.clock disk.new ≡ D.clock disk.old }
+    ensures started { D.started disk.new ≡ D.started disk.old }
     ensures tells { D.Arm.tells arm.new ≡ D.Arm.tells arm.old }
     ensures later { D.failed disk.old ≤ D.failed disk.new }
     ensures arm_later { D.Arm.failed arm.old ≤ D.Arm.failed arm.new }

@@ -175,6 +175,7 @@ pub fn open<D: Disk>(
     ensures names { (told : Told) → D.told disk.old ≡ Some told → IfOk result (λ store. NamesFit store told) }
     ensures opened { IfOk result (λ store. store.opened ≡ D.failed disk.old) }
     ensures told { D.told disk.new ≡ D.told disk.old }
+    ensures started { D.started disk.new ≡ D.started disk.old }
     ensures settled { (told : Told) → D.told disk.old ≡ Some told → names_of told ≢ [] → OnOk result (D.clock disk.new ≡ D.clock disk.old + 1) }
     ensures mark { (D.clock disk.new ≡ D.clock disk.old) ⊎ (D.clock disk.new ≡ D.clock disk.old + 1) }
     ensures crashes { (told : Told) (list : List Noted) → D.told disk.old ≡ Some told → AllStand told (D.clock disk.old) (entries_of list) → IsCrashSafe told (D.clock disk.new) (none_begun list) list (D.clock disk.old) }

@@ -11,3 +11,8 @@ begins_with_dash (b ∷ bs) = b == 45
 abbrev pub is_command : List (String Global) → Bool
 is_command (name ∷ option ∷ folder ∷ []) = same_bytes (string_bytes option) (codes "--path") && not (begins_with_dash (string_bytes folder))
 is_command words = false
+
+-- the path that a command line names: the bytes of the word that follows --path
+abbrev pub path_of : List (String Global) → List ℕ
+path_of (name ∷ option ∷ folder ∷ []) = string_bytes folder
+path_of words = []

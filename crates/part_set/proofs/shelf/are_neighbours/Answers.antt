@@ -1,4 +1,4 @@
-use Rattle.std.proofs.Common.{◌≡◌, ◌∙◌, sym, subst, refl, rules, take_all}
+use Rattle.std.proofs.Common.{◌≡◌, ◌≢◌, ◌∙◌, sym, subst, refl, rules, take_all}
 use Rattle.std.proofs.lemmas.Bool.{false≢true}
 use Rattle.std.proofs.lemmas.List.Elements.{All-more}
 use Rattle.part_set.specs.declared.kept.Kept.{Kept}
@@ -21,7 +21,8 @@ loop-kept-preserved g c =
 pub returns : goal.returns
 returns g c =
     let all = take_all c.loop-kept.kept-index c.args.parts.now c.loop-kept-test.false in
+    let different : c.args.a.now ≢ c.args.b.now = search rules in
     let same : c.args.a.now.partition ≡ c.args.b.now.partition = search rules in (
-      λ yes. record { partition = same; none = rw all at c.loop-kept.invariant.none; none_back = rw all at c.loop-kept.invariant.none_back },
+      λ yes. record { different = different; partition = same; none = rw all at c.loop-kept.invariant.none; none_back = rw all at c.loop-kept.invariant.none_back },
       λ near. refl,
     )

@@ -123,6 +123,9 @@ returns-in-Create-clause-opened g c = c.keep_table.ensures.opened
 pub returns-in-Create-clause-told : goal.returns-in-Create-clause-told
 returns-in-Create-clause-told g c = c.keep_table.ensures.told
 
+pub returns-in-Create-clause-started : goal.returns-in-Create-clause-started
+returns-in-Create-clause-started g c = c.keep_table.ensures.started
+
 pub returns-in-Create-clause-clock : goal.returns-in-Create-clause-clock
 returns-in-Create-clause-clock g c = c.keep_table.ensures.clock
 
@@ -143,6 +146,9 @@ returns-then-shows-clause-opened g c = c.keep_part.ensures.opened
 
 pub returns-then-shows-clause-told : goal.returns-then-shows-clause-told
 returns-then-shows-clause-told g c = c.keep_part.ensures.told
+
+pub returns-then-shows-clause-started : goal.returns-then-shows-clause-started
+returns-then-shows-clause-started g c = c.keep_part.ensures.started
 
 pub returns-then-shows-clause-clock : goal.returns-then-shows-clause-clock
 returns-then-shows-clause-clock g c = c.keep_part.ensures.clock
@@ -176,6 +182,9 @@ returns-else-shows-clause-opened g c = refl
 
 pub returns-else-shows-clause-told : goal.returns-else-shows-clause-told
 returns-else-shows-clause-told g c = refl
+
+pub returns-else-shows-clause-started : goal.returns-else-shows-clause-started
+returns-else-shows-clause-started g c = refl
 
 pub returns-else-shows-clause-clock : goal.returns-else-shows-clause-clock
 returns-else-shows-clause-clock g c = refl

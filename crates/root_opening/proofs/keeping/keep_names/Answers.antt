@@ -12,6 +12,7 @@ loop-place-init g c =
       keeps_told = λ told is. told_none c.args.root.now.names.items c.new-store.result files_of stands (names_of told);
       opened = c.new-store.ensures.opened;
       told = refl;
+      started = refl;
       clock = refl;
       tells = refl;
       count = refl;
@@ -25,6 +26,7 @@ loop-place-preserved g c = record {
   keeps_told = λ told is. c.in_ok-keep_name.ensures.keeps_told told (c.loop-place.invariant.told ∙ is) (c.loop-place.invariant.keeps_told told is);
   opened = c.in_ok-keep_name.ensures.opened ∙ c.loop-place.invariant.opened;
   told = c.in_ok-keep_name.ensures.told ∙ c.loop-place.invariant.told;
+  started = c.in_ok-keep_name.ensures.started ∙ c.loop-place.invariant.started;
   clock = c.in_ok-keep_name.ensures.clock ∙ c.loop-place.invariant.clock;
   tells = c.in_ok-keep_name.ensures.tells ∙ c.loop-place.invariant.tells;
   count = c.in_ok-keep_name.ensures.calm (λ fault. cc) ∙ c.loop-place.invariant.count;
@@ -34,6 +36,9 @@ loop-place-preserved g c = record {
 -- what the disk tells stays
 pub returns-in_err-keep_name-clause-told : goal.returns-in_err-keep_name-clause-told
 returns-in_err-keep_name-clause-told g c = c.in_err-keep_name.ensures.told ∙ c.loop-place.invariant.told
+
+pub returns-in_err-keep_name-clause-started : goal.returns-in_err-keep_name-clause-started
+returns-in_err-keep_name-clause-started g c = c.in_err-keep_name.ensures.started ∙ c.loop-place.invariant.started
 
 pub returns-in_err-keep_name-clause-clock : goal.returns-in_err-keep_name-clause-clock
 returns-in_err-keep_name-clause-clock g c = c.in_err-keep_name.ensures.clock ∙ c.loop-place.invariant.clock
@@ -55,6 +60,9 @@ returns-clause-opened g c = c.loop-place.invariant.opened
 
 pub returns-clause-told : goal.returns-clause-told
 returns-clause-told g c = c.loop-place.invariant.told
+
+pub returns-clause-started : goal.returns-clause-started
+returns-clause-started g c = c.loop-place.invariant.started
 
 pub returns-clause-clock : goal.returns-clause-clock
 returns-clause-clock g c = c.loop-place.invariant.clock

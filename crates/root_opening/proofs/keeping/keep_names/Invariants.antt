@@ -10,6 +10,7 @@ invariant-loop-place g l = record {
   keeps_told : (told : Told) → g.D.Disk.told l.initial.disk ≡ Some told → KeepsTold g.D.Arm.Dir.Dir.files (names_of told) l.root.names.items (take l.place l.root.names.items) l.store;
   opened : l.store.opened ≡ l.opened;
   told : g.D.Disk.told l.disk ≡ g.D.Disk.told l.initial.disk;
+  started : g.D.Disk.started l.disk ≡ g.D.Disk.started l.initial.disk;
   clock : g.D.Disk.clock l.disk ≡ g.D.Disk.clock l.initial.disk;
   tells : g.D.Arm.Arm.tells l.arm ≡ g.D.Arm.Arm.tells l.initial.arm;
   count : g.D.Disk.failed l.disk ≡ g.D.Disk.failed l.initial.disk;

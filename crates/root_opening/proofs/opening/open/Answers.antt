@@ -99,6 +99,9 @@ returns-in_err-list-clause-arm_later g c = le_refl _
 pub returns-in_err-list-clause-told : goal.returns-in_err-list-clause-told
 returns-in_err-list-clause-told g c = c.in_err-list.ensures.told
 
+pub returns-in_err-list-clause-started : goal.returns-in_err-list-clause-started
+returns-in_err-list-clause-started g c = c.in_err-list.ensures.started
+
 pub returns-in_err-list-clause-later : goal.returns-in_err-list-clause-later
 returns-in_err-list-clause-later g c = c.in_err-list.ensures.cause.later
 
@@ -113,6 +116,9 @@ returns-in_err-root-clause-arm_later g c = le_refl _
 
 pub returns-in_err-root-clause-told : goal.returns-in_err-root-clause-told
 returns-in_err-root-clause-told g c = c.in_ok-list.ensures.told
+
+pub returns-in_err-root-clause-started : goal.returns-in_err-root-clause-started
+returns-in_err-root-clause-started g c = c.in_ok-list.ensures.started
 
 pub returns-in_err-root-clause-later : goal.returns-in_err-root-clause-later
 returns-in_err-root-clause-later g c = c.in_ok-list.ensures.cause.later
@@ -129,6 +135,9 @@ returns-in_err-store-clause-arm_later g c = c.in_err-store.ensures.arm_later
 pub returns-in_err-store-clause-told : goal.returns-in_err-store-clause-told
 returns-in_err-store-clause-told g c = c.in_err-store.ensures.told ∙ c.in_ok-list.ensures.told
 
+pub returns-in_err-store-clause-started : goal.returns-in_err-store-clause-started
+returns-in_err-store-clause-started g c = c.in_err-store.ensures.started ∙ c.in_ok-list.ensures.started
+
 pub returns-in_err-store-clause-later : goal.returns-in_err-store-clause-later
 returns-in_err-store-clause-later g c = le_trans c.in_ok-list.ensures.cause.later c.in_err-store.ensures.later
 
@@ -144,6 +153,9 @@ returns-in_err-settle-clause-arm_later g c = c.in_ok-store.ensures.arm_later
 pub returns-in_err-settle-clause-told : goal.returns-in_err-settle-clause-told
 returns-in_err-settle-clause-told g c = c.in_err-settle.ensures.told ∙ (c.in_ok-store.ensures.told ∙ c.in_ok-list.ensures.told)
 
+pub returns-in_err-settle-clause-started : goal.returns-in_err-settle-clause-started
+returns-in_err-settle-clause-started g c = c.in_err-settle.ensures.started ∙ (c.in_ok-store.ensures.started ∙ c.in_ok-list.ensures.started)
+
 pub returns-in_err-settle-clause-later : goal.returns-in_err-settle-clause-later
 returns-in_err-settle-clause-later g c = le_trans (le_trans c.in_ok-list.ensures.cause.later c.in_ok-store.ensures.later) c.in_err-settle.ensures.cause.later
 
@@ -158,6 +170,9 @@ returns-clause-arm_later g c = c.in_ok-store.ensures.arm_later
 
 pub returns-clause-told : goal.returns-clause-told
 returns-clause-told g c = c.in_ok-settle.ensures.told ∙ (c.in_ok-store.ensures.told ∙ c.in_ok-list.ensures.told)
+
+pub returns-clause-started : goal.returns-clause-started
+returns-clause-started g c = c.in_ok-settle.ensures.started ∙ (c.in_ok-store.ensures.started ∙ c.in_ok-list.ensures.started)
 
 pub returns-clause-later : goal.returns-clause-later
 returns-clause-later g c = le_trans (le_trans c.in_ok-list.ensures.cause.later c.in_ok-store.ensures.later) c.in_ok-settle.ensures.cause.later
