@@ -87,6 +87,21 @@ module _ {F : Type 0} (files_of : F → Option Files) (h : History) (old new : C
   holds : Holds t.schema kept rows
   holds = written_holds files_of t.schema a.part rows is.files (a.files_are ∙ is.sealed_are) (ap (λ (l : Loaded). l.manifest) a.loaded_is ∙ is.loaded_is) is.holds
 
+  -- the parts of the table with their rows: those that it had, and the new one in its place
+  pub parts_inserted : (rs : List (List Row)) → AllZip (Holds t.schema) (parts_of old.set table) rs
+      → core_parts table (parts_of new.set table) (insert rs a.enters.added.place rows)
+      ≡ insert (core_parts table (parts_of old.set table) rs) a.enters.added.place (part_of_insert t.schema (length (numbered table h) + 1) i)
+  parts_inserted rs hold =
+      let ks = parts_of old.set table in
+      let n = a.enters.added.place in
+      ap (λ (l : List (Kept (Part F))). core_parts table l (insert rs n rows)) a.enters.added.is
+      ∙ (core_insert (Holds t.schema) table ks rs n kept rows hold ∙ ap (insert (core_parts table ks rs) n) new_part)
+
+  pub hold_inserted : (rs : List (List Row)) → AllZip (Holds t.schema) (parts_of old.set table) rs → AllZip (Holds t.schema) (parts_of new.set table) (insert rs a.enters.added.place rows)
+  hold_inserted rs hold =
+      let n = a.enters.added.place in
+      subst (λ (l : List (Kept (Part F))). AllZip (Holds t.schema) l (insert rs n rows)) (sym a.enters.added.is) (zip_insert (Holds t.schema) (parts_of old.set table) rs n kept rows hold holds)
+
   -- the table has one part more
   grown_there : PartsAreThere files_of h old table t.schema → PartsAreThere files_of (h ++ e ∷ []) new table t.schema
   grown_there p =
@@ -94,13 +109,10 @@ module _ {F : Type 0} (files_of : F → Option Files) (h : History) (old new : C
       let n = a.enters.added.place in
       let all = insert p.rows n rows in
       let new_one = part_of_insert t.schema (length (numbered table h) + 1) i in
-      let parts : core_parts table (parts_of new.set table) all ≡ insert (core_parts table ks p.rows) n new_one =
-      ap (λ (l : List (Kept (Part F))). core_parts table l all) a.enters.added.is
-      ∙ (core_insert (Holds t.schema) table ks p.rows n kept rows p.hold ∙ ap (insert (core_parts table ks p.rows) n) new_part) in
       record {
         rows = all;
-        hold = subst (λ (l : List (Kept (Part F))). AllZip (Holds t.schema) l all) (sym a.enters.added.is) (zip_insert (Holds t.schema) ks p.rows n kept rows p.hold holds);
-        stand = subst (λ (ps : List CorePart). TableStands table ps (h ++ e ∷ [])) (sym parts)
+        hold = hold_inserted p.rows p.hold;
+        stand = subst (λ (ps : List CorePart). TableStands table ps (h ++ e ∷ [])) (sym (parts_inserted p.rows p.hold))
             (table_moved table (core_parts table ks p.rows) n new_one (h ++ e ∷ []) (table_grown h e i t.schema refl known (core_parts table ks p.rows) p.stand));
         order = core_order table (parts_of new.set table) all a.enters.ordered;
       }

@@ -1,3 +1,4 @@
+pub mod Accepted
 pub mod Added
 pub mod CrashCommits
 pub mod CrashImages

@@ -1,2 +1,3 @@
 pub mod Commits
+pub mod Events
 pub mod Images

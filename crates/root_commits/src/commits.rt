@@ -19,12 +19,16 @@ ghost use Rattle.mt_values.specs.Tables.{same_partition};
 ghost use Rattle.durable_commit.specs.Commits.{IsOutside, Notes, SameList, entry_of};
 ghost use Rattle.root_store.specs.Stores.{fresh_table};
 ghost use Rattle.root_commits.specs.Commits.{EntersSealed, EntersTable, IsCause, SameStore, cause_of, fresh_part, IsSealedOf, insert_into, insert_of_block, kept_in, partition_of_block, refuses_create, refuses_part};
+ghost use Rattle.root_commits.specs.Events.{IsAccepted, accept_of_block};
 ghost use Rattle.root_commits.specs.Images.{LeavesEither, LeavesOne};
+ghost use Rattle.root_store.specs.Cores.{ShowsCore};
 ghost use Rattle.root_store.specs.Crashes.{KeepsThroughCrashes, Storage};
 ghost use Rattle.root_store.specs.Entries.{EntryHolds};
 ghost use Rattle.root_store.specs.Soundness.{HasSoundParts, IsSound, NamesFitUnlessRisen, RootStands};
 ghost use Rattle.root_store.specs.Stores.{CoreStands, table_at};
 ghost use Rattle.root_store.specs.declared.store.Table.{Table as Made};
+ghost use Rattle.table_core.specs.declared.event.Accept.TheVariants as accept;
+ghost use Rattle.table_core.specs.Core.{Core};
 
 use durable_commit::{Limit, Refused, commit, refuse_stopped, take_out};
 use mt_base::{NUMBER_LIMIT, NoMemory, PART_LIMIT, Partition, TABLE_LIMIT, Twin};
@@ -256,6 +260,10 @@ pub fn commit_create<D: Disk, A: Annals>(
     ensures annals { OnOk result (Notes (D.clock disk.new) (entry_of session (command.Create create)) (A.told annals.old) (A.told annals.new)) }
     ensures enters { OnOk result (EntersTable create.table create.schema store.old store.new) }
     ensures stands { (h : History) → CoreStands D.Arm.Dir.files h store.old → OnOk result (CoreStands D.Arm.Dir.files (entered h session (command.Create create ∷ [])) store.new) }
+    ensures event { (core : Core) → ShowsCore D.Arm.Dir.files store.old core
+        → OnOk result (IsAccepted D.Arm.Dir.files core (accept.Create session create) store.new) }
+    ensures no_event { (core : Core) → ShowsCore D.Arm.Dir.files store.old core
+        → OnErr result (ShowsCore D.Arm.Dir.files store.new core) }
     ensures root_stands { (h : History) (files : Files) → CoreStands D.Arm.Dir.files h store.old → RootStands (D.told disk.old) h
         → sealed.files ≡ Some files → EntryHolds create.table create.schema files → OnOk result (RootStands (D.told disk.new) (entered h session (command.Create create ∷ []))) }
     ensures images { (h : History) (files : Files) → sealed.files ≡ Some files → EntryHolds create.table create.schema files
@@ -399,6 +407,11 @@ pub fn commit_part<D: Disk, A: Annals>(
     ensures enters { (t : Made) → table_at store.old table.now ≡ Some t → OnOk result (EntersSealed D.Arm.Dir.files part.sealed.files part.loaded table.now (partition_of_block t.schema block) t store.old store.new) }
     ensures stands { (h : History) (t : Made) → CoreStands D.Arm.Dir.files h store.old → table_at store.old table.now ≡ Some t → IsSealedOf t.schema block part.sealed.files part.loaded
         → OnOk result (CoreStands D.Arm.Dir.files (entered h session (insert_of_block table.now (partition_of_block t.schema block) block ∷ [])) store.new) }
+    ensures event { (core : Core) (t : Made) → ShowsCore D.Arm.Dir.files store.old core
+        → table_at store.old table.now ≡ Some t → IsSealedOf t.schema block part.sealed.files part.loaded
+        → OnOk result (IsAccepted D.Arm.Dir.files core (accept_of_block session table.now t.schema block) store.new) }
+    ensures no_event { (core : Core) → ShowsCore D.Arm.Dir.files store.old core
+        → OnErr result (ShowsCore D.Arm.Dir.files store.new core) }
     ensures root_stands { (h : History) (t : Made) → CoreStands D.Arm.Dir.files h store.old → RootStands (D.told disk.old) h
         → table_at store.old table.now ≡ Some t → IsSealedOf t.schema block part.sealed.files part.loaded
         → OnOk result (RootStands (D.told disk.new) (entered h session (insert_of_block table.now (partition_of_block t.schema block) block ∷ []))) }

@@ -9,6 +9,7 @@ ghost use Rattle.mt_outside.specs.Disk.{Names, Told, names_of};
 ghost use Rattle.mt_model.specs.History.{History};
 ghost use Rattle.part_set.specs.NameOrder.{Rise};
 ghost use Rattle.root_store.specs.ByteOrder.{AreInByteOrder};
+ghost use Rattle.root_store.specs.Cores.{ShowsCoreOf};
 ghost use Rattle.root_store.specs.Crashes.{AllStand, IsCrashSafe, entries_of, none_begun};
 ghost use Rattle.root_store.specs.Damage.{most_tables};
 ghost use Rattle.root_opening.specs.Keeping.{IsBadNameAt, IsDamageOfSet, IsNamedRoot, PlacesWithin};
@@ -168,6 +169,8 @@ pub fn open<D: Disk>(
 ) -> Result<CoreStore<<D::Arm as Arm>::Dir>, OpenFault>
     ensures store { (told : Told) → D.told disk.old ≡ Some told → IfOk result (StoreOf D.Arm.Dir.files (names_of told)) }
     ensures stands { (told : Told) (h : History) → D.told disk.old ≡ Some told → Stands (names_of told) h → MatchResult result (CoreStands D.Arm.Dir.files h) IsNotDamaged }
+    ensures core { (told : Told) (h : History) → D.told disk.old ≡ Some told → Stands (names_of told) h
+        → IfOk result (ShowsCoreOf D.Arm.Dir.files h) }
     ensures damaged { (told : Told) → D.told disk.old ≡ Some told → IfErr result (TellsDamage (names_of told)) }
     ensures exact { (told : Told) (damage : Damage) → D.told disk.old ≡ Some told → IsRootDamage (names_of told) damage → OnOk result ⊥ }
     ensures sound { IfOk result IsSound }

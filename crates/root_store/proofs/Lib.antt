@@ -1,5 +1,6 @@
 pub mod Blocks
 pub mod Clear
+pub mod Cores
 pub mod Counted
 pub mod CrashMarks
 pub mod CrashOrder

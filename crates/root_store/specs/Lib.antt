@@ -1,4 +1,5 @@
 pub mod ByteOrder
+pub mod Cores
 pub mod Crashes
 pub mod Damage
 pub mod Entries

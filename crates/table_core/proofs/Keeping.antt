@@ -24,6 +24,7 @@ use Rattle.mt_values.specs.Values.{Row}
 use Rattle.mt_values.proofs.Grids.{filter_map_more}
 use Rattle.mt_model.specs.History.{History, IsAllowed, IsInsertInto, IsLegal, IsLegalAfter, IsTableSchema, creates, entered, first_of, is_create, schema_by, schema_of}
 use Rattle.mt_model.specs.Live.{sorted}
+use Rattle.mt_model.proofs.Commands.{own_partition}
 use Rattle.mt_model.proofs.Determined.{key_total}
 use Rattle.mt_model.proofs.Histories.{numbered_more, schema_kept, schema_more}
 use Rattle.mt_model.proofs.SameKeys.{stable_is_sorted}
@@ -34,12 +35,13 @@ use Rattle.table_core.specs.declared.store.Store.{Store}
 use Rattle.table_core.specs.declared.store.Table.{Table}
 use Rattle.table_core.specs.Core.{Core, IsCore}
 use Rattle.mt_model.specs.Numbers.{draws, numbered}
-use Rattle.part_history.specs.Parts.{parts_of}
+use Rattle.part_history.specs.Parts.{AreInBlockOrder, parts_of}
 use Rattle.part_history.specs.Entered.{part_of_insert}
 use Rattle.table_core.specs.Steps.{AcceptsInsert, AddsPart, snapshot_of}
 use Rattle.table_core.specs.Store.{AddsTable, IsNotNamed, IsStore, Named, SameStore, StandsAt, TableKept, core_of, empty_table, name_by, parts_in, table_names, with_part}
 use Rattle.part_history.proofs.Growing.{drawn_apart, drawn_here}
-use Rattle.table_core.proofs.Stepping.{create_core, insert_core, take_core}
+use Rattle.part_history.proofs.Ordered.{order_grown}
+use Rattle.table_core.proofs.Stepping.{create_core, insert_core, parts_last, take_core}
 use Rattle.table_core.proofs.Stored.{one_value, same_turned, set_here, slice_here}
 
 -- ---- histories
@@ -105,7 +107,7 @@ none_after t before (e ∷ h) legal none = by e.command refl legal.0 (none_after
         named false apart = rest
 
 -- without its table no command drew a number
-none_numbered : (t : List ℕ) (h : History) → IsLegal h → schema_of t h ≡ None → numbered t h ≡ []
+pub none_numbered : (t : List ℕ) (h : History) → IsLegal h → schema_of t h ≡ None → numbered t h ≡ []
 none_numbered t h legal none = none_after t [] h legal none
 
 -- ---- what the tables say of the history
@@ -172,12 +174,12 @@ module _ (store : Store) (is : IsStore store) where
 abbrev OwnParts : Named → Type 0
 OwnParts t = All (λ (p : CorePart). p.table ≡ t.0.items) t.1.parts
 
-others_none : (table own : List ℕ) (ps : List CorePart) → same_bytes own table ≡ false → AllByRecursion (λ (p : CorePart). p.table ≡ own) ps → parts_of table ps ≡ []
+pub others_none : (table own : List ℕ) (ps : List CorePart) → same_bytes own table ≡ false → AllByRecursion (λ (p : CorePart). p.table ≡ own) ps → parts_of table ps ≡ []
 others_none table own [] apart all = refl
 others_none table own (p ∷ ps) apart all =
     ap (λ b. cond b (p ∷ parts_of table ps) (parts_of table ps)) (ap (λ (u : List ℕ). same_bytes u table) all.0 ∙ apart) ∙ others_none table own ps apart all.1
 
-own_all : (table : List ℕ) (ps : List CorePart) → AllByRecursion (λ (p : CorePart). p.table ≡ table) ps → parts_of table ps ≡ ps
+pub own_all : (table : List ℕ) (ps : List CorePart) → AllByRecursion (λ (p : CorePart). p.table ≡ table) ps → parts_of table ps ≡ ps
 own_all table [] all = refl
 own_all table (p ∷ ps) all =
     ap (λ b. cond b (p ∷ parts_of table ps) (parts_of table ps)) (ap (λ (u : List ℕ). same_bytes u table) all.0 ∙ itself_same table) ∙ ap (λ (qs : List CorePart). p ∷ qs) (own_all table ps all.1)
@@ -284,24 +286,38 @@ module _ (old new : Store) (session : ℕ) (i : Insert) (place number : ℕ) (is
       tables
       ∙ (ap₂ (λ (ts : List Named) (k : ℕ). set_value_at ts k (with_part s.here.1 part number)) s.tables_are s.place_is ∙ set_here s.front s.back s.here (with_part s.here.1 part number))
 
-  adds_part : AddsPart part (parts_in old.tables.entries) (parts_in new.tables.entries)
-  adds_part = record {
-    front = parts_in s.front ++ s.here.1.parts;
-    behind = parts_in s.back;
-    old_is = ap parts_in s.tables_are ∙ (flat_map-append (λ (t : Named). t.1.parts) s.front (s.here ∷ s.back) ∙ sym (append_assoc (parts_in s.front) s.here.1.parts (parts_in s.back)));
-    new_is = ap parts_in tables_now
-        ∙ (flat_map-append (λ (t : Named). t.1.parts) s.front (grown ∷ s.back)
-        ∙ (ap (λ (ps : List CorePart). parts_in s.front ++ ps) (append_assoc s.here.1.parts (part ∷ []) (parts_in s.back)) ∙ sym (append_assoc (parts_in s.front) s.here.1.parts (part ∷ parts_in s.back))));
-    last = parts_apart i.table old.entries.items s.back s.behind (kept_back old is i.table place s);
-  }
+  abbrev before : List CorePart
+  before = parts_in s.front ++ s.here.1.parts
 
-  pub insert_accepted : AcceptsInsert (core_of old) session i (length old.entries.items + 1) (core_of new)
-  insert_accepted = record {
+  old_are : parts_in old.tables.entries ≡ before ++ parts_in s.back
+  old_are = ap parts_in s.tables_are ∙ (flat_map-append (λ (t : Named). t.1.parts) s.front (s.here ∷ s.back) ∙ sym (append_assoc (parts_in s.front) s.here.1.parts (parts_in s.back)))
+
+  new_are : parts_in new.tables.entries ≡ before ++ part ∷ parts_in s.back
+  new_are =
+      ap parts_in tables_now
+      ∙ (flat_map-append (λ (t : Named). t.1.parts) s.front (grown ∷ s.back)
+      ∙ (ap (λ (ps : List CorePart). parts_in s.front ++ ps) (append_assoc s.here.1.parts (part ∷ []) (parts_in s.back)) ∙ sym (append_assoc (parts_in s.front) s.here.1.parts (part ∷ parts_in s.back))))
+
+  -- the part is the last of its table, and that is its place
+  ordered : IsInsertInto s.here.1.schema i → AreInBlockOrder (parts_of i.table (parts_in new.tables.entries))
+  ordered into =
+      let h = old.entries.items in
+      let mine = parts_of i.table (parts_in old.tables.entries) in
+      let last = parts_apart i.table h s.back s.behind (kept_back old is i.table place s) in
+      subst AreInBlockOrder (sym (parts_last part before (parts_in s.back) (parts_in old.tables.entries) (parts_in new.tables.entries) old_are new_are last))
+      (subst (λ n. AreInBlockOrder (mine ++ part_of_insert s.here.1.schema n i ∷ [])) (sym drawn)
+      (order_grown h i s.here.1.schema mine is.core.legal (own_partition s.here.1.schema i into) (is.core.parts i.table) (is.core.order i.table)))
+
+  adds_part : IsInsertInto s.here.1.schema i → AddsPart part (parts_in old.tables.entries) (parts_in new.tables.entries)
+  adds_part into = record { front = before; behind = parts_in s.back; old_is = old_are; new_is = new_are; order = ordered into }
+
+  pub insert_accepted : IsInsertInto s.here.1.schema i → AcceptsInsert (core_of old) session i (length old.entries.items + 1) (core_of new)
+  insert_accepted into = record {
     schema = s.here.1.schema;
     there = schema_here old is i.table place s;
     room = omega (arith, drawn, fits);
     place_is = refl;
-    parts = subst (λ n. AddsPart (part_of_insert s.here.1.schema n i) (parts_in old.tables.entries) (parts_in new.tables.entries)) drawn adds_part;
+    parts = subst (λ n. AddsPart (part_of_insert s.here.1.schema n i) (parts_in old.tables.entries) (parts_in new.tables.entries)) drawn (adds_part into);
     history = entries;
     snapshots = snapshots;
   }
@@ -336,7 +352,7 @@ module _ (old new : Store) (session : ℕ) (i : Insert) (place number : ℕ) (is
       let all : AllByRecursion (TableKept (h ++ e ∷ [])) (s.front ++ grown ∷ s.back) =
       all_both (TableKept (h ++ e ∷ [])) s.front (grown ∷ s.back) (others_still s.front s.before (kept_front old is i.table place s)) (grown_kept, others_still s.back s.behind (kept_back old is i.table place s)) in
       record {
-        core = insert_core (core_of old) (core_of new) session i (length h + 1) is.core insert_accepted into;
+        core = insert_core (core_of old) (core_of new) session i (length h + 1) is.core (insert_accepted into) into;
         names = ap (map name) tables_now
             ∙ (map-append name s.front (grown ∷ s.back)
             ∙ (sym (map-append name s.front (s.here ∷ s.back))

@@ -1,7 +1,6 @@
 -- What each event gives, and the state that it leaves (docs/definitions.md, "The core").
 use Rattle.std.specs.Prelude.{◌≡◌, ◌+◌, ◌<◌, ◌≤◌, ℕ, true, false, List, [], ◌∷◌, ◌++◌, Some, None, IsSome, length, slice_get, take}
 use Rattle.mt_base.specs.Limits.{number_limit, root_table_limit}
-use Rattle.mt_values.specs.declared.command.Command.{Command}
 use Rattle.mt_values.specs.declared.command.Command.TheVariants as command
 use Rattle.mt_values.specs.declared.command.Create.{Create}
 use Rattle.mt_values.specs.declared.command.Insert.{Insert}
@@ -23,7 +22,7 @@ use Rattle.part_history.specs.declared.part.CorePart.{CorePart}
 use Rattle.table_core.specs.declared.snapshot.Snapshot.{Snapshot}
 use Rattle.table_core.specs.Core.{Core}
 use Rattle.part_history.specs.Entered.{next_number, part_of_insert}
-use Rattle.part_history.specs.Parts.{parts_of, rows_of_parts}
+use Rattle.part_history.specs.Parts.{AreInBlockOrder, parts_of, rows_of_parts}
 
 -- an accept may come: a CREATE has a schema that a table may have, an INSERT has rows of its table, where there is the table (docs/definitions.md, "The core")
 abbrev pub MayAccept : History → Accept → Type 0
@@ -42,13 +41,13 @@ MayCome h (event.TakeSnapshot table) = Unit {0}
 MayCome h (event.ReadSnapshot number) = Unit {0}
 MayCome h (event.Crash c) = MayCrash h c
 
--- one part more, behind all others of its table; the others stay as they were (docs/definitions.md, "The core")
+-- one part more, in its place in block order among those of its table; the others stay as they were (docs/definitions.md, "The core")
 pub record AddsPart (part : CorePart) (old new : List CorePart) : Type 0 where
   pub front : List CorePart
   pub behind : List CorePart
   pub old_is : old ≡ front ++ behind
   pub new_is : new ≡ front ++ part ∷ behind
-  pub last : parts_of part.table behind ≡ []
+  pub order : AreInBlockOrder (parts_of part.table new)
 
 -- a CREATE: accepted, or refused since there is the table, or else since there are 65,536 (docs/definitions.md, "The core")
 abbrev pub CreateGives : Core → ℕ → Create → Outcome → Core → Type 0
@@ -59,7 +58,7 @@ CreateGives old session c (outcome.Refused guard.TableExists) new = IsSome (sche
 CreateGives old session c (outcome.Refused guard.Creates) new = (schema_of c.table old.history ≡ None) × (root_table_limit ≤ creates old.history) × (new ≡ old)
 CreateGives old session c given new = ⊥
 
--- an INSERT that is accepted: its entry comes behind the others, and its part behind those of its table
+-- an INSERT that is accepted: its entry comes after the others, and its part in its place among those of its table
 pub record AcceptsInsert (old : Core) (session : ℕ) (i : Insert) (place : ℕ) (new : Core) : Type 0 where
   pub schema : Schema
   pub there : schema_of i.table old.history ≡ Some schema

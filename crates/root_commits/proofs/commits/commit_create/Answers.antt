@@ -11,6 +11,7 @@ use Rattle.root_commits.specs.Commits.{refuses_create}
 use Rattle.root_store.specs.Crashes.{Storage, entries_of}
 use Rattle.root_store.specs.Soundness.{NamesFit}
 use Rattle.root_store.specs.Stores.{table_at}
+use Rattle.root_commits.proofs.Accepted.{create_accepted, shows_same}
 use Rattle.root_commits.proofs.CrashCommits.{grows_by_table}
 use Rattle.root_commits.proofs.CrashImages.{either_committed, either_failed, either_same, one_committed, one_same}
 use Rattle.root_commits.proofs.CrashTurns.{kept_committed, kept_failed, kept_untouched, unrisen}
@@ -459,3 +460,29 @@ returns-in-Ok-commit-clause-published g c = tt
 
 pub returns-in-Ok-commit-clause-opened : goal.returns-in-Ok-commit-clause-opened
 returns-in-Ok-commit-clause-opened g c = refl
+
+-- which event of the core it was
+pub returns-in-Some-clause-event : goal.returns-in-Some-clause-event
+returns-in-Some-clause-event g c = λ core s. tt
+
+pub returns-in-Some-clause-no_event : goal.returns-in-Some-clause-no_event
+returns-in-Some-clause-no_event g c = λ core s. s
+
+pub returns-in-Err-clause-event : goal.returns-in-Err-clause-event
+returns-in-Err-clause-event g c = λ core s. tt
+
+pub returns-in-Err-clause-no_event : goal.returns-in-Err-clause-no_event
+returns-in-Err-clause-no_event g c = λ core s. shows_same g.D.Arm.Dir.Dir.files core c.args.store.now _ (returns-in-Err-clause-same g c) s
+
+pub returns-clause-event : goal.returns-clause-event
+returns-clause-event g c = λ core s. tt
+
+pub returns-clause-no_event : goal.returns-clause-no_event
+returns-clause-no_event g c = λ core s. shows_same g.D.Arm.Dir.Dir.files core c.args.store.now _ (returns-clause-same g c) s
+
+pub returns-in-Ok-commit-clause-event : goal.returns-in-Ok-commit-clause-event
+returns-in-Ok-commit-clause-event g c = λ core s.
+    create_accepted g.D.Arm.Dir.Dir.files core c.args.store.now _ c.args.session c.args.create s (returns-in-Ok-commit-clause-enters g c) c.requires.schema (few g c)
+
+pub returns-in-Ok-commit-clause-no_event : goal.returns-in-Ok-commit-clause-no_event
+returns-in-Ok-commit-clause-no_event g c = λ core s. tt

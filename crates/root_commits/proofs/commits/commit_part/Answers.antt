@@ -24,6 +24,8 @@ use Rattle.root_commits.specs.Commits.{EntersPart, EntersSealed, IsCause, IsSeal
 use Rattle.root_store.specs.Crashes.{Storage, entries_of}
 use Rattle.root_store.specs.Soundness.{NamesFit}
 use Rattle.root_store.specs.Stores.{table_at}
+use Rattle.root_commits.specs.Events.{IsAccepted, accept_of_block}
+use Rattle.root_commits.proofs.Accepted.{insert_accepted, shows_same}
 use Rattle.root_commits.proofs.CrashCommits.{grows_by_part}
 use Rattle.root_commits.proofs.CrashImages.{either_committed, either_failed, either_same, one_committed, one_same}
 use Rattle.root_commits.proofs.CrashTurns.{kept_committed, kept_failed, kept_untouched, unrisen}
@@ -551,3 +553,36 @@ returns-clause-calm g c = λ none. tt
 
 pub returns-clause-published : goal.returns-clause-published
 returns-clause-published g c = λ t at. tt
+
+-- which event of the core it was
+pub returns-in-Some-clause-event : goal.returns-in-Some-clause-event
+returns-in-Some-clause-event g c = λ core t s at is. tt
+
+pub returns-in-Some-clause-no_event : goal.returns-in-Some-clause-no_event
+returns-in-Some-clause-no_event g c = λ core s. s
+
+pub returns-in-Err-clause-event : goal.returns-in-Err-clause-event
+returns-in-Err-clause-event g c = λ core t s at is. tt
+
+pub returns-in-Err-clause-no_event : goal.returns-in-Err-clause-no_event
+returns-in-Err-clause-no_event g c = λ core s.
+    shows_same g.D.Arm.Dir.Dir.files core c.args.store.now _ (record { tables = refl; parts = c.in-Err.ensures.parts; length_is = refl; opened_is = refl }) s
+
+pub returns-in-Err-commit-clause-event : goal.returns-in-Err-commit-clause-event
+returns-in-Err-commit-clause-event g c = λ core t s at is. tt
+
+pub returns-in-Err-commit-clause-no_event : goal.returns-in-Err-commit-clause-no_event
+returns-in-Err-commit-clause-no_event g c = λ core s.
+    shows_same g.D.Arm.Dir.Dir.files core c.args.store.now _ (record { tables = refl; parts = c.in-Ok.ensures.parts; length_is = refl; opened_is = refl }) s
+
+pub returns-clause-event : goal.returns-clause-event
+returns-clause-event g c = λ core u s at is.
+    let read : Table = c.index-found.result.now in
+    let here : IsSealedOf read.schema c.args.block c.args.part.sealed.files c.args.part.loaded =
+    subst (λ (x : Table). IsSealedOf x.schema c.args.block c.args.part.sealed.files c.args.part.loaded) (sym (same g c u at)) is in
+    subst (λ (x : Table). IsAccepted g.D.Arm.Dir.Dir.files core (accept_of_block c.args.session c.args.table.now x.schema c.args.block) c.enter_part.new.store) (same g c u at)
+    (insert_accepted g.D.Arm.Dir.Dir.files core c.args.store.now c.enter_part.new.store c.args.session c.args.table.now read c.args.block c.args.part.sealed.files c.args.part.loaded s
+    (c.requires.rows read c.index-found.ensures) here (sealed g c) (small g c))
+
+pub returns-clause-no_event : goal.returns-clause-no_event
+returns-clause-no_event g c = λ core s. tt

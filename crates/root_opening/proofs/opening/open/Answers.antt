@@ -6,6 +6,7 @@ use Rattle.part_set.specs.declared.root_name.RootName.{RootName}
 use Rattle.root_store.specs.Damage.{DamagedAt}
 use Rattle.root_opening.specs.Names.{IsFirstBadText}
 use Rattle.root_opening.specs.Opening.{IsNotDamaged, TellsDamage}
+use Rattle.root_store.proofs.Cores.{shows_core}
 use Rattle.root_store.proofs.CrashMarks.{safe_opened}
 use Rattle.root_store.proofs.Fitting.{fits_store}
 use Rattle.root_opening.proofs.Held.{held_opened}
@@ -36,6 +37,10 @@ returns-in_err-store-clause-stands g c = λ told h known s.
 
 pub returns-clause-stands : goal.returns-clause-stands
 returns-clause-stands g c = λ told h known s. core_stands g.D.Arm.Dir.Dir.files (names_of told) h c.in_ok-store.store (c.in_ok-store.ensures.store told (c.in_ok-list.ensures.told ∙ known)) s
+
+pub returns-clause-core : goal.returns-clause-core
+returns-clause-core g c = λ told h known s.
+    shows_core g.D.Arm.Dir.Dir.files h c.in_ok-store.store (core_stands g.D.Arm.Dir.Dir.files (names_of told) h c.in_ok-store.store (c.in_ok-store.ensures.store told (c.in_ok-list.ensures.told ∙ known)) s)
 
 pub returns-clause-exact : goal.returns-clause-exact
 returns-clause-exact g c = λ told damage known is.

@@ -47,8 +47,9 @@ returns-clause-gives c =
     ∙ ap (λ p. set_value_at store.tables.entries c.in-Some.place (with_part here.here.1 p number)) part in
     let entries = store.entries.ok.0 in
     let place : length store.entries.items + 1 ≡ c.len-length.result + 1 = omega (arith, c.len-length.ensures, entries) in
+    let into = c.requires.rows here.here.1.schema (schema_here store c.requires.store insert.table c.in-Some.place here) in
     subst (λ n. AcceptsInsert (core_of store) c.args.session insert n (core_of c.enter_part.new.self)) place
-    (insert_accepted store c.enter_part.new.self c.args.session insert c.in-Some.place number c.requires.store here drawn fits tables c.in_ok-enter_part.ensures.entries c.in_ok-enter_part.ensures.snapshots)
+    (insert_accepted store c.enter_part.new.self c.args.session insert c.in-Some.place number c.requires.store here drawn fits tables c.in_ok-enter_part.ensures.entries c.in_ok-enter_part.ensures.snapshots into)
 
 pub returns-clause-store : goal.returns-clause-store
 returns-clause-store c =

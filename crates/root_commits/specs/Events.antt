@@ -1,0 +1,25 @@
+-- Which events of the core commits are (docs/definitions.md, "The core").
+use Rattle.std.specs.Prelude.{◌+◌, ℕ, List, Option, length}
+use Rattle.mt_values.specs.declared.schema.Schema.{Schema}
+use Rattle.mt_values.specs.Grid.{Grid}
+use Rattle.mt_outside.specs.Files.{Files}
+use Rattle.table_core.specs.declared.event.Accept.{Accept}
+use Rattle.table_core.specs.declared.event.Accept.TheVariants as accept
+use Rattle.table_core.specs.declared.event.Event.TheVariants as event
+use Rattle.table_core.specs.declared.event.Outcome.TheVariants as outcome
+use Rattle.table_core.specs.Core.{Core}
+use Rattle.table_core.specs.Steps.{Gives, MayAccept}
+use Rattle.root_store.specs.declared.store.CoreStore.{CoreStore}
+use Rattle.root_store.specs.Cores.{ShowsCore}
+use Rattle.root_commits.specs.Commits.{insert_into, partition_of_block}
+
+-- the accept of a block that a session adds to a table with this schema, all of whose rows are of one partition
+abbrev pub accept_of_block : ℕ → List ℕ → Schema → Grid → Accept
+accept_of_block session table schema block = accept.Insert session (insert_into table (partition_of_block schema block) block)
+
+-- an accept may come, the core accepts it at the end of its history, and the store shows the state that it gives
+pub record IsAccepted {F : Type 0} (files_of : F → Option Files) (core : Core) (a : Accept) (store : CoreStore F) : Type 0 where
+  pub next : Core
+  pub may : MayAccept core.history a
+  pub gives : Gives core (event.Accept a) (outcome.Accepted (length core.history + 1)) next
+  pub shows : ShowsCore files_of store next
