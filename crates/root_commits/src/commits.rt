@@ -22,7 +22,7 @@ ghost use Rattle.root_commits.specs.Commits.{EntersSealed, EntersTable, IsCause,
 ghost use Rattle.root_commits.specs.Images.{LeavesEither, LeavesOne};
 ghost use Rattle.root_store.specs.Crashes.{KeepsThroughCrashes, Storage};
 ghost use Rattle.root_store.specs.Entries.{EntryHolds};
-ghost use Rattle.root_store.specs.Soundness.{HasSoundParts, IsSound, NamesFitUnlessRisen, RootStands};
+ghost use Rattle.root_store.specs.Soundness.{HasSoundParts, IsReady, RootStands};
 ghost use Rattle.root_store.specs.Stores.{CoreStands, table_at};
 ghost use Rattle.root_store.specs.declared.store.Table.{Table as Made};
 
@@ -242,10 +242,7 @@ pub fn commit_create<D: Disk, A: Annals>(
 ) -> Result<(), Returned<Sealed<<D::Arm as Arm>::Stage>>>
     requires named { IsTrue (is_table create.table) }
     requires schema { IsTableSchema create.schema }
-    requires store { IsSound store.old }
-    requires names { NamesFitUnlessRisen (D.failed disk.old) (D.told disk.old) store.old }
-    requires opened { store.old.opened ≤ D.failed disk.old }
-    requires below { store.old.opened < 2 ^ 64 - 1 }
+    requires ready { IsReady (D.failed disk.old) (D.told disk.old) store.old }
     ensures cause { IsCause (refuses_create store.old create.table (D.failed disk.old)) (cause_of result) }
     ensures rose { IfErr result (λ r. r.cause ≡ Refused.Disk → Rose (D.failed disk.old) (D.failed disk.new)) }
     ensures later { D.failed disk.old ≤ D.failed disk.new }
@@ -280,8 +277,7 @@ pub fn commit_create<D: Disk, A: Annals>(
     ensures held { HasSoundParts D.Arm.Dir.files store.old → HasSoundParts D.Arm.Dir.files store.new }
     ensures unchanged { IfErr result (λ r. r.cause ≢ Refused.Disk → D.told disk.new ≡ D.told disk.old) }
     ensures calm { sealed.failed ≡ 0 → IfErr result (λ r. r.cause ≢ Refused.Disk → D.failed disk.new ≡ D.failed disk.old) }
-    ensures store { IsSound store.new }
-    ensures names { NamesFitUnlessRisen (D.failed disk.new) (D.told disk.new) store.new }
+    ensures ready { IsReady (D.failed disk.new) (D.told disk.new) store.new }
     ensures opened { store.new.opened ≡ store.old.opened }
 {
     if let Some(cause) = refuse_create(store, &create.table, disk.faults()) {
@@ -379,10 +375,7 @@ pub fn commit_part<D: Disk, A: Annals>(
 ) -> Result<(), Returned<SealedPart<<D::Arm as Arm>::Stage>>>
     requires there { IsSome (table_at store.old table.now) }
     requires rows { (t : Made) → table_at store.old table.now ≡ Some t → IsInsertInto t.schema (insert_into table.now (partition_of_block t.schema block) block) }
-    requires store { IsSound store.old }
-    requires names { NamesFitUnlessRisen (D.failed disk.old) (D.told disk.old) store.old }
-    requires opened { store.old.opened ≤ D.failed disk.old }
-    requires below { store.old.opened < 2 ^ 64 - 1 }
+    requires ready { IsReady (D.failed disk.old) (D.told disk.old) store.old }
     ensures cause { (t : Made) → table_at store.old table.now ≡ Some t → IsCause (refuses_part store.old table.now (partition_of_block t.schema block) t.drawn (D.failed disk.old)) (cause_of result) }
     ensures rose { IfErr result (λ r. r.cause ≡ Refused.Disk → Rose (D.failed disk.old) (D.failed disk.new)) }
     ensures later { D.failed disk.old ≤ D.failed disk.new }
@@ -423,8 +416,7 @@ pub fn commit_part<D: Disk, A: Annals>(
     ensures held { (t : Made) → table_at store.old table.now ≡ Some t → IsSealedOf t.schema block part.sealed.files part.loaded → HasSoundParts D.Arm.Dir.files store.old → HasSoundParts D.Arm.Dir.files store.new }
     ensures unchanged { IfErr result (λ r. r.cause ≢ Refused.Disk → D.told disk.new ≡ D.told disk.old) }
     ensures calm { part.sealed.failed ≡ 0 → IfErr result (λ r. r.cause ≢ Refused.Disk → D.failed disk.new ≡ D.failed disk.old) }
-    ensures store { IsSound store.new }
-    ensures names { NamesFitUnlessRisen (D.failed disk.new) (D.told disk.new) store.new }
+    ensures ready { IsReady (D.failed disk.new) (D.told disk.new) store.new }
     ensures opened { store.new.opened ≡ store.old.opened }
 {
     let found = &store.tables[table];

@@ -124,7 +124,7 @@ returns-in-Err-commit_create-clause-answers g c = λ kept is tells stands.
     (λ reply line. answered_nothing files kept left.now (Ok said) store.opened disk arm reply c.commit_create.new.store told was now left.told_is left.list_is
     (begun_refused said next kept gives (IsOutside (Some cause)) told left reply (by_disk text.table cause reply line))
     (stands_same files h store c.commit_create.new.store stands ended.same)
-    (λ n f. create_not_committed files store kept stands before disk arm cause reply n f c.requires.opened ended.later ended.rose text schema says line
+    (λ n f. create_not_committed files store kept stands before disk arm cause reply n f c.requires.ready.opened ended.later ended.rose text schema says line
     (subst (λ (t : List ℕ). IsCause (refuses_create store t before) (Some cause)) name ended.cause))
     (λ calm bef. root_unless_disk text.table cause reply h was now line ended.unchanged calm bef))
 
@@ -167,7 +167,7 @@ returns-in-Ok-commit_create-clause-gains g c =
     let says = sym c.in_ok-resolved.ensures ∙ c.in-Ok.is in
     let by = λ (t : List ℕ). command.Create (record { table = t; schema = c.in-Ok.schema }) in
     gains_noted store before (statement.Create text) (by text.table) (ap (create_commands text.table) says) old new
-    (still_created store text.table before c.requires.opened (subst (λ (t : List ℕ). IsCause (refuses_create store t before) None) name done.cause))
+    (still_created store text.table before c.requires.ready.opened (subst (λ (t : List ℕ). IsCause (refuses_create store t before) None) name done.cause))
     mark (subst (λ (t : List ℕ). Notes mark (entry_of 0 (by t)) old new) name done.annals)
 
 pub returns-in-Err-commit_create-clause-gains : goal.returns-in-Err-commit_create-clause-gains
@@ -184,7 +184,7 @@ returns-in-Err-commit_create-clause-gains g c =
     let by = λ (t : List ℕ). command.Create (record { table = t; schema = c.in-Ok.schema }) in
     gains_refused store before (statement.Create text) (by text.table) (ap (create_commands text.table) says) old new c.in-Err-commit_create.field-0.back ended.list_back
     (λ none. subst (λ (t : List ℕ). new ≡ option_map (began (entry_of 0 (by t))) old) name (ended.begun none))
-    (λ none. still_refused store text.table before c.requires.opened cause (subst (λ (t : List ℕ). IsCause (refuses_create store t before) (Some cause)) name ended.cause) (ended.given none))
+    (λ none. still_refused store text.table before c.requires.ready.opened cause (subst (λ (t : List ℕ). IsCause (refuses_create store t before) (Some cause)) name ended.cause) (ended.given none))
 
 -- what the outside did where the reply says so
 pub returns-in-Err-clause-causes : goal.returns-in-Err-clause-causes
@@ -227,7 +227,7 @@ pub returns-in-Ok-commit_create-clause-stopped : goal.returns-in-Ok-commit_creat
 returns-in-Ok-commit_create-clause-stopped g c = λ risen.
     let store = c.args.store.now in
     let before = g.D.Disk.failed c.args.disk.now in
-    let calm = still_created store c.args.text.now.table before c.requires.opened (subst (λ (t : List ℕ). IsCause (refuses_create store t before) None) c.in_ok-table.ensures c.in-Ok-commit_create.ensures.cause) in
+    let calm = still_created store c.args.text.now.table before c.requires.ready.opened (subst (λ (t : List ℕ). IsCause (refuses_create store t before) None) c.in_ok-table.ensures c.in-Ok-commit_create.ensures.cause) in
     absurd (omega (arith, calm, risen))
 
 pub returns-in-Err-commit_create-clause-stopped : goal.returns-in-Err-commit_create-clause-stopped
@@ -238,7 +238,7 @@ returns-in-Err-commit_create-clause-stopped g c = λ risen.
     let before = g.D.Disk.failed c.args.disk.now in
     let shown = subst (λ (t : List ℕ). IsCause (refuses_create store t before) (Some cause)) c.in_ok-table.ensures ended.cause in
     stays_refused store c.commit_create.new.store before c.in-Err-commit_create.field-0.back c.args.disk.now c.commit_create.new.disk (g.A.Annals.told c.args.annals.now) (g.A.Annals.told c.commit_create.new.annals)
-    (λ none. still_refused store c.args.text.now.table before c.requires.opened cause shown (ended.given none)) risen ended.same ended.unpublished ended.list_back
+    (λ none. still_refused store c.args.text.now.table before c.requires.ready.opened cause shown (ended.given none)) risen ended.same ended.unpublished ended.list_back
 
 -- the reply does not tell of damage
 pub returns-in-Err-clause-undamaged : goal.returns-in-Err-clause-undamaged

@@ -95,7 +95,7 @@ returns-then-is_empty-clause-answers g c = λ kept is tells stands.
     (λ reply line n f. accepted_none n kept (statement.Insert text) reply (ap (commands_for text) there ∙ no_rows text found.schema (c.in-Ok.ensures.rows ∙ ap Ok none)) (line ∙ ap ok_line (stands.length_is ∙ length_history kept)))
 
 pub seal_block-requires-clause-schema : goal.seal_block-requires-clause-schema
-seal_block-requires-clause-schema g c κs within = (c.requires.store.tables c.args.text.now.table c.in-Some.found.now (sym c.in-Some.ensures.value)).schema
+seal_block-requires-clause-schema g c κs within = (c.requires.ready.sound.tables c.args.text.now.table c.in-Some.found.now (sym c.in-Some.ensures.value)).schema
 
 -- its files were not sealed
 pub returns-in-Err-clause-answers : goal.returns-in-Err-clause-answers
@@ -185,7 +185,7 @@ returns-in-Err-commit_part-clause-answers g c = λ kept is tells stands.
     (λ reply line. answered_nothing files kept left.now (Ok said) store.opened disk arm reply c.commit_part.new.store told was now left.told_is left.list_is
     (begun_refused said next kept gives (IsOutside (Some cause)) told left reply (by_disk text.table cause reply line))
     (stands_same files h store c.commit_part.new.store stands ended.same)
-    (λ n f. insert_not_committed files store kept stands before disk arm cause reply n f c.requires.opened ended.later ended.rose text found at block gives line (ended.cause found at))
+    (λ n f. insert_not_committed files store kept stands before disk arm cause reply n f c.requires.ready.opened ended.later ended.rose text found at block gives line (ended.cause found at))
     (λ calm bef. root_unless_disk text.table cause reply h was now line ended.unchanged calm bef))
 
 -- what a crash leaves
@@ -229,7 +229,7 @@ returns-in-Ok-commit_part-clause-gains g c =
     let before = g.D.Disk.failed c.args.disk.now in
     gains_noted store before (statement.Insert text) (inserted found.schema text.table block) (by_rows store text found block at some c.in-Ok.ensures.rows c.in-Ok.ensures.types)
     (g.A.Annals.told c.args.annals.now) (g.A.Annals.told c.commit_part.new.annals)
-    (still_added store text.table before c.requires.opened (partition_of_block found.schema block) found.drawn (done.cause found at)) (g.D.Disk.clock c.commit_part.new.disk) (done.annals found at)
+    (still_added store text.table before c.requires.ready.opened (partition_of_block found.schema block) found.drawn (done.cause found at)) (g.D.Disk.clock c.commit_part.new.disk) (done.annals found at)
 
 pub returns-in-Err-commit_part-clause-gains : goal.returns-in-Err-commit_part-clause-gains
 returns-in-Err-commit_part-clause-gains g c =
@@ -244,7 +244,7 @@ returns-in-Err-commit_part-clause-gains g c =
     let before = g.D.Disk.failed c.args.disk.now in
     gains_refused store before (statement.Insert text) (inserted found.schema text.table block) (by_rows store text found block at some c.in-Ok.ensures.rows c.in-Ok.ensures.types)
     (g.A.Annals.told c.args.annals.now) (g.A.Annals.told c.commit_part.new.annals) c.in-Err-commit_part.field-0.back ended.list_back (ended.begun found at)
-    (λ none. still_part_refused store text.table before c.requires.opened (partition_of_block found.schema block) found.drawn cause (ended.cause found at) (ended.given none))
+    (λ none. still_part_refused store text.table before c.requires.ready.opened (partition_of_block found.schema block) found.drawn cause (ended.cause found at) (ended.given none))
 
 -- what the outside did where the reply says so
 pub returns-in_default-clause-causes : goal.returns-in_default-clause-causes
@@ -310,7 +310,7 @@ returns-in-Ok-commit_part-clause-stopped g c = λ risen.
     let store = c.args.store.now in
     let found = c.in-Some.found.now in
     let before = g.D.Disk.failed c.args.disk.now in
-    let calm = still_added store c.args.text.now.table before c.requires.opened (partition_of_block found.schema c.in-Ok.block) found.drawn (c.in-Ok-commit_part.ensures.cause found (sym c.in-Some.ensures.value)) in
+    let calm = still_added store c.args.text.now.table before c.requires.ready.opened (partition_of_block found.schema c.in-Ok.block) found.drawn (c.in-Ok-commit_part.ensures.cause found (sym c.in-Some.ensures.value)) in
     absurd (omega (arith, calm, risen))
 
 pub returns-in-Err-commit_part-clause-stopped : goal.returns-in-Err-commit_part-clause-stopped
@@ -321,7 +321,7 @@ returns-in-Err-commit_part-clause-stopped g c = λ risen.
     let cause = c.in-Err-commit_part.field-0.cause in
     let before = g.D.Disk.failed c.args.disk.now in
     stays_refused store c.commit_part.new.store before c.in-Err-commit_part.field-0.back c.args.disk.now c.commit_part.new.disk (g.A.Annals.told c.args.annals.now) (g.A.Annals.told c.commit_part.new.annals)
-    (λ none. still_part_refused store c.args.text.now.table before c.requires.opened (partition_of_block found.schema c.in-Ok.block) found.drawn cause (ended.cause found (sym c.in-Some.ensures.value)) (ended.given none))
+    (λ none. still_part_refused store c.args.text.now.table before c.requires.ready.opened (partition_of_block found.schema c.in-Ok.block) found.drawn cause (ended.cause found (sym c.in-Some.ensures.value)) (ended.given none))
     risen ended.same ended.unpublished ended.list_back
 
 -- the reply does not tell of damage

@@ -1,4 +1,4 @@
-use Rattle.std.proofs.Common.{◌≡◌, ◌<◌, ℕ, List, Option, Some, None, Err, length, le_refl, refl, sym, ap, ◌∙◌, subst}
+use Rattle.std.proofs.Common.{◌≡◌, ◌<◌, ℕ, List, Option, Some, None, Err, length, le_refl, refl, sym, ap, ◌∙◌, subst, arith}
 use Rattle.std.specs.Option.{ForSome, option_map}
 use Rattle.mt_values.specs.declared.command.Command.TheVariants as command
 use Rattle.mt_values.specs.declared.command.Entry.{Entry}
@@ -20,15 +20,15 @@ use Rattle.root_commits.proofs.Holding.{held_made, held_same}
 use Rattle.durable_commit.proofs.WhyRefused.{disk_fault, disk_memory, outside_disk}
 use Rattle.root_commits.proofs.Leaving.{cause_shown, none_shown, same_tables, shown_absent, shown_calm, shown_few, shown_other, taken_out}
 use Rattle.root_commits.proofs.Rooted.{root_made}
-use Rattle.root_commits.proofs.Sounding.{names_kept, sound_made, sound_same}
+use Rattle.root_commits.proofs.Sounding.{ready_kept, ready_same, sound_made}
 use Rattle.durable_commit.proofs.SameLists.{no_disk, not_none, same_list}
 use Rattle.root_commits.proofs.commits.commit_create.Goals as goal
 
 pub commit-requires-clause-free : goal.commit-requires-clause-free
 commit-requires-clause-free g c κs within = λ root is.
     let none = none_shown (λ n. refuses_create c.args.store.now c.args.create.table n) _ _ _ c.refuse_create.ensures c.faults.ensures c.in_default.is in
-    let still = shown_calm c.args.store.now c.args.create.table _ none c.requires.opened in
-    ap (λ n. files_at n (names_of root)) c.in-Ok.ensures.name ∙ entry_free c.args.store.now root (c.requires.names still root is) c.args.create.table (shown_absent c.args.store.now c.args.create.table _ none)
+    let still = shown_calm c.args.store.now c.args.create.table _ none c.requires.ready.opened in
+    ap (λ n. files_at n (names_of root)) c.in-Ok.ensures.name ∙ entry_free c.args.store.now root (c.requires.ready.names still root is) c.args.create.table (shown_absent c.args.store.now c.args.create.table _ none)
 
 -- the store shows why
 pub returns-in-Some-clause-cause : goal.returns-in-Some-clause-cause
@@ -44,6 +44,9 @@ returns-in-Some-clause-faulted g c = λ disk. absurd (shown_other c.args.store.n
 pub returns-in-Some-clause-same : goal.returns-in-Some-clause-same
 returns-in-Some-clause-same g c = same_tables _ _ refl refl refl refl
 
+pub returns-in-Some-clause-ready : goal.returns-in-Some-clause-ready
+returns-in-Some-clause-ready g c = c.requires.ready
+
 -- there was no memory
 pub returns-in-Err-clause-cause : goal.returns-in-Err-clause-cause
 returns-in-Err-clause-cause g c =
@@ -52,8 +55,8 @@ returns-in-Err-clause-cause g c =
 pub returns-in-Err-clause-same : goal.returns-in-Err-clause-same
 returns-in-Err-clause-same g c = same_tables _ _ c.in-Err.ensures.err refl refl refl
 
-pub returns-in-Err-clause-store : goal.returns-in-Err-clause-store
-returns-in-Err-clause-store g c = sound_same _ _ (same_tables c.args.store.now _ c.in-Err.ensures.err refl refl refl) c.requires.store
+pub returns-in-Err-clause-ready : goal.returns-in-Err-clause-ready
+returns-in-Err-clause-ready g c = ready_same c.args.store.now _ (same_tables c.args.store.now _ c.in-Err.ensures.err refl refl refl) _ _ c.requires.ready
 
 -- it was not committed
 pub returns-clause-cause : goal.returns-clause-cause
@@ -74,14 +77,11 @@ returns-clause-same g c =
     let absent = shown_absent c.args.store.now key c.faults.result (sym c.refuse_create.ensures ∙ c.in_default.is) in
     same_tables _ _ (taken_out c.args.store.now.tables.entries _ _ key _ (fresh_table c.args.create.schema) absent c.in-Ok.ensures.entries c.in-Ok.ensures.table c.take_out-cause.ensures.entries) refl refl refl
 
-pub returns-clause-store : goal.returns-clause-store
-returns-clause-store g c = sound_same _ _ (returns-clause-same g c) c.requires.store
-
-pub returns-clause-names : goal.returns-clause-names
-returns-clause-names g c =
-    names_kept c.args.store.now _ (returns-clause-same g c) (g.D.Disk.failed c.args.disk.now) _ (g.D.Disk.told c.args.disk.now) _ c.take_out-cause.result
-    c.requires.opened c.requires.below c.in-Err-commit.ensures.cause.later (returns-clause-rose g c)
-    (λ other. c.in-Err-commit.ensures.memory (ap Err (disk_memory c.in-Err-commit.error c.take_out-cause.result c.take_out-cause.ensures.cause other))) c.requires.names
+pub returns-clause-ready : goal.returns-clause-ready
+returns-clause-ready g c =
+    ready_kept c.args.store.now _ (returns-clause-same g c) (g.D.Disk.failed c.args.disk.now) _ (g.D.Disk.told c.args.disk.now) _ c.take_out-cause.result
+    c.in-Err-commit.ensures.cause.later (returns-clause-rose g c)
+    (λ other. c.in-Err-commit.ensures.memory (ap Err (disk_memory c.in-Err-commit.error c.take_out-cause.result c.take_out-cause.ensures.cause other))) c.requires.ready
 
 -- it was
 module _ (g : _) (c : goal.After-drop-name-inside g) where
@@ -96,7 +96,7 @@ module _ (g : _) (c : goal.After-drop-name-inside g) where
 
   -- each name of the root is one under the store
   fit : ForSome (g.D.Disk.told c.args.disk.now) (NamesFit c.args.store.now)
-  fit = c.requires.names (shown_calm c.args.store.now c.args.create.table _ none c.requires.opened)
+  fit = c.requires.ready.names (shown_calm c.args.store.now c.args.create.table _ none c.requires.ready.opened)
 
 pub returns-in-Ok-commit-clause-cause : goal.returns-in-Ok-commit-clause-cause
 returns-in-Ok-commit-clause-cause g c =
@@ -119,11 +119,16 @@ pub returns-in-Ok-commit-clause-stands : goal.returns-in-Ok-commit-clause-stands
 returns-in-Ok-commit-clause-stands g c = λ h s.
     stands_created g.D.Arm.Dir.Dir.files h c.args.store.now _ c.args.session c.args.create s (returns-in-Ok-commit-clause-enters g c) c.requires.schema (few g c)
 
-pub returns-in-Ok-commit-clause-store : goal.returns-in-Ok-commit-clause-store
-returns-in-Ok-commit-clause-store g c = sound_made _ _ _ _ (returns-in-Ok-commit-clause-enters g c) c.requires.schema c.requires.store
-
-pub returns-in-Ok-commit-clause-names : goal.returns-in-Ok-commit-clause-names
-returns-in-Ok-commit-clause-names g c = λ _. made_fits _ _ _ _ (returns-in-Ok-commit-clause-enters g c) _ _ _ _ (fit g c) (returns-in-Ok-commit-clause-root g c)
+pub returns-in-Ok-commit-clause-ready : goal.returns-in-Ok-commit-clause-ready
+returns-in-Ok-commit-clause-ready g c =
+    let low = c.requires.ready.opened in
+    let later = c.in-Ok-commit.ensures.cause.later in
+    record {
+      names = λ _. made_fits _ _ _ _ (returns-in-Ok-commit-clause-enters g c) _ _ _ _ (fit g c) (returns-in-Ok-commit-clause-root g c);
+      sound = sound_made _ _ _ _ (returns-in-Ok-commit-clause-enters g c) c.requires.schema c.requires.ready.sound;
+      opened = omega (arith, low, later);
+      below = c.requires.ready.below;
+    }
 
 pub returns-in-Ok-commit-clause-root_stands : goal.returns-in-Ok-commit-clause-root_stands
 returns-in-Ok-commit-clause-root_stands g c = λ h files s stands is holds.
@@ -199,12 +204,12 @@ returns-clause-through_crashes g c = λ first start files is holds keeps.
     let store = c.args.store.now in
     let table = c.args.create.table in
     let none = none_shown (λ n. refuses_create store table n) _ _ _ c.refuse_create.ensures c.faults.ensures c.in_default.is in
-    let calm = keeps.calm (shown_calm store table _ none c.requires.opened) in
+    let calm = keeps.calm (shown_calm store table _ none c.requires.ready.opened) in
     let e : Entry = record { session = c.args.session; command = command.Create c.args.create } in
     let begun = c.in-Err-commit.ensures.begun ∙ ap (option_map (began e)) c.in-Ok.ensures.told in
     let may = subst (λ (n : List ℕ). MayPut (g.D.Disk.clock c.args.disk.now) n c.args.sealed.files (g.D.Disk.told c.args.disk.now) (g.D.Disk.told c.commit.new.disk)) c.in-Ok.ensures.name c.in-Err-commit.ensures.left in
     let unless = unrisen c.take_out-cause.result store.opened (g.D.Disk.failed c.args.disk.now) (g.D.Disk.failed c.commit.new.disk) (g.D.Disk.told c.args.disk.now) (g.D.Disk.told c.commit.new.disk)
-    c.requires.opened c.requires.below c.in-Err-commit.ensures.cause.later (returns-clause-rose g c)
+    c.requires.ready.opened c.requires.ready.below c.in-Err-commit.ensures.cause.later (returns-clause-rose g c)
     (λ other. c.in-Err-commit.ensures.memory (ap Err (disk_memory c.in-Err-commit.error c.take_out-cause.result c.take_out-cause.ensures.cause other))) in
     let was : Storage = record { disk = g.D.Disk.told c.args.disk.now; clock = g.D.Disk.clock c.args.disk.now; failed = g.D.Disk.failed c.args.disk.now; annals = g.A.Annals.told c.args.annals.now } in
     let now : Storage = record { disk = g.D.Disk.told c.commit.new.disk; clock = g.D.Disk.clock c.commit.new.disk; failed = g.D.Disk.failed c.commit.new.disk; annals = g.A.Annals.told c.commit.new.annals } in
@@ -217,7 +222,7 @@ pub returns-in-Ok-commit-clause-through_crashes : goal.returns-in-Ok-commit-clau
 returns-in-Ok-commit-clause-through_crashes g c = λ first start files is holds keeps.
     let store = c.args.store.now in
     let table = c.args.create.table in
-    let calm = keeps.calm (shown_calm store table _ (none g c) c.requires.opened) in
+    let calm = keeps.calm (shown_calm store table _ (none g c) c.requires.ready.opened) in
     let e : Entry = record { session = c.args.session; command = command.Create c.args.create } in
     let was : Storage = record { disk = g.D.Disk.told c.args.disk.now; clock = g.D.Disk.clock c.args.disk.now; failed = g.D.Disk.failed c.args.disk.now; annals = g.A.Annals.told c.args.annals.now } in
     let now : Storage = record { disk = g.D.Disk.told c.commit.new.disk; clock = g.D.Disk.clock c.commit.new.disk; failed = g.D.Disk.failed c.commit.new.disk; annals = g.A.Annals.told c.commit.new.annals } in
@@ -234,7 +239,7 @@ pub returns-clause-held : goal.returns-clause-held
 returns-clause-held g c = λ held. held_same g.D.Arm.Dir.Dir.files c.args.store.now _ (returns-clause-same g c) held
 
 pub returns-in-Ok-commit-clause-held : goal.returns-in-Ok-commit-clause-held
-returns-in-Ok-commit-clause-held g c = λ held. held_made g.D.Arm.Dir.Dir.files c.args.store.now _ _ _ (returns-in-Ok-commit-clause-enters g c) c.requires.store held
+returns-in-Ok-commit-clause-held g c = λ held. held_made g.D.Arm.Dir.Dir.files c.args.store.now _ _ _ (returns-in-Ok-commit-clause-enters g c) c.requires.ready.sound held
 
 -- what was sealed comes back
 pub returns-in-Some-clause-later : goal.returns-in-Some-clause-later
@@ -293,12 +298,6 @@ returns-in-Some-clause-root_stands g c = λ h files s stands is holds. tt
 
 pub returns-in-Some-clause-held : goal.returns-in-Some-clause-held
 returns-in-Some-clause-held g c = λ held. held
-
-pub returns-in-Some-clause-store : goal.returns-in-Some-clause-store
-returns-in-Some-clause-store g c = c.requires.store
-
-pub returns-in-Some-clause-names : goal.returns-in-Some-clause-names
-returns-in-Some-clause-names g c = c.requires.names
 
 pub returns-in-Err-clause-later : goal.returns-in-Err-clause-later
 returns-in-Err-clause-later g c = le_refl _

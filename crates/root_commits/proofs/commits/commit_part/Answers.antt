@@ -35,7 +35,7 @@ use Rattle.root_commits.proofs.Leaving.{cause_shown, none_shown, shown_number, s
 use Rattle.root_commits.proofs.Partitions.{block_may, may_spell}
 use Rattle.root_commits.proofs.Placed.{none_meets}
 use Rattle.root_commits.proofs.Rooted.{root_added}
-use Rattle.root_commits.proofs.Sounding.{names_kept, sound_added, sound_same}
+use Rattle.root_commits.proofs.Sounding.{ready_kept, ready_same, sound_added}
 use Rattle.root_commits.proofs.Updated.{one_some}
 use Rattle.durable_commit.proofs.SameLists.{no_disk, not_none, same_list}
 use Rattle.root_commits.proofs.commits.commit_part.Goals as goal
@@ -58,16 +58,16 @@ pub commit-requires-clause-free : goal.commit-requires-clause-free
 commit-requires-clause-free g c κs within = λ root is.
     let t : Table = c.index-found.result.now in
     let none = none_shown (λ n. refuses_part c.args.store.now c.args.table.now (partition_of_block t.schema c.args.block) t.drawn n) _ _ _ (shown_part c.args.store.now c.args.table.now _ _ c.index-found.result.now.drawn c.faults.result _ c.block_partition-partition.ensures c.refuse_part.ensures) c.faults.ensures c.in_default.is in
-    let still = shown_part_calm c.args.store.now c.args.table.now _ (partition_of_block t.schema c.args.block) t.drawn none c.requires.opened in
+    let still = shown_part_calm c.args.store.now c.args.table.now _ (partition_of_block t.schema c.args.block) t.drawn none c.requires.ready.opened in
     let small = shown_number c.args.store.now c.args.table.now _ (partition_of_block t.schema c.args.block) t.drawn none in
     ap (λ n. files_at n (names_of root)) (named_is c.args.table.now _ _ _ _ _ c.block_partition-partition.ensures c.name_of_part-fresh.ensures c.in-Ok.ensures.name)
-    ∙ part_free c.args.store.now root (c.requires.names still root is) c.args.table.now t (fresh_part (partition_of_block t.schema c.args.block) (t.drawn + 1)) c.index-found.ensures (fresh_named (partition_of_block t.schema c.args.block) t.drawn (may_spell t.schema (partition_of_block t.schema c.args.block) (block_may t.schema c.args.block)) small) (omega arith)
+    ∙ part_free c.args.store.now root (c.requires.ready.names still root is) c.args.table.now t (fresh_part (partition_of_block t.schema c.args.block) (t.drawn + 1)) c.index-found.ensures (fresh_named (partition_of_block t.schema c.args.block) t.drawn (may_spell t.schema (partition_of_block t.schema c.args.block) (block_may t.schema c.args.block)) small) (omega arith)
 
 pub enter_part-requires-clause-fresh : goal.enter_part-requires-clause-fresh
 enter_part-requires-clause-fresh g c =
     let t : Table = c.index-found.result.now in
     subst (λ (n : PartName). NoneMeets (parts_of c.prepare_part.new.set c.args.table.now) n) (sym (fresh_is _ _ _ _ c.block_partition-partition.ensures c.name_of_part-fresh.ensures)) (subst (λ (ks : List (Kept (Part g.row.D-Arm-Dir.Denot))). NoneMeets ks (fresh_part (partition_of_block t.schema c.args.block) (t.drawn + 1))) (sym (c.in-Ok.ensures.parts c.args.table.now))
-    (none_meets (parts_of c.args.store.now.set c.args.table.now) (partition_of_block t.schema c.args.block) t.drawn (c.requires.store.tables c.args.table.now t c.index-found.ensures).ends))
+    (none_meets (parts_of c.args.store.now.set c.args.table.now) (partition_of_block t.schema c.args.block) t.drawn (c.requires.ready.sound.tables c.args.table.now t c.index-found.ensures).ends))
 
 -- the store shows why
 
@@ -88,14 +88,17 @@ returns-in-Some-clause-rose g c = λ disk. absurd (shown_part_other c.args.store
 pub returns-in-Some-clause-faulted : goal.returns-in-Some-clause-faulted
 returns-in-Some-clause-faulted g c = λ disk. absurd (shown_part_other c.args.store.now c.args.table.now c.faults.result (partition_of_block c.index-found.result.now.schema c.args.block) c.index-found.result.now.drawn c.in-Some.cause (sym (shown_part c.args.store.now c.args.table.now _ _ c.index-found.result.now.drawn c.faults.result _ c.block_partition-partition.ensures c.refuse_part.ensures) ∙ c.in-Some.is) disk)
 
+pub returns-in-Some-clause-ready : goal.returns-in-Some-clause-ready
+returns-in-Some-clause-ready g c = c.requires.ready
+
 -- there was no memory
 pub returns-in-Err-clause-cause : goal.returns-in-Err-clause-cause
 returns-in-Err-clause-cause g c = λ u at.
     let t : Table = c.index-found.result.now in
     shown_of c.args.store.now c.args.table.now c.args.block (g.D.Disk.failed c.args.disk.now) t u (Some refused.NoMemory) c.index-found.ensures at (cause_shown (λ n. refuses_part c.args.store.now c.args.table.now (partition_of_block t.schema c.args.block) t.drawn n) _ _ _ (shown_part c.args.store.now c.args.table.now _ _ c.index-found.result.now.drawn c.faults.result _ c.block_partition-partition.ensures c.refuse_part.ensures) c.faults.ensures None _ c.in_default.is tt)
 
-pub returns-in-Err-clause-store : goal.returns-in-Err-clause-store
-returns-in-Err-clause-store g c = sound_same c.args.store.now _ (record { tables = refl; parts = c.in-Err.ensures.parts; length_is = refl; opened_is = refl }) c.requires.store
+pub returns-in-Err-clause-ready : goal.returns-in-Err-clause-ready
+returns-in-Err-clause-ready g c = ready_same c.args.store.now _ (record { tables = refl; parts = c.in-Err.ensures.parts; length_is = refl; opened_is = refl }) _ _ c.requires.ready
 
 -- it was not committed
 pub returns-in-Err-commit-clause-cause : goal.returns-in-Err-commit-clause-cause
@@ -107,14 +110,11 @@ returns-in-Err-commit-clause-cause g c = λ u at.
 pub returns-in-Err-commit-clause-rose : goal.returns-in-Err-commit-clause-rose
 returns-in-Err-commit-clause-rose g c = λ disk. c.in-Err-commit.ensures.cause.failed (ap Err (disk_fault c.in-Err-commit.error c.of_disk-cause.result c.of_disk-cause.ensures disk))
 
-pub returns-in-Err-commit-clause-names : goal.returns-in-Err-commit-clause-names
-returns-in-Err-commit-clause-names g c =
-    names_kept c.args.store.now _ (record { tables = refl; parts = c.in-Ok.ensures.parts; length_is = refl; opened_is = refl }) (g.D.Disk.failed c.args.disk.now) _ (g.D.Disk.told c.args.disk.now) _ c.of_disk-cause.result
-    c.requires.opened c.requires.below c.in-Err-commit.ensures.cause.later (returns-in-Err-commit-clause-rose g c)
-    (λ other. c.in-Err-commit.ensures.memory (ap Err (disk_memory c.in-Err-commit.error c.of_disk-cause.result c.of_disk-cause.ensures other))) c.requires.names
-
-pub returns-in-Err-commit-clause-store : goal.returns-in-Err-commit-clause-store
-returns-in-Err-commit-clause-store g c = sound_same c.args.store.now _ (record { tables = refl; parts = c.in-Ok.ensures.parts; length_is = refl; opened_is = refl }) c.requires.store
+pub returns-in-Err-commit-clause-ready : goal.returns-in-Err-commit-clause-ready
+returns-in-Err-commit-clause-ready g c =
+    ready_kept c.args.store.now _ (record { tables = refl; parts = c.in-Ok.ensures.parts; length_is = refl; opened_is = refl }) (g.D.Disk.failed c.args.disk.now) _ (g.D.Disk.told c.args.disk.now) _ c.of_disk-cause.result
+    c.in-Err-commit.ensures.cause.later (returns-in-Err-commit-clause-rose g c)
+    (λ other. c.in-Err-commit.ensures.memory (ap Err (disk_memory c.in-Err-commit.error c.of_disk-cause.result c.of_disk-cause.ensures other))) c.requires.ready
 
 -- it was
 module _ (g : _) (c : goal.After-drop-name-inside-2 g) where
@@ -129,7 +129,7 @@ module _ (g : _) (c : goal.After-drop-name-inside-2 g) where
 
   -- each name of the root is one under the store
   fit : ForSome (g.D.Disk.told c.args.disk.now) (NamesFit c.args.store.now)
-  fit = c.requires.names (shown_part_calm c.args.store.now c.args.table.now _ (partition_of_block t.schema c.args.block) t.drawn none c.requires.opened)
+  fit = c.requires.ready.names (shown_part_calm c.args.store.now c.args.table.now _ (partition_of_block t.schema c.args.block) t.drawn none c.requires.ready.opened)
 
   published : g.D.Disk.told c.commit.new.disk ≡ put (g.D.Disk.clock c.args.disk.now) (part_name c.args.table.now (part_text (fresh_part (partition_of_block t.schema c.args.block) (t.drawn + 1)))) c.args.part.sealed.files (g.D.Disk.told c.args.disk.now)
   published = c.in-Ok-commit.ensures.disk ∙ ap (λ (n : List ℕ). put (g.D.Disk.clock c.args.disk.now) n c.args.part.sealed.files (g.D.Disk.told c.args.disk.now)) (named_is c.args.table.now _ _ _ _ _ c.block_partition-partition.ensures c.name_of_part-fresh.ensures c.in-Ok.ensures.name)
@@ -187,11 +187,18 @@ returns-clause-root_stands g c = λ h u s stands at is.
     root_added g.D.Arm.Dir.Dir.files c.args.store.now h c.args.session (g.D.Disk.clock c.args.disk.now) (g.D.Disk.told c.args.disk.now) (g.D.Disk.told c.commit.new.disk) s stands (fit g c)
     c.args.table.now t c.args.block c.args.part.sealed.files c.args.part.loaded c.index-found.ensures (small g c) (c.requires.rows t c.index-found.ensures) here (published g c)
 
-pub returns-clause-store : goal.returns-clause-store
-returns-clause-store g c = sound_added _ _ _ _ _ _ (added g c) (block_may (t g c).schema c.args.block) c.requires.store
-
-pub returns-clause-names : goal.returns-clause-names
-returns-clause-names g c = λ _. added_fits _ _ _ _ _ _ (added g c) _ _ _ _ (may_spell (t g c).schema _ (block_may (t g c).schema c.args.block)) (small g c) (fit g c) (published g c)
+pub returns-clause-ready : goal.returns-clause-ready
+returns-clause-ready g c =
+    let low = c.requires.ready.opened in
+    let later = c.in-Ok-commit.ensures.cause.later in
+    let same = c.enter_part.ensures.opened in
+    let below = c.requires.ready.below in
+    record {
+      names = λ _. added_fits _ _ _ _ _ _ (added g c) _ _ _ _ (may_spell (t g c).schema _ (block_may (t g c).schema c.args.block)) (small g c) (fit g c) (published g c);
+      sound = sound_added _ _ _ _ _ _ (added g c) (block_may (t g c).schema c.args.block) c.requires.ready.sound;
+      opened = omega (arith, low, later, same);
+      below = omega (arith, below, same);
+    }
 
 -- what a crash leaves of the disk
 pub returns-in-Some-clause-images : goal.returns-in-Some-clause-images
@@ -278,13 +285,13 @@ returns-in-Err-commit-clause-through_crashes g c = λ u first start at is keeps.
     let none = none_shown (λ n. refuses_part store table (partition_of_block t.schema c.args.block) t.drawn n) _ _ _ (shown_part c.args.store.now c.args.table.now _ _ c.index-found.result.now.drawn c.faults.result _ c.block_partition-partition.ensures c.refuse_part.ensures) c.faults.ensures c.in_default.is in
     let same_table : t ≡ u = one_some (table_at store table) t u c.index-found.ensures at in
     let here : IsSealedOf t.schema c.args.block c.args.part.sealed.files c.args.part.loaded = subst (λ (x : Table). IsSealedOf x.schema c.args.block c.args.part.sealed.files c.args.part.loaded) (sym same_table) is in
-    let calm = keeps.calm (shown_part_calm store table _ (partition_of_block t.schema c.args.block) t.drawn none c.requires.opened) in
+    let calm = keeps.calm (shown_part_calm store table _ (partition_of_block t.schema c.args.block) t.drawn none c.requires.ready.opened) in
     let e : Entry = entry_of c.args.session (insert_of_block table (partition_of_block t.schema c.args.block) c.args.block) in
     let begun =
     c.in-Err-commit.ensures.begun
     ∙ (ap (λ (x : Entry). option_map (began x) (g.A.Annals.told c.prepare_part.new.annals)) (begun_is table _ _ _ c.args.block c.args.session c.in-Ok.ensures.table c.block_partition-partition.ensures) ∙ ap (option_map (began e)) c.in-Ok.ensures.told) in
     let unless = unrisen c.of_disk-cause.result store.opened (g.D.Disk.failed c.args.disk.now) (g.D.Disk.failed c.commit.new.disk) (g.D.Disk.told c.args.disk.now) (g.D.Disk.told c.commit.new.disk)
-    c.requires.opened c.requires.below c.in-Err-commit.ensures.cause.later
+    c.requires.ready.opened c.requires.ready.below c.in-Err-commit.ensures.cause.later
     (λ disk. c.in-Err-commit.ensures.cause.failed (ap Err (disk_fault c.in-Err-commit.error c.of_disk-cause.result c.of_disk-cause.ensures disk)))
     (λ other. c.in-Err-commit.ensures.memory (ap Err (disk_memory c.in-Err-commit.error c.of_disk-cause.result c.of_disk-cause.ensures other))) in
     let was : Storage = record { disk = g.D.Disk.told c.args.disk.now; clock = g.D.Disk.clock c.args.disk.now; failed = g.D.Disk.failed c.args.disk.now; annals = g.A.Annals.told c.args.annals.now } in
@@ -301,7 +308,7 @@ returns-clause-through_crashes g c = λ u first start at is keeps.
     let t : Table = c.index-found.result.now in
     let same_table : t ≡ u = same g c u at in
     let here : IsSealedOf t.schema c.args.block c.args.part.sealed.files c.args.part.loaded = subst (λ (x : Table). IsSealedOf x.schema c.args.block c.args.part.sealed.files c.args.part.loaded) (sym same_table) is in
-    let calm = keeps.calm (shown_part_calm store table _ (partition_of_block t.schema c.args.block) t.drawn (none g c) c.requires.opened) in
+    let calm = keeps.calm (shown_part_calm store table _ (partition_of_block t.schema c.args.block) t.drawn (none g c) c.requires.ready.opened) in
     let e : Entry = entry_of c.args.session (insert_of_block table (partition_of_block t.schema c.args.block) c.args.block) in
     let mark = g.D.Disk.clock c.commit.new.disk in
     let notes : g.A.Annals.told c.commit.new.annals ≡ option_map (λ (x : Told). noted mark (began e x)) (g.A.Annals.told c.args.annals.now) =
@@ -388,12 +395,6 @@ returns-in-Some-clause-root_stands g c = λ h t s stands at is. tt
 
 pub returns-in-Some-clause-held : goal.returns-in-Some-clause-held
 returns-in-Some-clause-held g c = λ t at is held. held
-
-pub returns-in-Some-clause-store : goal.returns-in-Some-clause-store
-returns-in-Some-clause-store g c = c.requires.store
-
-pub returns-in-Some-clause-names : goal.returns-in-Some-clause-names
-returns-in-Some-clause-names g c = c.requires.names
 
 pub returns-in-Err-clause-later : goal.returns-in-Err-clause-later
 returns-in-Err-clause-later g c = le_refl _
