@@ -10,8 +10,7 @@ use Rattle.mt_program.proofs.serving.serve.Goals as goal
 
 pub statements-init : goal.statements-init
 statements-init g c = record {
-  names = c.requires.ready.names;
-  sound = c.requires.ready.sound;
+  ready = c.requires.ready;
   opened = refl;
   tells = refl;
   served = λ kept is tells stands settled. served_none g.D.Arm.Dir.Dir.files kept c.args.script.now c.args.store.now.opened (g.D.Disk.failed c.args.disk.now) (g.D.Arm.Arm.failed c.args.arm.now) c.none-tally.result c.args.store.now
@@ -32,11 +31,8 @@ answer-requires-clause-written g c κs within =
     let left = one_statement c.args.script.now c.statements.at c.in-Ok-Some.found.1 c.in-Ok-Some.found.0 found in
     is_written (drop c.statements.at c.args.script.now) c.in-Ok-Some.found.0 (statements_of (drop (c.statements.at + c.in-Ok-Some.found.1) c.args.script.now)) left
 
-pub answer-requires-clause-opened : goal.answer-requires-clause-opened
-answer-requires-clause-opened g c κs within = let same = c.statements.invariant.opened in let low = c.requires.ready.opened in let later = c.statements.invariant.disk_later in omega arith
-
-pub answer-requires-clause-below : goal.answer-requires-clause-below
-answer-requires-clause-below g c κs within = let same = c.statements.invariant.opened in let below = c.requires.ready.below in omega arith
+pub answer-requires-clause-ready : goal.answer-requires-clause-ready
+answer-requires-clause-ready g c κs within = c.statements.invariant.ready
 
 pub returns-in-Ok-None-clause-run : goal.returns-in-Ok-None-clause-run
 returns-in-Ok-None-clause-run g c = λ kept is tells stands settled.
@@ -81,8 +77,7 @@ returns-in-Err-write_reply-clause-run g c = λ kept is tells stands settled.
 
 pub statements-preserved : goal.statements-preserved
 statements-preserved g c = record {
-  names = c.in-Ok.ensures.names;
-  sound = c.in-Ok.ensures.store;
+  ready = c.in-Ok.ensures.ready;
   opened = c.in-Ok.ensures.opened ∙ c.statements.invariant.opened;
   tells = c.in-Ok.ensures.tells ∙ c.statements.invariant.tells;
   served = λ kept is tells stands settled.
