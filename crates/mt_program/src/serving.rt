@@ -1,5 +1,5 @@
 // Answering the statements of a script, one after another.
-ghost use Rattle.std.specs.Prelude.{◌≡◌, [], ◌<◌, ◌≤◌, ◌-◌, ◌^◌, Ok, Some, true, false, IfOk, IfSome, OnErr, drop, length, ℕ};
+ghost use Rattle.std.specs.Prelude.{◌≡◌, [], ◌<◌, ◌≤◌, Ok, Some, true, false, IfOk, IfSome, OnErr, drop, length, ℕ};
 ghost use Rattle.std.specs.Option.{option_map};
 ghost use Rattle.mt_values.specs.Annals.{Told};
 ghost use Rattle.mt_values.specs.Script.{next_statement, statements_of};
