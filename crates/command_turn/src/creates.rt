@@ -1,11 +1,11 @@
 // Running a CREATE.
-ghost use Rattle.std.specs.Prelude.{◌≡◌, ◌-◌, ◌<◌, ◌≤◌, ◌^◌, Ok, Some, true, false, IfOk, OnErr, ℕ};
+ghost use Rattle.std.specs.Prelude.{◌≡◌, ◌<◌, ◌≤◌, Ok, Some, true, false, IfOk, OnErr, ℕ};
 ghost use Rattle.mt_values.specs.declared.statement.Statement.TheVariants as statement;
 ghost use Rattle.mt_values.specs.Annals.{Told};
 ghost use Rattle.mt_model.specs.Refusals.{is_damage};
 ghost use Rattle.mt_model.specs.Written.{IsCreateText};
 ghost use Rattle.root_store.specs.Crashes.{KeepsThroughCrashes, Storage};
-ghost use Rattle.root_store.specs.Soundness.{HasSoundParts, IsSound, NamesFitUnlessRisen};
+ghost use Rattle.root_store.specs.Soundness.{HasSoundParts, IsReady};
 ghost use Rattle.root_store.specs.Stores.{CoreStands};
 ghost use Rattle.command_turn.specs.Answers.{AcceptsNothing, Answers};
 ghost use Rattle.command_turn.specs.Gains.{Gains};
@@ -35,10 +35,7 @@ pub fn create<D: Disk, A: Annals>(
     text: &CreateText,
 ) -> Result<Vec<u8>, NoMemory>
     requires written { IsCreateText text.now }
-    requires names { NamesFitUnlessRisen (D.failed disk.old) (D.told disk.old) store.old }
-    requires store { IsSound store.old }
-    requires opened { store.old.opened ≤ D.failed disk.old }
-    requires below { store.old.opened < 2 ^ 64 - 1 }
+    requires ready { IsReady (D.failed disk.old) (D.told disk.old) store.old }
     ensures answers { (kept : Told) → A.told annals.old ≡ Some kept → D.Arm.tells arm.old ≡ true → CoreStands D.Arm.Dir.files (history kept) store.old
         → Answers D.Arm.Dir.files kept (Ok (statement.Create text.now)) store.old.opened (D.failed disk.new) (D.Arm.failed arm.new) result store.new (A.told annals.new) (D.told disk.old) (D.told disk.new) }
     ensures gains { Gains (Ok (statement.Create text.now)) (D.failed disk.old) store.old (A.told annals.old) (A.told annals.new) }
@@ -50,8 +47,7 @@ pub fn create<D: Disk, A: Annals>(
         → KeepsThroughCrashes D.Arm.Dir.files store.old was first start → KeepsThroughCrashes D.Arm.Dir.files store.new now first start }
     ensures undamaged { IfOk result (λ reply. is_damage reply.items ≡ false) }
     ensures held { HasSoundParts D.Arm.Dir.files store.old → HasSoundParts D.Arm.Dir.files store.new }
-    ensures names { NamesFitUnlessRisen (D.failed disk.new) (D.told disk.new) store.new }
-    ensures store { IsSound store.new }
+    ensures ready { IsReady (D.failed disk.new) (D.told disk.new) store.new }
     ensures opened { store.new.opened ≡ store.old.opened }
     ensures tells { D.Arm.tells arm.new ≡ D.Arm.tells arm.old }
     ensures started { D.started disk.new ≡ D.started disk.old }

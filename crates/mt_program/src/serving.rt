@@ -1,5 +1,5 @@
 // Answering the statements of a script, one after another.
-ghost use Rattle.std.specs.Prelude.{◌≡◌, [], ◌<◌, ◌≤◌, ◌-◌, ◌^◌, Ok, Some, true, false, IfOk, IfSome, OnErr, drop, length, ℕ};
+ghost use Rattle.std.specs.Prelude.{◌≡◌, [], ◌<◌, ◌≤◌, Ok, Some, true, false, IfOk, IfSome, OnErr, drop, length, ℕ};
 ghost use Rattle.std.specs.Option.{option_map};
 ghost use Rattle.mt_values.specs.Annals.{Told};
 ghost use Rattle.mt_values.specs.Script.{next_statement, statements_of};
@@ -7,7 +7,7 @@ ghost use Rattle.mt_outside.specs.Causes.{Rose};
 ghost use Rattle.mt_model.specs.Refusals.{is_damage};
 ghost use Rattle.mt_model.specs.Written.{IsWritten};
 ghost use Rattle.root_store.specs.Crashes.{KeepsThroughCrashes, Storage};
-ghost use Rattle.root_store.specs.Soundness.{HasSoundParts, IsSound, NamesFitUnlessRisen, RootStands};
+ghost use Rattle.root_store.specs.Soundness.{HasSoundParts, IsReady, RootStands};
 ghost use Rattle.root_store.specs.Stores.{CoreStands};
 ghost use Rattle.command_turn.specs.Answers.{AcceptsNothing, Answers};
 ghost use Rattle.reply_lines.specs.Causes.{HasCauses};
@@ -69,10 +69,7 @@ pub fn answer<D: Disk, A: Annals, G: Gate>(
     statement: Result<Statement, Cause>,
 ) -> Result<Vec<u8>, NoMemory>
     requires written { IsWritten statement }
-    requires names { NamesFitUnlessRisen (D.failed disk.old) (D.told disk.old) store.old }
-    requires store { IsSound store.old }
-    requires opened { store.old.opened ≤ D.failed disk.old }
-    requires below { store.old.opened < 2 ^ 64 - 1 }
+    requires ready { IsReady (D.failed disk.old) (D.told disk.old) store.old }
     ensures answers { (kept : Told) → A.told annals.old ≡ Some kept → D.Arm.tells arm.old ≡ true → CoreStands D.Arm.Dir.files (history kept) store.old
         → Answers D.Arm.Dir.files kept statement store.old.opened (D.failed disk.new) (D.Arm.failed arm.new) result store.new (A.told annals.new) (D.told disk.old) (D.told disk.new) }
     ensures causes { IfOk result (λ reply. HasCauses store.old.opened (D.failed disk.old) (D.failed disk.new) (D.Arm.failed arm.old) (D.Arm.failed arm.new) reply.items) }
@@ -83,8 +80,7 @@ pub fn answer<D: Disk, A: Annals, G: Gate>(
         → KeepsThroughCrashes D.Arm.Dir.files store.old was first start → KeepsThroughCrashes D.Arm.Dir.files store.new now first start }
     ensures undamaged { HasSoundParts D.Arm.Dir.files store.old → IfOk result (λ reply. is_damage reply.items ≡ false) }
     ensures held { D.Arm.tells arm.old ≡ true → HasSoundParts D.Arm.Dir.files store.old → HasSoundParts D.Arm.Dir.files store.new }
-    ensures names { NamesFitUnlessRisen (D.failed disk.new) (D.told disk.new) store.new }
-    ensures store { IsSound store.new }
+    ensures ready { IsReady (D.failed disk.new) (D.told disk.new) store.new }
     ensures opened { store.new.opened ≡ store.old.opened }
     ensures tells { D.Arm.tells arm.new ≡ D.Arm.tells arm.old }
     ensures disk_later { D.failed disk.old ≤ D.failed disk.new }
@@ -111,10 +107,7 @@ pub fn serve<D: Disk, A: Annals, K: Sink, G: Gate>(
     gate: &mut G,
     script: &[u8],
 ) -> Ending
-    requires names { NamesFitUnlessRisen (D.failed disk.old) (D.told disk.old) store.old }
-    requires store { IsSound store.old }
-    requires opened { store.old.opened ≤ D.failed disk.old }
-    requires below { store.old.opened < 2 ^ 64 - 1 }
+    requires ready { IsReady (D.failed disk.old) (D.told disk.old) store.old }
     ensures run { (kept : Told) → A.told annals.old ≡ Some kept → D.Arm.tells arm.old ≡ true → CoreStands D.Arm.Dir.files (history kept) store.old → RootStands (D.told disk.old) (history kept)
         → ServedBy result kept script.now store.old.opened (D.failed disk.new) (D.Arm.failed arm.new) (A.told annals.new) (D.told disk.new) (K.written sink.old) (K.written sink.new) }
     ensures through_crashes { let was : Storage = record { disk = D.told disk.old; clock = D.clock disk.old; failed = D.failed disk.old; annals = A.told annals.old } in

@@ -7,7 +7,7 @@ ghost use Rattle.root_opening.specs.declared.opening.Damage.{Damage as Damaged};
 ghost use Rattle.root_store.specs.Crashes.{AllStand, KeepsThroughCrashes, Storage};
 ghost use Rattle.root_opening.specs.Opening.{IsNotDamaged, IsRootDamage};
 ghost use Rattle.root_store.specs.Roots.{Stands};
-ghost use Rattle.root_store.specs.Soundness.{HasSoundParts, IsSound, NamesFitUnlessRisen, RootStands};
+ghost use Rattle.root_store.specs.Soundness.{HasSoundParts, IsReady, RootStands};
 ghost use Rattle.root_store.specs.Stores.{CoreStands};
 ghost use Rattle.reply_lines.specs.Foreseen.{history};
 ghost use Rattle.mt_program.specs.Crashes.{IsAsBefore, IsGainedBy, LeavesOfScript};
@@ -88,10 +88,7 @@ fn run_script<D: Disk, A: Annals, S: Source, K: Sink, G: Gate>(
     annals: &mut A,
     gate: &mut G,
 ) -> Result<Ending, Status>
-    requires names { NamesFitUnlessRisen (D.failed disk.old) (D.told disk.old) store.old }
-    requires store { IsSound store.old }
-    requires opened { store.old.opened ≤ D.failed disk.old }
-    requires below { store.old.opened < 2 ^ 64 - 1 }
+    requires ready { IsReady (D.failed disk.old) (D.told disk.old) store.old }
     ensures leaves { (kept : Told) (script : List ℕ) → A.told annals.old ≡ Some kept → D.Arm.tells arm.old ≡ true → S.left source.old ≡ Some script
         → CoreStands D.Arm.Dir.files (history kept) store.old → RootStands (D.told disk.old) (history kept)
         → LeftBy result kept script store.old.opened (D.failed disk.new) (D.Arm.failed arm.new) (A.told annals.new) (D.told disk.old) (D.told disk.new) (K.written sink.old) (K.written sink.new) }

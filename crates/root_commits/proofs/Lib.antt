@@ -17,4 +17,6 @@ pub mod Rooted
 pub mod SameStores
 pub mod Sounding
 pub mod StartedAgain
+pub mod TurnCrashes
+pub mod Turning
 pub mod Updated

@@ -24,7 +24,7 @@ use Rattle.root_store.specs.declared.store.CoreStore.{CoreStore}
 use Rattle.root_store.specs.declared.store.Table.{Table}
 use Rattle.root_store.specs.Stores.{fresh_table}
 use Rattle.root_commits.specs.Commits.{EntersPart, EntersTable, SameStore, fresh_part}
-use Rattle.root_store.specs.Soundness.{IsNameUnder, IsSound, IsSoundTable, NamesFit, NamesFitUnlessRisen}
+use Rattle.root_store.specs.Soundness.{IsNameUnder, IsReady, IsSound, IsSoundTable, NamesFit, NamesFitUnlessRisen}
 use Rattle.root_store.specs.Stores.{table_at}
 use Rattle.root_commits.proofs.Placed.{all_added}
 use Rattle.root_commits.proofs.Updated.{it_or, no_some, one_some}
@@ -85,6 +85,25 @@ module _ {F : Type 0} where
           by (refused.Stopped opened at) up stays is = still is (stays (λ e. cc))
           by refused.Exists up stays is = still is (stays (λ e. cc))
           by (refused.Limit l) up stays is = still is (stays (λ e. cc))
+
+      -- turns may follow the same store as they might follow it before
+      pub ready_same : (failed : ℕ) (told : Option Told) → IsReady failed told old → IsReady failed told new
+      ready_same failed told ready = record {
+        names = λ is x there. names_same x (ready.names (is ∙ same.opened_is) x there);
+        sound = sound_same ready.sound;
+        opened = (let opened = same.opened_is in let low = ready.opened in omega (arith, opened, low));
+        below = (let opened = same.opened_is in let low = ready.below in omega (arith, opened, low));
+      }
+
+      -- also after a commit that failed
+      pub ready_kept : (before after : ℕ) (told now : Option Told) (cause : Refused) → before ≤ after → (cause ≡ refused.Disk → Rose before after) → (cause ≢ refused.Disk → now ≡ told)
+          → IsReady before told old → IsReady after now new
+      ready_kept before after told now cause later rose unchanged ready = record {
+        names = names_kept before after told now cause ready.opened ready.below later rose unchanged ready.names;
+        sound = sound_same ready.sound;
+        opened = (let opened = same.opened_is in let low = ready.opened in omega (arith, opened, low, later));
+        below = (let opened = same.opened_is in let low = ready.below in omega (arith, opened, low));
+      }
 
     -- one table more
     pub sound_made : (table : List ℕ) (schema : Schema) → EntersTable table schema old new → IsTableSchema schema → IsSound old → IsSound new

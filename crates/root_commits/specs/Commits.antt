@@ -6,6 +6,7 @@ use Rattle.std.specs.Ordering.{nat_cmp}
 use Rattle.mt_base.specs.declared.partition.Partition.{Partition}
 use Rattle.mt_base.specs.Limits.{number_limit, part_limit, table_limit}
 use Rattle.mt_values.specs.declared.command.Command.{Command}
+use Rattle.mt_values.specs.declared.command.Create.{Create}
 use Rattle.mt_values.specs.declared.command.Insert.{Insert}
 use Rattle.mt_values.specs.declared.schema.Schema.{Schema}
 use Rattle.mt_values.specs.declared.command.Command.TheVariants as command
@@ -14,7 +15,9 @@ use Rattle.mt_values.specs.Tables.{partition_of, same_partition, sorting_cmp}
 use Rattle.mt_values.specs.Values.{Row}
 use Rattle.mt_model.specs.Live.{sorted}
 use Rattle.mt_values.specs.declared.manifest.Loaded.{Loaded}
+use Rattle.mt_outside.specs.Disk.{Told}
 use Rattle.mt_outside.specs.Files.{Files}
+use Rattle.mt_model.specs.History.{History}
 use Rattle.part_name.specs.declared.part.PartName.{PartName}
 use Rattle.part_reader.specs.declared.reading.Part.{Part}
 use Rattle.part_writer.specs.PartFiles.{manifest_of}
@@ -28,8 +31,10 @@ use Rattle.durable_commit.specs.Commits.{IsOutside, stopped_by}
 use Rattle.root_commits.specs.declared.commits.Returned.{Returned}
 use Rattle.root_store.specs.declared.store.CoreStore.{CoreStore}
 use Rattle.root_store.specs.declared.store.Table.{Table}
+use Rattle.root_store.specs.Entries.{EntryHolds}
 use Rattle.root_store.specs.Roots.{FolderHolds}
-use Rattle.root_store.specs.Stores.{fresh_table, table_at}
+use Rattle.root_store.specs.Soundness.{RootStands}
+use Rattle.root_store.specs.Stores.{CoreStands, fresh_table, table_at}
 
 -- why a command was not committed; none where it was
 abbrev pub cause_of : {T S : Type 0} → Result T (Returned S) → Option Refused
@@ -47,6 +52,17 @@ refuses_create store table now =
     if is_some (table_at store table) then Some refused.Exists
     else if nat_le table_limit (length store.tables.entries) then Some (refused.Limit limit.Tables)
     else stopped_by store.opened now
+
+-- what was sealed is the entry of a CREATE, where the stage told it
+pub record IsSealedEntry (create : Create) (sealed : Option Files) : Type 0 where
+  pub files : Files
+  pub sealed_are : sealed ≡ Some files
+  pub holds : EntryHolds create.table create.schema files
+
+-- a store stands for a history, and so does the root where this holds
+pub record StandsWhere {F : Type 0} (files_of : F → Option Files) (h : History) (store : CoreStore F) (root : Option Told) (holds : Type 0) : Type 0 where
+  pub store_stands : CoreStands files_of h store
+  pub root_stands : holds → RootStands root h
 
 -- the same tables and parts, whatever room there is for more
 pub record SameStore {F : Type 0} (old new : CoreStore F) : Type 0 where

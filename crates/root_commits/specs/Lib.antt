@@ -1,3 +1,4 @@
 pub mod Commits
 pub mod Events
 pub mod Images
+pub mod Turns

@@ -1,37 +1,33 @@
 // A command added to the disk, to what the keeper tells and to the store.
-ghost use Rattle.std.specs.Prelude.{◌≡◌, ◌∷◌, [], ◌≢◌, ◌+◌, ◌-◌, ◌<◌, ◌≤◌, ◌^◌, ℕ, IsSome, IsTrue, List, Option, Some, None, IfErr, IfOk, IfSome, IsNone, OnErr, OnOk, length};
+ghost use Rattle.std.specs.Prelude.{◌≡◌, ◌≢◌, ◌+◌, ℕ, IsSome, IsTrue, List, Option, Some, None, IfErr, IfOk, IfSome, OnErr, OnOk, length};
 ghost use Rattle.std.specs.BTreeMap.{Updates, get, insert_entry};
 ghost use Rattle.std.specs.Cmp.Lexicographic.{slice_cmp};
-ghost use Rattle.std.specs.Option.{option_map};
 ghost use Rattle.std.specs.Ordering.{nat_cmp};
-ghost use Rattle.mt_values.specs.declared.command.Command.TheVariants as command;
-ghost use Rattle.mt_values.specs.Annals.{Told, began};
+ghost use Rattle.std.specs.Result.{MatchResult};
+ghost use Rattle.mt_values.specs.Annals.{Told};
 ghost use Rattle.mt_values.specs.RootNames.{create_name, part_name};
 ghost use Rattle.part_name.specs.PartNames.{part_text};
 ghost use Rattle.part_set.specs.RootNames.{is_table};
 ghost use Rattle.part_set.specs.Parts.{IsAdded, IsInBlockOrder, NoneMeets};
 ghost use Rattle.part_set.specs.Sets.{HasRoom, parts_of};
-ghost use Rattle.mt_outside.specs.Causes.{Rose};
-ghost use Rattle.mt_outside.specs.Disk.{MayPut, put};
-ghost use Rattle.mt_outside.specs.Files.{Files};
-ghost use Rattle.mt_model.specs.History.{History, IsInsertInto, IsTableSchema, entered};
+ghost use Rattle.mt_model.specs.History.{History, IsInsertInto, IsTableSchema};
 ghost use Rattle.mt_values.specs.Tables.{same_partition};
-ghost use Rattle.durable_commit.specs.Commits.{IsOutside, Notes, SameList, entry_of};
-ghost use Rattle.root_store.specs.Stores.{fresh_table};
-ghost use Rattle.root_commits.specs.Commits.{EntersSealed, EntersTable, IsCause, SameStore, cause_of, fresh_part, IsSealedOf, insert_into, insert_of_block, kept_in, partition_of_block, refuses_create, refuses_part};
 ghost use Rattle.root_commits.specs.Events.{IsAccepted, accept_of_block};
-ghost use Rattle.root_commits.specs.Images.{LeavesEither, LeavesOne};
 ghost use Rattle.root_store.specs.Cores.{ShowsCore};
-ghost use Rattle.root_store.specs.Crashes.{KeepsThroughCrashes, Storage};
-ghost use Rattle.root_store.specs.Entries.{EntryHolds};
-ghost use Rattle.root_store.specs.Soundness.{HasSoundParts, IsSound, NamesFitUnlessRisen, RootStands};
-ghost use Rattle.root_store.specs.Stores.{CoreStands, table_at};
-ghost use Rattle.root_store.specs.declared.store.Table.{Table as Made};
 ghost use Rattle.table_core.specs.declared.event.Accept.TheVariants as accept;
 ghost use Rattle.table_core.specs.Core.{Core};
+ghost use Rattle.root_store.specs.Stores.{fresh_table};
+ghost use Rattle.root_commits.specs.Commits.{EntersSealed, EntersTable, IsCause, IsSealedEntry, SameStore, StandsWhere, cause_of, fresh_part, IsSealedOf, insert_into, kept_in, partition_of_block, refuses_create, refuses_part};
+ghost use Rattle.root_commits.specs.Images.{LeavesAfter, LeavesOne};
+ghost use Rattle.root_commits.specs.Turns.{Turns, storage, turn_of_create, turn_of_part, with_entry};
+ghost use Rattle.root_store.specs.Crashes.{KeepsThroughCrashes};
+ghost use Rattle.root_store.specs.Soundness.{HasSoundParts, IsReady, RootStands};
+ghost use Rattle.root_store.specs.Stores.{CoreStands, table_at};
+ghost use Rattle.root_store.specs.declared.store.Table.{Table as Made};
 
-use durable_commit::{Limit, Refused, commit, refuse_stopped, take_out};
-use mt_base::{NUMBER_LIMIT, NoMemory, PART_LIMIT, Partition, TABLE_LIMIT, Twin};
+use crate::turns::turn;
+use durable_commit::{Limit, Refused, refuse_stopped, take_out};
+use mt_base::{NoMemory, Partition, Twin};
 use mt_outside::{Arm, Disk, DiskError};
 use mt_values::{Annals, Block, Command, Create, Entry, Insert, Name, Schema};
 use part_name::PartName;
@@ -42,6 +38,15 @@ use root_store::{CoreStore, Table, put_table};
 use stage_dir::Sealed;
 use std::alloc::Global;
 use std::collections::BTreeMap;
+
+/// No more tables than this are made.
+const MOST_TABLES: usize = 64;
+
+/// No partition has more parts than this.
+const MOST_PARTS: usize = 3000;
+
+/// The greatest number of a table's commands.
+const LAST_NUMBER: u32 = 4_294_967_295;
 
 /// Why a command was not committed, and what was sealed for it, where it was not given to the disk.
 pub struct Returned<S> {
@@ -56,7 +61,7 @@ fn refuse_create<F>(store: &CoreStore<F>, table: &Name, now: u64) -> Option<Refu
     if store.tables.contains_key(table) {
         return Some(Refused::Exists);
     }
-    if store.tables.len() >= TABLE_LIMIT {
+    if store.tables.len() >= MOST_TABLES {
         return Some(Refused::Limit(Limit::Tables));
     }
     refuse_stopped(store.opened, now)
@@ -101,10 +106,10 @@ fn refuse_part<F>(
 ) -> Option<Refused>
     ensures { result ≡ refuses_part store.now table.now partition drawn now }
 {
-    if count_in(partition, store.set.parts(table)) >= PART_LIMIT {
+    if count_in(partition, store.set.parts(table)) >= MOST_PARTS {
         return Some(Refused::Limit(Limit::Parts));
     }
-    if drawn >= NUMBER_LIMIT {
+    if drawn >= LAST_NUMBER {
         return Some(Refused::Limit(Limit::Numbers));
     }
     refuse_stopped(store.opened, now)
@@ -237,52 +242,51 @@ pub fn commit_create<D: Disk, A: Annals>(
 ) -> Result<(), Returned<Sealed<<D::Arm as Arm>::Stage>>>
     requires named { IsTrue (is_table create.table) }
     requires schema { IsTableSchema create.schema }
-    requires store { IsSound store.old }
-    requires names { NamesFitUnlessRisen (D.failed disk.old) (D.told disk.old) store.old }
-    requires opened { store.old.opened ≤ D.failed disk.old }
-    requires below { store.old.opened < 2 ^ 64 - 1 }
-    ensures cause { IsCause (refuses_create store.old create.table (D.failed disk.old)) (cause_of result) }
-    ensures rose { IfErr result (λ r. r.cause ≡ Refused.Disk → Rose (D.failed disk.old) (D.failed disk.new)) }
-    ensures started { D.started disk.new ≡ D.started disk.old }
-    ensures later { D.failed disk.old ≤ D.failed disk.new }
-    ensures back { IfErr result (λ r. IfSome r.back (λ s. s ≡ sealed)) }
-    ensures unpublished { IfErr result (λ r. IfSome r.back (λ _. disk.new ≡ disk.old)) }
-    ensures published { IfErr result (λ r. IsNone r.back → MayPut (D.clock disk.old) (create_name create.table) sealed.files (D.told disk.old) (D.told disk.new)) }
-    ensures faulted { IfErr result (λ r. r.cause ≡ Refused.Disk → IsNone r.back) }
-    ensures given { IfErr result (λ r. IsNone r.back → IsOutside (Some r.cause)) }
-    ensures same { OnErr result (SameStore store.old store.new) }
-    ensures annals_err { OnErr result (SameList (A.told annals.old) (A.told annals.new)) }
-    ensures list_back { IfErr result (λ r. IfSome r.back (λ _. A.told annals.new ≡ A.told annals.old)) }
-    ensures begun { IfErr result (λ r. IsNone r.back → A.told annals.new ≡ option_map (began (entry_of session (command.Create create))) (A.told annals.old)) }
-    ensures mark_err { OnErr result (D.clock disk.new ≡ D.clock disk.old) }
-    ensures root { OnOk result (D.told disk.new ≡ put (D.clock disk.old) (create_name create.table) sealed.files (D.told disk.old)) }
-    ensures mark { OnOk result (D.clock disk.new ≡ D.clock disk.old + 1) }
-    ensures annals { OnOk result (Notes (D.clock disk.new) (entry_of session (command.Create create)) (A.told annals.old) (A.told annals.new)) }
-    ensures enters { OnOk result (EntersTable create.table create.schema store.old store.new) }
-    ensures stands { (h : History) → CoreStands D.Arm.Dir.files h store.old → OnOk result (CoreStands D.Arm.Dir.files (entered h session (command.Create create ∷ [])) store.new) }
-    ensures event { (core : Core) → ShowsCore D.Arm.Dir.files store.old core
-        → OnOk result (IsAccepted D.Arm.Dir.files core (accept.Create session create) store.new) }
-    ensures no_event { (core : Core) → ShowsCore D.Arm.Dir.files store.old core
-        → OnErr result (ShowsCore D.Arm.Dir.files store.new core) }
-    ensures root_stands { (h : History) (files : Files) → CoreStands D.Arm.Dir.files h store.old → RootStands (D.told disk.old) h
-        → sealed.files ≡ Some files → EntryHolds create.table create.schema files → OnOk result (RootStands (D.told disk.new) (entered h session (command.Create create ∷ []))) }
-    ensures images { (h : History) (files : Files) → sealed.files ≡ Some files → EntryHolds create.table create.schema files
-        → CoreStands D.Arm.Dir.files h store.old → LeavesOne (D.told disk.old) (D.clock disk.old) h
-        → LeavesEither (D.told disk.new) (D.clock disk.new) (D.clock disk.old) h (entered h session (command.Create create ∷ [])) }
-    ensures images_ok { (h : History) (files : Files) → sealed.files ≡ Some files → EntryHolds create.table create.schema files
-        → CoreStands D.Arm.Dir.files h store.old → LeavesOne (D.told disk.old) (D.clock disk.old) h
-        → OnOk result (LeavesOne (D.told disk.new) (D.clock disk.new) (entered h session (command.Create create ∷ []))) }
-    ensures images_err { (h : History) → LeavesOne (D.told disk.old) (D.clock disk.old) h → IfErr result (λ r. r.cause ≢ Refused.Disk → LeavesOne (D.told disk.new) (D.clock disk.new) h) }
-    ensures through_crashes { let was : Storage = record { disk = D.told disk.old; clock = D.clock disk.old; failed = D.failed disk.old; annals = A.told annals.old } in
-        let now : Storage = record { disk = D.told disk.new; clock = D.clock disk.new; failed = D.failed disk.new; annals = A.told annals.new } in
-        (first : Told) (start : ℕ) (files : Files) → sealed.files ≡ Some files → EntryHolds create.table create.schema files
-        → KeepsThroughCrashes D.Arm.Dir.files store.old was first start → KeepsThroughCrashes D.Arm.Dir.files store.new now first start }
-    ensures held { HasSoundParts D.Arm.Dir.files store.old → HasSoundParts D.Arm.Dir.files store.new }
-    ensures unchanged { IfErr result (λ r. r.cause ≢ Refused.Disk → D.told disk.new ≡ D.told disk.old) }
-    ensures calm { sealed.failed ≡ 0 → IfErr result (λ r. r.cause ≢ Refused.Disk → D.failed disk.new ≡ D.failed disk.old) }
-    ensures store { IsSound store.new }
-    ensures names { NamesFitUnlessRisen (D.failed disk.new) (D.told disk.new) store.new }
+    requires ready { IsReady (D.failed disk.old) (D.told disk.old) store.old }
+
+    // What is answered, and what the turn does to the outside.
+    ensures cause { IsCause (refuses_create store.old create.table (D.failed disk.old))
+        (cause_of result) }
+    ensures turn { let was = storage (D.told disk.old) (D.clock disk.old) (D.failed disk.old)
+        (A.told annals.old) in
+        let now = storage (D.told disk.new) (D.clock disk.new) (D.failed disk.new)
+        (A.told annals.new) in
+        Turns (turn_of_create session create sealed) was now sealed result }
+    ensures untouched { IfErr result (λ r. IfSome r.back (λ _. disk.new ≡ disk.old)) }
+
+    // What the store is then, and what it and the root stand for.
+    ensures enters { MatchResult result
+        (λ _. EntersTable create.table create.schema store.old store.new)
+        (λ _. SameStore store.old store.new) }
+    ensures stands { (h : History) → CoreStands D.Arm.Dir.files h store.old
+        → OnOk result (StandsWhere D.Arm.Dir.files
+        (with_entry (turn_of_create session create sealed) h) store.new (D.told disk.new)
+        (IsSealedEntry create sealed.files × RootStands (D.told disk.old) h)) }
+    ensures held { HasSoundParts D.Arm.Dir.files store.old
+        → HasSoundParts D.Arm.Dir.files store.new }
+    ensures ready { IsReady (D.failed disk.new) (D.told disk.new) store.new }
     ensures opened { store.new.opened ≡ store.old.opened }
+    ensures started { D.started disk.new ≡ D.started disk.old }
+
+    // Which event of the core it is.
+    ensures event { (core : Core) → ShowsCore D.Arm.Dir.files store.old core → MatchResult result
+        (λ _. IsAccepted D.Arm.Dir.files core (accept.Create session create) store.new)
+        (λ _. ShowsCore D.Arm.Dir.files store.new core) }
+
+    // What a crash leaves: of the disk alone, and of the disk and the annals.
+    ensures images { let now = storage (D.told disk.new) (D.clock disk.new) (D.failed disk.new)
+        (A.told annals.new) in
+        (h : History) → IsSealedEntry create sealed.files → CoreStands D.Arm.Dir.files h store.old
+        → LeavesOne (D.told disk.old) (D.clock disk.old) h
+        → LeavesAfter now (D.clock disk.old) h
+        (with_entry (turn_of_create session create sealed) h) result }
+    ensures through_crashes { let was = storage (D.told disk.old) (D.clock disk.old)
+        (D.failed disk.old) (A.told annals.old) in
+        let now = storage (D.told disk.new) (D.clock disk.new) (D.failed disk.new)
+        (A.told annals.new) in
+        (first : Told) (start : ℕ) → IsSealedEntry create sealed.files
+        → KeepsThroughCrashes D.Arm.Dir.files store.old was first start
+        → KeepsThroughCrashes D.Arm.Dir.files store.new now first start }
 {
     if let Some(cause) = refuse_create(store, &create.table, disk.faults()) {
         let back = Some(sealed);
@@ -303,7 +307,7 @@ pub fn commit_create<D: Disk, A: Annals>(
         length,
     } = ready;
     let command = Command::Create(create);
-    match commit(
+    match turn(
         alloc,
         disk,
         annals,
@@ -378,60 +382,66 @@ pub fn commit_part<D: Disk, A: Annals>(
     block: Block,
 ) -> Result<(), Returned<SealedPart<<D::Arm as Arm>::Stage>>>
     requires there { IsSome (table_at store.old table.now) }
-    requires rows { (t : Made) → table_at store.old table.now ≡ Some t → IsInsertInto t.schema (insert_into table.now (partition_of_block t.schema block) block) }
-    requires store { IsSound store.old }
-    requires names { NamesFitUnlessRisen (D.failed disk.old) (D.told disk.old) store.old }
-    requires opened { store.old.opened ≤ D.failed disk.old }
-    requires below { store.old.opened < 2 ^ 64 - 1 }
-    ensures cause { (t : Made) → table_at store.old table.now ≡ Some t → IsCause (refuses_part store.old table.now (partition_of_block t.schema block) t.drawn (D.failed disk.old)) (cause_of result) }
-    ensures rose { IfErr result (λ r. r.cause ≡ Refused.Disk → Rose (D.failed disk.old) (D.failed disk.new)) }
+    requires rows { (t : Made) → table_at store.old table.now ≡ Some t
+        → IsInsertInto t.schema (insert_into table.now (partition_of_block t.schema block) block) }
+    requires ready { IsReady (D.failed disk.old) (D.told disk.old) store.old }
+
+    // What is answered, and what the turn does to the outside.
+    ensures cause { (t : Made) → table_at store.old table.now ≡ Some t
+        → IsCause (refuses_part store.old table.now (partition_of_block t.schema block) t.drawn
+        (D.failed disk.old)) (cause_of result) }
+    ensures turn { let was = storage (D.told disk.old) (D.clock disk.old) (D.failed disk.old)
+        (A.told annals.old) in
+        let now = storage (D.told disk.new) (D.clock disk.new) (D.failed disk.new)
+        (A.told annals.new) in
+        (t : Made) → table_at store.old table.now ≡ Some t
+        → Turns (turn_of_part session table.now t block part.sealed) was now part result }
+    ensures untouched { IfErr result (λ r. IfSome r.back (λ _. disk.new ≡ disk.old)) }
+
+    // What the store is then, and what it and the root stand for.
+    ensures enters { (t : Made) → table_at store.old table.now ≡ Some t → MatchResult result
+        (λ _. EntersSealed D.Arm.Dir.files part.sealed.files part.loaded table.now
+        (partition_of_block t.schema block) t store.old store.new)
+        (λ _. SameStore store.old store.new) }
+    ensures stands { (h : History) (t : Made) → table_at store.old table.now ≡ Some t
+        → IsSealedOf t.schema block part.sealed.files part.loaded
+        → CoreStands D.Arm.Dir.files h store.old
+        → OnOk result (StandsWhere D.Arm.Dir.files
+        (with_entry (turn_of_part session table.now t block part.sealed) h) store.new
+        (D.told disk.new) (RootStands (D.told disk.old) h)) }
+    ensures held { (t : Made) → table_at store.old table.now ≡ Some t
+        → IsSealedOf t.schema block part.sealed.files part.loaded
+        → HasSoundParts D.Arm.Dir.files store.old → HasSoundParts D.Arm.Dir.files store.new }
+    ensures ready { IsReady (D.failed disk.new) (D.told disk.new) store.new }
+    ensures opened { store.new.opened ≡ store.old.opened }
     ensures started { D.started disk.new ≡ D.started disk.old }
-    ensures later { D.failed disk.old ≤ D.failed disk.new }
-    ensures back { IfErr result (λ r. IfSome r.back (λ s. s ≡ part)) }
-    ensures unpublished { IfErr result (λ r. IfSome r.back (λ _. disk.new ≡ disk.old)) }
-    ensures faulted { IfErr result (λ r. r.cause ≡ Refused.Disk → IsNone r.back) }
-    ensures given { IfErr result (λ r. IsNone r.back → IsOutside (Some r.cause)) }
-    ensures same { OnErr result (SameStore store.old store.new) }
-    ensures annals_err { OnErr result (SameList (A.told annals.old) (A.told annals.new)) }
-    ensures list_back { IfErr result (λ r. IfSome r.back (λ _. A.told annals.new ≡ A.told annals.old)) }
-    ensures begun { (t : Made) → table_at store.old table.now ≡ Some t
-        → IfErr result (λ r. IsNone r.back → A.told annals.new ≡ option_map (began (entry_of session (insert_of_block table.now (partition_of_block t.schema block) block))) (A.told annals.old)) }
-    ensures mark_err { OnErr result (D.clock disk.new ≡ D.clock disk.old) }
-    ensures mark { OnOk result (D.clock disk.new ≡ D.clock disk.old + 1) }
-    ensures annals { (t : Made) → table_at store.old table.now ≡ Some t
-        → OnOk result (Notes (D.clock disk.new) (entry_of session (insert_of_block table.now (partition_of_block t.schema block) block)) (A.told annals.old) (A.told annals.new)) }
-    ensures published { (t : Made) → table_at store.old table.now ≡ Some t
-        → IfErr result (λ r. IsNone r.back → MayPut (D.clock disk.old) (part_name table.now (part_text (fresh_part (partition_of_block t.schema block) (t.drawn + 1)))) part.sealed.files (D.told disk.old) (D.told disk.new)) }
-    ensures root { (t : Made) → table_at store.old table.now ≡ Some t
-        → OnOk result (D.told disk.new ≡ put (D.clock disk.old) (part_name table.now (part_text (fresh_part (partition_of_block t.schema block) (t.drawn + 1)))) part.sealed.files (D.told disk.old)) }
-    ensures enters { (t : Made) → table_at store.old table.now ≡ Some t → OnOk result (EntersSealed D.Arm.Dir.files part.sealed.files part.loaded table.now (partition_of_block t.schema block) t store.old store.new) }
-    ensures stands { (h : History) (t : Made) → CoreStands D.Arm.Dir.files h store.old → table_at store.old table.now ≡ Some t → IsSealedOf t.schema block part.sealed.files part.loaded
-        → OnOk result (CoreStands D.Arm.Dir.files (entered h session (insert_of_block table.now (partition_of_block t.schema block) block ∷ [])) store.new) }
+
+    // Which event of the core it is.
     ensures event { (core : Core) (t : Made) → ShowsCore D.Arm.Dir.files store.old core
-        → table_at store.old table.now ≡ Some t → IsSealedOf t.schema block part.sealed.files part.loaded
-        → OnOk result (IsAccepted D.Arm.Dir.files core (accept_of_block session table.now t.schema block) store.new) }
+        → table_at store.old table.now ≡ Some t
+        → IsSealedOf t.schema block part.sealed.files part.loaded
+        → OnOk result (IsAccepted D.Arm.Dir.files core
+        (accept_of_block session table.now t.schema block) store.new) }
     ensures no_event { (core : Core) → ShowsCore D.Arm.Dir.files store.old core
         → OnErr result (ShowsCore D.Arm.Dir.files store.new core) }
-    ensures root_stands { (h : History) (t : Made) → CoreStands D.Arm.Dir.files h store.old → RootStands (D.told disk.old) h
-        → table_at store.old table.now ≡ Some t → IsSealedOf t.schema block part.sealed.files part.loaded
-        → OnOk result (RootStands (D.told disk.new) (entered h session (insert_of_block table.now (partition_of_block t.schema block) block ∷ []))) }
-    ensures images { (h : History) (t : Made) → table_at store.old table.now ≡ Some t → IsSealedOf t.schema block part.sealed.files part.loaded
-        → CoreStands D.Arm.Dir.files h store.old → LeavesOne (D.told disk.old) (D.clock disk.old) h
-        → LeavesEither (D.told disk.new) (D.clock disk.new) (D.clock disk.old) h (entered h session (insert_of_block table.now (partition_of_block t.schema block) block ∷ [])) }
-    ensures images_ok { (h : History) (t : Made) → table_at store.old table.now ≡ Some t → IsSealedOf t.schema block part.sealed.files part.loaded
-        → CoreStands D.Arm.Dir.files h store.old → LeavesOne (D.told disk.old) (D.clock disk.old) h
-        → OnOk result (LeavesOne (D.told disk.new) (D.clock disk.new) (entered h session (insert_of_block table.now (partition_of_block t.schema block) block ∷ []))) }
-    ensures images_err { (h : History) → LeavesOne (D.told disk.old) (D.clock disk.old) h → IfErr result (λ r. r.cause ≢ Refused.Disk → LeavesOne (D.told disk.new) (D.clock disk.new) h) }
-    ensures through_crashes { let was : Storage = record { disk = D.told disk.old; clock = D.clock disk.old; failed = D.failed disk.old; annals = A.told annals.old } in
-        let now : Storage = record { disk = D.told disk.new; clock = D.clock disk.new; failed = D.failed disk.new; annals = A.told annals.new } in
-        (t : Made) (first : Told) (start : ℕ) → table_at store.old table.now ≡ Some t → IsSealedOf t.schema block part.sealed.files part.loaded
-        → KeepsThroughCrashes D.Arm.Dir.files store.old was first start → KeepsThroughCrashes D.Arm.Dir.files store.new now first start }
-    ensures held { (t : Made) → table_at store.old table.now ≡ Some t → IsSealedOf t.schema block part.sealed.files part.loaded → HasSoundParts D.Arm.Dir.files store.old → HasSoundParts D.Arm.Dir.files store.new }
-    ensures unchanged { IfErr result (λ r. r.cause ≢ Refused.Disk → D.told disk.new ≡ D.told disk.old) }
-    ensures calm { part.sealed.failed ≡ 0 → IfErr result (λ r. r.cause ≢ Refused.Disk → D.failed disk.new ≡ D.failed disk.old) }
-    ensures store { IsSound store.new }
-    ensures names { NamesFitUnlessRisen (D.failed disk.new) (D.told disk.new) store.new }
-    ensures opened { store.new.opened ≡ store.old.opened }
+
+    // What a crash leaves: of the disk alone, and of the disk and the annals.
+    ensures images { let now = storage (D.told disk.new) (D.clock disk.new) (D.failed disk.new)
+        (A.told annals.new) in
+        (h : History) (t : Made) → table_at store.old table.now ≡ Some t
+        → IsSealedOf t.schema block part.sealed.files part.loaded
+        → CoreStands D.Arm.Dir.files h store.old
+        → LeavesOne (D.told disk.old) (D.clock disk.old) h
+        → LeavesAfter now (D.clock disk.old) h
+        (with_entry (turn_of_part session table.now t block part.sealed) h) result }
+    ensures through_crashes { let was = storage (D.told disk.old) (D.clock disk.old)
+        (D.failed disk.old) (A.told annals.old) in
+        let now = storage (D.told disk.new) (D.clock disk.new) (D.failed disk.new)
+        (A.told annals.new) in
+        (t : Made) (first : Told) (start : ℕ) → table_at store.old table.now ≡ Some t
+        → IsSealedOf t.schema block part.sealed.files part.loaded
+        → KeepsThroughCrashes D.Arm.Dir.files store.old was first start
+        → KeepsThroughCrashes D.Arm.Dir.files store.new now first start }
 {
     let found = &store.tables[table];
     let drawn = found.drawn;
@@ -461,7 +471,7 @@ pub fn commit_part<D: Disk, A: Annals>(
         block,
     });
     let SealedPart { sealed, loaded } = part;
-    let dir = match commit(
+    let dir = match turn(
         alloc,
         disk,
         annals,

@@ -3,6 +3,7 @@
 
 mod commits;
 mod laws;
+mod turns;
 
 pub use commits::{Returned, commit_create, commit_part};
 pub use laws::{crashes_leave_what_was_noted, runs_go_on_after_a_crash};

@@ -1,5 +1,5 @@
 -- What a store keeps of its tables and of the root's names, whatever history they are of (docs/architecture.md, "The store").
-use Rattle.std.specs.Prelude.{◌≡◌, ◌⊎◌, ℕ, ◌≤◌, List, [], All, Option, Some, None}
+use Rattle.std.specs.Prelude.{◌≡◌, ◌⊎◌, ℕ, ◌-◌, ◌<◌, ◌≤◌, ◌^◌, List, [], All, Option, Some, None}
 use Rattle.std.specs.Map.{keys_of}
 use Rattle.std.specs.Option.{ForSome}
 use Rattle.mt_values.specs.declared.schema.Schema.{Schema}
@@ -51,6 +51,14 @@ NamesFit store told = All (IsNameUnder store) (keys_of (names_of told))
 -- the same, as long as the disk's count of faults is the one at opening; a command whose commit failed may have left its name
 abbrev pub NamesFitUnlessRisen : {F : Type 0} → ℕ → Option Told → CoreStore F → Type 0
 NamesFitUnlessRisen failed told store = failed ≡ store.opened → ForSome told (NamesFit store)
+
+-- A store that turns may follow: as long as no call of the disk failed since opening the root has no name but the store's, the store is
+-- sound, and the disk's count of faults at opening is at most the one now, and below the end of its type.
+pub record IsReady {F : Type 0} (failed : ℕ) (told : Option Told) (store : CoreStore F) : Type 0 where
+  pub names : NamesFitUnlessRisen failed told store
+  pub sound : IsSound store
+  pub opened : store.opened ≤ failed
+  pub below : store.opened < 2 ^ 64 - 1
 
 -- the disk tells a root that stands for a history
 abbrev pub RootStands : Option Told → History → Type 0

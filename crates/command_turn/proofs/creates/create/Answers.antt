@@ -21,6 +21,7 @@ use Rattle.command_turn.proofs.Creating.{create_gives, created, created_accepts,
 use Rattle.reply_lines.proofs.Refusing.{command_failed, command_refused}
 use Rattle.command_turn.proofs.Gaining.{begun_refused, gains_noted, gains_refused, keeps_refused, leaves_told, stays_refused, still_created, still_refused}
 use Rattle.root_commits.proofs.SameStores.{stands_same}
+use Rattle.root_commits.proofs.Turning.{after_refusal}
 use Rattle.command_turn.proofs.Standing.{no_table, tables_made}
 use Rattle.command_turn.specs.Stops.{IsLineOf}
 use Rattle.reply_lines.specs.Lines.{IsLineOfStage}
@@ -84,14 +85,14 @@ returns-in-Ok-commit_create-clause-answers g c = λ kept is tells stands.
     let entry = λ (t : List ℕ). entry_of 0 (command.Create (record { table = t; schema = schema })) in
     created_accepts text schema says files kept mark store.opened (g.D.Disk.failed c.commit_create.new.disk) (g.D.Arm.Arm.failed c.seal_entry.new.arm) store.length c.commit_create.new.store c.in_ok-replies.replies.accepted.items old told was now
     stands.length_is turn is
-    (subst (λ (t : List ℕ). Notes mark (entry t) old told) name done.annals)
-    (subst (λ (t : List ℕ). CoreStands files (h ++ entry t ∷ []) c.commit_create.new.store) name (done.stands h stands))
+    (subst (λ (t : List ℕ). Notes mark (entry t) old told) name done.turn.annals)
+    (subst (λ (t : List ℕ). CoreStands files (h ++ entry t ∷ []) c.commit_create.new.store) name (done.stands h stands).store_stands)
     c.in_ok-replies.ensures.accepted
     (λ root.
     let sealed = c.in-Ok-seal_entry.ensures.files tells in
     let few = subst (λ (t : List ℕ). length t < 2 ^ 32) c.as_slice.ensures c.in-Ok-seal_entry.ensures.few in
     let holds = subst (λ (t : List ℕ). EntryHolds t schema (entry_files text.text)) (sym name) (entry_holds text schema c.requires.written says few) in
-    subst (λ (t : List ℕ). RootStands now (h ++ entry t ∷ [])) name (done.root_stands h (entry_files text.text) stands root (sealed ∙ ap (λ (t : List ℕ). Some (entry_files t)) c.as_slice.ensures) holds))
+    subst (λ (t : List ℕ). RootStands now (h ++ entry t ∷ [])) name ((done.stands h stands).root_stands (record { files = entry_files text.text; sealed_are = sealed ∙ ap (λ (t : List ℕ). Some (entry_files t)) c.as_slice.ensures; holds = holds }, root)))
 
 -- it was not
 pub returns-in-Err-commit_create-clause-answers : goal.returns-in-Err-commit_create-clause-answers
@@ -103,6 +104,7 @@ returns-in-Err-commit_create-clause-answers g c = λ kept is tells stands.
     let name = c.in_ok-table.ensures in
     let h = history kept in
     let ended = c.in-Err-commit_create.ensures in
+    let after = after_refusal _ _ _ _ c.in-Err-commit_create.field-0.cause c.in-Err-commit_create.field-0.back c.in-Err-commit_create.ensures.turn in
     let back = c.in-Err-commit_create.field-0.back in
     let cause = c.in-Err-commit_create.field-0.cause in
     let result = c.refused_line.result in
@@ -117,16 +119,16 @@ returns-in-Err-commit_create-clause-answers g c = λ kept is tells stands.
     let said = statement.Create text in
     let next = created text schema says in
     let gives = create_gives text schema says h in
-    let left = leaves_told next kept (IsOutside (Some cause)) back old told is ended.list_back
-    (λ none. subst (λ (t : List ℕ). told ≡ option_map (began (entry_of 0 (command.Create (record { table = t; schema = schema })))) old) name (ended.begun none)) ended.given in
+    let left = leaves_told next kept (IsOutside (Some cause)) back old told is after.list_back
+    (λ none. subst (λ (t : List ℕ). told ≡ option_map (began (entry_of 0 (command.Create (record { table = t; schema = schema })))) old) name (after.begun none)) after.given in
     answers_line files kept (Ok said) store.opened disk arm result c.commit_create.new.store told was now (IsLineOf 0 text.table cause) c.refused_line.ensures.line
-    (IfErr-weaker result _ _ (λ e no. keeps_refused said next kept gives (IsOutside (Some cause)) told left was now (ended.unchanged no)) c.refused_line.ensures.disk)
+    (IfErr-weaker result _ _ (λ e no. keeps_refused said next kept gives (IsOutside (Some cause)) told left was now (after.unchanged no)) c.refused_line.ensures.disk)
     (λ reply line. answered_nothing files kept left.now (Ok said) store.opened disk arm reply c.commit_create.new.store told was now left.told_is left.list_is
     (begun_refused said next kept gives (IsOutside (Some cause)) told left reply (by_disk text.table cause reply line))
-    (stands_same files h store c.commit_create.new.store stands ended.same)
-    (λ n f. create_not_committed files store kept stands before disk arm cause reply n f c.requires.opened ended.later ended.rose text schema says line
+    (stands_same files h store c.commit_create.new.store stands ended.enters)
+    (λ n f. create_not_committed files store kept stands before disk arm cause reply n f c.requires.ready.opened after.later after.rose text schema says line
     (subst (λ (t : List ℕ). IsCause (refuses_create store t before) (Some cause)) name ended.cause))
-    (λ calm bef. root_unless_disk text.table cause reply h was now line ended.unchanged calm bef))
+    (λ calm bef. root_unless_disk text.table cause reply h was now line after.unchanged calm bef))
 
 -- what a crash leaves
 pub returns-in-Ok-commit_create-clause-through_crashes : goal.returns-in-Ok-commit_create-clause-through_crashes
@@ -136,7 +138,7 @@ returns-in-Ok-commit_create-clause-through_crashes g c = λ first start tells ke
     let says = sym c.in_ok-resolved.ensures ∙ c.in-Ok.is in
     let few = subst (λ (t : List ℕ). length t < 2 ^ 32) c.as_slice.ensures c.in-Ok-seal_entry.ensures.few in
     let holds = subst (λ (t : List ℕ). EntryHolds t schema (entry_files text.text)) (sym c.in_ok-table.ensures) (entry_holds text schema c.requires.written says few) in
-    c.commit_create.ensures.through_crashes first start (entry_files text.text) (c.in-Ok-seal_entry.ensures.files tells ∙ ap (λ (t : List ℕ). Some (entry_files t)) c.as_slice.ensures) holds keeps
+    c.commit_create.ensures.through_crashes first start (record { files = entry_files text.text; sealed_are = c.in-Ok-seal_entry.ensures.files tells ∙ ap (λ (t : List ℕ). Some (entry_files t)) c.as_slice.ensures; holds = holds }) keeps
 
 pub returns-in-Err-commit_create-clause-through_crashes : goal.returns-in-Err-commit_create-clause-through_crashes
 returns-in-Err-commit_create-clause-through_crashes g c = λ first start tells keeps.
@@ -145,7 +147,7 @@ returns-in-Err-commit_create-clause-through_crashes g c = λ first start tells k
     let says = sym c.in_ok-resolved.ensures ∙ c.in-Ok.is in
     let few = subst (λ (t : List ℕ). length t < 2 ^ 32) c.as_slice.ensures c.in-Ok-seal_entry.ensures.few in
     let holds = subst (λ (t : List ℕ). EntryHolds t schema (entry_files text.text)) (sym c.in_ok-table.ensures) (entry_holds text schema c.requires.written says few) in
-    c.commit_create.ensures.through_crashes first start (entry_files text.text) (c.in-Ok-seal_entry.ensures.files tells ∙ ap (λ (t : List ℕ). Some (entry_files t)) c.as_slice.ensures) holds keeps
+    c.commit_create.ensures.through_crashes first start (record { files = entry_files text.text; sealed_are = c.in-Ok-seal_entry.ensures.files tells ∙ ap (λ (t : List ℕ). Some (entry_files t)) c.as_slice.ensures; holds = holds }) keeps
 
 -- what is known of annals
 pub returns-in-Err-clause-gains : goal.returns-in-Err-clause-gains
@@ -167,8 +169,8 @@ returns-in-Ok-commit_create-clause-gains g c =
     let says = sym c.in_ok-resolved.ensures ∙ c.in-Ok.is in
     let by = λ (t : List ℕ). command.Create (record { table = t; schema = c.in-Ok.schema }) in
     gains_noted store before (statement.Create text) (by text.table) (ap (create_commands text.table) says) old new
-    (still_created store text.table before c.requires.opened (subst (λ (t : List ℕ). IsCause (refuses_create store t before) None) name done.cause))
-    mark (subst (λ (t : List ℕ). Notes mark (entry_of 0 (by t)) old new) name done.annals)
+    (still_created store text.table before c.requires.ready.opened (subst (λ (t : List ℕ). IsCause (refuses_create store t before) None) name done.cause))
+    mark (subst (λ (t : List ℕ). Notes mark (entry_of 0 (by t)) old new) name done.turn.annals)
 
 pub returns-in-Err-commit_create-clause-gains : goal.returns-in-Err-commit_create-clause-gains
 returns-in-Err-commit_create-clause-gains g c =
@@ -176,15 +178,16 @@ returns-in-Err-commit_create-clause-gains g c =
     let text = c.args.text.now in
     let name = c.in_ok-table.ensures in
     let ended = c.in-Err-commit_create.ensures in
+    let after = after_refusal _ _ _ _ c.in-Err-commit_create.field-0.cause c.in-Err-commit_create.field-0.back c.in-Err-commit_create.ensures.turn in
     let cause = c.in-Err-commit_create.field-0.cause in
     let before = g.D.Disk.failed c.args.disk.now in
     let old = g.A.Annals.told c.args.annals.now in
     let new = g.A.Annals.told c.commit_create.new.annals in
     let says = sym c.in_ok-resolved.ensures ∙ c.in-Ok.is in
     let by = λ (t : List ℕ). command.Create (record { table = t; schema = c.in-Ok.schema }) in
-    gains_refused store before (statement.Create text) (by text.table) (ap (create_commands text.table) says) old new c.in-Err-commit_create.field-0.back ended.list_back
-    (λ none. subst (λ (t : List ℕ). new ≡ option_map (began (entry_of 0 (by t))) old) name (ended.begun none))
-    (λ none. still_refused store text.table before c.requires.opened cause (subst (λ (t : List ℕ). IsCause (refuses_create store t before) (Some cause)) name ended.cause) (ended.given none))
+    gains_refused store before (statement.Create text) (by text.table) (ap (create_commands text.table) says) old new c.in-Err-commit_create.field-0.back after.list_back
+    (λ none. subst (λ (t : List ℕ). new ≡ option_map (began (entry_of 0 (by t))) old) name (after.begun none))
+    (λ none. still_refused store text.table before c.requires.ready.opened cause (subst (λ (t : List ℕ). IsCause (refuses_create store t before) (Some cause)) name ended.cause) (after.given none))
 
 -- what the outside did where the reply says so
 pub returns-in-Err-clause-causes : goal.returns-in-Err-clause-causes
@@ -210,11 +213,12 @@ returns-in-Err-commit_create-clause-causes g c =
     let store = c.args.store.now in
     let table = c.args.text.now.table in
     let ended = c.in-Err-commit_create.ensures in
+    let after = after_refusal _ _ _ _ c.in-Err-commit_create.field-0.cause c.in-Err-commit_create.field-0.back c.in-Err-commit_create.ensures.turn in
     let cause = c.in-Err-commit_create.field-0.cause in
     let before = g.D.Disk.failed c.args.disk.now in
     let shown = subst (λ (t : List ℕ). IsCause (refuses_create store t before) (Some cause)) c.in_ok-table.ensures ended.cause in
     IfOk-weaker c.refused_line.result _ _ (λ line is. refused_says store.opened before (g.D.Disk.failed c.commit_create.new.disk) (g.D.Arm.Arm.failed c.args.arm.now) (g.D.Arm.Arm.failed c.give_back.new.arm) table cause line.items is
-    (create_risen store table before cause shown) ended.rose) c.refused_line.ensures.line
+    (create_risen store table before cause shown) after.rose) c.refused_line.ensures.line
 
 -- where the store was stopped before
 pub returns-in-Err-clause-stopped : goal.returns-in-Err-clause-stopped
@@ -227,18 +231,19 @@ pub returns-in-Ok-commit_create-clause-stopped : goal.returns-in-Ok-commit_creat
 returns-in-Ok-commit_create-clause-stopped g c = λ risen.
     let store = c.args.store.now in
     let before = g.D.Disk.failed c.args.disk.now in
-    let calm = still_created store c.args.text.now.table before c.requires.opened (subst (λ (t : List ℕ). IsCause (refuses_create store t before) None) c.in_ok-table.ensures c.in-Ok-commit_create.ensures.cause) in
+    let calm = still_created store c.args.text.now.table before c.requires.ready.opened (subst (λ (t : List ℕ). IsCause (refuses_create store t before) None) c.in_ok-table.ensures c.in-Ok-commit_create.ensures.cause) in
     absurd (omega (arith, calm, risen))
 
 pub returns-in-Err-commit_create-clause-stopped : goal.returns-in-Err-commit_create-clause-stopped
 returns-in-Err-commit_create-clause-stopped g c = λ risen.
     let store = c.args.store.now in
     let ended = c.in-Err-commit_create.ensures in
+    let after = after_refusal _ _ _ _ c.in-Err-commit_create.field-0.cause c.in-Err-commit_create.field-0.back c.in-Err-commit_create.ensures.turn in
     let cause = c.in-Err-commit_create.field-0.cause in
     let before = g.D.Disk.failed c.args.disk.now in
     let shown = subst (λ (t : List ℕ). IsCause (refuses_create store t before) (Some cause)) c.in_ok-table.ensures ended.cause in
     stays_refused store c.commit_create.new.store before c.in-Err-commit_create.field-0.back c.args.disk.now c.commit_create.new.disk (g.A.Annals.told c.args.annals.now) (g.A.Annals.told c.commit_create.new.annals)
-    (λ none. still_refused store c.args.text.now.table before c.requires.opened cause shown (ended.given none)) risen ended.same ended.unpublished ended.list_back
+    (λ none. still_refused store c.args.text.now.table before c.requires.ready.opened cause shown (after.given none)) risen ended.enters ended.untouched after.list_back
 
 -- the reply does not tell of damage
 pub returns-in-Err-clause-undamaged : goal.returns-in-Err-clause-undamaged
@@ -275,10 +280,19 @@ returns-in-Ok-commit_create-clause-arm_memory g c = tt
 
 pub returns-in-Err-commit_create-clause-memory : goal.returns-in-Err-commit_create-clause-memory
 returns-in-Err-commit_create-clause-memory g c =
-    IfErr-weaker c.refused_line.result _ _ (λ e other. c.in-Err-commit_create.ensures.calm c.in-Ok-seal_entry.ensures.none_failed other) c.refused_line.ensures.disk
+    let after = after_refusal _ _ _ _ c.in-Err-commit_create.field-0.cause c.in-Err-commit_create.field-0.back c.in-Err-commit_create.ensures.turn in
+    IfErr-weaker c.refused_line.result _ _ (λ e other. after.calm c.in-Ok-seal_entry.ensures.none_failed other) c.refused_line.ensures.disk
 
 pub returns-in-Err-commit_create-clause-arm_memory : goal.returns-in-Err-commit_create-clause-arm_memory
 returns-in-Err-commit_create-clause-arm_memory g c =
+    let after = after_refusal _ _ _ _ c.in-Err-commit_create.field-0.cause c.in-Err-commit_create.field-0.back c.in-Err-commit_create.ensures.turn in
     in_any_case c.refused_line.result
-    (c.give_back.ensures.none_failed (IfSome_then c.in-Err-commit_create.field-0.back c.in-Err-commit_create.ensures.back (λ s same. ap (λ (x : Filled). x.failed) same ∙ c.in-Ok-seal_entry.ensures.none_failed))
+    (c.give_back.ensures.none_failed (IfSome_then c.in-Err-commit_create.field-0.back after.returned (λ s same. ap (λ (x : Filled). x.failed) same ∙ c.in-Ok-seal_entry.ensures.none_failed))
     ∙ c.in-Ok-seal_entry.ensures.cause.ok)
+
+-- the disk's count does not fall
+pub returns-in-Ok-commit_create-clause-disk_later : goal.returns-in-Ok-commit_create-clause-disk_later
+returns-in-Ok-commit_create-clause-disk_later g c = c.in-Ok-commit_create.ensures.turn.later
+
+pub returns-in-Err-commit_create-clause-disk_later : goal.returns-in-Err-commit_create-clause-disk_later
+returns-in-Err-commit_create-clause-disk_later g c = (after_refusal _ _ _ _ c.in-Err-commit_create.field-0.cause c.in-Err-commit_create.field-0.back c.in-Err-commit_create.ensures.turn).later

@@ -29,6 +29,7 @@ use Rattle.reply_lines.proofs.Refusing.{command_failed, command_refused}
 use Rattle.command_turn.specs.Gains.{commands_over, schemas_in}
 use Rattle.command_turn.proofs.Gaining.{begun_refused, gains_noted, gains_refused, keeps_refused, leaves_told, stays_refused, still_added, still_part_refused}
 use Rattle.root_commits.proofs.SameStores.{stands_same}
+use Rattle.root_commits.proofs.Turning.{after_refusal}
 use Rattle.command_turn.proofs.Standing.{drawn_is, no_table, parts_made, table_schema}
 use Rattle.command_turn.specs.Stops.{IsLineOf}
 use Rattle.reply_lines.specs.Lines.{IsLineOfStage}
@@ -95,7 +96,7 @@ returns-then-is_empty-clause-answers g c = λ kept is tells stands.
     (λ reply line n f. accepted_none n kept (statement.Insert text) reply (ap (commands_for text) there ∙ no_rows text found.schema (c.in-Ok.ensures.rows ∙ ap Ok none)) (line ∙ ap ok_line (stands.length_is ∙ length_history kept)))
 
 pub seal_block-requires-clause-schema : goal.seal_block-requires-clause-schema
-seal_block-requires-clause-schema g c κs within = (c.requires.store.tables c.args.text.now.table c.in-Some.found.now (sym c.in-Some.ensures.value)).schema
+seal_block-requires-clause-schema g c κs within = (c.requires.ready.sound.tables c.args.text.now.table c.in-Some.found.now (sym c.in-Some.ensures.value)).schema
 
 -- its files were not sealed
 pub returns-in-Err-clause-answers : goal.returns-in-Err-clause-answers
@@ -150,9 +151,9 @@ returns-in-Ok-commit_part-clause-answers g c = λ kept is tells stands.
     let sealed = c.in-Ok-seal_block.ensures.sealed tells in
     inserted_accepts text found.schema block kept gives files (g.D.Disk.clock c.commit_part.new.disk) store.opened (g.D.Disk.failed c.commit_part.new.disk) (g.D.Arm.Arm.failed c.seal_block.new.arm) store.length count c.commit_part.new.store
     c.in_ok-replies.replies.accepted.items (g.A.Annals.told c.args.annals.now) (g.A.Annals.told c.commit_part.new.annals) (g.D.Disk.told c.args.disk.now) (g.D.Disk.told c.commit_part.new.disk)
-    stands.length_is (parts_made files h store stands text.table found at partition) turn is (done.annals found at) (done.stands h found stands at sealed)
+    stands.length_is (parts_made files h store stands text.table found at partition) turn is (done.turn found at).annals (done.stands h found at sealed stands).store_stands
     c.in_ok-replies.ensures.accepted
-    (λ root. done.root_stands h found stands root at sealed)
+    (done.stands h found at sealed stands).root_stands
 
 -- it was not
 pub returns-in-Err-commit_part-clause-answers : goal.returns-in-Err-commit_part-clause-answers
@@ -168,6 +169,7 @@ returns-in-Err-commit_part-clause-answers g c = λ kept is tells stands.
     let some = has_rows block.rows c.is_empty.result c.if-is_empty.false c.is_empty.ensures.1 in
     let gives = ap (commands_for text) there ∙ rows_give text found.schema block c.in-Ok.ensures.rows some c.in-Ok.ensures.types in
     let ended = c.in-Err-commit_part.ensures in
+    let after = after_refusal _ _ _ _ c.in-Err-commit_part.field-0.cause c.in-Err-commit_part.field-0.back (c.in-Err-commit_part.ensures.turn c.in-Some.found.now (sym c.in-Some.ensures.value)) in
     let cause = c.in-Err-commit_part.field-0.cause in
     let result = c.refused_line.result in
     let was = g.D.Disk.told c.args.disk.now in
@@ -179,14 +181,14 @@ returns-in-Err-commit_part-clause-answers g c = λ kept is tells stands.
     let told = g.A.Annals.told c.commit_part.new.annals in
     let said = statement.Insert text in
     let next = inserted found.schema text.table block in
-    let left = leaves_told next kept (IsOutside (Some cause)) c.in-Err-commit_part.field-0.back old told is ended.list_back (ended.begun found at) ended.given in
+    let left = leaves_told next kept (IsOutside (Some cause)) c.in-Err-commit_part.field-0.back old told is after.list_back after.begun after.given in
     answers_line files kept (Ok said) store.opened disk arm result c.commit_part.new.store told was now (IsLineOf 0 text.table cause) c.refused_line.ensures.line
-    (IfErr-weaker result _ _ (λ e no. keeps_refused said next kept gives (IsOutside (Some cause)) told left was now (ended.unchanged no)) c.refused_line.ensures.disk)
+    (IfErr-weaker result _ _ (λ e no. keeps_refused said next kept gives (IsOutside (Some cause)) told left was now (after.unchanged no)) c.refused_line.ensures.disk)
     (λ reply line. answered_nothing files kept left.now (Ok said) store.opened disk arm reply c.commit_part.new.store told was now left.told_is left.list_is
     (begun_refused said next kept gives (IsOutside (Some cause)) told left reply (by_disk text.table cause reply line))
-    (stands_same files h store c.commit_part.new.store stands ended.same)
-    (λ n f. insert_not_committed files store kept stands before disk arm cause reply n f c.requires.opened ended.later ended.rose text found at block gives line (ended.cause found at))
-    (λ calm bef. root_unless_disk text.table cause reply h was now line ended.unchanged calm bef))
+    (stands_same files h store c.commit_part.new.store stands (ended.enters found (sym c.in-Some.ensures.value)))
+    (λ n f. insert_not_committed files store kept stands before disk arm cause reply n f c.requires.ready.opened after.later after.rose text found at block gives line (ended.cause found at))
+    (λ calm bef. root_unless_disk text.table cause reply h was now line after.unchanged calm bef))
 
 -- what a crash leaves
 pub returns-in-Ok-commit_part-clause-through_crashes : goal.returns-in-Ok-commit_part-clause-through_crashes
@@ -229,7 +231,7 @@ returns-in-Ok-commit_part-clause-gains g c =
     let before = g.D.Disk.failed c.args.disk.now in
     gains_noted store before (statement.Insert text) (inserted found.schema text.table block) (by_rows store text found block at some c.in-Ok.ensures.rows c.in-Ok.ensures.types)
     (g.A.Annals.told c.args.annals.now) (g.A.Annals.told c.commit_part.new.annals)
-    (still_added store text.table before c.requires.opened (partition_of_block found.schema block) found.drawn (done.cause found at)) (g.D.Disk.clock c.commit_part.new.disk) (done.annals found at)
+    (still_added store text.table before c.requires.ready.opened (partition_of_block found.schema block) found.drawn (done.cause found at)) (g.D.Disk.clock c.commit_part.new.disk) (done.turn found at).annals
 
 pub returns-in-Err-commit_part-clause-gains : goal.returns-in-Err-commit_part-clause-gains
 returns-in-Err-commit_part-clause-gains g c =
@@ -240,11 +242,12 @@ returns-in-Err-commit_part-clause-gains g c =
     let at = sym c.in-Some.ensures.value in
     let some = has_rows block.rows c.is_empty.result c.if-is_empty.false c.is_empty.ensures.1 in
     let ended = c.in-Err-commit_part.ensures in
+    let after = after_refusal _ _ _ _ c.in-Err-commit_part.field-0.cause c.in-Err-commit_part.field-0.back (c.in-Err-commit_part.ensures.turn c.in-Some.found.now (sym c.in-Some.ensures.value)) in
     let cause = c.in-Err-commit_part.field-0.cause in
     let before = g.D.Disk.failed c.args.disk.now in
     gains_refused store before (statement.Insert text) (inserted found.schema text.table block) (by_rows store text found block at some c.in-Ok.ensures.rows c.in-Ok.ensures.types)
-    (g.A.Annals.told c.args.annals.now) (g.A.Annals.told c.commit_part.new.annals) c.in-Err-commit_part.field-0.back ended.list_back (ended.begun found at)
-    (λ none. still_part_refused store text.table before c.requires.opened (partition_of_block found.schema block) found.drawn cause (ended.cause found at) (ended.given none))
+    (g.A.Annals.told c.args.annals.now) (g.A.Annals.told c.commit_part.new.annals) c.in-Err-commit_part.field-0.back after.list_back after.begun
+    (λ none. still_part_refused store text.table before c.requires.ready.opened (partition_of_block found.schema block) found.drawn cause (ended.cause found at) (after.given none))
 
 -- what the outside did where the reply says so
 pub returns-in_default-clause-causes : goal.returns-in_default-clause-causes
@@ -287,10 +290,11 @@ returns-in-Err-commit_part-clause-causes g c =
     let table = c.args.text.now.table in
     let found = c.in-Some.found.now in
     let ended = c.in-Err-commit_part.ensures in
+    let after = after_refusal _ _ _ _ c.in-Err-commit_part.field-0.cause c.in-Err-commit_part.field-0.back (c.in-Err-commit_part.ensures.turn c.in-Some.found.now (sym c.in-Some.ensures.value)) in
     let cause = c.in-Err-commit_part.field-0.cause in
     let before = g.D.Disk.failed c.args.disk.now in
     IfOk-weaker c.refused_line.result _ _ (λ line is. refused_says store.opened before (g.D.Disk.failed c.commit_part.new.disk) (g.D.Arm.Arm.failed c.args.arm.now) (g.D.Arm.Arm.failed c.give_back_part.new.arm) table cause line.items is
-    (part_risen store table before cause (partition_of_block found.schema c.in-Ok.block) found.drawn (ended.cause found (sym c.in-Some.ensures.value))) ended.rose) c.refused_line.ensures.line
+    (part_risen store table before cause (partition_of_block found.schema c.in-Ok.block) found.drawn (ended.cause found (sym c.in-Some.ensures.value))) after.rose) c.refused_line.ensures.line
 
 -- where the store was stopped before
 pub returns-in_default-clause-stopped : goal.returns-in_default-clause-stopped
@@ -310,7 +314,7 @@ returns-in-Ok-commit_part-clause-stopped g c = λ risen.
     let store = c.args.store.now in
     let found = c.in-Some.found.now in
     let before = g.D.Disk.failed c.args.disk.now in
-    let calm = still_added store c.args.text.now.table before c.requires.opened (partition_of_block found.schema c.in-Ok.block) found.drawn (c.in-Ok-commit_part.ensures.cause found (sym c.in-Some.ensures.value)) in
+    let calm = still_added store c.args.text.now.table before c.requires.ready.opened (partition_of_block found.schema c.in-Ok.block) found.drawn (c.in-Ok-commit_part.ensures.cause found (sym c.in-Some.ensures.value)) in
     absurd (omega (arith, calm, risen))
 
 pub returns-in-Err-commit_part-clause-stopped : goal.returns-in-Err-commit_part-clause-stopped
@@ -318,11 +322,12 @@ returns-in-Err-commit_part-clause-stopped g c = λ risen.
     let store = c.args.store.now in
     let found = c.in-Some.found.now in
     let ended = c.in-Err-commit_part.ensures in
+    let after = after_refusal _ _ _ _ c.in-Err-commit_part.field-0.cause c.in-Err-commit_part.field-0.back (c.in-Err-commit_part.ensures.turn c.in-Some.found.now (sym c.in-Some.ensures.value)) in
     let cause = c.in-Err-commit_part.field-0.cause in
     let before = g.D.Disk.failed c.args.disk.now in
     stays_refused store c.commit_part.new.store before c.in-Err-commit_part.field-0.back c.args.disk.now c.commit_part.new.disk (g.A.Annals.told c.args.annals.now) (g.A.Annals.told c.commit_part.new.annals)
-    (λ none. still_part_refused store c.args.text.now.table before c.requires.opened (partition_of_block found.schema c.in-Ok.block) found.drawn cause (ended.cause found (sym c.in-Some.ensures.value)) (ended.given none))
-    risen ended.same ended.unpublished ended.list_back
+    (λ none. still_part_refused store c.args.text.now.table before c.requires.ready.opened (partition_of_block found.schema c.in-Ok.block) found.drawn cause (ended.cause found (sym c.in-Some.ensures.value)) (after.given none))
+    risen (ended.enters found (sym c.in-Some.ensures.value)) ended.untouched after.list_back
 
 -- the reply does not tell of damage
 pub returns-in_default-clause-undamaged : goal.returns-in_default-clause-undamaged
@@ -384,10 +389,19 @@ returns-in-Ok-commit_part-clause-arm_memory g c = tt
 
 pub returns-in-Err-commit_part-clause-memory : goal.returns-in-Err-commit_part-clause-memory
 returns-in-Err-commit_part-clause-memory g c =
-    IfErr-weaker c.refused_line.result _ _ (λ e other. c.in-Err-commit_part.ensures.calm c.in-Ok-seal_block.ensures.none_failed other) c.refused_line.ensures.disk
+    let after = after_refusal _ _ _ _ c.in-Err-commit_part.field-0.cause c.in-Err-commit_part.field-0.back (c.in-Err-commit_part.ensures.turn c.in-Some.found.now (sym c.in-Some.ensures.value)) in
+    IfErr-weaker c.refused_line.result _ _ (λ e other. after.calm c.in-Ok-seal_block.ensures.none_failed other) c.refused_line.ensures.disk
 
 pub returns-in-Err-commit_part-clause-arm_memory : goal.returns-in-Err-commit_part-clause-arm_memory
 returns-in-Err-commit_part-clause-arm_memory g c =
+    let after = after_refusal _ _ _ _ c.in-Err-commit_part.field-0.cause c.in-Err-commit_part.field-0.back (c.in-Err-commit_part.ensures.turn c.in-Some.found.now (sym c.in-Some.ensures.value)) in
     in_any_case c.refused_line.result
-    (c.give_back_part.ensures.none_failed (IfSome_then c.in-Err-commit_part.field-0.back c.in-Err-commit_part.ensures.back (λ p same. ap (λ (x : SealedPart _). x.sealed.failed) same ∙ c.in-Ok-seal_block.ensures.none_failed))
+    (c.give_back_part.ensures.none_failed (IfSome_then c.in-Err-commit_part.field-0.back after.returned (λ p same. ap (λ (x : SealedPart _). x.sealed.failed) same ∙ c.in-Ok-seal_block.ensures.none_failed))
     ∙ c.in-Ok-seal_block.ensures.cause.ok)
+
+-- the disk's count does not fall
+pub returns-in-Ok-commit_part-clause-disk_later : goal.returns-in-Ok-commit_part-clause-disk_later
+returns-in-Ok-commit_part-clause-disk_later g c = (c.in-Ok-commit_part.ensures.turn c.in-Some.found.now (sym c.in-Some.ensures.value)).later
+
+pub returns-in-Err-commit_part-clause-disk_later : goal.returns-in-Err-commit_part-clause-disk_later
+returns-in-Err-commit_part-clause-disk_later g c = (after_refusal _ _ _ _ c.in-Err-commit_part.field-0.cause c.in-Err-commit_part.field-0.back (c.in-Err-commit_part.ensures.turn c.in-Some.found.now (sym c.in-Some.ensures.value))).later

@@ -10,8 +10,7 @@ use Rattle.mt_program.proofs.serving.serve.Goals as goal
 
 pub statements-init : goal.statements-init
 statements-init g c = record {
-  names = c.requires.names;
-  sound = c.requires.store;
+  ready = c.requires.ready;
   opened = refl;
   tells = refl;
   served = λ kept is tells stands settled. served_none g.D.Arm.Dir.Dir.files kept c.args.script.now c.args.store.now.opened (g.D.Disk.failed c.args.disk.now) (g.D.Arm.Arm.failed c.args.arm.now) c.none-tally.result c.args.store.now
@@ -32,11 +31,8 @@ answer-requires-clause-written g c κs within =
     let left = one_statement c.args.script.now c.statements.at c.in-Ok-Some.found.1 c.in-Ok-Some.found.0 found in
     is_written (drop c.statements.at c.args.script.now) c.in-Ok-Some.found.0 (statements_of (drop (c.statements.at + c.in-Ok-Some.found.1) c.args.script.now)) left
 
-pub answer-requires-clause-opened : goal.answer-requires-clause-opened
-answer-requires-clause-opened g c κs within = let same = c.statements.invariant.opened in let low = c.requires.opened in let later = c.statements.invariant.disk_later in omega arith
-
-pub answer-requires-clause-below : goal.answer-requires-clause-below
-answer-requires-clause-below g c κs within = let same = c.statements.invariant.opened in let below = c.requires.below in omega arith
+pub answer-requires-clause-ready : goal.answer-requires-clause-ready
+answer-requires-clause-ready g c κs within = c.statements.invariant.ready
 
 pub returns-in-Ok-None-clause-run : goal.returns-in-Ok-None-clause-run
 returns-in-Ok-None-clause-run g c = λ kept is tells stands settled.
@@ -71,9 +67,9 @@ returns-in-Err-write_reply-clause-run g c = λ kept is tells stands settled.
     let arm = g.D.Arm.Arm.failed c.answer.new.arm in
     let a = subst (λ o. Answered files s.ran.now c.in-Ok-Some.found.0 o disk arm c.in-Ok.reply.items c.answer.new.store (g.A.Annals.told c.answer.new.annals) (g.D.Disk.told c.statements.disk) (g.D.Disk.told c.answer.new.disk)) c.statements.invariant.opened
     (c.in-Ok.ensures.answers s.ran.now s.ran.told_is (c.statements.invariant.tells ∙ tells) s.stands) in
-    let low = c.requires.opened in
+    let low = c.requires.ready.opened in
     let later = c.statements.invariant.disk_later in
-    let failed = unsettled_rose c.statements.store.opened c.args.store.now.opened (g.D.Disk.failed c.statements.disk) disk (g.D.Arm.Arm.failed c.statements.arm) arm c.in-Ok.reply.items c.statements.invariant.opened (omega arith) c.requires.below c.in-Ok.ensures.causes in
+    let failed = unsettled_rose c.statements.store.opened c.args.store.now.opened (g.D.Disk.failed c.statements.disk) disk (g.D.Arm.Arm.failed c.statements.arm) arm c.in-Ok.reply.items c.statements.invariant.opened (omega arith) c.requires.ready.below c.in-Ok.ensures.causes in
     let still : c.args.store.now.opened < g.D.Disk.failed c.statements.disk → g.A.Annals.told c.answer.new.annals ≡ g.A.Annals.told c.statements.annals = λ risen. (c.in-Ok.ensures.stopped (omega (arith, c.statements.invariant.opened, risen))).annals_is in
     served_cut files kept c.args.script.now c.args.store.now.opened (g.D.Disk.failed c.statements.disk) (g.D.Arm.Arm.failed c.statements.arm) c.statements.at c.statements.tally c.statements.store (g.A.Annals.told c.statements.annals) (g.D.Disk.told c.statements.disk)
     (g.K.Sink.written c.args.sink.now) (g.K.Sink.written c.statements.sink) s disk arm c.in-Ok.ensures.disk_later c.in-Ok.ensures.arm_later
@@ -81,8 +77,7 @@ returns-in-Err-write_reply-clause-run g c = λ kept is tells stands settled.
 
 pub statements-preserved : goal.statements-preserved
 statements-preserved g c = record {
-  names = c.in-Ok.ensures.names;
-  sound = c.in-Ok.ensures.store;
+  ready = c.in-Ok.ensures.ready;
   opened = c.in-Ok.ensures.opened ∙ c.statements.invariant.opened;
   tells = c.in-Ok.ensures.tells ∙ c.statements.invariant.tells;
   served = λ kept is tells stands settled.
@@ -94,9 +89,9 @@ statements-preserved g c = record {
       let arm = g.D.Arm.Arm.failed c.answer.new.arm in
       let a = subst (λ o. Answered files s.ran.now c.in-Ok-Some.found.0 o disk arm c.in-Ok.reply.items c.answer.new.store (g.A.Annals.told c.answer.new.annals) (g.D.Disk.told c.statements.disk) (g.D.Disk.told c.answer.new.disk)) c.statements.invariant.opened
       (c.in-Ok.ensures.answers s.ran.now s.ran.told_is (c.statements.invariant.tells ∙ tells) s.stands) in
-      let low = c.requires.opened in
+      let low = c.requires.ready.opened in
       let later = c.statements.invariant.disk_later in
-      let failed = unsettled_rose c.statements.store.opened c.args.store.now.opened (g.D.Disk.failed c.statements.disk) disk (g.D.Arm.Arm.failed c.statements.arm) arm c.in-Ok.reply.items c.statements.invariant.opened (omega arith) c.requires.below c.in-Ok.ensures.causes in
+      let failed = unsettled_rose c.statements.store.opened c.args.store.now.opened (g.D.Disk.failed c.statements.disk) disk (g.D.Arm.Arm.failed c.statements.arm) arm c.in-Ok.reply.items c.statements.invariant.opened (omega arith) c.requires.ready.below c.in-Ok.ensures.causes in
       let still : c.args.store.now.opened < g.D.Disk.failed c.statements.disk → g.A.Annals.told c.answer.new.annals ≡ g.A.Annals.told c.statements.annals = λ risen. (c.in-Ok.ensures.stopped (omega (arith, c.statements.invariant.opened, risen))).annals_is in
       let more = served_more files kept c.args.script.now c.args.store.now.opened (g.D.Disk.failed c.statements.disk) (g.D.Arm.Arm.failed c.statements.arm) c.statements.at c.statements.tally c.statements.store (g.A.Annals.told c.statements.annals) (g.D.Disk.told c.statements.disk)
       (g.K.Sink.written c.args.sink.now) (g.K.Sink.written c.statements.sink) s disk arm c.in-Ok.ensures.disk_later c.in-Ok.ensures.arm_later
@@ -114,7 +109,7 @@ statements-preserved g c = record {
         was.0 ++ c.in-Ok-Some.found.0 ∷ [],
         one_more c.args.script.now was.0 _ c.in-Ok-Some.found.0 _ was.1 left,
         c.in-Ok.ensures.through_crashes first start (c.statements.invariant.tells ∙ tells) was.2,
-        gained_one was.0 c.in-Ok-Some.found.0 (g.A.Annals.told c.statements.annals) (g.A.Annals.told c.answer.new.annals) first was.3 g.D.Arm.Dir.Dir.files c.statements.store.opened (g.D.Disk.failed c.statements.disk) c.statements.store (omega (arith, c.requires.opened, c.statements.invariant.opened, c.statements.invariant.disk_later))
+        gained_one was.0 c.in-Ok-Some.found.0 (g.A.Annals.told c.statements.annals) (g.A.Annals.told c.answer.new.annals) first was.3 g.D.Arm.Dir.Dir.files c.statements.store.opened (g.D.Disk.failed c.statements.disk) c.statements.store (omega (arith, c.requires.ready.opened, c.statements.invariant.opened, c.statements.invariant.disk_later))
             (λ still. (was.2.calm still).1)
             (λ kept is stands.
             let a = c.in-Ok.ensures.answers kept is (c.statements.invariant.tells ∙ tells) stands in
@@ -151,7 +146,7 @@ returns-in-Err-answer-clause-through_crashes g c = λ first start tells keeps ga
     let was = c.statements.invariant.keeps first start tells keeps gained in
     left_behind c.args.store.now.opened (statements_of c.args.script.now) (was.0 ++ c.in-Ok-Some.found.0 ∷ []) (statements_of (drop (c.statements.at + c.in-Ok-Some.found.1) c.args.script.now))
     (one_more c.args.script.now was.0 _ c.in-Ok-Some.found.0 _ was.1 left) (c.in-Err-answer.ensures.opened ∙ c.statements.invariant.opened) (c.in-Err-answer.ensures.through_crashes first start (c.statements.invariant.tells ∙ tells) was.2)
-    (gained_one was.0 c.in-Ok-Some.found.0 (g.A.Annals.told c.statements.annals) (g.A.Annals.told c.answer.new.annals) first was.3 g.D.Arm.Dir.Dir.files c.statements.store.opened (g.D.Disk.failed c.statements.disk) c.statements.store (omega (arith, c.requires.opened, c.statements.invariant.opened, c.statements.invariant.disk_later))
+    (gained_one was.0 c.in-Ok-Some.found.0 (g.A.Annals.told c.statements.annals) (g.A.Annals.told c.answer.new.annals) first was.3 g.D.Arm.Dir.Dir.files c.statements.store.opened (g.D.Disk.failed c.statements.disk) c.statements.store (omega (arith, c.requires.ready.opened, c.statements.invariant.opened, c.statements.invariant.disk_later))
     (λ still. (was.2.calm still).1)
     (λ kept is stands.
     let k = c.in-Err-answer.ensures.answers kept is (c.statements.invariant.tells ∙ tells) stands in
@@ -165,7 +160,7 @@ returns-in-Err-write_reply-clause-through_crashes g c = λ first start tells kee
     let was = c.statements.invariant.keeps first start tells keeps gained in
     left_behind c.args.store.now.opened (statements_of c.args.script.now) (was.0 ++ c.in-Ok-Some.found.0 ∷ []) (statements_of (drop (c.statements.at + c.in-Ok-Some.found.1) c.args.script.now))
     (one_more c.args.script.now was.0 _ c.in-Ok-Some.found.0 _ was.1 left) (c.in-Ok.ensures.opened ∙ c.statements.invariant.opened) (c.in-Ok.ensures.through_crashes first start (c.statements.invariant.tells ∙ tells) was.2)
-    (gained_one was.0 c.in-Ok-Some.found.0 (g.A.Annals.told c.statements.annals) (g.A.Annals.told c.answer.new.annals) first was.3 g.D.Arm.Dir.Dir.files c.statements.store.opened (g.D.Disk.failed c.statements.disk) c.statements.store (omega (arith, c.requires.opened, c.statements.invariant.opened, c.statements.invariant.disk_later))
+    (gained_one was.0 c.in-Ok-Some.found.0 (g.A.Annals.told c.statements.annals) (g.A.Annals.told c.answer.new.annals) first was.3 g.D.Arm.Dir.Dir.files c.statements.store.opened (g.D.Disk.failed c.statements.disk) c.statements.store (omega (arith, c.requires.ready.opened, c.statements.invariant.opened, c.statements.invariant.disk_later))
     (λ still. (was.2.calm still).1)
     (λ kept is stands.
     let a = c.in-Ok.ensures.answers kept is (c.statements.invariant.tells ∙ tells) stands in

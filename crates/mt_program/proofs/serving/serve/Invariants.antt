@@ -7,7 +7,7 @@ use Rattle.mt_program.specs.Courses.{Item}
 use Rattle.mt_program.specs.Serving.{Served}
 use Rattle.mt_program.specs.Crashes.{IsGainedBy}
 use Rattle.root_store.specs.Crashes.{KeepsThroughCrashes, Storage}
-use Rattle.root_store.specs.Soundness.{HasSoundParts, IsSound, NamesFitUnlessRisen, RootStands}
+use Rattle.root_store.specs.Soundness.{HasSoundParts, IsReady, RootStands}
 use Rattle.root_store.specs.Stores.{CoreStands}
 use Rattle.mt_program.proofs.serving.serve.Given as goal
 
@@ -21,8 +21,7 @@ invariant-statements g l =
     let was : Storage = record { disk = g.D.Disk.told l.initial.disk; clock = g.D.Disk.clock l.initial.disk; failed = faults l.initial.disk; annals = told l.initial.annals } in
     let now : Storage = record { disk = g.D.Disk.told l.disk; clock = g.D.Disk.clock l.disk; failed = faults l.disk; annals = told l.annals } in
     record {
-      names : NamesFitUnlessRisen (faults l.disk) (g.D.Disk.told l.disk) l.store;
-      sound : IsSound l.store;
+      ready : IsReady (faults l.disk) (g.D.Disk.told l.disk) l.store;
       opened : l.store.opened ≡ l.initial.store.opened;
       tells : g.D.Arm.Arm.tells l.arm ≡ g.D.Arm.Arm.tells l.initial.arm;
       served : (kept : Told) → told l.initial.annals ≡ Some kept → g.D.Arm.Arm.tells l.initial.arm ≡ true → CoreStands files (history kept) l.initial.store → RootStands (g.D.Disk.told l.initial.disk) (history kept)

@@ -1,4 +1,4 @@
-use Rattle.std.proofs.Common.{◌∙◌, ◌+◌, ℕ, subst, refl, sym, inl, inr}
+use Rattle.std.proofs.Common.{◌∙◌, ◌+◌, ℕ, arith, subst, refl, sym, inl, inr}
 use Rattle.mt_outside.specs.Disk.{names_of}
 use Rattle.reply_lines.specs.Foreseen.{history}
 use Rattle.mt_program.specs.Endings.{LeftBy}
@@ -7,7 +7,7 @@ use Rattle.root_store.proofs.CrashMarks.{safe_at_start, stands_as_read}
 use Rattle.mt_program.proofs.Crashing.{keeps_opened, nothing_of_script}
 use Rattle.mt_program.proofs.Gaining.{gained_nothing}
 use Rattle.mt_program.proofs.Heading.{root_told, writes_damage, writes_nothing}
-use Rattle.mt_program.proofs.Reopened.{reopened, sound_reopened, stands_reopened}
+use Rattle.mt_program.proofs.Reopened.{names_reopened, reopened, sound_reopened, stands_reopened}
 use Rattle.mt_program.proofs.Undamaged.{not_opened}
 use Rattle.mt_program.proofs.top.run_root.Goals as goal
 
@@ -31,8 +31,16 @@ returns-in-Err-clause-opening g c = λ names damage is damaged. (
 pub returns-in-Err-clause-sound : goal.returns-in-Err-clause-sound
 returns-in-Err-clause-sound g c = λ kept names told is stands tells. c.failed_root.ensures.damaged (c.in-Err.ensures.stands names (history kept) is stands)
 
-pub run_script-requires-clause-store : goal.run_script-requires-clause-store
-run_script-requires-clause-store g c κs within = sound_reopened c.in-Ok.store c.args.opened c.in-Ok.ensures.sound
+pub run_script-requires-clause-ready : goal.run_script-requires-clause-ready
+run_script-requires-clause-ready g c κs within =
+    let low = c.requires.opened in
+    let later = c.in-Ok.ensures.later in
+    record {
+      names = λ still names is. names_reopened c.in-Ok.store c.args.opened names (c.in-Ok.ensures.names names (sym c.in-Ok.ensures.told ∙ is));
+      sound = sound_reopened c.in-Ok.store c.args.opened c.in-Ok.ensures.sound;
+      opened = omega (arith, low, later);
+      below = c.requires.below;
+    }
 
 -- the script was served
 pub returns-clause-leaves : goal.returns-clause-leaves
