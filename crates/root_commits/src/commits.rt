@@ -27,7 +27,7 @@ ghost use Rattle.root_store.specs.declared.store.Table.{Table as Made};
 
 use crate::turns::turn;
 use durable_commit::{Limit, Refused, refuse_stopped, take_out};
-use mt_base::{NoMemory, Partition, Twin};
+use mt_base::{NUMBER_LIMIT, NoMemory, PART_LIMIT, Partition, TABLE_LIMIT, Twin};
 use mt_outside::{Arm, Disk, DiskError};
 use mt_values::{Annals, Block, Command, Create, Entry, Insert, Name, Schema};
 use part_name::PartName;
@@ -38,15 +38,6 @@ use root_store::{CoreStore, Table, put_table};
 use stage_dir::Sealed;
 use std::alloc::Global;
 use std::collections::BTreeMap;
-
-/// No more tables than this are made.
-const MOST_TABLES: usize = 64;
-
-/// No partition has more parts than this.
-const MOST_PARTS: usize = 3000;
-
-/// The greatest number of a table's commands.
-const LAST_NUMBER: u32 = 4_294_967_295;
 
 /// Why a command was not committed, and what was sealed for it, where it was not given to the disk.
 pub struct Returned<S> {
@@ -61,7 +52,7 @@ fn refuse_create<F>(store: &CoreStore<F>, table: &Name, now: u64) -> Option<Refu
     if store.tables.contains_key(table) {
         return Some(Refused::Exists);
     }
-    if store.tables.len() >= MOST_TABLES {
+    if store.tables.len() >= TABLE_LIMIT {
         return Some(Refused::Limit(Limit::Tables));
     }
     refuse_stopped(store.opened, now)
@@ -106,10 +97,10 @@ fn refuse_part<F>(
 ) -> Option<Refused>
     ensures { result ≡ refuses_part store.now table.now partition drawn now }
 {
-    if count_in(partition, store.set.parts(table)) >= MOST_PARTS {
+    if count_in(partition, store.set.parts(table)) >= PART_LIMIT {
         return Some(Refused::Limit(Limit::Parts));
     }
-    if drawn >= LAST_NUMBER {
+    if drawn >= NUMBER_LIMIT {
         return Some(Refused::Limit(Limit::Numbers));
     }
     refuse_stopped(store.opened, now)
