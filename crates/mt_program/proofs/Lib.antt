@@ -1,6 +1,7 @@
 pub mod Chaining
 pub mod Completing
 pub mod Crashing
+pub mod Folder
 pub mod Gaining
 pub mod Heading
 pub mod Reopened

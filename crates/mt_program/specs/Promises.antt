@@ -13,7 +13,7 @@ use Rattle.root_store.specs.Crashes.{AllStand}
 use Rattle.root_store.specs.Roots.{Stands}
 use Rattle.reply_lines.specs.Foreseen.{history}
 use Rattle.run_streams.specs.Streams.{ConsumesMost}
-use Rattle.run_streams.specs.Words.{is_command}
+use Rattle.run_streams.specs.Words.{is_command, path_of}
 use Rattle.exit_status.specs.declared.status.Status.{Status}
 use Rattle.exit_status.specs.Statuses.{number_of}
 use Rattle.mt_program.specs.Crashes.{IsAsBefore, LeavesOfScript}
@@ -77,10 +77,29 @@ pub record OfCauses (words : List (String Global)) (before : World) (status : �
   pub calm : status ≤ 1 → after.storage.failed ≡ before.storage.failed
   pub full : before.storage.failed ≡ 2 ^ 64 - 1 → (status ≡ 2) ⊎ (status ≡ 5)
 
+-- the folder that was started, and what is known of the disk, the annals, the source and the sink, are as before
+pub record IsUntouched (before after : World) : Type 0 where
+  pub started : after.started ≡ before.started
+  pub disk : after.storage.disk ≡ before.storage.disk
+  pub clock : after.storage.clock ≡ before.storage.clock
+  pub annals : after.storage.annals ≡ before.storage.annals
+  pub source : after.source ≡ before.source
+  pub sink : after.sink ≡ before.sink
+
+-- the words are a command line, and the folder that was started is the one that they name
+pub record IsFolderOf (words : List (String Global)) (after : World) : Type 0 where
+  pub command : is_command words ≡ true
+  pub started : after.started ≡ Some (path_of words)
+
+-- The folder of the run is that of the words. Where it is another, nothing was read, changed or written.
+abbrev pub OfFolder : List (String Global) → World → World → Type 0
+OfFolder words before after = IsFolderOf words after ⊎ IsUntouched before after
+
 -- All that a run promises, by its words, by what was known of the outside before, by the number with which it ended and by what is known after it.
 pub record Promises (words : List (String Global)) (before : World) (status : ℕ) (after : World) : Type 0 where
   pub headline : HeadlineBy status before after
   pub complete : IsComplete words before status after
   pub crashes : OfCrashes before after
   pub damage : OfDamage before status after
+  pub folder : OfFolder words before after
   pub causes : OfCauses words before status after

@@ -7,9 +7,11 @@ use Rattle.root_store.specs.Crashes.{Storage}
 use Rattle.root_store.specs.Roots.{Stands}
 use Rattle.reply_lines.specs.Foreseen.{history}
 
--- What is known at a moment: of the disk and the annals, what the source has left, what was written to the sink, and how many calls have failed.
+-- What is known at a moment: of the disk and the annals, the path of the folder that was started, what the source has left, what was written to the
+-- sink, and how many calls have failed.
 pub record World : Type 0 where
   pub storage : Storage
+  pub started : Option (List ℕ)
   pub source : Option (List ℕ)
   pub source_failed : ℕ
   pub sink : Option (List ℕ)

@@ -83,6 +83,7 @@ pub fn answer<D: Disk, A: Annals, G: Gate>(
     ensures ready { IsReady (D.failed disk.new) (D.told disk.new) store.new }
     ensures opened { store.new.opened ≡ store.old.opened }
     ensures tells { D.Arm.tells arm.new ≡ D.Arm.tells arm.old }
+    ensures started { D.started disk.new ≡ D.started disk.old }
     ensures disk_later { D.failed disk.old ≤ D.failed disk.new }
     ensures arm_later { D.Arm.failed arm.old ≤ D.Arm.failed arm.new }
     ensures memory { OnErr result (D.failed disk.new ≡ D.failed disk.old) }
@@ -116,6 +117,7 @@ pub fn serve<D: Disk, A: Annals, K: Sink, G: Gate>(
         → KeepsThroughCrashes D.Arm.Dir.files store.old was first start → IsGainedBy [] (A.told annals.old) first
         → LeavesForCrashes (statements_of script.now) store.old.opened now first start }
     ensures undamaged { D.Arm.tells arm.old ≡ true → HasSoundParts D.Arm.Dir.files store.old → MetNoDamage (Ok result) }
+    ensures started { D.started disk.new ≡ D.started disk.old }
     ensures disk_later { D.failed disk.old ≤ D.failed disk.new }
     ensures arm_later { D.Arm.failed arm.old ≤ D.Arm.failed arm.new }
     ensures sink_later { K.failed sink.old ≤ K.failed sink.new }

@@ -14,7 +14,7 @@ ghost use Rattle.mt_program.specs.Crashes.{IsAsBefore, IsGainedBy, LeavesOfScrip
 ghost use Rattle.mt_program.specs.Damage.{IsDamagedRoot, WritesDamage, WritesFault, damage_line};
 ghost use Rattle.mt_program.specs.Endings.{IsAnswered, IsEarly, LeftBy, MetNoDamage, status_of, status_of_error, status_of_stop};
 ghost use Rattle.mt_program.specs.Headline.{Headline, HeadlineBy};
-ghost use Rattle.mt_program.specs.Promises.{IsComplete, OfCrashes, OfDamage, Promises};
+ghost use Rattle.mt_program.specs.Promises.{IsComplete, IsUntouched, OfCrashes, OfDamage, OfFolder, Promises};
 ghost use Rattle.mt_program.specs.Worlds.{Starts, World};
 ghost use Rattle.run_streams.specs.Streams.{ConsumesMost};
 ghost use Rattle.run_streams.specs.Words.{is_command};
@@ -104,6 +104,7 @@ fn run_script<D: Disk, A: Annals, S: Source, K: Sink, G: Gate>(
     ensures disk { result ≡ Err Status.DiskFault → ⊥ }
     ensures long { IsErrOf result Status.TooLong → ConsumesMost (S.left source.old) (S.left source.new) }
     ensures write { result ≡ Ok Ending.WriteFault → Rose (K.failed sink.old) (K.failed sink.new) }
+    ensures started { D.started disk.new ≡ D.started disk.old }
     ensures disk_later { D.failed disk.old ≤ D.failed disk.new }
     ensures arm_later { D.Arm.failed arm.old ≤ D.Arm.failed arm.new }
 {
@@ -183,6 +184,7 @@ fn run_root<D: Disk, A: Annals, S: Source, K: Sink, G: Gate>(
     ensures disk { IsErrOf result Status.DiskFault → Rose (D.failed disk.old) (D.failed disk.new) ⊎ Rose (D.Arm.failed arm.old) (D.Arm.failed arm.new) }
     ensures long { IsErrOf result Status.TooLong → ConsumesMost (S.left source.old) (S.left source.new) }
     ensures write { result ≡ Ok Ending.WriteFault → Rose (K.failed sink.old) (K.failed sink.new) }
+    ensures started { D.started disk.new ≡ D.started disk.old }
     ensures disk_later { D.failed disk.old ≤ D.failed disk.new }
     ensures arm_later { D.Arm.failed arm.old ≤ D.Arm.failed arm.new }
 {
@@ -206,6 +208,7 @@ fn run_opened<D: Disk, A: Annals, S: Source, K: Sink, G: Gate>(
 ) -> Status
     ensures headline { let before : World = record {
       storage = record { disk = D.told disk.old; clock = D.clock disk.old; failed = D.failed disk.old; annals = A.told annals.old };
+      started = D.started disk.old;
       source = S.left source.old;
       source_failed = S.failed source.old;
       sink = K.written sink.old;
@@ -213,6 +216,7 @@ fn run_opened<D: Disk, A: Annals, S: Source, K: Sink, G: Gate>(
     } in
         let after : World = record {
           storage = record { disk = D.told disk.new; clock = D.clock disk.new; failed = D.failed disk.new; annals = A.told annals.new };
+          started = D.started disk.new;
           source = S.left source.new;
           source_failed = S.failed source.new;
           sink = K.written sink.new;
@@ -234,6 +238,33 @@ fn run_opened<D: Disk, A: Annals, S: Source, K: Sink, G: Gate>(
     ensures full { D.failed disk.old ≡ 2 ^ 64 - 1 → (result ≡ Status.DiskFault) × (disk.new ≡ disk.old) × (annals.new ≡ annals.old) × (source.new ≡ source.old) × (sink.new ≡ sink.old) }
     ensures whole { (script : List ℕ) → S.left source.old ≡ Some script → IsAnswered result → (length script < 2 ^ 40) × (S.left source.new ≡ Some []) }
     ensures words { result ≡ Status.NotWords → ⊥ }
+    ensures folder { let before : World = record {
+      storage = record {
+        disk = D.told disk.old;
+        clock = D.clock disk.old;
+        failed = D.failed disk.old;
+        annals = A.told annals.old;
+      };
+      started = D.started disk.old;
+      source = S.left source.old;
+      source_failed = S.failed source.old;
+      sink = K.written sink.old;
+      sink_failed = K.failed sink.old;
+    } in
+        let after : World = record {
+          storage = record {
+            disk = D.told disk.new;
+            clock = D.clock disk.new;
+            failed = D.failed disk.new;
+            annals = A.told annals.new;
+          };
+          started = D.started disk.new;
+          source = S.left source.new;
+          source_failed = S.failed source.new;
+          sink = K.written sink.new;
+          sink_failed = K.failed sink.new;
+        } in
+        (D.started disk.new ≡ Some path.now) ⊎ IsUntouched before after }
     ensures read { result ≡ Status.ReadFault → Rose (S.failed source.old) (S.failed source.new) }
     ensures write { result ≡ Status.WriteFault → Rose (K.failed sink.old) (K.failed sink.new) }
     ensures disk { result ≡ Status.DiskFault → Rose (D.failed disk.old) (D.failed disk.new) }
@@ -270,6 +301,7 @@ fn run_words<D: Disk, A: Annals, S: Source, K: Sink, G: Gate>(
     // What is answered.
     ensures headline { let before : World = record {
       storage = record { disk = D.told disk; clock = D.clock disk; failed = D.failed disk; annals = A.told annals };
+      started = D.started disk;
       source = S.left source.old;
       source_failed = S.failed source.old;
       sink = K.written sink.old;
@@ -277,6 +309,7 @@ fn run_words<D: Disk, A: Annals, S: Source, K: Sink, G: Gate>(
     } in
         let after : World = record {
           storage = record { disk = D.told result.disk; clock = D.clock result.disk; failed = D.failed result.disk; annals = A.told result.annals };
+          started = D.started result.disk;
           source = S.left source.new;
           source_failed = S.failed source.new;
           sink = K.written sink.new;
@@ -285,6 +318,7 @@ fn run_words<D: Disk, A: Annals, S: Source, K: Sink, G: Gate>(
         HeadlineBy result.status before after }
     ensures complete { let before : World = record {
       storage = record { disk = D.told disk; clock = D.clock disk; failed = D.failed disk; annals = A.told annals };
+      started = D.started disk;
       source = S.left source.old;
       source_failed = S.failed source.old;
       sink = K.written sink.old;
@@ -292,6 +326,7 @@ fn run_words<D: Disk, A: Annals, S: Source, K: Sink, G: Gate>(
     } in
         let after : World = record {
           storage = record { disk = D.told result.disk; clock = D.clock result.disk; failed = D.failed result.disk; annals = A.told result.annals };
+          started = D.started result.disk;
           source = S.left source.new;
           source_failed = S.failed source.new;
           sink = K.written sink.new;
@@ -301,6 +336,7 @@ fn run_words<D: Disk, A: Annals, S: Source, K: Sink, G: Gate>(
     // What a crash leaves, and what is told of damage.
     ensures crashes { let before : World = record {
       storage = record { disk = D.told disk; clock = D.clock disk; failed = D.failed disk; annals = A.told annals };
+      started = D.started disk;
       source = S.left source.old;
       source_failed = S.failed source.old;
       sink = K.written sink.old;
@@ -308,6 +344,7 @@ fn run_words<D: Disk, A: Annals, S: Source, K: Sink, G: Gate>(
     } in
         let after : World = record {
           storage = record { disk = D.told result.disk; clock = D.clock result.disk; failed = D.failed result.disk; annals = A.told result.annals };
+          started = D.started result.disk;
           source = S.left source.new;
           source_failed = S.failed source.new;
           sink = K.written sink.new;
@@ -316,6 +353,7 @@ fn run_words<D: Disk, A: Annals, S: Source, K: Sink, G: Gate>(
         OfCrashes before after }
     ensures damage { let before : World = record {
       storage = record { disk = D.told disk; clock = D.clock disk; failed = D.failed disk; annals = A.told annals };
+      started = D.started disk;
       source = S.left source.old;
       source_failed = S.failed source.old;
       sink = K.written sink.old;
@@ -323,12 +361,41 @@ fn run_words<D: Disk, A: Annals, S: Source, K: Sink, G: Gate>(
     } in
         let after : World = record {
           storage = record { disk = D.told result.disk; clock = D.clock result.disk; failed = D.failed result.disk; annals = A.told result.annals };
+          started = D.started result.disk;
           source = S.left source.new;
           source_failed = S.failed source.new;
           sink = K.written sink.new;
           sink_failed = K.failed sink.new;
         } in
         OfDamage before result.status after }
+    // Which folder was opened.
+    ensures folder { let before : World = record {
+      storage = record {
+        disk = D.told disk;
+        clock = D.clock disk;
+        failed = D.failed disk;
+        annals = A.told annals;
+      };
+      started = D.started disk;
+      source = S.left source.old;
+      source_failed = S.failed source.old;
+      sink = K.written sink.old;
+      sink_failed = K.failed sink.old;
+    } in
+        let after : World = record {
+          storage = record {
+            disk = D.told result.disk;
+            clock = D.clock result.disk;
+            failed = D.failed result.disk;
+            annals = A.told result.annals;
+          };
+          started = D.started result.disk;
+          source = S.left source.new;
+          source_failed = S.failed source.new;
+          sink = K.written sink.new;
+          sink_failed = K.failed sink.new;
+        } in
+        OfFolder words.now before after }
     // Why it ended so.
     ensures number { result.status ≤ 8 }
     ensures full { D.failed disk ≡ 2 ^ 64 - 1 → (result.status ≡ 2) ⊎ (result.status ≡ 5) }
@@ -374,6 +441,7 @@ pub fn run_alone<D: Disk, A: Annals, S: Source, K: Sink, G: Gate>(
 ) -> Done<D, A>
     ensures promises { let before : World = record {
       storage = record { disk = D.told disk; clock = D.clock disk; failed = D.failed disk; annals = A.told annals };
+      started = D.started disk;
       source = S.left source.old;
       source_failed = S.failed source.old;
       sink = K.written sink.old;
@@ -381,6 +449,7 @@ pub fn run_alone<D: Disk, A: Annals, S: Source, K: Sink, G: Gate>(
     } in
         let after : World = record {
           storage = record { disk = D.told result.disk; clock = D.clock result.disk; failed = D.failed result.disk; annals = A.told result.annals };
+          started = D.started result.disk;
           source = S.left source.new;
           source_failed = S.failed source.new;
           sink = K.written sink.new;
@@ -410,6 +479,7 @@ pub fn run<R: Threads + Wait + Sync, D: Disk, A: Annals, S: Source, K: Sink, G: 
 ) -> Done<D, A>
     ensures promises { let before : World = record {
       storage = record { disk = D.told disk; clock = D.clock disk; failed = D.failed disk; annals = A.told annals };
+      started = D.started disk;
       source = S.left source.old;
       source_failed = S.failed source.old;
       sink = K.written sink.old;
@@ -417,6 +487,7 @@ pub fn run<R: Threads + Wait + Sync, D: Disk, A: Annals, S: Source, K: Sink, G: 
     } in
         let after : World = record {
           storage = record { disk = D.told result.disk; clock = D.clock result.disk; failed = D.failed result.disk; annals = A.told result.annals };
+          started = D.started result.disk;
           source = S.left source.new;
           source_failed = S.failed source.new;
           sink = K.written sink.new;

@@ -12,6 +12,7 @@ pub statements-init : goal.statements-init
 statements-init g c = record {
   ready = c.requires.ready;
   opened = refl;
+  started = refl;
   tells = refl;
   served = λ kept is tells stands settled. served_none g.D.Arm.Dir.Dir.files kept c.args.script.now c.args.store.now.opened (g.D.Disk.failed c.args.disk.now) (g.D.Arm.Arm.failed c.args.arm.now) c.none-tally.result c.args.store.now
       (g.A.Annals.told c.args.annals.now) (g.D.Disk.told c.args.disk.now) (g.K.Sink.written c.args.sink.now) is c.none-tally.ensures.refused c.none-tally.ensures.damaged stands settled;
@@ -79,6 +80,7 @@ pub statements-preserved : goal.statements-preserved
 statements-preserved g c = record {
   ready = c.in-Ok.ensures.ready;
   opened = c.in-Ok.ensures.opened ∙ c.statements.invariant.opened;
+  started = c.in-Ok.ensures.started ∙ c.statements.invariant.started;
   tells = c.in-Ok.ensures.tells ∙ c.statements.invariant.tells;
   served = λ kept is tells stands settled.
       let files = g.D.Arm.Dir.Dir.files in

@@ -23,6 +23,7 @@ invariant-statements g l =
     record {
       ready : IsReady (faults l.disk) (g.D.Disk.told l.disk) l.store;
       opened : l.store.opened ≡ l.initial.store.opened;
+      started : g.D.Disk.started l.disk ≡ g.D.Disk.started l.initial.disk;
       tells : g.D.Arm.Arm.tells l.arm ≡ g.D.Arm.Arm.tells l.initial.arm;
       served : (kept : Told) → told l.initial.annals ≡ Some kept → g.D.Arm.Arm.tells l.initial.arm ≡ true → CoreStands files (history kept) l.initial.store → RootStands (g.D.Disk.told l.initial.disk) (history kept)
           → Served files kept l.script l.initial.store.opened (faults l.disk) (arm_faults l.arm) l.at l.tally l.store (told l.annals) (g.D.Disk.told l.disk) (written l.initial.sink) (written l.sink);

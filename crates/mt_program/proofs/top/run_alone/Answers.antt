@@ -9,6 +9,7 @@ returns-clause-promises g c =
       complete = done.complete;
       crashes = done.crashes;
       damage = done.damage;
+      folder = done.folder;
       causes = record {
         number = done.number;
         words_only = done.words;

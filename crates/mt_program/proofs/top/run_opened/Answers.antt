@@ -47,6 +47,7 @@ returns-clause-headline g c = λ kept script written starts.
         failed = g.D.Disk.failed c.args.disk.now;
         annals = g.A.Annals.told c.args.annals.now;
       };
+      started = g.D.Disk.started c.args.disk.now;
       source = g.S.Source.left c.args.source.now;
       source_failed = g.S.Source.failed c.args.source.now;
       sink = g.K.Sink.written c.args.sink.now;
@@ -59,6 +60,7 @@ returns-clause-headline g c = λ kept script written starts.
         failed = g.D.Disk.failed c.take_back.new.self;
         annals = g.A.Annals.told c.run_root-ended.new.annals;
       };
+      started = g.D.Disk.started c.take_back.new.self;
       source = g.S.Source.left c.run_root-ended.new.source;
       source_failed = g.S.Source.failed c.run_root-ended.new.source;
       sink = g.K.Sink.written c.run_root-ended.new.sink;
@@ -234,3 +236,25 @@ returns-clause-settles g c = λ kept told is known some all.
           let back_later = c.take_back.ensures.later in
           inr (left_moved ran now c.take_back.ensures.told c.take_back.ensures.clock refl (λ same. omega (arith, same, start_later, arm_later, root_later, back_later)) from_opened))
     ]
+
+-- the folder is that of the path, or nothing was touched
+pub returns-then-opened-clause-folder : goal.returns-then-opened-clause-folder
+returns-then-opened-clause-folder g c = inr (record { started = refl; disk = refl; clock = refl; annals = refl; source = refl; sink = refl })
+
+pub returns-in-Err-clause-folder : goal.returns-in-Err-clause-folder
+returns-in-Err-clause-folder g c = inr (record {
+  started = c.in-Err.ensures.not_started;
+  disk = c.in-Err.ensures.told;
+  clock = c.in-Err.ensures.clock;
+  annals = refl;
+  source = refl;
+  sink = refl;
+})
+
+pub returns-in-Err-arm-clause-folder : goal.returns-in-Err-arm-clause-folder
+returns-in-Err-arm-clause-folder g c =
+    inl (c.in-Err-arm.ensures.started ∙ c.in_default.ensures.started)
+
+pub returns-clause-folder : goal.returns-clause-folder
+returns-clause-folder g c =
+    inl (c.take_back.ensures.started ∙ (c.run_root-ended.ensures.started ∙ (c.in-Ok.ensures.started ∙ c.in_default.ensures.started)))

@@ -1,11 +1,13 @@
-use Rattle.std.proofs.Common.{◌∙◌, ◌≡◌, ◌⊎◌, ◌≤◌, ℕ, inl, refl, sym, subst}
+use Rattle.std.proofs.Common.{◌∙◌, ◌≡◌, ◌⊎◌, ◌≤◌, ℕ, Some, true, ap, inl, inr, refl, rules, sym, subst}
 use Rattle.root_store.specs.Crashes.{Storage}
 use Rattle.root_store.proofs.CrashMarks.{safe_at_start}
 use Rattle.exit_status.specs.declared.status.Status.{Status}
 use Rattle.exit_status.specs.declared.status.Status.TheVariants as status
 use Rattle.mt_program.specs.Worlds.{World}
+use Rattle.run_streams.specs.Words.{is_command}
 use Rattle.mt_program.proofs.Completing.{none_refused, not_too_long, zero_or_six}
 use Rattle.mt_program.proofs.Crashing.{nothing_of_script}
+use Rattle.mt_program.proofs.Folder.{third_word}
 use Rattle.mt_program.proofs.Heading.{by_status, nothing_leaves, same_number, at_most_one_is}
 use Rattle.mt_program.proofs.top.run_words.Goals as goal
 
@@ -27,6 +29,7 @@ returns-clause-complete g c = λ kept script written starts nothing calm.
     let done = c.run_opened-ended.ensures in
     let before : World = record {
       storage = record { disk = g.D.Disk.told c.args.disk; clock = g.D.Disk.clock c.args.disk; failed = g.D.Disk.failed c.args.disk; annals = g.A.Annals.told c.args.annals };
+      started = g.D.Disk.started c.args.disk;
       source = g.S.Source.left c.args.source.now;
       source_failed = g.S.Source.failed c.args.source.now;
       sink = g.K.Sink.written c.args.sink.now;
@@ -39,6 +42,7 @@ returns-clause-complete g c = λ kept script written starts nothing calm.
         failed = g.D.Disk.failed c.run_opened-ended.new.disk;
         annals = g.A.Annals.told c.run_opened-ended.new.annals;
       };
+      started = g.D.Disk.started c.run_opened-ended.new.disk;
       source = g.S.Source.left c.run_opened-ended.new.source;
       source_failed = g.S.Source.failed c.run_opened-ended.new.source;
       sink = g.K.Sink.written c.run_opened-ended.new.sink;
@@ -88,3 +92,16 @@ returns-then-not-is_command_line-clause-damage g c = record {
 pub returns-clause-whole : goal.returns-clause-whole
 returns-clause-whole g c = λ script left low.
     c.run_opened-ended.ensures.whole script left (at_most_one_is c.run_opened-ended.result (subst (λ n. n ≤ 1) c.number-status-2.ensures low))
+
+-- the folder is that of the words, or nothing was touched
+pub returns-then-not-is_command_line-clause-folder : goal.returns-then-not-is_command_line-clause-folder
+returns-then-not-is_command_line-clause-folder g c = inr (record { started = refl; disk = refl; clock = refl; annals = refl; source = refl; sink = refl })
+
+pub returns-clause-folder : goal.returns-clause-folder
+returns-clause-folder g c =
+    let command : is_command c.args.words.now ≡ true = search rules in
+    let at = third_word c.args.words.now c.index-words-2.result command c.index-words-2.is in
+    elim c.run_opened-ended.ensures.folder [
+      | inl started ↦ inl (record { command = command; started = started ∙ ap Some (c.deref.ensures ∙ at) })
+      | inr same ↦ inr same
+    ]
