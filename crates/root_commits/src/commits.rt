@@ -415,8 +415,10 @@ pub fn commit_part<D: Disk, A: Annals>(
     ensures stands { (h : History) (t : Made) → CoreStands D.Arm.Dir.files h store.old → table_at store.old table.now ≡ Some t → IsSealedOf t.schema block part.sealed.files part.loaded
         → OnOk result (CoreStands D.Arm.Dir.files (entered h session (insert_of_block table.now (partition_of_block t.schema block) block ∷ [])) store.new) }
     ensures event { (core : Core) (t : Made) → ShowsCore D.Arm.Dir.files store.old core
-        → table_at store.old table.now ≡ Some t → IsSealedOf t.schema block part.sealed.files part.loaded
-        → OnOk result (IsAccepted D.Arm.Dir.files core (accept_of_block session table.now t.schema block) store.new) }
+        → table_at store.old table.now ≡ Some t
+        → IsSealedOf t.schema block part.sealed.files part.loaded
+        → OnOk result (IsAccepted D.Arm.Dir.files core
+        (accept_of_block session table.now t.schema block) store.new) }
     ensures no_event { (core : Core) → ShowsCore D.Arm.Dir.files store.old core
         → OnErr result (ShowsCore D.Arm.Dir.files store.new core) }
     ensures root_stands { (h : History) (t : Made) → CoreStands D.Arm.Dir.files h store.old → RootStands (D.told disk.old) h
