@@ -1,5 +1,5 @@
 -- What a crash leaves after the turn of a command, by what the turn did to the outside.
-use Rattle.std.proofs.Common.{◌≡◌, ◌≢◌, ℕ, ◌-◌, ◌<◌, ◌≤◌, ◌^◌, List, [], ◌∷◌, ◌++◌, Option, Some, None, Ok, Err, ap, ◌∙◌, subst, sym, arith}
+use Rattle.std.proofs.Common.{◌≡◌, ℕ, ◌-◌, ◌<◌, ◌^◌, Option, Some, None, Ok, Err, ◌∙◌, arith}
 use Rattle.std.specs.BTreeMap.{insert_entry}
 use Rattle.std.specs.Cmp.Lexicographic.{slice_cmp}
 use Rattle.std.specs.Ordering.{nat_cmp}
@@ -8,7 +8,6 @@ use Rattle.mt_outside.specs.Disk.{MayBecome, Names}
 use Rattle.mt_outside.specs.Files.{Files}
 use Rattle.mt_model.specs.History.{History}
 use Rattle.durable_commit.specs.declared.causes.Refused.{Refused}
-use Rattle.durable_commit.specs.declared.causes.Refused.TheVariants as refused
 use Rattle.root_commits.specs.declared.commits.Returned.{Returned}
 use Rattle.root_store.specs.declared.store.CoreStore.{CoreStore}
 use Rattle.root_store.specs.ByteOrder.{AreInByteOrder}
@@ -20,7 +19,7 @@ use Rattle.root_commits.specs.Commits.{SameStore}
 use Rattle.root_commits.specs.Images.{LeavesAfter, LeavesOne}
 use Rattle.root_commits.specs.Turns.{IsDone, IsInDoubt, Turn, with_entry}
 use Rattle.root_commits.proofs.CrashImages.{either_committed, either_failed, either_same, one_committed, one_same}
-use Rattle.root_commits.proofs.CrashTurns.{kept_committed, kept_failed, kept_untouched, unrisen}
+use Rattle.root_commits.proofs.CrashTurns.{kept_committed, kept_failed, unrisen}
 use Rattle.root_commits.proofs.Sounding.{ready_kept}
 
 -- what a turn publishes makes of each root that stands for the history one that stands for it with the entry

@@ -1,5 +1,5 @@
 -- What the turn of a command did to the outside, as its parts say it.
-use Rattle.std.proofs.Common.{◌≡◌, ◌≢◌, ℕ, ◌+◌, ◌≤◌, arith, List, Option, Some, None, Result, Ok, Err, refl, sym, ap, ◌∙◌, subst}
+use Rattle.std.proofs.Common.{◌≡◌, ◌≢◌, ℕ, ◌+◌, ◌≤◌, arith, List, Option, Some, None, Result, Ok, Err, refl, sym, ap, subst}
 use Rattle.std.specs.Prelude.{IfSome, IsErrOf, IsNone, OnErr, OnOk}
 use Rattle.std.specs.Option.{MatchOption, option_map}
 use Rattle.std.specs.Result.{MatchResult}

@@ -21,7 +21,8 @@ use Rattle.command_turn.proofs.Creating.{create_gives, created, created_accepts,
 use Rattle.reply_lines.proofs.Refusing.{command_failed, command_refused}
 use Rattle.command_turn.proofs.Gaining.{begun_refused, gains_noted, gains_refused, keeps_refused, leaves_told, stays_refused, still_created, still_refused}
 use Rattle.root_commits.proofs.SameStores.{stands_same}
-use Rattle.root_commits.proofs.Turning.{after_refusal}
+use Rattle.root_commits.proofs.Turning.{AfterRefusal, after_refusal}
+use Rattle.root_commits.specs.Turns.{storage, turn_of_create}
 use Rattle.command_turn.proofs.Standing.{no_table, tables_made}
 use Rattle.command_turn.specs.Stops.{IsLineOf}
 use Rattle.reply_lines.specs.Lines.{IsLineOfStage}
@@ -94,6 +95,17 @@ returns-in-Ok-commit_create-clause-answers g c = λ kept is tells stands.
     let holds = subst (λ (t : List ℕ). EntryHolds t schema (entry_files text.text)) (sym name) (entry_holds text schema c.requires.written says few) in
     subst (λ (t : List ℕ). RootStands now (h ++ entry t ∷ [])) name ((done.stands h stands).root_stands (record { files = entry_files text.text; sealed_are = sealed ∙ ap (λ (t : List ℕ). Some (entry_files t)) c.as_slice.ensures; holds = holds }, root)))
 
+-- what is known after a commit that was refused
+after_refused : (g : _) (c : goal.After-drop-replies-in-Err-commit_create-2 g) → AfterRefusal (turn_of_create 0 (record { table = c.in_ok-table.table; schema = c.in-Ok.schema }) c.in-Ok-seal_entry.sealed)
+    (storage (g.D.Disk.told c.args.disk.now) (g.D.Disk.clock c.args.disk.now) (g.D.Disk.failed c.args.disk.now) (g.A.Annals.told c.args.annals.now))
+    (storage (g.D.Disk.told c.commit_create.new.disk) (g.D.Disk.clock c.commit_create.new.disk) (g.D.Disk.failed c.commit_create.new.disk) (g.A.Annals.told c.commit_create.new.annals))
+    c.in-Ok-seal_entry.sealed c.in-Err-commit_create.field-0.cause c.in-Err-commit_create.field-0.back
+after_refused g c =
+    after_refusal (turn_of_create 0 (record { table = c.in_ok-table.table; schema = c.in-Ok.schema }) c.in-Ok-seal_entry.sealed)
+    (storage (g.D.Disk.told c.args.disk.now) (g.D.Disk.clock c.args.disk.now) (g.D.Disk.failed c.args.disk.now) (g.A.Annals.told c.args.annals.now))
+    (storage (g.D.Disk.told c.commit_create.new.disk) (g.D.Disk.clock c.commit_create.new.disk) (g.D.Disk.failed c.commit_create.new.disk) (g.A.Annals.told c.commit_create.new.annals))
+    c.in-Ok-seal_entry.sealed c.in-Err-commit_create.field-0.cause c.in-Err-commit_create.field-0.back c.in-Err-commit_create.ensures.turn
+
 -- it was not
 pub returns-in-Err-commit_create-clause-answers : goal.returns-in-Err-commit_create-clause-answers
 returns-in-Err-commit_create-clause-answers g c = λ kept is tells stands.
@@ -104,7 +116,7 @@ returns-in-Err-commit_create-clause-answers g c = λ kept is tells stands.
     let name = c.in_ok-table.ensures in
     let h = history kept in
     let ended = c.in-Err-commit_create.ensures in
-    let after = after_refusal _ _ _ _ c.in-Err-commit_create.field-0.cause c.in-Err-commit_create.field-0.back c.in-Err-commit_create.ensures.turn in
+    let after = after_refused g c in
     let back = c.in-Err-commit_create.field-0.back in
     let cause = c.in-Err-commit_create.field-0.cause in
     let result = c.refused_line.result in
@@ -178,7 +190,7 @@ returns-in-Err-commit_create-clause-gains g c =
     let text = c.args.text.now in
     let name = c.in_ok-table.ensures in
     let ended = c.in-Err-commit_create.ensures in
-    let after = after_refusal _ _ _ _ c.in-Err-commit_create.field-0.cause c.in-Err-commit_create.field-0.back c.in-Err-commit_create.ensures.turn in
+    let after = after_refused g c in
     let cause = c.in-Err-commit_create.field-0.cause in
     let before = g.D.Disk.failed c.args.disk.now in
     let old = g.A.Annals.told c.args.annals.now in
@@ -213,7 +225,7 @@ returns-in-Err-commit_create-clause-causes g c =
     let store = c.args.store.now in
     let table = c.args.text.now.table in
     let ended = c.in-Err-commit_create.ensures in
-    let after = after_refusal _ _ _ _ c.in-Err-commit_create.field-0.cause c.in-Err-commit_create.field-0.back c.in-Err-commit_create.ensures.turn in
+    let after = after_refused g c in
     let cause = c.in-Err-commit_create.field-0.cause in
     let before = g.D.Disk.failed c.args.disk.now in
     let shown = subst (λ (t : List ℕ). IsCause (refuses_create store t before) (Some cause)) c.in_ok-table.ensures ended.cause in
@@ -238,7 +250,7 @@ pub returns-in-Err-commit_create-clause-stopped : goal.returns-in-Err-commit_cre
 returns-in-Err-commit_create-clause-stopped g c = λ risen.
     let store = c.args.store.now in
     let ended = c.in-Err-commit_create.ensures in
-    let after = after_refusal _ _ _ _ c.in-Err-commit_create.field-0.cause c.in-Err-commit_create.field-0.back c.in-Err-commit_create.ensures.turn in
+    let after = after_refused g c in
     let cause = c.in-Err-commit_create.field-0.cause in
     let before = g.D.Disk.failed c.args.disk.now in
     let shown = subst (λ (t : List ℕ). IsCause (refuses_create store t before) (Some cause)) c.in_ok-table.ensures ended.cause in
@@ -280,12 +292,12 @@ returns-in-Ok-commit_create-clause-arm_memory g c = tt
 
 pub returns-in-Err-commit_create-clause-memory : goal.returns-in-Err-commit_create-clause-memory
 returns-in-Err-commit_create-clause-memory g c =
-    let after = after_refusal _ _ _ _ c.in-Err-commit_create.field-0.cause c.in-Err-commit_create.field-0.back c.in-Err-commit_create.ensures.turn in
+    let after = after_refused g c in
     IfErr-weaker c.refused_line.result _ _ (λ e other. after.calm c.in-Ok-seal_entry.ensures.none_failed other) c.refused_line.ensures.disk
 
 pub returns-in-Err-commit_create-clause-arm_memory : goal.returns-in-Err-commit_create-clause-arm_memory
 returns-in-Err-commit_create-clause-arm_memory g c =
-    let after = after_refusal _ _ _ _ c.in-Err-commit_create.field-0.cause c.in-Err-commit_create.field-0.back c.in-Err-commit_create.ensures.turn in
+    let after = after_refused g c in
     in_any_case c.refused_line.result
     (c.give_back.ensures.none_failed (IfSome_then c.in-Err-commit_create.field-0.back after.returned (λ s same. ap (λ (x : Filled). x.failed) same ∙ c.in-Ok-seal_entry.ensures.none_failed))
     ∙ c.in-Ok-seal_entry.ensures.cause.ok)
@@ -295,4 +307,4 @@ pub returns-in-Ok-commit_create-clause-disk_later : goal.returns-in-Ok-commit_cr
 returns-in-Ok-commit_create-clause-disk_later g c = c.in-Ok-commit_create.ensures.turn.later
 
 pub returns-in-Err-commit_create-clause-disk_later : goal.returns-in-Err-commit_create-clause-disk_later
-returns-in-Err-commit_create-clause-disk_later g c = (after_refusal _ _ _ _ c.in-Err-commit_create.field-0.cause c.in-Err-commit_create.field-0.back c.in-Err-commit_create.ensures.turn).later
+returns-in-Err-commit_create-clause-disk_later g c = (after_refused g c).later

@@ -29,7 +29,8 @@ use Rattle.reply_lines.proofs.Refusing.{command_failed, command_refused}
 use Rattle.command_turn.specs.Gains.{commands_over, schemas_in}
 use Rattle.command_turn.proofs.Gaining.{begun_refused, gains_noted, gains_refused, keeps_refused, leaves_told, stays_refused, still_added, still_part_refused}
 use Rattle.root_commits.proofs.SameStores.{stands_same}
-use Rattle.root_commits.proofs.Turning.{after_refusal}
+use Rattle.root_commits.proofs.Turning.{AfterRefusal, after_refusal}
+use Rattle.root_commits.specs.Turns.{storage, turn_of_part}
 use Rattle.command_turn.proofs.Standing.{drawn_is, no_table, parts_made, table_schema}
 use Rattle.command_turn.specs.Stops.{IsLineOf}
 use Rattle.reply_lines.specs.Lines.{IsLineOfStage}
@@ -155,6 +156,17 @@ returns-in-Ok-commit_part-clause-answers g c = λ kept is tells stands.
     c.in_ok-replies.ensures.accepted
     (done.stands h found at sealed stands).root_stands
 
+-- what is known after a commit that was refused
+after_refused : (g : _) (c : goal.After-drop-replies-in-Err-commit_part-2 g) → AfterRefusal (turn_of_part 0 c.args.text.now.table c.in-Some.found.now c.in-Ok.block c.in-Ok-seal_block.part.sealed)
+    (storage (g.D.Disk.told c.args.disk.now) (g.D.Disk.clock c.args.disk.now) (g.D.Disk.failed c.args.disk.now) (g.A.Annals.told c.args.annals.now))
+    (storage (g.D.Disk.told c.commit_part.new.disk) (g.D.Disk.clock c.commit_part.new.disk) (g.D.Disk.failed c.commit_part.new.disk) (g.A.Annals.told c.commit_part.new.annals))
+    c.in-Ok-seal_block.part c.in-Err-commit_part.field-0.cause c.in-Err-commit_part.field-0.back
+after_refused g c =
+    after_refusal (turn_of_part 0 c.args.text.now.table c.in-Some.found.now c.in-Ok.block c.in-Ok-seal_block.part.sealed)
+    (storage (g.D.Disk.told c.args.disk.now) (g.D.Disk.clock c.args.disk.now) (g.D.Disk.failed c.args.disk.now) (g.A.Annals.told c.args.annals.now))
+    (storage (g.D.Disk.told c.commit_part.new.disk) (g.D.Disk.clock c.commit_part.new.disk) (g.D.Disk.failed c.commit_part.new.disk) (g.A.Annals.told c.commit_part.new.annals))
+    c.in-Ok-seal_block.part c.in-Err-commit_part.field-0.cause c.in-Err-commit_part.field-0.back (c.in-Err-commit_part.ensures.turn c.in-Some.found.now (sym c.in-Some.ensures.value))
+
 -- it was not
 pub returns-in-Err-commit_part-clause-answers : goal.returns-in-Err-commit_part-clause-answers
 returns-in-Err-commit_part-clause-answers g c = λ kept is tells stands.
@@ -169,7 +181,7 @@ returns-in-Err-commit_part-clause-answers g c = λ kept is tells stands.
     let some = has_rows block.rows c.is_empty.result c.if-is_empty.false c.is_empty.ensures.1 in
     let gives = ap (commands_for text) there ∙ rows_give text found.schema block c.in-Ok.ensures.rows some c.in-Ok.ensures.types in
     let ended = c.in-Err-commit_part.ensures in
-    let after = after_refusal _ _ _ _ c.in-Err-commit_part.field-0.cause c.in-Err-commit_part.field-0.back (c.in-Err-commit_part.ensures.turn c.in-Some.found.now (sym c.in-Some.ensures.value)) in
+    let after = after_refused g c in
     let cause = c.in-Err-commit_part.field-0.cause in
     let result = c.refused_line.result in
     let was = g.D.Disk.told c.args.disk.now in
@@ -242,7 +254,7 @@ returns-in-Err-commit_part-clause-gains g c =
     let at = sym c.in-Some.ensures.value in
     let some = has_rows block.rows c.is_empty.result c.if-is_empty.false c.is_empty.ensures.1 in
     let ended = c.in-Err-commit_part.ensures in
-    let after = after_refusal _ _ _ _ c.in-Err-commit_part.field-0.cause c.in-Err-commit_part.field-0.back (c.in-Err-commit_part.ensures.turn c.in-Some.found.now (sym c.in-Some.ensures.value)) in
+    let after = after_refused g c in
     let cause = c.in-Err-commit_part.field-0.cause in
     let before = g.D.Disk.failed c.args.disk.now in
     gains_refused store before (statement.Insert text) (inserted found.schema text.table block) (by_rows store text found block at some c.in-Ok.ensures.rows c.in-Ok.ensures.types)
@@ -290,7 +302,7 @@ returns-in-Err-commit_part-clause-causes g c =
     let table = c.args.text.now.table in
     let found = c.in-Some.found.now in
     let ended = c.in-Err-commit_part.ensures in
-    let after = after_refusal _ _ _ _ c.in-Err-commit_part.field-0.cause c.in-Err-commit_part.field-0.back (c.in-Err-commit_part.ensures.turn c.in-Some.found.now (sym c.in-Some.ensures.value)) in
+    let after = after_refused g c in
     let cause = c.in-Err-commit_part.field-0.cause in
     let before = g.D.Disk.failed c.args.disk.now in
     IfOk-weaker c.refused_line.result _ _ (λ line is. refused_says store.opened before (g.D.Disk.failed c.commit_part.new.disk) (g.D.Arm.Arm.failed c.args.arm.now) (g.D.Arm.Arm.failed c.give_back_part.new.arm) table cause line.items is
@@ -322,7 +334,7 @@ returns-in-Err-commit_part-clause-stopped g c = λ risen.
     let store = c.args.store.now in
     let found = c.in-Some.found.now in
     let ended = c.in-Err-commit_part.ensures in
-    let after = after_refusal _ _ _ _ c.in-Err-commit_part.field-0.cause c.in-Err-commit_part.field-0.back (c.in-Err-commit_part.ensures.turn c.in-Some.found.now (sym c.in-Some.ensures.value)) in
+    let after = after_refused g c in
     let cause = c.in-Err-commit_part.field-0.cause in
     let before = g.D.Disk.failed c.args.disk.now in
     stays_refused store c.commit_part.new.store before c.in-Err-commit_part.field-0.back c.args.disk.now c.commit_part.new.disk (g.A.Annals.told c.args.annals.now) (g.A.Annals.told c.commit_part.new.annals)
@@ -389,12 +401,12 @@ returns-in-Ok-commit_part-clause-arm_memory g c = tt
 
 pub returns-in-Err-commit_part-clause-memory : goal.returns-in-Err-commit_part-clause-memory
 returns-in-Err-commit_part-clause-memory g c =
-    let after = after_refusal _ _ _ _ c.in-Err-commit_part.field-0.cause c.in-Err-commit_part.field-0.back (c.in-Err-commit_part.ensures.turn c.in-Some.found.now (sym c.in-Some.ensures.value)) in
+    let after = after_refused g c in
     IfErr-weaker c.refused_line.result _ _ (λ e other. after.calm c.in-Ok-seal_block.ensures.none_failed other) c.refused_line.ensures.disk
 
 pub returns-in-Err-commit_part-clause-arm_memory : goal.returns-in-Err-commit_part-clause-arm_memory
 returns-in-Err-commit_part-clause-arm_memory g c =
-    let after = after_refusal _ _ _ _ c.in-Err-commit_part.field-0.cause c.in-Err-commit_part.field-0.back (c.in-Err-commit_part.ensures.turn c.in-Some.found.now (sym c.in-Some.ensures.value)) in
+    let after = after_refused g c in
     in_any_case c.refused_line.result
     (c.give_back_part.ensures.none_failed (IfSome_then c.in-Err-commit_part.field-0.back after.returned (λ p same. ap (λ (x : SealedPart _). x.sealed.failed) same ∙ c.in-Ok-seal_block.ensures.none_failed))
     ∙ c.in-Ok-seal_block.ensures.cause.ok)
@@ -404,4 +416,4 @@ pub returns-in-Ok-commit_part-clause-disk_later : goal.returns-in-Ok-commit_part
 returns-in-Ok-commit_part-clause-disk_later g c = (c.in-Ok-commit_part.ensures.turn c.in-Some.found.now (sym c.in-Some.ensures.value)).later
 
 pub returns-in-Err-commit_part-clause-disk_later : goal.returns-in-Err-commit_part-clause-disk_later
-returns-in-Err-commit_part-clause-disk_later g c = (after_refusal _ _ _ _ c.in-Err-commit_part.field-0.cause c.in-Err-commit_part.field-0.back (c.in-Err-commit_part.ensures.turn c.in-Some.found.now (sym c.in-Some.ensures.value))).later
+returns-in-Err-commit_part-clause-disk_later g c = (after_refused g c).later

@@ -1,14 +1,11 @@
-use Rattle.std.proofs.Common.{◌≡◌, ◌<◌, ℕ, List, Option, Some, None, length, refl, sym, ap, ◌∙◌, subst, arith}
+use Rattle.std.proofs.Common.{◌≡◌, ◌<◌, ℕ, List, Some, None, length, refl, sym, ap, ◌∙◌, arith}
 use Rattle.std.specs.Option.{ForSome}
 use Rattle.mt_values.specs.declared.command.Command.TheVariants as command
-use Rattle.mt_values.specs.RootNames.{create_name}
-use Rattle.mt_values.specs.Annals.{Told}
 use Rattle.mt_outside.specs.Disk.{files_at, names_of}
 use Rattle.durable_commit.specs.Commits.{entry_of}
 use Rattle.root_store.specs.Stores.{fresh_table}
-use Rattle.root_commits.specs.Commits.{EntersTable, SameStore, refuses_create}
-use Rattle.root_commits.specs.Turns.{IsDone, IsInDoubt, Turn, storage, turn_of_create}
-use Rattle.root_store.specs.Crashes.{Storage}
+use Rattle.root_commits.specs.Commits.{refuses_create}
+use Rattle.root_commits.specs.Turns.{storage, turn_of_create}
 use Rattle.root_store.specs.Soundness.{NamesFit}
 use Rattle.root_store.specs.Stores.{table_at}
 use Rattle.root_commits.proofs.Accepted.{create_accepted, shows_same}

@@ -6,7 +6,6 @@ use Rattle.std.specs.Ordering.{nat_cmp}
 use Rattle.mt_base.specs.declared.partition.Partition.{Partition}
 use Rattle.mt_values.specs.declared.command.Entry.{Entry}
 use Rattle.mt_values.specs.declared.manifest.Loaded.{Loaded}
-use Rattle.mt_values.specs.Annals.{Told}
 use Rattle.mt_values.specs.Grid.{Grid}
 use Rattle.mt_values.specs.RootNames.{part_name}
 use Rattle.mt_outside.specs.Disk.{files_at, names_of}
@@ -24,8 +23,7 @@ use Rattle.root_store.specs.declared.store.CoreStore.{CoreStore}
 use Rattle.root_store.specs.declared.store.Table.{Table}
 use Rattle.durable_commit.specs.Commits.{entry_of}
 use Rattle.root_commits.specs.Commits.{EntersPart, EntersSealed, IsCause, IsSealedOf, fresh_part, insert_of_block, partition_of_block, refuses_part}
-use Rattle.root_commits.specs.Turns.{IsDone, IsInDoubt, Turn, storage, turn_of_part}
-use Rattle.root_store.specs.Crashes.{Storage}
+use Rattle.root_commits.specs.Turns.{IsDone, IsInDoubt, storage, turn_of_part}
 use Rattle.root_store.specs.Soundness.{NamesFit}
 use Rattle.root_store.specs.Stores.{table_at}
 use Rattle.root_commits.specs.Events.{IsAccepted, accept_of_block}

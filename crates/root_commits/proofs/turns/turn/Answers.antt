@@ -1,4 +1,3 @@
-use Rattle.mt_values.specs.declared.command.Entry.{Entry}
 use Rattle.root_store.specs.Crashes.{Storage}
 use Rattle.root_commits.specs.Turns.{Turn}
 use Rattle.root_commits.proofs.Turning.{turned}
