@@ -1,11 +1,12 @@
 -- What a command that was given to a commit, or was not, did to what is known of annals, to the store and to the disk.
-use Rattle.std.proofs.Common.{◌≡◌, ◌⊎◌, inl, inr, ℕ, ◌<◌, ◌≤◌, List, [], ◌∷◌, ap, ◌∙◌, arith, Option, Some, None, Ok, IfSome, Bool, true, false, cond, is_some, nat_le, nat_lt, length, refl, subst}
+use Rattle.std.proofs.Common.{◌≡◌, ◌⊎◌, inl, inr, ℕ, ◌<◌, ◌≤◌, List, [], ◌∷◌, ap, ◌∙◌, arith, Option, Some, None, Ok, IfSome, Bool, true, false, cond, is_some, nat_le, nat_lt, length, refl, subst, sym}
 use Rattle.std.specs.Prelude.{IsNone}
 use Rattle.std.specs.List.{Contains as HasItem}
 use Rattle.std.specs.Option.{option_map}
 use Rattle.std.proofs.lemmas.List.Elements.{Contains-get_or}
 use Rattle.mt_base.specs.declared.partition.Partition.{Partition}
 use Rattle.mt_model.specs.Commands.{commands_of}
+use Rattle.mt_outside.specs.Causes.{Rose}
 use Rattle.mt_outside.specs.Disk as root
 use Rattle.mt_values.specs.declared.command.Command.{Command}
 use Rattle.mt_values.specs.declared.statement.Statement.{Statement}
@@ -60,6 +61,10 @@ module _ {F : Type 0} (store : CoreStore F) (table : List ℕ) (now : ℕ) (low 
       (outside_none (is_some (table_at store table)) (nat_le 64 (length store.tables.entries)) (nat_lt store.opened now) refused.Exists (refused.Limit limit.Tables) (refused.Stopped store.opened now) cause
       (λ no. no) (λ no. no) (λ no. no) is outside) low
 
+  -- so where the disk failed, its count was that one
+  pub create_failed : (disk : ℕ) (cause : Refused) → IsCause (refuses_create store table now) (Some cause) → (cause ≡ refused.Disk → Rose now disk) → cause ≡ refused.Disk → (now ≡ store.opened) × Rose now disk
+  create_failed disk cause is rose failed = (still_refused cause is (subst (λ (r : Refused). IsOutside (Some r)) (sym failed) tt), rose failed)
+
   pub still_added : (partition : Partition) (drawn : ℕ) → IsCause (refuses_part store table partition drawn now) None → now ≡ store.opened
   still_added partition drawn is = shown_part_calm store table now partition drawn (shown_none (refuses_part store table partition drawn now) is) low
 
@@ -68,6 +73,10 @@ module _ {F : Type 0} (store : CoreStore F) (table : List ℕ) (now : ℕ) (low 
       shown_part_calm store table now partition drawn
       (outside_none (nat_le 3000 (length (kept_in partition (parts_of store.set table)))) (nat_le 4294967295 drawn) (nat_lt store.opened now) (refused.Limit limit.Parts) (refused.Limit limit.Numbers) (refused.Stopped store.opened now) cause
       (λ no. no) (λ no. no) (λ no. no) is outside) low
+
+  pub part_failed : (partition : Partition) (drawn disk : ℕ) (cause : Refused) → IsCause (refuses_part store table partition drawn now) (Some cause) → (cause ≡ refused.Disk → Rose now disk) → cause ≡ refused.Disk
+      → (now ≡ store.opened) × Rose now disk
+  part_failed partition drawn disk cause is rose failed = (still_part_refused partition drawn cause is (subst (λ (r : Refused). IsOutside (Some r)) (sym failed) tt), rose failed)
 
 -- ---- what a refused command leaves
 

@@ -251,7 +251,8 @@ module _ {F : Type 0} (store : CoreStore F) (table : List ℕ) (now : ℕ) (caus
       (risen_if store.opened now (nat_le 3000 (length (kept_in partition (parts_of store.set table)))) (refused.Limit limit.Parts) _ tt
       (risen_if store.opened now (nat_le 4294967295 drawn) (refused.Limit limit.Numbers) _ tt (risen_shown store.opened now (nat_lt store.opened now) refl))) is
 
-pub refused_says : (opened before disk arm_old arm_new : ℕ) (table : List ℕ) (cause : Refused) (reply : List ℕ) → IsLineOf 0 table cause reply → SaysRisen opened before (Some cause) → (cause ≡ refused.Disk → Rose before disk)
+pub refused_says : (opened before disk arm_old arm_new : ℕ) (table : List ℕ) (cause : Refused) (reply : List ℕ) → IsLineOf 0 table cause reply → SaysRisen opened before (Some cause)
+    → (cause ≡ refused.Disk → (before ≡ opened) × Rose before disk)
     → HasCauses opened before disk arm_old arm_new reply
 refused_says opened before disk arm_old arm_new table refused.NoMemory reply line risen rose = absurd line
 refused_says opened before disk arm_old arm_new table refused.Disk reply line risen rose = says_unsettled opened before disk arm_old arm_new reply 0 line (rose refl)

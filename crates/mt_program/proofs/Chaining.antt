@@ -1,6 +1,6 @@
 -- A run after a run, and after a crash.
-use Rattle.std.proofs.Common.{◌≡◌, ℕ, List, [], ◌∷◌, ◌++◌, Option, None, Some, false, length, map, refl, sym, ap, ◌∙◌, subst}
-use Rattle.std.specs.List.{All, Contains as HasItem, list_any}
+use Rattle.std.proofs.Common.{◌≡◌, ℕ, List, [], ◌∷◌, None, Some, false, length, map, refl, sym, ap, ◌∙◌, subst}
+use Rattle.std.specs.List.{list_any}
 use Rattle.std.proofs.lemmas.List.Elements.{All-nil}
 use Rattle.mt_values.specs.declared.annals.Noted.{Noted}
 use Rattle.mt_values.specs.declared.command.Entry.{Entry}

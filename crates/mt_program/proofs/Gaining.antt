@@ -1,29 +1,28 @@
 -- What annals gained by statements, and gain by one more.
-use Rattle.std.proofs.Common.{◌≡◌, ◌⊎◌, inl, inr, ◌+◌, ◌-◌, ◌<◌, ◌≤◌, ◌^◌, ◌++◌, ◌∷◌, ℕ, List, [], length, min, Option, Some, None, Ok, Err, ap, sym, refl, subst, ◌∙◌, append-nil, append_assoc, arith, map}
+use Rattle.std.proofs.Common.{◌≡◌, ◌⊎◌, inl, inr, ◌+◌, ◌-◌, ◌<◌, ◌≤◌, ◌^◌, ◌++◌, ◌∷◌, ℕ, List, [], length, Option, Some, None, Ok, Err, ap, sym, refl, subst, ◌∙◌, append-nil, append_assoc, arith, map}
 use Rattle.std.proofs.lemmas.List.{map-append}
 use Rattle.std.proofs.lemmas.List.Elements.{All-append, All-nil}
 use Rattle.std.proofs.lemmas.Bool.{cases_lt}
 use Rattle.std.specs.List.{All}
 use Rattle.mt_values.specs.declared.annals.Noted.{Noted}
 use Rattle.mt_values.specs.declared.command.Command.{Command}
-use Rattle.mt_values.specs.declared.command.Entry.{Entry}
 use Rattle.mt_values.specs.Annals.{Told}
 use Rattle.mt_outside.specs.Disk as root
 use Rattle.mt_outside.specs.Files.{Files}
 use Rattle.mt_model.specs.History.{History}
 use Rattle.mt_model.specs.Outside.{Outside}
-use Rattle.mt_model.specs.Session.{AddsNothing, IsNext, SessionGives, Unanswered}
+use Rattle.mt_model.specs.Session.{IsNext, SessionGives, Unanswered}
 use Rattle.mt_model.proofs.Gained.{gives_append, gives_more, next_more, takes_give}
 use Rattle.mt_model.proofs.Growing.{stays}
 use Rattle.durable_commit.specs.Commits.{entry_of}
 use Rattle.reply_lines.specs.Foreseen.{Foresees, history}
-use Rattle.reply_lines.proofs.Ends.{added_nothing, length_history}
+use Rattle.reply_lines.proofs.Ends.{length_history}
 use Rattle.root_store.specs.declared.store.CoreStore.{CoreStore}
 use Rattle.root_store.specs.Crashes.{StandsForKept}
 use Rattle.root_store.specs.Stores.{CoreStands}
 use Rattle.command_turn.specs.Answers.{Answered, BeginsNext, IsBegun, Keeps}
-use Rattle.mt_program.specs.Crashes.{IsGainedBy}
-use Rattle.mt_program.specs.Courses.{IsBegunBy, IsNextOf, Item}
+use Rattle.mt_program.specs.Crashes.{IsGainedBy, MayBeBegunBy, MayBeNextOf}
+use Rattle.mt_program.specs.Courses.{Item}
 
 abbrev entries : List Noted → History
 entries list = map (λ (n : Noted). n.entry) list
@@ -42,13 +41,13 @@ gives_join : (h : History) (ran rest : List Item) (from mid to : ℕ) → Sessio
 gives_join h [] rest from mid to first later = subst (λ (p : ℕ). SessionGives h 0 rest p to) (sym first) later
 gives_join h (s ∷ ran) rest from mid to first later = (first.0, first.1, gives_join h ran rest first.0 mid to first.2 later)
 
--- ---- what is begun
+-- ---- what may be begun
 
 -- statements after those that ran began nothing
-pub begun_more : (first now : Told) (ran rest : List Item) → IsBegunBy first now ran → IsBegunBy first now (ran ++ rest)
-begun_more first now ran rest (inl same) = inl same
-begun_more first now ran rest (inr (inl none)) = inr (inl none)
-begun_more first now ran rest (inr (inr (c, is, of))) = inr (inr (
+may_begin_more : (first now : Told) (ran rest : List Item) → MayBeBegunBy first now ran → MayBeBegunBy first now (ran ++ rest)
+may_begin_more first now ran rest (inl same) = inl same
+may_begin_more first now ran rest (inr (inl none)) = inr (inl none)
+may_begin_more first now ran rest (inr (inr (c, is, of))) = inr (inr (
   c,
   is,
   record { before = of.before; said = of.said; after = of.after ++ rest; split = ap (λ (xs : List Item). xs ++ rest) of.split ∙ append_assoc of.before (of.said ∷ of.after) rest; place = of.place; gives = of.gives; next = of.next },
@@ -64,7 +63,8 @@ pub record Stepped (old now : Told) (s : Item) : Type 0 where
       ⊎ (now.begun ≡ None)
       ⊎ ((c : Command) × (now.begun ≡ Some (entry_of 0 c)) × IsNext (history now) 0 s (length old.list) (length now.list) c)
 
-next_of : (old now : Told) (s : Item) (done : List Command) (b : BeginsNext old now s done) → IsNext (history now) 0 s (length old.list) (length now.list) b.next
+-- the next command of the statement, which was begun
+pub next_of : (old now : Told) (s : Item) (done : List Command) (b : BeginsNext old now s done) → IsNext (history now) 0 s (length old.list) (length now.list) b.next
 next_of old now s done b = subst (λ (st : Item). IsNext (history now) 0 st (length old.list) (length now.list) b.next) (sym b.statement_is) (done, b.rest, b.stops)
 
 -- what the outside may come to
@@ -128,10 +128,10 @@ module _ (first old now : Told) (ran : List Item) (s : Item) (step : Stepped old
   lifted : SessionGives (history now) 0 ran (length first.list) (length old.list)
   lifted = subst (λ (h : History). SessionGives h 0 ran (length first.list) (length old.list)) (sym grown) (gives_more (history old) (entries step.more) 0 ran (length first.list) (length old.list) gives)
 
-  pub gives_step : SessionGives (history now) 0 (ran ++ s ∷ []) (length first.list) (length now.list)
+  gives_step : SessionGives (history now) 0 (ran ++ s ∷ []) (length first.list) (length now.list)
   gives_step = gives_append (history now) 0 ran s (length first.list) (length old.list) (length now.list) lifted step.gives
 
-  next_later : length now.list ≡ length old.list → (c : Command) → IsNextOf (history old) (length first.list) ran c → IsNextOf (history now) (length first.list) (ran ++ s ∷ []) c
+  next_later : length now.list ≡ length old.list → (c : Command) → MayBeNextOf (history old) (length first.list) ran c → MayBeNextOf (history now) (length first.list) (ran ++ s ∷ []) c
   next_later size c of = record {
     before = of.before;
     said = of.said;
@@ -143,16 +143,16 @@ module _ (first old now : Told) (ran : List Item) (s : Item) (step : Stepped old
         (subst (λ (h : History). IsNext h 0 of.said of.place (length (history old)) c) (sym grown) (next_more (history old) (entries step.more) 0 of.said of.place (length (history old)) c of.next));
   }
 
-  pub begun_step : IsBegunBy first old ran → IsBegunBy first now (ran ++ s ∷ [])
-  begun_step was = by step.begun
+  may_begin_step : MayBeBegunBy first old ran → MayBeBegunBy first now (ran ++ s ∷ [])
+  may_begin_step was = by step.begun
     where
-      kept : (now.begun ≡ old.begun) → length now.list ≡ length old.list → IsBegunBy first old ran → IsBegunBy first now (ran ++ s ∷ [])
+      kept : (now.begun ≡ old.begun) → length now.list ≡ length old.list → MayBeBegunBy first old ran → MayBeBegunBy first now (ran ++ s ∷ [])
       kept same size (inl still) = inl (same ∙ still.0, size ∙ still.1)
       kept same size (inr (inl none)) = inr (inl (same ∙ none))
       kept same size (inr (inr (c, is, of))) = inr (inr (c, same ∙ is, next_later size c of))
 
       by : ((now.begun ≡ old.begun) × (length now.list ≡ length old.list)) ⊎ (now.begun ≡ None) ⊎ ((c : Command) × (now.begun ≡ Some (entry_of 0 c)) × IsNext (history now) 0 s (length old.list) (length now.list) c)
-          → IsBegunBy first now (ran ++ s ∷ [])
+          → MayBeBegunBy first now (ran ++ s ∷ [])
       by (inl same) = kept same.0 same.1 was
       by (inr (inl none)) = inr (inl none)
       by (inr (inr (c, is, next))) = inr (inr (
@@ -184,7 +184,7 @@ gained_more first ran rest annals was = record {
   more_is = was.more_is;
   sessions = was.sessions;
   gives = gives_join (history was.now) ran rest (length first.list) (length was.now.list) (length was.now.list) was.gives (gives_idle (history was.now) rest (length was.now.list) (omega (arith, length_history was.now)));
-  begun = begun_more first was.now ran rest was.begun;
+  begun = may_begin_more first was.now ran rest was.begun;
 }
 
 module _ (ran : List Item) (s : Item) (old new : Option Told) (first : Told) (was : IsGainedBy ran old first) where
@@ -196,7 +196,7 @@ module _ (ran : List Item) (s : Item) (old new : Option Told) (first : Told) (wa
     more_is = step.list_is ∙ (ap (λ (ns : List Noted). ns ++ step.more) was.more_is ∙ append_assoc first.list was.more step.more);
     sessions = All-append (λ (n : Noted). n.entry.session ≡ 0) was.more step.more was.sessions step.sessions;
     gives = gives_step first was.now now ran s step was.gives;
-    begun = begun_step first was.now now ran s step was.gives was.begun;
+    begun = may_begin_step first was.now now ran s step was.gives was.begun;
   }
 
   -- One statement more ran over a store, which stands for the list as long as the disk's count is the one at opening; above it nothing is accepted.

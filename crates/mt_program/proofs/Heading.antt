@@ -1,7 +1,7 @@
 -- From a script that was served to what a run promises.
-use Rattle.std.proofs.Common.{◌≡◌, ◌⊎◌, ◌≤◌, ◌<◌, ◌^◌, inl, inr, ◌==◌, if◌then◌else◌, ℕ, Bool, true, false, List, [], ◌∷◌, ◌++◌, length, map, drop, refl, sym, ap, ◌∙◌, subst, Option, None, Some, Result, Ok, Err, append-nil, arith}
+use Rattle.std.proofs.Common.{◌≡◌, ◌⊎◌, ◌≤◌, ◌<◌, ◌^◌, inl, inr, ◌==◌, if◌then◌else◌, ℕ, Bool, true, false, List, [], ◌++◌, length, map, drop, refl, sym, ap, ◌∙◌, subst, Option, None, Some, Result, Ok, Err, append-nil, arith}
 use Rattle.std.specs.Prelude.{IfErr, IsErrAnd, IsErrOf, OnOk}
-use Rattle.std.specs.List.{All, concat}
+use Rattle.std.specs.List.{All}
 use Rattle.std.specs.Io.KnownBytes.{Appends, Consumes, IsAtEnd}
 use Rattle.std.proofs.lemmas.List.{map-append, drop_all}
 use Rattle.std.proofs.lemmas.List.Elements.{All-map, All-nil}
@@ -29,7 +29,7 @@ use Rattle.mt_program.specs.Endings.{IsAnswered, IsEarly, LeftBy, MetNoDamage, s
 use Rattle.mt_program.specs.Headline.{AnsweredAll, AnsweredRead, EndsBy, Headline, NothingRan}
 use Rattle.mt_program.specs.Worlds.{Starts, World, counts_of}
 use Rattle.exit_status.specs.Statuses.{number_of}
-use Rattle.mt_program.specs.Courses.{Course, GoesUnanswered, Item, RunOf}
+use Rattle.mt_program.specs.Courses.{Course, GoesUnanswered, Item, RunOf, course_of}
 use Rattle.mt_program.specs.Serving.{Ran, ServedBy}
 use Rattle.root_opening.specs.declared.opening.Damage.{Damage}
 use Rattle.root_opening.specs.declared.opening.OpenFault.{OpenFault}
@@ -66,9 +66,6 @@ own_entries kept opened disk arm done replies told r =
     let behind : drop (length kept.list) (history r.now) ≡ map entries r.more =
     ap (drop (length kept.list)) all ∙ (ap (λ n. drop n (history kept ++ map entries r.more)) (sym (length_history kept)) ∙ drop-append_seam (history kept) (map entries r.more)) in
     subst (All (λ (e : Entry). e.session ≡ 0)) (sym behind) (All-map (λ (e : Entry). e.session ≡ 0) entries r.more r.sessions)
-
-abbrev pub course_of : List Item → List (List ℕ) → Option Item → Course
-course_of done replies last = record { ran = done; replies = replies; unanswered = last }
 
 abbrev pub none_answered : Course
 none_answered = course_of [] [] None
@@ -142,25 +139,25 @@ module _ (before after : World) (kept : Told) (script written : List ℕ)
   early_leaves status.NotWords is sound same = absurd is
   early_leaves status.WriteFault is sound same = absurd is
 
--- what is known is the same, the counts of faults aside
+-- what is known is the same, the counts of faults aside, and the mark
 abbrev pub Same : World → World → Type 0
-Same before after = (after.storage.disk ≡ before.storage.disk) × (after.storage.annals ≡ before.storage.annals) × (after.source ≡ before.source) × (after.sink ≡ before.sink)
+Same before after = (after.storage.disk ≡ before.storage.disk) × (after.storage.clock ≡ before.storage.clock) × (after.storage.annals ≡ before.storage.annals) × (after.source ≡ before.source) × (after.sink ≡ before.sink)
 
 pub none_ran : (before after : World) → Same before after → NothingRan before after none_answered
-none_ran before after same = record { none = refl; answered = refl; disk = same.0; annals = same.1; source = same.2; sink = same.3 }
+none_ran before after same = record { none = refl; answered = refl; disk = same.0; clock = same.1; annals = same.2; source = same.3; sink = same.4 }
 
 -- the run ended before anything was known to change
 pub nothing_leaves : (before after : World) (kept : Told) (script written : List ℕ) → Starts before kept script written → Same before after → (ended : Status)
     → (NothingRan before after none_answered → EndsBy ended before after script none_answered (statements_of script) []) → Headline ended before after kept script written
 nothing_leaves before after kept script written starts same ended ends =
-    early before after kept script written starts.stands.legal (same.1 ∙ starts.annals_is) (same.3 ∙ starts.sink_is) (root_told after.storage.disk starts.told (history kept) (same.0 ∙ starts.disk_is) starts.stands)
+    early before after kept script written starts.stands.legal (same.2 ∙ starts.annals_is) (same.4 ∙ starts.sink_is) (root_told after.storage.disk starts.told (history kept) (same.0 ∙ starts.disk_is) starts.stands)
     ended (ends (none_ran before after same))
 
 -- the disk failed before the root was opened
 pub early_same : (before after : World) (kept : Told) (script written : List ℕ) → Starts before kept script written → Same before after → (ended : Status) → IsEarly ended → (ended ≡ status.Damaged → ⊥)
     → Headline ended before after kept script written
 early_same before after kept script written starts same ended is sound =
-    early_leaves before after kept script written starts.stands.legal (same.1 ∙ starts.annals_is) (same.3 ∙ starts.sink_is) (root_told after.storage.disk starts.told (history kept) (same.0 ∙ starts.disk_is) starts.stands)
+    early_leaves before after kept script written starts.stands.legal (same.2 ∙ starts.annals_is) (same.4 ∙ starts.sink_is) (root_told after.storage.disk starts.told (history kept) (same.0 ∙ starts.disk_is) starts.stands)
     ended is sound (λ fault. none_ran before after same)
 
 -- the script was served
@@ -178,7 +175,7 @@ module _ (before after : World) (kept : Told) (script written : List ℕ) (opene
     rest = s.rest;
     split = s.split;
     ran = run_of (counts_of before after) kept opened disk arm s.done s.replies s.unanswered after.storage.annals f s.ran;
-    begun = s.begun;
+    begun = s.begun (counts_of before after) f;
     out = s.out;
     sink_is = known_after written s.out before.sink after.sink is s.wrote;
     ends = ends;

@@ -1,3 +1,4 @@
+pub mod Begun
 pub mod Chaining
 pub mod Completing
 pub mod Crashing

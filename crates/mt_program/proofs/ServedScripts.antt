@@ -24,9 +24,9 @@ use Rattle.command_turn.specs.Answers.{Answered, Keeps}
 use Rattle.std.proofs.lemmas.Bool.Decides.{nat_tests}
 use Rattle.reply_lines.specs.Causes.{HasCauses}
 use Rattle.reply_lines.specs.Foreseen.{Foresees, history, is_unsettled}
-use Rattle.mt_program.specs.Courses.{AreSettled, AreStopped, IsBegunBy, Item, Tells}
+use Rattle.mt_program.specs.Courses.{AreSettled, AreStopped, IsBegunBy, Item, Tells, course_of}
 use Rattle.mt_program.specs.Serving.{Ran, Served, ServedBy}
-use Rattle.mt_program.proofs.Gaining.{begun_step, gives_step, stepped_answered, stepped_keeps}
+use Rattle.mt_program.proofs.Begun.{begun_answered, begun_unanswered, replies_length}
 use Rattle.mt_model.specs.Outside.{Outside}
 use Rattle.reply_lines.proofs.Ends.{length_history}
 use Rattle.mt_program.specs.declared.serving.Ending.TheVariants as ending
@@ -108,33 +108,31 @@ ran_before kept opened disk arm later more done replies told le less r = record 
 
 -- a reply of a list with one more at its end is that one, or one before it
 last_or_before : {X : Type 0} (xs : List X) (y : X) (front : List X) (x : X) (more : List X) → xs ++ y ∷ [] ≡ front ++ x ∷ more
-    → ((xs ≡ front) × (y ≡ x)) ⊎ ((rest : List X) × (xs ≡ front ++ x ∷ rest))
-last_or_before [] y [] x [] is = let same : y ≡ x = cc in inl (refl, same)
+    → ((xs ≡ front) × (y ≡ x) × (more ≡ [])) ⊎ ((rest : List X) × (xs ≡ front ++ x ∷ rest) × (more ≡ rest ++ y ∷ []))
+last_or_before [] y [] x [] is = let same : y ≡ x = cc in inl (refl, same, refl)
 last_or_before [] y [] x (z ∷ more) is = cc
 last_or_before [] y (z ∷ []) x more is = cc
 last_or_before [] y (z ∷ w ∷ front) x more is = cc
-last_or_before (z ∷ xs) y [] x more is = let same : z ≡ x = cc in inr (xs, ap (λ w. w ∷ xs) same)
+last_or_before (z ∷ xs) y [] x more is =
+    let same : z ≡ x = cc in
+    let rest : more ≡ xs ++ y ∷ [] = cc in
+    inr (xs, ap (λ w. w ∷ xs) same, rest)
 last_or_before (z ∷ xs) y (w ∷ front) x more is =
     let same : z ≡ w = cc in
     let rest : xs ++ y ∷ [] ≡ front ++ x ∷ more = cc in
     elim (last_or_before xs y front x more rest) [
-      | inl both ↦ inl (ap (λ ws. z ∷ ws) both.0 ∙ ap (λ v. v ∷ front) same, both.1)
-      | inr before ↦ inr (before.0, ap (λ ws. z ∷ ws) before.1 ∙ ap (λ v. v ∷ (front ++ x ∷ before.0)) same)
+      | inl both ↦ inl (ap (λ ws. z ∷ ws) both.0 ∙ ap (λ v. v ∷ front) same, both.1, both.2)
+      | inr before ↦ inr (before.0, ap (λ ws. z ∷ ws) before.1 ∙ ap (λ v. v ∷ (front ++ x ∷ before.0)) same, before.2)
     ]
 
--- a commit that failed shows in the disk's count
-pub unsettled_rose : (was opened disk_old disk_new arm_old arm_new : ℕ) (reply : List ℕ) → was ≡ opened → opened ≤ disk_old → opened < 2 ^ 64 - 1 → HasCauses was disk_old disk_new arm_old arm_new reply → is_unsettled reply ≡ true → opened < disk_new
+-- a commit that failed shows in the disk's count, which was the one at opening before
+pub unsettled_rose : (was opened disk_old disk_new arm_old arm_new : ℕ) (reply : List ℕ) → was ≡ opened → opened ≤ disk_old → opened < 2 ^ 64 - 1 → HasCauses was disk_old disk_new arm_old arm_new reply → is_unsettled reply ≡ true
+    → (disk_old ≡ opened) × (opened < disk_new)
 unsettled_rose was opened disk_old disk_new arm_old arm_new reply same low below causes failed =
     let is : code_of reply ≡ 16 = grind (arith, failed, nat_tests) in
-    let rose = causes.unsettled is in
-    omega (arith, rose, low, below)
-
--- there are as many replies as statements
-replies_length : (n : Outside) (h : History) (ss : List Item) (from to : ℕ) (replies : List (List ℕ)) → SessionReplies n h 0 ss from to replies → length replies ≡ length ss
-replies_length n h [] from to [] r = refl
-replies_length n h [] from to (x ∷ xs) r = absurd r
-replies_length n h (st ∷ ss) from to [] r = absurd r
-replies_length n h (st ∷ ss) from to (x ∷ xs) r = ap suc (replies_length n h ss r.0 to xs r.2)
+    let calm = (causes.unsettled is).0 in
+    let rose = (causes.unsettled is).1 in
+    (calm ∙ same, omega (arith, rose, low, below))
 
 -- one of the replies says it
 says_so : (replies front more : List (List ℕ)) (reply : List ℕ) → replies ≡ front ++ reply ∷ more → is_unsettled reply ≡ true → list_any is_unsettled replies ≡ true
@@ -150,7 +148,7 @@ says_so replies front more reply is failed = ap (list_any is_unsettled) is ∙ a
 
 -- one more statement that was answered
 module _ {F : Type 0} (files_of : F → Option Files) (kept : Told) (opened disk arm later higher : ℕ) (done : List Item) (replies : List (List ℕ)) (st : Item) (reply : List ℕ) (new : CoreStore F) (told after : Option Told) (was_root now_root : Option root.Told)
-    (le : disk ≤ later) (less : arm ≤ higher) (failed : is_unsettled reply ≡ true → opened < later) (still : opened < disk → after ≡ told)
+    (le : disk ≤ later) (less : arm ≤ higher) (failed : is_unsettled reply ≡ true → (disk ≡ opened) × (opened < later)) (still : opened < disk → after ≡ told)
     (r : Ran kept opened disk arm done replies told) (a : Answered files_of r.now st opened later higher reply new after was_root now_root) where
   grown : history a.now ≡ history r.now ++ map (λ (n : Noted). n.entry) a.more
   grown = ap (map (λ (n : Noted). n.entry)) a.list_is ∙ map-append (λ (n : Noted). n.entry) r.now.list a.more
@@ -172,25 +170,38 @@ module _ {F : Type 0} (files_of : F → Option Files) (kept : Told) (opened disk
       let same : r.now ≡ a.now = cc in
       ap history same
 
+  -- and the next reply does not say that one failed
+  not_again : list_any is_unsettled replies ≡ true → is_unsettled reply ≡ false
+  not_again some = by (is_unsettled reply) refl
+    where
+      by : (b : Bool) → is_unsettled reply ≡ b → b ≡ false
+      by true is = let same = (failed is).0 in let risen = r.risen some in absurd (omega (arith, same, risen))
+      by false is = refl
+
   stopped_more : (n : Outside) → Foresees opened later higher n → AreStopped n (history a.now) (length kept.list) (done ++ st ∷ []) (replies ++ reply ∷ [])
   stopped_more n f = λ front more x is unsettled. elim (last_or_before replies reply front x more is) [
     | inl last ↦ (
         let count : length replies ≡ length done = replies_length n (history a.now) done (length kept.list) (length r.now.list) replies (before n f) in
         let size : length front + 1 ≡ length (done ++ st ∷ []) = ap (λ (xs : List (List ℕ)). length xs + 1) (sym last.0) ∙ (ap (λ (m : ℕ). m + 1) count ∙ sym (length-append done (st ∷ []))) in
         let whole : take (length front + 1) (done ++ st ∷ []) ≡ done ++ st ∷ [] = take_all (length front + 1) (done ++ st ∷ []) (omega (arith, size)) in
-        let replies_are : replies ++ reply ∷ [] ≡ front ++ x ∷ [] = ap (λ (xs : List (List ℕ)). xs ++ reply ∷ []) last.0 ∙ ap (λ (y : List ℕ). front ++ y ∷ []) last.1 in
-        subst (λ (m : ℕ). SessionReplies n (history a.now) 0 (take (length front + 1) (done ++ st ∷ [])) (length kept.list) m (front ++ x ∷ [])) (sym (length_history a.now))
-        (subst (λ (xs : List (List ℕ)). SessionReplies n (history a.now) 0 (take (length front + 1) (done ++ st ∷ [])) (length kept.list) (length a.now.list) xs) replies_are
-        (subst (λ (ss : List Item). SessionReplies n (history a.now) 0 ss (length kept.list) (length a.now.list) (replies ++ reply ∷ [])) (sym whole) (all n f))))
+        let replies_are : replies ++ reply ∷ [] ≡ front ++ x ∷ [] = ap (λ (xs : List (List ℕ)). xs ++ reply ∷ []) last.0 ∙ ap (λ (y : List ℕ). front ++ y ∷ []) last.1 in (
+          subst (λ (m : ℕ). SessionReplies n (history a.now) 0 (take (length front + 1) (done ++ st ∷ [])) (length kept.list) m (front ++ x ∷ [])) (sym (length_history a.now))
+              (subst (λ (xs : List (List ℕ)). SessionReplies n (history a.now) 0 (take (length front + 1) (done ++ st ∷ [])) (length kept.list) (length a.now.list) xs) replies_are
+              (subst (λ (ss : List Item). SessionReplies n (history a.now) 0 ss (length kept.list) (length a.now.list) (replies ++ reply ∷ [])) (sym whole) (all n f))),
+          ap (list_any is_unsettled) last.2,
+        ))
     | inr earlier ↦ (
         let was = foresees_before opened disk later arm higher n le less f in
         let stop = r.stopped n was front earlier.0 x earlier.1 unsettled in
-        let same = as_before (says_so replies front earlier.0 x earlier.1 unsettled) in
+        let some = says_so replies front earlier.0 x earlier.1 unsettled in
+        let same = as_before some in
         let count : length replies ≡ length done = replies_length n (history a.now) done (length kept.list) (length r.now.list) replies (before n f) in
         let size : length replies ≡ length front + suc (length earlier.0) = ap length earlier.1 ∙ length-append front (x ∷ earlier.0) in
-        let front_is : take (length front + 1) (done ++ st ∷ []) ≡ take (length front + 1) done = take-append-le (length front + 1) done (st ∷ []) (omega (arith, count, size)) in
-        subst (λ (ss : List Item). SessionReplies n (history a.now) 0 ss (length kept.list) (length (history a.now)) (front ++ x ∷ [])) (sym front_is)
-        (subst (λ (h : History). SessionReplies n h 0 (take (length front + 1) done) (length kept.list) (length h) (front ++ x ∷ [])) same stop))
+        let front_is : take (length front + 1) (done ++ st ∷ []) ≡ take (length front + 1) done = take-append-le (length front + 1) done (st ∷ []) (omega (arith, count, size)) in (
+          subst (λ (ss : List Item). SessionReplies n (history a.now) 0 ss (length kept.list) (length (history a.now)) (front ++ x ∷ [])) (sym front_is)
+              (subst (λ (h : History). SessionReplies n h 0 (take (length front + 1) done) (length kept.list) (length h) (front ++ x ∷ [])) same stop.0),
+          ap (list_any is_unsettled) earlier.2 ∙ (any_push is_unsettled earlier.0 reply ∙ (ap (λ (b : Bool). b || is_unsettled reply) stop.1 ∙ not_again some)),
+        ))
   ]
 
   risen_more : list_any is_unsettled (replies ++ reply ∷ []) ≡ true → opened < later
@@ -198,8 +209,15 @@ module _ {F : Type 0} (files_of : F → Option Files) (kept : Told) (opened disk
     where
       by : (b : Bool) → list_any is_unsettled replies ≡ b → (c : Bool) → is_unsettled reply ≡ c → (b || c) ≡ true → opened < later
       by true was c is h = let low = r.risen was in omega (arith, low, le)
-      by false was true is h = failed is
+      by false was true is h = (failed is).1
       by false was false is h = cc
+
+  -- what is begun then
+  pub begins_more : ((n : Outside) → Foresees opened disk arm n → IsBegunBy n kept r.now (course_of done replies None)) → (n : Outside) → Foresees opened later higher n
+      → IsBegunBy n kept a.now (course_of (done ++ st ∷ []) (replies ++ reply ∷ []) None)
+  begins_more was n f =
+      let size = ap length r.list_is ∙ length-append kept.list r.more in
+      begun_answered n kept r.now a.now done replies st (before n f) a.more a.list_is (omega (arith, size)) reply a.begun (was n (foresees_before opened disk later arm higher n le less f))
 
   pub ran_more : Ran kept opened later higher (done ++ st ∷ []) (replies ++ reply ∷ []) after
   ran_more = record {
@@ -231,6 +249,16 @@ ran_still kept opened disk arm later more done replies st told after was_root no
       stopped = λ n f. subst (λ (x : History). AreStopped n x (length kept.list) done replies) (sym h) (r.stopped n (foresees_before opened disk later arm more n le less f));
       risen = λ some. let was = r.risen some in omega (arith, was, le);
     }
+
+-- what is begun by it
+pub begins_still : (kept : Told) (opened disk arm later more : ℕ) (done : List Item) (replies : List (List ℕ)) (st : Item) (told after : Option Told) (was_root now_root : Option root.Told) → disk ≤ later → arm ≤ more
+    → (r : Ran kept opened disk arm done replies told) (k : Keeps r.now st after was_root now_root) → ((n : Outside) → Foresees opened disk arm n → IsBegunBy n kept r.now (course_of done replies None))
+    → (n : Outside) → Foresees opened later more n → IsBegunBy n kept k.now (course_of done replies (Some st))
+begins_still kept opened disk arm later more done replies st told after was_root now_root le less r k was n f =
+    let h : history k.now ≡ history r.now = ap (map (λ (n : Noted). n.entry)) k.list_is in
+    let early = foresees_before opened disk later arm more n le less f in
+    let each = subst (λ (x : History). SessionReplies n x 0 done (length kept.list) (length r.now.list) replies) (sym h) (r.run n early) in
+    begun_unanswered n kept r.now k.now done replies st each k.list_is k.begun (was n early)
 
 -- what is told of the replies, with one more
 pub tells_more : (t : Tally) (replies : List (List ℕ)) (reply : List ℕ) → Tells t replies → Tells (tallied t reply) (replies ++ reply ∷ [])
@@ -294,7 +322,7 @@ module _ {F : Type 0} (files_of : F → Option Files) (kept : Told) (script : Li
       out = concat s.replies;
       split = s.split ∙ (ap (λ ss. s.done ++ ss) left ∙ sym (append_assoc s.done (st ∷ []) (statements_of (drop (at + used) script))));
       ran = ran_still kept opened disk arm later more s.done s.replies st told after was_root now_root le less s.ran k;
-      begun = begun_step kept s.ran.now k.now s.done st (stepped_keeps s.ran.now st after was_root now_root k) s.given s.begun;
+      begun = begins_still kept opened disk arm later more s.done s.replies st told after was_root now_root le less s.ran k s.begun;
       wrote = s.wrote;
       stops = refl;
       settled = λ none.
@@ -303,7 +331,7 @@ module _ {F : Type 0} (files_of : F → Option Files) (kept : Told) (script : Li
     }
 
     module _ (used : ℕ) (st : Item) (left : statements_of (drop at script) ≡ st ∷ statements_of (drop (at + used) script)) (new : CoreStore F) (after : Option Told) (now_root : Option root.Told) (reply : List ℕ) (written : Option (List ℕ))
-        (failed : is_unsettled reply ≡ true → opened < later) (still : opened < disk → after ≡ told) (a : Answered files_of s.ran.now st opened later more reply new after was_root now_root) where
+        (failed : is_unsettled reply ≡ true → (disk ≡ opened) × (opened < later)) (still : opened < disk → after ≡ told) (a : Answered files_of s.ran.now st opened later more reply new after was_root now_root) where
       split_more : statements_of script ≡ (s.done ++ st ∷ []) ++ statements_of (drop (at + used) script)
       split_more = s.split ∙ (ap (λ ss. s.done ++ ss) left ∙ sym (append_assoc s.done (st ∷ []) (statements_of (drop (at + used) script))))
 
@@ -318,8 +346,7 @@ module _ {F : Type 0} (files_of : F → Option Files) (kept : Told) (script : Li
         replies = s.replies ++ reply ∷ [];
         split = split_more;
         ran = ran_more files_of kept opened disk arm later more s.done s.replies st reply new told after was_root now_root le less failed still s.ran a;
-        given = gives_step kept s.ran.now a.now s.done st (stepped_answered files_of s.ran.now st opened later more reply new after was_root now_root a) s.given;
-        begun = begun_step kept s.ran.now a.now s.done st (stepped_answered files_of s.ran.now st opened later more reply new after was_root now_root a) s.given s.begun;
+        begun = begins_more files_of kept opened disk arm later more s.done s.replies st reply new told after was_root now_root le less failed still s.ran a s.begun;
         stands = a.stands;
         wrote = subst (Appends before written) (sym (concat_push s.replies reply)) (appends_more before now written (concat s.replies) reply s.wrote wrote);
         tells = tells_more tally s.replies reply s.tells;
@@ -337,7 +364,7 @@ module _ {F : Type 0} (files_of : F → Option Files) (kept : Told) (script : Li
         out = concat s.replies ++ w.0;
         split = split_more;
         ran = ran_more files_of kept opened disk arm later more s.done s.replies st reply new told after was_root now_root le less failed still s.ran a;
-        begun = begun_step kept s.ran.now a.now s.done st (stepped_answered files_of s.ran.now st opened later more reply new after was_root now_root a) s.given s.begun;
+        begun = begins_more files_of kept opened disk arm later more s.done s.replies st reply new told after was_root now_root le less failed still s.ran a s.begun;
         wrote = appends_more before now written (concat s.replies) w.0 s.wrote w.3;
         stops = (refl, record { whole = s.replies; last = reply; part = w.0; replies_are = refl; front = (w.1, sym w.2); out_is = refl });
         settled = settled_more;
@@ -356,8 +383,7 @@ served_none files_of kept script opened disk arm tally store told now_root befor
   replies = [];
   split = refl;
   ran = record { now = kept; more = []; told_is = is; list_is = sym (append-nil kept.list); legal = stands.legal; sessions = All-nil (λ (n : Noted). n.entry.session ≡ 0); run = λ n f. refl; stopped = λ n f. none_stopped n (history kept) (length kept.list); risen = λ some. cc };
-  given = refl;
-  begun = inl (refl, refl);
+  begun = λ n f. inl (refl, refl);
   stands = stands;
   wrote = appends_none before;
   tells = record { refusals = refused; damages = damaged };

@@ -1,5 +1,5 @@
 -- Statements that ran, and their replies (docs/definitions.md, "Runs").
-use Rattle.std.specs.Prelude.{◌≡◌, ◌⊎◌, ◌+◌, ℕ, false, true, List, [], ◌∷◌, ◌++◌, length, take, Option, Some, None}
+use Rattle.std.specs.Prelude.{◌≡◌, ◌⊎◌, ◌+◌, ◌<◌, ℕ, false, true, List, [], ◌∷◌, ◌++◌, length, take, slice_get, Option, Some, None}
 use Rattle.std.specs.List.{concat, list_any}
 use Rattle.mt_values.specs.declared.command.Command.{Command}
 use Rattle.mt_values.specs.Annals.{Told}
@@ -9,7 +9,7 @@ use Rattle.mt_model.specs.History.{History}
 use Rattle.mt_model.specs.Outside.{Outside}
 use Rattle.mt_model.specs.Refusals.{is_refusal, is_damage}
 use Rattle.mt_model.specs.Script.{IsFront, OwnEntries}
-use Rattle.mt_model.specs.Session.{AddsNothing, IsNext, SessionGives, SessionReplies, Unanswered}
+use Rattle.mt_model.specs.Session.{AddsNothing, IsNext, SessionReplies, Unanswered}
 use Rattle.root_store.specs.Soundness.{RootStands}
 use Rattle.durable_commit.specs.Commits.{entry_of}
 use Rattle.reply_lines.specs.Foreseen.{history, is_unsettled}
@@ -20,6 +20,10 @@ pub record Course : Type 0 where
   pub ran : List Item
   pub replies : List (List ℕ)
   pub unanswered : Option Item
+
+-- the course of statements that ran with these replies, and of the one after them where it ran without a reply
+abbrev pub course_of : List Item → List (List ℕ) → Option Item → Course
+course_of ran replies last = record { ran = ran; replies = replies; unanswered = last }
 
 -- every statement that ran
 abbrev pub with_last : List Item → Option Item → List Item
@@ -34,11 +38,12 @@ abbrev pub GoesUnanswered : History → Option Item → ℕ → ℕ → Type 0
 GoesUnanswered h None from to = from ≡ to
 GoesUnanswered h (Some last) from to = Unanswered h 0 last from to
 
--- After a reply which says that a commit failed nothing more is accepted: the statements up to this one run to the end of the history.
+-- After a reply which says that a commit failed nothing more is accepted: the statements up to this one run to the end of the history. And no
+-- later reply says it.
 abbrev pub AreStopped : Outside → History → ℕ → List Item → List (List ℕ) → Type 0
 AreStopped n h base ran replies =
     (front more : List (List ℕ)) (reply : List ℕ) → replies ≡ front ++ reply ∷ more → is_unsettled reply ≡ true
-    → SessionReplies n h 0 (take (length front + 1) ran) base (length h) (front ++ reply ∷ [])
+    → SessionReplies n h 0 (take (length front + 1) ran) base (length h) (front ++ reply ∷ []) × (list_any is_unsettled more ≡ false)
 
 -- The statements ran from a place of the history on, each with a reply that it may have. Each entry past the place is theirs, and after a commit
 -- that failed there is none.
@@ -51,23 +56,25 @@ pub record RunOf (n : Outside) (h : History) (base : ℕ) (course : Course) : Ty
   pub sessions : OwnEntries h base
   pub stopped : AreStopped n h base course.ran course.replies
 
--- The next command of one of these statements: those before it gave each the first of its commands, or none, it ran from there on, and then
--- nothing was accepted.
-pub record IsNextOf (h : History) (base : ℕ) (statements : List Item) (c : Command) : Type 0 where
+-- The next command of the statement whose reply says that its commit failed, or of the one that ran without a reply. Those before it ran with
+-- their replies up to some place, and it ran from there to the end of the history.
+pub record IsNextOf (n : Outside) (h : History) (base : ℕ) (course : Course) (c : Command) : Type 0 where
   pub before : List Item
   pub said : Item
   pub after : List Item
-  pub split : statements ≡ before ++ said ∷ after
+  pub split : started course ≡ before ++ said ∷ after
   pub place : ℕ
-  pub gives : SessionGives h 0 before base place
+  pub ran : SessionReplies n h 0 before base place (take (length before) course.replies)
   pub next : IsNext h 0 said place (length h) c
+  pub says : (reply : List ℕ) → slice_get course.replies (length before) ≡ Some reply → is_unsettled reply ≡ true
 
--- What is begun after statements ran: what was begun before, where nothing was accepted; nothing; or the next command of one of them.
-abbrev pub IsBegunBy : Told → Told → List Item → Type 0
-IsBegunBy first now statements =
+-- What is begun after statements ran: what was begun before, where nothing was accepted; nothing, where something was; or the next command of
+-- the statement whose commit failed, or that has no reply.
+abbrev pub IsBegunBy : Outside → Told → Told → Course → Type 0
+IsBegunBy n first now course =
     ((now.begun ≡ first.begun) × (length now.list ≡ length first.list))
-    ⊎ (now.begun ≡ None)
-    ⊎ ((c : Command) × (now.begun ≡ Some (entry_of 0 c)) × IsNextOf (history now) (length first.list) statements c)
+    ⊎ ((now.begun ≡ None) × (length first.list < length now.list))
+    ⊎ ((c : Command) × (now.begun ≡ Some (entry_of 0 c)) × IsNextOf n (history now) (length first.list) course c)
 
 -- all replies but the last were written, and a front of that
 pub record IsCut (replies : List (List ℕ)) (out : List ℕ) : Type 0 where

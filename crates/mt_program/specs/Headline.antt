@@ -1,5 +1,5 @@
 -- What a run promises (docs/definitions.md, "Runs").
-use Rattle.std.specs.Prelude.{◌≡◌, ◌⊎◌, ◌<◌, ◌^◌, ℕ, List, [], ◌∷◌, ◌++◌, length, take, Bool, true, false, Option, Some, None}
+use Rattle.std.specs.Prelude.{◌≡◌, ◌⊎◌, ◌<◌, ◌^◌, ℕ, List, [], ◌++◌, length, take, Bool, true, false, Option, Some, None}
 use Rattle.std.specs.List.{concat}
 use Rattle.mt_values.specs.declared.annals.Noted.{Noted}
 use Rattle.mt_values.specs.Annals.{Told}
@@ -32,11 +32,13 @@ pub record AnsweredRead (source : Option (List ℕ)) (script : List ℕ) (course
   pub out_is : out ≡ concat course.replies
   pub wholly : AreWhollyRead (length course.ran) script source
 
--- No statement ran, and what the disk, the annals, the source and the sink tell is as it was. The disk's mark and the counts of faults are left open.
+-- No statement ran. What the disk, the annals, the source and the sink tell is as it was, and so is the disk's mark. The counts of faults are left
+-- open.
 pub record NothingRan (before after : World) (course : Course) : Type 0 where
   pub none : course.ran ≡ []
   pub answered : course.unanswered ≡ None
   pub disk : after.storage.disk ≡ before.storage.disk
+  pub clock : after.storage.clock ≡ before.storage.clock
   pub annals : after.storage.annals ≡ before.storage.annals
   pub source : after.source ≡ before.source
   pub sink : after.sink ≡ before.sink
@@ -55,8 +57,9 @@ EndsBy status.Damaged before after script course rest out = ⊥
 EndsBy status.TooLong before after script course rest out = AnsweredRead after.source script course out
 
 -- What a run leaves, by how it ended. The annals hold a list that begins with the one before and is legal. The first statements of the script ran,
--- each with a reply that it may have at its place of that list, and each entry that the list gained is theirs. What is begun was
--- begun before, or is nothing, or the next command of one of them. What was written is their replies. Where none of these says that a commit failed, the root stands for the list, so that the next run opens it.
+-- each with a reply that it may have at its place of that list, and each entry that the list gained is theirs. What is begun was begun before, or is
+-- nothing, or the next command of the statement whose commit failed, or that has no reply. What was written is their replies. Where none of these
+-- says that a commit failed, the root stands for the list, so that the next run opens it.
 pub record Headline (ended : Status) (before after : World) (kept : Told) (script written : List ℕ) : Type 0 where
   pub now : Told
   pub annals_is : after.storage.annals ≡ Some now
@@ -67,7 +70,7 @@ pub record Headline (ended : Status) (before after : World) (kept : Told) (scrip
   pub rest : List Item
   pub split : statements_of script ≡ started course ++ rest
   pub ran : RunOf (counts_of before after) (history now) (length kept.list) course
-  pub begun : IsBegunBy kept now (started course)
+  pub begun : IsBegunBy (counts_of before after) kept now course
   pub out : List ℕ
   pub sink_is : after.sink ≡ Some (written ++ out)
   pub ends : EndsBy ended before after script course rest out

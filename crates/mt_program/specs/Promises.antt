@@ -39,12 +39,14 @@ abbrev pub IsComplete : List (String Global) → World → ℕ → World → Typ
 IsComplete words before status after =
     (kept : Told) (script written : List ℕ) → Starts before kept script written → NothingRefuses words script (history kept) → NoCountRose before after → (status ≡ 0) ⊎ (status ≡ 6)
 
--- a run over a damaged root, by the number with which it ends: its line is written, or nothing, and what the disk and the annals tell is as it was
+-- a run over a damaged root, by the number with which it ends: its line is written, or nothing, and what the disk and the annals tell is as it was,
+-- and so is the disk's mark
 pub record NotOpened (number : ℕ) (line : List ℕ) (before after : World) : Type 0 where
   pub ended : Status
   pub number_is : number ≡ number_of ended
   pub writes : WritesDamage ended line before.sink_failed after.sink_failed before.sink after.sink
   pub disk : after.storage.disk ≡ before.storage.disk
+  pub clock : after.storage.clock ≡ before.storage.clock
   pub annals : after.storage.annals ≡ before.storage.annals
 
 -- What is told of damage. A root that is damaged is not opened. The status 7 comes over no other root, and so not over one that stands for
@@ -60,7 +62,7 @@ pub record OfCrashes (before after : World) : Type 0 where
   pub kept : (first : Told) (told : root.Told) → before.storage.annals ≡ Some first → before.storage.disk ≡ Some told → AllStand told before.storage.clock (history first)
       → LeavesOfScript before.source before.storage.failed after.storage first before.storage.clock
   pub settles : (first : Told) (told : root.Told) → before.storage.annals ≡ Some first → before.storage.disk ≡ Some told → root.names_of told ≢ [] → AllStand told (before.storage.clock + 1) (history first)
-      → IsAsBefore before.storage.disk after.storage.disk before.storage.annals after.storage.annals before.sink after.sink
+      → IsAsBefore before.storage after.storage before.sink after.sink
       ⊎ LeavesOfScript before.source before.storage.failed after.storage first (before.storage.clock + 1)
 
 -- Why a run ends with its number: 2 exactly where the words are no command line; 3, 4 and 5 only where the count of the source, the sink or the disk

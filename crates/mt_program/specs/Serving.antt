@@ -9,11 +9,11 @@ use Rattle.mt_outside.specs.Disk as root
 use Rattle.mt_outside.specs.Files.{Files}
 use Rattle.mt_model.specs.History.{IsLegal}
 use Rattle.mt_model.specs.Outside.{Outside}
-use Rattle.mt_model.specs.Session.{SessionGives, SessionReplies}
+use Rattle.mt_model.specs.Session.{SessionReplies}
 use Rattle.root_store.specs.declared.store.CoreStore.{CoreStore}
 use Rattle.root_store.specs.Stores.{CoreStands}
 use Rattle.reply_lines.specs.Foreseen.{Foresees, history, is_unsettled}
-use Rattle.mt_program.specs.Courses.{AreSettled, AreStopped, IsBegunBy, IsCut, Item, Tells, with_last}
+use Rattle.mt_program.specs.Courses.{AreSettled, AreStopped, IsBegunBy, IsCut, Item, Tells, course_of, with_last}
 use Rattle.mt_program.specs.declared.serving.Ending.{Ending}
 use Rattle.mt_program.specs.declared.serving.Ending.TheVariants as ending
 use Rattle.reply_lines.specs.declared.tally.Tally.{Tally}
@@ -36,8 +36,7 @@ pub record Served {F : Type 0} (files_of : F → Option Files) (kept : Told) (sc
   pub replies : List (List ℕ)
   pub split : statements_of script ≡ done ++ statements_of (drop at script)
   pub ran : Ran kept opened disk arm done replies told
-  pub given : SessionGives (history ran.now) 0 done (length kept.list) (length ran.now.list)
-  pub begun : IsBegunBy kept ran.now done
+  pub begun : (n : Outside) → Foresees opened disk arm n → IsBegunBy n kept ran.now (course_of done replies None)
   pub stands : CoreStands files_of (history ran.now) store
   pub wrote : Appends before after (concat replies)
   pub tells : Tells tally replies
@@ -58,7 +57,7 @@ pub record ServedBy (ended : Ending) (kept : Told) (script : List ℕ) (opened d
   pub out : List ℕ
   pub split : statements_of script ≡ with_last done unanswered ++ rest
   pub ran : Ran kept opened disk arm done replies told
-  pub begun : IsBegunBy kept ran.now (with_last done unanswered)
+  pub begun : (n : Outside) → Foresees opened disk arm n → IsBegunBy n kept ran.now (course_of done replies unanswered)
   pub wrote : Appends before after out
   pub stops : StopsBy ended unanswered rest replies out
   pub settled : AreSettled replies root (history ran.now)

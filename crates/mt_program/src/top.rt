@@ -167,19 +167,21 @@ fn run_root<D: Disk, A: Annals, S: Source, K: Sink, G: Gate>(
         → LeftBy result kept script opened (D.failed disk.new) (D.Arm.failed arm.new) (A.told annals.new) (D.told disk.old) (D.told disk.new) (K.written sink.old) (K.written sink.new) }
     ensures opening { (told : root.Told) (damage : Damaged) → D.told disk.old ≡ Some told → IsRootDamage (root.names_of told) damage
         → IsErrAnd result (λ ended. WritesDamage ended (damage_line damage) (K.failed sink.old) (K.failed sink.new) (K.written sink.old) (K.written sink.new))
-        × (D.told disk.new ≡ D.told disk.old) × (A.told annals.new ≡ A.told annals.old) }
+        × (D.told disk.new ≡ D.told disk.old) × (D.clock disk.new ≡ D.clock disk.old) × (A.told annals.new ≡ A.told annals.old) }
     ensures sound { (kept : Told) (told : root.Told) → A.told annals.old ≡ Some kept → D.told disk.old ≡ Some told → Stands (root.names_of told) (history kept) → D.Arm.tells arm.old ≡ true → MetNoDamage result }
     ensures damaged { (told : root.Told) → D.told disk.old ≡ Some told → D.Arm.tells arm.old ≡ true → MetNoDamage result ⊎ IsDamagedRoot (root.names_of told) }
     ensures crashes { let now : Storage = record { disk = D.told disk.new; clock = D.clock disk.new; failed = D.failed disk.new; annals = A.told annals.new } in
         (kept : Told) (told : root.Told) → A.told annals.old ≡ Some kept → D.told disk.old ≡ Some told → D.Arm.tells arm.old ≡ true → AllStand told (D.clock disk.old) (history kept)
         → LeavesOfScript (S.left source.old) opened now kept (D.clock disk.old) }
-    ensures settles { let now : Storage = record { disk = D.told disk.new; clock = D.clock disk.new; failed = D.failed disk.new; annals = A.told annals.new } in
+    ensures settles { let was : Storage = record { disk = D.told disk.old; clock = D.clock disk.old; failed = D.failed disk.old; annals = A.told annals.old } in
+        let now : Storage = record { disk = D.told disk.new; clock = D.clock disk.new; failed = D.failed disk.new; annals = A.told annals.new } in
         (kept : Told) (told : root.Told) → A.told annals.old ≡ Some kept → D.told disk.old ≡ Some told → D.Arm.tells arm.old ≡ true → root.names_of told ≢ [] → AllStand told (D.clock disk.old + 1) (history kept)
-        → IsAsBefore (D.told disk.old) (D.told disk.new) (A.told annals.old) (A.told annals.new) (K.written sink.old) (K.written sink.new)
+        → IsAsBefore was now (K.written sink.old) (K.written sink.new)
         ⊎ LeavesOfScript (S.left source.old) opened now kept (D.clock disk.old + 1) }
     ensures whole { (script : List ℕ) → S.left source.old ≡ Some script → OnOk result ((length script < 2 ^ 40) × (S.left source.new ≡ Some [])) }
     ensures early { IfErr result IsEarly }
     ensures unread { IsErrOf result Status.DiskFault → source.new ≡ source.old }
+    ensures mark { IsErrOf result Status.DiskFault → D.clock disk.new ≡ D.clock disk.old }
     ensures read { IsErrOf result Status.ReadFault → Rose (S.failed source.old) (S.failed source.new) }
     ensures disk { IsErrOf result Status.DiskFault → Rose (D.failed disk.old) (D.failed disk.new) ⊎ Rose (D.Arm.failed arm.old) (D.Arm.failed arm.new) }
     ensures long { IsErrOf result Status.TooLong → ConsumesMost (S.left source.old) (S.left source.new) }
@@ -225,15 +227,16 @@ fn run_opened<D: Disk, A: Annals, S: Source, K: Sink, G: Gate>(
         (kept : Told) (script written : List ℕ) → Starts before kept script written → Headline result before after kept script written }
     ensures opening { (told : root.Told) (damage : Damaged) → D.told disk.old ≡ Some told → IsRootDamage (root.names_of told) damage
         → WritesDamage result (damage_line damage) (K.failed sink.old) (K.failed sink.new) (K.written sink.old) (K.written sink.new)
-        × (D.told disk.new ≡ D.told disk.old) × (A.told annals.new ≡ A.told annals.old) }
+        × (D.told disk.new ≡ D.told disk.old) × (D.clock disk.new ≡ D.clock disk.old) × (A.told annals.new ≡ A.told annals.old) }
     ensures sound { (kept : Told) (told : root.Told) → A.told annals.old ≡ Some kept → D.told disk.old ≡ Some told → Stands (root.names_of told) (history kept) → result ≡ Status.Damaged → ⊥ }
     ensures damaged { (told : root.Told) → D.told disk.old ≡ Some told → result ≡ Status.Damaged → IsDamagedRoot (root.names_of told) }
     ensures crashes { let now : Storage = record { disk = D.told disk.new; clock = D.clock disk.new; failed = D.failed disk.new; annals = A.told annals.new } in
         (kept : Told) (told : root.Told) → A.told annals.old ≡ Some kept → D.told disk.old ≡ Some told → AllStand told (D.clock disk.old) (history kept)
         → LeavesOfScript (S.left source.old) (D.failed disk.old) now kept (D.clock disk.old) }
-    ensures settles { let now : Storage = record { disk = D.told disk.new; clock = D.clock disk.new; failed = D.failed disk.new; annals = A.told annals.new } in
+    ensures settles { let was : Storage = record { disk = D.told disk.old; clock = D.clock disk.old; failed = D.failed disk.old; annals = A.told annals.old } in
+        let now : Storage = record { disk = D.told disk.new; clock = D.clock disk.new; failed = D.failed disk.new; annals = A.told annals.new } in
         (kept : Told) (told : root.Told) → A.told annals.old ≡ Some kept → D.told disk.old ≡ Some told → root.names_of told ≢ [] → AllStand told (D.clock disk.old + 1) (history kept)
-        → IsAsBefore (D.told disk.old) (D.told disk.new) (A.told annals.old) (A.told annals.new) (K.written sink.old) (K.written sink.new)
+        → IsAsBefore was now (K.written sink.old) (K.written sink.new)
         ⊎ LeavesOfScript (S.left source.old) (D.failed disk.old) now kept (D.clock disk.old + 1) }
     ensures full { D.failed disk.old ≡ 2 ^ 64 - 1 → (result ≡ Status.DiskFault) × (disk.new ≡ disk.old) × (annals.new ≡ annals.old) × (source.new ≡ source.old) × (sink.new ≡ sink.old) }
     ensures whole { (script : List ℕ) → S.left source.old ≡ Some script → IsAnswered result → (length script < 2 ^ 40) × (S.left source.new ≡ Some []) }

@@ -12,7 +12,7 @@ use Rattle.reply_lines.specs.Lines.{IsLineOfStage}
 
 module _ (opened disk_old disk_new arm_old arm_new : ℕ) (reply : List ℕ) where
   -- a reply, by its number
-  pub says : (m : ℕ) → code_of reply ≡ m → (m ≡ 15 → Rose arm_old arm_new) → (m ≡ 16 → Rose disk_old disk_new) → (m ≡ 17 → SaysStopped opened disk_old reply)
+  pub says : (m : ℕ) → code_of reply ≡ m → (m ≡ 15 → Rose arm_old arm_new) → (m ≡ 16 → (disk_old ≡ opened) × Rose disk_old disk_new) → (m ≡ 17 → SaysStopped opened disk_old reply)
       → HasCauses opened disk_old disk_new arm_old arm_new reply
   says m is first second third = record {
     failed = λ e. first (sym is ∙ e);
@@ -21,7 +21,7 @@ module _ (opened disk_old disk_new arm_old arm_new : ℕ) (reply : List ℕ) whe
   }
 
   -- by its line
-  says_line : (why : Refusal) → reply ≡ refusal_line why → (code why ≡ 15 → Rose arm_old arm_new) → (code why ≡ 16 → Rose disk_old disk_new) → (code why ≡ 17 → SaysStopped opened disk_old reply)
+  says_line : (why : Refusal) → reply ≡ refusal_line why → (code why ≡ 15 → Rose arm_old arm_new) → (code why ≡ 16 → (disk_old ≡ opened) × Rose disk_old disk_new) → (code why ≡ 17 → SaysStopped opened disk_old reply)
       → HasCauses opened disk_old disk_new arm_old arm_new reply
   says_line why is first second third = says (code why) (ap code_of is ∙ code_of_line why) first second third
 
@@ -43,8 +43,8 @@ module _ (opened disk_old disk_new arm_old arm_new : ℕ) (reply : List ℕ) whe
   says_failed failure.NoMemory line rose = absurd line
   says_failed failure.Fault line rose = by_arm line (rose refl)
 
-  -- a commit that failed
-  pub says_unsettled : (accepted : ℕ) → reply ≡ refusal_line (refusal.Unsettled accepted) → Rose disk_old disk_new → HasCauses opened disk_old disk_new arm_old arm_new reply
+  -- a commit that failed, over a store that was not stopped
+  pub says_unsettled : (accepted : ℕ) → reply ≡ refusal_line (refusal.Unsettled accepted) → (disk_old ≡ opened) × Rose disk_old disk_new → HasCauses opened disk_old disk_new arm_old arm_new reply
   says_unsettled accepted line rose = says_line (refusal.Unsettled accepted) line (λ no. cc) (λ is. rose) (λ no. cc)
 
   -- a store that was stopped for writing

@@ -11,8 +11,9 @@ pub record SaysStopped (opened disk : ℕ) (reply : List ℕ) : Type 0 where
   pub line : reply ≡ refusal_line (refusal.Stopped opened disk accepted)
 
 -- A call began with the counts of faults `disk_old` and `arm_old` and ended with `disk_new` and `arm_new`. Its reply is E15 only where the arm's
--- count rose in it, E16 only where the disk's did, and E17 only where the disk's count stood above the one at opening as the call began.
+-- count rose in it; E16 only where the disk's count was the one at opening as the call began, and rose in it; and E17 only where the disk's
+-- count stood above the one at opening as the call began.
 pub record HasCauses (opened disk_old disk_new arm_old arm_new : ℕ) (reply : List ℕ) : Type 0 where
   pub failed : code_of reply ≡ 15 → Rose arm_old arm_new
-  pub unsettled : code_of reply ≡ 16 → Rose disk_old disk_new
+  pub unsettled : code_of reply ≡ 16 → (disk_old ≡ opened) × Rose disk_old disk_new
   pub stopped : code_of reply ≡ 17 → SaysStopped opened disk_old reply

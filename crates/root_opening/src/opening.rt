@@ -1,5 +1,5 @@
 // A root opened: its names read, its entries and its visible parts checked, and the store that is kept of it.
-ghost use Rattle.std.specs.Prelude.{◌≡◌, ◌≢◌, ◌⊎◌, ◌+◌, ◌<◌, ◌≤◌, [], ℕ, IfErr, IfNone, IfOk, IfSome, IsErrOf, IsNone, List, MatchResult, OnOk, Some, length, map};
+ghost use Rattle.std.specs.Prelude.{◌≡◌, ◌≢◌, ◌⊎◌, ◌+◌, ◌<◌, ◌≤◌, [], ℕ, IfErr, IfNone, IfOk, IfSome, IsErrOf, IsNone, List, MatchResult, OnErr, OnOk, Some, length, map};
 ghost use Rattle.std.specs.Cmp.Lexicographic.{slice_cmp};
 ghost use Rattle.std.specs.List.Sorted.{IsStrictlySortedBy};
 ghost use Rattle.std.specs.Ordering.{nat_cmp};
@@ -161,7 +161,7 @@ fn read_root(alloc: Global, texts: Vec<Name>) -> Result<Root, OpenFault>
 ///
 /// `Damaged` exactly where something keeps the root from being opened, which it tells: never where the root stands for a history.
 /// `Disk` only where the count of the disk or of the arm rose in this call; `NoMemory` where a growth was refused. But for `Disk` both
-/// counts stay. No name is changed.
+/// counts stay. No name is changed, and with an error the mark stays too.
 pub fn open<D: Disk>(
     alloc: Global,
     disk: &mut D,
@@ -181,6 +181,7 @@ pub fn open<D: Disk>(
     ensures started { D.started disk.new ≡ D.started disk.old }
     ensures settled { (told : Told) → D.told disk.old ≡ Some told → names_of told ≢ [] → OnOk result (D.clock disk.new ≡ D.clock disk.old + 1) }
     ensures mark { (D.clock disk.new ≡ D.clock disk.old) ⊎ (D.clock disk.new ≡ D.clock disk.old + 1) }
+    ensures mark_err { OnErr result (D.clock disk.new ≡ D.clock disk.old) }
     ensures crashes { (told : Told) (list : List Noted) → D.told disk.old ≡ Some told → AllStand told (D.clock disk.old) (entries_of list) → IsCrashSafe told (D.clock disk.new) (none_begun list) list (D.clock disk.old) }
     ensures tells { D.Arm.tells arm.new ≡ D.Arm.tells arm.old }
     ensures later { D.failed disk.old ≤ D.failed disk.new }

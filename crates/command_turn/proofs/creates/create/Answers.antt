@@ -19,7 +19,7 @@ use Rattle.statement_work.specs.Staged.{entry_files}
 use Rattle.command_turn.proofs.Accepting.{answered_nothing, answers_kept, answers_line, in_any_case, nothing_accepted}
 use Rattle.command_turn.proofs.Creating.{create_gives, created, created_accepts, entry_holds, turn_free}
 use Rattle.reply_lines.proofs.Refusing.{command_failed, command_refused}
-use Rattle.command_turn.proofs.Gaining.{begun_refused, gains_noted, gains_refused, keeps_refused, leaves_told, stays_refused, still_created, still_refused}
+use Rattle.command_turn.proofs.Gaining.{begun_refused, create_failed, gains_noted, gains_refused, keeps_refused, leaves_told, stays_refused, still_created, still_refused}
 use Rattle.root_commits.proofs.SameStores.{stands_same}
 use Rattle.root_commits.proofs.Turning.{AfterRefusal, after_refusal}
 use Rattle.root_commits.specs.Turns.{storage, turn_of_create}
@@ -230,7 +230,7 @@ returns-in-Err-commit_create-clause-causes g c =
     let before = g.D.Disk.failed c.args.disk.now in
     let shown = subst (λ (t : List ℕ). IsCause (refuses_create store t before) (Some cause)) c.in_ok-table.ensures ended.cause in
     IfOk-weaker c.refused_line.result _ _ (λ line is. refused_says store.opened before (g.D.Disk.failed c.commit_create.new.disk) (g.D.Arm.Arm.failed c.args.arm.now) (g.D.Arm.Arm.failed c.give_back.new.arm) table cause line.items is
-    (create_risen store table before cause shown) after.rose) c.refused_line.ensures.line
+    (create_risen store table before cause shown) (create_failed store table before c.requires.ready.opened (g.D.Disk.failed c.commit_create.new.disk) cause shown after.rose)) c.refused_line.ensures.line
 
 -- where the store was stopped before
 pub returns-in-Err-clause-stopped : goal.returns-in-Err-clause-stopped

@@ -27,7 +27,7 @@ use Rattle.reply_lines.proofs.Ends.{length_history}
 use Rattle.command_turn.proofs.Inserting.{data_is_cause, inserted, inserted_accepts, no_rows, no_such_table, not_empty, rows_give, rows_refused, turn_free}
 use Rattle.reply_lines.proofs.Refusing.{command_failed, command_refused}
 use Rattle.command_turn.specs.Gains.{commands_over, schemas_in}
-use Rattle.command_turn.proofs.Gaining.{begun_refused, gains_noted, gains_refused, keeps_refused, leaves_told, stays_refused, still_added, still_part_refused}
+use Rattle.command_turn.proofs.Gaining.{begun_refused, gains_noted, gains_refused, keeps_refused, leaves_told, part_failed, stays_refused, still_added, still_part_refused}
 use Rattle.root_commits.proofs.SameStores.{stands_same}
 use Rattle.root_commits.proofs.Turning.{AfterRefusal, after_refusal}
 use Rattle.root_commits.specs.Turns.{storage, turn_of_part}
@@ -305,8 +305,10 @@ returns-in-Err-commit_part-clause-causes g c =
     let after = after_refused g c in
     let cause = c.in-Err-commit_part.field-0.cause in
     let before = g.D.Disk.failed c.args.disk.now in
+    let partition = partition_of_block found.schema c.in-Ok.block in
+    let shown = ended.cause found (sym c.in-Some.ensures.value) in
     IfOk-weaker c.refused_line.result _ _ (λ line is. refused_says store.opened before (g.D.Disk.failed c.commit_part.new.disk) (g.D.Arm.Arm.failed c.args.arm.now) (g.D.Arm.Arm.failed c.give_back_part.new.arm) table cause line.items is
-    (part_risen store table before cause (partition_of_block found.schema c.in-Ok.block) found.drawn (ended.cause found (sym c.in-Some.ensures.value))) after.rose) c.refused_line.ensures.line
+    (part_risen store table before cause partition found.drawn shown) (part_failed store table before c.requires.ready.opened partition found.drawn (g.D.Disk.failed c.commit_part.new.disk) cause shown after.rose)) c.refused_line.ensures.line
 
 -- where the store was stopped before
 pub returns-in_default-clause-stopped : goal.returns-in_default-clause-stopped

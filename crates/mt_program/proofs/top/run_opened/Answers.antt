@@ -22,19 +22,19 @@ use Rattle.mt_program.proofs.top.run_opened.Goals as goal
 
 -- the count of faults can't rise
 pub returns-then-opened-clause-headline : goal.returns-then-opened-clause-headline
-returns-then-opened-clause-headline g c = λ kept script written starts. early_same _ _ kept script written starts (refl, refl, refl, refl) status.DiskFault tt (λ bad. cc)
+returns-then-opened-clause-headline g c = λ kept script written starts. early_same _ _ kept script written starts (refl, refl, refl, refl, refl) status.DiskFault tt (λ bad. cc)
 
 -- the disk was not started
 pub returns-in-Err-clause-headline : goal.returns-in-Err-clause-headline
 returns-in-Err-clause-headline g c = λ kept script written starts.
     by_status c.failed_opening.ensures
-    (early_same _ _ kept script written starts (c.start.ensures.told, refl, refl, refl) _ (error_early c.in-Err.error) (error_undamaged c.in-Err.error))
+    (early_same _ _ kept script written starts (c.start.ensures.told, c.start.ensures.clock, refl, refl, refl) _ (error_early c.in-Err.error) (error_undamaged c.in-Err.error))
 
 -- no arm was made
 pub returns-in-Err-arm-clause-headline : goal.returns-in-Err-arm-clause-headline
 returns-in-Err-arm-clause-headline g c = λ kept script written starts.
     by_status c.failed_opening-in-Err-arm.ensures
-    (early_same _ _ kept script written starts (c.in-Err-arm.ensures.told ∙ c.start.ensures.told, refl, refl, refl) _ (error_early c.in-Err-arm.error) (error_undamaged c.in-Err-arm.error))
+    (early_same _ _ kept script written starts (c.in-Err-arm.ensures.told ∙ c.start.ensures.told, c.in-Err-arm.ensures.clock ∙ c.start.ensures.clock, refl, refl, refl) _ (error_early c.in-Err-arm.error) (error_undamaged c.in-Err-arm.error))
 
 pub returns-clause-headline : goal.returns-clause-headline
 returns-clause-headline g c = λ kept script written starts.
@@ -84,6 +84,7 @@ returns-clause-headline g c = λ kept script written starts.
     let not = early_not_told c.run_root-ended.result kept script c.faults-opened.result disk arm (g.A.Annals.told c.run_root-ended.new.annals) was ran (g.K.Sink.written c.args.sink.now) (g.K.Sink.written c.run_root-ended.new.sink) fault left in
     none_ran before (after ran) (
       not.2 ∙ (c.in-Ok.ensures.told ∙ c.start.ensures.told),
+      c.take_back.ensures.clock ∙ (c.run_root-ended.ensures.mark (failed_is c.run_root-ended.result fault) ∙ (c.in-Ok.ensures.clock ∙ c.start.ensures.clock)),
       not.0 ∙ sym starts.annals_is,
       ap g.S.Source.left (c.run_root-ended.ensures.unread (failed_is c.run_root-ended.result fault)),
       not.1,
@@ -102,7 +103,8 @@ returns-clause-opening g c = λ names damage is damaged.
     let P = λ (s : Status). WritesDamage s (damage_line damage) (g.K.Sink.failed c.args.sink.now) (g.K.Sink.failed c.run_root-ended.new.sink) (g.K.Sink.written c.args.sink.now) (g.K.Sink.written c.run_root-ended.new.sink) in (
       subst P (sym c.status_at_end.ensures) (ended_early P (nat_lt c.faults-opened.result c.faults.result) c.run_root-ended.result opened.0),
       c.take_back.ensures.told ∙ (opened.1 ∙ (c.in-Ok.ensures.told ∙ c.start.ensures.told)),
-      opened.2,
+      c.take_back.ensures.clock ∙ (opened.2 ∙ (c.in-Ok.ensures.clock ∙ c.start.ensures.clock)),
+      opened.3,
     )
 
 pub returns-clause-sound : goal.returns-clause-sound
@@ -209,13 +211,14 @@ returns-clause-crashes g c = λ kept told is known all.
 
 -- what a crash leaves once the names that were read are settled
 pub returns-then-opened-clause-settles : goal.returns-then-opened-clause-settles
-returns-then-opened-clause-settles g c = λ kept told is known some all. inl (record { names = refl; list = refl; output = refl })
+returns-then-opened-clause-settles g c = λ kept told is known some all. inl (record { names = refl; mark = refl; list = refl; output = refl })
 
 pub returns-in-Err-clause-settles : goal.returns-in-Err-clause-settles
-returns-in-Err-clause-settles g c = λ kept told is known some all. inl (record { names = c.start.ensures.told; list = refl; output = refl })
+returns-in-Err-clause-settles g c = λ kept told is known some all. inl (record { names = c.start.ensures.told; mark = c.start.ensures.clock; list = refl; output = refl })
 
 pub returns-in-Err-arm-clause-settles : goal.returns-in-Err-arm-clause-settles
-returns-in-Err-arm-clause-settles g c = λ kept told is known some all. inl (record { names = c.in-Err-arm.ensures.told ∙ c.start.ensures.told; list = refl; output = refl })
+returns-in-Err-arm-clause-settles g c = λ kept told is known some all.
+    inl (record { names = c.in-Err-arm.ensures.told ∙ c.start.ensures.told; mark = c.in-Err-arm.ensures.clock ∙ c.start.ensures.clock; list = refl; output = refl })
 
 pub returns-clause-settles : goal.returns-clause-settles
 returns-clause-settles g c = λ kept told is known some all.
@@ -226,7 +229,12 @@ returns-clause-settles g c = λ kept told is known some all.
     let ran : Storage = record { disk = g.D.Disk.told c.run_root-ended.new.disk; clock = g.D.Disk.clock c.run_root-ended.new.disk; failed = g.D.Disk.failed c.run_root-ended.new.disk; annals = g.A.Annals.told c.run_root-ended.new.annals } in
     let now : Storage = record { disk = g.D.Disk.told c.take_back.new.self; clock = g.D.Disk.clock c.take_back.new.self; failed = g.D.Disk.failed c.take_back.new.self; annals = g.A.Annals.told c.run_root-ended.new.annals } in
     elim left [
-      | inl same ↦ inl (record { names = c.take_back.ensures.told ∙ (same.names ∙ (c.in-Ok.ensures.told ∙ c.start.ensures.told)); list = same.list; output = same.output })
+      | inl same ↦ inl (record {
+        names = c.take_back.ensures.told ∙ (same.names ∙ (c.in-Ok.ensures.told ∙ c.start.ensures.told));
+        mark = c.take_back.ensures.clock ∙ (same.mark ∙ mark);
+        list = same.list;
+        output = same.output;
+      })
       | inr leaves ↦ (
           let from_start = subst (λ m. LeavesOfScript (g.S.Source.left c.args.source.now) c.faults-opened.result ran kept (m + 1)) mark leaves in
           let from_opened = subst (λ m. LeavesOfScript (g.S.Source.left c.args.source.now) m ran kept (g.D.Disk.clock c.args.disk.now + 1)) c.faults-opened.ensures from_start in

@@ -25,6 +25,7 @@ returns-in-Err-clause-opening g c = λ names damage is damaged. (
   writes_damage _ damage c.in-Err.fault c.failed_root.result (g.K.Sink.failed c.args.sink.now) (g.K.Sink.failed c.failed_root.new.sink) (g.K.Sink.written c.args.sink.now) (g.K.Sink.written c.failed_root.new.sink)
       damaged (c.in-Err.ensures.damaged names is) c.failed_root.ensures.writes,
   c.in-Err.ensures.told,
+  c.in-Err.ensures.mark_err,
   refl,
 )
 
@@ -82,6 +83,7 @@ returns-in-Err-clause-settles g c = λ kept told is known tells some all.
     let stands = stands_as_read told (g.D.Disk.clock c.args.disk.now + 1) (history kept) all in
     inl (record {
       names = c.in-Err.ensures.told;
+      mark = c.in-Err.ensures.mark_err;
       list = refl;
       output = writes_nothing c.in-Err.fault c.failed_root.result (g.K.Sink.failed c.args.sink.now) (g.K.Sink.failed c.failed_root.new.sink) (g.K.Sink.written c.args.sink.now) (g.K.Sink.written c.failed_root.new.sink)
           (c.in-Err.ensures.stands told (history kept) known stands) c.failed_root.ensures.writes;

@@ -1,7 +1,6 @@
 use Rattle.std.proofs.Common.{◌∙◌, ◌≡◌, ◌⊎◌, ◌≤◌, ℕ, Some, true, ap, inl, inr, refl, rules, sym, subst}
 use Rattle.root_store.specs.Crashes.{Storage}
 use Rattle.root_store.proofs.CrashMarks.{safe_at_start}
-use Rattle.exit_status.specs.declared.status.Status.{Status}
 use Rattle.exit_status.specs.declared.status.Status.TheVariants as status
 use Rattle.mt_program.specs.Worlds.{World}
 use Rattle.run_streams.specs.Words.{is_command}
@@ -19,7 +18,7 @@ pub returns-then-not-is_command_line-clause-headline : goal.returns-then-not-is_
 returns-then-not-is_command_line-clause-headline g c = λ kept script written starts. (
   status.NotWords,
   c.number-status.ensures,
-  nothing_leaves _ _ kept script written starts (refl, refl, refl, refl) status.NotWords (λ none. none),
+  nothing_leaves _ _ kept script written starts (refl, refl, refl, refl, refl) status.NotWords (λ none. none),
 )
 
 -- nothing stands against the run
@@ -63,7 +62,7 @@ returns-then-not-is_command_line-clause-crashes g c = record {
   kept = λ kept told is known all.
       let now : Storage = record { disk = g.D.Disk.told c.args.disk; clock = g.D.Disk.clock c.args.disk; failed = g.D.Disk.failed c.args.disk; annals = g.A.Annals.told c.args.annals } in
       nothing_of_script told kept now _ known is (safe_at_start told (g.D.Disk.clock c.args.disk) kept.list all) (g.S.Source.left c.args.source.now) _;
-  settles = λ kept told is known some all. inl (record { names = refl; list = refl; output = refl });
+  settles = λ kept told is known some all. inl (record { names = refl; mark = refl; list = refl; output = refl });
 }
 
 -- what is told of damage
@@ -74,14 +73,14 @@ returns-clause-damage g c =
     record {
       opening = λ told damage known damaged.
           let opened = done.opening told damage known damaged in
-          record { ended = c.run_opened-ended.result; number_is = is; writes = opened.0; disk = opened.1; annals = opened.2 };
+          record { ended = c.run_opened-ended.result; number_is = is; writes = opened.0; disk = opened.1; clock = opened.2; annals = opened.3 };
       damaged = λ told known bad. done.damaged told known (same_number c.run_opened-ended.result status.Damaged (sym is ∙ bad));
       sound = λ kept told listed known stands bad. done.sound kept told listed known stands (same_number c.run_opened-ended.result status.Damaged (sym is ∙ bad));
     }
 
 pub returns-then-not-is_command_line-clause-damage : goal.returns-then-not-is_command_line-clause-damage
 returns-then-not-is_command_line-clause-damage g c = record {
-  opening = λ told damage known damaged. record { ended = status.NotWords; number_is = c.number-status.ensures; writes = refl; disk = refl; annals = refl };
+  opening = λ told damage known damaged. record { ended = status.NotWords; number_is = c.number-status.ensures; writes = refl; disk = refl; clock = refl; annals = refl };
   damaged = λ told known bad. absurd (not_seven c.number-status.result c.number-status.ensures bad);
   sound = λ kept told listed known stands bad. not_seven c.number-status.result c.number-status.ensures bad;
 }

@@ -187,6 +187,22 @@ returns-clause-mark g c =
     let now = g.D.Disk.clock c.settle.new.disk in
     subst (λ (mark : ℕ). (now ≡ mark) ⊎ (now ≡ mark + 1)) (c.in_ok-store.ensures.clock ∙ c.in_ok-list.ensures.clock) c.in_ok-settle.ensures.mark
 
+-- the mark stays where the root is not opened
+pub returns-in_err-list-clause-mark_err : goal.returns-in_err-list-clause-mark_err
+returns-in_err-list-clause-mark_err g c = let same = c.in_err-list.ensures.clock in search rules
+
+pub returns-in_err-root-clause-mark_err : goal.returns-in_err-root-clause-mark_err
+returns-in_err-root-clause-mark_err g c = let same = c.in_ok-list.ensures.clock in search rules
+
+pub returns-in_err-store-clause-mark_err : goal.returns-in_err-store-clause-mark_err
+returns-in_err-store-clause-mark_err g c = let same = c.in_err-store.ensures.clock ∙ c.in_ok-list.ensures.clock in search rules
+
+pub returns-in_err-settle-clause-mark_err : goal.returns-in_err-settle-clause-mark_err
+returns-in_err-settle-clause-mark_err g c = let same = c.in_err-settle.ensures.mark_err ∙ (c.in_ok-store.ensures.clock ∙ c.in_ok-list.ensures.clock) in search rules
+
+pub returns-clause-mark_err : goal.returns-clause-mark_err
+returns-clause-mark_err g c = tt
+
 -- what was read is the store
 pub returns-clause-store : goal.returns-clause-store
 returns-clause-store g c = λ told known. c.in_ok-store.ensures.store told (c.in_ok-list.ensures.told ∙ known)
