@@ -7,8 +7,8 @@ use Rattle.mt_values.specs.declared.token.Symbol.TheVariants as symbol
 use Rattle.mt_values.specs.declared.token.Token.{Token}
 use Rattle.mt_values.specs.Grammar.{is_symbol, the, name, plain, one_name, column}
 use Rattle.mt_values.specs.Readers.{Reader, Test, Part, taken, expect, either, choose, listed_within}
-use Rattle.sql_read.specs.declared.cursor.Stop.{Stop}
-use Rattle.sql_read.specs.declared.cursor.Stop.TheVariants as stop
+use Rattle.mt_base.specs.declared.stop.Stop.{Stop}
+use Rattle.mt_base.specs.declared.stop.Stop.TheVariants as stop
 use Rattle.sql_read.specs.Reads.{Reads, Skips}
 
 -- a part takes at least one token: readers that agree on fewer tokens than these are the same behind it
@@ -86,14 +86,14 @@ module _ {X : Type 0} (item : Part Statement X) (takes : TakesToken item) (front
   items_next comma to skips next = behind next ∙ skips (λ y. items_from item (front ++ x ∷ []) next) (next (front ++ x ∷ []))
 
 -- an item is refused
-pub items_stop : {X : Type 0} (item : Part Statement X) → TakesToken item → (front : List X) (from : List Placed) (e : Stop) (to : List Placed) → Reads item from (Err e) to → Reads (items_from item front) from (Err e) to
+pub items_stop : {X : Type 0} (item : Part Statement X) → TakesToken item → (front : List X) (from : List Placed) (e : Stop Slip) (to : List Placed) → Reads item from (Err e) to → Reads (items_from item front) from (Err e) to
 items_stop item takes front from stop.NoMemory to read = tt
-items_stop item takes front from (stop.Slip s) to read = λ next.
+items_stop item takes front from (stop.Refused s) to read = λ next.
     listed_step (is_symbol symbol.Comma) (the symbol.Comma) item takes front next from
     ∙ read (listed_behind (is_symbol symbol.Comma) (the symbol.Comma) item (items_from item) front next)
 
 -- what was read behind the first items was read of the list
-pub Reads_along : {X : Type 0} (part whole : Part Statement X) (from start : List Placed) (r : Result X Stop) (to : List Placed) → ((next : X → Reader Statement) → part next from ≡ whole next start) → Reads part from r to → Reads whole start r to
+pub Reads_along : {X : Type 0} (part whole : Part Statement X) (from start : List Placed) (r : Result X (Stop Slip)) (to : List Placed) → ((next : X → Reader Statement) → part next from ≡ whole next start) → Reads part from r to → Reads whole start r to
 Reads_along part whole from start (Ok x) to along read = λ next. sym (along next) ∙ read next
-Reads_along part whole from start (Err (stop.Slip s)) to along read = λ next. sym (along next) ∙ read next
+Reads_along part whole from start (Err (stop.Refused s)) to along read = λ next. sym (along next) ∙ read next
 Reads_along part whole from start (Err stop.NoMemory) to along read = tt

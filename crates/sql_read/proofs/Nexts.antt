@@ -2,12 +2,13 @@
 use Rattle.std.proofs.Common.{◌≡◌, ◌↔◌, ℕ, ◌+◌, ◌<◌, ◌≤◌, Bool, true, false, ◌||◌, eqb, List, [], ◌∷◌, length, drop, Some, None, Result, Ok, Err, refl, arith, ◌∙◌, sym, ap, subst, length-drop}
 use Rattle.std.proofs.lemmas.Bool.Decides.{nat_tests}
 use Rattle.std.proofs.lemmas.Bool.{false≢true}
-use Rattle.std.specs.Result.{IfOk}
-use Rattle.mt_base.specs.declared.memory.NoMemory.{NoMemory}
+use Rattle.mt_base.specs.declared.stop.Stop.{Stop}
+use Rattle.mt_base.specs.declared.stop.Stop.TheVariants as stop
+use Rattle.mt_base.specs.Stops.{Gives}
 use Rattle.mt_values.specs.declared.script.Place.TheVariants.{Outside}
 use Rattle.mt_values.specs.declared.statement.Cause.{Cause}
 use Rattle.mt_values.specs.declared.statement.Statement.{Statement}
-use Rattle.mt_values.specs.Script.{complete_or_cut, ended_from, has_whole, is_whole, next_from, next_statement, is_between}
+use Rattle.mt_values.specs.Script.{Item, complete_or_cut, ended_from, has_whole, is_whole, next_from, next_statement, is_between}
 use Rattle.mt_values.specs.Tokens.{behind}
 use Rattle.sql_read.specs.declared.script.Next.TheVariants as next
 use Rattle.sql_read.proofs.TokenSteps.{some_bytes}
@@ -44,18 +45,18 @@ pub is_cut : (script : List ℕ) (ended whole : Bool) → has_whole script ≡ w
 is_cut script true whole is e = absurd (false≢true (sym e))
 is_cut script false whole is e = (refl, is ∙ e)
 
-module _ (script : List ℕ) (ended : Bool) (said : Result Statement Cause) (used : ℕ) (known : ended || has_whole script ≡ true) where
+module _ (script : List ℕ) (ended : Bool) (said : Item) (used : ℕ) (known : ended || has_whole script ≡ true) where
   -- what was found is what the script begins with
-  pub next_found : (found : Result (Result Statement Cause) NoMemory) → IfOk found (λ f. f ≡ said) → next_statement script ≡ Some (said, drop used script) → IsUsed script used → IsNext script ended (next_of found used)
-  next_found (Ok (Ok s)) is begins within = (begins ∙ ap (λ (r : Result Statement Cause). Some (r, drop used script)) (sym is), within, known)
-  next_found (Ok (Err c)) is begins within = (begins ∙ ap (λ (r : Result Statement Cause). Some (r, drop used script)) (sym is), within, known)
-  next_found (Err e) is begins within = tt
+  pub next_found : (found : Result Statement (Stop Cause)) → Gives said found → next_statement script ≡ Some (said, drop used script) → IsUsed script used → IsNext script ended (next_of found used)
+  next_found (Ok s) is begins within = (begins ∙ ap (λ (r : Item). Some (r, drop used script)) is, within, known)
+  next_found (Err (stop.Refused c)) is begins within = (begins ∙ ap (λ (r : Item). Some (r, drop used script)) is, within, known)
+  next_found (Err stop.NoMemory) is begins within = tt
 
   is_known : ended ≡ false → has_whole script ≡ false → ⊥
   is_known p q = false≢true (sym (rw (p, q) refl) ∙ known)
 
   -- and it doesn't wait for more
-  pub found_waits : (found : Result (Result Statement Cause) NoMemory) → (next_of found used ≡ next.NeedMore) ↔ ((ended ≡ false) × (has_whole script ≡ false))
-  found_waits (Ok (Ok s)) = (λ e. cc, λ p. absurd (is_known p.0 p.1))
-  found_waits (Ok (Err c)) = (λ e. cc, λ p. absurd (is_known p.0 p.1))
-  found_waits (Err e) = (λ e. cc, λ p. absurd (is_known p.0 p.1))
+  pub found_waits : (found : Result Statement (Stop Cause)) → (next_of found used ≡ next.NeedMore) ↔ ((ended ≡ false) × (has_whole script ≡ false))
+  found_waits (Ok s) = (λ e. cc, λ p. absurd (is_known p.0 p.1))
+  found_waits (Err (stop.Refused c)) = (λ e. cc, λ p. absurd (is_known p.0 p.1))
+  found_waits (Err stop.NoMemory) = (λ e. cc, λ p. absurd (is_known p.0 p.1))

@@ -1,17 +1,10 @@
 -- The part of a script that a statement takes, by the numbers of bytes that were found.
-use Rattle.std.proofs.Common.{◌≡◌, ℕ, true, List, drop, Some, Result, Ok, Err, refl}
-use Rattle.std.specs.Result.{result_and}
+use Rattle.std.proofs.Common.{◌≡◌, ℕ, true, List, drop, Some, Result, refl}
 use Rattle.mt_values.specs.declared.script.Place.TheVariants.{Outside}
 use Rattle.mt_values.specs.declared.statement.Cause.{Cause}
-use Rattle.mt_values.specs.declared.statement.Cause.TheVariants as cause
 use Rattle.mt_values.specs.declared.statement.Statement.{Statement}
 use Rattle.mt_values.specs.Grammar.{takes_data}
-use Rattle.mt_values.specs.Script.{line_rest, behind_line, data_of, with_line_rest, refused_behind, complete_or_cut, ended_from}
-
--- a statement with more than blanks behind its semicolon is refused there, unless its text is refused
-pub and_refused : (place : ℕ) (found : Result Statement Cause) → result_and found (Err (cause.Grammar place)) ≡ refused_behind place found
-and_refused place (Ok statement) = refl
-and_refused place (Err why) = refl
+use Rattle.mt_values.specs.Script.{line_rest, behind_line, data_of, with_line_rest, complete_or_cut, ended_from}
 
 -- a statement with data was found
 pub completed_insert : (script text behind : List ℕ) (said : Result Statement Cause) (used : ℕ) → Some (text, behind) ≡ ended_from Outside script → takes_data text ≡ true →

@@ -1,7 +1,8 @@
 -- What the code that reads scripts found, by numbers of bytes.
 use Rattle.std.specs.Prelude.{◌≡◌, ℕ, ◌+◌, ◌<◌, ◌≤◌, Bool, true, false, ◌||◌, List, length, take, drop, Option, Some, None, Result, Ok, Err}
 use Rattle.std.specs.Option.{option_map}
-use Rattle.mt_base.specs.declared.memory.NoMemory.{NoMemory}
+use Rattle.mt_base.specs.declared.stop.Stop.{Stop}
+use Rattle.mt_base.specs.declared.stop.Stop.TheVariants as stop
 use Rattle.mt_values.specs.declared.statement.Cause.{Cause}
 use Rattle.mt_values.specs.declared.statement.Statement.{Statement}
 use Rattle.mt_values.specs.Script.{has_whole, next_statement}
@@ -28,7 +29,7 @@ IsNext script ended next.End = (ended ≡ true) × (next_statement script ≡ No
 IsNext script ended next.NoMemory = Unit {0}
 
 -- what a script begins with, by what was found in so many bytes of it
-abbrev pub next_of : Result (Result Statement Cause) NoMemory → ℕ → Next
-next_of (Ok (Ok s)) used = next.Found s used
-next_of (Ok (Err c)) used = next.Refused c used
-next_of (Err e) used = next.NoMemory
+abbrev pub next_of : Result Statement (Stop Cause) → ℕ → Next
+next_of (Ok s) used = next.Found s used
+next_of (Err (stop.Refused c)) used = next.Refused c used
+next_of (Err stop.NoMemory) used = next.NoMemory

@@ -6,30 +6,10 @@ ghost use Rattle.mt_values.specs.Readers.{expect};
 ghost use Rattle.mt_values.specs.Tokens.{is_keyword};
 ghost use Rattle.sql_read.specs.Reads.{Reads, Skips, first_is};
 
-use mt_base::{NAME_LIMIT, NoMemory, Twin};
+use mt_base::{NAME_LIMIT, Stop, Twin};
 use mt_values::{ColType, Name, Placed, Slip, Symbol, Token};
 use std::alloc::Global;
 use std::marker::Model;
-
-/// Why reading stopped.
-#[derive(Clone, Copy)]
-pub enum Stop {
-    /// What was read found no room.
-    NoMemory,
-    /// The next token can't stand where it does, or there is none.
-    Slip(Slip),
-}
-
-impl From<NoMemory> for Stop {
-    ghost use Rattle.std.specs.Prelude.{◌≡◌};
-    ghost use Rattle.sql_read.specs.declared.cursor.Stop.TheVariants as stop;
-
-    ghost from_gives = { λ _ s. s ≡ stop.NoMemory };
-
-    fn from(_: NoMemory) -> Self {
-        Stop::NoMemory
-    }
-}
 
 // Whether the word names the one format.
 fn is_format(word: &[u8]) -> bool
@@ -218,23 +198,23 @@ impl<'a> Cursor<'a> {
     }
 
     // Takes the next token, which must pass: a test of it is given.
-    fn take_if(&mut self, passes: bool) -> Result<(), Stop>
+    fn take_if(&mut self, passes: bool) -> Result<(), Stop<Slip>>
         ensures read { (test : Token → Bool) → passes ≡ first_is test self.old
             → Reads (expect (λ t. passing (test t))) self.old result self.new }
         ensures less { OnOk result (length self.new < length self.old) }
     {
         let [_, more @ ..] = self.rest else {
-            return Err(Stop::Slip(Slip::Wrong));
+            return Err(Stop::Refused(Slip::Wrong));
         };
         if !passes {
-            return Err(Stop::Slip(Slip::Wrong));
+            return Err(Stop::Refused(Slip::Wrong));
         }
         self.rest = more;
         Ok(())
     }
 
     /// Takes a keyword, in any case of its letters.
-    pub fn keyword(&mut self, wanted: &[u8]) -> Result<(), Stop>
+    pub fn keyword(&mut self, wanted: &[u8]) -> Result<(), Stop<Slip>>
         ensures read { Reads (expect (keyword wanted.now)) self.old result self.new }
         ensures less { OnOk result (length self.new < length self.old) }
     {
@@ -242,7 +222,7 @@ impl<'a> Cursor<'a> {
     }
 
     /// Takes a word as it is written.
-    pub fn exactly(&mut self, written: &[u8]) -> Result<(), Stop>
+    pub fn exactly(&mut self, written: &[u8]) -> Result<(), Stop<Slip>>
         ensures read { Reads (expect (exactly written.now)) self.old result self.new }
         ensures less { OnOk result (length self.new < length self.old) }
     {
@@ -250,7 +230,7 @@ impl<'a> Cursor<'a> {
     }
 
     /// Takes a symbol.
-    pub fn symbol(&mut self, symbol: Symbol) -> Result<(), Stop>
+    pub fn symbol(&mut self, symbol: Symbol) -> Result<(), Stop<Slip>>
         ensures read { Reads (expect (the symbol)) self.old result self.new }
         ensures less { OnOk result (length self.new < length self.old) }
     {
@@ -258,7 +238,7 @@ impl<'a> Cursor<'a> {
     }
 
     /// Takes the name of the one format.
-    pub fn format(&mut self) -> Result<(), Stop>
+    pub fn format(&mut self) -> Result<(), Stop<Slip>>
         ensures read { Reads (expect format) self.old result self.new }
         ensures less { OnOk result (length self.new < length self.old) }
     {
@@ -266,21 +246,21 @@ impl<'a> Cursor<'a> {
     }
 
     /// Takes a name. `LongName` where it is longer than a name may be.
-    pub fn name(&mut self, alloc: Global) -> Result<Name, Stop>
+    pub fn name(&mut self, alloc: Global) -> Result<Name, Stop<Slip>>
         ensures read { Reads (expect name) self.old result self.new }
         ensures less { OnOk result (length self.new < length self.old) }
     {
         let [first, more @ ..] = self.rest else {
-            return Err(Stop::Slip(Slip::Wrong));
+            return Err(Stop::Refused(Slip::Wrong));
         };
         let Token::Word(word) = &first.token else {
-            return Err(Stop::Slip(Slip::Wrong));
+            return Err(Stop::Refused(Slip::Wrong));
         };
         if is_reserved(word.as_slice()) {
-            return Err(Stop::Slip(Slip::Wrong));
+            return Err(Stop::Refused(Slip::Wrong));
         }
         if !fits_name(word.as_slice()) {
-            return Err(Stop::Slip(Slip::LongName));
+            return Err(Stop::Refused(Slip::LongName));
         }
         let name = word.twin(alloc)?;
         self.rest = more;
@@ -288,22 +268,22 @@ impl<'a> Cursor<'a> {
     }
 
     /// Takes a type.
-    pub fn plain(&mut self) -> Result<ColType, Stop>
+    pub fn plain(&mut self) -> Result<ColType, Stop<Slip>>
         ensures read { Reads (expect plain) self.old result self.new }
         ensures less { OnOk result (length self.new < length self.old) }
     {
         let [first, more @ ..] = self.rest else {
-            return Err(Stop::Slip(Slip::Wrong));
+            return Err(Stop::Refused(Slip::Wrong));
         };
         let Token::Word(word) = &first.token else {
-            return Err(Stop::Slip(Slip::Wrong));
+            return Err(Stop::Refused(Slip::Wrong));
         };
         match type_named(word.as_slice()) {
             Ok(col_type) => {
                 self.rest = more;
                 Ok(col_type)
             }
-            Err(slip) => Err(Stop::Slip(slip)),
+            Err(slip) => Err(Stop::Refused(slip)),
         }
     }
 }

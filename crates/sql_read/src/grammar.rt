@@ -1,14 +1,15 @@
 // Statements from their texts.
-ghost use Rattle.std.specs.Prelude.{◌≡◌, Bool, Err, IfOk, List, Ok, length};
+ghost use Rattle.std.specs.Prelude.{◌≡◌, Bool, Err, List, Ok, length};
+ghost use Rattle.mt_base.specs.Stops.{Gives, Refuses};
 ghost use Rattle.mt_values.specs.Grammar.{cause_at, is_behind_limit, place_of_first, refused_at, statement_of, statement_read, statement_reader};
 ghost use Rattle.mt_values.specs.Readers.{Reader};
 ghost use Rattle.mt_values.specs.declared.statement.Statement.{Statement};
 ghost use Rattle.mt_values.specs.declared.token.Placed.{Placed};
 ghost use Rattle.sql_read.specs.Reads.{IsRead};
 
-use crate::cursor::{Cursor, Stop};
+use crate::cursor::Cursor;
 use crate::tokens::tokens_and_end;
-use mt_base::{NoMemory, STATEMENT_LIMIT};
+use mt_base::{STATEMENT_LIMIT, Stop};
 use mt_values::{Cause, Placed, Slip, Statement};
 use std::alloc::Global;
 
@@ -20,7 +21,7 @@ fn read(
     text: &[u8],
     lines: &[u8],
     ended: bool,
-) -> Result<Statement, Stop>
+) -> Result<Statement, Stop<Slip>>
     ensures { IsRead (statement_reader text.now lines.now ended) tokens.old result tokens.new }
 {
     if tokens.at_keyword(b"CREATE") {
@@ -73,24 +74,24 @@ fn refused_at(size: usize, slip: Slip, place: usize) -> Cause
 }
 
 // A statement whose text has this size, where it may be so long.
-fn in_limit(size: usize, statement: Statement) -> Result<Statement, Cause>
-    ensures { result ≡ statement_read size (Ok statement) }
+fn in_limit(size: usize, statement: Statement) -> Result<Statement, Stop<Cause>>
+    ensures { Gives (statement_read size (Ok statement)) result }
 {
     if STATEMENT_LIMIT < size {
-        Err(Cause::LongStatement)
+        Err(Stop::Refused(Cause::LongStatement))
     } else {
         Ok(statement)
     }
 }
 
-// Why the text of this size is no statement, where reading stopped in front of the rest of its tokens.
-fn refused(size: usize, stop: Stop, rest: &[Placed]) -> Result<Result<Statement, Cause>, NoMemory>
+// Why the text of this size is no statement, where reading stopped before the rest of its tokens.
+fn refused(size: usize, stop: Stop<Slip>, rest: &[Placed]) -> Stop<Cause>
     ensures { (reader : Reader Statement) (tokens : List Placed) → IsRead reader tokens (Err stop) rest.now
-        → IfOk result (λ said. said ≡ statement_read size (reader tokens)) }
+        → Refuses (statement_read size (reader tokens)) result }
 {
     match stop {
-        Stop::NoMemory => Err(NoMemory),
-        Stop::Slip(slip) => Ok(Err(refused_at(size, slip, place_of_first(size, rest)))),
+        Stop::Refused(slip) => Stop::Refused(refused_at(size, slip, place_of_first(size, rest))),
+        Stop::NoMemory => Stop::NoMemory,
     }
 }
 
@@ -101,13 +102,13 @@ fn said_by(
     text: &[u8],
     lines: &[u8],
     ended: bool,
-) -> Result<Result<Statement, Cause>, NoMemory>
-    ensures { IfOk result (λ said. said ≡ statement_read (length text.now) (statement_reader text.now lines.now ended tokens.now)) }
+) -> Result<Statement, Stop<Cause>>
+    ensures { Gives (statement_read (length text.now) (statement_reader text.now lines.now ended tokens.now)) result }
 {
     let mut cursor = Cursor::new(tokens);
     match read(alloc, &mut cursor, text, lines, ended) {
-        Ok(statement) => Ok(in_limit(text.len(), statement)),
-        Err(stop) => refused(text.len(), stop, cursor.rest()),
+        Ok(statement) => in_limit(text.len(), statement),
+        Err(stop) => Err(refused(text.len(), stop, cursor.rest())),
     }
 }
 
@@ -118,15 +119,15 @@ fn said_by(
 ///   where it is the text's end;
 /// - `LongName` where a name is too long, and `LongStatement` where the text is, if that comes before.
 ///
-/// `NoMemory` where the statement found no room.
+/// `Stop::NoMemory` where an allocation failed.
 pub fn statement(
     alloc: Global,
     text: &[u8],
     terminated: bool,
     lines: &[u8],
     ended: bool,
-) -> Result<Result<Statement, Cause>, NoMemory>
-    ensures { IfOk result (λ found. found ≡ statement_of text.now terminated lines.now ended) }
+) -> Result<Statement, Stop<Cause>>
+    ensures { Gives (statement_of text.now terminated lines.now ended) result }
 {
     let tokens = tokens_and_end(alloc, text, terminated)?;
     said_by(alloc, &tokens, text, lines, ended)

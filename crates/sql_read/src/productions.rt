@@ -5,15 +5,15 @@ ghost use Rattle.mt_values.specs.Grammar.{clauses, column, create, insert, key, 
 ghost use Rattle.sql_read.specs.Parts.{created_columns, created_key, engine_part, inserted_format, selected_table, table_behind};
 ghost use Rattle.sql_read.specs.Reads.{Ends, IsRead, Reads, ReadsEnd};
 
-use crate::cursor::{Cursor, Stop};
-use mt_base::Seq;
+use crate::cursor::Cursor;
+use mt_base::{Seq, Stop};
 use mt_values::{
     Column, CreateText, InsertText, Name, SelectText, Selected, Slip, Statement, Symbol,
 };
 use std::alloc::Global;
 
 // The list of one name.
-fn only(alloc: Global, name: Name) -> Result<Seq<Name>, Stop>
+fn only(alloc: Global, name: Name) -> Result<Seq<Name>, Stop<Slip>>
     ensures { (tokens : List Placed) → Reads (λ next. next (name ∷ [])) tokens result tokens }
 {
     let mut names = Seq::new(alloc);
@@ -23,7 +23,7 @@ fn only(alloc: Global, name: Name) -> Result<Seq<Name>, Stop>
 
 impl Cursor<'_> {
     // column = name plain
-    fn column(&mut self, alloc: Global) -> Result<Column, Stop>
+    fn column(&mut self, alloc: Global) -> Result<Column, Stop<Slip>>
         ensures read { Reads column self.old result self.new }
         ensures less { OnOk result (length self.new < length self.old) }
     {
@@ -33,7 +33,7 @@ impl Cursor<'_> {
     }
 
     // column { "," column }
-    fn columns(&mut self, alloc: Global) -> Result<Seq<Column>, Stop>
+    fn columns(&mut self, alloc: Global) -> Result<Seq<Column>, Stop<Slip>>
         ensures { Reads (list_of column) self.old result self.new }
     {
         let mut columns = Seq::new(alloc);
@@ -47,7 +47,7 @@ impl Cursor<'_> {
     }
 
     // name { "," name }
-    fn names(&mut self, alloc: Global) -> Result<Seq<Name>, Stop>
+    fn names(&mut self, alloc: Global) -> Result<Seq<Name>, Stop<Slip>>
         ensures { Reads (list_of one_name) self.old result self.new }
     {
         let mut names = Seq::new(alloc);
@@ -61,7 +61,7 @@ impl Cursor<'_> {
     }
 
     // key = name | "(" name { "," name } ")"
-    fn key(&mut self, alloc: Global) -> Result<Seq<Name>, Stop>
+    fn key(&mut self, alloc: Global) -> Result<Seq<Name>, Stop<Slip>>
         ensures { Reads key self.old result self.new }
     {
         if self.skip(Symbol::Open) {
@@ -74,7 +74,7 @@ impl Cursor<'_> {
     }
 
     // clauses = ORDER BY key
-    fn clauses(&mut self, alloc: Global) -> Result<Seq<Name>, Stop>
+    fn clauses(&mut self, alloc: Global) -> Result<Seq<Name>, Stop<Slip>>
         ensures { Reads clauses self.old result self.new }
     {
         self.keyword(b"ORDER")?;
@@ -83,7 +83,7 @@ impl Cursor<'_> {
     }
 
     // engine = MergeTree [ "(" ")" ]
-    fn engine(&mut self) -> Result<(), Stop>
+    fn engine(&mut self) -> Result<(), Stop<Slip>>
         ensures { Reads engine_part self.old result self.new }
     {
         self.exactly(b"MergeTree")?;
@@ -94,7 +94,7 @@ impl Cursor<'_> {
     }
 
     // selected = "*" | name { "," name }
-    fn selection(&mut self, alloc: Global) -> Result<Selected, Stop>
+    fn selection(&mut self, alloc: Global) -> Result<Selected, Stop<Slip>>
         ensures { Reads selection self.old result self.new }
     {
         if self.skip(Symbol::Star) {
@@ -105,18 +105,23 @@ impl Cursor<'_> {
     }
 
     // The semicolon that ends a statement, behind which no token may stand.
-    fn end(&mut self) -> Result<(), Stop>
+    fn end(&mut self) -> Result<(), Stop<Slip>>
         ensures { Ends self.old result self.new }
     {
         self.symbol(Symbol::Semicolon)?;
         if !self.rest().is_empty() {
-            return Err(Stop::Slip(Slip::Wrong));
+            return Err(Stop::Refused(Slip::Wrong));
         }
         Ok(())
     }
 
     // Two keywords and a name, as CREATE TABLE name.
-    fn table_behind(&mut self, alloc: Global, first: &[u8], second: &[u8]) -> Result<Name, Stop>
+    fn table_behind(
+        &mut self,
+        alloc: Global,
+        first: &[u8],
+        second: &[u8],
+    ) -> Result<Name, Stop<Slip>>
         ensures { Reads (table_behind first.now second.now) self.old result self.new }
     {
         self.keyword(first)?;
@@ -125,7 +130,7 @@ impl Cursor<'_> {
     }
 
     // "(" element { "," element } ")"
-    fn created_columns(&mut self, alloc: Global) -> Result<Seq<Column>, Stop>
+    fn created_columns(&mut self, alloc: Global) -> Result<Seq<Column>, Stop<Slip>>
         ensures { Reads created_columns self.old result self.new }
     {
         self.symbol(Symbol::Open)?;
@@ -135,7 +140,7 @@ impl Cursor<'_> {
     }
 
     // ENGINE "=" engine clauses
-    fn created_key(&mut self, alloc: Global) -> Result<Seq<Name>, Stop>
+    fn created_key(&mut self, alloc: Global) -> Result<Seq<Name>, Stop<Slip>>
         ensures { Reads created_key self.old result self.new }
     {
         self.keyword(b"ENGINE")?;
@@ -145,7 +150,7 @@ impl Cursor<'_> {
     }
 
     // [ FORMAT format ], and the statement's end
-    fn inserted_format(&mut self) -> Result<(), Stop>
+    fn inserted_format(&mut self) -> Result<(), Stop<Slip>>
         ensures { ReadsEnd inserted_format self.old result self.new }
     {
         if !self.skip_keyword(b"FORMAT") {
@@ -156,7 +161,7 @@ impl Cursor<'_> {
     }
 
     // FROM name, and the statement's end
-    fn selected_table(&mut self, alloc: Global) -> Result<Name, Stop>
+    fn selected_table(&mut self, alloc: Global) -> Result<Name, Stop<Slip>>
         ensures { ReadsEnd selected_table self.old result self.new }
     {
         self.keyword(b"FROM")?;
@@ -166,7 +171,7 @@ impl Cursor<'_> {
     }
 
     /// A CREATE of this text. Its bytes and its names are copied, once.
-    pub fn create(&mut self, alloc: Global, text: &[u8]) -> Result<Statement, Stop>
+    pub fn create(&mut self, alloc: Global, text: &[u8]) -> Result<Statement, Stop<Slip>>
         ensures { IsRead (create text.now) self.old result self.new }
     {
         let table = self.table_behind(alloc, b"CREATE", b"TABLE")?;
@@ -183,7 +188,12 @@ impl Cursor<'_> {
     }
 
     /// An INSERT with these lines of data, which are copied, once, and only where the statement is of the grammar.
-    pub fn insert(&mut self, alloc: Global, lines: &[u8], ended: bool) -> Result<Statement, Stop>
+    pub fn insert(
+        &mut self,
+        alloc: Global,
+        lines: &[u8],
+        ended: bool,
+    ) -> Result<Statement, Stop<Slip>>
         ensures { IsRead (insert lines.now ended) self.old result self.new }
     {
         let table = self.table_behind(alloc, b"INSERT", b"INTO")?;
@@ -197,7 +207,7 @@ impl Cursor<'_> {
     }
 
     /// A SELECT.
-    pub fn select(&mut self, alloc: Global) -> Result<Statement, Stop>
+    pub fn select(&mut self, alloc: Global) -> Result<Statement, Stop<Slip>>
         ensures { IsRead select self.old result self.new }
     {
         self.keyword(b"SELECT")?;

@@ -1,9 +1,10 @@
 // The statements of a script, with their data.
-ghost use Rattle.std.specs.Prelude.{◌≡◌, ◌<◌, ◌≤◌, ◌↔◌, Bool, length, drop, IfOk, IfSome, false};
+ghost use Rattle.std.specs.Prelude.{◌≡◌, ◌<◌, ◌≤◌, ◌↔◌, Bool, length, drop, IfSome, false};
 ghost use Rattle.std.specs.List.{list_all, prefix_len};
+ghost use Rattle.mt_base.specs.Stops.{Gives};
 ghost use Rattle.mt_values.specs.Tokens.{is_space};
 ghost use Rattle.mt_values.specs.Grammar.{takes_data};
-ghost use Rattle.mt_values.specs.Script.{complete_or_cut, ended_from, ends_at, has_whole, is_whole, place_behind};
+ghost use Rattle.mt_values.specs.Script.{Item, complete_or_cut, ended_from, ends_at, has_whole, is_whole, place_behind};
 ghost use Rattle.insert_data.specs.Sections.{line_said, section_said};
 ghost use Rattle.sql_read.specs.Scripts.{IsNext, next_of, parts_at};
 
@@ -12,7 +13,7 @@ use crate::cursor::is_keyword;
 use crate::grammar::statement;
 use crate::tokens::{starts_word, word_len};
 use insert_data::{Section, inserted};
-use mt_base::NoMemory;
+use mt_base::Stop;
 use mt_values::{Cause, Place, Statement};
 use std::alloc::Global;
 
@@ -28,7 +29,7 @@ pub enum Next {
     /// A text that is refused, why it is, and how many bytes of the script it takes, with what stands before it and with
     /// its data.
     Refused(Cause, usize),
-    /// The statement found no room.
+    /// An allocation failed.
     NoMemory,
 }
 
@@ -131,21 +132,26 @@ fn first_section(script: &[u8]) -> Section<'_>
     }
 }
 
-// What a part of a script is, by what its text is: only blanks may stand behind its semicolon on the line.
-#[tactic(auto, using(crate::proofs::Sections::and_refused))]
-fn with_line(section: &Section, found: Result<Statement, Cause>) -> Result<Statement, Cause>
-    ensures { result ≡ line_said section.now found }
+// What a part of a script is, by what its text is: only blanks may stand after its semicolon on the line.
+fn with_line(
+    section: &Section,
+    found: Result<Statement, Stop<Cause>>,
+) -> Result<Statement, Stop<Cause>>
+    ensures { (said : Item) → Gives said found → Gives (line_said section.now said) result }
 {
     if are_blank(section.line) {
         return found;
     }
     let place = section.text.len() + 1 + spaces_len(section.line);
-    found.and(Err(Cause::Grammar(place)))
+    match found {
+        Ok(_) => Err(Stop::Refused(Cause::Grammar(place))),
+        Err(stop) => Err(stop),
+    }
 }
 
 // The statement that a part of a script is, or why it is refused.
-fn read_section(alloc: Global, section: &Section) -> Result<Result<Statement, Cause>, NoMemory>
-    ensures { IfOk result (λ found. found ≡ section_said section.now) }
+fn read_section(alloc: Global, section: &Section) -> Result<Statement, Stop<Cause>>
+    ensures { Gives (section_said section.now) result }
 {
     let found = statement(
         alloc,
@@ -153,18 +159,18 @@ fn read_section(alloc: Global, section: &Section) -> Result<Result<Statement, Ca
         section.terminated,
         section.lines,
         section.ended,
-    )?;
-    Ok(with_line(section, found))
+    );
+    with_line(section, found)
 }
 
-// What a script begins with, by what was found in so many bytes of it.
-fn next_of(found: Result<Result<Statement, Cause>, NoMemory>, used: usize) -> Next
+// What a script begins with, by what was found in that many bytes of it.
+fn next_of(found: Result<Statement, Stop<Cause>>, used: usize) -> Next
     ensures { result ≡ next_of found used }
 {
     match found {
-        Ok(Ok(statement)) => Next::Found(statement, used),
-        Ok(Err(cause)) => Next::Refused(cause, used),
-        Err(_) => Next::NoMemory,
+        Ok(statement) => Next::Found(statement, used),
+        Err(Stop::Refused(cause)) => Next::Refused(cause, used),
+        Err(Stop::NoMemory) => Next::NoMemory,
     }
 }
 

@@ -1,6 +1,9 @@
 -- The values of a line's fields behind those of columns, column by column.
 use Rattle.std.proofs.Common.{◌≡◌, ◌≢◌, ℕ, ◌+◌, ◌<◌, ◌≤◌, false, List, [], ◌∷◌, length, get_or, take, drop, set, slice_get, Some, Result, Ok, Err, refl, sym, ap, ◌∙◌, arith, append-nil}
 use Rattle.std.proofs.lemmas.List.{drop_all, take_all, drop_more, drop-set-lt, take_more_set, length-map}
+use Rattle.mt_base.specs.declared.stop.Stop.{Stop}
+use Rattle.mt_base.specs.declared.stop.Stop.TheVariants.{NoMemory, Refused}
+use Rattle.mt_base.specs.Stops.{Refuses}
 use Rattle.mt_values.specs.declared.cell.Cell.{Cell}
 use Rattle.mt_values.specs.declared.row_fault.FieldFault.{FieldFault}
 use Rattle.mt_values.specs.declared.row_fault.RowFault.{RowFault}
@@ -17,8 +20,13 @@ use Rattle.tsv_lines.specs.Fields.{EndFields}
 use Rattle.tsv_lines.proofs.LineRows.{drop_at_place, fronted_ok, fronted_ok_none, fronted_ok_more, row_counted, row_miscounted}
 
 -- a value that was read is of the column's type
-pub typed_cell : (t : ColType) (field : List ℕ) (cell : Cell) → Ok (value_of cell) ≡ value_of_field t field → type_of (value_of cell) ≡ t
-typed_cell t field cell is = if_ok (λ v. type_of v ≡ t) (value_of_field t field) (value_of cell) (sym is) (value_typed t field)
+pub typed_cell : (t : ColType) (field : List ℕ) (cell : Cell) → value_of_field t field ≡ Ok (value_of cell) → type_of (value_of cell) ≡ t
+typed_cell t field cell is = if_ok (λ v. type_of v ≡ t) (value_of_field t field) (value_of cell) is (value_typed t field)
+
+-- why a field stops the reading is why its column does
+pub field_refused : (column : Cells) (read : Result Value FieldFault) (why : Stop FieldFault) → Refuses read why → Refuses (with_value column read) why
+field_refused column read (Refused fault) is = ap (with_value column) is
+field_refused column read NoMemory is = tt
 
 -- what a line gives to columns of which those from a place on have not got a value
 abbrev pub columns_beyond : ℕ → ℕ → List Cells → List (List ℕ) → Result (List Cells) RowFault

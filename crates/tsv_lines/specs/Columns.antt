@@ -1,5 +1,7 @@
 -- Columns that values are read into.
-use Rattle.std.specs.Prelude.{ℕ, List, [], ◌∷◌, ◌++◌, map, Result, Ok, Err}
+use Rattle.std.specs.Prelude.{◌≡◌, ℕ, List, [], ◌∷◌, ◌++◌, map, Result, Ok, Err}
+use Rattle.mt_base.specs.declared.stop.Stop.{Stop}
+use Rattle.mt_base.specs.Stops.{Refuses}
 use Rattle.mt_values.specs.Grid.{Cells}
 use Rattle.mt_values.specs.Rows.{value_of_field}
 use Rattle.mt_values.specs.Values.{Row}
@@ -34,7 +36,7 @@ abbrev pub with_row : List Cells → Result Row RowFault → Result (List Cells)
 with_row columns (Ok row) = Ok (with_row_last columns row)
 with_row columns (Err fault) = Err fault
 
--- what was read into, where there was no fault
-abbrev pub when_read : {A F : Type 0} → Result (Unit {0}) F → A → Result A F
-when_read (Ok done) a = Ok a
-when_read (Err fault) a = Err fault
+-- what was read into is what is wanted, or the refusal the wanted one, unless memory ran out
+abbrev pub IsReadInto : {A F : Type 0} → Result A F → A → Result (Unit {0}) (Stop F) → Type 0
+IsReadInto wanted into (Ok done) = wanted ≡ Ok into
+IsReadInto wanted into (Err why) = Refuses wanted why

@@ -1,6 +1,8 @@
 -- Lines parted into fields by places, and what reading a field gives.
 use Rattle.std.specs.Prelude.{◌≡◌, ℕ, ◌+◌, ◌-◌, ◌≤◌, Bool, false, List, [], ◌∷◌, length, take, drop, Option, Some, None, Result, Ok, Err, if◌then◌else◌}
 use Rattle.std.specs.Option.{option_map}
+use Rattle.mt_base.specs.declared.stop.Stop.{Stop}
+use Rattle.mt_base.specs.Stops.{Refuses}
 use Rattle.mt_values.specs.Cells.{value_of}
 use Rattle.mt_values.specs.Rows.{fields_from}
 use Rattle.mt_values.specs.Script.{line_from}
@@ -42,7 +44,7 @@ abbrev pub value_or_none : Option Cell → Result Value FieldFault
 value_or_none None = Err field_fault.NotOfType
 value_or_none (Some cell) = Ok (value_of cell)
 
--- the value that was read, or why there is none
-abbrev pub value_read : Result Cell FieldFault → Result Value FieldFault
-value_read (Ok cell) = Ok (value_of cell)
-value_read (Err fault) = Err fault
+-- the cell that was read is of the wanted value, or the refusal the wanted one, unless memory ran out
+abbrev pub IsValueRead : Result Value FieldFault → Result Cell (Stop FieldFault) → Type 0
+IsValueRead wanted (Ok cell) = wanted ≡ Ok (value_of cell)
+IsValueRead wanted (Err why) = Refuses wanted why

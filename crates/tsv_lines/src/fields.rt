@@ -1,12 +1,12 @@
 // The fields of a line, and the value that a field is.
-ghost use Rattle.std.specs.Prelude.{◌≡◌, ◌≢◌, ◌<◌, ◌&&◌, ◌==◌, IfOk, IfSome, Some, Ok, length, false, slice_get};
+ghost use Rattle.std.specs.Prelude.{◌≡◌, ◌≢◌, ◌<◌, ◌&&◌, ◌==◌, IfOk, IfSome, Some, length, false, slice_get};
 ghost use Rattle.mt_values.specs.Rows.{fields_from, text_of, value_of_field};
 ghost use Rattle.mt_values.specs.declared.value.ColType.TheVariants as type;
-ghost use Rattle.tsv_lines.specs.Fields.{EndFields, line_at, line_found, marked, value_or_none, value_read};
+ghost use Rattle.tsv_lines.specs.Fields.{EndFields, IsValueRead, line_at, line_found, marked, value_or_none};
 
 use crate::numbers::{signed_below, unsigned_up_to};
 use crate::texts::{plain_len, unescape};
-use mt_base::{NoMemory, TEXT_LIMIT};
+use mt_base::{NoMemory, Stop, TEXT_LIMIT};
 use mt_values::{Cell, ColType, FieldFault};
 
 // Whether the byte is a line feed, where lines are looked for.
@@ -86,48 +86,44 @@ fn number_of_field(col_type: ColType, field: &[u8]) -> Option<Cell<'static>>
 }
 
 // The text of bytes that a field says; a fault where they are too many.
-fn text_within(bytes: &[u8]) -> Result<Cell<'_>, FieldFault>
-    ensures { value_read result ≡ text_of (Some bytes.now) }
+fn text_within(bytes: &[u8]) -> Result<Cell<'_>, Stop<FieldFault>>
+    ensures { IsValueRead (text_of (Some bytes.now)) result }
 {
     if bytes.len() > TEXT_LIMIT {
-        return Err(FieldFault::TooLong);
+        return Err(Stop::Refused(FieldFault::TooLong));
     }
     Ok(Cell::Text(bytes))
 }
 
 // The text that a field is. It lies in the field itself, or in `said` where the field has escapes.
-#[tactic(auto, using(crate::proofs::Unescaping::plain_whole))]
-fn text_of_field<'a>(
-    field: &'a [u8],
-    said: &'a mut Vec<u8>,
-) -> Result<Result<Cell<'a>, FieldFault>, NoMemory>
-    ensures { IfOk result (λ read. value_read read ≡ value_of_field type.Text field.now) }
+fn text_of_field<'a>(field: &'a [u8], said: &'a mut Vec<u8>) -> Result<Cell<'a>, Stop<FieldFault>>
+    ensures { IsValueRead (value_of_field type.Text field.now) result }
 {
     if plain_len(field) == field.len() {
-        return Ok(text_within(field));
+        return text_within(field);
     }
     if !unescape(field, said)? {
-        return Ok(Err(FieldFault::NotOfType));
+        return Err(Stop::Refused(FieldFault::NotOfType));
     }
-    Ok(text_within(said.as_slice()))
+    text_within(said.as_slice())
 }
 
 /// The value of a field of a column's type, or why it is none. A text lies in the field itself, or in `said`, which
 /// loses what it had, where the field has escapes.
 ///
-/// `NoMemory` where there was none for what the escapes say.
+/// `Stop::NoMemory` where an allocation failed for what the escapes say.
 pub fn cell_of_field<'a>(
     col_type: ColType,
     field: &'a [u8],
     said: &'a mut Vec<u8>,
-) -> Result<Result<Cell<'a>, FieldFault>, NoMemory>
-    ensures { IfOk result (λ read. value_read read ≡ value_of_field col_type field.now) }
+) -> Result<Cell<'a>, Stop<FieldFault>>
+    ensures { IsValueRead (value_of_field col_type field.now) result }
 {
     if col_type == ColType::Text {
         return text_of_field(field, said);
     }
     match number_of_field(col_type, field) {
-        Some(cell) => Ok(Ok(cell)),
-        None => Ok(Err(FieldFault::NotOfType)),
+        Some(cell) => Ok(cell),
+        None => Err(Stop::Refused(FieldFault::NotOfType)),
     }
 }

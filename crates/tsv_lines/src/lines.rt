@@ -1,12 +1,12 @@
 // A line of fields, read into columns.
-ghost use Rattle.std.specs.Prelude.{◌≡◌, IfOk};
+ghost use Rattle.std.specs.Prelude.{◌≡◌};
 ghost use Rattle.mt_values.specs.Rows.{fault_of_field, row_of_line};
-ghost use Rattle.tsv_lines.specs.Columns.{types_in, when_read, with_field, with_row};
+ghost use Rattle.tsv_lines.specs.Columns.{IsReadInto, types_in, with_field, with_row};
 ghost use Rattle.tsv_lines.specs.Faults.{fault_of_count};
 ghost use Rattle.tsv_lines.specs.Fields.{EndFields};
 
 use crate::fields::{cell_of_field, field_at};
-use mt_base::NoMemory;
+use mt_base::Stop;
 use mt_values::{ColumnData, FieldFault, RowFault};
 
 /// The fault of a line that has another number of fields than there are columns.
@@ -39,36 +39,38 @@ fn read_field(
     column: &mut ColumnData,
     field: &[u8],
     said: &mut Vec<u8>,
-) -> Result<Result<(), FieldFault>, NoMemory>
-    ensures { IfOk result (λ read. when_read read column.new ≡ with_field column.old field.now) }
+) -> Result<(), Stop<FieldFault>>
+    ensures { IsReadInto (with_field column.old field.now) column.new result }
 {
-    match cell_of_field(column.col_type(), field, said)? {
-        Ok(cell) => {
-            column.push_cell(cell)?;
-            Ok(Ok(()))
-        }
-        Err(fault) => Ok(Err(fault)),
-    }
+    let cell = cell_of_field(column.col_type(), field, said)?;
+    column.push_cell(cell)?;
+    Ok(())
 }
 
 /// Adds the values of a line's fields to the columns. Where the line has a fault, some columns may have got a value.
+///
+/// `Stop::NoMemory` where an allocation failed.
 pub fn read_line(
     columns: &mut [ColumnData],
     text: &[u8],
     ends: &[usize],
     line: usize,
     said: &mut Vec<u8>,
-) -> Result<Result<(), RowFault>, NoMemory>
+) -> Result<(), Stop<RowFault>>
     requires { EndFields text.now ends.now }
-    ensures { IfOk result (λ read. when_read read columns.new ≡ with_row columns.old (row_of_line (types_in columns.old) line text.now)) }
+    ensures { IsReadInto (with_row columns.old (row_of_line (types_in columns.old) line text.now)) columns.new result }
 {
     if let Some(fault) = fault_of_count(line, ends.len(), columns.len()) {
-        return Ok(Err(fault));
+        return Err(Stop::Refused(fault));
     }
     for (place, column) in columns.iter_mut().enumerate() {
-        if let Err(fault) = read_field(column, field_at(text, ends, place), said)? {
-            return Ok(Err(fault_of_field(line, place + 1, fault)));
+        match read_field(column, field_at(text, ends, place), said) {
+            Ok(()) => {}
+            Err(Stop::Refused(fault)) => {
+                return Err(Stop::Refused(fault_of_field(line, place + 1, fault)));
+            }
+            Err(Stop::NoMemory) => return Err(Stop::NoMemory),
         }
     }
-    Ok(Ok(()))
+    Ok(())
 }

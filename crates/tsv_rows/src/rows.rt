@@ -22,9 +22,10 @@ fn read_value(
     ensures value { IfOk result (λ v. Ok v ≡ value_of_field col_type field.now) }
     ensures refused { IfErr result (Refuses (at_field line place (value_of_field col_type field.now))) }
 {
-    match cell_of_field(col_type, field, said)? {
+    match cell_of_field(col_type, field, said) {
         Ok(cell) => Ok(cell.to_value(alloc)?),
-        Err(fault) => Err(Stop::Refused(fault_of_field(line, place, fault))),
+        Err(Stop::Refused(fault)) => Err(Stop::Refused(fault_of_field(line, place, fault))),
+        Err(Stop::NoMemory) => Err(Stop::NoMemory),
     }
 }
 
@@ -32,7 +33,12 @@ fn read_value(
 ///
 /// `Stop::NoMemory` where an allocation failed. A fault is that of the number of fields, or else of the first faulty
 /// field from the left.
-pub fn read_row(alloc: Global, schema: &Schema, text: &[u8], line: usize) -> Result<Row, Stop<RowFault>>
+pub fn read_row(
+    alloc: Global,
+    schema: &Schema,
+    text: &[u8],
+    line: usize,
+) -> Result<Row, Stop<RowFault>>
     ensures row { IfOk result (λ row. row_of_line (column_types schema.now) line text.now ≡ Ok row) }
     ensures refused { IfErr result (Refuses (row_of_line (column_types schema.now) line text.now)) }
     ensures values { IfOk result (All IsValue) }
@@ -91,8 +97,10 @@ pub fn read_rows(
             return Err(Stop::Refused(DataFault::TooMany));
         }
         let text = &lines[at..at + len];
-        if let Err(fault) = read_line(&mut columns, text, &ends, count + 1, &mut said)? {
-            return Err(Stop::Refused(DataFault::Row(fault)));
+        match read_line(&mut columns, text, &ends, count + 1, &mut said) {
+            Ok(()) => {}
+            Err(Stop::Refused(fault)) => return Err(Stop::Refused(DataFault::Row(fault))),
+            Err(Stop::NoMemory) => return Err(Stop::NoMemory),
         }
         count += 1;
         at += len + 1;

@@ -7,10 +7,10 @@ use Rattle.mt_values.specs.Rows.{inserted_rows, row_of_line}
 use Rattle.mt_values.specs.Script.{line_from}
 use Rattle.mt_values.specs.Values.{AreValues}
 use Rattle.mt_values.proofs.RowValues.{AreBytes, if_ok, inserted_values}
-use Rattle.tsv_lines.specs.Columns.{types_in, when_read, with_row}
+use Rattle.tsv_lines.specs.Columns.{types_in, with_row}
 use Rattle.tsv_rows.proofs.DataRows.{no_lines, lines_end, lines_unended, lines_many, lines_refused, lines_more}
 use Rattle.tsv_rows.proofs.rows.read_rows.Goals as goal
-use Rattle.tsv_rows.proofs.rows.read_rows.Goals.{In-Some, In_ok-fault, In_default, After-of_columns}
+use Rattle.tsv_rows.proofs.rows.read_rows.Goals.{In-Some, In_default, After-of_columns}
 
 -- all that was written is what stands
 written_whole : {X : Type 0} (new old : List X) (n : ℕ) → length new ≡ length old → n ≡ length new → take n (new ++ drop (length new) old) ≡ new
@@ -24,14 +24,11 @@ found c = rw (take_rest, c.in-Some.is) at c.in_ok-len.ensures.line
 inside : (c : In-Some) → c.in-Some.len < length (drop c.lines.at c.args.lines.now)
 inside c = rw (take_rest, c.in-Some.is) at c.in_ok-len.ensures.within
 
--- what reading the line gave
-read_is : (c : In_ok-fault) → when_read c.in_ok-fault.field-0 c.read_line.new.columns
-    ≡ with_row c.lines.columns.items (row_of_line (types_in c.lines.columns.items) (c.lines.count + 1) (take c.in-Some.len (drop c.lines.at c.args.lines.now)))
-read_is c =
-    let size : c.lines.at + c.in-Some.len - c.lines.at ≡ c.in-Some.len = omega arith in
-    rw (size, c.deref_mut.ensures.value) at c.in_ok-fault.ensures
+-- the size of the line that was found
+line_size : (c : In-Some) → c.lines.at + c.in-Some.len - c.lines.at ≡ c.in-Some.len
+line_size c = omega arith
 
--- want of memory says nothing of the data
+-- out of memory says nothing of the data
 pub returns-in_err-columns : goal.returns-in_err-columns
 returns-in_err-columns c =
     let p = err_from_is_err_and c.from_residual.result c.from_residual.ensures.1 in
@@ -40,11 +37,6 @@ returns-in_err-columns c =
 pub returns-in_err-len : goal.returns-in_err-len
 returns-in_err-len c =
     let p = err_from_is_err_and c.from_residual-in_err-len.result c.from_residual-in_err-len.ensures.1 in
-    rw (p.1, p.2) (record { rows = tt; types = tt; values = tt; refused = tt })
-
-pub returns-in_err-fault : goal.returns-in_err-fault
-returns-in_err-fault c =
-    let p = err_from_is_err_and c.from_residual-in_err-fault.result c.from_residual-in_err-fault.ensures.1 in
     rw (p.1, p.2) (record { rows = tt; types = tt; values = tt; refused = tt })
 
 pub lines-init : goal.lines-init
@@ -63,9 +55,9 @@ returns-then-count-ge-ROW_LIMIT c =
           c.if-count-ge-ROW_LIMIT.true;
     }
 
-pub returns-in-Err : goal.returns-in-Err
-returns-in-Err c =
-    let d = (goal.at.returns-in-Err c).In_ok-fault in
+pub returns-in-Err-Refused : goal.returns-in-Err-Refused
+returns-in-Err-Refused c =
+    let told = rw (line_size (goal.at.returns-in-Err-Refused c).In-Some, c.deref_mut.ensures.value, c.in-Err-Refused.field-0-is) at c.in-Err-Refused.ensures in
     let text = drop c.lines.at c.args.lines.now in
     record {
       rows = tt;
@@ -73,17 +65,17 @@ returns-in-Err c =
       values = tt;
       refused =
           lines_refused c.args.types.now c.args.lines.now c.args.ended text c.lines.columns.items c.lines.count c.lines.invariant.kept (take c.in-Some.len text) (drop (c.in-Some.len + 1) text)
-          (found (goal.at.returns-in-Err c).In-Some) c.if-count-ge-ROW_LIMIT.false c.in-Err.fault (rw c.in-Err.is at (read_is d));
+          (found (goal.at.returns-in-Err-Refused c).In-Some) c.if-count-ge-ROW_LIMIT.false c.in-Err-Refused.fault (sym told);
     }
 
 pub lines-preserved : goal.lines-preserved
 lines-preserved c =
-    let d = (goal.at.lines-preserved c).In_ok-fault in
     let e = (goal.at.lines-preserved c).In-Some in
     let text = drop c.lines.at c.args.lines.now in
     let len = c.in-Some.len in
     let new : List Cells = c.read_line.new.columns in
-    let read : Ok new ≡ with_row c.lines.columns.items (row_of_line (types_in c.lines.columns.items) (c.lines.count + 1) (take len text)) = rw c.in_default-2.is at (read_is d) in
+    let told = rw (line_size e, c.deref_mut.ensures.value) at c.in-Ok.ensures in
+    let read : Ok new ≡ with_row c.lines.columns.items (row_of_line (types_in c.lines.columns.items) (c.lines.count + 1) (take len text)) = sym told in
     let count : length new ≡ length c.lines.columns.items = omega (arith, ap length c.deref_mut.ensures.value) in
     let whole : take c.lines.columns.len (new ++ drop (length new) c.lines.columns.items) ≡ new = written_whole new c.lines.columns.items c.lines.columns.len count (c.lines.columns.ok.0 ∙ sym count) in
     let behind : drop (len + 1) text ≡ drop (c.lines.at + (len + 1)) c.args.lines.now = drop-drop (len + 1) c.lines.at c.args.lines.now in

@@ -1,9 +1,8 @@
+use Rattle.std.proofs.Common.{◌≡◌, Err, ap, sym, ◌∙◌}
 use Rattle.std.proofs.lemmas.Result.{err_from_is_err_and}
+use Rattle.mt_values.specs.Rows.{at_field, fault_of_field}
 use Rattle.tsv_rows.proofs.rows.read_value.Goals as goal
 
 -- out of memory
-pub returns-in_err-cell : goal.returns-in_err-cell
-returns-in_err-cell c = let p = err_from_is_err_and c.from_residual.result c.from_residual.ensures.1 in rw (p.1, p.2) (record { value = tt; refused = tt })
-
 pub returns-in_err-to_value-in-Ok : goal.returns-in_err-to_value-in-Ok
-returns-in_err-to_value-in-Ok c = let p = err_from_is_err_and c.from_residual-in_err-to_value-in-Ok.result c.from_residual-in_err-to_value-in-Ok.ensures.1 in rw (p.1, p.2) (record { value = tt; refused = tt })
+returns-in_err-to_value-in-Ok c = let p = err_from_is_err_and c.from_residual.result c.from_residual.ensures.1 in rw (p.1, p.2) (record { value = tt; refused = tt })
