@@ -1,6 +1,5 @@
 -- Events over tables of one column of numbers: each of them may come, whatever came before.
 use Rattle.std.specs.Prelude.{◌≡◌, [], ◌∷◌}
-use Rattle.mt_values.specs.declared.schema.Column.{Column}
 use Rattle.mt_values.specs.declared.schema.Schema.{Schema}
 use Rattle.mt_values.specs.declared.value.ColType.TheVariants as type
 use Rattle.mt_model.specs.History.{IsInsertInto}
