@@ -1,33 +1,37 @@
 //! Runs the cases of its standard input over the outside in memory, and prints what they come to.
 //!
-//! Each line of the input is a directive. It is printed as it stands, and behind it, indented, what it comes to; a line that is malformed
-//! or can't be answered comes to a line that begins with `?`. An empty line, and one whose first word is `#`, says nothing. A directive is a
-//! word, with its arguments behind single blanks; a text or a name that comes last goes to the end of the line. Bytes are written as they
-//! are, or by the escapes `\n`, `\t`, `\\` and `\xNN`; none are written `""`. Bytes that are printed stand between quotes, as Rust escapes
-//! them; of more than 1000 only their number and their digest are printed.
+//! Each line of the input is a directive. It is printed as it stands, and after it, indented and with the name of its case, what it comes to;
+//! a line that is malformed or can't be answered comes to a line that begins with `?`. An empty line, and one whose first word is `#`, says
+//! nothing. A directive is a word, with its arguments after single blanks; a text or a name that comes last goes to the end of the line. Bytes
+//! are written as they are, or by the escapes `\n`, `\t`, `\\` and `\xNN`; none are written `""`. Bytes that are printed stand between
+//! quotes, as Rust escapes them; of more than 1000 only their number and their digest are printed.
+//!
+//! `case NAME` names the case that the lines after it belong to, up to the next one. No two cases have one name.
 //!
 //! What a run begins with is the root, which stays until the next `new`:
 //!
 //! - `new`: a root without names;
+//! - `new NAME`: the root that was shared under this name;
 //! - `folder NAME`: a folder without files;
 //! - `entry NAME TEXT`: the folder of a table, with the entry of this text;
-//! - `part NAME ROWS COLUMN ..`: the folder of a part, with the files of its columns and a manifest of them and of so many rows;
-//! - `file FILE BYTES`: a file in the folder that was set up last, in place of one of its name.
+//! - `part NAME ROWS COLUMN ..`: the folder of a part, with the files of its columns and a manifest of them and of that many rows;
+//! - `file FILE BYTES`: a file in the folder that was set up last, in place of one of its name;
+//! - `share NAME`: a name for the root as it is set up. Answers of runs over it, and over roots that were begun from it, have the name too.
 //!
 //! What is set up for the next run alone:
 //!
-//! - `damage NAME FILE HOW`: a file of the root that is `missing`, `cut N` off behind N bytes, `longer` by a byte of zero, or has the lowest
+//! - `damage NAME FILE HOW`: a file of the root that is `missing`, `cut N` off after N bytes, `longer` by a byte of zero, or has the lowest
 //!   bit of the byte at a place `turned PLACE`;
 //! - `fail ARM STAGE KIND NUMBER`: a call that fails, counted from 0 among those of its kind, of the disk (`- -`), of an arm (`0 -`) or of a
 //!   stage (`0 1`);
-//! - `stop CALLS`: the disk fails each call after so many;
+//! - `stop CALLS`: the disk fails each call after that many;
 //! - `bytes`: each read gives one byte, and each write takes one;
 //! - `read NUMBER`, `write NUMBER`: a read or a write that fails, from 0;
 //! - `words WORD ..`: the words of the command line.
 //!
 //! The script stays until the next one. `script TEXT` begins it, and further pieces are `add TEXT` and `repeat COUNT TEXT`.
 //!
-//! What runs. Where a script may stand behind the word, it replaces the one before. An answer is the status, how many commands were
+//! What runs. Where a script may stand after the word, it replaces the one before. An answer is the status, how many commands were
 //! accepted, and the replies.
 //!
 //! - `run [SCRIPT]`: over the root;
@@ -37,24 +41,32 @@
 //!   the same;
 //! - `names`: the names that the last run left, those that are not settled too;
 //! - `left NAME FILE`: the bytes of a file of such a name;
-//! - `crash CHOICE`: a crash behind the last run, by the number of the choice; the commands that were accepted are forgotten;
-//! - `each read COUNT`, `each write COUNT`, `each stop COUNT`: over the root, so many times, with the read or write of each number from 0
-//!   failing, or the disk stopped after so many calls;
+//! - `crash CHOICE`: a crash after the last run, by the number of the choice; the commands that were accepted are forgotten;
+//! - `each read COUNT`, `each write COUNT`, `each stop COUNT`: over the root, that many times, with the read or write of each number from 0
+//!   failing, or the disk stopped after that number of calls. A line for each has the number;
 //! - `crashes FIRSTS NEXTS SCRIPT`: a first run of the script that stands, over an empty disk that stops after 0 calls, after 1, and so on up
 //!   to FIRSTS; a crash; a next run, of the script of the line, over each root that the crash may leave, whose disk stops after 0 calls up
 //!   to NEXTS; a crash; and a last run of that script over each root that this one may leave. A line for each first run has its answer, one
-//!   for each crash its choice, and behind that one for each next run its answer, and behind `then` the answers of the last runs, equal
+//!   for each crash its choice, and after that one for each next run its answer, and after `then` the answers of the last runs, equal
 //!   ones once. A next run whose line would be that of the one before has none;
 //! - `stops FIRSTS NEXTS SCRIPT`: the same without the first crash.
 //!
 //! What is found without a run:
 //!
-//! - `named NAME SCRIPT`: nothing; the lines behind it cite the script by the name;
+//! - `named NAME SCRIPT`: nothing; the lines after it cite the script by the name;
 //! - `allows NAME NAME TEXT`: whether a script may leave the history of another one and print the text;
 //! - `row TYPE LINE`: the line that is printed of the row of one column that a line is;
 //! - `values TYPE COUNT BYTES`: how many values are read of the bytes of a column, none where they are none; and the values as a line, or
 //!   where the first fault is;
-//! - `block NUMBER`: how many rows a block without rows has, and one of a row with this number.
+//! - `block NUMBER`: how many rows a block without rows has, and one of a row with this number;
+//! - `core EVENT;EVENT ..`: what the core gives at each event, one after another, from the state before any event: `create TABLE`,
+//!   `insert TABLE NUMBER NUMBER`, `take TABLE`, `read SNAPSHOT`, `crash`, or `crash done` or `crash lost` with a create or an insert within
+//!   which the crash comes, and which is done or not. Tables have one column `a` of type UInt8, which is their key;
+//! - `pin LENGTH NUMBER NUMBER`: what is pinned of a table with one part of two rows, at a length of the history: the schema, the part and
+//!   the length;
+//! - `twin KIND ..`: a value and its twins: `number NUMBER` (of 8, of 32 and of 64 bits), `name BYTES`, `type TYPE`, `schema`,
+//!   `row TYPE LINE`, `part NUMBER NUMBER` (what is kept of a part of two rows), or `stored ROWS NAME`: a part with that many rows, of a
+//!   folder that the last run left.
 #![tactic(auto)]
 
 use disk_mem::{MemSource, OpenGate};

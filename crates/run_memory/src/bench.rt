@@ -4,12 +4,13 @@ ghost use Rattle.std.specs.Thread.{IsSync};
 use crate::answer::Answer;
 use crate::examples::Example;
 use crate::left::{ALL_KEPT, Left, fresh, image_of};
-use crate::root::Folder;
+use crate::root::{Folder, Shared};
 use crate::setting::Setting;
 use crate::text::first_word;
 use disk_mem::{Listed, MemDisk, MemSource};
 use mt_base::Seq;
 use std::alloc::Global;
+use std::mem;
 use std::sync::Wait;
 use std::thread::Threads;
 
@@ -31,8 +32,12 @@ pub trait Machine {
 pub struct Bench {
     pub answer: Answer,
     pub root: Vec<Folder>,
+    /// The name of the root that this one was begun from, empty where it was begun from none.
+    pub base: String,
+    /// The roots that were given a name.
+    pub shared: Vec<Shared>,
     pub script: Vec<u8>,
-    /// The script of the runs behind the first one, where disks stop.
+    /// The script of the runs after the first one, where disks stop.
     pub later: Vec<u8>,
     pub setting: Setting,
     /// What the last run left, which is away only within a run.
@@ -41,7 +46,7 @@ pub struct Bench {
     pub examples: Vec<Example>,
 }
 
-// Plans which calls of the disk fail, and after how many it stops.
+// Plans which calls of the disk fail, and after how many calls it stops.
 fn plan(left: &mut Option<Left>, failing: &[Listed], stop: Option<u64>) -> bool {
     match left {
         Some(left) => {
@@ -76,6 +81,8 @@ impl Bench {
         Bench {
             answer,
             root: Vec::new(alloc),
+            base: String::new(alloc),
+            shared: Vec::new(alloc),
             script: Vec::new(alloc),
             later: Vec::new(alloc),
             setting,
@@ -95,7 +102,7 @@ impl Bench {
         self.left = fresh(self.answer.alloc, image_of(&self.left, choice));
     }
 
-    /// The disk stops after so many further calls.
+    /// The disk stops after this many further calls.
     pub fn stop(&mut self, calls: u64) {
         let planned = plan(&mut self.left, &[], Some(calls));
         self.answer.note(planned);
@@ -105,6 +112,23 @@ impl Bench {
     pub fn crash_by(&mut self, rest: &str) {
         let choice = self.answer.number_of(rest);
         self.crash(choice);
+    }
+
+    /// Begins with the root of a name, or with one without names where no name is there.
+    pub fn begin_root(&mut self, name: &str) {
+        self.root.clear();
+        self.base.clear();
+        if !name.is_empty() {
+            self.answer.copy_shared(&self.shared, name, &mut self.root);
+            self.base = self.answer.owned(name);
+        }
+    }
+
+    /// Gives the root as it is set up a name, by which later cases begin with it.
+    pub fn share_root(&mut self, name: &str) {
+        let folders = mem::replace(&mut self.root, Vec::new(self.answer.alloc));
+        self.answer.share(&mut self.shared, name, folders);
+        self.begin_root(name);
     }
 
     // Takes the script of a line that runs, where one is there.
@@ -151,25 +175,20 @@ impl Bench {
         self.left = ran(machine, rt, &self.setting.words, source, begun);
     }
 
-    // Tells how the last run ended.
+    // Prints how the last run ended, after what is printed of it already.
     fn tell_ending(&mut self, title: &str) {
-        self.answer.put("  ");
         self.answer.put(title);
         self.answer.ending(&self.left);
         self.answer.put("\n");
     }
 
-    // Runs the script over the root.
-    fn run_over<M: Machine, R: Threads + Wait + Sync>(&mut self, machine: &M, rt: &R) {
-        self.begin();
-        self.go(machine, rt, false);
-        self.tell_ending("");
-    }
-
     /// Runs a script over the root.
     pub fn run<M: Machine, R: Threads + Wait + Sync>(&mut self, machine: &M, rt: &R, script: &str) {
         self.set_any(script);
-        self.run_over(machine, rt);
+        self.begin();
+        self.go(machine, rt, false);
+        self.answer.open_over(&self.base);
+        self.tell_ending("");
     }
 
     // The root that the last run left, with each byte of its files.
@@ -191,6 +210,7 @@ impl Bench {
         let before = self.root_left();
         self.go(machine, rt, false);
         let after = self.root_left();
+        self.answer.open_over(&self.base);
         self.tell_ending(if before == after {
             "root kept, "
         } else {
@@ -198,7 +218,7 @@ impl Bench {
         });
     }
 
-    /// Runs a script over what the last run left, with its keeper.
+    /// Runs a script over what the last run left, with its annals.
     pub fn again<M: Machine, R: Threads + Wait + Sync>(
         &mut self,
         machine: &M,
@@ -207,6 +227,7 @@ impl Bench {
     ) {
         self.set_any(script);
         self.go(machine, rt, false);
+        self.answer.open();
         self.tell_ending("");
     }
 
@@ -252,6 +273,7 @@ impl Bench {
         let by_bytes = self.told_alone(machine, rt, true);
         let whole = self.told_alone(machine, rt, false);
         let plain = self.told_plain();
+        self.answer.open();
         self.tell_ending(if by_bytes == whole && plain == whole {
             "three alike, "
         } else {
@@ -259,19 +281,36 @@ impl Bench {
         });
     }
 
-    /// Runs the script so many times over the root, with one read, write or call failing in turn.
+    // Runs the script over the root, with the read, the write or the call of a number failing.
+    fn run_failing<M: Machine, R: Threads + Wait + Sync>(
+        &mut self,
+        machine: &M,
+        rt: &R,
+        what: &str,
+        number: u64,
+    ) {
+        self.answer.fail_at(&mut self.setting, what, number);
+        self.begin();
+        self.go(machine, rt, false);
+        self.answer.open_over(&self.base);
+        self.answer.put(what);
+        self.answer.put(" ");
+        self.answer.number(number);
+        self.tell_ending(": ");
+    }
+
+    /// Runs the script this many times over the root, with one read, write or call failing in turn.
     pub fn each<M: Machine, R: Threads + Wait + Sync>(&mut self, machine: &M, rt: &R, rest: &str) {
         let (what, count) = first_word(rest);
         for number in 0..self.answer.number_of(count) {
-            self.answer.fail_at(&mut self.setting, what, number);
-            self.run_over(machine, rt);
+            self.run_failing(machine, rt, what, number);
         }
     }
 
     /// Tells the names of the root that the last run left.
     pub fn names(&mut self) {
         let names = self.answer.names_of(&self.left, ALL_KEPT);
-        self.answer.put("  ");
+        self.answer.open();
         self.answer.number(names.len() as u64);
         self.answer.put(" names");
         self.answer.names(&names);
@@ -283,7 +322,7 @@ impl Bench {
         let (name, file) = first_word(rest);
         let id = self.answer.file_of(file);
         let name = Seq::of(self.answer.bytes_of(name));
-        self.answer.put("  ");
+        self.answer.open();
         self.answer.file_left(&self.left, &name, id);
         self.answer.put("\n");
     }

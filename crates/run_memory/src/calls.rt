@@ -3,7 +3,7 @@ use crate::answer::Answer;
 use crate::text::first_word;
 use column_file::{FormatFault, decode_column, decode_granule};
 use mt_base::{NoMemory, Seq};
-use mt_values::{Block, ColType, Column, Schema, Value};
+use mt_values::{Block, ColType, Column, Row, Schema, Value};
 use std::alloc::Global;
 use tsv_rows::{read_row, write_row};
 
@@ -33,8 +33,8 @@ fn one_row(alloc: Global, number: u8) -> Result<Block, NoMemory> {
 }
 
 impl Answer {
-    // The type of this name.
-    fn type_of(&mut self, word: &str) -> ColType {
+    /// The type of this name.
+    pub fn type_of(&mut self, word: &str) -> ColType {
         match type_of(word) {
             Some(of) => of,
             None => {
@@ -56,24 +56,42 @@ impl Answer {
         }
     }
 
-    // Prints the line of values, as it is shown.
-    fn line_of(&mut self, values: &[Value]) {
+    /// Prints the line of values, as it is shown.
+    pub fn line_of(&mut self, values: &[Value]) {
         let mut line = Vec::new(self.alloc);
         let written = write_row(values, &mut line).is_ok();
         self.note(written);
         self.bytes(&line);
     }
 
-    /// Prints the line of the row of one column that a line is.
-    pub fn row(&mut self, rest: &str) {
+    /// Prints the lines of rows, as they are shown.
+    pub fn lines_of(&mut self, rows: &[Row]) {
+        let mut lines = Vec::new(self.alloc);
+        for row in rows {
+            let written = write_row(row.as_slice(), &mut lines).is_ok();
+            self.note(written);
+        }
+        self.bytes(&lines);
+    }
+
+    /// The row of one column that a line is.
+    pub fn row_of(&mut self, rest: &str) -> Option<Row> {
         let (of, line) = first_word(rest);
-        self.put("  ");
         let of = self.type_of(of);
         let line = self.bytes_of(line);
         let schema = self.schema_of(of);
-        match read_row(self.alloc, &schema, &line, 1) {
-            Ok(row) => self.line_of(row.as_slice()),
-            Err(_) => self.fail("no row"),
+        let row = read_row(self.alloc, &schema, &line, 1).ok();
+        if row.is_none() {
+            self.fail("no row");
+        }
+        row
+    }
+
+    /// Prints the line of the row of one column that a line is.
+    pub fn row(&mut self, rest: &str) {
+        self.open();
+        if let Some(row) = self.row_of(rest) {
+            self.line_of(row.as_slice());
         }
     }
 
@@ -104,7 +122,7 @@ impl Answer {
         let of = self.type_of(of);
         let count = usize::try_from(self.number_of(count)).unwrap_or(usize::MAX);
         let bytes = self.bytes_of(bytes);
-        self.put("  ");
+        self.open();
         self.count_of(of, &bytes, count);
         self.put(": ");
         self.values_of(of, &bytes, count);
@@ -121,7 +139,7 @@ impl Answer {
     /// Prints how many rows a block without rows has, and one of the row of a number.
     pub fn block(&mut self, rest: &str) {
         let number = u8::try_from(self.number_of(rest)).unwrap_or(u8::MAX);
-        self.put("  ");
+        self.open();
         self.rows_of(Block::new(self.alloc, &[ColType::UInt8]));
         self.put(" and ");
         self.rows_of(one_row(self.alloc, number));

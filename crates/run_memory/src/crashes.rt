@@ -7,7 +7,7 @@ use crate::text::first_word;
 use std::sync::Wait;
 use std::thread::Threads;
 
-/// No run makes so many calls.
+/// No run makes this many calls.
 const NEVER: u64 = u64::MAX;
 
 /// Which run it is.
@@ -30,9 +30,10 @@ impl Answer {
         }
     }
 
-    // Prints how the runs end whose disk stops after so many calls.
+    // Prints how the runs end whose disk stops after this many calls.
     fn put_next(&mut self, next: u64, endings: &str) {
-        self.put("    ");
+        self.open();
+        self.put("  ");
         self.number(next);
         self.put(": ");
         self.put(endings);
@@ -41,14 +42,14 @@ impl Answer {
 }
 
 impl Bench {
-    // The first run, of the script over an empty disk that stops after so many calls.
+    // The first run, of the script over an empty disk that stops after this many calls.
     fn run_first<M: Machine, R: Threads + Wait + Sync>(&mut self, machine: &M, rt: &R, calls: u64) {
         self.clear();
         self.stop(calls);
         self.go(machine, rt, false);
     }
 
-    // A run of the later script over what is left, on a disk that stops after so many further calls.
+    // A run of the later script over what is left, on a disk that stops after this many further calls.
     fn run_later<M: Machine, R: Threads + Wait + Sync>(&mut self, machine: &M, rt: &R, calls: u64) {
         self.stop(calls);
         self.go(machine, rt, true);
@@ -75,7 +76,7 @@ impl Bench {
         self.answer.ended(told)
     }
 
-    // How a last run ends, behind the next run and a crash.
+    // How a last run ends, after the next run and a crash.
     fn last_ending<M: Machine, R: Threads + Wait + Sync>(
         &mut self,
         machine: &M,
@@ -89,7 +90,7 @@ impl Bench {
         self.ending()
     }
 
-    // How the next run ends, and behind it the last runs over each root that a crash may leave, each answer once.
+    // How the next run ends, and after it the last runs over each root that a crash may leave, each answer once.
     fn endings<M: Machine, R: Threads + Wait + Sync>(
         &mut self,
         machine: &M,
@@ -106,7 +107,7 @@ impl Bench {
         self.answer.ended(endings)
     }
 
-    // Tells how the runs behind a root end, for each number of calls after which the disk of the next run stops, from 0 up to so many. Equal
+    // Tells how the runs after a root end, for each number of calls after which the disk of the next run stops, from 0 up to a last one. Equal
     // answers that follow one another are told once.
     fn tell_root<M: Machine, R: Threads + Wait + Sync>(
         &mut self,
@@ -136,14 +137,15 @@ impl Bench {
     ) {
         for number in 0..self.answer.choices(&self.left) {
             let choice = choice_of(number);
-            self.answer.put("   crash ");
+            self.answer.open();
+            self.answer.put(" crash ");
             self.answer.number(choice);
             self.answer.put("\n");
             self.tell_root(machine, rt, calls, first, Some(choice));
         }
     }
 
-    // Tells how the first run ends that stops after so many calls.
+    // Tells how the first run ends that stops after this many calls.
     fn tell_first<M: Machine, R: Threads + Wait + Sync>(
         &mut self,
         machine: &M,
@@ -151,15 +153,15 @@ impl Bench {
         first: u64,
     ) {
         self.run_first(machine, rt, first);
-        self.answer.put("  ");
+        self.answer.open();
         self.answer.number(first);
         self.answer.put(": ");
         self.answer.ending(&self.left);
         self.answer.put("\n");
     }
 
-    /// Stops the disk of the script's run after 0 calls up to so many, and opens what it leaves, or what each crash leaves of that, by runs
-    /// whose disk stops after 0 calls up to so many.
+    /// Stops the disk of the script's run after 0 calls up to a last number, and opens what it leaves, or what each crash leaves of that, by
+    /// runs whose disk stops after 0 calls up to another number.
     pub fn stops<M: Machine, R: Threads + Wait + Sync>(
         &mut self,
         machine: &M,

@@ -9,7 +9,9 @@ impl Bench {
     fn set_root(&mut self, word: &str, rest: &str) -> bool {
         match word {
             "" | "#" => {}
-            "new" => self.root.clear(),
+            "case" => self.answer.name_case(rest),
+            "new" => self.begin_root(rest),
+            "share" => self.share_root(rest),
             "folder" => self.answer.folder(&mut self.root, rest),
             "entry" => self.answer.entry(&mut self.root, rest),
             "part" => self.answer.part(&mut self.root, rest),
@@ -51,6 +53,9 @@ impl Bench {
             "row" => self.answer.row(rest),
             "values" => self.answer.values(rest),
             "block" => self.answer.block(rest),
+            "core" => self.answer.core(rest),
+            "pin" => self.answer.pin(rest),
+            "twin" => self.answer.twin(&self.left, rest),
             _ => return false,
         }
         self.answer.put("\n");

@@ -63,13 +63,13 @@ impl Answer {
     // Prints whether a text is allowed.
     fn answer_allowed(&mut self, allowed: Result<bool, NoMemory>) {
         match allowed {
-            Ok(true) => self.put("  true"),
-            Ok(false) => self.put("  false"),
+            Ok(true) => self.put("true"),
+            Ok(false) => self.put("false"),
             Err(_) => self.note(false),
         }
     }
 
-    // Prints whether a script may leave the history that another one leaves behind none, and print a text.
+    // Prints whether a script may leave the history that another one leaves of an empty root, and print a text.
     fn allowed(&mut self, script: &[u8], other: &[u8], printed: &[u8]) {
         let script = self.statements(script);
         let other = self.statements(other);
@@ -86,6 +86,7 @@ impl Answer {
         let (script, rest) = first_word(rest);
         let (history, printed) = first_word(rest);
         let printed = self.bytes_of(printed);
+        self.open();
         match (named(examples, script), named(examples, history)) {
             (Some(script), Some(history)) => self.allowed(script, history, &printed),
             _ => self.fail("no script of this name"),

@@ -1,6 +1,6 @@
 // What a run left of the outside in memory, and how it is told.
 use crate::answer::Answer;
-use disk_mem::{KeptAnnals, MemDisk, MemSink};
+use disk_mem::{KeptAnnals, MemDir, MemDisk, MemSink};
 use mt_outside::{Disk, DiskError, Written};
 use mt_values::{Entry, FileId, Name};
 use std::alloc::Global;
@@ -19,7 +19,7 @@ const MANY: usize = 16;
 pub struct Left {
     pub status: u8,
     pub disk: MemDisk,
-    /// The keeper of the commands that were accepted.
+    /// The annals of the commands that were accepted.
     pub annals: KeptAnnals,
     /// What took the replies.
     pub sink: MemSink,
@@ -135,27 +135,36 @@ impl Answer {
         self.fail("no such file");
     }
 
-    // Prints the bytes of a file of the folder that has a name.
-    fn file_under(&mut self, disk: &mut MemDisk, name: &Name, id: FileId) {
+    // The folder that has a name on a disk.
+    fn dir_under(&mut self, disk: &mut MemDisk, name: &Name) -> Option<MemDir> {
         if disk.holds(name) {
-            match disk.open(self.alloc, name) {
-                Ok(dir) => self.file_in(dir.files(), id),
-                Err(_) => self.note(false),
-            }
-        } else {
-            self.fail("no such name");
+            let dir = disk.open(self.alloc, name).ok();
+            self.note(dir.is_some());
+            return dir;
         }
+        self.fail("no such name");
+        None
     }
 
-    /// The same of what a run left, the unsettled names too.
-    pub fn file_left(&mut self, left: &Option<Left>, name: &Name, id: FileId) {
+    /// The folder that has a name in what a run left, where the unsettled names count too.
+    pub fn dir_left(&mut self, left: &Option<Left>, name: &Name) -> Option<MemDir> {
         match image_of(left, ALL_KEPT) {
-            Some(mut image) => self.file_under(&mut image, name, id),
-            None => self.note(false),
+            Some(mut image) => self.dir_under(&mut image, name),
+            None => {
+                self.note(false);
+                None
+            }
         }
     }
 
-    /// Prints names, each behind a blank.
+    /// Prints the bytes of a file of such a folder.
+    pub fn file_left(&mut self, left: &Option<Left>, name: &Name, id: FileId) {
+        if let Some(dir) = self.dir_left(left, name) {
+            self.file_in(dir.files(), id);
+        }
+    }
+
+    /// Prints names, each after a blank.
     pub fn names(&mut self, names: &[Name]) {
         for name in names {
             self.put(" ");

@@ -1,13 +1,15 @@
 //! Cases of runs: how their lines are read, what is set up for a run, the roots that it begins with, the outside in memory and what a crash
-//! may leave of it, and what is printed of a line; scripts with what the definitions allow of them, and calls that no run makes. What runs
-//! a script stands outside, as a `Machine`.
+//! may leave of it, and what is printed of a line; scripts with what the definitions allow of them, calls that no run makes, the core
+//! as a machine of events, and copies of what is kept. What runs a script stands outside, as a `Machine`.
 #![tactic(auto)]
 
 mod answer;
 mod bench;
 mod calls;
+mod copies;
 mod crashes;
 mod directive;
+mod events;
 mod examples;
 mod filling;
 mod left;
@@ -19,5 +21,5 @@ pub use answer::Answer;
 pub use bench::{Bench, Machine};
 pub use examples::Example;
 pub use left::Left;
-pub use root::{File, Folder};
+pub use root::{File, Folder, Shared};
 pub use setting::{Change, Damage, Setting};

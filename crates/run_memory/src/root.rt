@@ -22,6 +22,23 @@ pub struct Folder {
     pub files: Vec<File>,
 }
 
+/// A root with a name, with which many cases begin.
+#[derive(Drop)]
+pub struct Shared {
+    name: String,
+    folders: Vec<Folder>,
+}
+
+// The folders of the root of this name.
+fn shared_of<'a>(shared: &'a [Shared], name: &str) -> Option<&'a [Folder]> {
+    for root in shared {
+        if root.name.as_str() == name {
+            return Some(root.folders.as_slice());
+        }
+    }
+    None
+}
+
 // The file of this name in a folder.
 fn file_of(word: &str) -> Option<FileId> {
     match word {
@@ -49,7 +66,40 @@ impl Answer {
         }
     }
 
-    // Adds the file of these bytes and of their digest behind them.
+    // A folder with the same name and files.
+    fn copied_folder(&mut self, folder: &Folder) -> Folder {
+        let mut files = Vec::new(self.alloc);
+        for file in &folder.files {
+            let bytes = self.copied(&file.bytes);
+            self.push(&mut files, File { id: file.id, bytes });
+        }
+        let name = Seq::of(self.copied(folder.name.as_slice()));
+        Folder { name, files }
+    }
+
+    /// Adds the folders of the root of this name.
+    pub fn copy_shared(&mut self, shared: &[Shared], name: &str, root: &mut Vec<Folder>) {
+        match shared_of(shared, name) {
+            Some(folders) => {
+                for folder in folders {
+                    let copy = self.copied_folder(folder);
+                    self.push(root, copy);
+                }
+            }
+            None => self.fail("no root of this name"),
+        }
+    }
+
+    /// Gives folders a name, as a root.
+    pub fn share(&mut self, shared: &mut Vec<Shared>, name: &str, folders: Vec<Folder>) {
+        if name.is_empty() || shared_of(shared, name).is_some() {
+            self.fail("a root has no name, or that of another");
+        }
+        let name = self.owned(name);
+        self.push(shared, Shared { name, folders });
+    }
+
+    // Adds the file of these bytes and of their digest, which stands at its end.
     fn seal(&mut self, files: &mut Vec<File>, id: FileId, bytes: Vec<u8>) {
         let mut bytes = bytes;
         let digest = mark_of(&bytes).digest;
@@ -101,7 +151,7 @@ impl Answer {
         self.extend(bytes, &mark.digest);
     }
 
-    // The manifest of so many rows in these files, without the digest behind it.
+    // The manifest of this many rows in these files, without the digest at its end.
     fn manifest(&mut self, rows: u64, files: &[File]) -> Vec<u8> {
         let count = u32::try_from(files.len()).unwrap_or(u32::MAX);
         let mut bytes = Vec::new(self.alloc);
@@ -114,7 +164,7 @@ impl Answer {
         bytes
     }
 
-    /// A folder with files of columns, and the manifest of so many rows in them.
+    /// A folder with files of columns, and the manifest of this many rows in them.
     pub fn part(&mut self, root: &mut Vec<Folder>, rest: &str) {
         let (name, rest) = first_word(rest);
         let (rows, columns) = first_word(rest);

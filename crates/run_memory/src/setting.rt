@@ -11,11 +11,11 @@ pub enum Change {
     /// Not at all.
     Kept,
     Missing,
-    /// Cut off behind so many bytes.
+    /// Cut off after this many bytes.
     Cut(usize),
     /// The lowest bit of the byte at a place is turned.
     Turned(usize),
-    /// A byte of zero is behind it.
+    /// A byte of zero follows it.
     Longer,
 }
 
@@ -75,7 +75,7 @@ impl Answer {
         }
     }
 
-    // The change of a word with a number behind it, where it takes one.
+    // The change of a word with a number after it, where it takes one.
     fn change_of(&mut self, text: &str) -> Change {
         let (word, number) = first_word(text);
         let number = number.parse::<usize>().unwrap_or(0);
@@ -121,7 +121,7 @@ impl Answer {
         }
     }
 
-    /// The read or the write of a number fails, or the disk stops after so many calls.
+    /// The read or the write of a number fails, or the disk stops after this many calls.
     pub fn fail_at(&mut self, setting: &mut Setting, what: &str, number: u64) {
         match what {
             "read" => setting.failing_read = Some(number),

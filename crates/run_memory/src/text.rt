@@ -23,7 +23,7 @@ fn first_byte(text: &[u8]) -> Option<(u8, &[u8])> {
     }
 }
 
-/// The first word of a line, and what stands behind the blank after it.
+/// The first word of a line, and what stands after the blank that follows it.
 pub fn first_word(text: &str) -> (&str, &str) {
     text.split_once(' ').unwrap_or((text, ""))
 }
@@ -34,9 +34,9 @@ impl Answer {
         let mut rest = text;
         // Each byte takes at least one of those that are written.
         for _ in 0..text.len() {
-            if let Some((byte, behind)) = first_byte(rest) {
+            if let Some((byte, after)) = first_byte(rest) {
                 self.push(bytes, byte);
-                rest = behind;
+                rest = after;
             }
         }
         rest
@@ -54,7 +54,7 @@ impl Answer {
         bytes
     }
 
-    // Adds a text so many times.
+    // Adds a text this many times.
     fn add_times(&mut self, bytes: &mut Vec<u8>, text: &str, count: u64) {
         let piece = self.bytes_of(text);
         for _ in 0..count {
@@ -67,7 +67,7 @@ impl Answer {
         self.add_times(bytes, text, 1);
     }
 
-    /// Adds a text as many times as the first word says.
+    /// Adds a text the number of times that the first word says.
     pub fn repeat(&mut self, bytes: &mut Vec<u8>, rest: &str) {
         let (count, text) = first_word(rest);
         let count = self.number_of(count);
@@ -85,8 +85,8 @@ impl Answer {
         }
     }
 
-    // A text of its own.
-    fn owned(&mut self, text: &str) -> String {
+    /// A text of its own.
+    pub fn owned(&mut self, text: &str) -> String {
         let mut owned = String::new(self.alloc);
         let done = owned.push_str(text).is_ok();
         self.note(done);

@@ -1,0 +1,277 @@
+// Copies of what is kept: a table that is pinned, and twins, each printed after its original.
+use crate::answer::Answer;
+use crate::events::{number_row, numbers_schema};
+use crate::left::Left;
+use crate::text::first_word;
+use digest_file::mark_of;
+use disk_mem::MemDir;
+use mt_base::{NoMemory, Partition, Seq, Twin};
+use mt_values::{ColType, Column, Loaded, Manifest, Name, Schema};
+use part_history::CorePart;
+use part_name::{PartName, text};
+use part_reader::Part;
+use part_set::{Kept, PartSet, Snap};
+use std::alloc::Global;
+
+// The name of the part that the first INSERT into a table makes.
+fn first_part() -> PartName {
+    PartName {
+        partition: Partition::Whole,
+        min_block: 1,
+        max_block: 1,
+        level: 0,
+        mutation: None,
+    }
+}
+
+// The first part of a table, of two rows of numbers.
+fn part_of(alloc: Global, table: &Name, first: u8, second: u8) -> Result<CorePart, NoMemory> {
+    let mut rows = Seq::new(alloc);
+    rows.push(number_row(alloc, first)?)?;
+    rows.push(number_row(alloc, second)?)?;
+    Ok(CorePart {
+        table: table.twin(alloc)?,
+        name: first_part(),
+        rows,
+    })
+}
+
+// What is kept of such a part, under its name.
+fn kept_part(alloc: Global, first: u8, second: u8) -> Result<Kept<CorePart>, NoMemory> {
+    let table = Seq::from_slice(alloc, b"t")?;
+    let part = part_of(alloc, &table, first, second)?;
+    let name = first_part();
+    Ok(Kept { name, part })
+}
+
+// The schema of a number `a` and a text `s`, with the key `s, a`.
+fn two_columns(alloc: Global) -> Result<Schema, NoMemory> {
+    let mut columns = Seq::new(alloc);
+    let name = Seq::from_slice(alloc, b"a")?;
+    let col_type = ColType::UInt8;
+    columns.push(Column { name, col_type })?;
+    let name = Seq::from_slice(alloc, b"s")?;
+    let col_type = ColType::Text;
+    columns.push(Column { name, col_type })?;
+    let key = Seq::from_slice(alloc, &[1, 0])?;
+    Ok(Schema { columns, key })
+}
+
+// The pin of a table with one part, at a length of the history.
+fn pinned(alloc: Global, length: u64, first: u8, second: u8) -> Result<Snap<CorePart>, NoMemory> {
+    let table = Seq::from_slice(alloc, b"t")?;
+    let part = part_of(alloc, &table, first, second)?;
+    let mut set = PartSet::new(alloc);
+    set.add(alloc, &table, first_part(), part)?;
+    let schema = numbers_schema(alloc)?;
+    set.pin(alloc, &table, &schema, length)
+}
+
+// The part of a folder with this many rows, whose manifest has the marks of all its files.
+fn stored_part(alloc: Global, rows: u64, dir: MemDir) -> Result<Part<MemDir>, NoMemory> {
+    let mut files = Seq::new(alloc);
+    for written in dir.files() {
+        files.push(mark_of(written.bytes.as_slice()))?;
+    }
+    let manifest = Manifest { rows, files };
+    Ok(Part::of(dir, Loaded { manifest }))
+}
+
+impl Answer {
+    // Prints a type.
+    fn col_type(&mut self, of: ColType) {
+        let put = write!(self.text, "{of:?}").is_ok();
+        self.note(put);
+    }
+
+    // Prints columns, each by its name and its type.
+    fn columns(&mut self, columns: &[Column]) {
+        for column in columns {
+            self.escaped(column.name.as_slice());
+            self.put(" ");
+            self.col_type(column.col_type);
+            self.put(", ");
+        }
+    }
+
+    // Prints the columns of a schema, and the places of its key in them.
+    fn schema(&mut self, schema: &Schema) {
+        self.columns(schema.columns.as_slice());
+        self.put("key");
+        for place in schema.key.as_slice() {
+            self.put(" ");
+            self.number(u64::from(*place));
+        }
+    }
+
+    // Prints the name of a part.
+    fn part_name(&mut self, name: &PartName) {
+        match text(self.alloc, name) {
+            Ok(text) => self.escaped(&text),
+            Err(_) => self.note(false),
+        }
+    }
+
+    // Prints what is kept of a part: its name, and the table, the name and the rows of the part itself.
+    fn kept_part(&mut self, kept: &Kept<CorePart>) {
+        self.part_name(&kept.name);
+        self.put(": ");
+        self.escaped(kept.part.table.as_slice());
+        self.put(" ");
+        self.part_name(&kept.part.name);
+        self.put(" ");
+        self.lines_of(kept.part.rows.as_slice());
+    }
+
+    // Prints a part of a disk: its number of rows, the marks of its manifest, and the bytes of the files of its folder.
+    fn stored(&mut self, part: &Part<MemDir>) {
+        self.number(part.rows());
+        self.put(" rows");
+        for mark in part.loaded.manifest.files.as_slice() {
+            self.put(", ");
+            self.mark(*mark);
+        }
+        for written in part.dir.files() {
+            self.put(", ");
+            self.bytes(written.bytes.as_slice());
+        }
+    }
+
+    // What a call gave, where it is not out of memory.
+    fn given<T: Drop>(&mut self, answer: Result<T, NoMemory>) -> Option<T> {
+        self.note(answer.is_ok());
+        answer.ok()
+    }
+
+    // The twin of a value.
+    fn twin_of<T: Twin>(&mut self, original: &T) -> Option<T> {
+        let twin = original.twin(self.alloc);
+        self.put(" and ");
+        self.given(twin)
+    }
+
+    /// Prints what a pinned table has: its schema, its one part with two rows, and the length of the history.
+    pub fn pin(&mut self, rest: &str) {
+        self.open();
+        let (length, rest) = first_word(rest);
+        let (first, second) = first_word(rest);
+        let length = self.number_of(length);
+        let first = self.small_of(first);
+        let second = self.small_of(second);
+        let snap = pinned(self.alloc, length, first, second);
+        if let Some(snap) = self.given(snap) {
+            self.schema(&snap.schema);
+            self.put("; ");
+            for kept in &snap.parts {
+                self.kept_part(kept);
+            }
+            self.put("; length ");
+            self.number(snap.length);
+        }
+    }
+
+    // Prints a number and its twins, of 8, of 32 and of 64 bits.
+    fn twin_number(&mut self, rest: &str) {
+        let number = self.small_of(rest);
+        self.number(u64::from(number));
+        if let Some(twin) = self.twin_of(&number) {
+            self.number(u64::from(twin));
+        }
+        if let Some(twin) = self.twin_of(&u32::from(number)) {
+            self.number(u64::from(twin));
+        }
+        if let Some(twin) = self.twin_of(&u64::from(number)) {
+            self.number(twin);
+        }
+    }
+
+    // Prints a name and its twin.
+    fn twin_name(&mut self, rest: &str) {
+        let name = Seq::of(self.bytes_of(rest));
+        self.bytes(name.as_slice());
+        if let Some(twin) = self.twin_of(&name) {
+            self.bytes(twin.as_slice());
+        }
+    }
+
+    // Prints a type and its twin.
+    fn twin_type(&mut self, rest: &str) {
+        let of = self.type_of(rest);
+        self.col_type(of);
+        if let Some(twin) = self.twin_of(&of) {
+            self.col_type(twin);
+        }
+    }
+
+    // Prints the schema of two columns, of which the second comes first in the key, and its twin.
+    fn twin_schema(&mut self) {
+        let schema = two_columns(self.alloc);
+        if let Some(schema) = self.given(schema) {
+            self.schema(&schema);
+            if let Some(twin) = self.twin_of(&schema) {
+                self.schema(&twin);
+            }
+        }
+    }
+
+    // Prints the row of one column that a line is, and its twin.
+    fn twin_row(&mut self, rest: &str) {
+        if let Some(row) = self.row_of(rest) {
+            self.line_of(row.as_slice());
+            if let Some(twin) = self.twin_of(&row) {
+                self.line_of(twin.as_slice());
+            }
+        }
+    }
+
+    // Prints what is kept of a part with two rows, and its twin.
+    fn twin_part(&mut self, rest: &str) {
+        let (first, second) = first_word(rest);
+        let first = self.small_of(first);
+        let second = self.small_of(second);
+        let kept = kept_part(self.alloc, first, second);
+        if let Some(kept) = self.given(kept) {
+            self.kept_part(&kept);
+            if let Some(twin) = self.twin_of(&kept) {
+                self.kept_part(&twin);
+            }
+        }
+    }
+
+    // Prints the part of a folder, with this many rows, and its twin.
+    fn twin_folder(&mut self, rows: u64, dir: MemDir) {
+        let part = stored_part(self.alloc, rows, dir);
+        if let Some(part) = self.given(part) {
+            self.stored(&part);
+            if let Some(twin) = self.twin_of(&part) {
+                self.stored(&twin);
+            }
+        }
+    }
+
+    // The same of the folder that has a name in what the last run left.
+    fn twin_stored(&mut self, left: &Option<Left>, rest: &str) {
+        let (rows, name) = first_word(rest);
+        let rows = self.number_of(rows);
+        let name = Seq::of(self.bytes_of(name));
+        if let Some(dir) = self.dir_left(left, &name) {
+            self.twin_folder(rows, dir);
+        }
+    }
+
+    /// Prints a value of a kind, and the twins of it.
+    pub fn twin(&mut self, left: &Option<Left>, rest: &str) {
+        self.open();
+        let (kind, rest) = first_word(rest);
+        match kind {
+            "number" => self.twin_number(rest),
+            "name" => self.twin_name(rest),
+            "type" => self.twin_type(rest),
+            "schema" => self.twin_schema(),
+            "row" => self.twin_row(rest),
+            "part" => self.twin_part(rest),
+            "stored" => self.twin_stored(left, rest),
+            _ => self.fail("nothing of this name has a twin"),
+        }
+    }
+}

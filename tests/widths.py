@@ -1,0 +1,170 @@
+#!/usr/bin/env python3
+"""Counts what the style of docs/CONTRIBUTING.md wants small, and prints each place with its file and line, and a total for each kind:
+
+contracts of more than seven clauses, clauses wider than 100 columns, relations of specs/ with more than five explicit arguments, and
+functions of more than 40 lines, their contracts not counted. It also compares the list of crates of docs/architecture.md with
+crates.txt. It reads the repository alone, and takes a moment. The status is 0 whatever it finds, or 1 where the lists differ.
+"""
+import glob
+import os
+import re
+import sys
+
+ROOT = os.path.dirname(os.path.dirname(os.path.realpath(__file__)))
+MOST_CLAUSES, MOST_COLUMNS, MOST_ARGUMENTS, MOST_LINES = 7, 100, 5, 40
+FUNCTION = re.compile(r"^( *)(?:pub(?:\([a-z]+\))? )?(?:const |unsafe )*fn (\w+)")
+CLAUSE = re.compile(r"^ *(?:requires|ensures)\b")
+RELATION = re.compile(r"^(?:pub record|abbrev pub) (\S+)(.*)$")
+
+
+def lines_of(path):
+    with open(os.path.join(ROOT, path), encoding="utf-8") as file:
+        return file.read().split("\n")
+
+
+def files(pattern):
+    return sorted(os.path.relpath(path, ROOT) for path in glob.glob(os.path.join(ROOT, pattern), recursive=True))
+
+
+class Function:
+    """A function with its clauses. It is read line by line: its signature, its contract and its body."""
+
+    def __init__(self, path, line, indent, name):
+        self.path, self.line, self.indent, self.name = path, line, indent, name
+        self.clauses, self.wide, self.lines = [], [], 0
+
+
+def functions(path):
+    """The functions of a file of code, in rt fmt's layout: a body ends with a brace under the `fn`."""
+    one, in_body, found = None, False, []
+    for number, line in enumerate(lines_of(path), 1):
+        if one is None:
+            begins = FUNCTION.match(line)
+            if not begins:
+                continue
+            one, in_body = Function(path, number, begins[1], begins[2]), False
+            found.append(one)
+        text = line.strip()
+        if in_body or not (CLAUSE.match(line) or one.clauses) or text in ("{", "{}", "where"):
+            one.lines += 1
+        if not in_body:
+            if CLAUSE.match(line):
+                one.clauses.append(number)
+            if one.clauses and text not in ("{", "{}") and len(line) > MOST_COLUMNS and one.clauses[-1] not in one.wide:
+                one.wide.append(one.clauses[-1])
+            in_body = text == "{" or (not one.clauses and text.endswith("{"))
+            if text == "{}" or text.endswith(";") or (not one.clauses and text.endswith("}")):
+                one = None
+        elif line.startswith(one.indent + "}"):
+            one = None
+    return found
+
+
+def pieces(telescope, split):
+    """A type split where no bracket is open."""
+    depth, piece, found = 0, "", []
+    for sign in telescope:
+        depth += (sign in "({[") - (sign in ")}]")
+        if sign == split and depth == 0:
+            found.append(piece.strip())
+            piece = ""
+        else:
+            piece += sign
+    return found + [piece.strip()]
+
+
+def explicit(domain):
+    """How many arguments a domain takes that are written at each use."""
+    groups = re.findall(r"\(([^():]+) : ", domain) if domain.startswith("(") else None
+    if domain.startswith("{"):
+        return 0
+    return sum(len(group.split()) for group in groups) if groups else 1
+
+
+def record_arguments(rest):
+    head = pieces(rest, ":")[0]
+    depth, count, group = 0, 0, ""
+    for sign in head:
+        depth += (sign in "({") - (sign in ")}")
+        group += sign
+        if depth == 0 and group.strip():
+            count += explicit(group.strip()) if group.strip()[0] in "({" else 0
+            group = ""
+    return count
+
+
+def relations(path):
+    """The relations of a file of definitions, each with its line and the number of its explicit arguments."""
+    lines = lines_of(path)
+    for number, line in enumerate(lines, 1):
+        begins = RELATION.match(line)
+        if not begins:
+            continue
+        rest, more = begins[2], number
+        while more < len(lines) and lines[more].startswith("    ") and "Type 0" not in rest:
+            rest += " " + lines[more].strip()
+            more += 1
+        if line.startswith("pub record"):
+            yield number, begins[1], record_arguments(rest)
+        elif rest.startswith(" : ") and rest.rstrip().endswith("Type 0"):
+            yield number, begins[1], sum(map(explicit, pieces(rest[3:], "→")[:-1]))
+
+
+def crates_of_architecture():
+    """The crates of the table of docs/architecture.md, each with what it stands on."""
+    listed = {}
+    for line in lines_of("docs/architecture.md"):
+        cells = line.split(" | ")
+        name = re.match(r"^\| `(\w+)`$", cells[0])
+        if name and len(cells) == 3:
+            listed[name[1]] = set(re.findall(r"`(\w+)`", cells[2]))
+    return listed
+
+
+def crates_of_list():
+    """The crates of crates.txt, each with those of the repository that it stands on."""
+    listed = {}
+    for line in lines_of("crates.txt"):
+        name, colon, low = line.split("#")[0].partition(":")
+        if colon:
+            listed[name.split()[0]] = set(low.split())
+    return {name: low & set(listed) for name, low in listed.items()}
+
+
+def report(title, places):
+    for place in places:
+        print(f"  {place}")
+    print(f"{title}: {len(places)}")
+
+
+def differences():
+    told, listed = crates_of_architecture(), crates_of_list()
+    for name in sorted(set(told) | set(listed)):
+        if name not in told:
+            yield f"docs/architecture.md lacks {name}"
+        elif name not in listed:
+            yield f"docs/architecture.md has {name}, which crates.txt lacks"
+        elif told[name] != listed[name]:
+            lacks, has = sorted(listed[name] - told[name]), sorted(told[name] - listed[name])
+            yield f"{name}: docs/architecture.md lacks {lacks}, and has {has} beyond crates.txt"
+
+
+def main():
+    found = [one for path in files("crates/*/src/**/*.rt") for one in functions(path)]
+    many = [one for one in found if len(one.clauses) > MOST_CLAUSES]
+    report("contracts over 7 clauses", [f"{one.path}:{one.line} {one.name}: {len(one.clauses)}" for one in many])
+    report("clauses over 100 columns", [f"{one.path}:{line} {one.name}" for one in found for line in one.wide])
+    named = [(path, *one) for path in files("crates/*/specs/**/*.antt") for one in relations(path)]
+    report(
+        "relations over 5 arguments",
+        [f"{path}:{line} {name}: {count}" for path, line, name, count in named if count > MOST_ARGUMENTS],
+    )
+    long = [one for one in found if one.lines > MOST_LINES]
+    report("functions over 40 lines", [f"{one.path}:{one.line} {one.name}: {one.lines}" for one in long])
+    differ = list(differences())
+    report("differences between the lists of crates", differ)
+    return 1 if differ else 0
+
+
+if __name__ == "__main__":
+    sys.exit(main())
