@@ -3,10 +3,10 @@ use Rattle.std.specs.Prelude.{◌≡◌, ◌⊎◌, ◌↔◌, ◌-◌, ◌^◌,
 use Rattle.mt_outside.specs.declared.disk.DiskError.{DiskError}
 use Rattle.mt_outside.specs.declared.disk.DiskError.TheVariants.{Fault}
 use Rattle.mt_outside.specs.Disk.{Told}
-use Rattle.call_plan.specs.declared.plan.CallKind.{CallKind}
-use Rattle.call_plan.specs.declared.plan.CallKind.TheVariants as kind
-use Rattle.call_plan.specs.declared.plan.Plan.{Plan}
-use Rattle.call_plan.specs.Plan.{IsListed, is_listed, called, taken}
+use Rattle.fault_plan.specs.declared.plan.CallKind.{CallKind}
+use Rattle.fault_plan.specs.declared.plan.CallKind.TheVariants as kind
+use Rattle.fault_plan.specs.declared.plan.Plan.{Plan}
+use Rattle.fault_plan.specs.Plan.{IsListed, is_listed, called, taken}
 
 -- what it tells, the path that it was started with, its mark, which of its calls fail, and how many more of them pass where it is to stop
 pub record DiskState : Type 0 where

@@ -3,10 +3,10 @@ ghost use Rattle.std.specs.Prelude.{◌≡◌, ◌≤◌, ◌<◌, [], IfOk, len
 ghost use Rattle.mt_outside.specs.Causes.{Rose};
 ghost use Rattle.mt_outside.specs.DiskCauses.{HasDiskCause};
 ghost use Rattle.mt_outside.specs.Files.{bytes_of, ReadsAt};
-ghost use Rattle.call_plan.specs.Plan.{FailsAsListed, next_stage, taken};
+ghost use Rattle.fault_plan.specs.Plan.{FailsAsListed, next_stage, taken};
 
 use crate::folder::{MemDir, MemStage};
-use call_plan::{CallKind, Plan};
+use fault_plan::{CallKind, Plan};
 use mt_base::NoMemory;
 use mt_outside::{Arm, DiskError, Written};
 use mt_values::FileId;
@@ -19,7 +19,7 @@ pub struct MemArm {
 }
 
 impl Model for MemArm {
-    ghost use Rattle.call_plan.specs.declared.plan.Plan.{Plan};
+    ghost use Rattle.fault_plan.specs.declared.plan.Plan.{Plan};
 
     ghost Value = { Plan };
 

@@ -1,9 +1,9 @@
 // The calls of a disk in memory.
 ghost use Rattle.std.specs.Prelude.{◌≡◌, ◌≤◌, ◌||◌, None, []};
-ghost use Rattle.call_plan.specs.Plan.{is_listed, called, fresh};
+ghost use Rattle.fault_plan.specs.Plan.{is_listed, called, fresh};
 ghost use Rattle.disk_mem.specs.Disks.{at_stop, one_less};
 
-use call_plan::{CallKind, Plan};
+use fault_plan::{CallKind, Plan};
 use std::alloc::Global;
 
 /// The calls of a disk, which may stop.

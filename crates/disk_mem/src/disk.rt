@@ -4,15 +4,15 @@ ghost use Rattle.mt_outside.specs.Causes.{Rose};
 ghost use Rattle.mt_outside.specs.DiskCauses.{HasDiskCause, HasStageCause};
 ghost use Rattle.mt_outside.specs.Disk.{AllBy, Image, names_of, files_at, with_change};
 ghost use Rattle.outside_streams.specs.Counts.{next};
-ghost use Rattle.crash_choice.specs.Images.{image_told};
+ghost use Rattle.fault_plan.specs.Images.{image_told};
 ghost use Rattle.disk_mem.specs.Disks.{FailsOrStops, SyncFails, takes};
-ghost use Rattle.call_plan.specs.Plan.{fresh, next_arm, taken};
+ghost use Rattle.fault_plan.specs.Plan.{fresh, next_arm, taken};
 
 use crate::arm::MemArm;
 use crate::calls::DiskCalls;
 use crate::folder::{MemDir, MemStage};
 use crate::root::Root;
-use call_plan::{CallKind, Listed};
+use fault_plan::{CallKind, Listed};
 use mt_base::NoMemory;
 use mt_outside::{Change, Disk, DiskError};
 use mt_values::Name;
@@ -84,7 +84,7 @@ impl MemDisk {
     /// whether the one with this number, from 0, has, and those from the 63rd on have. Where bit 63 is set, each file whose last append wasn't synced
     /// has as many zero bytes as half its length, rounded down. All that happened is settled: the mark is one above, as far as 64 bits count.
     /// The new disk was not started. No call of it is listed, none was made, and no stop is set.
-    #[tactic(auto, using(crash_choice::proofs::Images::image_leads))]
+    #[tactic(auto, using(fault_plan::proofs::Images::image_leads))]
     pub fn image(&self, choice: u64) -> Result<MemDisk, NoMemory>
         ensures image { IfOk result (λ d. Image self.now.told self.now.clock (names_of d.told)) }
         ensures told { IfOk result (λ d. d.told ≡ image_told choice self.now.clock self.now.told) }

@@ -2,9 +2,9 @@
 ghost use Rattle.std.specs.Prelude.{◌≡◌, [], IfOk, OnOk, OnErr};
 ghost use Rattle.mt_outside.specs.DiskCauses.{HasDiskCause};
 ghost use Rattle.mt_outside.specs.Files.{appended, settled_file};
-ghost use Rattle.call_plan.specs.Plan.{FailsAsListed};
+ghost use Rattle.fault_plan.specs.Plan.{FailsAsListed};
 
-use call_plan::{CallKind, Plan};
+use fault_plan::{CallKind, Plan};
 use mt_base::{NoMemory, Seq};
 use mt_outside::{Dir, DiskError, Files, Stage, Written};
 use mt_values::FileId;

@@ -2,11 +2,11 @@
 ghost use Rattle.std.specs.Prelude.{◌≡◌, ◌+◌, ◌<◌, ◌≤◌, ◌++◌, ◌∷◌, [], IfOk, OnOk, map};
 ghost use Rattle.mt_outside.specs.Disk.{names_after, before_clock, at_clock};
 ghost use Rattle.outside_streams.specs.Counts.{next};
-ghost use Rattle.crash_choice.specs.Images.{happened, left_files, left_stamped, image_told};
+ghost use Rattle.fault_plan.specs.Images.{happened, left_files, left_stamped, image_told};
 
 use crate::folder::MemDir;
 use crate::root::{Root, make};
-use crash_choice::{has_happened, loses, lost_files};
+use fault_plan::{has_happened, loses, lost_files};
 use mt_base::{NoMemory, Twin};
 use mt_outside::{Change, Stamped};
 use mt_values::Name;

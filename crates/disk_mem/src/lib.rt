@@ -11,8 +11,8 @@ mod root;
 
 pub use annals::{CountedAnnals, KeptAnnals};
 pub use arm::MemArm;
-pub use call_plan::{CallKind, Listed};
-pub use crash_choice::{
+pub use fault_plan::{CallKind, Listed};
+pub use fault_plan::{
     images_are_reached_by_choices, images_are_started_again, images_of_an_image_are_images,
 };
 pub use disk::MemDisk;

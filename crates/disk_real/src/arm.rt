@@ -4,7 +4,7 @@ ghost use Rattle.std.specs.Prelude.{◌≡◌, ◌≤◌, ℕ, IfOk, length};
 use crate::folder::{RealDir, RealStage, file_path};
 use crate::numbers::draw;
 use crate::system::{Found, System, find, is_folder, open_to_read, read_at};
-use disk_names::owned;
+use file_names::owned;
 use mt_base::{FileId, NoMemory};
 use mt_outside::{Arm, DiskError};
 use outside_streams::Faults;

@@ -1,13 +1,13 @@
 // A folder of the system as a disk.
 ghost use Rattle.std.specs.Prelude.{◌≡◌, ◌<◌, ◌⊎◌, IfOk, IsErr, IsErrOf, IsSome, IsTrue, None, OnErr, OnOk, Some};
-ghost use Rattle.disk_names.specs.Names.{is_root_name};
+ghost use Rattle.file_names.specs.Names.{is_root_name};
 
 use crate::arm::RealArm;
 use crate::folder::{RealDir, RealStage};
 use crate::numbers::draw;
 use crate::root::Root;
 use crate::system::{System, is_folder, names_in, publish_folder, sync_folder, take_away};
-use disk_names::{path_in, root_name};
+use file_names::{path_in, root_name};
 use mt_base::{Name, NoMemory};
 use mt_outside::{Disk, DiskError};
 use outside_streams::Faults;

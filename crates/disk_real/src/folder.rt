@@ -5,7 +5,7 @@ ghost use Rattle.disk_real.specs.Stages.{has, without};
 use crate::handles::Handles;
 use crate::system::{System, fault, make_folder, open_at_end, remove_folder, sync_file};
 use crate::tries::write_whole;
-use disk_names::path_in;
+use file_names::path_in;
 use mt_base::{FileId, NoMemory};
 use mt_outside::{Dir, DiskError, Stage};
 use outside_streams::Faults;

@@ -14,7 +14,7 @@ mod tries;
 
 pub use arm::RealArm;
 pub use disk::RealDisk;
-pub use disk_names::is_root_name;
+pub use file_names::is_root_name;
 pub use folder::{RealDir, RealStage};
 pub use mt_outside::OpenGate;
 pub use outside_streams::{MOST_TRIES, StdSink, StdSource};

@@ -2,7 +2,7 @@
 ghost use Rattle.std.specs.Prelude.{◌≡◌, IfOk, string_bytes};
 
 use crate::system::{System, lock_file, make_where_missing, sync_folder};
-use disk_names::{owned, path_in};
+use file_names::{owned, path_in};
 use mt_outside::DiskError;
 use std::alloc::Global;
 use std::fs::File;

@@ -3,7 +3,7 @@ ghost use Rattle.std.specs.Prelude.{◌≡◌, ◌↔◌, ◌≤◌, length, IfO
 ghost use Rattle.std.specs.Fs.{IsFile, file_type};
 
 use crate::tries::read_whole;
-use disk_names::add_shown_names;
+use file_names::add_shown_names;
 use mt_base::{Name, NoMemory};
 use mt_outside::DiskError;
 use outside_streams::MOST_TRIES;

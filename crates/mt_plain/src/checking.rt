@@ -7,7 +7,7 @@ ghost use Rattle.mt_plain.specs.Plain.{calm};
 use super::running::run;
 use mt_base::NoMemory;
 use mt_values::{Cause, Command, Entry, Insert, Statement};
-use plain_base::{same_blocks, same_creates};
+use crate::{same_blocks, same_creates};
 use std::alloc::Global;
 
 /// Whether a script without a history before it, over an outside without faults, may have left this history and printed

@@ -12,7 +12,7 @@ use mt_model::{Refusal, resolve};
 use mt_values::{
     Block, Command, Create, CreateText, Entry, Insert, InsertText, Name, Partition, Row, Schema,
 };
-use plain_base::{partitions_of, read_block, rows_in, rows_of, schema_of};
+use crate::{partitions_of, read_block, rows_in, rows_of, schema_of};
 use std::alloc::Global;
 
 /// The command of a CREATE, or why its text refuses it.

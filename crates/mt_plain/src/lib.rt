@@ -1,21 +1,38 @@
 //! The plain program: what the definitions say, done the slow and plain way over small inputs.
 #![tactic(auto)]
 
+mod blocks;
 mod checking;
 mod commands;
+mod comparing;
+mod data;
+mod entries;
+mod keys;
 mod lines;
 mod live;
+mod partitions;
+mod printing;
+mod replies;
 mod running;
 mod selecting;
 mod sorting;
+mod tables;
 mod turns;
 
+pub use blocks::{rows_of, same_blocks};
 pub use checking::allows;
 pub use commands::{create_commands, insert_commands};
+pub use comparing::{Order, compare};
+pub use data::read_block;
+pub use entries::enter;
+pub use keys::{key_values, picked_rows};
 pub use lines::lines_of;
 pub use live::live_rows;
-pub use plain_base::{Order, creates, inserts, last_number, schema_of};
+pub use partitions::{partitions_of, rows_in, same_partition};
+pub use printing::all_lines;
+pub use replies::rows_reply;
 pub use running::{Outcome, run, step};
 pub use selecting::answer;
 pub use sorting::sorted_rows;
+pub use tables::{creates, inserts, last_number, same_creates, schema_of};
 pub use turns::accept;

@@ -5,7 +5,7 @@ ghost use Rattle.mt_model.specs.Answer.{Prints};
 use super::sorting::sorted_rows;
 use mt_base::NoMemory;
 use mt_values::{Bytes, Row};
-use plain_base::{Order, all_lines};
+use crate::{Order, all_lines};
 use std::alloc::Global;
 
 /// The rows' lines, sorted by the columns from left to right.

@@ -5,7 +5,7 @@ ghost use Rattle.mt_model.specs.Live.{live, rows_after};
 use super::sorting::sorted_rows;
 use mt_base::NoMemory;
 use mt_values::{Command, Entry, Name, Row, Schema};
-use plain_base::{Order, rows_of};
+use crate::{Order, rows_of};
 use std::alloc::Global;
 
 /// The rows of a table of this schema after all commands.

@@ -14,7 +14,7 @@ use super::turns::accept;
 use mt_base::{NoMemory, Twin};
 use mt_model::{Refusal, ok_line, refusal_line};
 use mt_values::{Cause, Command, CreateText, Entry, InsertText, SelectText, Statement};
-use plain_base::{rows_reply, schema_of};
+use crate::{rows_reply, schema_of};
 use std::alloc::Global;
 
 /// The accepted commands of a run, and what it printed.

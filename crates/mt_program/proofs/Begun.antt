@@ -10,9 +10,9 @@ use Rattle.mt_values.specs.Annals.{Told}
 use Rattle.mt_model.specs.History.{History}
 use Rattle.mt_model.specs.Outside.{Outside}
 use Rattle.mt_model.specs.Session.{IsNext, SessionReplies}
-use Rattle.reply_lines.specs.Foreseen.{history, is_unsettled}
-use Rattle.reply_lines.proofs.Ends.{length_history}
-use Rattle.command_turn.specs.Answers.{BeginsNext, IsBegun}
+use Rattle.replies.specs.Foreseen.{history, is_unsettled}
+use Rattle.replies.proofs.Ends.{length_history}
+use Rattle.session.specs.Answers.{BeginsNext, IsBegun}
 use Rattle.mt_program.specs.Courses.{Course, IsBegunBy, IsNextOf, Item, course_of, started}
 use Rattle.mt_program.proofs.Gaining.{next_of}
 

@@ -16,8 +16,8 @@ use Rattle.root_store.specs.Crashes.{AllStand, IsFirstOf, IsMarkAfter, Storage, 
 use Rattle.root_store.specs.Roots.{PartIsThere, Stands}
 use Rattle.root_store.proofs.CrashMarks.{safe_stands}
 use Rattle.root_commits.proofs.StartedAgain.{started_again as one_again}
-use Rattle.reply_lines.specs.Foreseen.{history, is_unsettled}
-use Rattle.exit_status.specs.declared.status.Status.{Status}
+use Rattle.replies.specs.Foreseen.{history, is_unsettled}
+use Rattle.mt_program.specs.declared.status.Status.{Status}
 use Rattle.mt_program.specs.Crashes.{LeavesForCrashes}
 use Rattle.mt_program.specs.Courses.{Item}
 use Rattle.mt_program.specs.Headline.{Headline}

@@ -7,21 +7,21 @@ use Rattle.std.proofs.Math.Seq.{take-append_seam}
 use Rattle.mt_values.specs.declared.annals.Noted.{Noted}
 use Rattle.mt_values.specs.Annals.{Told}
 use Rattle.mt_model.specs.History.{History}
-use Rattle.reply_lines.proofs.Ends.{length_history}
+use Rattle.replies.proofs.Ends.{length_history}
 use Rattle.mt_values.specs.Script.{statements_of}
 use Rattle.mt_outside.specs.Causes.{Rose}
 use Rattle.mt_model.specs.Causes.{NoneMeets}
 use Rattle.mt_model.proofs.Unrefused.{none_refused as calm_script}
-use Rattle.reply_lines.specs.Foreseen.{history}
+use Rattle.replies.specs.Foreseen.{history}
 use Rattle.mt_model.specs.Script.{ScriptReplies}
 use Rattle.mt_model.specs.Session.{AddsNothing, SessionReplies}
 use Rattle.mt_program.specs.Courses.{Course, GoesUnanswered, Item, RunOf, started, with_last}
 use Rattle.mt_program.specs.Headline.{AnsweredAll, Headline}
 use Rattle.mt_program.specs.Worlds.{World, counts_of}
-use Rattle.exit_status.specs.Statuses.{number_of}
+use Rattle.mt_program.specs.Statuses.{number_of}
 use Rattle.run_streams.specs.Streams.{ConsumesMost}
-use Rattle.exit_status.specs.declared.status.Status.{Status}
-use Rattle.exit_status.specs.declared.status.Status.TheVariants as status
+use Rattle.mt_program.specs.declared.status.Status.{Status}
+use Rattle.mt_program.specs.declared.status.Status.TheVariants as status
 
 -- of a status that is none of the others
 pub zero_or_six : (s : Status) → (s ≡ status.NotWords → ⊥) → (s ≡ status.ReadFault → ⊥) → (s ≡ status.WriteFault → ⊥) → (s ≡ status.DiskFault → ⊥) → (s ≡ status.Damaged → ⊥) → (s ≡ status.TooLong → ⊥)

@@ -15,12 +15,12 @@ use Rattle.mt_model.specs.Session.{IsNext, SessionGives, Unanswered}
 use Rattle.mt_model.proofs.Gained.{gives_append, gives_more, next_more, takes_give}
 use Rattle.mt_model.proofs.Growing.{stays}
 use Rattle.durable_commit.specs.Commits.{entry_of}
-use Rattle.reply_lines.specs.Foreseen.{Foresees, history}
-use Rattle.reply_lines.proofs.Ends.{length_history}
+use Rattle.replies.specs.Foreseen.{Foresees, history}
+use Rattle.replies.proofs.Ends.{length_history}
 use Rattle.root_store.specs.declared.store.CoreStore.{CoreStore}
 use Rattle.root_store.specs.Crashes.{StandsForKept}
 use Rattle.root_store.specs.Stores.{CoreStands}
-use Rattle.command_turn.specs.Answers.{Answered, BeginsNext, IsBegun, Keeps}
+use Rattle.session.specs.Answers.{Answered, BeginsNext, IsBegun, Keeps}
 use Rattle.mt_program.specs.Crashes.{IsGainedBy, MayBeBegunBy, MayBeNextOf}
 use Rattle.mt_program.specs.Courses.{Item}
 

@@ -21,14 +21,14 @@ use Rattle.run_streams.specs.declared.streams.ReadStop.{ReadStop}
 use Rattle.run_streams.specs.declared.streams.ReadStop.TheVariants as unread
 use Rattle.mt_program.specs.declared.serving.Ending.{Ending}
 use Rattle.mt_program.specs.declared.serving.Ending.TheVariants as ending
-use Rattle.reply_lines.specs.declared.tally.Tally.{Tally}
-use Rattle.exit_status.specs.declared.status.Status.{Status}
-use Rattle.exit_status.specs.declared.status.Status.TheVariants as status
-use Rattle.reply_lines.specs.Foreseen.{Foresees, history}
+use Rattle.replies.specs.declared.tally.Tally.{Tally}
+use Rattle.mt_program.specs.declared.status.Status.{Status}
+use Rattle.mt_program.specs.declared.status.Status.TheVariants as status
+use Rattle.replies.specs.Foreseen.{Foresees, history}
 use Rattle.mt_program.specs.Endings.{IsAnswered, IsEarly, LeftBy, MetNoDamage, settled, status_of, status_of_error, status_of_stop}
 use Rattle.mt_program.specs.Headline.{AnsweredAll, AnsweredRead, EndsBy, Headline, NothingRan}
 use Rattle.mt_program.specs.Worlds.{Starts, World, counts_of}
-use Rattle.exit_status.specs.Statuses.{number_of}
+use Rattle.mt_program.specs.Statuses.{number_of}
 use Rattle.mt_program.specs.Courses.{Course, GoesUnanswered, Item, RunOf, course_of}
 use Rattle.mt_program.specs.Serving.{Ran, ServedBy}
 use Rattle.root_opening.specs.declared.opening.Damage.{Damage}
@@ -39,7 +39,7 @@ use Rattle.root_opening.specs.Opening.{IsNotDamaged, IsRootDamage, TellsDamage}
 use Rattle.root_store.specs.Roots.{Stands}
 use Rattle.root_store.specs.Soundness.{RootStands}
 use Rattle.mt_program.specs.Damage.{WritesDamage, WritesFault, damage_line}
-use Rattle.reply_lines.proofs.Ends.{added_nothing, length_history}
+use Rattle.replies.proofs.Ends.{added_nothing, length_history}
 use Rattle.mt_program.proofs.Gaining.{idle}
 use Rattle.mt_program.proofs.ServedScripts.{none_stopped}
 

@@ -6,9 +6,9 @@ use Rattle.mt_values.specs.declared.statement.Statement.TheVariants as statement
 use Rattle.mt_values.specs.Annals.{Told}
 use Rattle.mt_outside.specs.Disk as root
 use Rattle.mt_outside.specs.Files.{Files}
-use Rattle.command_turn.specs.Answers.{Answers}
-use Rattle.command_turn.proofs.Accepting.{answered_nothing}
-use Rattle.reply_lines.specs.Foreseen.{Selected, history}
+use Rattle.session.specs.Answers.{Answers}
+use Rattle.session.proofs.Accepting.{answered_nothing}
+use Rattle.replies.specs.Foreseen.{Selected, history}
 use Rattle.root_store.specs.declared.store.CoreStore.{CoreStore}
 use Rattle.root_store.specs.Stores.{CoreStands}
 

@@ -16,23 +16,23 @@ use Rattle.mt_model.specs.Session.{SessionReplies}
 use Rattle.mt_model.specs.Written.{IsWritten}
 use Rattle.mt_model.proofs.Keys.{statements_are}
 use Rattle.mt_model.proofs.Replies.{replies_more, replies_append}
-use Rattle.reply_lines.specs.declared.tally.Tally.{Tally}
+use Rattle.replies.specs.declared.tally.Tally.{Tally}
 use Rattle.root_store.specs.declared.store.CoreStore.{CoreStore}
 use Rattle.root_store.specs.Soundness.{RootStands}
 use Rattle.root_store.specs.Stores.{CoreStands}
-use Rattle.command_turn.specs.Answers.{Answered, Keeps}
+use Rattle.session.specs.Answers.{Answered, Keeps}
 use Rattle.std.proofs.lemmas.Bool.Decides.{nat_tests}
-use Rattle.reply_lines.specs.Causes.{HasCauses}
-use Rattle.reply_lines.specs.Foreseen.{Foresees, history, is_unsettled}
+use Rattle.replies.specs.Causes.{HasCauses}
+use Rattle.replies.specs.Foreseen.{Foresees, history, is_unsettled}
 use Rattle.mt_program.specs.Courses.{AreSettled, AreStopped, IsBegunBy, Item, Tells, course_of}
 use Rattle.mt_program.specs.Serving.{Ran, Served, ServedBy}
 use Rattle.mt_program.proofs.Begun.{begun_answered, begun_unanswered, replies_length}
 use Rattle.mt_model.specs.Outside.{Outside}
-use Rattle.reply_lines.proofs.Ends.{length_history}
+use Rattle.replies.proofs.Ends.{length_history}
 use Rattle.mt_program.specs.declared.serving.Ending.TheVariants as ending
-use Rattle.reply_lines.specs.Tallies.{tallied}
+use Rattle.replies.specs.Tallies.{tallied}
 use Rattle.run_streams.specs.Streams.{AppendsFront}
-use Rattle.reply_lines.proofs.Counting.{foresees_before}
+use Rattle.replies.proofs.Counting.{foresees_before}
 use Rattle.run_streams.proofs.Known.{appends_more, appends_none, sliced}
 use Rattle.mt_values.proofs.ScriptBounds.{statements_of_step}
 

@@ -2,16 +2,16 @@
 use Rattle.std.proofs.Common.{◌≡◌, ℕ, ◌||◌, false, List, Result, ap, ◌∙◌, Bool, ◌⊎◌, inl, inr}
 use Rattle.mt_outside.specs.Disk.{Names}
 use Rattle.mt_model.specs.Refusals.{is_damage}
-use Rattle.reply_lines.specs.declared.tally.Tally.{Tally}
-use Rattle.reply_lines.specs.Tallies.{tallied}
+use Rattle.replies.specs.declared.tally.Tally.{Tally}
+use Rattle.replies.specs.Tallies.{tallied}
 use Rattle.root_opening.specs.declared.opening.OpenFault.{OpenFault}
 use Rattle.root_opening.specs.declared.opening.OpenFault.TheVariants as opening
 use Rattle.root_opening.specs.Opening.{IsNotDamaged, TellsDamage}
 use Rattle.mt_program.specs.Damage.{IsDamagedRoot}
 use Rattle.mt_program.specs.Endings.{MetNoDamage, status_of}
 use Rattle.mt_program.specs.declared.serving.Ending.{Ending}
-use Rattle.exit_status.specs.declared.status.Status.{Status}
-use Rattle.exit_status.specs.declared.status.Status.TheVariants as status
+use Rattle.mt_program.specs.declared.status.Status.{Status}
+use Rattle.mt_program.specs.declared.status.Status.TheVariants as status
 use Rattle.mt_program.proofs.Heading.{not_damaged}
 
 -- what was said of damage stays, where one more reply does not tell of it

@@ -12,8 +12,8 @@ use Rattle.mt_model.specs.Script.{IsFront, OwnEntries}
 use Rattle.mt_model.specs.Session.{AddsNothing, IsNext, SessionReplies, Unanswered}
 use Rattle.root_store.specs.Soundness.{RootStands}
 use Rattle.durable_commit.specs.Commits.{entry_of}
-use Rattle.reply_lines.specs.Foreseen.{history, is_unsettled}
-use Rattle.reply_lines.specs.declared.tally.Tally.{Tally}
+use Rattle.replies.specs.Foreseen.{history, is_unsettled}
+use Rattle.replies.specs.declared.tally.Tally.{Tally}
 
 -- The statements that ran, in order, with their replies, and the one after them where it ran without a reply.
 pub record Course : Type 0 where

@@ -8,7 +8,7 @@ use Rattle.mt_model.specs.History.{History}
 use Rattle.mt_model.specs.Session.{IsNext, SessionGives}
 use Rattle.durable_commit.specs.Commits.{entry_of}
 use Rattle.root_store.specs.Crashes.{AreCalm, AreCrashSafe, Storage}
-use Rattle.reply_lines.specs.Foreseen.{history}
+use Rattle.replies.specs.Foreseen.{history}
 use Rattle.mt_program.specs.Courses.{Item}
 
 -- The next command of one of these statements, whose replies are not known: those before it gave each the first of its commands, or none, it ran

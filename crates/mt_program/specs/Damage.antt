@@ -11,8 +11,8 @@ use Rattle.root_opening.specs.declared.opening.OpenFault.TheVariants as fault
 use Rattle.root_opening.specs.Opening.{IsRootDamage}
 use Rattle.mt_base.specs.Files.{file_name}
 use Rattle.run_streams.specs.Streams.{AppendsFront}
-use Rattle.exit_status.specs.declared.status.Status.{Status}
-use Rattle.exit_status.specs.declared.status.Status.TheVariants as status
+use Rattle.mt_program.specs.declared.status.Status.{Status}
+use Rattle.mt_program.specs.declared.status.Status.TheVariants as status
 
 -- a root of these names is damaged
 abbrev pub IsDamagedRoot : Names → Type 0

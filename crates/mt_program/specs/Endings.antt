@@ -6,12 +6,12 @@ use Rattle.mt_outside.specs.declared.disk.DiskError.{DiskError}
 use Rattle.mt_outside.specs.declared.disk.DiskError.TheVariants as failure
 use Rattle.mt_program.specs.declared.serving.Ending.{Ending}
 use Rattle.mt_program.specs.declared.serving.Ending.TheVariants as ending
-use Rattle.reply_lines.specs.declared.tally.Tally.{Tally}
+use Rattle.replies.specs.declared.tally.Tally.{Tally}
 use Rattle.run_streams.specs.declared.streams.ReadStop.{ReadStop}
 use Rattle.run_streams.specs.declared.streams.ReadStop.TheVariants as unread
 use Rattle.mt_program.specs.Serving.{ServedBy}
-use Rattle.exit_status.specs.declared.status.Status.{Status}
-use Rattle.exit_status.specs.declared.status.Status.TheVariants as status
+use Rattle.mt_program.specs.declared.status.Status.{Status}
+use Rattle.mt_program.specs.declared.status.Status.TheVariants as status
 
 -- the status of a call on the disk that failed at opening
 abbrev pub status_of_error : DiskError → Status

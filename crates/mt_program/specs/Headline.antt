@@ -5,12 +5,12 @@ use Rattle.mt_values.specs.declared.annals.Noted.{Noted}
 use Rattle.mt_values.specs.Annals.{Told}
 use Rattle.mt_values.specs.Script.{statements_of}
 use Rattle.mt_model.specs.History.{IsLegal}
-use Rattle.exit_status.specs.Statuses.{number_of}
-use Rattle.reply_lines.specs.Foreseen.{history}
+use Rattle.mt_program.specs.Statuses.{number_of}
+use Rattle.replies.specs.Foreseen.{history}
 use Rattle.mt_program.specs.Courses.{AreSettled, Course, IsBegunBy, IsCut, Item, RunOf, Tells, started}
 use Rattle.mt_program.specs.Worlds.{Starts, World, counts_of}
-use Rattle.exit_status.specs.declared.status.Status.{Status}
-use Rattle.exit_status.specs.declared.status.Status.TheVariants as status
+use Rattle.mt_program.specs.declared.status.Status.{Status}
+use Rattle.mt_program.specs.declared.status.Status.TheVariants as status
 
 -- All statements of the script were answered, and their replies written whole. None of these says that a file is damaged, and whether one
 -- refuses its statement for what the script says is this.

@@ -5,4 +5,5 @@ pub mod Endings
 pub mod Headline
 pub mod Promises
 pub mod Serving
+pub mod Statuses
 pub mod Worlds

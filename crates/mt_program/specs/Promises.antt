@@ -11,11 +11,11 @@ use Rattle.root_opening.specs.declared.opening.Damage.{Damage}
 use Rattle.root_opening.specs.Opening.{IsRootDamage}
 use Rattle.root_store.specs.Crashes.{AllStand}
 use Rattle.root_store.specs.Roots.{Stands}
-use Rattle.reply_lines.specs.Foreseen.{history}
+use Rattle.replies.specs.Foreseen.{history}
 use Rattle.run_streams.specs.Streams.{ConsumesMost}
 use Rattle.run_streams.specs.Words.{is_command, path_of}
-use Rattle.exit_status.specs.declared.status.Status.{Status}
-use Rattle.exit_status.specs.Statuses.{number_of}
+use Rattle.mt_program.specs.declared.status.Status.{Status}
+use Rattle.mt_program.specs.Statuses.{number_of}
 use Rattle.mt_program.specs.Crashes.{IsAsBefore, LeavesOfScript}
 use Rattle.mt_program.specs.Damage.{IsDamagedRoot, WritesDamage, damage_line}
 use Rattle.mt_program.specs.Headline.{HeadlineBy}

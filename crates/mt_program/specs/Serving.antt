@@ -12,11 +12,11 @@ use Rattle.mt_model.specs.Outside.{Outside}
 use Rattle.mt_model.specs.Session.{SessionReplies}
 use Rattle.root_store.specs.declared.store.CoreStore.{CoreStore}
 use Rattle.root_store.specs.Stores.{CoreStands}
-use Rattle.reply_lines.specs.Foreseen.{Foresees, history, is_unsettled}
+use Rattle.replies.specs.Foreseen.{Foresees, history, is_unsettled}
 use Rattle.mt_program.specs.Courses.{AreSettled, AreStopped, IsBegunBy, IsCut, Item, Tells, course_of, with_last}
 use Rattle.mt_program.specs.declared.serving.Ending.{Ending}
 use Rattle.mt_program.specs.declared.serving.Ending.TheVariants as ending
-use Rattle.reply_lines.specs.declared.tally.Tally.{Tally}
+use Rattle.replies.specs.declared.tally.Tally.{Tally}
 
 -- The keeper tells what it told and entries of session 0. The statements had these replies, whatever the counts come to.
 pub record Ran (kept : Told) (opened disk arm : ℕ) (done : List Item) (replies : List (List ℕ)) (told : Option Told) : Type 0 where

@@ -5,7 +5,7 @@ use Rattle.mt_outside.specs.Disk as root
 use Rattle.mt_model.specs.Outside.{Outside}
 use Rattle.root_store.specs.Crashes.{Storage}
 use Rattle.root_store.specs.Roots.{Stands}
-use Rattle.reply_lines.specs.Foreseen.{history}
+use Rattle.replies.specs.Foreseen.{history}
 
 -- What is known at a moment: of the disk and the annals, the path of the folder that was started, what the source has left, what was written to the
 -- sink, and how many calls have failed.

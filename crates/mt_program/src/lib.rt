@@ -4,11 +4,12 @@
 mod laws;
 mod refusals;
 mod serving;
+mod status;
 mod top;
 
-pub use exit_status::Status;
 pub use laws::premises_are_met;
-pub use reply_lines::Tally;
+pub use replies::Tally;
 pub use run_streams::ReadStop;
 pub use serving::Ending;
+pub use status::Status;
 pub use top::{Done, run, run_alone};

@@ -9,21 +9,21 @@ ghost use Rattle.mt_model.specs.Written.{IsWritten};
 ghost use Rattle.root_store.specs.Crashes.{KeepsThroughCrashes, Storage};
 ghost use Rattle.root_store.specs.Soundness.{HasSoundParts, IsReady, RootStands};
 ghost use Rattle.root_store.specs.Stores.{CoreStands};
-ghost use Rattle.command_turn.specs.Answers.{AcceptsNothing, Answers};
-ghost use Rattle.reply_lines.specs.Causes.{HasCauses};
-ghost use Rattle.reply_lines.specs.Foreseen.{history};
+ghost use Rattle.session.specs.Answers.{AcceptsNothing, Answers};
+ghost use Rattle.replies.specs.Causes.{HasCauses};
+ghost use Rattle.replies.specs.Foreseen.{history};
 ghost use Rattle.mt_program.specs.Crashes.{IsGainedBy, LeavesForCrashes};
 ghost use Rattle.mt_program.specs.Endings.{MetNoDamage};
 ghost use Rattle.mt_program.specs.Serving.{ServedBy};
 
-use command_turn::{create, insert};
+use session::{create, insert};
 use mt_base::NoMemory;
 use mt_model::{Refusal, refusal_line};
 use mt_outside::{Arm, Disk, Gate, Point, Sink, Who};
 use mt_values::{Annals, Cause, Statement};
-use reply_lines::{Tally, write_reply};
+use replies::{Tally, write_reply};
 use root_log::CoreStore;
-use select_rows::select;
+use session::select;
 use sql_read::{Next, next_statement};
 use std::alloc::Global;
 

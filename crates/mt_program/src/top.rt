@@ -9,7 +9,7 @@ ghost use Rattle.root_opening.specs.Opening.{IsNotDamaged, IsRootDamage};
 ghost use Rattle.root_store.specs.Roots.{Stands};
 ghost use Rattle.root_store.specs.Soundness.{HasSoundParts, IsReady, RootStands};
 ghost use Rattle.root_store.specs.Stores.{CoreStands};
-ghost use Rattle.reply_lines.specs.Foreseen.{history};
+ghost use Rattle.replies.specs.Foreseen.{history};
 ghost use Rattle.mt_program.specs.Crashes.{IsAsBefore, IsGainedBy, LeavesOfScript};
 ghost use Rattle.mt_program.specs.Damage.{IsDamagedRoot, WritesDamage, WritesFault, damage_line};
 ghost use Rattle.mt_program.specs.Endings.{IsAnswered, IsEarly, LeftBy, MetNoDamage, status_of, status_of_error, status_of_stop};
@@ -21,7 +21,7 @@ ghost use Rattle.run_streams.specs.Words.{is_command};
 
 use crate::refusals::damage_line;
 use crate::serving::{Ending, serve};
-use exit_status::Status;
+use crate::Status;
 use mt_outside::{Arm, Disk, DiskError, Gate, Sink, Source};
 use mt_values::Annals;
 use root_log::{CoreStore, Damage, OpenFault, open};

@@ -11,4 +11,6 @@ pub mod NamesTold
 pub mod NextNames
 pub mod OneDamage
 pub mod Opened
+pub mod Settled
+pub mod Shown
 pub mod Standing

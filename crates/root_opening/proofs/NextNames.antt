@@ -30,7 +30,7 @@ use Rattle.part_set.proofs.Maps.{true_or_false}
 use Rattle.part_set.proofs.NamePlaces.{places_told}
 use Rattle.part_set.proofs.Orphans.{same_itself, table_found}
 use Rattle.part_set.proofs.Visibles.{table_there}
-use Rattle.opening_steps.specs.declared.names.Root.{Root}
+use Rattle.root_opening.specs.declared.steps.Root.{Root}
 use Rattle.root_opening.specs.declared.opening.Damage.TheVariants as damage
 use Rattle.root_opening.specs.declared.opening.OpenFault.{OpenFault}
 use Rattle.root_opening.specs.declared.opening.OpenFault.TheVariants as fault

@@ -31,7 +31,7 @@ use Rattle.root_opening.specs.declared.opening.OpenFault.{OpenFault}
 use Rattle.root_opening.specs.declared.opening.OpenFault.TheVariants as fault
 use Rattle.root_store.specs.declared.store.CoreStore.{CoreStore}
 use Rattle.root_store.specs.declared.store.Table.{Table}
-use Rattle.opening_steps.specs.declared.names.Root.{Root}
+use Rattle.root_opening.specs.declared.steps.Root.{Root}
 use Rattle.root_store.specs.Damage.{IsDamaged, most_tables}
 use Rattle.root_store.specs.Entries.{EntryHolds}
 use Rattle.root_opening.specs.Names.{AreNamesOf, creates_in}

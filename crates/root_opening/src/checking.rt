@@ -15,7 +15,7 @@ use crate::{Damage, OpenFault, open_entry};
 use mt_base::{Partition, Twin};
 use mt_outside::{Arm, Disk};
 use mt_values::{FileId, Name, Schema};
-use opening_steps::check_files;
+use crate::check_files;
 use part_reader::{Part, PartFault};
 use part_set::TablePart;
 use std::alloc::Global;

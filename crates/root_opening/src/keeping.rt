@@ -26,7 +26,7 @@ use crate::checking::{check_table, check_table_part};
 use mt_base::NoMemory;
 use mt_outside::{Arm, Disk};
 use mt_values::Name;
-use opening_steps::{Root, commands_of, shows};
+use crate::{Root, commands_of, shows};
 use part_set::{RootName, TablePart};
 use root_store::{CoreStore, Table, put_table};
 use std::alloc::Global;

@@ -7,6 +7,8 @@ mod keeping;
 mod laws;
 mod names;
 mod opening;
+mod part_files;
+mod steps;
 
 pub use entries::{open_entry, read_schema};
 pub use laws::{
@@ -15,3 +17,5 @@ pub use laws::{
 };
 pub use names::{NameFault, read_names};
 pub use opening::{Damage, OpenFault, open};
+pub use part_files::check_files;
+pub use steps::{Root, commands_of, settle, shows};

@@ -24,7 +24,7 @@ use crate::{NameFault, read_names};
 use mt_base::{NoMemory, Twin};
 use mt_outside::{Arm, Disk, DiskError};
 use mt_values::{FileId, Name};
-use opening_steps::{Root, settle};
+use crate::{Root, settle};
 use part_set::{RootName, SetFault, visible};
 use root_store::CoreStore;
 use std::alloc::Global;

@@ -11,6 +11,6 @@ mod script;
 mod tokens;
 
 pub use grammar::statement;
-pub use insert_data::{line_end, takes_next};
+pub use data_lines::{line_end, takes_next};
 pub use laws::{faults_are_first, whole_statements_stay};
 pub use script::{Next, next_statement};

@@ -5,14 +5,14 @@ ghost use Rattle.mt_base.specs.Stops.{Gives};
 ghost use Rattle.mt_values.specs.Tokens.{is_space};
 ghost use Rattle.mt_values.specs.Grammar.{takes_data};
 ghost use Rattle.mt_values.specs.Script.{Item, complete_or_cut, ended_from, ends_at, has_whole, is_whole, place_behind};
-ghost use Rattle.insert_data.specs.Sections.{line_said, section_said};
+ghost use Rattle.data_lines.specs.Sections.{line_said, section_said};
 ghost use Rattle.sql_read.specs.Scripts.{IsNext, next_of, parts_at};
 
 use crate::blanks::{Skipped, begins_with, behind, is_space, skipped_len};
 use crate::cursor::is_keyword;
 use crate::grammar::statement;
 use crate::tokens::{starts_word, word_len};
-use insert_data::{Section, inserted};
+use data_lines::{Section, inserted};
 use mt_base::Stop;
 use mt_values::{Cause, Place, Statement};
 use std::alloc::Global;

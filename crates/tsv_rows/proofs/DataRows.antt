@@ -14,8 +14,8 @@ use Rattle.mt_values.specs.Values.{Row, type_of, types_of}
 use Rattle.mt_values.proofs.Grids.{AreEven}
 use Rattle.mt_values.proofs.RowBounds.{rows_after, rows_after_step}
 use Rattle.mt_values.proofs.RowValues.{if_ok, row_typed}
-use Rattle.tsv_lines.specs.Columns.{types_in, with_row, with_row_last}
-use Rattle.tsv_lines.proofs.LineRows.{fronted_ok, fronted_ok_none, fronted_ok_more}
+use Rattle.tsv_fields.specs.Columns.{types_in, with_row, with_row_last}
+use Rattle.tsv_fields.proofs.LineRows.{fronted_ok, fronted_ok_none, fronted_ok_more}
 use Rattle.tsv_rows.proofs.PushedRows.{types_in-with_row_last, AreEven-with_row_last, rows_of-with_row_last}
 
 -- Columns keep the rows of the lines before some text.

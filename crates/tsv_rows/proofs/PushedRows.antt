@@ -8,7 +8,7 @@ use Rattle.std.proofs.lemmas.Option.{get_or_from_slice_get}
 use Rattle.mt_values.specs.Grid.{Cells, row_at, rows_of}
 use Rattle.mt_values.specs.Values.{Row}
 use Rattle.mt_values.proofs.Grids.{AreEven, length-rows_of, slice_get-rows_of}
-use Rattle.tsv_lines.specs.Columns.{types_in, with_last, with_row_last}
+use Rattle.tsv_fields.specs.Columns.{types_in, with_last, with_row_last}
 
 pub types_in-with_row_last : (columns : List Cells) (row : Row) → length row ≡ length columns → types_in (with_row_last columns row) ≡ types_in columns
 types_in-with_row_last [] row len = refl

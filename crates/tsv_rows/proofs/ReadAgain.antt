@@ -24,7 +24,7 @@ use Rattle.mt_values.specs.Script.{ends_data, line_from, onto}
 use Rattle.mt_values.specs.Values.{AreValues, IsValue, Row, type_of, types_of}
 use Rattle.mt_values.proofs.Fronts.{parted, parted_none}
 use Rattle.mt_values.proofs.RowBounds.{rows_after, rows_after_step}
-use Rattle.tsv_lines.proofs.Unescaping.{unescaped_escape, unescaped_plain}
+use Rattle.tsv_fields.proofs.Unescaping.{unescaped_escape, unescaped_plain}
 
 -- ---- numbers
 

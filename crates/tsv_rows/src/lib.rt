@@ -6,4 +6,4 @@ mod rows;
 
 pub use laws::printed_rows_are_read;
 pub use rows::{read_row, read_rows};
-pub use tsv_lines::{write_row, write_row_at, write_rows, write_text};
+pub use tsv_fields::{write_row, write_row_at, write_rows, write_text};

@@ -8,7 +8,7 @@ ghost use Rattle.mt_base.specs.Stops.{Refuses};
 use mt_base::{NoMemory, ROW_LIMIT, Seq, Stop};
 use mt_values::{Block, ColType, ColumnData, DataFault, Row, RowFault, Schema, Value};
 use std::alloc::Global;
-use tsv_lines::{cell_of_field, fault_of_count, fault_of_field, field_at, mark_fields, read_line};
+use tsv_fields::{cell_of_field, fault_of_count, fault_of_field, field_at, mark_fields, read_line};
 
 // The value of the field at a place in its line, from 1, or the line's fault.
 fn read_value(

@@ -1,6 +1,6 @@
 use Rattle.std.proofs.Common.{◌≡◌, ◌++◌, map, drop}
 use Rattle.mt_outside.specs.Disk.{before_clock}
-use Rattle.crash_choice.specs.Images.{left_stamped}
+use Rattle.fault_plan.specs.Images.{left_stamped}
 use Rattle.disk_mem.proofs.image.settled.Given as goal
 
 abbrev pub invariant-loop-stamped : goal.invariant-loop-stamped

@@ -1,6 +1,6 @@
 use Rattle.std.proofs.Common.{◌≡◌, ◌≤◌, ◌++◌, map, drop}
 use Rattle.mt_outside.specs.Disk.{at_clock}
-use Rattle.crash_choice.specs.Images.{happened, left_stamped}
+use Rattle.fault_plan.specs.Images.{happened, left_stamped}
 use Rattle.disk_mem.proofs.image.unsettled.Given as goal
 
 abbrev pub invariant-loop-stamped : goal.invariant-loop-stamped

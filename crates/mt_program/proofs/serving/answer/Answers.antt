@@ -2,14 +2,14 @@ use Rattle.std.proofs.lemmas.Result.{IfOk-weaker}
 use Rattle.std.proofs.Common.{◌≡◌, ◌≤◌, IfOk, Err, Ok, sym, ap, ◌∙◌, subst, arith}
 use Rattle.mt_model.specs.declared.refusal.Refusal.{Refusal}
 use Rattle.mt_model.specs.Refusals.{code, is_damage, refusal_line, refusal_of_cause}
-use Rattle.command_turn.specs.Answers.{Answers}
-use Rattle.command_turn.proofs.Accepting.{answers_kept, nothing_accepted}
+use Rattle.session.specs.Answers.{Answers}
+use Rattle.session.proofs.Accepting.{answers_kept, nothing_accepted}
 use Rattle.mt_program.proofs.Selecting.{selected_answers}
 use Rattle.mt_values.specs.declared.statement.Cause.{Cause}
 use Rattle.mt_values.specs.declared.statement.Cause.TheVariants as cause
-use Rattle.reply_lines.proofs.Causing.{says_script}
-use Rattle.reply_lines.proofs.Refusing.{text_refused}
-use Rattle.reply_lines.proofs.Undamaged.{cause_line}
+use Rattle.replies.proofs.Causing.{says_script}
+use Rattle.replies.proofs.Refusing.{text_refused}
+use Rattle.replies.proofs.Undamaged.{cause_line}
 use Rattle.mt_program.proofs.serving.answer.Goals as goal
 
 pub returns-in-Ok-Select-clause-answers : goal.returns-in-Ok-Select-clause-answers

@@ -3,7 +3,7 @@ use Rattle.mt_values.specs.Script.{statements_of}
 use Rattle.mt_program.proofs.ServedScripts.{served_none, served_all, served_so_far, served_unanswered, served_more, served_cut, unsettled_rose, no_statement, nothing_left, one_statement, is_written, Found, Used, used_within}
 use Rattle.mt_program.proofs.Gaining.{gained_one, stepped_answered, stepped_keeps}
 use Rattle.mt_program.proofs.Crashing.{left_behind, one_more}
-use Rattle.command_turn.specs.Answers.{Answered}
+use Rattle.session.specs.Answers.{Answered}
 use Rattle.mt_program.specs.Serving.{Served}
 use Rattle.mt_program.proofs.Undamaged.{tallied_undamaged}
 use Rattle.mt_program.proofs.serving.serve.Goals as goal

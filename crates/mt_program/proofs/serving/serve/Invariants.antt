@@ -2,7 +2,7 @@
 use Rattle.std.proofs.Common.{◌≡◌, ◌++◌, [], List, ◌≤◌, ◌-◌, ℕ, Some, true, false, drop, length}
 use Rattle.mt_values.specs.Annals.{Told}
 use Rattle.mt_values.specs.Script.{statements_of}
-use Rattle.reply_lines.specs.Foreseen.{history}
+use Rattle.replies.specs.Foreseen.{history}
 use Rattle.mt_program.specs.Courses.{Item}
 use Rattle.mt_program.specs.Serving.{Served}
 use Rattle.mt_program.specs.Crashes.{IsGainedBy}

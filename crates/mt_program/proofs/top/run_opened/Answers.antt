@@ -4,14 +4,14 @@ use Rattle.std.proofs.lemmas.Bool.Decides.{nat_tests}
 use Rattle.mt_outside.specs.Causes.{Rose}
 use Rattle.mt_model.specs.Outside.{Outside}
 use Rattle.mt_outside.specs.Disk as root
-use Rattle.reply_lines.specs.Foreseen.{Foresees, history}
+use Rattle.replies.specs.Foreseen.{Foresees, history}
 use Rattle.mt_program.specs.Damage.{WritesDamage, damage_line}
 use Rattle.mt_program.specs.Endings.{IsAnswered}
 use Rattle.mt_program.specs.Headline.{Headline, NothingRan}
 use Rattle.mt_program.specs.Worlds.{World}
-use Rattle.exit_status.specs.declared.status.Status.{Status}
-use Rattle.exit_status.specs.declared.status.Status.TheVariants as status
-use Rattle.reply_lines.proofs.Counting.{risen_back, some_rose}
+use Rattle.mt_program.specs.declared.status.Status.{Status}
+use Rattle.mt_program.specs.declared.status.Status.TheVariants as status
+use Rattle.replies.proofs.Counting.{risen_back, some_rose}
 use Rattle.root_store.specs.Crashes.{AllStand, Storage}
 use Rattle.root_store.proofs.CrashMarks.{safe_at_start, safe_opened}
 use Rattle.mt_program.specs.Crashes.{LeavesOfScript}

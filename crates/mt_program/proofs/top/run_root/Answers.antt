@@ -1,6 +1,6 @@
 use Rattle.std.proofs.Common.{◌∙◌, ◌+◌, ℕ, arith, subst, refl, sym, inl, inr}
 use Rattle.mt_outside.specs.Disk.{names_of}
-use Rattle.reply_lines.specs.Foreseen.{history}
+use Rattle.replies.specs.Foreseen.{history}
 use Rattle.mt_program.specs.Endings.{LeftBy}
 use Rattle.root_store.specs.Crashes.{IsCrashSafe, Storage, none_begun}
 use Rattle.root_store.proofs.CrashMarks.{safe_at_start, stands_as_read}

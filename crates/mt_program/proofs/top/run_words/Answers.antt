@@ -1,7 +1,7 @@
 use Rattle.std.proofs.Common.{◌∙◌, ◌≡◌, ◌⊎◌, ◌≤◌, ℕ, Some, true, ap, inl, inr, refl, rules, sym, subst}
 use Rattle.root_store.specs.Crashes.{Storage}
 use Rattle.root_store.proofs.CrashMarks.{safe_at_start}
-use Rattle.exit_status.specs.declared.status.Status.TheVariants as status
+use Rattle.mt_program.specs.declared.status.Status.TheVariants as status
 use Rattle.mt_program.specs.Worlds.{World}
 use Rattle.run_streams.specs.Words.{is_command}
 use Rattle.mt_program.proofs.Completing.{none_refused, not_too_long, zero_or_six}

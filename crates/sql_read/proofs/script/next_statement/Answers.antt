@@ -2,7 +2,7 @@ use Rattle.std.proofs.Common.{◌≡◌, ◌∙◌, sym, ap, refl, drop, Some, �
 use Rattle.std.proofs.lemmas.Bool.{false≢true}
 use Rattle.std.proofs.lemmas.List.{take_rest, drop-drop}
 use Rattle.mt_values.specs.Script.{has_whole, next_statement}
-use Rattle.insert_data.specs.Sections.{section_said}
+use Rattle.data_lines.specs.Sections.{section_said}
 use Rattle.sql_read.proofs.Nexts.{no_next, some_next, whole_is, is_cut, some_used, next_found, found_waits}
 use Rattle.sql_read.proofs.script.next_statement.Goals as goal
 use Rattle.sql_read.proofs.script.next_statement.Goals.{then-ended-2, else-ended-2}

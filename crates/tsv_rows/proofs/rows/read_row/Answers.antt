@@ -14,9 +14,9 @@ use Rattle.mt_values.specs.declared.row_fault.RowFault.TheVariants as row_fault
 use Rattle.mt_values.specs.declared.schema.Column.{Column}
 use Rattle.mt_values.specs.declared.value.ColType.{ColType}
 use Rattle.mt_values.proofs.RowValues.{AreBytes, if_ok, row_values}
-use Rattle.tsv_lines.specs.Fields.{EndFields}
-use Rattle.tsv_lines.proofs.LineRows.{fronted_ok, other_count, same_count, row_begin, row_miscounted, row_more, row_faulty, row_whole}
-use Rattle.tsv_lines.proofs.Marking.{whole_marked}
+use Rattle.tsv_fields.specs.Fields.{EndFields}
+use Rattle.tsv_fields.proofs.LineRows.{fronted_ok, other_count, same_count, row_begin, row_miscounted, row_more, row_faulty, row_whole}
+use Rattle.tsv_fields.proofs.Marking.{whole_marked}
 use Rattle.tsv_rows.proofs.rows.read_row.Goals as goal
 use Rattle.tsv_rows.proofs.rows.read_row.Goals.{After-len, After-read_value, After-drop-ends-2}
 

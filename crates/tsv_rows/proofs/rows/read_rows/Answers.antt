@@ -7,7 +7,7 @@ use Rattle.mt_values.specs.Rows.{inserted_rows, row_of_line}
 use Rattle.mt_values.specs.Script.{line_from}
 use Rattle.mt_values.specs.Values.{AreValues}
 use Rattle.mt_values.proofs.RowValues.{AreBytes, if_ok, inserted_values}
-use Rattle.tsv_lines.specs.Columns.{types_in, with_row}
+use Rattle.tsv_fields.specs.Columns.{types_in, with_row}
 use Rattle.tsv_rows.proofs.DataRows.{no_lines, lines_end, lines_unended, lines_many, lines_refused, lines_more}
 use Rattle.tsv_rows.proofs.rows.read_rows.Goals as goal
 use Rattle.tsv_rows.proofs.rows.read_rows.Goals.{In-Some, In_default, After-of_columns}

@@ -1,5 +1,5 @@
-use Rattle.call_plan.specs.declared.plan.CallKind.TheVariants.{Read}
-use Rattle.call_plan.proofs.Listings.{fails_listed, passes_unlisted}
+use Rattle.fault_plan.specs.declared.plan.CallKind.TheVariants.{Read}
+use Rattle.fault_plan.proofs.Listings.{fails_listed, passes_unlisted}
 use Rattle.disk_mem.proofs.arm.MemArmArm.read.Goals as goal
 
 pub returns-clause-exactly : goal.returns-clause-exactly

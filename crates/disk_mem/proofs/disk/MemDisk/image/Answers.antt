@@ -1,6 +1,6 @@
 use Rattle.std.proofs.Common.{subst, sym}
 use Rattle.mt_outside.specs.Disk.{Told, AllBy}
-use Rattle.crash_choice.proofs.Images.{image_by}
+use Rattle.fault_plan.proofs.Images.{image_by}
 use Rattle.disk_mem.proofs.disk.MemDisk.image.Goals as goal
 
 pub returns-clause-by_mark : goal.returns-clause-by_mark

@@ -1,6 +1,0 @@
-use Rattle.std.proofs.Common.{◌≡◌, ◌++◌, drop}
-use Rattle.call_plan.specs.Plan.{of_arm}
-use Rattle.call_plan.proofs.plan.calls_of_arm.Given as goal
-
-abbrev pub invariant-loop-call : goal.invariant-loop-call
-invariant-loop-call l = l.calls ++ of_arm l.arm (drop l.call-index l.listed) ≡ of_arm l.arm l.listed

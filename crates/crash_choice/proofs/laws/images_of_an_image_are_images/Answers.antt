@@ -1,5 +1,0 @@
-use Rattle.crash_choice.proofs.Images.{image_again}
-use Rattle.crash_choice.proofs.laws.images_of_an_image_are_images.Goals as goal
-
-pub returns : goal.returns
-returns c = image_again

@@ -1,6 +1,0 @@
--- the rows so far
-use Rattle.std.proofs.Common.{◌≡◌, take}
-use Rattle.plain_base.proofs.blocks.rows_of.Given as goal
-
-abbrev pub invariant-loop-place : goal.invariant-loop-place
-invariant-loop-place l = l.rows.items ≡ take l.place l.block.rows

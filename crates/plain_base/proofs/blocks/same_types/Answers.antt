@@ -1,6 +1,0 @@
-use Rattle.std.proofs.lemmas.Bool.Decides.{Decides-at}
-use Rattle.plain_base.proofs.Equal.{types_same}
-use Rattle.plain_base.proofs.blocks.same_types.Goals as goal
-
-pub returns : goal.returns
-returns c = Decides-at _ _ c.eq.ensures (types_same c.args.a.now c.args.b.now)

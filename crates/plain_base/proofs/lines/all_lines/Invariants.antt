@@ -1,7 +1,0 @@
--- a line for each row so far
-use Rattle.std.proofs.Common.{◌≡◌, map, take}
-use Rattle.mt_values.specs.Printing.{line}
-use Rattle.plain_base.proofs.lines.all_lines.Given as goal
-
-abbrev pub invariant-loop-row : goal.invariant-loop-row
-invariant-loop-row l = l.lines.items ≡ map line (take l.row-index l.rows)

@@ -1,7 +1,0 @@
--- what is left of the entries decides
-use Rattle.std.proofs.Common.{◌≡◌, drop}
-use Rattle.mt_model.specs.History.{schema_of}
-use Rattle.plain_base.proofs.tables.schema_of.Given as goal
-
-abbrev pub invariant-loop-entry : goal.invariant-loop-entry
-invariant-loop-entry l = schema_of l.table (drop l.entry-index l.entries) ≡ schema_of l.table l.entries

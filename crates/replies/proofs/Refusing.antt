@@ -1,0 +1,71 @@
+-- What a refused statement's reply is.
+use Rattle.std.proofs.Common.{◌≡◌, ℕ, ◌<◌, List, [], ◌∷◌, length, refl, sym, ap, ◌∙◌, subst, inl, inr, arith, Ok, Err}
+use Rattle.mt_values.specs.declared.command.Command.{Command}
+use Rattle.mt_values.specs.declared.statement.Cause.{Cause}
+use Rattle.mt_values.specs.declared.statement.SelectText.{SelectText}
+use Rattle.mt_values.specs.declared.statement.Statement.{Statement}
+use Rattle.mt_values.specs.declared.statement.Statement.TheVariants as statement
+use Rattle.mt_values.specs.Annals.{Told}
+use Rattle.mt_model.specs.Commands.{commands_of}
+use Rattle.mt_model.specs.declared.refusal.Refusal.{Refusal}
+use Rattle.mt_model.specs.History.{History}
+use Rattle.mt_model.specs.Outside.{Outside, ReadOrStageFailed, TurnFailed}
+use Rattle.mt_model.specs.Refusals.{refusal_line, refusal_of_cause}
+use Rattle.mt_model.specs.Reply.{columns_of_select}
+use Rattle.mt_model.specs.Session.{RefusedAs, RefusedInTurn, StopsAfter, Takes, TakesCommands, TurnAllows, TurnRefuses}
+use Rattle.replies.specs.Foreseen.{history}
+use Rattle.replies.proofs.Ends.{whole_front, added_nothing}
+
+-- a statement that stops before its first command, at the end of what the keeper tells
+pub stops_first : (kept : Told) (s : Statement) (next : Command) (rest : List Command) → commands_of (history kept) s ≡ Ok (next ∷ rest)
+    → StopsAfter (history kept) 0 s (length kept.list) (length kept.list) [] (next ∷ rest)
+stops_first kept s next rest is = record {
+  seen = length kept.list;
+  place = length kept.list;
+  nothing = added_nothing kept;
+  gives = ap (λ (h : History). commands_of h s) (whole_front kept) ∙ is;
+  accepted = refl;
+  no_more = added_nothing kept;
+}
+
+-- at the end of what the keeper tells
+module _ (n : Outside) (kept : Told) (reply : List ℕ) where
+  refused : (why : Refusal) → reply ≡ refusal_line why → RefusedAs (history kept) 0 (length kept.list) (length kept.list) why reply
+  refused why is = record { line = is; nothing = added_nothing kept }
+
+  -- a CREATE or an INSERT
+  module _ (s : Statement) where
+    abbrev Replied : Type 0
+    Replied = TakesCommands n (history kept) 0 s (length kept.list) (length kept.list) reply
+
+    pub command_refused : (why : Refusal) → commands_of (history kept) s ≡ Err why → reply ≡ refusal_line why → Replied
+    command_refused why is line = inr (inl (why, ap (λ (h : History). commands_of h s) (whole_front kept) ∙ is, refused why line))
+
+    -- its first command
+    module _ (next : Command) (rest : List Command) (is : commands_of (history kept) s ≡ Ok (next ∷ rest)) where
+      pub command_failed : ReadOrStageFailed n reply → Replied
+      command_failed failed = inr (inr (inl (next ∷ rest, ap (λ (h : History). commands_of h s) (whole_front kept) ∙ is, some, added_nothing kept, failed)))
+        where
+          some : 0 < length (next ∷ rest)
+          some = omega arith
+
+      at_turn : RefusedInTurn n (history kept) 0 next reply → Replied
+      at_turn turn =
+          inr (inr (inr ([], next, rest, stops_first kept s next rest is, subst (λ (h : History). RefusedInTurn n h 0 next reply) (sym (whole_front kept)) turn)))
+
+      pub command_full : (why : Refusal) → TurnRefuses (history kept) 0 next why → reply ≡ refusal_line why → Replied
+      command_full why turn line = at_turn (inl (why, turn, line))
+
+      pub command_unsettled : TurnAllows (history kept) next → TurnFailed n 0 reply → Replied
+      command_unsettled turn failed = at_turn (inr (turn, failed))
+
+  module _ (s : SelectText) where
+    pub select_refused : (why : Refusal) → columns_of_select s (history kept) ≡ Err why → reply ≡ refusal_line why → Takes n (history kept) 0 (Ok (statement.Select s)) (length kept.list) (length kept.list) reply
+    select_refused why columns is = inr (inl (why, ap (columns_of_select s) (whole_front kept) ∙ columns, refused why is))
+
+    pub select_failed : (columns : List ℕ) → columns_of_select s (history kept) ≡ Ok columns → ReadOrStageFailed n reply → Takes n (history kept) 0 (Ok (statement.Select s)) (length kept.list) (length kept.list) reply
+    select_failed columns is failed = inr (inr (columns, ap (columns_of_select s) (whole_front kept) ∙ is, added_nothing kept, failed))
+
+  -- a text that is no statement
+  pub text_refused : (why : Cause) → reply ≡ refusal_line (refusal_of_cause why) → Takes n (history kept) 0 (Err why) (length kept.list) (length kept.list) reply
+  text_refused why is = refused (refusal_of_cause why) is

@@ -1,0 +1,33 @@
+// The reply with the rows of a SELECT.
+ghost use Rattle.std.specs.Prelude.{◌≡◌, ◌<◌, ◌^◌, All, IfOk, length};
+ghost use Rattle.mt_values.specs.Grid.{Cells, grid_of};
+ghost use Rattle.replies.specs.Lines.{Printed};
+
+use mt_base::NoMemory;
+use mt_model::rows_line;
+use mt_values::{Block, ColumnData, all_places};
+use std::alloc::Global;
+use tsv_rows::write_rows;
+
+/// The reply with the rows of these columns, so many, sorted by them from left to right. `place` is the length of the history.
+pub fn print(
+    alloc: Global,
+    place: u64,
+    columns: Vec<ColumnData>,
+    rows: usize,
+) -> Result<Vec<u8>, NoMemory>
+    requires few { rows < 2 ^ 32 }
+    requires even { All (λ (c : Cells). length c.values ≡ rows) columns.items }
+    ensures { IfOk result (λ reply. Printed (grid_of columns.items rows) place reply.items) }
+{
+    let block = Block::of_columns(columns, rows);
+    let Ok(width) = u32::try_from(block.width()) else {
+        return Err(NoMemory);
+    };
+    let all = all_places(alloc, width)?;
+    let places = all.as_slice();
+    let order = block.order_by(alloc, places)?;
+    let mut reply = rows_line(alloc, block.len(), place)?;
+    write_rows(&block, order.as_slice(), places, &mut reply)?;
+    Ok(reply)
+}

@@ -1,0 +1,152 @@
+-- From what a statement did to what its answer says.
+use Rattle.std.proofs.Common.{◌≡◌, ℕ, ◌+◌, ◌-◌, ◌≤◌, false, List, [], ◌∷◌, ◌++◌, length, map, take, refl, sym, ap, ◌∙◌, subst, append-nil, Option, Some, Ok, Err, Result, Vec, Global, IfOk, IfErr, length-append, inl, inr, arith}
+use Rattle.std.specs.Option.{option_map}
+use Rattle.std.proofs.lemmas.List.{take_at, map-append}
+use Rattle.std.proofs.lemmas.List.Elements.{All-cons, All-nil}
+use Rattle.mt_values.specs.declared.annals.Noted.{Noted}
+use Rattle.mt_values.specs.declared.command.Command.{Command}
+use Rattle.mt_values.specs.declared.statement.Cause.{Cause}
+use Rattle.mt_values.specs.declared.statement.Statement.{Statement}
+use Rattle.mt_values.specs.Annals.{Told, began, noted}
+use Rattle.mt_outside.specs.Disk as root
+use Rattle.mt_outside.specs.Files.{Files}
+use Rattle.mt_model.specs.Commands.{commands_of}
+use Rattle.mt_model.specs.History.{History}
+use Rattle.mt_model.specs.Outside.{Outside}
+use Rattle.mt_model.specs.Reply.{ok_line}
+use Rattle.mt_model.specs.Session.{Adds, StopsAfter, Takes, TakesCommands, TurnAllows}
+use Rattle.mt_model.proofs.Growing.{adds_last, stays}
+use Rattle.root_store.specs.declared.store.CoreStore.{CoreStore}
+use Rattle.durable_commit.specs.Commits.{Notes, entry_of}
+use Rattle.root_store.specs.Soundness.{RootStands}
+use Rattle.root_store.specs.Stores.{CoreStands}
+use Rattle.mt_base.specs.declared.memory.NoMemory.{NoMemory}
+use Rattle.session.specs.Answers.{AcceptsNothing, Answered, Answers, BeginsNext, IsBegun, Keeps}
+use Rattle.replies.specs.Foreseen.{history, Foresees, is_unsettled}
+use Rattle.replies.proofs.Ends.{added_nothing, length_history, whole_front}
+use Rattle.replies.proofs.Refusing.{stops_first}
+
+-- a statement that adds nothing
+pub answered_nothing : {F : Type 0} (files_of : F → Option Files) (kept now : Told) (st : Result Statement Cause) (opened disk arm : ℕ) (reply : List ℕ) (store : CoreStore F) (told : Option Told) (root_before now_root : Option root.Told)
+    → told ≡ Some now → now.list ≡ kept.list → IsBegun kept now st reply → CoreStands files_of (history kept) store
+    → ((n : Outside) → Foresees opened disk arm n → Takes n (history kept) 0 st (length kept.list) (length kept.list) reply)
+    → (is_unsettled reply ≡ false → RootStands root_before (history kept) → RootStands now_root (history kept)) → Answered files_of kept st opened disk arm reply store told root_before now_root
+answered_nothing files_of kept now st opened disk arm reply store told root_before now_root is same begun stands takes settled =
+    let h : history now ≡ history kept = ap (map (λ (n : Noted). n.entry)) same in
+    record {
+      now = now;
+      more = [];
+      told_is = is;
+      list_is = same ∙ sym (append-nil kept.list);
+      begun = begun;
+      sessions = All-nil (λ (n : Noted). n.entry.session ≡ 0);
+      stands = subst (λ (x : History). CoreStands files_of x store) (sym h) stands;
+      takes = λ n f. subst (λ (m : ℕ). Takes n (history now) 0 st (length kept.list) m reply) (sym (ap length same))
+          (subst (λ (x : History). Takes n x 0 st (length kept.list) (length kept.list) reply) (sym h) (takes n f));
+      settled = λ calm before. subst (RootStands now_root) (sym h) (settled calm before);
+    }
+
+-- A line that is answered as it was formed, where it has what is said of it; else want of memory.
+pub answers_line : {F : Type 0} (files_of : F → Option Files) (kept : Told) (st : Result Statement Cause) (opened disk arm : ℕ) (line : Result (Vec ℕ Global) NoMemory) (store : CoreStore F) (told : Option Told) (root_before now_root : Option root.Told) (P : List ℕ → Type 0)
+    → IfOk line (λ text. P text.items) → IfErr line (λ _. Keeps kept st told root_before now_root)
+    → ((reply : List ℕ) → P reply → Answered files_of kept st opened disk arm reply store told root_before now_root) → Answers files_of kept st opened disk arm line store told root_before now_root
+answers_line files_of kept st opened disk arm (Ok text) store told root_before now_root P is keeps answered = answered text.items is
+answers_line files_of kept st opened disk arm (Err e) store told root_before now_root P is keeps answered = keeps
+
+-- a line in answer to a statement that did nothing, to what the keeper tells, to the store and to the root
+pub answers_kept : {F : Type 0} (files_of : F → Option Files) (kept : Told) (st : Result Statement Cause) (opened disk arm : ℕ) (line : Result (Vec ℕ Global) NoMemory) (store : CoreStore F) (told : Option Told) (root_same : Option root.Told) (P : List ℕ → Type 0)
+    → told ≡ Some kept → CoreStands files_of (history kept) store → IfOk line (λ text. P text.items)
+    → ((reply : List ℕ) → P reply → (n : Outside) → Foresees opened disk arm n → Takes n (history kept) 0 st (length kept.list) (length kept.list) reply)
+    → Answers files_of kept st opened disk arm line store told root_same root_same
+answers_kept files_of kept st opened disk arm (Ok text) store told root_same P told_is stands is takes =
+    answered_nothing files_of kept kept st opened disk arm text.items store told root_same root_same told_is refl (inl (refl, refl)) stands (takes text.items is) (λ calm before. before)
+answers_kept files_of kept st opened disk arm (Err e) store told root_same P told_is stands is takes =
+    record { now = kept; told_is = told_is; list_is = refl; begun = inl refl; root_is = refl }
+
+-- what holds in any case holds of an error
+pub in_any_case : {T E P : Type 0} (line : Result T E) → P → IfErr line (λ _. P)
+in_any_case (Ok x) p = tt
+in_any_case (Err e) p = p
+
+-- what was not touched
+pub nothing_accepted : {F D : Type 0} (store : CoreStore F) (disk : D) (annals : Option Told) → AcceptsNothing store store disk disk annals annals
+nothing_accepted store disk annals = record {
+  store_is = record { tables = refl; parts = λ table. refl; length_is = refl; opened_is = refl };
+  disk_is = refl;
+  annals_is = refl;
+}
+
+-- the first command of a statement that is begun and was not accepted
+pub begins_first : (kept now : Told) (said : Statement) (next : Command) (rest : List Command) → now.list ≡ kept.list → commands_of (history kept) said ≡ Ok (next ∷ rest) → now.begun ≡ Some (entry_of 0 next)
+    → BeginsNext kept now (Ok said) []
+begins_first kept now said next rest same gives begun =
+    let h : history now ≡ history kept = ap (map (λ (n : Noted). n.entry)) same in
+    record {
+      said = said;
+      statement_is = refl;
+      next = next;
+      rest = rest;
+      stops = subst (λ (m : ℕ). StopsAfter (history now) 0 said (length kept.list) m [] (next ∷ rest)) (sym (ap length same))
+          (subst (λ (x : History). StopsAfter x 0 said (length kept.list) (length kept.list) [] (next ∷ rest)) (sym h) (stops_first kept said next rest gives));
+      begun = begun;
+    }
+
+-- a statement without commands
+pub accepted_none : (n : Outside) (kept : Told) (s : Statement) (reply : List ℕ) → commands_of (history kept) s ≡ Ok [] → reply ≡ ok_line (length kept.list)
+    → TakesCommands n (history kept) 0 s (length kept.list) (length kept.list) reply
+accepted_none n kept s reply gives ok =
+    inl (ok, record { seen = length kept.list; commands = []; nothing = added_nothing kept; gives = ap (λ (h : History). commands_of h s) (whole_front kept) ∙ gives; accepted = refl })
+
+-- a statement whose one command was accepted, after a history
+pub accepted_one : (n : Outside) (h before : History) (s : Statement) (c : Command) (m : ℕ) (reply : List ℕ) → take m h ≡ before → commands_of before s ≡ Ok (c ∷ []) → TurnAllows before c
+    → Adds h 0 c m (m + 1) → reply ≡ ok_line (m + 1) → TakesCommands n h 0 s m (m + 1) reply
+accepted_one n h before s c m reply front gives turn added ok =
+    let back : m + 1 - 1 ≡ m = omega arith in
+    let there : m ≤ length h = subst (λ (k : ℕ). k ≤ length h) back added.before.there in
+    inl (
+      ok,
+      record {
+        seen = m;
+        commands = c ∷ [];
+        nothing = stays h 0 m there;
+        gives = ap (λ (x : History). commands_of x s) front ∙ gives;
+        accepted = (m + 1, subst (λ (x : History). TurnAllows x c) (sym (ap (λ k. take k h) back ∙ front)) turn, added, refl);
+      },
+    )
+
+-- what the keeper tells after one more command
+abbrev pub after_note : ℕ → Command → Told → Told
+after_note mark c kept = noted mark (began (entry_of 0 c) kept)
+
+module _ (mark : ℕ) (c : Command) (kept : Told) where
+  pub history_after : history (after_note mark c kept) ≡ history kept ++ entry_of 0 c ∷ []
+  history_after = map-append (λ (n : Noted). n.entry) kept.list (record { entry = entry_of 0 c; mark = mark } ∷ [])
+
+  pub length_after : length (after_note mark c kept).list ≡ length kept.list + 1
+  length_after = length-append kept.list (record { entry = entry_of 0 c; mark = mark } ∷ [])
+
+  front_after : take (length kept.list) (history (after_note mark c kept)) ≡ history kept
+  front_after = ap (take (length kept.list)) history_after ∙ take_at (history kept) (entry_of 0 c ∷ []) (length kept.list) (length_history kept)
+
+  adds_after : Adds (history (after_note mark c kept)) 0 c (length kept.list) (length kept.list + 1)
+  adds_after =
+      let at : Adds (history kept ++ entry_of 0 c ∷ []) 0 c (length (history kept)) (length (history kept) + 1) = adds_last (history kept) (entry_of 0 c) 0 refl in
+      let here : Adds (history kept ++ entry_of 0 c ∷ []) 0 c (length kept.list) (length kept.list + 1) = subst (λ (n : ℕ). Adds (history kept ++ entry_of 0 c ∷ []) 0 c n (n + 1)) (length_history kept) at in
+      subst (λ (h : History). Adds h 0 c (length kept.list) (length kept.list + 1)) (sym history_after) here
+
+  -- a statement that adds one command
+  pub accepts_command : {F : Type 0} (files_of : F → Option Files) (st : Result Statement Cause) (opened disk arm : ℕ) (reply : List ℕ) (store : CoreStore F) (old told : Option Told) (root_before now_root : Option root.Told)
+      → old ≡ Some kept → Notes mark (entry_of 0 c) old told → CoreStands files_of (history kept ++ entry_of 0 c ∷ []) store
+      → ((n : Outside) (h : History) (m : ℕ) → take m h ≡ history kept → Adds h 0 c m (m + 1) → m ≡ length kept.list → Takes n h 0 st m (m + 1) reply)
+      → (RootStands root_before (history kept) → RootStands now_root (history kept ++ entry_of 0 c ∷ [])) → Answered files_of kept st opened disk arm reply store told root_before now_root
+  accepts_command files_of st opened disk arm reply store old told root_before now_root is notes stands takes settled = record {
+    now = after_note mark c kept;
+    more = record { entry = entry_of 0 c; mark = mark } ∷ [];
+    told_is = notes ∙ ap (option_map (after_note mark c)) is;
+    list_is = refl;
+    begun = let longer = length_after in inr (inl (refl, omega (arith, longer)));
+    sessions = All-cons (λ (n : Noted). n.entry.session ≡ 0) (record { entry = entry_of 0 c; mark = mark }) [] refl (All-nil (λ (n : Noted). n.entry.session ≡ 0));
+    stands = subst (λ (h : History). CoreStands files_of h store) (sym history_after) stands;
+    takes = λ n f. subst (λ (m : ℕ). Takes n (history (after_note mark c kept)) 0 st (length kept.list) m reply) (sym length_after) (takes n (history (after_note mark c kept)) (length kept.list) front_after adds_after refl);
+    settled = λ calm before. subst (RootStands now_root) (sym history_after) (settled before);
+  }

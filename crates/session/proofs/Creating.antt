@@ -1,0 +1,87 @@
+-- One more table.
+use Rattle.std.proofs.Common.{◌≡◌, ◌&&◌, ℕ, ◌+◌, ◌<◌, ◌≤◌, ◌^◌, Bool, true, false, cond, List, [], ◌∷◌, ◌++◌, length, refl, sym, ap, ap₂, ◌∙◌, arith, Option, Some, None, Ok, is_some, nat_lt, codes, Result}
+use Rattle.std.specs.Result.{result_ok}
+use Rattle.std.proofs.lemmas.Bool.Decides.{nat_tests}
+use Rattle.mt_values.specs.declared.command.Command.{Command}
+use Rattle.mt_values.specs.declared.command.Command.TheVariants as command
+use Rattle.mt_values.specs.declared.schema.Schema.{Schema}
+use Rattle.mt_values.specs.declared.statement.Cause.{Cause}
+use Rattle.mt_values.specs.declared.statement.CreateText.{CreateText}
+use Rattle.mt_values.specs.declared.statement.Statement.{Statement}
+use Rattle.mt_values.specs.declared.statement.Statement.TheVariants as statement
+use Rattle.mt_values.specs.Annals.{Told}
+use Rattle.mt_values.specs.Script.{statements_of, statement_and}
+use Rattle.root_store.proofs.EntryReads.{reads_as}
+use Rattle.mt_values.proofs.ScriptBounds.{statements_of_step}
+use Rattle.mt_outside.specs.Disk as root
+use Rattle.mt_outside.specs.Files.{Files}
+use Rattle.mt_model.specs.declared.refusal.Bound.TheVariants as bound
+use Rattle.mt_model.specs.declared.refusal.Refusal.TheVariants as refusal
+use Rattle.mt_model.specs.Commands.{commands_of, create_commands}
+use Rattle.mt_model.specs.History.{History, schema_of, creates}
+use Rattle.mt_model.specs.Reply.{schema_of_text, create_turn, ok_line}
+use Rattle.mt_model.specs.Written.{IsCreateText}
+use Rattle.mt_model.proofs.Tables.{itself_same}
+use Rattle.root_store.specs.declared.store.CoreStore.{CoreStore}
+use Rattle.durable_commit.specs.Commits.{Notes, entry_of}
+use Rattle.root_store.specs.Entries.{EntryHolds, schema_by_items, schema_of_entry}
+use Rattle.root_store.specs.Soundness.{RootStands}
+use Rattle.root_store.specs.Stores.{CoreStands}
+use Rattle.session.specs.Answers.{Answered}
+use Rattle.replies.specs.Foreseen.{history}
+use Rattle.session.specs.Staged.{entry_files}
+use Rattle.session.proofs.Accepting.{accepted_one, accepts_command}
+use Rattle.replies.proofs.Ends.{length_history}
+
+-- what refuses a CREATE at its turn
+module _ (table : List ℕ) (h : History) where
+  turn_by : (o : Option Schema) (b : Bool) → schema_of table h ≡ o → nat_lt (creates h) 64 ≡ b
+      → create_turn table h ≡ cond (is_some o) (Some (refusal.TableExists table)) (cond b None (Some (refusal.Past bound.Tables)))
+  turn_by o b there few =
+      ap (λ x. cond (is_some x) (Some (refusal.TableExists table)) (cond (nat_lt (creates h) 64) None (Some (refusal.Past bound.Tables)))) there
+      ∙ ap (λ x. cond (is_some o) (Some (refusal.TableExists table)) (cond x None (Some (refusal.Past bound.Tables)))) few
+
+  pub turn_taken : (schema : Schema) → schema_of table h ≡ Some schema → create_turn table h ≡ Some (refusal.TableExists table)
+  turn_taken schema there = turn_by (Some schema) (nat_lt (creates h) 64) there refl
+
+  pub turn_full : schema_of table h ≡ None → 64 ≤ creates h → create_turn table h ≡ Some (refusal.Past bound.Tables)
+  turn_full none many = let no : nat_lt (creates h) 64 ≡ false = grind (arith, nat_tests) in turn_by None false none no
+
+  pub turn_free : schema_of table h ≡ None → creates h < 64 → create_turn table h ≡ None
+  turn_free none few = let yes : nat_lt (creates h) 64 ≡ true = grind (arith, nat_tests) in turn_by None true none yes
+
+-- the entry of a CREATE reads as its table's
+module _ (c : CreateText) (schema : Schema) (is : IsCreateText c) (text : schema_of_text c ≡ Ok schema) where
+  abbrev Items : Type 0
+  Items = List (Result Statement Cause)
+
+  reads : schema_of_entry c.table c.text ≡ Some schema
+  reads =
+      let alone : statements_of (c.text ++ codes ";") ≡ Ok (statement.Create c) ∷ [] =
+      statements_of_step (c.text ++ codes ";") ∙ (ap (statement_and statements_of) is.again ∙ ap (λ (ss : Items). Ok (statement.Create c) ∷ ss) (statements_of_step [])) in
+      ap (schema_by_items c.table c.text) alone
+      ∙ (ap₂ (λ (a b : Bool). cond (a && b) (result_ok (schema_of_text c)) None) (itself_same c.table) (itself_same c.text) ∙ ap result_ok text)
+
+  pub entry_holds : length c.text < 2 ^ 32 → EntryHolds c.table schema (entry_files c.text)
+  entry_holds few = record { text = c.text; few = few; bytes = refl; reads = reads_as c.table c.text schema reads }
+
+-- the command that a CREATE gives
+module _ (text : CreateText) (schema : Schema) (says : schema_of_text text ≡ Ok schema) where
+  abbrev pub created : Command
+  created = command.Create (record { table = text.table; schema = schema })
+
+  pub create_gives : (h : History) → commands_of h (statement.Create text) ≡ Ok (created ∷ [])
+  create_gives h = ap (create_commands text.table) says
+
+  -- a CREATE that is accepted
+  pub created_accepts : {F : Type 0} (files_of : F → Option Files) (kept : Told) (mark opened disk arm place : ℕ) (new : CoreStore F) (reply : List ℕ) (old told : Option Told) (root_before now_root : Option root.Told)
+      → place ≡ length (history kept) → create_turn text.table (history kept) ≡ None → old ≡ Some kept
+      → Notes mark (entry_of 0 created) old told → CoreStands files_of (history kept ++ entry_of 0 created ∷ []) new → reply ≡ ok_line (place + 1)
+      → (RootStands root_before (history kept) → RootStands now_root (history kept ++ entry_of 0 created ∷ []))
+      → Answered files_of kept (Ok (statement.Create text)) opened disk arm reply new told root_before now_root
+  created_accepts files_of kept mark opened disk arm place new reply old told root_before now_root at turn was notes stands ok settled =
+      let length_kept : place ≡ length kept.list = at ∙ length_history kept in
+      accepts_command mark created kept files_of (Ok (statement.Create text)) opened disk arm reply new old told root_before now_root was notes stands
+      (λ n now m front added at_m.
+      accepted_one n now (history kept) (statement.Create text) created m reply front (create_gives (history kept)) turn added (ok ∙ ap (λ k. ok_line (k + 1)) (length_kept ∙ sym at_m)))
+      settled

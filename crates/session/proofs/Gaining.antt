@@ -1,0 +1,117 @@
+-- What a command that was given to a commit, or was not, did to what is known of annals, to the store and to the disk.
+use Rattle.std.proofs.Common.{◌≡◌, ◌⊎◌, inl, inr, ℕ, ◌<◌, ◌≤◌, List, [], ◌∷◌, ap, ◌∙◌, arith, Option, Some, None, Ok, IfSome, Bool, true, false, cond, is_some, nat_le, nat_lt, length, refl, subst, sym}
+use Rattle.std.specs.Prelude.{IsNone}
+use Rattle.std.specs.List.{Contains as HasItem}
+use Rattle.std.specs.Option.{option_map}
+use Rattle.std.proofs.lemmas.List.Elements.{Contains-get_or}
+use Rattle.mt_base.specs.declared.partition.Partition.{Partition}
+use Rattle.mt_model.specs.Commands.{commands_of}
+use Rattle.mt_outside.specs.Causes.{Rose}
+use Rattle.mt_outside.specs.Disk as root
+use Rattle.mt_values.specs.declared.command.Command.{Command}
+use Rattle.mt_values.specs.declared.statement.Statement.{Statement}
+use Rattle.mt_values.specs.Annals.{Told, began}
+use Rattle.part_set.specs.Sets.{parts_of}
+use Rattle.durable_commit.specs.declared.causes.Limit.TheVariants as limit
+use Rattle.durable_commit.specs.declared.causes.Refused.{Refused}
+use Rattle.durable_commit.specs.declared.causes.Refused.TheVariants as refused
+use Rattle.durable_commit.specs.Commits.{IsOutside, Notes, entry_of}
+use Rattle.root_store.specs.declared.store.CoreStore.{CoreStore}
+use Rattle.root_store.specs.Stores.{table_at}
+use Rattle.root_commits.specs.Commits.{IsCause, SameStore, kept_in, refuses_create, refuses_part}
+use Rattle.root_commits.proofs.Leaving.{shown_calm, shown_part_calm}
+use Rattle.replies.specs.Foreseen.{history, is_unsettled}
+use Rattle.session.specs.Answers.{AcceptsNothing, BeginsNext, IsBegun, Keeps}
+use Rattle.session.proofs.Accepting.{begins_first}
+use Rattle.session.specs.Gains.{Gains, commands_over, schemas_in}
+
+-- the one item of a list
+one_item : {X : Type 0} (x : X) → HasItem (x ∷ []) x
+one_item x = Contains-get_or (x ∷ []) 0 x (omega arith)
+
+module _ {F : Type 0} (store : CoreStore F) (failed : ℕ) (said : Statement) (given : Command) (by : commands_over (schemas_in store) said ≡ Ok (given ∷ [])) (old new : Option Told) where
+  pub gains_noted : failed ≡ store.opened → (mark : ℕ) → Notes mark (entry_of 0 given) old new → Gains (Ok said) failed store old new
+  gains_noted still mark notes = inr (record { said = said; item_is = refl; commands = given ∷ []; gives = by; given = given; among = one_item given; still = still; annals = inr (mark, notes) })
+
+  -- what was sealed came back, or was given to the disk
+  pub gains_refused : {S : Type 0} (back : Option S) → IfSome back (λ _. new ≡ old) → (IsNone back → new ≡ option_map (began (entry_of 0 given)) old) → (IsNone back → failed ≡ store.opened) → Gains (Ok said) failed store old new
+  gains_refused None same begun still = inr (record { said = said; item_is = refl; commands = given ∷ []; gives = by; given = given; among = one_item given; still = still refl; annals = inl (begun refl) })
+  gains_refused (Some s) same begun still = inl same
+
+-- ---- a command is given to the disk only while its count of faults is the one at opening
+
+shown_none : (shown : Option Refused) → IsCause shown None → shown ≡ None
+shown_none None is = refl
+shown_none (Some why) is = cc
+
+outside_none : (a b c : Bool) (x y z cause : Refused) → (IsOutside (Some x) → ⊥) → (IsOutside (Some y) → ⊥) → (IsOutside (Some z) → ⊥)
+    → IsCause (cond a (Some x) (cond b (Some y) (cond c (Some z) None))) (Some cause) → IsOutside (Some cause) → cond a (Some x) (cond b (Some y) (cond c (Some z) None)) ≡ None
+outside_none true b c x y z cause first second third is outside = absurd (first (subst IsOutside is outside))
+outside_none false true c x y z cause first second third is outside = absurd (second (subst IsOutside is outside))
+outside_none false false true x y z cause first second third is outside = absurd (third (subst IsOutside is outside))
+outside_none false false false x y z cause first second third is outside = refl
+
+module _ {F : Type 0} (store : CoreStore F) (table : List ℕ) (now : ℕ) (low : store.opened ≤ now) where
+  pub still_created : IsCause (refuses_create store table now) None → now ≡ store.opened
+  still_created is = shown_calm store table now (shown_none (refuses_create store table now) is) low
+
+  pub still_refused : (cause : Refused) → IsCause (refuses_create store table now) (Some cause) → IsOutside (Some cause) → now ≡ store.opened
+  still_refused cause is outside =
+      shown_calm store table now
+      (outside_none (is_some (table_at store table)) (nat_le 64 (length store.tables.entries)) (nat_lt store.opened now) refused.Exists (refused.Limit limit.Tables) (refused.Stopped store.opened now) cause
+      (λ no. no) (λ no. no) (λ no. no) is outside) low
+
+  -- so where the disk failed, its count was that one
+  pub create_failed : (disk : ℕ) (cause : Refused) → IsCause (refuses_create store table now) (Some cause) → (cause ≡ refused.Disk → Rose now disk) → cause ≡ refused.Disk → (now ≡ store.opened) × Rose now disk
+  create_failed disk cause is rose failed = (still_refused cause is (subst (λ (r : Refused). IsOutside (Some r)) (sym failed) tt), rose failed)
+
+  pub still_added : (partition : Partition) (drawn : ℕ) → IsCause (refuses_part store table partition drawn now) None → now ≡ store.opened
+  still_added partition drawn is = shown_part_calm store table now partition drawn (shown_none (refuses_part store table partition drawn now) is) low
+
+  pub still_part_refused : (partition : Partition) (drawn : ℕ) (cause : Refused) → IsCause (refuses_part store table partition drawn now) (Some cause) → IsOutside (Some cause) → now ≡ store.opened
+  still_part_refused partition drawn cause is outside =
+      shown_part_calm store table now partition drawn
+      (outside_none (nat_le 3000 (length (kept_in partition (parts_of store.set table)))) (nat_le 4294967295 drawn) (nat_lt store.opened now) (refused.Limit limit.Parts) (refused.Limit limit.Numbers) (refused.Stopped store.opened now) cause
+      (λ no. no) (λ no. no) (λ no. no) is outside) low
+
+  pub part_failed : (partition : Partition) (drawn disk : ℕ) (cause : Refused) → IsCause (refuses_part store table partition drawn now) (Some cause) → (cause ≡ refused.Disk → Rose now disk) → cause ≡ refused.Disk
+      → (now ≡ store.opened) × Rose now disk
+  part_failed partition drawn disk cause is rose failed = (still_part_refused partition drawn cause is (subst (λ (r : Refused). IsOutside (Some r)) (sym failed) tt), rose failed)
+
+-- ---- what a refused command leaves
+
+-- what the keeper tells: the same list, and what was begun or the command
+pub record LeavesTold (c : Command) (kept : Told) (given : Type 0) (told : Option Told) : Type 0 where
+  pub now : Told
+  pub told_is : told ≡ Some now
+  pub list_is : now.list ≡ kept.list
+  pub begun : (now.begun ≡ kept.begun) ⊎ ((now.begun ≡ Some (entry_of 0 c)) × given)
+
+pub leaves_told : {S : Type 0} (c : Command) (kept : Told) (given : Type 0) (back : Option S) (old new : Option Told) → old ≡ Some kept → IfSome back (λ _. new ≡ old)
+    → (IsNone back → new ≡ option_map (began (entry_of 0 c)) old) → (IsNone back → given) → LeavesTold c kept given new
+leaves_told c kept given None old new was same begun by =
+    record { now = began (entry_of 0 c) kept; told_is = begun refl ∙ ap (option_map (began (entry_of 0 c))) was; list_is = refl; begun = inr (refl, by refl) }
+leaves_told c kept given (Some s) old new was same begun by = record { now = kept; told_is = same ∙ was; list_is = refl; begun = inl refl }
+
+module _ (said : Statement) (c : Command) (kept : Told) (gives : commands_of (history kept) said ≡ Ok (c ∷ [])) (given : Type 0) (told : Option Told) (l : LeavesTold c kept given told) where
+  -- without a reply
+  pub keeps_refused : (was now : Option root.Told) → now ≡ was → Keeps kept (Ok said) told was now
+  keeps_refused was now same = record { now = l.now; told_is = l.told_is; list_is = l.list_is; begun = by l.begun; root_is = same }
+    where
+      by : (l.now.begun ≡ kept.begun) ⊎ ((l.now.begun ≡ Some (entry_of 0 c)) × given) → (l.now.begun ≡ kept.begun) ⊎ BeginsNext kept l.now (Ok said) []
+      by (inl same) = inl same
+      by (inr (begun, outside)) = inr (begins_first kept l.now said c [] l.list_is gives begun)
+
+  -- with one
+  pub begun_refused : (reply : List ℕ) → (given → is_unsettled reply ≡ true) → IsBegun kept l.now (Ok said) reply
+  begun_refused reply unsettled = by l.begun
+    where
+      by : (l.now.begun ≡ kept.begun) ⊎ ((l.now.begun ≡ Some (entry_of 0 c)) × given) → IsBegun kept l.now (Ok said) reply
+      by (inl same) = inl (same, ap length l.list_is)
+      by (inr (begun, outside)) = inr (inr (unsettled outside, [], begins_first kept l.now said c [] l.list_is gives begun))
+
+-- a store that was stopped before gave the disk nothing
+pub stays_refused : {F S D : Type 0} (store after : CoreStore F) (failed : ℕ) (back : Option S) (disk disk_after : D) (old new : Option Told) → (IsNone back → failed ≡ store.opened) → store.opened < failed
+    → SameStore store after → IfSome back (λ _. disk_after ≡ disk) → IfSome back (λ _. new ≡ old) → AcceptsNothing store after disk disk_after old new
+stays_refused store after failed None disk disk_after old new still risen same disk_same told_same = let calm = still refl in absurd (omega (arith, calm, risen))
+stays_refused store after failed (Some s) disk disk_after old new still risen same disk_same told_same = record { store_is = same; disk_is = disk_same; annals_is = told_same }

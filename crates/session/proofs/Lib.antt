@@ -1,0 +1,10 @@
+pub mod Accepting
+pub mod Creating
+pub mod Damaged
+pub mod Gaining
+pub mod Inserting
+pub mod Sealing
+pub mod SelectStanding
+pub mod Selecting
+pub mod Standing
+pub mod Stopping

@@ -1,0 +1,53 @@
+-- What the store tells of the tables of the history that it stands for, and of their rows.
+use Rattle.std.proofs.Common.{◌≡◌, ℕ, List, [], ◌∷◌, ◌++◌, refl, sym, ap, ◌∙◌, subst, Option, Some, None}
+use Rattle.std.specs.Option.{option_map}
+use Rattle.mt_values.specs.declared.schema.Schema.{Schema}
+use Rattle.mt_values.specs.Values.{Row}
+use Rattle.mt_outside.specs.Files.{Files}
+use Rattle.mt_model.specs.History.{History, schema_of}
+use Rattle.mt_model.specs.Live.{live}
+use Rattle.mt_model.specs.Partial.{Partly}
+use Rattle.part_reader.specs.declared.reading.Part.{Part}
+use Rattle.part_set.specs.declared.kept.Kept.{Kept}
+use Rattle.part_set.specs.Sets.{parts_of}
+use Rattle.part_history.specs.Parts.{rows_of_parts}
+use Rattle.part_history.proofs.Joined.{parts_joined}
+use Rattle.root_store.specs.declared.store.CoreStore.{CoreStore}
+use Rattle.root_store.specs.declared.store.Table.{Table}
+use Rattle.root_store.specs.Stores.{CoreStands, core_parts, table_at}
+use Rattle.session.specs.Scans.{PartsHold, joined}
+
+rows_joined : {F : Type 0} (files_of : F → Option Files) (schema : Schema) (table : List ℕ) (kept : List (Kept (Part F))) (rows : List (List Row)) → PartsHold files_of schema kept rows
+    → rows_of_parts (core_parts table kept rows) ≡ joined rows
+rows_joined files_of schema table [] [] h = refl
+rows_joined files_of schema table [] (r ∷ rows) h = absurd h
+rows_joined files_of schema table (k ∷ kept) [] h = absurd h
+rows_joined files_of schema table (k ∷ kept) (r ∷ rows) h = ap (λ (rs : List Row). r ++ rs) (rows_joined files_of schema table kept rows h.1)
+
+-- a table's parts hold rows that merges may have left of its live rows
+pub record Held {F : Type 0} (files_of : F → Option Files) (h : History) (table : List ℕ) (schema : Schema) (parts : List (Kept (Part F))) : Type 0 where
+  pub rows : List (List Row)
+  pub hold : PartsHold files_of schema parts rows
+  pub partly : Partly schema (live table schema h) (joined rows)
+
+module _ {F : Type 0} (files_of : F → Option Files) (h : History) (store : CoreStore F) (s : CoreStands files_of h store) (table : List ℕ) where
+  abbrev schema_at : Option Table → Option Schema
+  schema_at found = option_map (λ (t : Table). t.schema) found
+
+  -- a name that no table of the store has is no table's
+  pub no_table : table_at store table ≡ None → schema_of table h ≡ None
+  no_table none = sym (s.tables table) ∙ ap schema_at none
+
+  module _ (t : Table) (there : table_at store table ≡ Some t) where
+    pub table_schema : schema_of table h ≡ Some t.schema
+    table_schema = sym (s.tables table) ∙ ap schema_at there
+
+    pub rows_held : Held files_of h table t.schema (parts_of store.set table)
+    rows_held =
+        let p = s.parts table t there in
+        record {
+          rows = p.rows;
+          hold = p.hold;
+          partly = subst (Partly t.schema (live table t.schema h)) (rows_joined files_of t.schema table (parts_of store.set table) p.rows p.hold)
+              (parts_joined h table t.schema s.legal table_schema (core_parts table (parts_of store.set table) p.rows) p.stand p.order);
+        }

@@ -1,0 +1,12 @@
+-- a column for each place gone over
+use Rattle.std.proofs.Common.{◌≡◌, [], filter_map, map, slice_get, take}
+use Rattle.mt_values.specs.Grid.{Cells}
+use Rattle.mt_model.specs.History.{column_types}
+use Rattle.session.specs.Scans.{values_at}
+use Rattle.session.proofs.columns.empty_columns.Given as goal
+
+abbrev pub invariant-loop-place : goal.invariant-loop-place
+invariant-loop-place l = record {
+  types : map (λ (c : Cells). c.col_type) l.columns.items ≡ filter_map (slice_get (column_types l.schema)) (take l.place-index l.places);
+  empty : map (λ (c : Cells). c.values) l.columns.items ≡ values_at [] (take l.place-index l.places);
+}

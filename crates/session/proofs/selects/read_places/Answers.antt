@@ -1,0 +1,150 @@
+use Rattle.std.proofs.lemmas.Result.{IfOk-weaker}
+use Rattle.std.proofs.Common.{◌≡◌, ◌∙◌, ℕ, List, length, map, sym, ap, refl, subst, inl, All}
+use Rattle.mt_values.specs.Grid.{Cells, grid_of, rows_of}
+use Rattle.mt_outside.specs.declared.disk.DiskError.TheVariants as failure
+use Rattle.mt_model.specs.Refusals.{is_damage}
+use Rattle.part_reader.specs.Faults.{IsNoDamage}
+use Rattle.replies.specs.Foreseen.{history}
+use Rattle.replies.specs.Lines.{Printed}
+use Rattle.session.specs.Scans.{ExplainsParts, PartsHold, joined, rows_kept, values_at}
+use Rattle.std.proofs.lemmas.Bool.{false≢true}
+use Rattle.part_reader.specs.declared.reading.PartFault.{PartFault}
+use Rattle.part_set.specs.Sets.{parts_of}
+use Rattle.replies.proofs.Undamaged.{stage_line}
+use Rattle.session.proofs.Damaged.{all_hold, tells_of_damage}
+use Rattle.replies.proofs.Ends.{added_nothing, length_history, whole_front}
+use Rattle.replies.proofs.Refusing.{select_failed}
+use Rattle.session.proofs.Selecting.{columns_are, empty_even, empty_many, joined_typed, lent_back, projected, rows_counted, selected_below, selects, typed_have_all}
+use Rattle.session.proofs.SelectStanding.{rows_held, table_schema}
+use Rattle.replies.proofs.Causing.{says_answer, says_damage, says_failed}
+use Rattle.replies.proofs.Counting.{line_of_stage}
+use Rattle.session.proofs.selects.read_places.Goals as goal
+
+-- the columns that are read
+pub empty_columns-requires : goal.empty_columns-requires
+empty_columns-requires g c =
+    let table = c.args.table.now in
+    let chosen = c.requires.places in
+    selected_below table.schema c.args.text.now.columns c.args.places.now chosen
+
+pub read_parts-requires-after_bounds : goal.read_parts-requires-after_bounds
+read_parts-requires-after_bounds g c κs within = ap length c.deref_mut.ensures.value ∙ empty_many c.args.places.now c.in_ok-columns.columns.items c.in_ok-columns.ensures.empty
+
+-- the arm failed
+pub returns-in-Err-default-Fault-clause-answers : goal.returns-in-Err-default-Fault-clause-answers
+returns-in-Err-default-Fault-clause-answers g c = λ kept stands.
+    let table = c.args.table.now in
+    let there = table_schema g.R.Dir.Dir.files (history kept) c.args.store.now stands c.args.text.now.table table c.requires.table in
+    let chosen = c.requires.places in
+    let rose = c.in-Err-default-Fault.ensures.fault c.in-Err-default-Fault.field-0-1-is in
+    IfOk-weaker c.stage_line.result _ _ (λ line is n disk f. select_failed n kept line.items c.args.text.now c.args.places.now (columns_are c.args.text.now (history kept) table.schema there ∙ chosen)
+    (line_of_stage c.args.store.now.opened disk (g.R.Arm.failed c.read_parts.new.arm) (g.R.Arm.failed c.args.arm.now) failure.Fault line.items n is (λ same. rose) f)) c.stage_line.ensures.line
+
+-- a part is not damaged
+pub returns-clause-answers : goal.returns-clause-answers
+returns-clause-answers g c = λ kept stands.
+    let files = g.R.Dir.Dir.files in
+    let table = c.args.table.now in
+    let there = c.requires.table in
+    let held = rows_held files (history kept) c.args.store.now stands c.args.text.now.table table there in
+    let chosen = c.requires.places in
+    let within = selected_below table.schema c.args.text.now.columns c.args.places.now chosen in
+    let types = ap (map (λ (x : Cells). x.col_type)) c.deref_mut.ensures.value ∙ c.in_ok-columns.ensures.types in
+    let sound = c.in-Err-default-Damaged.ensures.sound table.schema held.rows (subst (λ ps. PartsHold files table.schema ps held.rows) (sym c.parts-parts.ensures.parts) held.hold)
+    within types in
+    absurd (subst IsNoDamage c.in-Err-default-Damaged.field-0-1-is sound)
+
+pub print-requires-clause-even : goal.print-requires-clause-even
+print-requires-clause-even g c =
+    let new = c.read_parts.new.columns in
+    let items = c.in_ok-columns.columns.items in
+    let back = lent_back items new c.in_ok-columns.columns.len (c.in-Ok.ensures.many ∙ ap length c.deref_mut.ensures.value) (ap length (sym c.deref_mut.ensures.value) ∙ c.deref_mut.ensures.len) in
+    let none = subst (All (λ (x : Cells). length x.values ≡ 0)) (sym c.deref_mut.ensures.value) (empty_even c.args.places.now items c.in_ok-columns.ensures.empty) in
+    let even = c.in-Ok.ensures.even none in
+    let count = (c.requires.rows ∙ ap rows_kept (sym c.parts-parts.ensures.parts)) in
+    subst (All (λ (x : Cells). length x.values ≡ c.args.rows)) (sym back) (subst (λ m. All (λ (x : Cells). length x.values ≡ m) new) (sym count) even)
+
+pub returns-in-Ok-clause-answers : goal.returns-in-Ok-clause-answers
+returns-in-Ok-clause-answers g c = λ kept stands.
+    let files = g.R.Dir.Dir.files in
+    let store = c.args.store.now in
+    let text = c.args.text.now in
+    let table = c.args.table.now in
+    let at = c.requires.table in
+    let held = rows_held files (history kept) store stands text.table table at in
+    let there = table_schema files (history kept) store stands text.table table at in
+    let hold = subst (λ ps. PartsHold files table.schema ps held.rows) (sym c.parts-parts.ensures.parts) held.hold in
+    let chosen = c.requires.places in
+    let within = selected_below table.schema text.columns c.args.places.now chosen in
+    let lent = c.deref_mut.ensures.value in
+    let items = c.in_ok-columns.columns.items in
+    let new = c.read_parts.new.columns in
+    let types = ap (map (λ (x : Cells). x.col_type)) lent ∙ c.in_ok-columns.ensures.types in
+    let empty = ap (map (λ (x : Cells). x.values)) lent ∙ c.in_ok-columns.ensures.empty in
+    let values : map (λ (x : Cells). x.values) new ≡ values_at (joined held.rows) c.args.places.now =
+    c.in-Ok.ensures.values table.schema held.rows hold within types empty in
+    let back = lent_back items new c.in_ok-columns.columns.len (c.in-Ok.ensures.many ∙ ap length lent) (ap length (sym lent) ∙ c.deref_mut.ensures.len) in
+    let count : c.args.rows ≡ length (joined held.rows) = (c.requires.rows ∙ ap rows_kept (sym c.parts-parts.ensures.parts)) ∙ rows_counted files table.schema c.parts-parts.result.now held.rows hold in
+    let typed = joined_typed files table.schema c.parts-parts.result.now held.rows hold in
+    let rows_are = ap (rows_of new) count ∙ projected new c.args.places.now (joined held.rows) values (typed_have_all table.schema c.args.places.now (joined held.rows) within typed) in
+    let place : store.length ≡ length kept.list = stands.length_is ∙ length_history kept in
+    IfOk-weaker c.print.result _ _ (λ reply is n disk f.
+    let printed = subst (λ (cs : List Cells). Printed (grid_of cs c.args.rows) store.length reply.items) back is in
+    let here = subst (λ (m : ℕ). Printed (grid_of new c.args.rows) m reply.items) place printed in
+    inl (
+      selects (history kept) text table.schema c.args.places.now (joined held.rows) (grid_of new c.args.rows) (length kept.list) reply.items (whole_front kept) there chosen held.partly rows_are here,
+      added_nothing kept,
+    )) c.print.ensures
+
+-- the reply does not tell of damage
+pub returns-in-Err-default-Fault-clause-undamaged : goal.returns-in-Err-default-Fault-clause-undamaged
+returns-in-Err-default-Fault-clause-undamaged g c = λ held. IfOk-weaker c.stage_line.result _ _ (λ line is. stage_line failure.Fault line.items is) c.stage_line.ensures.line
+
+pub returns-clause-undamaged : goal.returns-clause-undamaged
+returns-clause-undamaged g c = λ held.
+    let files = g.R.Dir.Dir.files in
+    let table = c.args.table.now in
+    let hold = all_hold files table.schema (parts_of c.args.store.now.set c.args.text.now.table) (held c.args.text.now.table table c.requires.table) in
+    let chosen = c.requires.places in
+    let within = selected_below table.schema c.args.text.now.columns c.args.places.now chosen in
+    let types = ap (map (λ (x : Cells). x.col_type)) c.deref_mut.ensures.value ∙ c.in_ok-columns.ensures.types in
+    let sound = c.in-Err-default-Damaged.ensures.sound table.schema hold.0 (subst (λ ps. PartsHold files table.schema ps hold.0) (sym c.parts-parts.ensures.parts) hold.1)
+    within types in
+    absurd (subst IsNoDamage c.in-Err-default-Damaged.field-0-1-is sound)
+
+pub returns-in-Ok-clause-undamaged : goal.returns-in-Ok-clause-undamaged
+returns-in-Ok-clause-undamaged g c = λ held. IfOk-weaker c.print.result _ _ (λ reply is. ap is_damage is.reply_is) c.print.ensures
+
+-- what it tells where it does
+pub returns-in-Err-default-Fault-clause-damaged : goal.returns-in-Err-default-Fault-clause-damaged
+returns-in-Err-default-Fault-clause-damaged g c = IfOk-weaker c.stage_line.result _ _ (λ line is bad. absurd (false≢true (sym (stage_line failure.Fault line.items is) ∙ bad))) c.stage_line.ensures.line
+
+pub returns-clause-damaged : goal.returns-clause-damaged
+returns-clause-damaged g c =
+    let files = g.R.Dir.Dir.files in
+    let store = c.args.store.now in
+    let text = c.args.text.now in
+    let table = c.args.table.now in
+    let chosen = c.requires.places in
+    let types = ap (map (λ (x : Cells). x.col_type)) c.deref_mut.ensures.value ∙ c.in_ok-columns.ensures.types in
+    IfOk-weaker c.damaged.result _ _ (λ line is bad. tells_of_damage files store text line.items table c.args.places.now c.requires.table chosen
+    c.parts-parts.result.now c.args.places.now (map (λ (x : Cells). x.col_type) c.deref_mut.result.now) c.parts-parts.ensures.parts refl types
+    c.in-Err-default-Damaged.part c.in-Err-default-Damaged.file _ _ _ (subst (λ (w : PartFault). ExplainsParts files c.parts-parts.result.now c.args.places.now (map (λ (x : Cells). x.col_type) c.deref_mut.result.now) c.in-Err-default-Damaged.part w) c.in-Err-default-Damaged.field-0-1-is c.in-Err-default-Damaged.ensures.damaged)
+    is) c.damaged.ensures
+
+pub returns-in-Ok-clause-damaged : goal.returns-in-Ok-clause-damaged
+returns-in-Ok-clause-damaged g c = IfOk-weaker c.print.result _ _ (λ reply is bad. absurd (false≢true (sym (ap is_damage is.reply_is) ∙ bad))) c.print.ensures
+
+-- what the outside did where it says so
+pub returns-in-Err-default-Fault-clause-causes : goal.returns-in-Err-default-Fault-clause-causes
+returns-in-Err-default-Fault-clause-causes g c = λ disk.
+    let rose = c.in-Err-default-Fault.ensures.fault c.in-Err-default-Fault.field-0-1-is in
+    IfOk-weaker c.stage_line.result _ _ (λ line is. says_failed c.args.store.now.opened disk disk (g.R.Arm.failed c.args.arm.now) (g.R.Arm.failed c.read_parts.new.arm) line.items failure.Fault is (λ same. rose)) c.stage_line.ensures.line
+
+pub returns-clause-causes : goal.returns-clause-causes
+returns-clause-causes g c = λ disk.
+    IfOk-weaker c.damaged.result _ _ (λ line is. says_damage c.args.store.now.opened disk disk (g.R.Arm.failed c.args.arm.now) (g.R.Arm.failed c.read_parts.new.arm) line.items _ _ _ is) c.damaged.ensures
+
+pub returns-in-Ok-clause-causes : goal.returns-in-Ok-clause-causes
+returns-in-Ok-clause-causes g c = λ disk.
+    IfOk-weaker c.print.result _ _ (λ reply is. says_answer c.args.store.now.opened disk disk (g.R.Arm.failed c.args.arm.now) (g.R.Arm.failed c.read_parts.new.arm) reply.items _ is.reply_is refl) c.print.ensures

@@ -1,0 +1,6 @@
+pub mod Answers
+pub mod Gains
+pub mod Scans
+pub mod Selects
+pub mod Staged
+pub mod Stops

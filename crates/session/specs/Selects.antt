@@ -1,0 +1,34 @@
+-- What a SELECT tells of damage.
+use Rattle.std.specs.Prelude.{◌≡◌, ℕ, List, slice_get, filter_map, Ok, Some, Option}
+use Rattle.mt_values.specs.declared.manifest.FileMark.{FileMark}
+use Rattle.mt_base.specs.declared.name.FileId.TheVariants as file
+use Rattle.mt_values.specs.declared.statement.SelectText.{SelectText}
+use Rattle.mt_outside.specs.Files.{Files}
+use Rattle.mt_model.specs.History.{column_types}
+use Rattle.mt_model.specs.declared.refusal.Refusal.TheVariants as refusal
+use Rattle.mt_model.specs.Refusals.{refusal_line}
+use Rattle.mt_model.specs.Reply.{selected_places}
+use Rattle.part_name.specs.declared.part.PartName.{PartName}
+use Rattle.part_name.specs.PartNames.{part_text}
+use Rattle.part_reader.specs.declared.reading.PartFault.TheVariants as fault
+use Rattle.session.specs.Scans.{ExplainsParts}
+use Rattle.part_set.specs.Sets.{parts_of}
+use Rattle.mt_base.specs.Files.{file_name}
+use Rattle.root_store.specs.declared.store.CoreStore.{CoreStore}
+use Rattle.root_store.specs.declared.store.Table.{Table}
+use Rattle.root_store.specs.Stores.{table_at}
+
+-- The reply tells of damage: of a part of the table, and of the file of a selected column in it. The bytes that were read there are not those
+-- that the part's manifest means, or spell no values of the column's type.
+pub record TellsOfDamage {F : Type 0} (files_of : F → Option Files) (store : CoreStore F) (text : SelectText) (reply : List ℕ) : Type 0 where
+  pub table : Table
+  pub places : List ℕ
+  pub table_is : table_at store text.table ≡ Some table
+  pub places_are : selected_places table.schema.columns text.columns ≡ Ok places
+  pub name : PartName
+  pub number : ℕ
+  pub place : ℕ
+  pub wanted : FileMark
+  pub found : FileMark
+  pub part : ExplainsParts files_of (parts_of store.set text.table) places (filter_map (slice_get (column_types table.schema)) places) name (fault.Damaged (file.Column number) place wanted found)
+  pub reply_is : reply ≡ refusal_line (refusal.Damaged text.table (part_text name) (file_name (file.Column number)))

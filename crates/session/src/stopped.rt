@@ -1,0 +1,71 @@
+// What the turn of a command, or a commit that failed, refuses it for.
+ghost use Rattle.std.specs.Prelude.{◌≡◌, IfErr, IfOk};
+ghost use Rattle.session.specs.Stops.{IsLineOf, refusal_of_commit};
+ghost use Rattle.mt_model.specs.declared.refusal.Refusal.TheVariants as refusal;
+ghost use Rattle.mt_model.specs.Refusals.{refusal_line};
+
+use durable_commit::{Limit, Refused};
+use mt_base::{NoMemory, Twin};
+use mt_model::{Bound, Refusal, Room, refusal_line};
+use mt_values::Name;
+use std::alloc::Global;
+
+/// How many of a statement's commands are accepted before the one that it runs: a statement has one at most.
+pub const ACCEPTED_BEFORE: usize = 0;
+
+/// Why a command on a table was not committed after so many others of its statement were, as a refusal. None for want of memory.
+///
+/// `NoMemory` where an allocation failed.
+fn refusal_of(
+    alloc: Global,
+    accepted: usize,
+    table: &Name,
+    cause: Refused,
+) -> Result<Option<Refusal>, NoMemory>
+    ensures { IfOk result (λ found. found ≡ refusal_of_commit accepted table.now cause) }
+{
+    let refusal = match cause {
+        Refused::NoMemory => return Ok(None),
+        Refused::Disk => Refusal::Unsettled { accepted },
+        Refused::Stopped { opened, now } => Refusal::Stopped {
+            opened,
+            now,
+            accepted,
+        },
+        Refused::Exists => Refusal::TableExists(table.twin(alloc)?),
+        Refused::Limit(Limit::Tables) => Refusal::Past(Bound::Tables),
+        Refused::Limit(Limit::Parts) => {
+            let room = Room::Parts;
+            Refusal::Full { room, accepted }
+        }
+        Refused::Limit(Limit::Numbers) => {
+            let room = Room::Numbers;
+            Refusal::Full { room, accepted }
+        }
+    };
+    Ok(Some(refusal))
+}
+
+/// The reply to a command on a table that was not committed after so many others of its statement were. Where the disk failed it is
+/// `unsettled`, so that no memory is wanted then.
+///
+/// `NoMemory` where that was why, and where an allocation failed; never where the disk failed.
+pub fn refused_line(
+    alloc: Global,
+    accepted: usize,
+    table: &Name,
+    cause: Refused,
+    unsettled: Vec<u8>,
+) -> Result<Vec<u8>, NoMemory>
+    requires { unsettled.items ≡ refusal_line (refusal.Unsettled accepted) }
+    ensures line { IfOk result (λ line. IsLineOf accepted table.now cause line.items) }
+    ensures disk { IfErr result (λ _. cause ≡ Refused.Disk → ⊥) }
+{
+    if let Refused::Disk = cause {
+        return Ok(unsettled);
+    }
+    let Some(refusal) = refusal_of(alloc, accepted, table, cause)? else {
+        return Err(NoMemory);
+    };
+    refusal_line(alloc, &refusal)
+}

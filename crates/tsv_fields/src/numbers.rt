@@ -1,0 +1,74 @@
+// Numbers from the bytes of a field.
+ghost use Rattle.std.specs.Prelude.{◌≡◌, ◌≤◌, ◌<◌, ◌^◌, ◌≤ℤ◌, ◌<ℤ◌, neg_ℤ, pos, IfSome};
+ghost use Rattle.mt_values.specs.Rows.{digits_up_to, minus, signed_below, unsigned_up_to};
+ghost use Rattle.tsv_fields.specs.Numbers.{with_digit, IsBelow};
+
+// The number with one more digit; none where the byte is no digit, or where that passes the greatest number.
+fn with_digit(most: u64, number: u64, byte: u8) -> Option<u64>
+    ensures { result ≡ with_digit most number byte }
+{
+    if !byte.is_ascii_digit() {
+        return None;
+    }
+    let tenfold = number.checked_mul(10)?;
+    let longer = tenfold.checked_add(u64::from(byte - b'0'))?;
+    if longer > most {
+        return None;
+    }
+    Some(longer)
+}
+
+// The number that decimal digits say, up to a greatest one; none where a byte is no digit or there is none.
+#[tactic(auto, using(crate::proofs::Digits::digits_more, crate::proofs::Digits::digits_none))]
+fn digits_up_to(most: u64, digits: &[u8]) -> Option<u64>
+    ensures value { result ≡ digits_up_to most digits.now }
+    ensures within { IfSome result (λ n. n ≤ most) }
+{
+    if digits.is_empty() {
+        return None;
+    }
+    let mut number: u64 = 0;
+    for digit in digits {
+        let Some(longer) = with_digit(most, number, *digit) else {
+            return None;
+        };
+        number = longer;
+    }
+    Some(number)
+}
+
+/// An unsigned number up to a greatest one: decimal digits, with an optional plus in front.
+pub fn unsigned_up_to(most: u64, field: &[u8]) -> Option<u64>
+    ensures value { result ≡ unsigned_up_to most field.now }
+    ensures within { IfSome result (λ n. n ≤ most) }
+{
+    match field {
+        [b'+', digits @ ..] => digits_up_to(most, digits),
+        _ => digits_up_to(most, field),
+    }
+}
+
+// The number with a minus in front.
+fn minus(number: u64) -> i64
+    requires { number ≤ 2 ^ 63 }
+    ensures { result ≡ minus number }
+{
+    if number == 0 {
+        return 0;
+    }
+    -1 - (number - 1) as i64
+}
+
+/// A signed number from the negative of an end up to the number below that end: decimal digits, with an optional
+/// plus or minus in front.
+pub fn signed_below(end: u64, field: &[u8]) -> Option<i64>
+    requires some { 0 < end }
+    requires fits { end ≤ 2 ^ 63 }
+    ensures value { result ≡ signed_below end field.now }
+    ensures within { IfSome result (IsBelow end) }
+{
+    match field {
+        [b'-', digits @ ..] => Some(minus(digits_up_to(end, digits)?)),
+        _ => Some(unsigned_up_to(end - 1, field)? as i64),
+    }
+}
