@@ -6,6 +6,5 @@ pub mod Folder
 pub mod Gaining
 pub mod Heading
 pub mod Reopened
-pub mod Selecting
 pub mod ServedScripts
 pub mod Undamaged

@@ -4,6 +4,7 @@ pub mod Damaged
 pub mod Gaining
 pub mod Inserting
 pub mod Sealing
+pub mod SelectAnswers
 pub mod SelectStanding
 pub mod Selecting
 pub mod Standing

@@ -1,5 +1,4 @@
-//! What a statement asks of parts and stages, whatever store it runs over: columns of parts are read, the data of an INSERT too, and
-//! an entry is sealed, or given back.
+//! Running one statement over a store: a CREATE, an INSERT or a SELECT, from its text to its reply.
 #![tactic(auto)]
 
 mod columns;
@@ -8,6 +7,7 @@ mod data;
 mod inserts;
 mod selects;
 mod staging;
+mod statements;
 mod stopped;
 
 pub use columns::{count_rows, empty_columns, read_parts};
@@ -16,3 +16,4 @@ pub use data::read_block;
 pub use inserts::insert;
 pub use selects::select;
 pub use staging::{give_back, seal_entry};
+pub use statements::run_statement;

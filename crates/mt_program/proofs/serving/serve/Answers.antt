@@ -26,14 +26,14 @@ statements-init g c = record {
 }
 
 -- the statement is what the grammar gives
-pub answer-requires-clause-written : goal.answer-requires-clause-written
-answer-requires-clause-written g c κs within =
+pub run_statement-requires-clause-written : goal.run_statement-requires-clause-written
+run_statement-requires-clause-written g c κs within =
     let found = subst (λ o. Found c.args.script.now c.statements.at o) c.in-Ok-Some.field-0-is c.in-Ok-Some.ensures.found in
     let left = one_statement c.args.script.now c.statements.at c.in-Ok-Some.found.1 c.in-Ok-Some.found.0 found in
     is_written (drop c.statements.at c.args.script.now) c.in-Ok-Some.found.0 (statements_of (drop (c.statements.at + c.in-Ok-Some.found.1) c.args.script.now)) left
 
-pub answer-requires-clause-ready : goal.answer-requires-clause-ready
-answer-requires-clause-ready g c κs within = c.statements.invariant.ready
+pub run_statement-requires-clause-ready : goal.run_statement-requires-clause-ready
+run_statement-requires-clause-ready g c κs within = c.statements.invariant.ready
 
 pub returns-in-Ok-None-clause-run : goal.returns-in-Ok-None-clause-run
 returns-in-Ok-None-clause-run g c = λ kept is tells stands settled.
@@ -48,15 +48,15 @@ returns-in-Err-clause-run g c = λ kept is tells stands settled.
     served_so_far g.D.Arm.Dir.Dir.files kept c.args.script.now c.args.store.now.opened (g.D.Disk.failed c.statements.disk) (g.D.Arm.Arm.failed c.statements.arm) c.statements.at c.statements.tally c.statements.store (g.A.Annals.told c.statements.annals) (g.D.Disk.told c.statements.disk)
     (g.K.Sink.written c.args.sink.now) (g.K.Sink.written c.statements.sink) s
 
-pub returns-in-Err-answer-clause-run : goal.returns-in-Err-answer-clause-run
-returns-in-Err-answer-clause-run g c = λ kept is tells stands settled.
+pub returns-in-Err-run_statement-clause-run : goal.returns-in-Err-run_statement-clause-run
+returns-in-Err-run_statement-clause-run g c = λ kept is tells stands settled.
     let s = c.statements.invariant.served kept is tells stands settled in
     let found = subst (λ o. Found c.args.script.now c.statements.at o) c.in-Ok-Some.field-0-is c.in-Ok-Some.ensures.found in
     let left = one_statement c.args.script.now c.statements.at c.in-Ok-Some.found.1 c.in-Ok-Some.found.0 found in
-    let keeps = c.in-Err-answer.ensures.answers s.ran.now s.ran.told_is (c.statements.invariant.tells ∙ tells) s.stands in
+    let keeps = c.in-Err-run_statement.ensures.answers s.ran.now s.ran.told_is (c.statements.invariant.tells ∙ tells) s.stands in
     served_unanswered g.D.Arm.Dir.Dir.files kept c.args.script.now c.args.store.now.opened (g.D.Disk.failed c.statements.disk) (g.D.Arm.Arm.failed c.statements.arm) c.statements.at c.statements.tally c.statements.store (g.A.Annals.told c.statements.annals) (g.D.Disk.told c.statements.disk)
-    (g.K.Sink.written c.args.sink.now) (g.K.Sink.written c.statements.sink) s (g.D.Disk.failed c.answer.new.disk) (g.D.Arm.Arm.failed c.answer.new.arm) c.in-Err-answer.ensures.disk_later c.in-Err-answer.ensures.arm_later
-    c.in-Ok-Some.found.1 c.in-Ok-Some.found.0 left (g.A.Annals.told c.answer.new.annals) (g.D.Disk.told c.answer.new.disk) keeps
+    (g.K.Sink.written c.args.sink.now) (g.K.Sink.written c.statements.sink) s (g.D.Disk.failed c.run_statement.new.disk) (g.D.Arm.Arm.failed c.run_statement.new.arm) c.in-Err-run_statement.ensures.disk_later c.in-Err-run_statement.ensures.arm_later
+    c.in-Ok-Some.found.1 c.in-Ok-Some.found.0 left (g.A.Annals.told c.run_statement.new.annals) (g.D.Disk.told c.run_statement.new.disk) keeps
 
 pub returns-in-Err-write_reply-clause-run : goal.returns-in-Err-write_reply-clause-run
 returns-in-Err-write_reply-clause-run g c = λ kept is tells stands settled.
@@ -64,17 +64,17 @@ returns-in-Err-write_reply-clause-run g c = λ kept is tells stands settled.
     let s = c.statements.invariant.served kept is tells stands settled in
     let found = subst (λ o. Found c.args.script.now c.statements.at o) c.in-Ok-Some.field-0-is c.in-Ok-Some.ensures.found in
     let left = one_statement c.args.script.now c.statements.at c.in-Ok-Some.found.1 c.in-Ok-Some.found.0 found in
-    let disk = g.D.Disk.failed c.answer.new.disk in
-    let arm = g.D.Arm.Arm.failed c.answer.new.arm in
-    let a = subst (λ o. Answered files s.ran.now c.in-Ok-Some.found.0 o disk arm c.in-Ok.reply.items c.answer.new.store (g.A.Annals.told c.answer.new.annals) (g.D.Disk.told c.statements.disk) (g.D.Disk.told c.answer.new.disk)) c.statements.invariant.opened
+    let disk = g.D.Disk.failed c.run_statement.new.disk in
+    let arm = g.D.Arm.Arm.failed c.run_statement.new.arm in
+    let a = subst (λ o. Answered files s.ran.now c.in-Ok-Some.found.0 o disk arm c.in-Ok.reply.items c.run_statement.new.store (g.A.Annals.told c.run_statement.new.annals) (g.D.Disk.told c.statements.disk) (g.D.Disk.told c.run_statement.new.disk)) c.statements.invariant.opened
     (c.in-Ok.ensures.answers s.ran.now s.ran.told_is (c.statements.invariant.tells ∙ tells) s.stands) in
     let low = c.requires.ready.opened in
     let later = c.statements.invariant.disk_later in
     let failed = unsettled_rose c.statements.store.opened c.args.store.now.opened (g.D.Disk.failed c.statements.disk) disk (g.D.Arm.Arm.failed c.statements.arm) arm c.in-Ok.reply.items c.statements.invariant.opened (omega arith) c.requires.ready.below c.in-Ok.ensures.causes in
-    let still : c.args.store.now.opened < g.D.Disk.failed c.statements.disk → g.A.Annals.told c.answer.new.annals ≡ g.A.Annals.told c.statements.annals = λ risen. (c.in-Ok.ensures.stopped (omega (arith, c.statements.invariant.opened, risen))).annals_is in
+    let still : c.args.store.now.opened < g.D.Disk.failed c.statements.disk → g.A.Annals.told c.run_statement.new.annals ≡ g.A.Annals.told c.statements.annals = λ risen. (c.in-Ok.ensures.stopped (omega (arith, c.statements.invariant.opened, risen))).annals_is in
     served_cut files kept c.args.script.now c.args.store.now.opened (g.D.Disk.failed c.statements.disk) (g.D.Arm.Arm.failed c.statements.arm) c.statements.at c.statements.tally c.statements.store (g.A.Annals.told c.statements.annals) (g.D.Disk.told c.statements.disk)
     (g.K.Sink.written c.args.sink.now) (g.K.Sink.written c.statements.sink) s disk arm c.in-Ok.ensures.disk_later c.in-Ok.ensures.arm_later
-    c.in-Ok-Some.found.1 c.in-Ok-Some.found.0 left c.answer.new.store (g.A.Annals.told c.answer.new.annals) (g.D.Disk.told c.answer.new.disk) c.in-Ok.reply.items (g.K.Sink.written c.write_reply.new.sink) failed still a (rw c.deref.ensures.value at c.in-Err-write_reply.ensures.front)
+    c.in-Ok-Some.found.1 c.in-Ok-Some.found.0 left c.run_statement.new.store (g.A.Annals.told c.run_statement.new.annals) (g.D.Disk.told c.run_statement.new.disk) c.in-Ok.reply.items (g.K.Sink.written c.write_reply.new.sink) failed still a (rw c.deref.ensures.value at c.in-Err-write_reply.ensures.front)
 
 pub statements-preserved : goal.statements-preserved
 statements-preserved g c = record {
@@ -87,18 +87,18 @@ statements-preserved g c = record {
       let s = c.statements.invariant.served kept is tells stands settled in
       let found = subst (λ o. Found c.args.script.now c.statements.at o) c.in-Ok-Some.field-0-is c.in-Ok-Some.ensures.found in
       let left = one_statement c.args.script.now c.statements.at c.in-Ok-Some.found.1 c.in-Ok-Some.found.0 found in
-      let disk = g.D.Disk.failed c.answer.new.disk in
-      let arm = g.D.Arm.Arm.failed c.answer.new.arm in
-      let a = subst (λ o. Answered files s.ran.now c.in-Ok-Some.found.0 o disk arm c.in-Ok.reply.items c.answer.new.store (g.A.Annals.told c.answer.new.annals) (g.D.Disk.told c.statements.disk) (g.D.Disk.told c.answer.new.disk)) c.statements.invariant.opened
+      let disk = g.D.Disk.failed c.run_statement.new.disk in
+      let arm = g.D.Arm.Arm.failed c.run_statement.new.arm in
+      let a = subst (λ o. Answered files s.ran.now c.in-Ok-Some.found.0 o disk arm c.in-Ok.reply.items c.run_statement.new.store (g.A.Annals.told c.run_statement.new.annals) (g.D.Disk.told c.statements.disk) (g.D.Disk.told c.run_statement.new.disk)) c.statements.invariant.opened
       (c.in-Ok.ensures.answers s.ran.now s.ran.told_is (c.statements.invariant.tells ∙ tells) s.stands) in
       let low = c.requires.ready.opened in
       let later = c.statements.invariant.disk_later in
       let failed = unsettled_rose c.statements.store.opened c.args.store.now.opened (g.D.Disk.failed c.statements.disk) disk (g.D.Arm.Arm.failed c.statements.arm) arm c.in-Ok.reply.items c.statements.invariant.opened (omega arith) c.requires.ready.below c.in-Ok.ensures.causes in
-      let still : c.args.store.now.opened < g.D.Disk.failed c.statements.disk → g.A.Annals.told c.answer.new.annals ≡ g.A.Annals.told c.statements.annals = λ risen. (c.in-Ok.ensures.stopped (omega (arith, c.statements.invariant.opened, risen))).annals_is in
+      let still : c.args.store.now.opened < g.D.Disk.failed c.statements.disk → g.A.Annals.told c.run_statement.new.annals ≡ g.A.Annals.told c.statements.annals = λ risen. (c.in-Ok.ensures.stopped (omega (arith, c.statements.invariant.opened, risen))).annals_is in
       let more = served_more files kept c.args.script.now c.args.store.now.opened (g.D.Disk.failed c.statements.disk) (g.D.Arm.Arm.failed c.statements.arm) c.statements.at c.statements.tally c.statements.store (g.A.Annals.told c.statements.annals) (g.D.Disk.told c.statements.disk)
       (g.K.Sink.written c.args.sink.now) (g.K.Sink.written c.statements.sink) s disk arm c.in-Ok.ensures.disk_later c.in-Ok.ensures.arm_later
-      c.in-Ok-Some.found.1 c.in-Ok-Some.found.0 left c.answer.new.store (g.A.Annals.told c.answer.new.annals) (g.D.Disk.told c.answer.new.disk) c.in-Ok.reply.items (g.K.Sink.written c.write_reply.new.sink) failed still a (rw c.deref.ensures.value at c.in-Ok-write_reply.ensures.all) in
-      subst (λ t. Served files kept c.args.script.now c.args.store.now.opened disk arm (c.statements.at + c.in-Ok-Some.found.1) t c.answer.new.store (g.A.Annals.told c.answer.new.annals) (g.D.Disk.told c.answer.new.disk) (g.K.Sink.written c.args.sink.now) (g.K.Sink.written c.write_reply.new.sink))
+      c.in-Ok-Some.found.1 c.in-Ok-Some.found.0 left c.run_statement.new.store (g.A.Annals.told c.run_statement.new.annals) (g.D.Disk.told c.run_statement.new.disk) c.in-Ok.reply.items (g.K.Sink.written c.write_reply.new.sink) failed still a (rw c.deref.ensures.value at c.in-Ok-write_reply.ensures.all) in
+      subst (λ t. Served files kept c.args.script.now c.args.store.now.opened disk arm (c.statements.at + c.in-Ok-Some.found.1) t c.run_statement.new.store (g.A.Annals.told c.run_statement.new.annals) (g.D.Disk.told c.run_statement.new.disk) (g.K.Sink.written c.args.sink.now) (g.K.Sink.written c.write_reply.new.sink))
       (sym (rw c.deref.ensures.value at c.in-Ok-write_reply.ensures.tally)) more;
   held = λ tells held. c.in-Ok.ensures.held (c.statements.invariant.tells ∙ tells) (c.statements.invariant.held tells held);
   undamaged = λ tells held.
@@ -111,11 +111,11 @@ statements-preserved g c = record {
         was.0 ++ c.in-Ok-Some.found.0 ∷ [],
         one_more c.args.script.now was.0 _ c.in-Ok-Some.found.0 _ was.1 left,
         c.in-Ok.ensures.through_crashes first start (c.statements.invariant.tells ∙ tells) was.2,
-        gained_one was.0 c.in-Ok-Some.found.0 (g.A.Annals.told c.statements.annals) (g.A.Annals.told c.answer.new.annals) first was.3 g.D.Arm.Dir.Dir.files c.statements.store.opened (g.D.Disk.failed c.statements.disk) c.statements.store (omega (arith, c.requires.ready.opened, c.statements.invariant.opened, c.statements.invariant.disk_later))
+        gained_one was.0 c.in-Ok-Some.found.0 (g.A.Annals.told c.statements.annals) (g.A.Annals.told c.run_statement.new.annals) first was.3 g.D.Arm.Dir.Dir.files c.statements.store.opened (g.D.Disk.failed c.statements.disk) c.statements.store (omega (arith, c.requires.ready.opened, c.statements.invariant.opened, c.statements.invariant.disk_later))
             (λ still. (was.2.calm still).1)
             (λ kept is stands.
             let a = c.in-Ok.ensures.answers kept is (c.statements.invariant.tells ∙ tells) stands in
-            (a.now, a.told_is, stepped_answered g.D.Arm.Dir.Dir.files kept c.in-Ok-Some.found.0 c.statements.store.opened (g.D.Disk.failed c.answer.new.disk) (g.D.Arm.Arm.failed c.answer.new.arm) c.in-Ok.reply.items c.answer.new.store (g.A.Annals.told c.answer.new.annals) (g.D.Disk.told c.statements.disk) (g.D.Disk.told c.answer.new.disk) a))
+            (a.now, a.told_is, stepped_answered g.D.Arm.Dir.Dir.files kept c.in-Ok-Some.found.0 c.statements.store.opened (g.D.Disk.failed c.run_statement.new.disk) (g.D.Arm.Arm.failed c.run_statement.new.arm) c.in-Ok.reply.items c.run_statement.new.store (g.A.Annals.told c.run_statement.new.annals) (g.D.Disk.told c.statements.disk) (g.D.Disk.told c.run_statement.new.disk) a))
             (λ risen. (c.in-Ok.ensures.stopped risen).annals_is),
       );
   within = used_within c.args.script.now c.statements.at c.in-Ok-Some.found.1 c.statements.invariant.within (subst (λ o. Used c.args.script.now c.statements.at o) c.in-Ok-Some.field-0-is c.in-Ok-Some.ensures.used).1;
@@ -141,19 +141,19 @@ returns-in-Err-clause-through_crashes g c = λ first start tells keeps gained.
     let was = c.statements.invariant.keeps first start tells keeps gained in
     left_behind c.args.store.now.opened (statements_of c.args.script.now) was.0 (statements_of (drop c.statements.at c.args.script.now)) was.1 c.statements.invariant.opened was.2 was.3
 
-pub returns-in-Err-answer-clause-through_crashes : goal.returns-in-Err-answer-clause-through_crashes
-returns-in-Err-answer-clause-through_crashes g c = λ first start tells keeps gained.
+pub returns-in-Err-run_statement-clause-through_crashes : goal.returns-in-Err-run_statement-clause-through_crashes
+returns-in-Err-run_statement-clause-through_crashes g c = λ first start tells keeps gained.
     let found = subst (λ o. Found c.args.script.now c.statements.at o) c.in-Ok-Some.field-0-is c.in-Ok-Some.ensures.found in
     let left = one_statement c.args.script.now c.statements.at c.in-Ok-Some.found.1 c.in-Ok-Some.found.0 found in
     let was = c.statements.invariant.keeps first start tells keeps gained in
     left_behind c.args.store.now.opened (statements_of c.args.script.now) (was.0 ++ c.in-Ok-Some.found.0 ∷ []) (statements_of (drop (c.statements.at + c.in-Ok-Some.found.1) c.args.script.now))
-    (one_more c.args.script.now was.0 _ c.in-Ok-Some.found.0 _ was.1 left) (c.in-Err-answer.ensures.opened ∙ c.statements.invariant.opened) (c.in-Err-answer.ensures.through_crashes first start (c.statements.invariant.tells ∙ tells) was.2)
-    (gained_one was.0 c.in-Ok-Some.found.0 (g.A.Annals.told c.statements.annals) (g.A.Annals.told c.answer.new.annals) first was.3 g.D.Arm.Dir.Dir.files c.statements.store.opened (g.D.Disk.failed c.statements.disk) c.statements.store (omega (arith, c.requires.ready.opened, c.statements.invariant.opened, c.statements.invariant.disk_later))
+    (one_more c.args.script.now was.0 _ c.in-Ok-Some.found.0 _ was.1 left) (c.in-Err-run_statement.ensures.opened ∙ c.statements.invariant.opened) (c.in-Err-run_statement.ensures.through_crashes first start (c.statements.invariant.tells ∙ tells) was.2)
+    (gained_one was.0 c.in-Ok-Some.found.0 (g.A.Annals.told c.statements.annals) (g.A.Annals.told c.run_statement.new.annals) first was.3 g.D.Arm.Dir.Dir.files c.statements.store.opened (g.D.Disk.failed c.statements.disk) c.statements.store (omega (arith, c.requires.ready.opened, c.statements.invariant.opened, c.statements.invariant.disk_later))
     (λ still. (was.2.calm still).1)
     (λ kept is stands.
-    let k = c.in-Err-answer.ensures.answers kept is (c.statements.invariant.tells ∙ tells) stands in
-    (k.now, k.told_is, stepped_keeps kept c.in-Ok-Some.found.0 (g.A.Annals.told c.answer.new.annals) (g.D.Disk.told c.statements.disk) (g.D.Disk.told c.answer.new.disk) k))
-    (λ risen. (c.in-Err-answer.ensures.stopped risen).annals_is))
+    let k = c.in-Err-run_statement.ensures.answers kept is (c.statements.invariant.tells ∙ tells) stands in
+    (k.now, k.told_is, stepped_keeps kept c.in-Ok-Some.found.0 (g.A.Annals.told c.run_statement.new.annals) (g.D.Disk.told c.statements.disk) (g.D.Disk.told c.run_statement.new.disk) k))
+    (λ risen. (c.in-Err-run_statement.ensures.stopped risen).annals_is))
 
 pub returns-in-Err-write_reply-clause-through_crashes : goal.returns-in-Err-write_reply-clause-through_crashes
 returns-in-Err-write_reply-clause-through_crashes g c = λ first start tells keeps gained.
@@ -162,11 +162,11 @@ returns-in-Err-write_reply-clause-through_crashes g c = λ first start tells kee
     let was = c.statements.invariant.keeps first start tells keeps gained in
     left_behind c.args.store.now.opened (statements_of c.args.script.now) (was.0 ++ c.in-Ok-Some.found.0 ∷ []) (statements_of (drop (c.statements.at + c.in-Ok-Some.found.1) c.args.script.now))
     (one_more c.args.script.now was.0 _ c.in-Ok-Some.found.0 _ was.1 left) (c.in-Ok.ensures.opened ∙ c.statements.invariant.opened) (c.in-Ok.ensures.through_crashes first start (c.statements.invariant.tells ∙ tells) was.2)
-    (gained_one was.0 c.in-Ok-Some.found.0 (g.A.Annals.told c.statements.annals) (g.A.Annals.told c.answer.new.annals) first was.3 g.D.Arm.Dir.Dir.files c.statements.store.opened (g.D.Disk.failed c.statements.disk) c.statements.store (omega (arith, c.requires.ready.opened, c.statements.invariant.opened, c.statements.invariant.disk_later))
+    (gained_one was.0 c.in-Ok-Some.found.0 (g.A.Annals.told c.statements.annals) (g.A.Annals.told c.run_statement.new.annals) first was.3 g.D.Arm.Dir.Dir.files c.statements.store.opened (g.D.Disk.failed c.statements.disk) c.statements.store (omega (arith, c.requires.ready.opened, c.statements.invariant.opened, c.statements.invariant.disk_later))
     (λ still. (was.2.calm still).1)
     (λ kept is stands.
     let a = c.in-Ok.ensures.answers kept is (c.statements.invariant.tells ∙ tells) stands in
-    (a.now, a.told_is, stepped_answered g.D.Arm.Dir.Dir.files kept c.in-Ok-Some.found.0 c.statements.store.opened (g.D.Disk.failed c.answer.new.disk) (g.D.Arm.Arm.failed c.answer.new.arm) c.in-Ok.reply.items c.answer.new.store (g.A.Annals.told c.answer.new.annals) (g.D.Disk.told c.statements.disk) (g.D.Disk.told c.answer.new.disk) a))
+    (a.now, a.told_is, stepped_answered g.D.Arm.Dir.Dir.files kept c.in-Ok-Some.found.0 c.statements.store.opened (g.D.Disk.failed c.run_statement.new.disk) (g.D.Arm.Arm.failed c.run_statement.new.arm) c.in-Ok.reply.items c.run_statement.new.store (g.A.Annals.told c.run_statement.new.annals) (g.D.Disk.told c.statements.disk) (g.D.Disk.told c.run_statement.new.disk) a))
     (λ risen. (c.in-Ok.ensures.stopped risen).annals_is))
 
 pub returns-clause-through_crashes : goal.returns-clause-through_crashes

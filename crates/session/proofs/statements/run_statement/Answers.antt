@@ -4,13 +4,13 @@ use Rattle.mt_model.specs.declared.refusal.Refusal.{Refusal}
 use Rattle.mt_model.specs.Refusals.{code, is_damage, refusal_line, refusal_of_cause}
 use Rattle.session.specs.Answers.{Answers}
 use Rattle.session.proofs.Accepting.{answers_kept, nothing_accepted}
-use Rattle.mt_program.proofs.Selecting.{selected_answers}
+use Rattle.session.proofs.SelectAnswers.{selected_answers}
 use Rattle.mt_values.specs.declared.statement.Cause.{Cause}
 use Rattle.mt_values.specs.declared.statement.Cause.TheVariants as cause
 use Rattle.replies.proofs.Causing.{says_script}
 use Rattle.replies.proofs.Refusing.{text_refused}
 use Rattle.replies.proofs.Undamaged.{cause_line}
-use Rattle.mt_program.proofs.serving.answer.Goals as goal
+use Rattle.session.proofs.statements.run_statement.Goals as goal
 
 pub returns-in-Ok-Select-clause-answers : goal.returns-in-Ok-Select-clause-answers
 returns-in-Ok-Select-clause-answers g c = λ kept is tells stands.
