@@ -6,7 +6,7 @@ use thiserror::Error;
 /// Why bytes were not read as what they should spell, as the values of a column.
 #[derive(Clone, Copy, Debug, Error)]
 pub enum FormatFault {
-    /// A growth was refused.
+    /// An allocation failed.
     #[error("out of memory")]
     NoMemory,
     /// The bytes spell nothing of the kind, and this is the place of the first fault, counted from 0. In a

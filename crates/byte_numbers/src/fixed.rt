@@ -8,7 +8,7 @@ use mt_values::Bytes;
 
 /// Adds the two bytes of a number, the lowest first.
 ///
-/// `NoMemory` where the growth was refused; the bytes stay as they were.
+/// `NoMemory` where the allocation failed; the bytes stay as they were.
 pub fn push_u16(bytes: &mut Bytes, number: u16) -> Result<(), NoMemory>
     ensures ok { OnOk result (bytes.new ≡ bytes.old ++ to_le_bytes w16 number) }
     ensures err { OnErr result (bytes.new ≡ bytes.old) }
@@ -20,7 +20,7 @@ pub fn push_u16(bytes: &mut Bytes, number: u16) -> Result<(), NoMemory>
 
 /// Adds the four bytes of a number, the lowest first.
 ///
-/// `NoMemory` where the growth was refused; the bytes stay as they were.
+/// `NoMemory` where the allocation failed; the bytes stay as they were.
 pub fn push_u32(bytes: &mut Bytes, number: u32) -> Result<(), NoMemory>
     ensures ok { OnOk result (bytes.new ≡ bytes.old ++ to_le_bytes w32 number) }
     ensures err { OnErr result (bytes.new ≡ bytes.old) }
@@ -32,7 +32,7 @@ pub fn push_u32(bytes: &mut Bytes, number: u32) -> Result<(), NoMemory>
 
 /// Adds the eight bytes of a number, the lowest first.
 ///
-/// `NoMemory` where the growth was refused; the bytes stay as they were.
+/// `NoMemory` where the allocation failed; the bytes stay as they were.
 pub fn push_u64(bytes: &mut Bytes, number: u64) -> Result<(), NoMemory>
     ensures ok { OnOk result (bytes.new ≡ bytes.old ++ to_le_bytes w64 number) }
     ensures err { OnErr result (bytes.new ≡ bytes.old) }

@@ -8,7 +8,7 @@ use mt_values::Bytes;
 
 /// Adds a number's shortest spelling at the end.
 ///
-/// `NoMemory` where a growth was refused; some of the groups may have been added then.
+/// `NoMemory` where an allocation failed; some of the groups may have been added then.
 pub fn push_leb128(bytes: &mut Bytes, number: u64) -> Result<(), NoMemory>
     ensures { OnOk result (bytes.new ≡ bytes.old ++ leb128 number) }
 {

@@ -116,7 +116,7 @@ numbers_read t bytes other are (suc n) room =
       subst (λ p. AreRead t bytes p (before.0 ++ number.0 ∷ [])) next (read_more number.0 size before.2 number.1 number.2),
     )
 
--- with fewer numbers than there should be, the bytes go wrong behind the last whole one
+-- with fewer numbers than there should be, the bytes go wrong after the last whole one
 pub numbers_stuck : (t : ColType) (count size : ℕ) (bytes : List ℕ) → size ≡ fewest_bytes t → 0 < size → t ≢ type.Text → AreBytes bytes → length bytes / size < count → IsFirstFault t count bytes (size * (length bytes / size))
 numbers_stuck t count size bytes same some other are few =
     let whole = length bytes / size in

@@ -40,7 +40,7 @@ module _ {t : ColType} {bytes : List ℕ} {at k : ℕ} where
   pub passed_stuck : {count : ℕ} → ArePassed t bytes at k → k < count → NoneBegins t (drop at bytes) → IsFirstFault t count bytes at
   passed_stuck p few none = read_stuck p.read (omega (arith, p.count_is)) none
 
-  -- the end was looked for behind the last value
+  -- the end was looked for after the last value
   pub passed_end : {count : ℕ} (result : Result (Unit {0}) FormatFault) → LookedFor result bytes at → ArePassed t bytes at k → k ≡ count → Checks result t count bytes
   passed_end (Ok x) end p full = record { values = p.values; spelling = read_all p.read (p.count_is ∙ full) end }
   passed_end {count} (Err e) end p full = subst (Locates t count bytes) (sym end.0) (read_past p.read (p.count_is ∙ full) end.1)

@@ -58,7 +58,7 @@ module _ {t : ColType} {bytes : List ℕ} {at : ℕ} {values : List Value} where
     stuck = inl (few, none);
   }
 
-  -- bytes are left behind the last value
+  -- bytes are left after the last value
   pub read_past : {count : ℕ} → AreRead t bytes at values → length values ≡ count → at < length bytes → IsFirstFault t count bytes at
   read_past {count} r full more = record {
     values = values;

@@ -121,7 +121,7 @@ first_is type.Text bytes = text_first bytes
 
 -- ---- values
 
--- a value in front of those that the rest spells
+-- a value before those that the rest spells
 more_spelled : (t : ColType) (n size : ℕ) (bytes : List ℕ) (v : Value) → IsOfType t v → Begins (value_bytes v) size bytes → Spells t n (drop size bytes) → Spells t (suc n) bytes
 more_spelled t n size bytes v typed begins s = record {
   values = v ∷ s.values;

@@ -14,7 +14,7 @@ use Rattle.byte_numbers.proofs.Groups.{groups_apart}
 text_parted : (bytes x rest : List ℕ) → bytes ≡ value_bytes (Text x) ++ rest → bytes ≡ leb128 (length x) ++ (x ++ rest)
 text_parted bytes x rest e = e ∙ append_assoc (leb128 (length x)) x rest
 
--- a length past the bytes behind it is no text's
+-- a length past the bytes after it is no text's
 pub too_long : (count head : ℕ) (bytes : List ℕ) → Begins (leb128 count) head bytes → length bytes - head < count → NoneBegins type.Text bytes
 too_long count head bytes b h = by
   where
@@ -24,7 +24,7 @@ too_long count head bytes b h = by
         omega (arith, same.0, length-drop head bytes, simp length-append at (ap length same.1))
     by v rest typed e = absurd cc
 
--- so many bytes behind a length are its text
+-- so many bytes after a length are its text
 pub text_begins : (count head : ℕ) (bytes behind : List ℕ) → Begins (leb128 count) head bytes → behind ≡ drop head bytes → count ≤ length behind → Begins (value_bytes (Text (take count behind))) (head + count) bytes
 text_begins count head bytes behind b is within =
     let size : length (take count behind) ≡ count = length-take-le count behind within in

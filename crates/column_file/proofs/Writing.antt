@@ -1,4 +1,4 @@
--- Values at places of a column written one behind the other, granule by granule.
+-- Values at places of a column written one after the other, granule by granule.
 use Rattle.std.proofs.Common.{Result, Ok, Err, IfOk, ◌≡◌, ℕ, zero, suc, ◌+◌, ◌*◌, ◌<◌, ◌≤◌, ◌⊎◌, inl, inr, min, List, [], ◌∷◌, ◌++◌, Some, refl, sym, ap, ap₂, ◌∙◌, subst, length, length-append, length-drop, map, get_or, take, drop, slice_get, filter_map, All, arith, append-nil, append_assoc, mul-le-mul_right, mul_comm, mul-zero, suc-mul, zero-add}
 use Rattle.std.specs.Int.{div_ceil}
 use Rattle.std.specs.List.{range_with_len, cons_option}
@@ -102,7 +102,7 @@ rows_spelled types column cells order these (Err e) typed is within same spelled
 
 -- ---- granules
 
--- the first elements that a chunk has, and those behind it
+-- the first elements that a chunk has, and those after it
 pub chunk_parts : (n : ℕ) (front rest : List ℕ) → length front ≡ min n (length (front ++ rest)) → (take n (front ++ rest) ≡ front) × (drop n (front ++ rest) ≡ rest)
 chunk_parts n front rest e = either (cases_lt (length (front ++ rest)) n)
   where

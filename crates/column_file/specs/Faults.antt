@@ -15,7 +15,7 @@ NoneBegins t bytes = (v : Value) (rest : List ℕ) → IsOfType t v → bytes �
 abbrev pub IsStuck : ColType → ℕ → ℕ → List ℕ → Type 0
 IsStuck t count read rest = ((read < count) × NoneBegins t rest) ⊎ ((read ≡ count) × (rest ≢ []))
 
--- the bytes begin with values of the type that end at the place, and go on with none, or with something behind so many values
+-- the bytes begin with values of the type that end at the place, and go on with none, or with something after so many values
 pub record IsFirstFault (t : ColType) (count : ℕ) (bytes : List ℕ) (place : ℕ) : Type 0 where
   pub values : List Value
   pub rest : List ℕ
@@ -28,7 +28,7 @@ abbrev pub Explains : ColType → ℕ → List ℕ → FormatFault → Type 0
 Explains t count bytes NoMemory = ⊤
 Explains t count bytes (Malformed place) = IsFirstFault t count bytes place
 
--- the error is the first fault of the bytes, and no want of memory
+-- the error is the first fault of the bytes, and is not out of memory
 abbrev pub Locates : ColType → ℕ → List ℕ → FormatFault → Type 0
 Locates t count bytes NoMemory = ⊥
 Locates t count bytes (Malformed place) = IsFirstFault t count bytes place

@@ -9,7 +9,7 @@ use Rattle.mt_values.specs.ColumnBytes.{column_bytes}
 abbrev pub granule_of : ℕ → List Value → ℕ → List Value
 granule_of granularity values granule = take granularity (drop (granularity * granule) values)
 
--- a granule begins behind the bytes of the values of all granules before it, each of which has so many values
+-- a granule begins after the bytes of the values of all granules before it, each of which has so many values
 abbrev pub granule_start : ℕ → List Value → ℕ → ℕ
 granule_start granularity values granule = length (column_bytes (take (granularity * granule) values))
 

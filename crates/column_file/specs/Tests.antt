@@ -8,7 +8,7 @@ use Rattle.mt_values.specs.declared.value.ColType.TheVariants as type
 use Rattle.mt_values.specs.ColumnBytes.{leb128}
 use Rattle.column_file.specs.Spellings.{fewest_bytes}
 
--- the bytes begin with a text of this length: with the length in groups, and they have as many bytes behind it
+-- the bytes begin with a text of this length: with the length in groups, and they have as many bytes after it
 abbrev pub has_text : List ℕ → ℕ → Bool
 has_text bytes n = bytes_eq (leb128 n) (take (length (leb128 n)) bytes) && nat_le (length (leb128 n) + n) (length bytes)
 

@@ -17,7 +17,7 @@ use mt_values::{Bytes, Cell, ColType};
 
 /// Adds the bytes of a value.
 ///
-/// `NoMemory` where a growth was refused; some of the bytes may have been added then.
+/// `NoMemory` where an allocation failed; some of the bytes may have been added then.
 pub fn push_cell(bytes: &mut Bytes, cell: Cell) -> Result<(), NoMemory>
     ensures bytes { OnOk result (bytes.new ≡ bytes.old ++ value_bytes (value_of cell.entry)) }
     ensures encodable { FitsType (value_of cell.entry) }
@@ -37,7 +37,7 @@ pub fn push_cell(bytes: &mut Bytes, cell: Cell) -> Result<(), NoMemory>
 
 /// Adds the length of a text, and then the text.
 ///
-/// `NoMemory` where a growth was refused; some of the bytes may have been added then.
+/// `NoMemory` where an allocation failed; some of the bytes may have been added then.
 fn push_text(bytes: &mut Bytes, text: &[u8]) -> Result<(), NoMemory>
     ensures { OnOk result (bytes.new ≡ bytes.old ++ (leb128 (length text.now) ++ text.now)) }
 {
@@ -68,7 +68,7 @@ pub fn first_cell(col_type: ColType, bytes: &[u8]) -> Option<(Cell<'_>, usize)>
     }
 }
 
-/// The text that the bytes begin with, behind its length, and how many bytes both take.
+/// The text that the bytes begin with, after its length, and how many bytes both take.
 ///
 /// `None` where they begin with none.
 fn first_text(bytes: &[u8]) -> Option<(Cell<'_>, usize)>

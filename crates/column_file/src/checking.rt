@@ -25,7 +25,7 @@ pub fn check_column(col_type: ColType, bytes: &[u8], count: usize) -> Result<(),
 
 /// Nothing, where the bytes spell `count` numbers of the type: so many times the bytes of one.
 ///
-/// `Malformed` at the first number that is not whole, or behind the last where the bytes go on.
+/// `Malformed` at the first number that is not whole, or after the last where the bytes go on.
 fn check_numbers(col_type: ColType, bytes: &[u8], count: usize) -> Result<(), FormatFault>
     requires { col_type ≢ type.Text }
     ensures { MatchResult result (λ _. Spells col_type count bytes.now) (Locates col_type count bytes.now) }
@@ -42,7 +42,7 @@ fn check_numbers(col_type: ColType, bytes: &[u8], count: usize) -> Result<(), Fo
 
 /// Nothing, where the bytes spell `count` texts.
 ///
-/// `Malformed` where a text was to begin and none does, or behind the last where the bytes go on.
+/// `Malformed` where a text was to begin and none does, or after the last where the bytes go on.
 fn check_texts(bytes: &[u8], count: usize) -> Result<(), FormatFault>
     ensures { MatchResult result (λ _. Spells type.Text count bytes.now) (Locates type.Text count bytes.now) }
 {

@@ -14,7 +14,7 @@ use std::alloc::Global;
 
 /// The column of the values that the bytes spell, `count` of them.
 ///
-/// `Malformed` where they spell no such values, at their first fault; `NoMemory` where a growth was refused.
+/// `Malformed` where they spell no such values, at their first fault; `NoMemory` where an allocation failed.
 pub fn decode_column(
     alloc: Global,
     col_type: ColType,
@@ -33,7 +33,7 @@ pub fn decode_column(
 
 /// Adds the values that the bytes spell, `count` of them, at the column's end.
 ///
-/// `Malformed` where they spell no such values, at their first fault; `NoMemory` where a growth was refused.
+/// `Malformed` where they spell no such values, at their first fault; `NoMemory` where an allocation failed.
 /// After an error some of the first values may have been added.
 pub fn decode_onto(column: &mut ColumnData, bytes: &[u8], count: usize) -> Result<(), FormatFault>
     ensures read { OnOk result (GainsAll count bytes.now column.old column.new) }
@@ -53,7 +53,7 @@ pub fn decode_onto(column: &mut ColumnData, bytes: &[u8], count: usize) -> Resul
 
 /// The values that the bytes spell, `count` of them, each by itself.
 ///
-/// `Malformed` where they spell no such values, at their first fault; `NoMemory` where a growth was refused.
+/// `Malformed` where they spell no such values, at their first fault; `NoMemory` where an allocation failed.
 pub fn decode_granule(
     alloc: Global,
     col_type: ColType,
@@ -70,7 +70,7 @@ pub fn decode_granule(
 
 /// The values of a column, each by itself.
 ///
-/// `NoMemory` where a growth was refused.
+/// `NoMemory` where an allocation failed.
 fn values_of(alloc: Global, column: &ColumnData) -> Result<Vec<Value>, FormatFault>
     ensures { MatchResult result (λ v. v.items ≡ column.now.values) (λ e. e ≡ FormatFault.NoMemory) }
 {

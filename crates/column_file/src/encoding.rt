@@ -23,7 +23,7 @@ pub struct ColumnBytes {
 
 /// The bytes of the block's column at a place, counted from 0, in this order of its rows, with a mark for each `granularity` rows.
 ///
-/// `NoMemory` where a growth was refused.
+/// `NoMemory` where an allocation failed.
 pub fn encode_column(
     alloc: Global,
     block: &Block,
@@ -47,7 +47,7 @@ pub fn encode_column(
 
 /// The bytes of the values at these places, in this order, with a mark for each `granularity` values.
 ///
-/// `NoMemory` where a growth was refused.
+/// `NoMemory` where an allocation failed.
 fn encode_cells(
     alloc: Global,
     cells: &ColumnData,
@@ -73,7 +73,7 @@ fn encode_cells(
 
 /// Adds the bytes of the values at these places, in this order.
 ///
-/// `NoMemory` where a growth was refused; some of the bytes may have been added then.
+/// `NoMemory` where an allocation failed; some of the bytes may have been added then.
 fn push_cells(bytes: &mut Bytes, cells: &ColumnData, places: &[u32]) -> Result<(), NoMemory>
     requires { All (λ place. place < length cells.now.values) places.now }
     ensures bytes { OnOk result (bytes.new ≡ bytes.old ++ column_bytes (filter_map (slice_get cells.now.values) places.now)) }

@@ -18,11 +18,11 @@ line_parts taken [] = tt
 line_parts taken (b ∷ bs) =
     parts_behind (not taken && b == 10) b bs (line_from (takes_next taken b) bs) (λ ends. grind (arith, nat_tests)) (line_parts (takes_next taken b) bs)
 
--- lines in front of data
+-- lines before data
 abbrev pub with_lines : List ℕ → Data → Data
 with_lines front d = record { lines = front ++ d.lines; ended = d.ended; rest = d.rest }
 
--- A line of data that was found: the text goes on at `at`, the line there has `len` bytes, and `next` is behind its line feed.
+-- A line of data that was found: the text goes on at `at`, the line there has `len` bytes, and `next` is after its line feed.
 module _ (text : List ℕ) (at len next : ℕ) (within : at ≤ length text) (inside : len < length (drop at text)) (next_is : next ≡ at + len + 1)
     (found : line_from false (drop at text) ≡ Some (take len (drop at text), drop (len + 1) (drop at text))) where
   line : List ℕ

@@ -9,7 +9,7 @@ use Rattle.mt_values.specs.Script.{is_line_byte, line_rest, behind_line, data_of
 use Rattle.data_lines.specs.declared.lines.Extent.{Extent}
 use Rattle.data_lines.specs.Sections.{data_in}
 
--- the data was found behind the line of the semicolon
+-- the data was found after the line of the semicolon
 start_is_behind : (behind : List ℕ) (line start : ℕ) → line ≡ prefix_len is_line_byte behind → start ≡ min (line + 1) (length behind) → drop start behind ≡ behind_line behind
 start_is_behind behind line start line_is start_is =
     ap (λ n. drop n behind) start_is ∙ (drop_min (line + 1) behind ∙ ap (λ n. drop (n + 1) behind) line_is)

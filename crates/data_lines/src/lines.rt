@@ -13,7 +13,7 @@ pub struct Extent {
     pub ended: bool,
     /// Whether it came with its line feed.
     pub closed: bool,
-    /// The bytes up to the script behind the data.
+    /// The bytes up to the script after the data.
     pub used: usize,
 }
 

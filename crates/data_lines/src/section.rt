@@ -13,7 +13,7 @@ pub struct Section<'a> {
     pub text: &'a [u8],
     /// Whether a semicolon ends it.
     pub terminated: bool,
-    /// What stands behind the semicolon of an INSERT on its line.
+    /// What comes after the semicolon of an INSERT on its line.
     pub line: &'a [u8],
     /// The lines of its data.
     pub lines: &'a [u8],
@@ -21,7 +21,7 @@ pub struct Section<'a> {
     pub ended: bool,
     /// The bytes of the script up to what follows all of this.
     pub used: usize,
-    /// Whether it is the same whatever comes behind the script.
+    /// Whether it is the same whatever comes after the script.
     pub whole: bool,
 }
 
@@ -34,7 +34,7 @@ fn line_len(text: &[u8]) -> usize
 }
 
 /// The part of a script that an INSERT of this text takes, with its data, and with this many bytes before what stands
-/// behind its semicolon.
+/// after its semicolon.
 pub fn inserted<'a>(text: &'a [u8], before: usize, behind: &'a [u8]) -> Section<'a>
     requires fits { before + length behind.now < 2 ^ 64 }
     ensures said { section_said result

@@ -35,7 +35,7 @@ module _ (first : List ℕ) where
       let numbers = fronts_apart (to_le_bytes w32 n) (to_le_bytes w32 n') a b refl middles.1 in
       (middles.0, sym (from_le_bytes-to_le_bytes_4 n p) ∙ ap (from_le_bytes w32) numbers.0 ∙ from_le_bytes-to_le_bytes_4 n' q, numbers.1)
 
--- bytes behind the first ones are a number behind some others
+-- bytes after the first ones are a number after some others
 head_of : (first bs : List ℕ) (gap : ℕ) → length bs ≡ gap + 4 → AreBytes bs → (n : ℕ) × (n < 2 ^ 32) × (first ++ bs ≡ framed first (take gap bs) n [])
 head_of first bs gap size are =
     let number = number_of_4 (drop gap bs) (omega (arith, length-drop gap bs)) (All-drop (λ b. b < 256) gap bs are) in
@@ -43,7 +43,7 @@ head_of first bs gap size are =
     (number.0, number.1, ap (λ l. first ++ l) parted ∙ sym (append_assoc first (take gap bs) (to_le_bytes w32 number.0)) ∙ sym (append-nil (first ++ take gap bs ++ to_le_bytes w32 number.0)))
 
 module _ (first : List ℕ) (gap unit : ℕ) where
-  -- what stands behind the pieces
+  -- what comes after the pieces
   behind : (m : List ℕ) (n : ℕ) (i t : List ℕ) → framed first m n i ++ t ≡ framed first m n (i ++ t)
   behind m n i t = append_assoc (first ++ m ++ to_le_bytes w32 n) i t
 
@@ -164,7 +164,7 @@ module _ (first : List ℕ) (gap unit : ℕ) where
           (sym (behind m n i t) ∙ ap (λ l. l ++ t) (sym parted) ∙ sym starts ∙ f.frame.spelled ∙ behind f.middle f.count f.items (sha256 body)) in
           longer_has bytes s (omega (arith, length_frame s f, ap (λ k. unit * k) heads.1, ap length parted, length_framed first m n i)) e
 
-  -- bytes behind the pieces that are not their digest
+  -- bytes after the pieces that are not their digest
   pub wrong_digest : (bytes m : List ℕ) (n : ℕ) (i t : List ℕ) (k place : ℕ) → AreBytes bytes → bytes ≡ framed first m n i ++ t → Fit gap unit m n i → place ≡ length (framed first m n i) + k → k ≤ 32 → PartAt t (sha256 (framed first m n i)) k → IsFirstFault (IsFrame first gap unit) bytes place
   wrong_digest bytes m n i t k place are parted fit at within d = fault_at (IsFrame first gap unit) bytes place reach begins none
     where
@@ -206,7 +206,7 @@ module _ (first : List ℕ) (gap unit : ℕ) where
 
 -- ---- bytes whose number of items is read
 
--- the number behind the first bytes and some more
+-- the number after the first bytes and some more
 pub opened : (first bytes : List ℕ) (gap n : ℕ) → bytes ≡ first ++ drop (length first) bytes → length first + gap + 4 ≤ length bytes → n < 2 ^ 32 → to_le_bytes w32 n ≡ take 4 (drop (length first + gap) bytes) → Opens first gap bytes n
 opened first bytes gap n begins within few number =
     let at : ℕ = length first + gap in

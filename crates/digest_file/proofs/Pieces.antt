@@ -16,7 +16,7 @@ fronts_apart xs ys r s n e = (
   sym (drop_at xs r (length ys) n) ∙ ap (drop (length ys)) e ∙ drop_at ys s (length ys) refl,
 )
 
--- an item of a front, and one behind it
+-- an item of a front, and one after it
 pub item_in_front : (xs ys : List ℕ) (k : ℕ) → k < length xs → slice_get (xs ++ ys) k ≡ slice_get xs k
 item_in_front [] ys k h = absurd (omega arith)
 item_in_front (x ∷ xs) ys zero h = refl
@@ -35,7 +35,7 @@ longer_has xs ys h e =
     let both : Some (get_or ys (length xs) 0) ≡ None = sym there ∙ e ∙ here in
     cc
 
--- a list that goes on behind another parts from it at the other's end
+-- a list that goes on after another parts from it at the other's end
 pub goes_on : (t whole : List ℕ) (n : ℕ) → length whole ≡ n → n < length t → t ≡ whole ++ drop (length whole) t → PartAt t whole n
 goes_on t whole n size longer e = record {
   alike = ap (take n) e ∙ take-append-le n whole (drop (length whole) t) (omega arith);

@@ -21,7 +21,7 @@ abbrev pub Locates : (List ℕ → Type 0) → List ℕ → FormatFault → Type
 Locates IsSpelled bytes NoMemory = ⊥
 Locates IsSpelled bytes (Malformed place) = IsFirstFault IsSpelled bytes place
 
--- the error is want of memory, or the first fault of the bytes
+-- the error is out of memory, or the first fault of the bytes
 abbrev pub Explains : (List ℕ → Type 0) → List ℕ → FormatFault → Type 0
 Explains IsSpelled bytes NoMemory = ⊤
 Explains IsSpelled bytes (Malformed place) = IsFirstFault IsSpelled bytes place

@@ -31,7 +31,7 @@ pub record IsFrame (first : List ℕ) (gap unit : ℕ) (bytes : List ℕ) : Type
   pub items : List ℕ
   pub frame : IsFrameOf first gap unit bytes middle count items
 
--- the bytes begin with the first ones, and the number of items behind the next `gap` bytes is this
+-- the bytes begin with the first ones, and the number of items after the next `gap` bytes is this
 pub record Opens (first : List ℕ) (gap : ℕ) (bytes : List ℕ) (count : ℕ) : Type 0 where
   pub within : length first + gap + 4 ≤ length bytes
   pub count_fits : count < 2 ^ 32
@@ -42,7 +42,7 @@ pub record PartAt (bytes wanted : List ℕ) (place : ℕ) : Type 0 where
   pub alike : take place bytes ≡ take place wanted
   pub apart : slice_get bytes place ≡ slice_get wanted place → ⊥
 
--- the error is at the first byte from the end of the pieces on that is not their digest's, or at the first behind the digest
+-- the error is at the first byte from the end of the pieces on that is not their digest's, or at the first after the digest
 abbrev pub MissesDigest : List ℕ → ℕ → FormatFault → Type 0
 MissesDigest bytes end NoMemory = ⊥
 MissesDigest bytes end (Malformed place) = (k : ℕ) × (place ≡ end + k) × (k ≤ 32) × PartAt (drop end bytes) (sha256 (take end bytes)) k

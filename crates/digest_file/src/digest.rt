@@ -1,4 +1,4 @@
-// The digest of bytes, written behind them and looked for there.
+// The digest of bytes, written after them and looked for there.
 ghost use Rattle.std.specs.Prelude.{◌≡◌, ◌<◌, ◌≤◌, ◌++◌, MatchOption, MatchResult, OnErr, OnOk, drop, length, take};
 ghost use Rattle.sha2.specs.Sha256.{sha256};
 ghost use Rattle.mt_values.specs.Manifests.{IsMarkOf, with_digest};
@@ -28,9 +28,9 @@ fn digest_of(bytes: &[u8]) -> [u8; 32]
     hasher.finalize()
 }
 
-/// Adds the digest of the bytes behind them.
+/// Adds the digest of the bytes after them.
 ///
-/// `NoMemory` where the growth was refused; the bytes stay as they were.
+/// `NoMemory` where the allocation failed; the bytes stay as they were.
 pub fn push_digest(bytes: &mut Bytes) -> Result<(), NoMemory>
     ensures ok { OnOk result (bytes.new ≡ with_digest sha256 bytes.old) }
     ensures err { OnErr result (bytes.new ≡ bytes.old) }
@@ -41,7 +41,7 @@ pub fn push_digest(bytes: &mut Bytes) -> Result<(), NoMemory>
 
 /// Nothing, where the bytes from a place on are the digest of those before it.
 ///
-/// `Malformed` at the first byte that is not the digest's, where bytes are missing at their end, and at the first behind the digest.
+/// `Malformed` at the first byte that is not the digest's, where bytes are missing at their end, and at the first after the digest.
 pub fn check_digest(bytes: &[u8], end: usize) -> Result<(), FormatFault>
     requires { end ≤ length bytes.now }
     ensures { MatchResult result (λ _. bytes.now ≡ with_digest sha256 (take end bytes.now)) (MissesDigest bytes.now end) }

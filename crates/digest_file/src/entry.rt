@@ -17,7 +17,7 @@ const FIRST: [u8; 4] = *b"MTS1";
 
 /// The entry of a statement's text: `MTS1`, the length of the text, the text, and the digest of all that.
 ///
-/// `NoMemory` where a growth was refused.
+/// `NoMemory` where an allocation failed.
 pub fn entry_bytes(alloc: Global, text: &[u8]) -> Result<Vec<u8>, NoMemory>
     requires { length text.now < 2 ^ 32 }
     ensures { IfOk result (λ v. v.items ≡ entry_bytes sha256 text.now) }

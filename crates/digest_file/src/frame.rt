@@ -7,7 +7,7 @@ ghost use Rattle.digest_file.specs.Frames.{IsFrame, IsFrameOf, Opens};
 use crate::digest::{check_digest, difference};
 use byte_numbers::{FormatFault, first_u32};
 
-/// The pieces of a file behind its first bytes.
+/// The pieces of a file after its first bytes.
 #[derive(Drop)]
 pub struct Frame<'a> {
     /// What stands before the number of items.

@@ -22,7 +22,7 @@ const MARK_SIZE: usize = 40;
 /// The bytes of a manifest: `MTP1`, the version 1, the number of rows, the number of files, the size and the digest of each,
 /// and the digest of all that.
 ///
-/// `NoMemory` where a growth was refused.
+/// `NoMemory` where an allocation failed.
 pub fn manifest_bytes(alloc: Global, manifest: &Manifest) -> Result<Vec<u8>, NoMemory>
     requires { length manifest.now.files < 2 ^ 32 }
     ensures bytes { IfOk result (λ v. v.items ≡ manifest_bytes sha256 manifest.now) }
@@ -39,7 +39,7 @@ pub fn manifest_bytes(alloc: Global, manifest: &Manifest) -> Result<Vec<u8>, NoM
 
 /// Adds the bytes of marks, in order.
 ///
-/// `NoMemory` where a growth was refused; some of the bytes may have been added then.
+/// `NoMemory` where an allocation failed; some of the bytes may have been added then.
 fn push_marks(bytes: &mut Bytes, files: &[FileMark]) -> Result<(), NoMemory>
     ensures bytes { OnOk result (bytes.new ≡ bytes.old ++ flat_map mark_bytes files.now) }
     ensures marks { OnOk result (All IsMark files.now) }
@@ -52,7 +52,7 @@ fn push_marks(bytes: &mut Bytes, files: &[FileMark]) -> Result<(), NoMemory>
 
 /// Adds the bytes of a mark.
 ///
-/// `NoMemory` where a growth was refused; some of the bytes may have been added then.
+/// `NoMemory` where an allocation failed; some of the bytes may have been added then.
 fn push_mark(bytes: &mut Bytes, file: &FileMark) -> Result<(), NoMemory>
     ensures bytes { OnOk result (bytes.new ≡ bytes.old ++ mark_bytes file.now) }
     ensures mark { OnOk result (IsMark file.now) }
@@ -64,7 +64,7 @@ fn push_mark(bytes: &mut Bytes, file: &FileMark) -> Result<(), NoMemory>
 
 /// The manifest whose bytes these are.
 ///
-/// `Malformed` at the bytes' first fault where they are no manifest's; `NoMemory` where a growth was refused.
+/// `Malformed` at the bytes' first fault where they are no manifest's; `NoMemory` where an allocation failed.
 pub fn read_manifest(alloc: Global, bytes: &[u8]) -> Result<Manifest, FormatFault>
     ensures read { IfOk result (IsManifestOf bytes.now) }
     ensures spelled { (manifest : Manifest) → IsManifestOf bytes.now manifest → MatchResult result (λ found. found ≡ manifest) (λ e. e ≡ FormatFault.NoMemory) }
@@ -78,7 +78,7 @@ pub fn read_manifest(alloc: Global, bytes: &[u8]) -> Result<Manifest, FormatFaul
 
 /// The marks that the bytes are, so many of them.
 ///
-/// `NoMemory` where a growth was refused.
+/// `NoMemory` where an allocation failed.
 fn marks(alloc: Global, bytes: &[u8], count: u32) -> Result<Seq<FileMark>, NoMemory>
     requires { length bytes.now ≡ 40 * count }
     ensures { IfOk result (AreMarks bytes.now count) }

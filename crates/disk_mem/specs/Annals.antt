@@ -1,4 +1,4 @@
--- What a keeper of accepted commands keeps.
+-- What annals of accepted commands keep.
 use Rattle.std.specs.Prelude.{ℕ, List, [], ◌∷◌, Option}
 use Rattle.mt_values.specs.declared.command.Entry.{Entry}
 use Rattle.mt_values.specs.declared.annals.Noted.{Noted}

@@ -28,7 +28,7 @@ impl Model for KeptAnnals {
 }
 
 impl KeptAnnals {
-    /// A keeper of no entry. Takes no memory.
+    /// Annals of no entry. Takes no memory.
     pub fn new(alloc: Global) -> Self
         ensures list { result.list ≡ [] }
         ensures begun { result.begun ≡ None }
@@ -40,7 +40,7 @@ impl KeptAnnals {
         }
     }
 
-    /// A keeper of these entries, each with the mark in the same place. Takes no memory.
+    /// Annals of these entries, each with the mark in the same place. Takes no memory.
     pub fn of(list: Vec<Entry>, marks: Vec<u64>) -> Self
         requires { length list.items ≡ length marks.items }
         ensures list { result.list ≡ noted_all list.items marks.items }
@@ -115,7 +115,7 @@ impl Model for CountedAnnals {
 }
 
 impl CountedAnnals {
-    /// A keeper that has noted nothing.
+    /// Annals that have noted nothing.
     pub fn new() -> Self
         ensures { result ≡ 0 }
     {

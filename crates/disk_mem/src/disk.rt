@@ -65,7 +65,7 @@ impl MemDisk {
 
     /// Lists calls that are to fail, from now on, beside those that were listed before. Arms and stages that were made before keep the list that they got.
     ///
-    /// `NoMemory` where the growth was refused; the disk stays as it was.
+    /// `NoMemory` where the allocation failed; the disk stays as it was.
     pub fn fail(&mut self, calls: &[Listed]) -> Result<(), NoMemory>
         ensures ok { OnOk result (self.new ≡ record self.old { plan = record self.old.plan { listed = self.old.plan.listed ++ calls.now } }) }
         ensures err { OnErr result (self.new ≡ self.old) }

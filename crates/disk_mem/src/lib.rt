@@ -1,4 +1,4 @@
-//! The outside in memory: streams, a disk and keepers of accepted commands that tell all and fail only where they are told to.
+//! The outside in memory: streams, a disk and annals that are known and fail only where they are told to.
 #![tactic(auto)]
 
 mod annals;

@@ -34,7 +34,7 @@ fn names_in(alloc: Global, names: &BTreeMap<Name, MemDir>) -> Result<Vec<Name>, 
 
 /// Makes a change.
 ///
-/// `NoMemory` where a growth was refused; the names stay as they were.
+/// `NoMemory` where an allocation failed; the names stay as they were.
 pub fn make(
     alloc: Global,
     names: &mut BTreeMap<Name, MemDir>,
@@ -78,7 +78,7 @@ impl Root {
 
     /// Gives files a name, in place of a folder that had it.
     ///
-    /// `NoMemory` where a growth was refused; nothing was changed then.
+    /// `NoMemory` where an allocation failed; nothing was changed then.
     #[tactic(auto, using(mt_outside::proofs::Changes::names_after_last))]
     pub fn put(&mut self, alloc: Global, name: &Name, files: Files) -> Result<MemDir, NoMemory>
         ensures dir { IfOk result (λ d. d ≡ files) }

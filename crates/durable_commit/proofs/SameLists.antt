@@ -1,4 +1,4 @@
--- A keeper's list that stays, and what a refusal is not.
+-- The list of annals that stays, and what a refusal is not.
 use Rattle.std.proofs.Common.{◌≡◌, ◌∙◌, ℕ, Option, Some, None, true, false, ap, refl, sym, subst}
 use Rattle.mt_values.specs.declared.command.Entry.{Entry}
 use Rattle.mt_values.specs.Annals.{Told, began, noted}
@@ -15,7 +15,7 @@ same_list None new is = is
 pub not_none : true ≡ false → ⊥
 not_none is = cc
 
--- want of memory is no fault of the disk
+-- out of memory is no fault of the disk
 pub no_disk : refused.NoMemory ≡ refused.Disk → ⊥
 no_disk is = cc
 

@@ -1,4 +1,4 @@
--- Why a command is not committed, and what the keeper tells of one that is (docs/architecture.md, "Commits").
+-- Why a command is not committed, and what the annals list of one that is (docs/architecture.md, "Commits").
 use Rattle.std.specs.Prelude.{◌≡◌, ℕ, Option, Some, None, if◌then◌else◌, nat_lt}
 use Rattle.std.specs.Option.{option_map}
 use Rattle.mt_values.specs.declared.command.Command.{Command}
@@ -31,7 +31,7 @@ refused_by_disk failure.Fault = refused.Disk
 abbrev pub entry_of : ℕ → Command → Entry
 entry_of session command = record { session = session; command = command }
 
--- the keeper tells one more command, with its mark
+-- the annals list one more command, with its mark
 abbrev pub Notes : ℕ → Entry → Option Told → Option Told → Type 0
 Notes mark entry old new = new ≡ option_map (λ (t : Told). noted mark (began entry t)) old
 

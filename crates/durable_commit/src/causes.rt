@@ -24,7 +24,7 @@ pub enum Limit {
 /// Why a command was not committed.
 #[derive(Clone, Copy)]
 pub enum Refused {
-    /// A growth was refused.
+    /// An allocation failed.
     NoMemory,
     /// The publish or the sync of the names failed. The name is there or not.
     Disk,

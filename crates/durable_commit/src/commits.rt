@@ -12,7 +12,7 @@ use mt_values::{Annals, Entry, Name};
 use stage_dir::Sealed;
 use std::alloc::Global;
 
-// Settles the name that was published, and notes the command that is begun. The keeper has room for it.
+// Settles the name that was published, and notes the command that is begun. The annals have room for it.
 fn settle<D: Disk, A: Annals>(disk: &mut D, annals: &mut A) -> Result<(), DiskError>
     requires room { A.has_room annals.old }
     requires begun { ForSome (A.told annals.old) (λ t. IsSome t.begun) }
@@ -34,10 +34,10 @@ fn settle<D: Disk, A: Annals>(disk: &mut D, annals: &mut A) -> Result<(), DiskEr
     }
 }
 
-/// Publishes what was sealed, settles it and notes the command. The keeper has room for it.
+/// Publishes what was sealed, settles it and notes the command. The annals have room for it.
 ///
 /// `Fault` only where the disk's count rose in this call, which it does for no other cause where no call of the stage had failed.
-/// After an error the keeper tells the same list; after a fault the name is there or not.
+/// After an error the annals list the same entries; after a fault the name is there or not.
 pub fn commit<D: Disk, A: Annals>(
     alloc: Global,
     disk: &mut D,

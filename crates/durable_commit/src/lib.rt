@@ -1,4 +1,4 @@
-//! A command given to the disk and to the keeper: published, settled and noted, and why it was not.
+//! A command given to the disk and to the annals: published, settled and noted, and why it was not.
 #![tactic(auto)]
 
 mod causes;

@@ -10,7 +10,7 @@ use Rattle.mt_outside.specs.Disk.{Told, Names, Image, MayLead, Survive, changed,
 use Rattle.fault_plan.specs.Images.{loses, has_happened, happened, image_told}
 use Rattle.fault_plan.proofs.Images.{image_names, left_names}
 
--- a bit in front of the bits of a number
+-- a bit before the bits of a number
 low_bit : (bit rest : ℕ) → bit < 2 → bit_at (bit + 2 * rest) 0 ≡ bit
 low_bit bit rest one = omega (arith, bit_at_lowest (bit + 2 * rest))
 

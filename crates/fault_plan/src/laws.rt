@@ -16,7 +16,7 @@ pub fn images_of_an_image_are_images()
     ensures { (told : Told) (clock choice later : ℕ) (names : Names) → clock ≤ later → Image (image_told choice clock told) later names → Image told clock names }
 {}
 
-/// The image of a choice, with the mark one above, is the disk started again behind a crash at that moment.
+/// The image of a choice, with the mark one above, is the disk started again after a crash at that moment.
 pub fn images_are_started_again()
     ensures { (told : Told) (clock choice since : ℕ) → since ≤ clock → IsStartedAgain told clock since (image_told choice clock told) (clock + 1) }
 {}

@@ -168,7 +168,7 @@ impl Plan {
 
     /// Lists more calls.
     ///
-    /// `NoMemory` where the growth was refused; the list stays as it was.
+    /// `NoMemory` where the allocation failed; the list stays as it was.
     pub fn list(&mut self, calls: &[Listed]) -> Result<(), NoMemory>
         ensures ok { OnOk result (self.new ≡ record self.old { listed = self.old.listed ++ calls.now }) }
         ensures err { OnErr result (self.new ≡ self.old) }

@@ -4,7 +4,7 @@ ghost use Rattle.std.specs.Prelude.{◌≡◌};
 use std::alloc::{AllocError, AllocFailed};
 use std::fmt;
 
-/// A growth was refused. It is merged with no other error.
+/// An allocation failed. It is merged with no other error.
 #[derive(Clone, Copy, Debug)]
 pub struct NoMemory;
 

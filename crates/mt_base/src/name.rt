@@ -1,4 +1,4 @@
-// Bytes, names of the root, and the files behind them.
+// Bytes, names of the root, and the files after them.
 ghost use Rattle.std.specs.Prelude.{◌≡◌, ◌++◌, IfOk, codes, decimal, string_bytes};
 
 use crate::{NoMemory, Seq};

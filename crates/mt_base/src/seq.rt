@@ -86,7 +86,7 @@ impl<T> Seq<T> {
 impl<T: Drop> Seq<T> {
     /// Adds an item at the end.
     ///
-    /// `NoMemory` where the growth was refused; the list stays as it was.
+    /// `NoMemory` where the allocation failed; the list stays as it was.
     pub fn push(&mut self, item: T) -> Result<(), NoMemory>
         ensures ok { OnOk result (self.new ≡ self.old ++ item ∷ []) }
         ensures err { OnErr result (self.new ≡ self.old) }
@@ -115,7 +115,7 @@ impl<T: Copy> Seq<T> {
 
     /// Adds items at the end.
     ///
-    /// `NoMemory` where the growth was refused; the list stays as it was.
+    /// `NoMemory` where the allocation failed; the list stays as it was.
     pub fn extend(&mut self, items: &[T]) -> Result<(), NoMemory>
         ensures ok { OnOk result (self.new ≡ self.old ++ items.now) }
         ensures err { OnErr result (self.new ≡ self.old) }

@@ -8,7 +8,7 @@ use std::alloc::Global;
 pub trait Twin: Sized + Drop {
     /// An equal value.
     ///
-    /// `NoMemory` where a growth was refused; `self` stays as it is.
+    /// `NoMemory` where an allocation failed; `self` stays as it is.
     fn twin(&self, alloc: Global) -> Result<Self, NoMemory>
         ensures { IfOk result (λ t. t ≡ self.now) };
 }

@@ -1,4 +1,4 @@
--- The text of a statement, with a semicolon behind it, is read again as that statement alone.
+-- The text of a statement, with a semicolon after it, is read again as that statement alone.
 use Rattle.std.proofs.Common.{◌≡◌, ℕ, Bool, true, false, not, cond, ◌&&◌, ◌==◌, List, [], ◌∷◌, ◌++◌, Option, Some, None, refl, sym, ap, ◌∙◌}
 use Rattle.std.proofs.lemmas.Bool.{eqb-true}
 use Rattle.std.specs.Option.{option_map}
@@ -8,7 +8,7 @@ use Rattle.mt_values.specs.Tokens.{behind, begins_with}
 use Rattle.mt_values.specs.Grammar.{statement_of, takes_data}
 use Rattle.mt_values.specs.Script.{onto, place_behind, ends_at, ended_from, data_of, line_rest, behind_line, with_data, Step, complete, is_between, next_from, next_statement}
 
--- ---- what stands behind blanks and comments
+-- ---- what comes after blanks and comments
 
 -- a byte that is not passed over, nor does a comment begin with it
 pub record IsFirst (blank : ℕ → Bool) (b : ℕ) (bs : List ℕ) : Type 0 where
@@ -47,7 +47,7 @@ place_same InString b t rest = refl
 place_same BehindBackslash b t rest = refl
 place_same InComment b t rest = refl
 
--- a semicolon ends a text, and would end it if nothing stood behind it
+-- a semicolon ends a text, and would end it if nothing came after it
 abbrev IsEnded : Place → List ℕ → Option (List ℕ × List ℕ) → Type 0
 IsEnded place text None = Unit {0}
 IsEnded place text (Some found) = (text ≡ found.0 ++ 59 ∷ found.1) × (ended_from place (found.0 ++ 59 ∷ []) ≡ Some (found.0, []))
@@ -91,7 +91,7 @@ next_some : (text : List ℕ) (p : List ℕ × List ℕ) → ended_from Outside 
 next_some [] p e = cc
 next_some (b ∷ bs) p e = rw e refl
 
--- an INSERT has no data where nothing stands behind it
+-- an INSERT has no data where nothing comes after it
 complete_alone : (t : List ℕ) → complete (t, []) ≡ (statement_of t true [] false, [])
 complete_alone t = by (takes_data t)
   where

@@ -15,7 +15,7 @@ use Rattle.mt_model.specs.Reply.{place_of, found_or, place_onto, places_of, firs
 
 -- ---- the places of names
 
--- some places in front of those that names give
+-- some places before those that names give
 abbrev pub behind : List ℕ → Result (List ℕ) Refusal → Result (List ℕ) Refusal
 behind front (Ok places) = Ok (front ++ places)
 behind front (Err why) = Err why
@@ -35,7 +35,7 @@ step columns names i d o below is = ap (places_of columns) (drop_more names i d 
 
 -- ---- one name after another, as loops go over them
 
--- the place of a name stands behind those before it
+-- the place of a name comes after those before it
 pub place_at : (columns : List Column) (names : List (List ℕ)) (i : ℕ) (name : List ℕ) (places : List ℕ) (place : ℕ) → i < length names → name ≡ get_or names i name → Some place ≡ place_of columns name
     → behind (places ++ place ∷ []) (places_of columns (drop (i + 1) names)) ≡ behind places (places_of columns (drop i names))
 place_at columns names i name places place below is found =
@@ -46,7 +46,7 @@ pub no_place_at : (columns : List Column) (names : List (List ℕ)) (i : ℕ) (n
 no_place_at columns names i name places below is none =
     ap (behind places) (step columns names i name None below (ap (place_of columns) (sym is) ∙ sym none)) ∙ ap (λ n. Err (refusal.NoColumn n)) (sym is)
 
--- behind the last name all is found
+-- after the last name all is found
 pub no_name_left : (columns : List Column) (names : List (List ℕ)) (i : ℕ) (places : List ℕ) → length names ≤ i → behind places (places_of columns (drop i names)) ≡ Ok places
 no_name_left columns names i places end = ap (λ ns. behind places (places_of columns ns)) (drop_of_length-le names end) ∙ ap Ok (append-nil places)
 

@@ -21,7 +21,7 @@ inserted_typed types lines ended rows is = values.if_ok (AreRowsOf types) (inser
 
 -- ---- how many there are
 
--- no more than data may have behind so many
+-- no more than data may have after so many
 abbrev AreFew : ℕ → List Row → Type 0
 AreFew count rows = length rows + count ≤ row_limit
 

@@ -81,7 +81,7 @@ choose_same : (test : Token → Bool) (f g h k : Reader Statement) (ts : List Pl
 choose_same test f g h k [] first second = second
 choose_same test f g h k (p ∷ ps) first second = either_same (test p.token) f g h k (p ∷ ps) first second
 
--- a part reads on behind itself
+-- a part reads on after itself
 abbrev ReadsOn : {X : Type 0} → Part Statement X → Type 0
 ReadsOn {X} part = (f g : X → Reader Statement) (ts : List Placed) → ((x : X) → Alike (length ts) (f x) (g x)) → part f ts ≡ part g ts
 

@@ -28,7 +28,7 @@ open_cases true b bs o h = cc
 open_cases false b bs None h = (refl, refl)
 open_cases false b bs (Some p) h = cc
 
--- nor the text behind its first byte
+-- nor the text after its first byte
 open_behind : (place : Place) (b : ℕ) (bs : List ℕ) → IsOpen place (b ∷ bs) → IsOpen (place_behind place b bs) bs
 open_behind place b bs h = (open_cases (ends_at place b) b bs (ended_from (place_behind place b bs) bs) h).1
 

@@ -16,11 +16,11 @@ use Rattle.mt_model.specs.declared.refusal.Refusal.TheVariants as refusal
 use Rattle.mt_model.specs.declared.refusal.Room.{Room}
 use Rattle.mt_model.specs.declared.refusal.Room.TheVariants as room
 
--- a number behind a blank
+-- a number after a blank
 abbrev pub and_number : ℕ → List ℕ
 and_number n = 32 ∷ decimal n
 
--- a name behind a blank
+-- a name after a blank
 abbrev pub and_name : List ℕ → List ℕ
 and_name name = 32 ∷ name
 

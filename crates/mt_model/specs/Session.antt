@@ -120,7 +120,7 @@ abbrev pub Takes : Outside → History → ℕ → Item → ℕ → ℕ → List
 Takes n h session (Ok s) from to reply = TakesStatement n h session s from to reply
 Takes n h session (Err why) from to reply = RefusedAs h session from to (refusal_of_cause why) reply
 
--- A statement that ended the run without a reply, as for want of memory: its commands that were accepted before stand (docs/definitions.md, "Statements taken").
+-- A statement that ended the run without a reply, as where memory ran out: its commands that were accepted before stand (docs/definitions.md, "Statements taken").
 abbrev pub Unanswered : History → ℕ → Item → ℕ → ℕ → Type 0
 Unanswered h session (Ok s) from to =
     AddsNothing h session from to ⊎ ((done : List Command) × (rest : List Command) × StopsAfter h session s from to done rest)

@@ -14,7 +14,7 @@ pub record IsName (name : List ℕ) : Type 0 where
   pub goes_on : list_all in_word name ≡ true
   pub free : is_reserved name ≡ false
 
--- what the grammar gives a CREATE: it names at least one column in its key, its table's name is a name, and its text, with a semicolon behind it, is read as it alone
+-- what the grammar gives a CREATE: it names at least one column in its key, its table's name is a name, and its text, with a semicolon after it, is read as it alone
 pub record IsCreateText (c : CreateText) : Type 0 where
   pub key : 0 < length c.key
   pub named : IsName c.table

@@ -79,7 +79,7 @@ pub fn answers_are_determined()
         → IsPlain schema → Answer h schema s a → Answer h schema s b → a ≡ b }
 {}
 
-/// Each CREATE that a script has names a key and a table by a name, and its text, with a semicolon behind it, is read as it
+/// Each CREATE that a script has names a key and a table by a name, and its text, with a semicolon after it, is read as it
 /// alone. The schema that it writes is one that a table may have, and where its turn refuses nothing either, its command
 /// may come next.
 pub fn creates_are_allowed()

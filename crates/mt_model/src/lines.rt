@@ -17,7 +17,7 @@ pub fn ok_line(alloc: Global, place: u64) -> Result<Vec<u8>, NoMemory>
     Ok(format!(in alloc; "OK {place}\n")?.into_bytes())
 }
 
-/// The head of a SELECT's reply, in front of `count` lines. `place` is the length of the history that they answer.
+/// The head of a SELECT's reply, before `count` lines. `place` is the length of the history that they answer.
 ///
 /// `NoMemory` where there was none for the line.
 pub fn rows_line(alloc: Global, count: usize, place: u64) -> Result<Vec<u8>, NoMemory>
@@ -109,21 +109,21 @@ fn text_of(alloc: Global, text: &[u8]) -> Result<Vec<u8>, NoMemory>
     Ok(Vec::from_slice(alloc, text)?)
 }
 
-/// A number behind a head.
+/// A number after a head.
 fn numbered(alloc: Global, head: &[u8], number: u64) -> Result<Vec<u8>, NoMemory>
     ensures { IfOk result (λ text. text.items ≡ head.now ++ refusals.and_number number) }
 {
     with_number(alloc, text_of(alloc, head)?, number)
 }
 
-/// Two numbers behind a head.
+/// Two numbers after a head.
 fn numbered_twice(alloc: Global, head: &[u8], first: u64, second: u64) -> Result<Vec<u8>, NoMemory>
     ensures { IfOk result (λ text. text.items ≡ head.now ++ refusals.and_number first ++ refusals.and_number second) }
 {
     with_number(alloc, numbered(alloc, head, first)?, second)
 }
 
-/// Three numbers behind a head.
+/// Three numbers after a head.
 fn numbered_thrice(
     alloc: Global,
     head: &[u8],
@@ -136,7 +136,7 @@ fn numbered_thrice(
     with_number(alloc, numbered_twice(alloc, head, first, second)?, third)
 }
 
-/// The text with a number at its end, behind a blank.
+/// The text with a number at its end, after a blank.
 fn with_number(alloc: Global, mut text: Vec<u8>, number: u64) -> Result<Vec<u8>, NoMemory>
     ensures { IfOk result (λ whole. whole.items ≡ text.items ++ refusals.and_number number) }
 {
@@ -144,14 +144,14 @@ fn with_number(alloc: Global, mut text: Vec<u8>, number: u64) -> Result<Vec<u8>,
     Ok(text)
 }
 
-/// A name behind a head.
+/// A name after a head.
 fn named(alloc: Global, head: &[u8], name: &Name) -> Result<Vec<u8>, NoMemory>
     ensures { IfOk result (λ text. text.items ≡ head.now ++ refusals.and_name name.now) }
 {
     with_name(text_of(alloc, head)?, name)
 }
 
-/// The text with a name at its end, behind a blank.
+/// The text with a name at its end, after a blank.
 fn with_name(mut text: Vec<u8>, name: &Name) -> Result<Vec<u8>, NoMemory>
     ensures { IfOk result (λ whole. whole.items ≡ text.items ++ refusals.and_name name.now) }
 {

@@ -69,7 +69,7 @@ pub enum Refusal {
         room: Room,
         accepted: usize,
     },
-    /// The input ended before the line that ends data, behind so many complete rows.
+    /// The input ended before the line that ends data, after so many complete rows.
     Unended {
         rows: usize,
     },

@@ -71,7 +71,7 @@ fn name_at(alloc: Global, columns: &[Column], place: usize) -> Result<Name, NoMe
 
 /// The places of the columns that a SELECT takes, or the first name of it that is no column's.
 ///
-/// `NoMemory` where a growth was refused.
+/// `NoMemory` where an allocation failed.
 pub fn selected_columns(
     alloc: Global,
     columns: &[Column],

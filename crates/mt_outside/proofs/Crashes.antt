@@ -67,7 +67,7 @@ image_as_read told clock names stamped kept =
     lead_all (names_after [] (before_clock clock told)) names (at_clock clock told)
     (subst (λ (ns : Names). Survive ns names) (ap (names_after []) stamped ∙ names_after-append [] (before_clock clock told) (at_clock clock told)) kept)
 
--- what a crash may leave behind a sync, it might have left in front of it
+-- what a crash may leave after a sync, it might have left before it
 pub image_synced : (told : Told) (clock : ℕ) (names : Names) → IsStamped clock told → Image told (clock + 1) names → Image told clock names
 image_synced told clock names stamped image =
     let by = stamped_by told clock stamped in
@@ -131,7 +131,7 @@ lead_published from to (s ∷ ss) clock name files (inr leads) = elim (lead_publ
   | inr new ↦ inr (record { old = new.old; left = new.left; before = inr new.before; become = new.become; is = new.is })
 ]
 
--- what a crash may leave behind a publish is what it might have left in front of it, or that with the name
+-- what a crash may leave after a publish is what it might have left before it, or that with the name
 pub image_published : (told : Told) (clock : ℕ) (name : List ℕ) (files : Files) (names : Names) → Image (with_change clock (Publish name files) told) clock names
     → Image told clock names ⊎ WithPublished (Image told clock) name files names
 image_published told clock name files names image =

@@ -99,7 +99,7 @@ abbrev pub AllBy : ℕ → Told → Type 0
 AllBy clock [] = Unit {0}
 AllBy clock (s ∷ ss) = (s.clock ≤ clock) × AllBy clock ss
 
--- what is settled stands in front of what isn't, and no change is stamped with a mark that is still to come
+-- what is settled stands before what isn't, and no change is stamped with a mark that is still to come
 abbrev pub IsStamped : ℕ → Told → Type 0
 IsStamped clock told = told ≡ before_clock clock told ++ at_clock clock told
 
@@ -111,7 +111,7 @@ pub record WithPublished (Before : Names → Type 0) (name : List ℕ) (files : 
   pub become : MayBecome files left
   pub is : names ≡ insert_entry (slice_cmp nat_cmp) old name left
 
--- A disk that was started again behind a crash at some moment since a mark: all that it tells is settled, and what a crash may leave of it,
+-- A disk that was started again after a crash at some moment since a mark: all that it tells is settled, and what a crash may leave of it,
 -- that crash might have left.
 pub record IsStartedAgain (told : Told) (clock since : ℕ) (now : Told) (mark : ℕ) : Type 0 where
   pub stamped : IsStamped mark now

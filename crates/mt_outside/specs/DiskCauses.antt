@@ -4,7 +4,7 @@ use Rattle.mt_outside.specs.Causes.{Rose}
 use Rattle.mt_outside.specs.declared.disk.DiskError.{DiskError}
 use Rattle.mt_outside.specs.declared.disk.DiskError.TheVariants.{Fault, NoMemory}
 
--- a count never falls; it rises where a fault is answered, and there alone: want of memory is no fault
+-- a count never falls; it rises where a fault is answered, and there alone: out of memory is no fault
 pub record HasDiskCause {T : Type 0} (before now : ℕ) (result : Result T DiskError) : Type 0 where
   pub later : before ≤ now
   pub failed : IsErrOf result Fault → Rose before now

@@ -17,7 +17,7 @@ pub enum DiskError {
     /// The outside failed. The object's count of faults rose in this call, or stands at its type's end.
     #[error("the disk failed")]
     Fault,
-    /// A growth was refused. The object's count of faults stays.
+    /// An allocation failed. The object's count of faults stays.
     #[error("out of memory")]
     NoMemory,
 }
@@ -209,7 +209,7 @@ pub trait Disk: Drop + Send {
 
     /// Gives a stage a name that is not there. Where a call of the stage had failed, the disk's count rises.
     ///
-    /// After a fault the name is there or not; for want of memory nothing was changed. The stage is gone in each case.
+    /// After a fault the name is there or not; where memory ran out nothing was changed. The stage is gone in each case.
     fn publish(
         &mut self,
         alloc: Global,
@@ -226,7 +226,7 @@ pub trait Disk: Drop + Send {
         ensures taken { 0 < Self.Arm.Stage.failed stage → Rose (failed self.old) (failed self.new) }
         ensures cause { HasStageCause (Self.Arm.Stage.failed stage) (failed self.old) (failed self.new) result };
 
-    /// Takes a name away that is there. It answers no want of memory.
+    /// Takes a name away that is there. It never answers `NoMemory`.
     ///
     /// After a fault the name is there or not.
     fn remove(&mut self, name: &Name) -> Result<(), DiskError>
@@ -239,7 +239,7 @@ pub trait Disk: Drop + Send {
         ensures cause { HasDiskCause (failed self.old) (failed self.new) result };
 
     /// Makes sure that each publish and remove so far has happened, whatever a crash leaves, and raises the mark by one.
-    /// It answers no want of memory.
+    /// It never answers `NoMemory`.
     ///
     /// After a fault nothing is settled, and the mark stays. A mark at its type's end can't be raised.
     fn sync_names(&mut self) -> Result<(), DiskError>

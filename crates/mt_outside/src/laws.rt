@@ -37,7 +37,7 @@ pub fn syncs_add_no_image()
     ensures fewer { (told : Told) (clock : ℕ) (names : Names) → IsStamped clock told → Image told (clock + 1) names → Image told clock names }
 {}
 
-/// What a crash may leave behind a publish is what it might have left in front of it, or that with the published name.
+/// What a crash may leave after a publish is what it might have left before it, or that with the published name.
 pub fn publishes_add_one_name()
     ensures { (told : Told) (clock : ℕ) (name : List ℕ) (files : Files) (names : Names) → Image (with_change clock (Publish name files) told) clock names
         → Image told clock names ⊎ WithPublished (Image told clock) name files names }

@@ -17,7 +17,7 @@ use std::alloc::Global;
 /// program merges nothing, and so it refuses more INSERTs into a partition that has 3000, where a program that merges may
 /// take them.
 ///
-/// `NoMemory` where a growth was refused.
+/// `NoMemory` where an allocation failed.
 pub fn allows(
     alloc: Global,
     statements: &[Result<Statement, Cause>],

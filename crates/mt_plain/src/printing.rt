@@ -47,7 +47,7 @@ fn push_fields(
     Ok(())
 }
 
-/// Adds a value behind another one.
+/// Adds a value after another one.
 fn push_next(alloc: Global, text: &mut Bytes, value: &Value) -> Result<(), NoMemory>
     ensures { OnOk result (text.new ≡ text.old ++ 9 ∷ printing.field value.now) }
 {

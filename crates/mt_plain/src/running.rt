@@ -26,7 +26,7 @@ pub struct Outcome {
 
 /// Runs the statements of a script, from a history without entries on, over an outside without faults.
 ///
-/// `NoMemory` where a growth was refused.
+/// `NoMemory` where an allocation failed.
 pub fn run(alloc: Global, statements: &[Result<Statement, Cause>]) -> Result<Outcome, NoMemory>
     ensures run { IfOk result (λ done. ScriptRun calm statements.now done.history.items 0 done.out.items) }
     ensures legal { IfOk result (λ done. All IsWritten statements.now → IsLegal done.history.items) }
@@ -42,7 +42,7 @@ pub fn run(alloc: Global, statements: &[Result<Statement, Cause>]) -> Result<Out
 
 /// Runs one statement after the last entry of a history, over an outside without faults, and gives its reply.
 ///
-/// `NoMemory` where a growth was refused; the history stays as it was. It also answers a SELECT from a table of 2^32
+/// `NoMemory` where an allocation failed; the history stays as it was. It also answers a SELECT from a table of 2^32
 /// columns and more, which no legal history has.
 pub fn step(
     alloc: Global,

@@ -13,7 +13,7 @@ use std::alloc::Global;
 
 /// The lines of a SELECT from a table of this schema, or the first name of it that is no column's.
 ///
-/// `NoMemory` where a growth was refused, and for a table of 2^32 columns and more, which no legal history has.
+/// `NoMemory` where an allocation failed, and for a table of 2^32 columns and more, which no legal history has.
 pub fn answer(
     alloc: Global,
     entries: &[Entry],

@@ -14,7 +14,7 @@ use std::alloc::Global;
 /// Accepts commands of session 0 at the end of a history, each at its turn, up to the first that is refused, and says why
 /// that one is.
 ///
-/// `NoMemory` where a growth was refused; some of the first commands may have been accepted then.
+/// `NoMemory` where an allocation failed; some of the first commands may have been accepted then.
 pub fn accept(
     alloc: Global,
     history: &mut Vec<Entry>,

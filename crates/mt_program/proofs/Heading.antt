@@ -58,7 +58,7 @@ all_read script text before (Some rest) is h end =
 abbrev of_flags : Bool → Bool → Bool → Status
 of_flags damaged risen refused = if damaged then status.Damaged else if risen then status.DiskFault else if refused then status.Refused else status.Done
 
--- the entries behind what was told are session 0's
+-- the entries after what was told are session 0's
 own_entries : (kept : Told) (opened disk arm : ℕ) (done : List Item) (replies : List (List ℕ)) (told : Option Told) → (r : Ran kept opened disk arm done replies told) → OwnEntries (history r.now) (length kept.list)
 own_entries kept opened disk arm done replies told r =
     let entries = λ (n : Noted). n.entry in

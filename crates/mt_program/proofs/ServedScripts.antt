@@ -50,7 +50,7 @@ used_within script at used le fits =
     let rest : length (take (length script - at) (drop at script)) ≡ length script - at = ap length (sliced script at) ∙ length-drop at script in
     omega arith
 
--- the statements that are left behind a place, one further
+-- the statements that are left after a place, one further
 pub one_statement : (script : List ℕ) (at used : ℕ) (st : Item) → next_statement (take (length script - at) (drop at script)) ≡ Some (st, drop used (take (length script - at) (drop at script)))
     → statements_of (drop at script) ≡ st ∷ statements_of (drop (at + used) script)
 one_statement script at used st found =

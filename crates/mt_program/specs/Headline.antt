@@ -44,7 +44,7 @@ pub record NothingRan (before after : World) (course : Course) : Type 0 where
   pub sink : after.sink ≡ before.sink
 
 -- Which statements ran, and what was written of their replies, by how the run ended. Where the disk's count rose, all were answered, or the root
--- was not opened. With want of memory one more may have run, which has no reply.
+-- was not opened. Where memory ran out one more may have run, which has no reply.
 abbrev pub EndsBy : Status → World → World → List ℕ → Course → List Item → List ℕ → Type 0
 EndsBy status.Done before after script course rest out = AnsweredAll false after.source script course rest out
 EndsBy status.Refused before after script course rest out = AnsweredAll true after.source script course rest out

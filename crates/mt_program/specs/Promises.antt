@@ -34,7 +34,7 @@ pub record NothingRefuses (command : List (String Global)) (script : List ℕ) (
   pub short : length script < 2 ^ 40
   pub causes : NoneMeets h (statements_of script)
 
--- where nothing stands against a run, and no count rose, it ends with 0, or for want of memory
+-- where nothing stands against a run, and no count rose, it ends with 0, or where memory ran out
 abbrev pub IsComplete : List (String Global) → World → ℕ → World → Type 0
 IsComplete words before status after =
     (kept : Told) (script written : List ℕ) → Starts before kept script written → NothingRefuses words script (history kept) → NoCountRose before after → (status ≡ 0) ⊎ (status ≡ 6)

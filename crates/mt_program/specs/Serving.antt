@@ -18,7 +18,7 @@ use Rattle.mt_program.specs.declared.serving.Ending.{Ending}
 use Rattle.mt_program.specs.declared.serving.Ending.TheVariants as ending
 use Rattle.replies.specs.declared.tally.Tally.{Tally}
 
--- The keeper tells what it told and entries of session 0. The statements had these replies, whatever the counts come to.
+-- The annals list what it told and entries of session 0. The statements had these replies, whatever the counts come to.
 pub record Ran (kept : Told) (opened disk arm : ℕ) (done : List Item) (replies : List (List ℕ)) (told : Option Told) : Type 0 where
   pub now : Told
   pub more : List Noted
@@ -30,7 +30,7 @@ pub record Ran (kept : Told) (opened disk arm : ℕ) (done : List Item) (replies
   pub stopped : (n : Outside) → Foresees opened disk arm n → AreStopped n (history now) (length kept.list) done replies
   pub risen : list_any is_unsettled replies ≡ true → opened < disk
 
--- The statements of the script up to a place ran, and their replies were written. The store stands for what the keeper tells.
+-- The statements of the script up to a place ran, and their replies were written. The store stands for what the annals list.
 pub record Served {F : Type 0} (files_of : F → Option Files) (kept : Told) (script : List ℕ) (opened disk arm at : ℕ) (tally : Tally) (store : CoreStore F) (told : Option Told) (root : Option root.Told) (before after : Option (List ℕ)) : Type 0 where
   pub done : List Item
   pub replies : List (List ℕ)

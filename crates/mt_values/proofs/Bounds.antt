@@ -1,4 +1,4 @@
--- What is left of a text behind a part of it is shorter than the text.
+-- What is left of a text after a part of it is shorter than the text.
 use Rattle.std.proofs.Common.{ℕ, ◌<◌, ◌≤◌, Bool, true, false, not, cond, ◌&&◌, ◌==◌, List, [], ◌∷◌, length, arith, Option, Some, None}
 use Rattle.std.specs.Option.{option_map}
 use Rattle.mt_values.specs.declared.script.Place.{Place}

@@ -1,10 +1,10 @@
--- What was read so far, in front of what reading the rest gives.
+-- What was read so far, before what reading the rest gives.
 use Rattle.std.proofs.Common.{◌≡◌, ℕ, List, [], ◌∷◌, ◌++◌, Option, Some, None, refl, sym, ap, append_assoc}
 use Rattle.std.specs.Option.{option_map}
 use Rattle.mt_values.specs.Lists.{in_front}
 use Rattle.mt_values.specs.Script.{onto}
 
--- elements in front of a list, where there is a list
+-- elements before a list, where there is a list
 abbrev pub fronted : {X : Type 0} → List X → Option (List X) → Option (List X)
 fronted front None = None
 fronted front (Some xs) = Some (front ++ xs)
@@ -19,7 +19,7 @@ pub fronted_more : {X : Type 0} (front : List X) (x : X) (o : Option (List X)) �
 fronted_more front x None = refl
 fronted_more front x (Some xs) = ap Some (sym (append_assoc front (x ∷ []) xs))
 
--- bytes in front of the first part of a text that is parted
+-- bytes before the first part of a text that is parted
 abbrev pub parted : List ℕ → Option (List ℕ × List ℕ) → Option (List ℕ × List ℕ)
 parted front None = None
 parted front (Some p) = Some (front ++ p.0, p.1)

@@ -8,7 +8,7 @@ use Rattle.mt_values.specs.Script.{line_from}
 use Rattle.mt_values.specs.Rows.{row_limit, row_of_line, row_onto, rows_behind, rows_within}
 use Rattle.mt_values.proofs.Bounds.{ShorterThan, line_shorter}
 
--- the rows of data behind so many others
+-- the rows of data after so many others
 abbrev pub rows_after : List ColType → Bool → ℕ → List ℕ → Result (List Row) DataFault
 rows_after types ended count lines = rows_within (length lines + 1) types ended count lines
 
@@ -23,7 +23,7 @@ rows_same (suc n) zero types ended count lines low high = absurd (omega arith)
 rows_same (suc n) (suc m) types ended count lines low high =
     rows_behind_same (rows_within n types ended) (rows_within m types ended) types ended count (length lines) (line_from false lines) (line_shorter false lines) (λ c rest less. rows_same n m types ended c rest (omega arith) (omega arith))
 
--- the rows of data are that of its first line and those of what stands behind it
+-- the rows of data are that of its first line and those of what comes after it
 pub rows_after_step : (types : List ColType) (ended : Bool) (count : ℕ) (lines : List ℕ) → rows_after types ended count lines ≡ rows_behind (rows_after types ended) types ended count (line_from false lines)
 rows_after_step types ended count lines =
     rw add-one (rows_behind_same (rows_within (length lines) types ended) (rows_after types ended) types ended count (length lines) (line_from false lines) (line_shorter false lines)

@@ -97,7 +97,7 @@ hex_small None l p q = tt
 hex_small (Some h) None p q = tt
 hex_small (Some h) (Some l) p q = omega arith
 
--- a byte and the bytes behind it
+-- a byte and the bytes after it
 abbrev pub AreFound : ℕ × List ℕ → Type 0
 AreFound found = (found.0 < 2 ^ 8) × AreBytes found.1
 
@@ -229,7 +229,7 @@ fields_bytes taken (b ∷ bs) are =
     fields_by (not taken && b == 9) b (fields_from false bs) (fields_from (takes_next taken b) bs) (All-head (λ (c : ℕ). c < 2 ^ 8) b bs are)
     (fields_bytes false bs rest) (fields_bytes (takes_next taken b) bs rest)
 
--- a line of bytes and the bytes behind it
+-- a line of bytes and the bytes after it
 abbrev pub ArePartsOfBytes : List ℕ × List ℕ → Type 0
 ArePartsOfBytes found = AreBytes found.0 × AreBytes found.1
 

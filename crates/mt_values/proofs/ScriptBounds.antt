@@ -21,7 +21,7 @@ data_same (suc n) zero text low high = absurd (omega arith)
 data_same (suc n) (suc m) text low high =
     data_behind_same (data_within n) (data_within m) (length text) text (line_from false text) (line_shorter false text) (λ rest less. data_same n m rest (omega arith) (omega arith))
 
--- the data of a text is its first line and the data of what stands behind it
+-- the data of a text is its first line and the data of what comes after it
 pub data_of_step : (text : List ℕ) → data_of text ≡ data_behind data_of text (line_from false text)
 data_of_step text =
     rw add-one (data_behind_same (data_within (length text)) data_of (length text) text (line_from false text) (line_shorter false text) (λ rest less. data_same (length text) (length rest + 1) rest (omega arith) (omega arith)))
@@ -85,7 +85,7 @@ statements_same (suc n) (suc m) script low high =
     let short = behind_short is_between false script in
     statement_and_same (statements_within n) (statements_within m) (length (behind is_between false script)) (next_statement script) (next_shorter (behind is_between false script)) (λ rest less. statements_same n m rest (omega arith) (omega arith))
 
--- the statements of a script are the next one and those of what stands behind it
+-- the statements of a script are the next one and those of what comes after it
 pub statements_of_step : (script : List ℕ) → statements_of script ≡ statement_and statements_of (next_statement script)
 statements_of_step script =
     let short = behind_short is_between false script in

@@ -145,7 +145,7 @@ tokens_same (suc n) (suc m) size text low high =
 abbrev pub tokens_left : ℕ → List ℕ → List Placed
 tokens_left size text = tokens_within (length text + 1) size text
 
--- they are its first one and those of what stands behind it
+-- they are its first one and those of what comes after it
 pub tokens_left_step : (size : ℕ) (text : List ℕ) → tokens_left size text ≡ tokens_from (tokens_left size) size (behind is_space false text)
 tokens_left_step size text =
     let short = behind_short is_space false text in

@@ -1,4 +1,4 @@
--- What a keeper of accepted commands tells.
+-- What annals of accepted commands tells.
 use Rattle.std.specs.Prelude.{ℕ, List, [], ◌∷◌, ◌++◌, Option, Some, None}
 use Rattle.mt_values.specs.declared.command.Entry.{Entry}
 use Rattle.mt_values.specs.declared.annals.Noted.{Noted}

@@ -4,7 +4,7 @@ use Rattle.std.specs.Int.{w8, w16, w32, w64, to_le_bytes, cast_unsigned}
 use Rattle.mt_values.specs.declared.value.Value.{Value}
 use Rattle.mt_values.specs.declared.value.Value.TheVariants as value
 
--- A number in groups of seven bits, the lowest first, each but the last with 128 added; at most so many groups behind the first.
+-- A number in groups of seven bits, the lowest first, each but the last with 128 added; at most so many groups after the first.
 abbrev pub groups_within : ℕ → ℕ → List ℕ
 groups_within zero n = n ∷ []
 groups_within (suc k) n = if nat_lt n 128 then n ∷ [] else (n % 128 + 128) ∷ groups_within k (n / 128)

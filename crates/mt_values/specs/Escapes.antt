@@ -1,4 +1,4 @@
--- What a backslash and the bytes behind it stand for (ClickHouse, formats: TabSeparated; docs/grammar.md, "Escapes").
+-- What a backslash and the bytes after it stand for (ClickHouse, formats: TabSeparated; docs/grammar.md, "Escapes").
 use Rattle.std.specs.Prelude.{ℕ, ◌+◌, ◌-◌, ◌*◌, ◌&&◌, ◌==◌, nat_le, List, [], ◌∷◌, Option, Some, None, if◌then◌else◌}
 use Rattle.std.specs.Option.{option_map}
 use Rattle.std.specs.Char.{is_ascii_digit}
@@ -33,7 +33,7 @@ abbrev pub hex_pair : List ℕ → Option (ℕ × List ℕ)
 hex_pair (h ∷ l ∷ bs) = option_map (λ b. (b, bs)) (hex_byte (hex_digit h) (hex_digit l))
 hex_pair bs = None
 
--- The byte that a backslash stands for with the bytes behind it, and what follows them. None behind it is none, nor is
+-- The byte that a backslash stands for with the bytes after it, and what follows them. None after it is none, nor is
 -- an N, nor an x without two digits.
 abbrev pub escape_of : List ℕ → Option (ℕ × List ℕ)
 escape_of [] = None

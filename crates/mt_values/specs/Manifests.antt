@@ -5,7 +5,7 @@ use Rattle.std.specs.Int.{w16, w32, w64, to_le_bytes}
 use Rattle.mt_values.specs.declared.manifest.FileMark.{FileMark}
 use Rattle.mt_values.specs.declared.manifest.Manifest.{Manifest}
 
--- bytes, and behind them their digest
+-- bytes, and after them their digest
 abbrev pub with_digest : (List ℕ → List ℕ) → List ℕ → List ℕ
 with_digest digest bytes = bytes ++ digest bytes
 

@@ -43,7 +43,7 @@ choose test this other (p ∷ ps) = either (test p.token) this other (p ∷ ps)
 abbrev pub Part : Type 0 → Type 0 → Type 0
 Part S X = (X → Reader S) → Reader S
 
--- one part after another, as long as the token between them comes; behind those that came before, and at most so many
+-- one part after another, as long as the token between them comes; after those that came before, and at most so many
 abbrev pub listed_within : {S X Y : Type 0} → ℕ → (Token → Bool) → Test Y → Part S X → List X → Part S (List X)
 listed_within zero more between item front next ts = Err (slip.Wrong, ts)
 listed_within (suc n) more between item front next ts =

@@ -21,7 +21,7 @@ use Rattle.mt_values.specs.Script.{line_from, takes_next}
 
 -- ---- fields
 
--- a byte in front of the first of some fields
+-- a byte before the first of some fields
 abbrev pub onto_first : ℕ → List (List ℕ) → List (List ℕ)
 onto_first b [] = []
 onto_first b (f ∷ fs) = (b ∷ f) ∷ fs
@@ -64,7 +64,7 @@ signed_below end (b ∷ bs) =
 
 -- ---- texts
 
--- a byte in front of what the rest of a text says
+-- a byte before what the rest of a text says
 abbrev pub unescaped_behind : (List ℕ → Option (List ℕ)) → ℕ × List ℕ → Option (List ℕ)
 unescaped_behind more found = in_front (more found.1) found.0
 
@@ -136,14 +136,14 @@ row_onto (Err fault) rest = Err (data_fault.Row fault)
 row_onto (Ok row) (Err fault) = Err fault
 row_onto (Ok row) (Ok rows) = Ok (row ∷ rows)
 
--- the rows that data goes on with behind so many, by its first line and what the rest gives
+-- the rows that data goes on with after so many, by its first line and what the rest gives
 abbrev pub rows_behind : (ℕ → List ℕ → Result (List Row) DataFault) → List ColType → Bool → ℕ → Option (List ℕ × List ℕ) → Result (List Row) DataFault
 rows_behind more types ended count None = if ended then Ok [] else Err (data_fault.Unended count)
 rows_behind more types ended count (Some found) =
     if nat_le row_limit count then Err data_fault.TooMany
     else row_onto (row_of_line types (count + 1) found.0) (more (count + 1) found.1)
 
--- At most so many rows of data, behind so many. What no line feed ends is no row. The first faulty line decides.
+-- At most so many rows of data, after so many. What no line feed ends is no row. The first faulty line decides.
 abbrev pub rows_within : ℕ → List ColType → Bool → ℕ → List ℕ → Result (List Row) DataFault
 rows_within zero types ended count lines = Ok []
 rows_within (suc n) types ended count lines = rows_behind (rows_within n types ended) types ended count (line_from false lines)

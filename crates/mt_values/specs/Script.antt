@@ -13,7 +13,7 @@ use Rattle.mt_values.specs.Grammar.{statement_of, takes_data, same_bytes}
 abbrev pub onto : ℕ → List ℕ × List ℕ → List ℕ × List ℕ
 onto b found = (b ∷ found.0, found.1)
 
--- Where the next byte stands, behind this byte. A string goes from quote to quote, a backslash in it takes the next byte,
+-- Where the next byte stands, after this byte. A string goes from quote to quote, a backslash in it takes the next byte,
 -- and a comment goes from two dashes up to a line feed.
 abbrev pub place_behind : Place → ℕ → List ℕ → Place
 place_behind Outside b rest =
@@ -54,13 +54,13 @@ line_from taken (b ∷ bs) =
 abbrev pub ends_data : List ℕ → Bool
 ends_data line = same_bytes line (codes "\\.")
 
--- The lines of data with their line feeds; the last has none where the script ends in it. Whether the line that ends data came, and the script behind it.
+-- The lines of data with their line feeds; the last has none where the script ends in it. Whether the line that ends data came, and the script after it.
 pub record Data : Type 0 where
   pub lines : List ℕ
   pub ended : Bool
   pub rest : List ℕ
 
--- one more line in front of data
+-- one more line before data
 abbrev pub with_line : List ℕ → Data → Data
 with_line line d = record { lines = line ++ 10 ∷ d.lines; ended = d.ended; rest = d.rest }
 
@@ -85,7 +85,7 @@ is_line_byte b = not (b == 10)
 abbrev pub line_rest : List ℕ → List ℕ
 line_rest text = take_while is_line_byte text
 
--- the data begins behind that line's line feed
+-- the data begins after that line's line feed
 abbrev pub behind_line : List ℕ → List ℕ
 behind_line text = drop (prefix_len is_line_byte text + 1) text
 
@@ -93,18 +93,18 @@ behind_line text = drop (prefix_len is_line_byte text + 1) text
 abbrev pub Item : Type 0
 Item = Result Statement Cause
 
--- A text behind which a byte stands, at this place, that may not. What is faulty before it comes first.
+-- A text after which a byte stands, at this place, that may not. What is faulty before it comes first.
 abbrev pub refused_behind : ℕ → Item → Item
 refused_behind place (Ok s) = Err (cause.Grammar place)
 refused_behind place (Err c) = Err c
 
--- An INSERT of this text with its data. Behind its semicolon only blanks may stand on this rest of its line.
+-- An INSERT of this text with its data. After its semicolon only blanks may stand on this rest of its line.
 abbrev pub with_line_rest : List ℕ → List ℕ → Data → Item
 with_line_rest text line d =
     if list_all is_space line then statement_of text true d.lines d.ended
     else refused_behind (length text + 1 + prefix_len is_space line) (statement_of text true d.lines d.ended)
 
--- the item that a script begins with; and the script behind it and its data
+-- the item that a script begins with; and the script after it and its data
 abbrev pub Step : Type 0
 Step = Item × List ℕ
 
@@ -126,7 +126,7 @@ complete_or_cut text (Some found) = complete found
 abbrev pub is_between : ℕ → Bool
 is_between b = is_space b || b == 59
 
--- the next statement of a script and the script behind it; none at the end of the script
+-- the next statement of a script and the script after it; none at the end of the script
 abbrev pub next_from : List ℕ → Option Step
 next_from [] = None
 next_from (b ∷ bs) = Some (complete_or_cut (b ∷ bs) (ended_from Outside (b ∷ bs)))
@@ -134,7 +134,7 @@ next_from (b ∷ bs) = Some (complete_or_cut (b ∷ bs) (ended_from Outside (b �
 abbrev pub next_statement : List ℕ → Option Step
 next_statement script = next_from (behind is_between false script)
 
--- a statement in front of those that the rest of the script gives
+-- a statement before those that the rest of the script gives
 abbrev pub statement_and : (List ℕ → List Item) → Option Step → List Item
 statement_and more None = []
 statement_and more (Some found) = found.0 ∷ more found.1
@@ -167,6 +167,6 @@ abbrev pub is_whole : Option (List ℕ × List ℕ) → Bool
 is_whole None = false
 is_whole (Some found) = not (takes_data found.0) || (not (list_all is_line_byte found.1) && data_ended (behind_line found.1))
 
--- some byte of a script so far ends its first statement, whatever comes behind
+-- some byte of a script so far ends its first statement, whatever comes after
 abbrev pub has_whole : List ℕ → Bool
 has_whole script = is_whole (ended_from Outside (behind is_between false script))

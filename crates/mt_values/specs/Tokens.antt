@@ -19,7 +19,7 @@ abbrev pub begins_with : ℕ → List ℕ → Bool
 begins_with b [] = false
 begins_with b (c ∷ cs) = c == b
 
--- What is left of a text behind bytes that pass the test and comments, which go from two dashes up to a line feed.
+-- What is left of a text after bytes that pass the test and comments, which go from two dashes up to a line feed.
 -- The flag says that the text begins in a comment.
 abbrev pub behind : (ℕ → Bool) → Bool → List ℕ → List ℕ
 behind blank comment [] = []
@@ -45,11 +45,11 @@ word_begins (b ∷ bs) = starts_word b
 abbrev pub number_token : List ℕ → List ℕ → Token × List ℕ
 number_token digits rest = if word_begins rest then (token.Stray, rest) else (token.Number digits, rest)
 
--- a byte of a string in front of what the rest of it says
+-- a byte of a string before what the rest of it says
 abbrev pub byte_onto : ℕ → Option (List ℕ × List ℕ) → Option (List ℕ × List ℕ)
 byte_onto b found = option_map (λ p. (b ∷ p.0, p.1)) found
 
--- a byte that an escape stands for, in front of what the rest of the string says
+-- a byte that an escape stands for, before what the rest of the string says
 abbrev pub escape_onto : (List ℕ → Option (List ℕ × List ℕ)) → ℕ × List ℕ → Option (List ℕ × List ℕ)
 escape_onto more found = byte_onto found.0 (more found.1)
 

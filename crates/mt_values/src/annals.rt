@@ -14,9 +14,9 @@ pub struct Noted {
     pub mark: u64,
 }
 
-/// A keeper of the accepted commands.
+/// Annals of the accepted commands.
 pub trait Annals: Drop + Send {
-    /// The entries with their marks, and the one that is begun, where the keeper tells.
+    /// The entries with their marks, and the one that is begun, where the annals list.
     ghost told: { Self → Option Told };
 
     /// One `begin` with one `note` cannot fail.
@@ -24,7 +24,7 @@ pub trait Annals: Drop + Send {
 
     /// Makes room for one `begin` with one `note`.
     ///
-    /// `NoMemory` where a growth was refused; what is told stays.
+    /// `NoMemory` where an allocation failed; what is told stays.
     fn reserve(&mut self, alloc: Global) -> Result<(), NoMemory>
         ensures room { OnOk result (has_room self.new) }
         ensures told { told self.new ≡ told self.old };

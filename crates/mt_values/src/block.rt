@@ -30,7 +30,7 @@ impl Model for Block {
 impl Block {
     /// The block without rows, with columns of these types.
     ///
-    /// `NoMemory` where a growth was refused.
+    /// `NoMemory` where an allocation failed.
     pub fn new(alloc: Global, types: &[ColType]) -> Result<Block, NoMemory>
         ensures { IfOk result (λ b. b ≡ record { types = types.now; rows = [] }) }
     {
@@ -53,7 +53,7 @@ impl Block {
 
     /// The block of these rows.
     ///
-    /// `NoMemory` where a growth was refused.
+    /// `NoMemory` where an allocation failed.
     pub fn from_rows(alloc: Global, types: &[ColType], rows: &[Row]) -> Result<Block, NoMemory>
         requires typed { AreRowsOf types.now rows.now }
         requires few { length rows.now < 2 ^ 32 }
@@ -143,7 +143,7 @@ impl Block {
 
 /// Adds the values that the rows have at a place to a column.
 ///
-/// `NoMemory` where a growth was refused; some of the first values may have been added then.
+/// `NoMemory` where an allocation failed; some of the first values may have been added then.
 fn push_values(column: &mut ColumnData, rows: &[Row], place: usize) -> Result<(), NoMemory>
     requires { HaveTypeAt place column.old.col_type rows.now }
     ensures { OnOk result (column.new ≡ record column.old { values = column.old.values ++ column_of place rows.now }) }

@@ -73,7 +73,7 @@ impl Cells {
 
     /// Adds a value at the end.
     ///
-    /// `NoMemory` where a growth was refused; the column stays as it was.
+    /// `NoMemory` where an allocation failed; the column stays as it was.
     fn push(&mut self, cell: Cell) -> Result<(), NoMemory>
         requires { type_of (value_of cell) ≡ (cells_of self.old).col_type }
         ensures ok { OnOk result (cells_of self.new ≡ record (cells_of self.old) { values = (cells_of self.old).values ++ value_of cell.entry ∷ [] }) }
@@ -192,7 +192,7 @@ impl ColumnData {
 
     /// Adds a value at the end.
     ///
-    /// `NoMemory` where a growth was refused; the column stays as it was.
+    /// `NoMemory` where an allocation failed; the column stays as it was.
     pub fn push(&mut self, value: Value) -> Result<(), NoMemory>
         requires { type_of value ≡ self.old.col_type }
         ensures ok { OnOk result (self.new ≡ record self.old { values = self.old.values ++ value ∷ [] }) }
@@ -203,7 +203,7 @@ impl ColumnData {
 
     /// Adds a borrowed value at the end.
     ///
-    /// `NoMemory` where a growth was refused; the column stays as it was.
+    /// `NoMemory` where an allocation failed; the column stays as it was.
     pub fn push_cell(&mut self, cell: Cell) -> Result<(), NoMemory>
         requires { type_of (value_of cell) ≡ self.old.col_type }
         ensures ok { OnOk result (self.new ≡ record self.old { values = self.old.values ++ value_of cell.entry ∷ [] }) }
@@ -214,7 +214,7 @@ impl ColumnData {
 
     /// Adds a text at the end of a column of texts.
     ///
-    /// `NoMemory` where a growth was refused; the column stays as it was.
+    /// `NoMemory` where an allocation failed; the column stays as it was.
     pub fn push_text(&mut self, text: &[u8]) -> Result<(), NoMemory>
         requires { self.old.col_type ≡ type.Text }
         ensures ok { OnOk result (self.new ≡ record self.old { values = self.old.values ++ value.Text text.now ∷ [] }) }
@@ -226,7 +226,7 @@ impl ColumnData {
 
 /// Adds a number at the end of a vector.
 ///
-/// `NoMemory` where a growth was refused; the vector stays as it was.
+/// `NoMemory` where an allocation failed; the vector stays as it was.
 fn push_number<T: Copy>(numbers: &mut Vec<T>, number: T) -> Result<(), NoMemory>
     ensures ok { OnOk result (numbers.new.items ≡ numbers.old.items ++ number ∷ []) }
     ensures err { OnErr result (numbers.new.items ≡ numbers.old.items) }

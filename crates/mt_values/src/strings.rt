@@ -65,7 +65,7 @@ impl Strings {
 
     /// Adds a text at the end.
     ///
-    /// `NoMemory` where a growth was refused; the list stays as it was.
+    /// `NoMemory` where an allocation failed; the list stays as it was.
     pub fn push(&mut self, text: &[u8]) -> Result<(), NoMemory>
         ensures ok { OnOk result (self.new ≡ self.old ++ text.now ∷ []) }
         ensures err { OnErr result (self.new ≡ self.old) }

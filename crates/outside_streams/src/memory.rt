@@ -189,7 +189,7 @@ impl Sink for MemSink {
 
     ghost failed = { λ s. s.failed };
 
-    /// A write that isn't listed fails only where a growth was refused, and writes nothing then.
+    /// A write that isn't listed fails only where an allocation failed, and writes nothing then.
     fn write(&mut self, bytes: &[u8]) -> Result<usize, WriteFault>
         ensures bound { WritesAtMost result bytes.now }
         ensures some { IfOk result (λ n. 0 < length bytes.now → 0 < n) }

@@ -151,7 +151,7 @@ none_above w n top (p ∷ ps) ends lt =
     ap (λ b. same_partition p.name.partition w && b) (lies_above p.name.min_block p.name.max_block n (omega (arith, ends.0, lt))) ∙ and_false (same_partition p.name.partition w) in
     sum_by-cons (λ (q : CorePart). cond (has_block w n q) 1 0) p ps ∙ ap₂ (λ (b : Bool) (k : ℕ). cond b 1 0 + k) no (none_above w n top ps ends.1 lt)
 
--- the part of an INSERT, behind the table's others
+-- the part of an INSERT, after the table's others
 module _ (h : History) (e : Entry) (i : Insert) (schema : Schema) (is : e.command ≡ command.Insert i) (there : schema_of i.table h ≡ Some schema) where
   pub drawn_here : numbered i.table (h ++ e ∷ []) ≡ numbered i.table h ++ command.Insert i ∷ []
   drawn_here =

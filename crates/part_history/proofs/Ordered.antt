@@ -18,7 +18,7 @@ use Rattle.part_history.proofs.Numbered.{all_whole, whole_at}
 not_below : (a b : ℕ) → b ≤ a → is_lt (nat_cmp a b) ≡ false
 not_below a b le = grind (arith, nat_tests)
 
--- the last part of a table comes behind its others
+-- the last part of a table comes after its others
 last_behind : (h : History) (table : List ℕ) (part p : CorePart) → IsLegal h → part.name.partition ≡ Whole → length (numbered table h) < part.name.min_block → p.table ≡ table → PartStands h p → is_lt (block_cmp part p) ≡ false
 last_behind h table part p legal whole lt own s =
     let other : p.name.partition ≡ Whole = sym s.least.partition_is ∙ whole_at (numbered p.table h) (p.name.min_block - 1) s.least.insert (all_whole p.table h legal) s.least.there in
@@ -29,7 +29,7 @@ last_behind h table part p legal whole lt own s =
 order_push : (ps : List CorePart) (part : CorePart) → AreInBlockOrder ps → All (λ (p : CorePart). is_lt (block_cmp part p) ≡ false) ps → AreInBlockOrder (ps ++ part ∷ [])
 order_push ps part up all = IsSortedBy-push (λ x y. is_lt (block_cmp x y)) ps part up (λ d some. all (length ps - 1) d (omega arith))
 
--- an INSERT's part comes behind the others of its table
+-- an INSERT's part comes after the others of its table
 pub order_grown : (h : History) (i : Insert) (schema : Schema) (ps : List CorePart) → IsLegal h → MayHavePartition schema i.partition → TableStands i.table ps h → AreInBlockOrder ps → AreInBlockOrder (ps ++ part_of_insert schema (next_number i.table h) i ∷ [])
 order_grown h i schema ps legal whole stands up =
     order_push ps (part_of_insert schema (next_number i.table h) i) up

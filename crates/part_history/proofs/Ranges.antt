@@ -88,7 +88,7 @@ segment_empty a b n (c ∷ cs) lt = ap (λ s. kept_if s c (segment a b (n + 1) c
     none (inl low) = lies_below a b n low
     none (inr high) = lies_above a b n (omega (arith, lt, high))
 
--- where a range begins does not matter to numbers behind
+-- where a range begins does not matter to numbers after
 segment_begun : (a d b n : ℕ) (cs : List Command) → a ≤ n → d ≤ n → segment a b n cs ≡ segment d b n cs
 segment_begun a d b n [] first second = refl
 segment_begun a d b n (c ∷ cs) first second = ap₂ (λ s xs. kept_if s c xs) (both (cases_lt b n)) (segment_begun a d b (n + 1) cs (omega arith) (omega arith))
@@ -97,7 +97,7 @@ segment_begun a d b n (c ∷ cs) first second = ap₂ (λ s xs. kept_if s c xs) 
     both (inl above) = lies_above a b n above ∙ sym (lies_above d b n above)
     both (inr upto) = lies_inside a b n first upto ∙ sym (lies_inside d b n second upto)
 
--- two ranges, one behind the other
+-- two ranges, one after the other
 segments_joined : (a b top n : ℕ) (cs : List Command) → a ≤ b + 1 → b ≤ top → segment a b n cs ++ segment (b + 1) top n cs ≡ segment a top n cs
 segments_joined a b top n [] first second = refl
 segments_joined a b top n (c ∷ cs) first second = by (cases_lt n a) (cases_lt b n) (segments_joined a b top (n + 1) cs first second)

@@ -22,7 +22,7 @@ pub fn parts_stand_for_live_rows()
 {}
 
 /// The parts that stand for a table stand for it as the history grows: where nothing drew a number of it they stay, and an
-/// INSERT into it adds the part that it makes, behind the others in block order.
+/// INSERT into it adds the part that it makes, after the others in block order.
 pub fn parts_stand_as_histories_grow()
     ensures other { (h more : History) (table : List ℕ) (parts : List CorePart) → numbered table more ≡ [] → TableStands table parts h → TableStands table parts (h ++ more) }
     ensures insert { (h : History) (session : ℕ) (i : Insert) (schema : Schema) (parts : List CorePart) → schema_of i.table h ≡ Some schema → TableStands i.table parts h

@@ -21,7 +21,7 @@ pub no_bar_in : (front rest text : List ℕ) → HasNoBar text → joined front 
 no_bar_in front rest text none is =
     none (length front) 0 (omega (arith, length-append front (95 ∷ rest), ap length is)) (ap (λ (t : List ℕ). get_or t (length front) 0) (sym is) ∙ get_or-append_seam front 95 rest 0)
 
--- a text has one front without underscores, and one rest behind it
+-- a text has one front without underscores, and one rest after it
 pub same_pieces : (a b x y : List ℕ) → HasNoBar a → HasNoBar b → joined a x ≡ joined b y → (a ≡ b) × (x ≡ y)
 same_pieces [] [] x y none also is = let rest : x ≡ y = cc in (refl, rest)
 same_pieces [] (c ∷ b) x y none also is = let first : c ≡ 95 = cc in absurd (All-head (λ (d : ℕ). d ≢ 95) c b also first)

@@ -5,6 +5,6 @@ use Rattle.std.specs.Prelude.{◌≡◌, ◌≢◌, ℕ, ◌<◌, List, length, 
 abbrev pub HasNoBar : List ℕ → Type 0
 HasNoBar text = All (λ b. b ≢ 95) text
 
--- there is a digit, and none stands behind a zero in front
+-- there is a digit, and none comes after a zero in front
 abbrev pub BeginsNumber : List ℕ → Type 0
 BeginsNumber digits = (0 < length digits) × (slice_index digits 0 ≡ 48 → length digits ≡ 1)

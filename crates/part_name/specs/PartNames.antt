@@ -14,7 +14,7 @@ abbrev pub partition_text : Partition → List ℕ
 partition_text Whole = codes "all"
 partition_text (Number n) = decimal n
 
--- the level, and the mutation behind it where there is one
+-- the level, and the mutation after it where there is one
 abbrev pub last_text : ℕ → Option ℕ → List ℕ
 last_text level None = decimal level
 last_text level (Some mutation) = joined (decimal level) (decimal mutation)

@@ -9,7 +9,7 @@ pub struct PartName {
     pub min_block: u32,
     /// The greatest number of its blocks.
     pub max_block: u32,
-    /// How many merges lie one behind another in its making, 0 for a part that an INSERT made.
+    /// How many merges lie one after another in its making, 0 for a part that an INSERT made.
     pub level: u32,
     /// The number of the last mutation that was applied to it, from 1.
     pub mutation: Option<u32>,

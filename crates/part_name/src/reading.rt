@@ -82,7 +82,7 @@ fn partition(text: &[u8]) -> Option<Partition>
     }
 }
 
-// What stands in front of the first underscore, and behind it; none where there is no underscore.
+// What stands before the first underscore, and after it; none where there is no underscore.
 #[tactic(auto, using(crate::proofs::Pieces::bar_here))]
 fn split(text: &[u8]) -> Option<(&[u8], &[u8])>
     ensures found { IfSome result (λ p. HasNoBar p.0.now × (joined p.0.now p.1.now ≡ text.now)) }
@@ -96,7 +96,7 @@ fn split(text: &[u8]) -> Option<(&[u8], &[u8])>
     None
 }
 
-// The partition in front of the first underscore, and what stands behind it.
+// The partition before the first underscore, and what comes after it.
 fn partition_in_front(text: &[u8]) -> Option<(Partition, &[u8])>
     ensures spelled { IfSome result (λ p. IsPartition p.0 × (joined (partition_text p.0) p.1.now ≡ text.now)) }
     ensures read { (p : Partition) (rest : List ℕ) → IsPartition p → joined (partition_text p) rest ≡ text.now → IsSomeAnd result (λ q. (q.0 ≡ p) × (q.1.now ≡ rest)) }
@@ -106,7 +106,7 @@ fn partition_in_front(text: &[u8]) -> Option<(Partition, &[u8])>
     Some((found, rest))
 }
 
-// The number of a block in front of the first underscore, and what stands behind it.
+// The number of a block before the first underscore, and what comes after it.
 fn block_in_front(text: &[u8]) -> Option<(u32, &[u8])>
     ensures spelled { IfSome result (λ p. IsBlock p.0 × (joined (decimal p.0) p.1.now ≡ text.now)) }
     ensures read { (n : ℕ) (rest : List ℕ) → IsBlock n → joined (decimal n) rest ≡ text.now → IsSomeAnd result (λ q. (q.0 ≡ n) × (q.1.now ≡ rest)) }
@@ -116,7 +116,7 @@ fn block_in_front(text: &[u8]) -> Option<(u32, &[u8])>
     Some((number, rest))
 }
 
-// The level, and the mutation behind it where there is one.
+// The level, and the mutation after it where there is one.
 fn level_and_mutation(text: &[u8]) -> Option<(u32, Option<u32>)>
     ensures spelled { IfSome result (λ p. (p.0 ≤ 4294967295) × IsMutation p.1 × (last_text p.0 p.1 ≡ text.now)) }
     ensures read { (n : ℕ) (mutation : Option ℕ) → n ≤ 4294967295 → IsMutation mutation → last_text n mutation ≡ text.now → result ≡ Some (n, mutation) }

@@ -151,7 +151,7 @@ opening_explained told schema bytes Fault read why = tt
 opening_explained told schema bytes NoMemory read why = tt
 opening_explained told schema bytes (Damaged f place wanted found) read why = record { bytes = bytes; read = read; explained = why }
 
--- want of memory is no damage
+-- out of memory is no damage
 pub no_damage : (why : PartFault) → why ≡ NoMemory → IsNoDamage why
 no_damage why is = subst IsNoDamage (sym is) tt
 

@@ -19,7 +19,7 @@ use Rattle.part_reader.specs.declared.reading.TheConstants.{NO_MARK}
 use Rattle.part_reader.specs.Faults.{ExplainsFile}
 use Rattle.part_reader.specs.Sound.{AreChecked}
 
--- where the number of files stands in a manifest: behind 4 first bytes, 2 of the version and 8 of the number of rows
+-- where the number of files stands in a manifest: after 4 first bytes, 2 of the version and 8 of the number of rows
 abbrev pub count_place : ℕ
 count_place = 14
 

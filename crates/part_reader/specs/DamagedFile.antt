@@ -21,7 +21,7 @@ use Rattle.part_reader.specs.Marks.{mark_for}
 abbrev pub mark_in : List ℕ → FileMark
 mark_in bytes = record { size = from_le_bytes w64 (take 8 bytes); digest = take 32 (drop 8 bytes) }
 
--- so many marks, one behind another
+-- so many marks, one after another
 abbrev pub marks_in : ℕ → List ℕ → List FileMark
 marks_in zero bytes = []
 marks_in (suc n) bytes = mark_in bytes ∷ marks_in n (drop 40 bytes)

@@ -17,7 +17,7 @@ use Rattle.part_reader.specs.declared.reading.PartFault.{PartFault}
 use Rattle.part_reader.specs.declared.reading.PartFault.TheVariants.{Fault, NoMemory, Damaged}
 use Rattle.part_reader.specs.declared.reading.TheConstants.{NO_MARK}
 
--- a fault stays a fault, and want of memory stays that
+-- a fault stays a fault, and out of memory stays that
 abbrev pub FaultOf : DiskError → PartFault → Type 0
 FaultOf disk.Fault e = e ≡ Fault
 FaultOf disk.NoMemory e = e ≡ NoMemory

@@ -33,7 +33,7 @@ pub record HoldsAt {F : Type 0} (files_of : F → Option Files) (schema : Schema
 abbrev pub PartHolds : {F : Type 0} → (F → Option Files) → Schema → Part F → List Row → Type 0
 PartHolds files_of schema part rows = HoldsAt files_of schema part (content_ids schema) rows
 
--- each column with the values that the rows have at its place, behind its own
+-- each column with the values that the rows have at its place, after its own
 abbrev pub with_columns : List Row → List ℕ → List Cells → List Cells
 with_columns rows [] columns = []
 with_columns rows (place ∷ places) [] = []

@@ -24,7 +24,7 @@ use std::alloc::Global;
 /// after another in the order of the format, and none is kept.
 ///
 /// `Damaged` at the first file that is not so: never where the folder and the manifest hold rows. `Fault` only where the arm's
-/// count rose in this call; `NoMemory` where a growth was refused, or a file's place does not fit 32 bits.
+/// count rose in this call; `NoMemory` where an allocation failed, or a file's place does not fit 32 bits.
 pub fn check_part<R: Arm>(
     alloc: Global,
     part: &Part<R::Dir>,

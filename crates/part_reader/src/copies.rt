@@ -19,7 +19,7 @@ impl<D: Dir> Twin for Part<D> {
 
 /// An equal manifest.
 ///
-/// `NoMemory` where a growth was refused.
+/// `NoMemory` where an allocation failed.
 fn manifest_twin(alloc: Global, manifest: &Manifest) -> Result<Manifest, NoMemory>
     ensures { IfOk result (λ m. m ≡ manifest.now) }
 {

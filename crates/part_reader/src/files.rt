@@ -14,7 +14,7 @@ const PIECE: usize = 65536;
 
 /// All the bytes of a file of a folder, read in pieces of 64 KiB; none where the file is not there.
 ///
-/// `Fault` only where the arm's count rose in this call; `NoMemory` where a growth was refused. It is never `Damaged`.
+/// `Fault` only where the arm's count rose in this call; `NoMemory` where an allocation failed. It is never `Damaged`.
 pub fn read_file<R: Arm>(
     alloc: Global,
     arm: &mut R,

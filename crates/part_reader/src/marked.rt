@@ -15,7 +15,7 @@ use mt_values::{ColumnData, FileId, FileMark, Manifest};
 /// Adds the values of a part to a column, from the bytes that were read of the file of the part's column with this number.
 ///
 /// `Damaged` where the bytes do not have the mark of the manifest, the manifest has none, or they are no spelling of so many values;
-/// `NoMemory` where a growth was refused. It is never `Fault`. After an error some of the values may have been added.
+/// `NoMemory` where an allocation failed. It is never `Fault`. After an error some of the values may have been added.
 pub fn add_values(
     manifest: &Manifest,
     number: u32,

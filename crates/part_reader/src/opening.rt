@@ -22,13 +22,13 @@ use mt_values::{FileId, Loaded, Manifest, Schema};
 use part_writer::content_count;
 use std::alloc::Global;
 
-/// Where the number of files stands in the bytes of a manifest: behind `MTP1`, two bytes of the version and eight of the number of rows.
+/// Where the number of files stands in the bytes of a manifest: after `MTP1`, two bytes of the version and eight of the number of rows.
 const COUNT_PLACE: u64 = 14;
 
 /// The part of a table with this folder, and the manifest of its `manifest.bin`, which is read whole.
 ///
 /// `Damaged` where the bytes are no manifest, at their first fault, and where they are one that has not as many marks as the part
-/// has other files, at the place of that number: never where the folder holds rows. `Fault` only where the arm's count rose in this call; `NoMemory` where a growth was refused.
+/// has other files, at the place of that number: never where the folder holds rows. `Fault` only where the arm's count rose in this call; `NoMemory` where an allocation failed.
 pub fn open_part<R: Arm>(
     alloc: Global,
     dir: R::Dir,
@@ -58,7 +58,7 @@ pub fn open_part<R: Arm>(
 /// The manifest that the bytes are, with a mark of each other file of the part.
 ///
 /// `Damaged` where they are none: at their first fault, or at the place of the number of files where that alone is another;
-/// `NoMemory` where a growth was refused. It is never `Fault`.
+/// `NoMemory` where an allocation failed. It is never `Fault`.
 fn manifest_in(alloc: Global, bytes: &[u8], schema: &Schema) -> Result<Manifest, PartFault>
     ensures is { IfOk result (IsManifestFor schema.now bytes.now) }
     ensures spelled { (manifest : Manifest) → IsManifestFor schema.now bytes.now manifest → MatchResult result (λ found. found ≡ manifest) (λ e. e ≡ PartFault.NoMemory) }

@@ -56,7 +56,7 @@ pub enum PartFault {
     /// The arm failed.
     #[error("the disk failed")]
     Fault,
-    /// A growth was refused.
+    /// An allocation failed.
     #[error("out of memory")]
     NoMemory,
     /// A file does not have the mark that the manifest has of it, or the manifest has none of it. The place is 0 then.
@@ -103,7 +103,7 @@ impl From<AllocError> for PartFault {
 ///
 /// `Damaged` where the bytes of a file do not have the mark of the manifest, the manifest has none of it, or they are no spelling
 /// of so many values as the part has rows: never where the folder and the manifest hold rows. `Fault` only where the arm's count
-/// rose in this call; `NoMemory` where a growth was refused. After an error some of the values may have been added.
+/// rose in this call; `NoMemory` where an allocation failed. After an error some of the values may have been added.
 pub fn read_columns<R: Arm>(
     alloc: Global,
     arm: &mut R,

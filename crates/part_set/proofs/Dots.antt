@@ -1,4 +1,4 @@
--- The dot behind a table's name.
+-- The dot after a table's name.
 use Rattle.std.proofs.Common.{◌≡◌, ◌≢◌, ℕ, ◌+◌, ◌<◌, List, [], ◌∷◌, ◌++◌, length, get_or, take, drop, refl, sym, ap, ◌∙◌, arith, length-append}
 use Rattle.std.proofs.Math.Seq.{get_or-append_seam}
 use Rattle.std.proofs.lemmas.List.{drop_more, take-append-drop}
@@ -15,7 +15,7 @@ pub no_dot_in : (front rest text : List ℕ) → HasNoDot text → front ++ 46 �
 no_dot_in front rest text none is =
     none (length front) 0 (omega (arith, length-append front (46 ∷ rest), ap length is)) (ap (λ (t : List ℕ). get_or t (length front) 0) (sym is) ∙ get_or-append_seam front 46 rest 0)
 
--- a text has one front without dots, and one rest behind it
+-- a text has one front without dots, and one rest after it
 pub same_parts : (a b x y : List ℕ) → HasNoDot a → HasNoDot b → a ++ 46 ∷ x ≡ b ++ 46 ∷ y → (a ≡ b) × (x ≡ y)
 same_parts [] [] x y none also is = let rest : x ≡ y = cc in (refl, rest)
 same_parts [] (c ∷ b) x y none also is = let first : c ≡ 46 = cc in absurd (All-head (λ (d : ℕ). d ≢ 46) c b also first)

@@ -1,4 +1,4 @@
--- A name of the root is its table's name, a dot, and what stands behind it.
+-- A name of the root is its table's name, a dot, and what comes after it.
 use Rattle.std.proofs.Common.{◌≡◌, ◌≢◌, ℕ, Bool, true, false, not, ◌&&◌, List, [], ◌∷◌, ◌++◌, refl, sym, ap, ◌∙◌, append_assoc, get_or, Option, Some, None, arith, codes}
 use Rattle.std.specs.List.{list_all}
 use Rattle.std.proofs.lemmas.List.Elements.{All-nil, All-cons}
@@ -11,7 +11,7 @@ use Rattle.part_set.specs.declared.root_name.RootName.TheVariants.{Create, Part}
 use Rattle.part_set.specs.RootNames.{root_text, is_one_word, is_table, IsRootName, HasNoDot}
 use Rattle.part_set.proofs.Dots.{no_dot_in, same_parts}
 
--- the table, and what stands behind the dot
+-- the table, and what comes after the dot
 abbrev pub table_of : RootName → List ℕ
 table_of (Create table) = table
 table_of (Part part) = part.table
@@ -65,7 +65,7 @@ pub name_parts : (n : RootName) (front rest text : List ℕ) → IsRootName n �
 name_parts n front rest text named none parts is =
     same_parts (table_of n) front (behind_dot n) rest (table_no_dot (table_of n) (has_table n named)) none (parted n ∙ (is ∙ sym parts))
 
--- behind the dot of a table's own name stands `create`
+-- after the dot of a table's own name stands `create`
 pub only_create : (n : RootName) (front rest : List ℕ) → table_of n ≡ front → behind_dot n ≡ rest → rest ≡ codes "create" → n ≡ Create front
 only_create (Create table) front rest same behind create = ap Create same
 only_create (Part part) front rest same behind create = let first : ◌≡◌ {A = ℕ} 112 99 = ap (λ (t : List ℕ). get_or t 0 0) (behind ∙ create) in absurd (omega arith)

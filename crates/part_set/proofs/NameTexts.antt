@@ -7,7 +7,7 @@ use Rattle.part_set.specs.declared.root_name.RootName.TheVariants.{Create, Part}
 use Rattle.part_set.specs.RootNames.{IsRootName, root_text}
 use Rattle.part_set.proofs.NameParts.{table_of, behind_dot, parted, has_table, table_no_dot, name_parts}
 
--- what is behind the dot tells a table from a part
+-- what is after the dot tells a table from a part
 create_no_part : (text : List ℕ) → codes "create" ≡ codes "part_" ++ text → ⊥
 create_no_part text is = let first : ◌≡◌ {A = ℕ} 99 112 = ap (λ (t : List ℕ). get_or t 0 0) is in absurd (omega arith)
 

@@ -87,7 +87,7 @@ module _ {P : Type 0} (parts rest : List (Kept P)) (name : PartName) (start : �
     pub gone_over : (i : ℕ) → length rest ≤ i → AllWithin (λ (kept : Kept P). kept.name ≡ name → ⊥) rest 0 i → HasName parts name → ⊥
     gone_over i end none = name_nowhere (λ k d inside. none k d (omega arith) (omega (arith, inside, end)))
 
-    -- or one of it begins behind the name
+    -- or one of it begins after the name
     pub begins_behind : (i : ℕ) (kept : Kept P) → i < length rest → kept ≡ get_or rest i kept → AllWithin (λ (kept : Kept P). kept.name ≡ name → ⊥) rest 0 i
         → in_order kept.name name ≡ false → IsInBlockOrder parts → HasName parts name → ⊥
     begins_behind i kept inside is none behind ordered = name_nowhere (λ k d within_rest named.

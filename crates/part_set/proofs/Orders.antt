@@ -43,7 +43,7 @@ order_passed a b c first second =
     let y = block_low b c second in
     order_tested a c (omega arith) (λ same. omega (arith, x (omega arith), y (omega arith)))
 
--- in a list in block order, the parts in front of a part come first
+-- in a list in block order, the parts before a part come first
 pub front_first : {P : Type 0} (parts : List (Kept P)) (name : PartName) → IsInBlockOrder parts → IsPartitionedBy (λ kept. in_order kept.name name) parts
 front_first parts name ordered = λ i j d below inside is.
     elim (cases_lt i j) [

@@ -104,7 +104,7 @@ later_no_container parts sorted i j d below inside plain also apart has =
 pub contains_meets : (a b : PartName) → Contains a b → b.min_block ≤ b.max_block → Meet a b
 contains_meets a b has order = record { partition = has.partition; low = omega (arith, has.min_block); high = omega (arith, has.max_block) }
 
--- Where a part stands behind another that stands clear of a third, it has no block of the third or above.
+-- Where a part comes after another that stands clear of a third, it has no block of the third or above.
 pub only_last : (k v p : PartName) → StandsClear k v → in_order v p ≡ true → k.partition ≡ p.partition → v.min_block ≤ v.max_block → p.min_block ≤ k.max_block → ⊥
 only_last k v p clear behind same order high =
     let first = partition_low k v clear.order in

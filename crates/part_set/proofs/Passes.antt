@@ -56,7 +56,7 @@ two_meet kept ordered a b has_a has_b both =
       ]
     ]
 
--- each is the last or stands clear in front of it
+-- each is the last or stands clear before it
 pub last_or_clear : (kept : List BareKept) → IsInBlockOrder kept → (last a : BareKept) → last_of kept ≡ Some last → HasItem kept a → (a ≡ last) ⊎ StandsClear a.name last.name
 last_or_clear kept ordered last a is has =
     let end : get_or kept (length kept - 1) a ≡ last = get_or_from_slice_get kept (length kept - 1) last a is in

@@ -29,7 +29,7 @@ abbrev pub ClashesWith : TablePart → RootName → Type 0
 ClashesWith a (Create table) = ⊥
 ClashesWith a (Part b) = Clashing a b
 
--- the name at the place passes, and none in front of it does
+-- the name at the place passes, and none before it does
 pub record IsFirstWith (P : RootName → Type 0) (names : List RootName) (place : ℕ) : Type 0 where
   pub is : IsSomeAnd (slice_get names place) P
   pub first : (k : ℕ) → k < place → IsSomeAnd (slice_get names k) P → ⊥

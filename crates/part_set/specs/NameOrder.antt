@@ -11,6 +11,6 @@ use Rattle.part_set.specs.RootNames.{root_text}
 abbrev pub name_cmp : RootName → RootName → Ordering
 name_cmp a b = slice_cmp nat_cmp (root_text a) (root_text b)
 
--- each name stands below those behind it
+-- each name stands below those after it
 abbrev pub Rise : List RootName → Type 0
 Rise names = IsStrictlySortedBy name_cmp names

@@ -18,7 +18,7 @@ in_order a b =
     nat_lt (partition_rank a.partition) (partition_rank b.partition)
     || (partition_rank a.partition == partition_rank b.partition && nat_le a.min_block b.min_block)
 
--- the first stands in front of the second, and they do not meet
+-- the first stands before the second, and they do not meet
 pub record StandsClear (a b : PartName) : Type 0 where
   pub order : IsTrue (in_order a b)
   pub apart : Meet a b → ⊥

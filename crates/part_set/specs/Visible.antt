@@ -50,7 +50,7 @@ IsOrphan names (Part part) = (HasTable names part.table → ⊥) ⊎ IsSome part
 abbrev pub OrphanAt : List RootName → ℕ → Type 0
 OrphanAt names place = IsSomeAnd (slice_get names place) (IsOrphan names)
 
--- and none in front of it is: of names in byte order, it is the first in byte order
+-- and none before it is: of names in byte order, it is the first in byte order
 pub record IsFirstOrphan (names : List RootName) (place : ℕ) : Type 0 where
   pub is : OrphanAt names place
   pub first : (k : ℕ) → k < place → OrphanAt names k → ⊥
@@ -65,7 +65,7 @@ Overlapping names (Part a) (Part b) = Overlap names a b
 abbrev pub OverlapAt : List RootName → ℕ → ℕ → Type 0
 OverlapAt names i j = IsSomeAnd (slice_get names i) (λ a. IsSomeAnd (slice_get names j) (Overlapping names a))
 
--- and no pair in front of theirs does, by the first name and then by the second
+-- and no pair before theirs does, by the first name and then by the second
 pub record IsFirstOverlap (names : List RootName) (i j : ℕ) : Type 0 where
   pub is : OverlapAt names i j
   pub first : (k l : ℕ) → OverlapAt names k l → i ≤ k

@@ -15,7 +15,7 @@ pub fn partition_rank(partition: Partition) -> u128
     }
 }
 
-/// Whether the first part stands in front of the second, or both begin in one place.
+/// Whether the first part stands before the second, or both begin in one place.
 pub fn in_order(a: &PartName, b: &PartName) -> bool
     ensures { result ≡ in_order a.now b.now }
 {

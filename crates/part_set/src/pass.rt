@@ -24,7 +24,7 @@ fn pass_order(a: &PartName, b: &PartName) -> Ordering
         .then(blocks.then(wide_first.then(high_first)))
 }
 
-/// The parts in the order of a pass: each behind those that contain it.
+/// The parts in the order of a pass: each after those that contain it.
 pub fn in_pass_order(alloc: Global, parts: &[PartName]) -> Result<Vec<PartName>, NoMemory>
     ensures parts { IfOk result (λ v. IsPermutation parts.now v.items) }
     ensures order { IfOk result (λ v. IsInPassOrder v.items) }
@@ -46,7 +46,7 @@ fn stand_of(kept: &[Kept<()>], part: &PartName) -> Stand
 
 /// The parts that no other one contains; none where two of these have a block in common.
 ///
-/// A part that contains another stands in front of it. While those that are kept have no block in common, only the last
+/// A part that contains another stands before it. While those that are kept have no block in common, only the last
 /// of them can have a block of the next part, so each part is compared with one other.
 pub fn pass(alloc: Global, parts: &[PartName]) -> Result<Option<TableParts<()>>, NoMemory>
     requires order { IsInPassOrder parts.now }

@@ -28,7 +28,7 @@ pub struct TablePart {
     pub name: PartName,
 }
 
-// What stands in front of the first dot, and behind it; none where there is no dot.
+// What stands before the first dot, and after it; none where there is no dot.
 #[tactic(auto, using(crate::proofs::Dots::dot_here))]
 fn split(text: &[u8]) -> Option<(&[u8], &[u8])>
     ensures found { IfSome result (λ p. HasNoDot p.0.now × (p.0.now ++ 46 ∷ p.1.now ≡ text.now)) }
@@ -42,7 +42,7 @@ fn split(text: &[u8]) -> Option<(&[u8], &[u8])>
     None
 }
 
-// The name of a part behind a table's name and a dot.
+// The name of a part after a table's name and a dot.
 fn part_behind(text: &[u8]) -> Option<PartName>
     ensures spelled { IfSome result (λ p. IsPartName p × (codes "part_" ++ part_text p ≡ text.now)) }
     ensures read { (p : PartName) → IsPartName p → codes "part_" ++ part_text p ≡ text.now → result ≡ Some p }
@@ -86,7 +86,7 @@ pub fn spell_name(alloc: Global, name: &RootName) -> Result<Name, NoMemory>
     }
 }
 
-// The bytes of a table's name, and these behind it.
+// The bytes of a table's name, and these after it.
 fn spell_behind(alloc: Global, table: &Name, more: &[u8]) -> Result<Name, NoMemory>
     ensures { IfOk result (λ text. text ≡ table.now ++ more.now) }
 {

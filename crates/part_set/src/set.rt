@@ -62,7 +62,7 @@ impl<P> PartSet<P> {
 impl<P: Drop> PartSet<P> {
     /// Makes room, so that adding one part to the table takes no memory.
     ///
-    /// `NoMemory` where a growth was refused; the parts stay.
+    /// `NoMemory` where an allocation failed; the parts stay.
     pub fn reserve(&mut self, alloc: Global, table: &Name) -> Result<(), NoMemory>
         ensures parts { (t : List ℕ) → parts_of self.new t ≡ parts_of self.old t }
         ensures room { OnOk result (HasRoom self.new table.now) }
@@ -78,7 +78,7 @@ impl<P: Drop> PartSet<P> {
 
     /// Adds a part to a table, at its place. Takes no memory where there is room.
     ///
-    /// `NoMemory` where a growth was refused; all parts stay as they were.
+    /// `NoMemory` where an allocation failed; all parts stay as they were.
     pub fn add(
         &mut self,
         alloc: Global,

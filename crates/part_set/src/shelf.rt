@@ -28,7 +28,7 @@ impl<P> Model for TableParts<P> {
     ghost invariant = { λ t. IsInBlockOrder t.parts.items };
 }
 
-// The place of a part among others: behind all that it does not stand in front of.
+// The place of a part among others: after all that it does not stand before.
 fn place_of<P>(parts: &[Kept<P>], name: &PartName) -> usize
     requires { IsInBlockOrder parts.now }
     ensures within { result ≤ length parts.now }
@@ -38,7 +38,7 @@ fn place_of<P>(parts: &[Kept<P>], name: &PartName) -> usize
     parts.partition_point(|kept| in_order(&kept.name, name))
 }
 
-// The place of the first part that does not begin in front of where the name begins.
+// The place of the first part that does not begin before where the name begins.
 fn start_of<P>(parts: &[Kept<P>], name: &PartName) -> usize
     requires { IsInBlockOrder parts.now }
     ensures within { result ≤ length parts.now }
@@ -127,7 +127,7 @@ fn are_neighbours<P>(parts: &[Kept<P>], a: &PartName, b: &PartName) -> bool
 impl<P: Drop> TableParts<P> {
     /// Adds a part at its place. Takes no memory where there is room.
     ///
-    /// `NoMemory` where the growth was refused; the parts stay.
+    /// `NoMemory` where the allocation failed; the parts stay.
     pub fn add(&mut self, name: PartName, part: P) -> Result<(), NoMemory>
         requires { NoneMeets self.old.parts name }
         ensures ok { OnOk result (IsAdded self.old.parts (record { name = name; part = part }) self.new.parts) }

@@ -32,7 +32,7 @@ pub struct SealedPart<S: Stage> {
 
 /// The files of the block's rows in this order, sealed, and their manifest.
 ///
-/// `Fault` only where the arm's count rose in this call, `NoMemory` where a growth was refused; without a fault the count stays.
+/// `Fault` only where the arm's count rose in this call, `NoMemory` where an allocation failed; without a fault the count stays.
 /// After an error the stage was given back to the arm.
 pub fn write_part<R: Arm>(
     alloc: Global,
@@ -158,7 +158,7 @@ fn write_content<S: Stage>(
 
 /// The bytes of a file of which the manifest has a mark.
 ///
-/// `NoMemory` where a growth was refused.
+/// `NoMemory` where an allocation failed.
 fn encode_content(
     alloc: Global,
     schema: &Schema,

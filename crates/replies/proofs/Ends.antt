@@ -1,4 +1,4 @@
--- The end of what a keeper tells.
+-- The end of what annals list.
 use Rattle.std.proofs.Common.{◌≡◌, length, take, arith}
 use Rattle.std.proofs.lemmas.List.{length-map, take_all}
 use Rattle.mt_values.specs.declared.annals.Noted.{Noted}
@@ -7,7 +7,7 @@ use Rattle.mt_model.specs.Session.{AddsNothing}
 use Rattle.mt_model.proofs.Growing.{stays}
 use Rattle.replies.specs.Foreseen.{history}
 
--- the history has as many entries as the keeper's list
+-- the history has as many entries as the list of the annals
 pub length_history : (t : Told) → length (history t) ≡ length t.list
 length_history t = length-map t.list (λ (n : Noted). n.entry)
 

@@ -16,7 +16,7 @@ use Rattle.mt_model.specs.Session.{RefusedAs, RefusedInTurn, StopsAfter, Takes, 
 use Rattle.replies.specs.Foreseen.{history}
 use Rattle.replies.proofs.Ends.{whole_front, added_nothing}
 
--- a statement that stops before its first command, at the end of what the keeper tells
+-- a statement that stops before its first command, at the end of what the annals list
 pub stops_first : (kept : Told) (s : Statement) (next : Command) (rest : List Command) → commands_of (history kept) s ≡ Ok (next ∷ rest)
     → StopsAfter (history kept) 0 s (length kept.list) (length kept.list) [] (next ∷ rest)
 stops_first kept s next rest is = record {
@@ -28,7 +28,7 @@ stops_first kept s next rest is = record {
   no_more = added_nothing kept;
 }
 
--- at the end of what the keeper tells
+-- at the end of what the annals list
 module _ (n : Outside) (kept : Told) (reply : List ℕ) where
   refused : (why : Refusal) → reply ≡ refusal_line why → RefusedAs (history kept) 0 (length kept.list) (length kept.list) why reply
   refused why is = record { line = is; nothing = added_nothing kept }

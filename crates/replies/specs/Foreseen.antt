@@ -1,4 +1,4 @@
--- When a statement may have a reply at the end of what a keeper tells, whatever the outside comes to.
+-- When a statement may have a reply at the end of what annals list, whatever the outside comes to.
 use Rattle.std.specs.Prelude.{◌≡◌, ◌==◌, ℕ, ◌<◌, ◌≤◌, Bool, List, length, map, Ok}
 use Rattle.mt_values.specs.declared.annals.Noted.{Noted}
 use Rattle.mt_values.specs.declared.statement.SelectText.{SelectText}
@@ -9,7 +9,7 @@ use Rattle.mt_model.specs.Outside.{HasRisen, Outside}
 use Rattle.mt_model.specs.Refusals.{code_of}
 use Rattle.mt_model.specs.Session.{Takes}
 
--- the entries that a keeper tells
+-- the entries that annals list
 abbrev pub history : Told → History
 history t = map (λ (n : Noted). n.entry) t.list
 

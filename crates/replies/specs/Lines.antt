@@ -10,12 +10,12 @@ use Rattle.mt_model.specs.declared.refusal.Refusal.TheVariants as refusal
 use Rattle.mt_model.specs.Refusals.{refusal_line}
 use Rattle.mt_model.specs.Reply.{rows_line}
 
--- the reply where parts were not read, or a stage was not sealed; there is none for want of memory
+-- the reply where parts were not read, or a stage was not sealed; there is none where memory ran out
 abbrev pub IsLineOfStage : DiskError → List ℕ → Type 0
 IsLineOfStage failure.NoMemory line = ⊥
 IsLineOfStage failure.Fault line = line ≡ refusal_line refusal.Failed
 
--- the lines of the rows of a block, sorted by their columns from left to right, behind their number and the length of the history
+-- the lines of the rows of a block, sorted by their columns from left to right, after their number and the length of the history
 pub record Printed (block : Grid) (place : ℕ) (reply : List ℕ) : Type 0 where
   pub order : List ℕ
   pub by : IsOrderBy (range_with_len 0 (length block.types)) block.rows order

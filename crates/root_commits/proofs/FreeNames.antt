@@ -40,7 +40,7 @@ use Rattle.root_commits.proofs.Updated.{it_or, no_some, one_some}
 abbrev is_no_dot : ℕ → Type 0
 is_no_dot b = b ≢ 46
 
--- what stands before the last dot, and behind it
+-- what stands before the last dot, and after it
 last_dot : (a b x y : List ℕ) → HasNoDot x → HasNoDot y → a ++ 46 ∷ x ≡ b ++ 46 ∷ y → (a ≡ b) × (x ≡ y)
 last_dot [] [] x y none also is = let rest : x ≡ y = cc in (refl, rest)
 last_dot [] (c ∷ b) x y none also is = let rest : b ++ 46 ∷ y ≡ x = cc in absurd (no_dot_in b y x none rest)

@@ -1,4 +1,4 @@
-// A command added to the disk, to what the keeper tells and to the store.
+// A command added to the disk, to what the annals list and to the store.
 ghost use Rattle.std.specs.Prelude.{◌≡◌, ◌≢◌, ◌+◌, ℕ, IsSome, IsTrue, List, Option, Some, None, IfErr, IfOk, IfSome, OnErr, OnOk, length};
 ghost use Rattle.std.specs.BTreeMap.{Updates, get, insert_entry};
 ghost use Rattle.std.specs.Cmp.Lexicographic.{slice_cmp};
@@ -112,7 +112,7 @@ struct Ready {
     name: Name,
     // The table's.
     table: Name,
-    // The length of the history behind it.
+    // The length of the history after it.
     length: u64,
 }
 
@@ -126,7 +126,7 @@ fn name_of_table(alloc: Global, table: &Name) -> Result<Name, NoMemory>
 
 // Takes all memory of a CREATE. The table is entered, to be taken out again where the commit fails.
 //
-// `NoMemory` where a growth was refused, and at a history of 2^64 - 1 commands; the tables are as they were.
+// `NoMemory` where an allocation failed, and at a history of 2^64 - 1 commands; the tables are as they were.
 fn prepare_create<A: Annals>(
     alloc: Global,
     tables: &mut BTreeMap<Name, Table>,
@@ -173,7 +173,7 @@ fn name_of_table_part(alloc: Global, table: &Name, part: PartName) -> Result<Nam
 
 // Takes all memory of the part of a table. No part is added yet.
 //
-// `NoMemory` where a growth was refused, and at a history of 2^64 - 1 commands; the parts are as they were.
+// `NoMemory` where an allocation failed, and at a history of 2^64 - 1 commands; the parts are as they were.
 fn prepare_part<P: Drop, A: Annals>(
     alloc: Global,
     set: &mut PartSet<P>,
@@ -217,11 +217,11 @@ fn name_of_part(partition: Partition, number: u32) -> PartName
     }
 }
 
-/// Commits a CREATE whose entry was sealed: its name is published and settled, the keeper notes it, and the store has the table.
+/// Commits a CREATE whose entry was sealed: its name is published and settled, the annals note it, and the store has the table.
 ///
 /// It is refused where there is the table, or as many as may be, or the store was stopped, in this order; else only for want of
 /// memory, or where the disk's count of faults rose in this call. What was sealed comes back where it was not given to the disk.
-/// After a refusal the store is as it was but for room, and the keeper tells the same list.
+/// After a refusal the store is as it was but for room, and the annals list the same entries.
 pub fn commit_create<D: Disk, A: Annals>(
     alloc: Global,
     store: &mut CoreStore<<D::Arm as Arm>::Dir>,
@@ -357,11 +357,11 @@ fn enter_part<F: Drop>(
     store.length = after;
 }
 
-/// Commits a block whose part was sealed: its name is published and settled, the keeper notes it, and the store has the part.
+/// Commits a block whose part was sealed: its name is published and settled, the annals note it, and the store has the part.
 ///
 /// It is refused where the partition has as many parts as may be, or the table has no number left, or the store was stopped, in this
-/// order; else only for want of memory, or where the disk's count of faults rose in this call. What was sealed comes back where it
-/// was not given to the disk. After a refusal the store is as it was but for room, and the keeper tells the same list.
+/// order; else only where memory ran out, or where the disk's count of faults rose in this call. What was sealed comes back where it
+/// was not given to the disk. After a refusal the store is as it was but for room, and the annals list the same entries.
 pub fn commit_part<D: Disk, A: Annals>(
     alloc: Global,
     store: &mut CoreStore<<D::Arm as Arm>::Dir>,

@@ -18,7 +18,7 @@ none_read table text script none = ap (schema_by_items table text) (statements_o
 pub refused_read : (table text script rest : List ℕ) (why : Cause) → next_statement script ≡ Some (Err why, rest) → schema_by_items table text (statements_of script) ≡ None
 refused_read table text script rest why next = ap (schema_by_items table text) (statements_of_step script ∙ ap (statement_and statements_of) next)
 
--- what a script gives by its first statement and what stands behind it
+-- what a script gives by its first statement and what comes after it
 first_read : (table text script rest : List ℕ) (s : Statement) → next_statement script ≡ Some (Ok s, rest) → schema_by_items table text (statements_of script) ≡ schema_by_items table text (Ok s ∷ statement_and statements_of (next_statement rest))
 first_read table text script rest s next =
     ap (schema_by_items table text) (statements_of_step script ∙ (ap (statement_and statements_of) next ∙ ap (λ (items : List (Result Statement Cause)). Ok s ∷ items) (statements_of_step rest)))
@@ -49,7 +49,7 @@ pub read_on : {F : Type 0} (r : Result (Option Schema) F) (x y : Option Schema) 
 read_on (Ok found) x y is same = is ∙ sym same
 read_on (Err f) x y is same = tt
 
--- what a script gives by its first statement is what this gives with what stands behind it
+-- what a script gives by its first statement is what this gives with what comes after it
 pub read_alone : {F : Type 0} (r : Result (Option Schema) F) (table text script : List ℕ) (used : ℕ) (s : Statement) → next_statement script ≡ Some (Ok s, drop used script)
     → IfOk r (λ found. found ≡ schema_by_items table text (Ok s ∷ statement_and statements_of (next_statement (take (length script - used) (drop used script))))) → IfOk r (λ found. found ≡ schema_by_items table text (statements_of script))
 read_alone r table text script used s next is =

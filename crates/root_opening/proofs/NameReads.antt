@@ -68,7 +68,7 @@ few_more tables count n few room is = by (is_create n) refl
     by true create = let one : count ≡ 1 = is ∙ ap (λ (c : Bool). cond c 1 0) create in let less = room create in omega arith
     by false part = let none : count ≡ 0 = is ∙ ap (λ (c : Bool). cond c 1 0) part in omega arith
 
--- a bad name behind names that were read is the first one
+-- a bad name after names that were read is the first one
 pub bad_first : (texts : List (List ℕ)) (place : ℕ) (text : List ℕ) (names : List RootName) (tables : ℕ) → place < length texts → text ≡ get_or texts place text → AreNamesOf (take place texts) names → tables ≡ creates_in names
     → tables ≤ most_tables → IsBadBehind tables text → IsFirstBadText texts place
 bad_first texts place text names tables inside here are count few bad = record {
@@ -80,6 +80,6 @@ bad_first texts place text names tables inside here are count few bad = record {
   bad = subst (λ (k : ℕ). IsBadBehind k text) count bad;
 }
 
--- behind the last text all are read
+-- after the last text all are read
 pub names_all : (texts : List (List ℕ)) (place : ℕ) (names : List RootName) → length texts ≤ place → AreNamesOf (take place texts) names → AreNamesOf texts names
 names_all texts place names end are = subst (λ (ts : List (List ℕ)). AreNamesOf ts names) (take_all place texts end) are

@@ -89,7 +89,7 @@ module _ (r : Root) (named : IsNamedRoot r) (place : ℕ) (inside : place < leng
     spelled text told =
         told ∙ (ap (λ (ts : List (List ℕ)). get_or ts place text) (sym named.are.spelled) ∙ (get_or-map root_text r.names.items place name text inside ∙ ap root_text (sym is)))
 
-    -- the name is not in front of its place
+    -- the name is not before its place
     pub never_twice : HasItem (take place r.names.items) name → ⊥
     never_twice has =
         let front : has.0 < place = omega (arith, has.1, length-take-le place r.names.items (omega arith)) in
@@ -102,7 +102,7 @@ module _ (r : Root) (named : IsNamedRoot r) (place : ℕ) (inside : place < leng
   text_there told text listed is = λ t known. there_in (names_of t) text (subst (λ (ts : List (List ℕ)). HasItem ts text) (listed t known) (place, place_told, sym is))
 
   module _ (part : TablePart) (is : root.Part part ≡ get_or r.names.items place (root.Part part)) where
-    -- the table of a part stands in front of it
+    -- the table of a part stands before it
     pub table_in_front : HasTable (take place r.names.items) part.table
     table_in_front =
         let has = table_found r.names.items part.table (table_there r.names.items named.shows.no_orphan part (place, inside, sym is)) in

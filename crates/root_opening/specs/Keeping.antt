@@ -40,7 +40,7 @@ use Rattle.root_store.specs.Stores.{IsKeptOf, table_at}
 
 -- ---- faults
 
--- a fault of the disk stays one, and want of memory stays that
+-- a fault of the disk stays one, and out of memory stays that
 abbrev pub FaultOf : DiskError → OpenFault → Type 0
 FaultOf failure.Fault e = e ≡ fault.Disk
 FaultOf failure.NoMemory e = e ≡ fault.NoMemory
@@ -61,7 +61,7 @@ TellsFile names text Is (fault.Damaged (damage.Orphan n)) = ⊥
 TellsFile names text Is (fault.Damaged (damage.Overlap m n)) = ⊥
 TellsFile names text Is (fault.Damaged (damage.File n f)) = FileTold names text Is n f
 
--- want of memory, or the damage of this file of the name's folder
+-- out of memory, or the damage of this file of the name's folder
 abbrev pub IsDamageOf : List ℕ → FileId → OpenFault → Type 0
 IsDamageOf text file fault.NoMemory = ⊤
 IsDamageOf text file fault.Disk = ⊥
@@ -126,7 +126,7 @@ IsTextsOf root told = root.texts.items ≡ map (λ (e : List ℕ × Files). e.0)
 
 -- ---- faults of names
 
--- want of memory, or the damage of the name at a place
+-- out of memory, or the damage of the name at a place
 abbrev pub IsBadNameAt : List (List ℕ) → ℕ → OpenFault → Type 0
 IsBadNameAt texts place fault.NoMemory = ⊤
 IsBadNameAt texts place fault.Disk = ⊥

@@ -15,7 +15,7 @@ pub record AreNamesOf (texts : List (List ℕ)) (read : List RootName) : Type 0 
   pub sound : All IsRootName read
   pub spelled : map root_text read ≡ texts
 
--- a text is a bad name behind so many tables
+-- a text is a bad name after so many tables
 abbrev pub IsBadBehind : ℕ → List ℕ → Type 0
 IsBadBehind tables text =
     ((n : RootName) → IsRootName n → root_text n ≡ text → ⊥)
@@ -30,12 +30,12 @@ pub record IsFirstBadText (texts : List (List ℕ)) (place : ℕ) : Type 0 where
   pub few : creates_in before ≤ most_tables
   pub bad : IsBadName before text
 
--- the fault is want of memory, or is of the first bad name
+-- the fault is out of memory, or is of the first bad name
 abbrev pub TellsBad : List (List ℕ) → NameFault → Type 0
 TellsBad texts fault.NoMemory = ⊤
 TellsBad texts (fault.Bad place) = IsFirstBadText texts place
 
--- the fault is want of memory, or is told of this place
+-- the fault is out of memory, or is told of this place
 abbrev pub IsOfPlace : ℕ → NameFault → Type 0
 IsOfPlace place fault.NoMemory = ⊤
 IsOfPlace place (fault.Bad at) = at ≡ place

@@ -99,7 +99,7 @@ fn schema_of_text(alloc: Global, table: &Name, text: &[u8]) -> Result<Option<Sch
 /// The schema that the bytes of `entry.bin` give a table: none exactly where they are no entry, or its text is no CREATE of the table,
 /// or is refused.
 ///
-/// `NoMemory` where a growth was refused.
+/// `NoMemory` where an allocation failed.
 pub fn read_schema(alloc: Global, table: &Name, bytes: &[u8]) -> Result<Option<Schema>, NoMemory>
     ensures read { IfOk result (λ found. IfSome found (λ schema. IsEntryWith table.now schema bytes.now)) }
     ensures sound { IfOk result (λ found. IfSome found IsTableSchema) }
@@ -113,7 +113,7 @@ pub fn read_schema(alloc: Global, table: &Name, bytes: &[u8]) -> Result<Option<S
 
 /// The schema of the table whose entry the folder holds, read by the arm: none exactly where it holds none of this table.
 ///
-/// `Fault` only where the arm's count rose in this call; `NoMemory` where a growth was refused.
+/// `Fault` only where the arm's count rose in this call; `NoMemory` where an allocation failed.
 pub fn open_entry<R: Arm>(
     alloc: Global,
     arm: &mut R,

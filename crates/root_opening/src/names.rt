@@ -17,7 +17,7 @@ use std::alloc::Global;
 #[derive(Clone, Copy)]
 pub enum NameFault {
     NoMemory,
-    /// The place of the first name that is none of the grammar, or is a table's behind too many of them.
+    /// The place of the first name that is none of the grammar, or is a table's after too many of them.
     Bad(usize),
 }
 
@@ -43,7 +43,7 @@ fn tables_of(name: &RootName) -> usize
     }
 }
 
-// The name that a text is, behind so many tables; none where it is a bad one.
+// The name that a text is, after so many tables; none where it is a bad one.
 fn next_name(alloc: Global, text: &Name, tables: usize) -> Result<Option<RootName>, NoMemory>
     requires { tables ≤ most_tables }
     ensures read { IfOk result (λ found. IfSome found (λ name. IsRootName name × (root_text name ≡ text.now))) }
@@ -80,7 +80,7 @@ fn read_each(alloc: Global, texts: &[Name]) -> Result<Vec<RootName>, NameFault>
 /// The names of a root, in the order of their texts.
 ///
 /// `Bad` exactly at the first text that is no name of the grammar, or is a table's with 65,536 tables before it;
-/// `NoMemory` where a growth was refused.
+/// `NoMemory` where an allocation failed.
 pub fn read_names(alloc: Global, texts: &[Name]) -> Result<Vec<RootName>, NameFault>
     ensures read { IfOk result (λ names. AreNamesOf texts.now names.items) }
     ensures few { IfOk result (λ names. creates_in names.items ≤ most_tables) }

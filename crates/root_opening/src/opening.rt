@@ -33,7 +33,7 @@ use std::cmp::Ordering;
 /// What keeps a root from being opened. Of each kind the first name in byte order is told, of two names the first pair.
 #[derive(Drop)]
 pub enum Damage {
-    /// A name that is none of the grammar, or a table's behind 65,536 others, or not above the one in front of it.
+    /// A name that is none of the grammar, or a table's after 65,536 others, or not above the one before it.
     Name(Name),
     /// A part whose table has no entry, or to which a mutation was applied.
     Orphan(Name),
@@ -47,7 +47,7 @@ pub enum Damage {
 /// Why a root was not opened.
 #[derive(Drop)]
 pub enum OpenFault {
-    /// A growth was refused.
+    /// An allocation failed.
     NoMemory,
     /// The disk or the arm failed.
     Disk,
@@ -78,7 +78,7 @@ impl From<DiskError> for OpenFault {
     }
 }
 
-// The place of the first name that is not above the one in front of it.
+// The place of the first name that is not above the one before it.
 fn first_unsorted(texts: &[Name]) -> Option<usize>
     ensures none { IfNone result (IsStrictlySortedBy (slice_cmp nat_cmp) texts.now) }
     ensures found { IfSome result (λ place. place < length texts.now) }
@@ -160,7 +160,7 @@ fn read_root(alloc: Global, texts: Vec<Name>) -> Result<Root, OpenFault>
 /// Opens the root: reads its names, reads each entry and checks each file of each visible part, and settles the names that it read.
 ///
 /// `Damaged` exactly where something keeps the root from being opened, which it tells: never where the root stands for a history.
-/// `Disk` only where the count of the disk or of the arm rose in this call; `NoMemory` where a growth was refused. But for `Disk` both
+/// `Disk` only where the count of the disk or of the arm rose in this call; `NoMemory` where an allocation failed. But for `Disk` both
 /// counts stay. No name is changed, and with an error the mark stays too.
 pub fn open<D: Disk>(
     alloc: Global,

@@ -134,11 +134,11 @@ creates_after before (e ∷ h) legal few =
 pub creates_few : (h : History) → IsLegal h → creates h ≤ 65536
 creates_few h legal = creates_after [] h legal (omega arith)
 
--- the schema of a table behind one command more
+-- the schema of a table after one command more
 schema_push : (t : List ℕ) (before : History) (e : Entry) → schema_of t (before ++ e ∷ []) ≡ first_of (schema_of t before) (schema_of t (e ∷ []))
 schema_push t before e = schema_more t before (e ∷ [])
 
--- the table of a command that may come is there behind it
+-- the table of a command that may come is there after it
 there_after : (before : History) (e : Entry) → IsAllowed before e.command → is_some (schema_of (table_by e.command) (before ++ e ∷ [])) ≡ true
 there_after before e allowed = by e.command allowed refl
   where

@@ -6,6 +6,6 @@ use Rattle.std.specs.Ordering.{nat_cmp}
 use Rattle.mt_outside.specs.Disk.{Names}
 use Rattle.mt_outside.specs.Files.{Files}
 
--- each name stands below those behind it
+-- each name stands below those after it
 abbrev pub AreInByteOrder : Names → Type 0
 AreInByteOrder names = IsStrictlySortedBy (slice_cmp nat_cmp) (map (λ (n : List ℕ × Files). n.0) names)

@@ -20,12 +20,12 @@ abbrev pub is_create : RootName → Bool
 is_create (root.Create table) = true
 is_create (root.Part part) = false
 
--- Names in front of a place are of the grammar, and there are not too many of tables among them.
+-- Names before a place are of the grammar, and there are not too many of tables among them.
 pub record AreReadUpTo (names : Names) (place : ℕ) (read : List RootName) : Type 0 where
   pub are : AreRead (take place names) read
   pub few : length (filter is_create read) ≤ most_tables
 
--- a name that is none of the grammar, or a table's behind too many
+-- a name that is none of the grammar, or a table's after too many
 abbrev pub IsBadName : List RootName → List ℕ → Type 0
 IsBadName before name =
     ((n : RootName) → IsRootName n → root_text n ≡ name → ⊥)
@@ -59,7 +59,7 @@ IsDamaged names read (root.Part part) files f =
 abbrev pub DamagedAt : Names → List RootName → ℕ → FileId → Type 0
 DamagedAt names read place f = (n : RootName) × (files : Files) × (slice_get read place ≡ Some n) × (files_at (root_text n) names ≡ Some files) × IsDamaged names read n files f
 
--- and none in front of it has any
+-- and none before it has any
 pub record IsFirstDamaged (names : Names) (read : List RootName) (place : ℕ) (f : FileId) : Type 0 where
   pub here : DamagedAt names read place f
   pub first : (k : ℕ) (g : FileId) → k < place → DamagedAt names read k g → ⊥

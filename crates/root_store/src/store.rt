@@ -48,7 +48,7 @@ impl<F> CoreStore<F> {
 
 /// A table gets this schema, and no number is drawn.
 ///
-/// `NoMemory` where a growth was refused; the tables are as they were.
+/// `NoMemory` where an allocation failed; the tables are as they were.
 pub fn put_table(
     alloc: Global,
     tables: &mut BTreeMap<Name, Table>,

@@ -46,14 +46,14 @@ answered_nothing files_of kept now st opened disk arm reply store told root_befo
       settled = λ calm before. subst (RootStands now_root) (sym h) (settled calm before);
     }
 
--- A line that is answered as it was formed, where it has what is said of it; else want of memory.
+-- A line that is answered as it was formed, where it has what is said of it; else out of memory.
 pub answers_line : {F : Type 0} (files_of : F → Option Files) (kept : Told) (st : Result Statement Cause) (opened disk arm : ℕ) (line : Result (Vec ℕ Global) NoMemory) (store : CoreStore F) (told : Option Told) (root_before now_root : Option root.Told) (P : List ℕ → Type 0)
     → IfOk line (λ text. P text.items) → IfErr line (λ _. Keeps kept st told root_before now_root)
     → ((reply : List ℕ) → P reply → Answered files_of kept st opened disk arm reply store told root_before now_root) → Answers files_of kept st opened disk arm line store told root_before now_root
 answers_line files_of kept st opened disk arm (Ok text) store told root_before now_root P is keeps answered = answered text.items is
 answers_line files_of kept st opened disk arm (Err e) store told root_before now_root P is keeps answered = keeps
 
--- a line in answer to a statement that did nothing, to what the keeper tells, to the store and to the root
+-- a line in answer to a statement that did nothing, to what the annals list, to the store and to the root
 pub answers_kept : {F : Type 0} (files_of : F → Option Files) (kept : Told) (st : Result Statement Cause) (opened disk arm : ℕ) (line : Result (Vec ℕ Global) NoMemory) (store : CoreStore F) (told : Option Told) (root_same : Option root.Told) (P : List ℕ → Type 0)
     → told ≡ Some kept → CoreStands files_of (history kept) store → IfOk line (λ text. P text.items)
     → ((reply : List ℕ) → P reply → (n : Outside) → Foresees opened disk arm n → Takes n (history kept) 0 st (length kept.list) (length kept.list) reply)
@@ -114,7 +114,7 @@ accepted_one n h before s c m reply front gives turn added ok =
       },
     )
 
--- what the keeper tells after one more command
+-- what the annals list after one more command
 abbrev pub after_note : ℕ → Command → Told → Told
 after_note mark c kept = noted mark (began (entry_of 0 c) kept)
 

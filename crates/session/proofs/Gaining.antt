@@ -80,7 +80,7 @@ module _ {F : Type 0} (store : CoreStore F) (table : List ℕ) (now : ℕ) (low 
 
 -- ---- what a refused command leaves
 
--- what the keeper tells: the same list, and what was begun or the command
+-- what the annals list: the same list, and what was begun or the command
 pub record LeavesTold (c : Command) (kept : Told) (given : Type 0) (told : Option Told) : Type 0 where
   pub now : Told
   pub told_is : told ≡ Some now

@@ -1,4 +1,4 @@
--- What the answer to a statement does to what the keeper tells and to the store.
+-- What the answer to a statement does to what the annals list and to the store.
 use Rattle.std.specs.Prelude.{◌≡◌, ◌⊎◌, ◌<◌, ℕ, true, false, List, [], ◌∷◌, ◌++◌, length, All, Option, None, Some, Result, Ok, MatchResult, Vec}
 use Rattle.std.specs.declared.alloc.Global.{Global}
 use Rattle.mt_values.specs.declared.annals.Noted.{Noted}
@@ -35,7 +35,7 @@ IsBegun kept now statement reply =
     ⊎ ((now.begun ≡ None) × (length kept.list < length now.list))
     ⊎ ((is_unsettled reply ≡ true) × (done : List Command) × BeginsNext kept now statement done)
 
--- The keeper tells what it told and these entries of session 0. The store stands for all of it, and the reply is one that the
+-- The annals list what it told and these entries of session 0. The store stands for all of it, and the reply is one that the
 -- statement may have, whatever the outside comes to. A root that stood for what was told stands for what is told now, unless the
 -- reply says that a commit failed.
 pub record Answered {F : Type 0} (files_of : F → Option Files) (kept : Told) (statement : Result Statement Cause) (opened disk arm : ℕ) (reply : List ℕ) (store : CoreStore F) (told : Option Told) (root_before root : Option root.Told) : Type 0 where
@@ -57,7 +57,7 @@ pub record Keeps (kept : Told) (statement : Result Statement Cause) (told : Opti
   pub begun : (now.begun ≡ kept.begun) ⊎ BeginsNext kept now statement []
   pub root_is : root ≡ root_before
 
--- a statement's reply, or want of memory; with the disk's count at opening, the disk's and the arm's counts now, and what the disk
+-- a statement's reply, or out of memory; with the disk's count at opening, the disk's and the arm's counts now, and what the disk
 -- told of the root before and tells now
 abbrev pub Answers : {F : Type 0} → (F → Option Files) → Told → Result Statement Cause → ℕ → ℕ → ℕ → Result (Vec ℕ Global) NoMemory → CoreStore F → Option Told → Option root.Told → Option root.Told → Type 0
 Answers files_of kept statement opened disk arm result store told root_before root =

@@ -24,6 +24,6 @@ abbrev pub IsLineFor : Option Refusal → List ℕ → Type 0
 IsLineFor None line = ⊥
 IsLineFor (Some why) line = line ≡ refusal_line why
 
--- the reply where a command on a table was not committed; there is none for want of memory
+-- the reply where a command on a table was not committed; there is none where memory ran out
 abbrev pub IsLineOf : ℕ → List ℕ → Refused → List ℕ → Type 0
 IsLineOf accepted table cause line = IsLineFor (refusal_of_commit accepted table cause) line

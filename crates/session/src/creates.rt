@@ -25,7 +25,7 @@ use std::alloc::Global;
 
 /// Makes a table, unless the CREATE is refused. All memory is taken before the commit.
 ///
-/// `NoMemory` where a growth was refused; the keeper tells the same list, the root is as it was, and no count of faults rose.
+/// `NoMemory` where an allocation failed; the annals list the same entries, the root is as it was, and no count of faults rose.
 pub fn create<D: Disk, A: Annals>(
     alloc: Global,
     store: &mut CoreStore<<D::Arm as Arm>::Dir>,

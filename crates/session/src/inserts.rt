@@ -30,7 +30,7 @@ use std::alloc::Global;
 
 /// The files of a block as a part of a table, sealed: its rows in the order of the key, those of equal keys as they came.
 ///
-/// `Fault` only where the arm's count rose in this call, `NoMemory` where a growth was refused. After an error the stage was given
+/// `Fault` only where the arm's count rose in this call, `NoMemory` where an allocation failed. After an error the stage was given
 /// back to the arm.
 fn seal_block<R: Arm>(
     alloc: Global,
@@ -66,7 +66,7 @@ fn give_back_part<R: Arm>(arm: &mut R, back: Option<SealedPart<R::Stage>>)
 
 /// Adds the rows of an INSERT to its table, unless it is refused. All memory is taken before the commit.
 ///
-/// `NoMemory` where a growth was refused; the keeper tells the same list, the root is as it was, and no count of faults rose.
+/// `NoMemory` where an allocation failed; the annals list the same entries, the root is as it was, and no count of faults rose.
 pub fn insert<D: Disk, A: Annals>(
     alloc: Global,
     store: &mut CoreStore<<D::Arm as Arm>::Dir>,

@@ -24,7 +24,7 @@ use std::alloc::Global;
 
 /// The rows of a table, so many, of the columns at these places, which are the selected ones.
 ///
-/// `NoMemory` where a growth was refused; the arm's count stays.
+/// `NoMemory` where an allocation failed; the arm's count stays.
 fn read_places<R: Arm>(
     alloc: Global,
     store: &CoreStore<R::Dir>,
@@ -60,7 +60,7 @@ fn read_places<R: Arm>(
 
 /// The rows of a table, of the selected columns, sorted by these from left to right, unless the SELECT is refused.
 ///
-/// `NoMemory` where a growth was refused; the arm's count stays.
+/// `NoMemory` where an allocation failed; the arm's count stays.
 pub fn select<R: Arm, G: Gate>(
     alloc: Global,
     store: &CoreStore<R::Dir>,

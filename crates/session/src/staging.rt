@@ -12,7 +12,7 @@ use std::alloc::Global;
 
 /// A sealed stage with the entry of a statement's text.
 ///
-/// `Fault` only where the arm's count rose in this call, `NoMemory` where a growth was refused, and where the text's length is not
+/// `Fault` only where the arm's count rose in this call, `NoMemory` where an allocation failed, and where the text's length is not
 /// one of 32 bits; without a fault the count stays. After an error the stage was given back to the arm.
 pub fn seal_entry<R: Arm>(
     alloc: Global,

@@ -22,7 +22,7 @@ use std::alloc::Global;
 
 /// Runs one statement, or answers the text that is none.
 ///
-/// `NoMemory` where a growth was refused; the keeper tells the same list, the root is as it was, and no count of faults rose.
+/// `NoMemory` where an allocation failed; the annals list the same entries, the root is as it was, and no count of faults rose.
 pub fn run_statement<D: Disk, A: Annals, G: Gate>(
     alloc: Global,
     store: &mut CoreStore<<D::Arm as Arm>::Dir>,

@@ -1,4 +1,4 @@
--- Parts of a statement, read one behind another.
+-- Parts of a statement, read one after another.
 use Rattle.std.proofs.Common.{◌≡◌, List, Result, Ok, Err, ◌∙◌}
 use Rattle.std.specs.Result.{IsErrAnd}
 use Rattle.std.proofs.lemmas.Result.{err_from_is_err_and}
@@ -73,7 +73,7 @@ last_end_stops whole x from mid along (stop.Refused f) to read = λ make. along 
 pub last_end_stop : {X : Type 0} (whole : Part Statement X) (x : X) (from mid : List Placed) → ((next : X → Reader Statement) → whole next from ≡ next x mid) → (e : Stop Slip) (to : List Placed) → Ends mid (Err e) to → (r : Result X (Stop Slip)) → IsErrAnd r (λ y. y ≡ e) → ReadsEnd whole from r to
 last_end_stop whole x from mid along e to read r is = let p = err_from_is_err_and r is in rw (p.1, p.2) (last_end_stops whole x from mid along e to read)
 
--- the statement's end was read behind its last part
+-- the statement's end was read after its last part
 pub last_ends : (whole : Part Statement (Unit {0})) (from mid : List Placed) → ((next : Unit {0} → Reader Statement) → whole next from ≡ next tt mid) → (r : Result (Unit {0}) (Stop Slip)) (to : List Placed) → Ends mid r to → ReadsEnd whole from r to
 last_ends whole from mid along (Ok u) to read = λ make. along (λ y. ends (make y)) ∙ read (make tt)
 last_ends whole from mid along (Err e) to read = last_end_stops whole tt from mid along e to read

@@ -124,7 +124,7 @@ module _ {S : Type 0} (n : ℕ) where
       (passing_apart n (is_word (is_keyword (codes "FORMAT"))) (is_word (is_keyword (codes "FORMAT"))) (λ v. expect format (λ v. ends s)) named.good)
       (passing_apart n (is_word (is_keyword (codes "FORMAT"))) (is_symbol symbol.Semicolon) (λ v. done s) (done_good n s))
 
--- ---- statements, each behind its first keyword
+-- ---- statements, each after its first keyword
 
 module _ (n : ℕ) where
   columns_sound : (next : List Column → Reader Statement) (u : Token) → ((columns : List Column) → Sound n (next columns) u) → Sound n (expect (the symbol.Open) (λ v. list_of column (λ columns. expect (the symbol.Close) (λ v. next columns)))) (token.Symbol symbol.Open)

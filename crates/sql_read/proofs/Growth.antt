@@ -1,4 +1,4 @@
--- A script whose first statement came to its end begins with the same statement, whatever comes behind it.
+-- A script whose first statement came to its end begins with the same statement, whatever comes after it.
 use Rattle.std.proofs.Common.{◌≡◌, ℕ, zero, suc, ◌+◌, ◌<◌, Bool, true, false, not, ◌&&◌, ◌||◌, ◌==◌, cond, List, [], ◌∷◌, ◌++◌, length, take, drop, Option, Some, None, refl, arith, ◌∙◌, sym, ap}
 use Rattle.std.proofs.lemmas.Bool.Decides.{nat_tests}
 use Rattle.std.proofs.lemmas.List.{drop-append-le, take-append-le}
@@ -13,7 +13,7 @@ use Rattle.mt_values.specs.Script.{onto, place_behind, ends_at, ended_from, take
 use Rattle.mt_values.proofs.Bounds.{ShorterThan, line_shorter}
 use Rattle.mt_values.proofs.ScriptBounds.{data_of_step, data_ended_step}
 
--- more bytes behind what follows a part that was found
+-- more bytes after what follows a part that was found
 abbrev pub parted_with : {A : Type 0} → List ℕ → A × List ℕ → A × List ℕ
 parted_with more found = (found.0, found.1 ++ more)
 
@@ -76,7 +76,7 @@ more_behind true comment b x y u v rest more this that e = this e
 more_behind false true b x y u v rest more this that e = that e
 more_behind false false b x y u v rest more this that e = refl
 
--- where a statement with an end stands behind the bytes that are passed over, these are the same whatever comes behind it
+-- where a statement with an end comes after the bytes that are passed over, these are the same whatever comes after it
 behind_grows : (blank : ℕ → Bool) (comment : Bool) (text more : List ℕ) → Ends (behind blank comment text) → behind blank comment (text ++ more) ≡ behind blank comment text ++ more
 behind_grows blank comment [] more e = absurd (none_ends e)
 behind_grows blank true (b ∷ bs) more e = behind_grows blank (not (b == 10)) bs more e
@@ -132,7 +132,7 @@ data_line n text more (Some found) grows less line ended =
     data_of_step (text ++ more)
     ∙ rw (line found refl) (data_cases (ends_data found.0) found more (data_of found.1) (data_of (found.1 ++ more)) (data_ended found.1) (grows found.1 less) ended)
 
--- data that came to its end is the same whatever comes behind it
+-- data that came to its end is the same whatever comes after it
 data_within_grows : (n : ℕ) (text more : List ℕ) → length text < n → data_ended text ≡ true → data_of (text ++ more) ≡ data_with more (data_of text)
 data_within_grows zero text more less ended = absurd (omega arith)
 data_within_grows (suc n) text more less ended =
@@ -192,7 +192,7 @@ some_ends : (text : List ℕ) (o : Option (List ℕ × List ℕ)) → ended_from
 some_ends text None found whole = cc
 some_ends text (Some p) found whole = (p, found)
 
--- a script that has a whole statement goes on as it does, and the bytes behind it stand behind the rest of it
+-- a script that has a whole statement goes on as it does, and the bytes after it come after the rest of it
 pub whole_grows : (script more : List ℕ) → has_whole script ≡ true → next_statement (script ++ more) ≡ option_map (parted_with more) (next_statement script)
 whole_grows script more whole =
     ap next_from (behind_grows is_between false script more (some_ends (behind is_between false script) (ended_from Outside (behind is_between false script)) refl whole))

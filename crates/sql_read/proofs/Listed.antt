@@ -11,7 +11,7 @@ use Rattle.mt_base.specs.declared.stop.Stop.{Stop}
 use Rattle.mt_base.specs.declared.stop.Stop.TheVariants as stop
 use Rattle.sql_read.specs.Reads.{Reads, Skips}
 
--- a part takes at least one token: readers that agree on fewer tokens than these are the same behind it
+-- a part takes at least one token: readers that agree on fewer tokens than these are the same after it
 abbrev pub TakesToken : {S X : Type 0} → Part S X → Type 0
 TakesToken {S} {X} part =
     (next other : X → Reader S) (ts : List Placed) → ((x : X) (us : List Placed) → length us < length ts → next x us ≡ other x us) → part next ts ≡ part other ts
@@ -41,7 +41,7 @@ choose_same test this that other [] same = refl
 choose_same test this that other (p ∷ ps) same = either_same (test p.token) this that other (p ∷ ps) same
 
 module _ {S X Y : Type 0} (more : Token → Bool) (between : Test Y) (item : Part S X) where
-  -- items behind those that came before
+  -- items after those that came before
   abbrev pub listed_from : List X → Part S (List X)
   listed_from front next ts = listed_within (length ts + 1) more between item front next ts
 
@@ -62,7 +62,7 @@ module _ {S X Y : Type 0} (more : Token → Bool) (between : Test Y) (item : Par
       takes (listed_behind (listed_within n more between item) front next) (listed_behind (listed_within m more between item) front next) ts
       (λ x us less. behind_same (listed_within n more between item) (listed_within m more between item) front next x us (λ vs fewer. within_same takes n m (front ++ x ∷ []) next vs (omega arith) (omega arith)))
 
-  -- a list is an item, and behind it what may follow an item
+  -- a list is an item, and after it what may follow an item
   pub listed_step : TakesToken item → (front : List X) (next : List X → Reader S) (ts : List Placed) → listed_from front next ts ≡ item (listed_behind listed_from front next) ts
   listed_step takes front next ts =
       rw add-one
@@ -71,7 +71,7 @@ module _ {S X Y : Type 0} (more : Token → Bool) (between : Test Y) (item : Par
 
 -- ---- by the code
 
--- items behind those that came before, with commas between them
+-- items after those that came before, with commas between them
 abbrev pub items_from : {X : Type 0} → Part Statement X → List X → Part Statement (List X)
 items_from item front = listed_from (is_symbol symbol.Comma) (the symbol.Comma) item front
 
@@ -92,7 +92,7 @@ items_stop item takes front from (stop.Refused s) to read = λ next.
     listed_step (is_symbol symbol.Comma) (the symbol.Comma) item takes front next from
     ∙ read (listed_behind (is_symbol symbol.Comma) (the symbol.Comma) item (items_from item) front next)
 
--- what was read behind the first items was read of the list
+-- what was read after the first items was read of the list
 pub Reads_along : {X : Type 0} (part whole : Part Statement X) (from start : List Placed) (r : Result X (Stop Slip)) (to : List Placed) → ((next : X → Reader Statement) → part next from ≡ whole next start) → Reads part from r to → Reads whole start r to
 Reads_along part whole from start (Ok x) to along read = λ next. sym (along next) ∙ read next
 Reads_along part whole from start (Err (stop.Refused s)) to along read = λ next. sym (along next) ∙ read next

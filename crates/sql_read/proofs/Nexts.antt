@@ -1,4 +1,4 @@
--- What a script begins with, behind the bytes that are skipped.
+-- What a script begins with, after the bytes that are skipped.
 use Rattle.std.proofs.Common.{◌≡◌, ◌↔◌, ℕ, ◌+◌, ◌<◌, ◌≤◌, Bool, true, false, ◌||◌, eqb, List, [], ◌∷◌, length, drop, Some, None, Result, Ok, Err, refl, arith, ◌∙◌, sym, ap, subst, length-drop}
 use Rattle.std.proofs.lemmas.Bool.Decides.{nat_tests}
 use Rattle.std.proofs.lemmas.Bool.{false≢true}

@@ -10,7 +10,7 @@ abbrev pub is_skipped : Skipped → ℕ → Bool
 is_skipped Blanks = is_space
 is_skipped Between = is_between
 
--- whether a comment goes on behind the first byte of a text; none where that byte is not skipped
+-- whether a comment goes on after the first byte of a text; none where that byte is not skipped
 abbrev pub comment_behind : (ℕ → Bool) → Bool → List ℕ → Option Bool
 comment_behind blank comment [] = None
 comment_behind blank true (b ∷ bs) = Some (not (b == 10))

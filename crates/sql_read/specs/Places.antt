@@ -5,7 +5,7 @@ use Rattle.mt_values.specs.declared.token.Token.TheVariants as token
 use Rattle.mt_values.specs.Grammar.{is_reserved, fits_name}
 use Rattle.mt_values.specs.Readers.{Reader}
 
--- with these tokens some statement goes on: with some tokens behind them they are one
+-- with these tokens some statement goes on: with some tokens after them they are one
 abbrev pub GoesOn : {S : Type 0} → Reader S → List Placed → Type 0
 GoesOn {S} read front = (more : List Placed) × (s : S) × (read (front ++ more) ≡ Ok s)
 

@@ -21,7 +21,7 @@ Reads {X} part from (Ok x) to = (next : X → Reader Statement) → part next fr
 Reads {X} part from (Err (stop.Refused s)) to = (next : X → Reader Statement) → part next from ≡ Err (s, to)
 Reads {X} part from (Err stop.NoMemory) to = Unit {0}
 
--- Behind a token that may be left out, where it passes a test: a production goes the one way where it was taken, and else the other.
+-- After a token that may be left out, where it passes a test: a production goes the one way where it was taken, and else the other.
 abbrev pub Skips : (Token → Bool) → List Placed → Bool → List Placed → Type 0
 Skips test from taken to = (this : Unit {0} → Reader Statement) (other : Reader Statement) → choose test (expect (λ t. passing (test t)) this) other from ≡ either taken (this tt) other to
 

@@ -15,13 +15,13 @@ byte_shown found = option_map (λ (p : ℕ × Bor (List ℕ)). (p.0, p.1.now)) f
 abbrev pub string_shown : Option (List ℕ × Bor (List ℕ)) → Option (List ℕ × List ℕ)
 string_shown found = option_map (λ (p : List ℕ × Bor (List ℕ)). (p.0, p.1.now)) found
 
--- what a string says that begins with this piece, by what is said behind it
+-- what a string says that begins with this piece, by what is said after it
 abbrev pub said_by : (List ℕ → Option (List ℕ × List ℕ)) → Piece → Option (List ℕ × List ℕ)
 said_by more (Byte b rest) = byte_onto b (more rest.now)
 said_by more (End rest) = Some ([], rest.now)
 said_by more Faulty = None
 
--- what a string says of which this is left, by what is said behind its first piece
+-- what a string says of which this is left, by what is said after its first piece
 abbrev pub string_from : (List ℕ → Option (List ℕ × List ℕ)) → List ℕ → Option (List ℕ × List ℕ)
 string_from more [] = None
 string_from more (b ∷ bs) =

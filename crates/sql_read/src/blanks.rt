@@ -39,7 +39,7 @@ pub fn begins_with(byte: u8, text: &[u8]) -> bool
     }
 }
 
-// Whether a comment goes on behind the first byte of a text, where that byte is skipped.
+// Whether a comment goes on after the first byte of a text, where that byte is skipped.
 fn comment_behind(skipped: Skipped, comment: bool, text: &[u8]) -> Option<bool>
     ensures { result ≡ comment_behind (is_skipped skipped) comment text.now }
 {
@@ -73,7 +73,7 @@ pub fn skipped_len(skipped: Skipped, text: &[u8]) -> usize
     at
 }
 
-/// The text behind the blanks and comments that it begins with.
+/// The text after the blanks and comments that it begins with.
 pub fn behind(skipped: Skipped, text: &[u8]) -> &[u8]
     ensures { result.now ≡ behind (is_skipped skipped) false text.now }
 {

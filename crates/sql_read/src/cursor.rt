@@ -103,7 +103,7 @@ fn type_named(word: &[u8]) -> Result<ColType, Slip>
 }
 
 impl<'a> Cursor<'a> {
-    /// A cursor in front of these tokens.
+    /// A cursor before these tokens.
     pub fn new(tokens: &'a [Placed]) -> Self
         ensures { result ≡ tokens.now }
     {

@@ -1,4 +1,4 @@
-// What a backslash and the bytes behind it stand for, and what a string says.
+// What a backslash and the bytes after it stand for, and what a string says.
 ghost use Rattle.std.specs.Prelude.{◌≡◌, ◌<◌, ◌+◌, length, ℕ, List, Option, IfOk, IfSome};
 ghost use Rattle.mt_values.specs.Escapes.{escape_byte, escape_of, hex_digit, hex_pair};
 ghost use Rattle.mt_values.specs.Tokens.{quote_behind, string_within};
@@ -66,7 +66,7 @@ fn hex_pair(text: &[u8]) -> Option<(u8, &[u8])>
     Some((16 * high + low, more))
 }
 
-// The byte that a backslash stands for with the bytes behind it, and what follows them.
+// The byte that a backslash stands for with the bytes after it, and what follows them.
 fn escape(text: &[u8]) -> Option<(u8, &[u8])>
     ensures { byte_shown result ≡ escape_of text.now }
 {
@@ -110,7 +110,7 @@ fn first_piece(text: &[u8]) -> Piece<'_>
     Piece::Byte(*byte, more)
 }
 
-/// What a string says, of which the text behind its first quote is given, and what follows its last quote. None where it
+/// What a string says, of which the text after its first quote is given, and what follows its last quote. None where it
 /// has no end, or a faulty escape.
 ///
 /// `NoMemory` where what it says found no room.

@@ -40,7 +40,7 @@ pub fn causes_are_first()
 {}
 
 /// Where the bytes of a script so far end its first statement, with its data, that statement is the same whatever comes
-/// behind them, and what comes stands behind the rest of the script.
+/// after them, and what comes comes after the rest of the script.
 pub fn whole_statements_stay()
     ensures next { (script more : List ℕ) → has_whole script ≡ true
         → next_statement (script ++ more)

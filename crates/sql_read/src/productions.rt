@@ -104,7 +104,7 @@ impl Cursor<'_> {
         Ok(Selected::Named(names))
     }
 
-    // The semicolon that ends a statement, behind which no token may stand.
+    // The semicolon that ends a statement, after which no token may stand.
     fn end(&mut self) -> Result<(), Stop<Slip>>
         ensures { Ends self.old result self.new }
     {

@@ -33,7 +33,7 @@ pub enum Next {
     NoMemory,
 }
 
-// Where the next byte stands, behind this byte.
+// Where the next byte stands, after this byte.
 fn place_behind(place: Place, byte: u8, rest: &[u8]) -> Place
     ensures { result ≡ place_behind place byte rest.now }
 {

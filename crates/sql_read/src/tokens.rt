@@ -74,7 +74,7 @@ fn number(alloc: Global, text: &[u8]) -> Result<(Token, &[u8]), NoMemory>
     Ok((Token::Number(digits), rest))
 }
 
-// The token of a string, of which the text behind its first quote is given, and what follows it.
+// The token of a string, of which the text after its first quote is given, and what follows it.
 fn quoted(alloc: Global, text: &[u8]) -> Result<(Token, &[u8]), NoMemory>
     ensures { IfOk result (λ found. token_shown found ≡ text_token (string_within (length text.now + 1) text.now)) }
 {

@@ -41,7 +41,7 @@ pub neither : (a b : Bool) → (a || b) ≡ false → (a ≡ false) × (b ≡ fa
 neither true b none = cc
 neither false b none = (refl, none)
 
--- it stands behind the others
+-- it comes after the others
 appended_new : (file : FileId) (bytes : List ℕ) (files : Files) → has_file file (names_in files) ≡ false → appended file bytes files ≡ files ++ written file bytes ∷ []
 appended_new file bytes [] new = refl
 appended_new file bytes (w ∷ ws) new =

@@ -41,7 +41,7 @@ names_in-take zero files = refl
 names_in-take (suc i) [] = refl
 names_in-take (suc i) (w ∷ ws) = ap (λ (fs : List FileId). w.file ∷ fs) (names_in-take i ws)
 
--- no file in front of a place is the one there
+-- no file before a place is the one there
 none_before : (names : List FileId) (i : ℕ) (f : FileId) → i < length names → f ≡ get_or names i f → EachOnce names → has_file f (take i names) ≡ false
 none_before names i f inside at once =
     list_any_none (λ (g : FileId). same_file g f) (take i names) (λ k d below.

@@ -17,7 +17,7 @@ abbrev pub AreOfOthers : ℕ → List ℕ → Told → Type 0
 AreOfOthers clock name [] = Unit {0}
 AreOfOthers clock name (s ∷ ss) = (clock ≤ s.clock) × IsOfOther name s.change × AreOfOthers clock name ss
 
--- sealed files were published under a name at a mark, behind what was told before; since then other names alone have changed
+-- sealed files were published under a name at a mark, after what was told before; since then other names alone have changed
 pub record WasPublished (before : Told) (clock : ℕ) (name : List ℕ) (files : Files) (now : Told) : Type 0 where
   pub marks : AllBy clock before
   pub sealed : AreSealed files

@@ -105,7 +105,7 @@ fn is_among(names: &[FileId], file: FileId) -> bool
 
 /// Writes a file that was not written yet, with these bytes. Where there are none it is an empty file.
 ///
-/// `Fault` only where the stage's count rose in this call, `NoMemory` where a growth was refused; without a fault the count stays.
+/// `Fault` only where the stage's count rose in this call, `NoMemory` where an allocation failed; without a fault the count stays.
 /// After an error the stage can only be given up.
 pub fn write_file<S: Stage>(
     stage: &mut Open<S>,

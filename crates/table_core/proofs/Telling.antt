@@ -50,7 +50,7 @@ accepts_or_not old new (accept.Insert session i) (outcome.Refused guard.Numbers)
 accepts_or_not old new (accept.Create session c) given g = absurd g
 accepts_or_not old new (accept.Insert session i) given g = absurd g
 
--- an event adds entries behind the history
+-- an event adds entries after the history
 record Longer (old : Core) (e : Event) (given : Outcome) (new : Core) : Type 0 where
   entries : History
   adds : Adds e given entries
@@ -152,7 +152,7 @@ run_push [] (o ∷ os) old mid new e given r g = absurd r
 run_push (x ∷ es) [] old mid new e given r g = absurd r
 run_push (x ∷ es) (o ∷ os) old mid new e given r g = (r.0, r.1, run_push es os r.0 mid new e given r.2 g)
 
--- the event behind those that ran may come
+-- the event after those that ran may come
 pub may_come : (events : List Event) (outcomes : List Outcome) (old mid : Core) (e : Event) (rest : List Event) → MayRun old (events ++ e ∷ rest) → Runs old events outcomes mid → MayCome mid.history e
 may_come [] [] old mid e rest may r = subst (λ (c : Core). MayCome c.history e) (sym r) may.0
 may_come [] (o ∷ os) old mid e rest may r = absurd r
@@ -238,7 +238,7 @@ module _ (old next : Core) (e : Event) (given : Outcome) (g : Gives old e given 
         since = (subst IsNoCrash (sym t.event_is) tt, calm);
       }
 
-  -- a snapshot that is known behind the event was known before, or the event took it
+  -- a snapshot that is known after the event was known before, or the event took it
   comes_here : Holds old e given next → slice_get next.snapshots number ≡ Some s → NoCrash es → Comes old (e ∷ es) (given ∷ os) number s
   comes_here (Stay here same) at calm = inl (ap (λ (ss : List Snapshot). slice_get ss number) (sym same) ∙ at, (here, calm))
   comes_here (More t) at calm = by (one_of old.snapshots (snapshot_of t.table old) s number (ap (λ (ss : List Snapshot). slice_get ss number) (sym t.snapshots) ∙ at))

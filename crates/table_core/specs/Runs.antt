@@ -24,7 +24,7 @@ Runs old (e ∷ events) (given ∷ outcomes) new = (next : Core) × Gives old e 
 Runs old [] (given ∷ outcomes) new = ⊥
 Runs old (e ∷ events) [] new = ⊥
 
--- each event may come behind those before it, whatever state they left (docs/definitions.md, "The core")
+-- each event may come after those before it, whatever state they left (docs/definitions.md, "The core")
 abbrev pub MayRun : Core → List Event → Type 0
 MayRun core [] = Unit {0}
 MayRun core (e ∷ events) = MayCome core.history e × ((given : Outcome) (next : Core) → Gives core e given next → MayRun next events)
@@ -47,7 +47,7 @@ pub record TakenAt (old : Core) (events : List Event) (outcomes : List Outcome) 
   pub snapshot_is : snapshot ≡ snapshot_of snapshot.table met
   pub since : NoCrash (drop k events)
 
--- where a snapshot comes from that is known by the number behind events: it was known before them and no crash came, or one of them took it and no crash came since (docs/definitions.md, "The core")
+-- where a snapshot comes from that is known by the number after events: it was known before them and no crash came, or one of them took it and no crash came since (docs/definitions.md, "The core")
 abbrev pub Comes : Core → List Event → List Outcome → ℕ → Snapshot → Type 0
 Comes old events outcomes number snapshot =
     ((slice_get old.snapshots number ≡ Some snapshot) × NoCrash events) ⊎ ((k : ℕ) × TakenAt old events outcomes number snapshot k)
@@ -62,7 +62,7 @@ TellsSnapshots old events outcomes new =
     (k number : ℕ) (table : List ℕ) → slice_get events k ≡ Some (event.TakeSnapshot table) → slice_get outcomes k ≡ Some (outcome.Taken number) → NoCrash (drop k events)
     → (s : Snapshot) × (slice_get new.snapshots number ≡ Some s) × TakenAt old events outcomes number s k
 
--- rows that were read behind events are of a snapshot that comes from these; at the end they are what merges may have left of the live rows of its front of the history, and it keeps its number as long as no crash comes (docs/definitions.md, "The core")
+-- rows that were read after events are of a snapshot that comes from these; at the end they are what merges may have left of the live rows of its front of the history, and it keeps its number as long as no crash comes (docs/definitions.md, "The core")
 pub record IsRead (old : Core) (events : List Event) (outcomes : List Outcome) (number : ℕ) (rows : List Row) (place : ℕ) (behind : List Event) (new : Core) : Type 0 where
   pub snapshot : Snapshot
   pub comes : Comes old events outcomes number snapshot

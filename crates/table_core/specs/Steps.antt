@@ -114,7 +114,7 @@ abbrev pub CrashGives : Core → Crash → Outcome → Core → Type 0
 CrashGives old c outcome.Restarted new = (met : Core) × CrashMeets old c met × (new ≡ without_snapshots met)
 CrashGives old c given new = ⊥
 
--- what an event gives, and the state behind it (docs/definitions.md, "The core")
+-- what an event gives, and the state after it (docs/definitions.md, "The core")
 abbrev pub Gives : Core → Event → Outcome → Core → Type 0
 Gives old (event.Accept a) given new = AcceptGives old a given new
 Gives old (event.TakeSnapshot table) given new = TakeGives old table given new

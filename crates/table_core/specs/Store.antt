@@ -70,7 +70,7 @@ empty_table schema = record { schema = schema; parts = []; last = 0 }
 abbrev pub with_part : Table → CorePart → ℕ → Table
 with_part table part number = record { schema = table.schema; parts = table.parts ++ part ∷ []; last = number }
 
--- one table more, behind the others
+-- one table more, after the others
 pub record AddsTable (c : Create) (old new : List Named) : Type 0 where
   pub key : Vec ℕ Global
   pub key_is : key.items ≡ c.table

@@ -17,7 +17,7 @@ pub struct Done {
 
 /// Lets events happen one after another, from the state before any event on.
 ///
-/// `NoMemory` where a growth was refused.
+/// `NoMemory` where an allocation failed.
 pub fn run(alloc: Global, events: Vec<Event>) -> Result<Done, NoMemory>
     requires { MayRun empty_core events.items }
     ensures run { IfOk result (λ done. Runs empty_core events.items done.outcomes.items done.state) }

@@ -51,7 +51,7 @@ impl CoreState {
 
 /// Lets one event happen, and gives its outcome.
 ///
-/// `NoMemory` where a growth was refused; the state stays as it was.
+/// `NoMemory` where an allocation failed; the state stays as it was.
 pub fn step(alloc: Global, state: &mut CoreState, event: Event) -> Result<Outcome, NoMemory>
     requires { MayCome state.old.history event }
     ensures gives { IfOk result (λ given. Gives state.old event given state.new) }

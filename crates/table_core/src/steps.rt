@@ -18,7 +18,7 @@ use std::alloc::Global;
 
 /// What happens at an event.
 ///
-/// `NoMemory` where a growth was refused; contracts see the store as it was.
+/// `NoMemory` where an allocation failed; contracts see the store as it was.
 pub fn happen(alloc: Global, store: &mut Store, event: Event) -> Result<Outcome, NoMemory>
     requires store { IsStore store.old }
     requires may { MayCome store.old.entries.items event }
@@ -48,7 +48,7 @@ fn decide(alloc: Global, store: &mut Store, accept: Accept) -> Result<Outcome, N
     }
 }
 
-/// Begins again behind a crash: of an accept within which it came all is left or nothing, and no snapshot is.
+/// Begins again after a crash: of an accept within which it came all is left or nothing, and no snapshot is.
 fn restart(alloc: Global, store: &mut Store, crash: Crash) -> Result<Outcome, NoMemory>
     requires store { IsStore store.old }
     requires may { MayCrash store.old.entries.items crash }
@@ -207,7 +207,7 @@ fn all_rows(alloc: Global, parts: &[CorePart]) -> Result<Seq<Row>, NoMemory>
     Ok(rows)
 }
 
-/// Adds copies of rows behind others.
+/// Adds copies of rows after others.
 fn push_rows(alloc: Global, rows: &mut Seq<Row>, more: &[Row]) -> Result<(), NoMemory>
     ensures { OnOk result (rows.new ≡ rows.old ++ more.now) }
 {

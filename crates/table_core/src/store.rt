@@ -58,9 +58,9 @@ impl Store {
         Some(&self.tables[place].schema)
     }
 
-    /// Enters a CREATE behind the last command, and its table behind the others.
+    /// Enters a CREATE after the last command, and its table after the others.
     ///
-    /// `NoMemory` where a growth was refused; the store stays as it was.
+    /// `NoMemory` where an allocation failed; the store stays as it was.
     pub fn enter_table(
         &mut self,
         alloc: Global,
@@ -80,9 +80,9 @@ impl Store {
         Ok(())
     }
 
-    /// Enters an INSERT behind the last command, and its part behind those of the table at this place.
+    /// Enters an INSERT after the last command, and its part after those of the table at this place.
     ///
-    /// `NoMemory` where a growth was refused; the store stays as it was.
+    /// `NoMemory` where an allocation failed; the store stays as it was.
     pub fn enter_part(
         &mut self,
         place: usize,
@@ -106,9 +106,9 @@ impl Store {
     }
 }
 
-/// Adds the table of a CREATE behind the others.
+/// Adds the table of a CREATE after the others.
 ///
-/// `NoMemory` where a growth was refused; the tables stay as they were.
+/// `NoMemory` where an allocation failed; the tables stay as they were.
 fn add_table(
     alloc: Global,
     tables: &mut IndexMap<Vec<u8>, Table>,
@@ -135,7 +135,7 @@ fn add_table(
 
 /// Adds a part to a table, whose number is the last that was drawn.
 ///
-/// `NoMemory` where a growth was refused; the table stays as it was.
+/// `NoMemory` where an allocation failed; the table stays as it was.
 fn add_part(table: &mut Table, part: CorePart, number: u32) -> Result<(), NoMemory>
     ensures ok { OnOk result (table.new ≡ with_part table.old part number) }
     ensures err { OnErr result (table.new ≡ table.old) }

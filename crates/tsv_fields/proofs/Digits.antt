@@ -6,7 +6,7 @@ use Rattle.std.specs.Char.{is_ascii_digit}
 use Rattle.std.specs.List.{list_all}
 use Rattle.tsv_fields.specs.Numbers.{with_digit}
 
--- the number that digits say behind those of another number
+-- the number that digits say after those of another number
 abbrev pub number_after : ℕ → List ℕ → ℕ
 number_after n digits = fold (λ n b. n * 10 + (b - 48)) n digits
 

@@ -1,4 +1,4 @@
--- The values of a line's fields behind those of columns, column by column.
+-- The values of a line's fields after those of columns, column by column.
 use Rattle.std.proofs.Common.{◌≡◌, ◌≢◌, ℕ, ◌+◌, ◌<◌, ◌≤◌, false, List, [], ◌∷◌, length, get_or, take, drop, set, slice_get, Some, Result, Ok, Err, refl, sym, ap, ◌∙◌, arith, append-nil}
 use Rattle.std.proofs.lemmas.List.{drop_all, take_all, drop_more, drop-set-lt, take_more_set, length-map}
 use Rattle.mt_base.specs.declared.stop.Stop.{Stop}

@@ -11,7 +11,7 @@ use Rattle.mt_values.specs.Values.{Row}
 use Rattle.tsv_fields.specs.Fields.{EndFields, pieces_from}
 use Rattle.tsv_fields.specs.Faults.{fault_of_count}
 
--- a list in front of one that was read, or why there is none
+-- a list before one that was read, or why there is none
 abbrev pub fronted_ok : {A F : Type 0} → List A → Result (List A) F → Result (List A) F
 fronted_ok front (Ok xs) = Ok (front ++ xs)
 fronted_ok front (Err fault) = Err fault
@@ -24,7 +24,7 @@ pub fronted_ok_more : {A F : Type 0} (front : List A) (x : A) (r : Result (List 
 fronted_ok_more front x (Ok xs) = ap Ok (append_assoc front (x ∷ []) xs)
 fronted_ok_more front x (Err fault) = refl
 
--- what stands at a place goes before what stands behind it
+-- what stands at a place goes before what comes after it
 pub drop_at_place : {A : Type 0} (xs : List A) (i : ℕ) (x : A) → slice_get xs i ≡ Some x → drop i xs ≡ x ∷ drop (i + 1) xs
 drop_at_place [] i x is = cc
 drop_at_place (y ∷ ys) zero x is = cc
@@ -79,7 +79,7 @@ module _ (types : List ColType) (fields : List (List ℕ)) (line i : ℕ) (t : C
   rest_is : row_of_fields line (i + 1) (drop i types) (drop i fields) ≡ value_onto (at_field line (i + 1) (value_of_field t f)) (row_of_fields line (i + 1 + 1) (drop (i + 1) types) (drop (i + 1) fields))
   rest_is = rw (drop_at_place types i t type_is, drop_at_place fields i f field_is) refl
 
-  -- the field's value goes behind them
+  -- the field's value goes after them
   pub row_more : (row : Row) (v : Value) → Ok v ≡ value_of_field t f →
       fronted_ok (row ++ v ∷ []) (row_of_fields line (i + 1 + 1) (drop (i + 1) types) (drop (i + 1) fields)) ≡ fronted_ok row (row_of_fields line (i + 1) (drop i types) (drop i fields))
   row_more row v read =

@@ -15,11 +15,11 @@ feed_told false b told = absurd cc
 
 -- ---- one byte more of a line
 
--- whether the byte behind some bytes is taken
+-- whether the byte after some bytes is taken
 abbrev pub taken_after : Bool → List ℕ → Bool
 taken_after taken bytes = fold takes_next taken bytes
 
--- a byte behind the last of some fields
+-- a byte after the last of some fields
 abbrev pub onto_last : ℕ → List (List ℕ) → List (List ℕ)
 onto_last b [] = []
 onto_last b (f ∷ []) = (f ++ b ∷ []) ∷ []
@@ -51,7 +51,7 @@ behind_first true b f fields some = refl
 behind_first false b f [] some = absurd (omega arith)
 behind_first false b f (g ∷ fs) some = refl
 
--- a byte in front of the first field
+-- a byte before the first field
 behind_byte : (tab : Bool) (b x : ℕ) (fields : List (List ℕ)) → 0 < length fields → onto_first x (with_byte tab b fields) ≡ with_byte tab b (onto_first x fields)
 behind_byte true b x [] some = absurd (omega arith)
 behind_byte true b x (f ∷ fs) some = refl
@@ -142,7 +142,7 @@ piece_bounds start (e ∷ es) count zero within rise = (rise.0, rise.1)
 piece_bounds start (e ∷ es) count (suc zero) within rise = piece_bounds (e + 1) es count zero (omega arith) rise.2
 piece_bounds start (e ∷ es) count (suc (suc place)) within rise = piece_bounds (e + 1) es count (suc place) (omega arith) rise.2
 
--- past the first piece, behind the end of the one before it
+-- past the first piece, after the end of the one before it
 pub start_behind : (start : ℕ) (ends : List ℕ) (place : ℕ) → 0 < place → start_of start ends place ≡ get_or ends (place - 1) 0 + 1
 start_behind start ends zero some = absurd (omega arith)
 start_behind start ends (suc place) some = let before : suc place - 1 ≡ place = omega arith in rw before refl

@@ -77,7 +77,7 @@ stops_by b bs true n is rest within =
     rw (one, two) (rest (omega arith))
 stops_by b bs false n is rest within = ap (λ c. c ∷ bs) (grind (arith, nat_tests))
 
--- a backslash stands behind it
+-- a backslash comes after it
 pub run_stops : (text : List ℕ) → prefix_len is_no_backslash text < length text →
     drop (prefix_len is_no_backslash text) text ≡ 92 ∷ drop (prefix_len is_no_backslash text + 1) text
 run_stops [] within = absurd (omega arith)
@@ -106,12 +106,12 @@ module _ (text out : List ℕ) (at n : ℕ) (said : fronted out (unescaped (drop
       ap unescaped (sym (drop-drop n at text) ∙ here ∙ ap (λ l. 92 ∷ l) (drop-drop (n + 1) at text ∙ ap (λ k. drop k text) place))
       ∙ unescaped_escape (drop (at + n + 1) text)
 
-  -- a faulty escape stands behind it
+  -- a faulty escape comes after it
   pub escape_refused : at + n < length text → None ≡ escape_of (drop (at + n + 1) text) → None ≡ unescaped text
   escape_refused within none =
       sym (run_is ∙ ap (fronted (out ++ take n (drop at text))) (escape_is within ∙ ap (option_and_then (unescaped_behind unescaped)) (sym none)))
 
-  -- an escape stands behind it
+  -- an escape comes after it
   pub escape_read : (byte used : ℕ) → at + n < length text → Some (byte, drop used (drop (at + n + 1) text)) ≡ escape_of (drop (at + n + 1) text) →
       fronted ((out ++ take n (drop at text)) ++ byte ∷ []) (unescaped (drop (at + n + (1 + used)) text)) ≡ unescaped text
   escape_read byte used within some =

@@ -18,7 +18,7 @@ types_in columns = map (λ (c : Cells). c.col_type) columns
 abbrev pub with_last : Cells → Value → Cells
 with_last column v = record { col_type = column.col_type; values = column.values ++ v ∷ [] }
 
--- columns with the values of a row behind their others
+-- columns with the values of a row after their others
 abbrev pub with_row_last : List Cells → Row → List Cells
 with_row_last (c ∷ cs) (v ∷ vs) = with_last c v ∷ with_row_last cs vs
 with_row_last columns row = []
@@ -27,7 +27,7 @@ abbrev pub with_value : Cells → Result Value FieldFault → Result Cells Field
 with_value column (Ok v) = Ok (with_last column v)
 with_value column (Err fault) = Err fault
 
--- a column with the value of a field behind its others, or the field's fault
+-- a column with the value of a field after its others, or the field's fault
 abbrev pub with_field : Cells → List ℕ → Result Cells FieldFault
 with_field column field = with_value column (value_of_field column.col_type field)
 

@@ -9,7 +9,7 @@ use itoa::Buffer;
 use mt_base::NoMemory;
 use mt_values::{Block, Cell, Value};
 
-// The letter that stands for a byte behind a backslash; none where the byte stands for itself.
+// The letter that stands for a byte after a backslash; none where the byte stands for itself.
 fn escape_of(byte: u8) -> Option<u8>
     ensures { escape_or_byte byte result ≡ escaped byte }
 {
@@ -28,7 +28,7 @@ fn escape_of(byte: u8) -> Option<u8>
 
 /// Adds a text, each byte as it is printed. Runs of bytes that stand for themselves are copied whole.
 ///
-/// `NoMemory` where a growth was refused; a part of the text may have been added then.
+/// `NoMemory` where an allocation failed; a part of the text may have been added then.
 pub fn write_text(text: &[u8], out: &mut Vec<u8>) -> Result<(), NoMemory>
     ensures { OnOk result (out.new.items ≡ out.old.items ++ flat_map escaped text.now) }
 {
@@ -81,7 +81,7 @@ fn write_tab(index: usize, out: &mut Vec<u8>) -> Result<(), NoMemory>
 
 /// Adds the line of these values, with its line feed.
 ///
-/// `NoMemory` where a growth was refused; a part of the line may have been added then.
+/// `NoMemory` where an allocation failed; a part of the line may have been added then.
 pub fn write_row(values: &[Value], out: &mut Vec<u8>) -> Result<(), NoMemory>
     ensures { OnOk result (out.new.items ≡ out.old.items ++ line values.now) }
 {
@@ -97,7 +97,7 @@ pub fn write_row(values: &[Value], out: &mut Vec<u8>) -> Result<(), NoMemory>
 /// Adds the line of the block's row at a place, counted from 0: of the values at chosen columns, in the order of the
 /// choice. A column may be chosen twice.
 ///
-/// `NoMemory` where a growth was refused; a part of the line may have been added then.
+/// `NoMemory` where an allocation failed; a part of the line may have been added then.
 pub fn write_row_at(
     block: &Block,
     place: usize,
@@ -121,7 +121,7 @@ pub fn write_row_at(
 /// Adds the lines of the block's rows at these places, in this order: of each row the values at chosen columns, in
 /// the order of the choice.
 ///
-/// `NoMemory` where a growth was refused; a part of the lines may have been added then.
+/// `NoMemory` where an allocation failed; a part of the lines may have been added then.
 pub fn write_rows(
     block: &Block,
     order: &[u32],

@@ -47,7 +47,7 @@ fn escape_byte(byte: u8) -> u8
     }
 }
 
-// The byte that a backslash stands for with the bytes behind it, and how many of them it takes; none where they are
+// The byte that a backslash stands for with the bytes after it, and how many of them it takes; none where they are
 // no escape.
 fn escape(behind: &[u8]) -> Option<(u8, usize)>
     ensures value { option_map (byte_said behind.now) result ≡ escape_of behind.now }

@@ -105,7 +105,7 @@ module _ (types : List ColType) (lines : List ℕ) (ended : Bool) (text : List �
         few = omega arith;
       }
 
-  -- its values stand behind those of the columns
+  -- its values come after those of the columns
   pub lines_more : count < row_limit → (new : List Cells) → Ok new ≡ with_row columns (row_of_line (types_in columns) (count + 1) line) → KeepLines types lines ended rest new (count + 1)
   lines_more few new read =
       more_by few new (row_of_line types (count + 1) line) refl (subst (λ ts. Ok new ≡ with_row columns (row_of_line ts (count + 1) line)) kept.typed read)

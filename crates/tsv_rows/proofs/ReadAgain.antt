@@ -133,12 +133,12 @@ value_again (value.Text bytes) is =
 
 -- ---- fields in a line
 
--- bytes in front of the first of some fields
+-- bytes before the first of some fields
 abbrev pub onto_front : List ℕ → List (List ℕ) → List (List ℕ)
 onto_front front [] = []
 onto_front front (f ∷ fs) = (front ++ f) ∷ fs
 
--- bytes that end neither a field nor a line, and that take no byte behind them
+-- bytes that end neither a field nor a line, and that take no byte after them
 pub record IsCalm (bytes : List ℕ) : Type 0 where
   pub in_fields : (rest : List ℕ) → fields_from false (bytes ++ rest) ≡ onto_front bytes (fields_from false rest)
   pub in_line : (rest : List ℕ) → line_from false (bytes ++ rest) ≡ parted bytes (line_from false rest)
@@ -224,7 +224,7 @@ calm_text : (bytes : List ℕ) → IsCalm (flat_map escaped bytes)
 calm_text [] = calm_none
 calm_text (b ∷ bs) = calm_append (escaped b) (flat_map escaped bs) (calm_escaped b) (calm_text bs)
 
--- a printed field ends neither a field nor a line, and takes no byte behind it
+-- a printed field ends neither a field nor a line, and takes no byte after it
 calm_field : (v : Value) → IsValue v → IsCalm (field v)
 calm_field (value.UInt8 n) is = calm_decimal n (omega arith)
 calm_field (value.UInt16 n) is = calm_decimal n (omega arith)
@@ -248,7 +248,7 @@ fields_again (v ∷ w ∷ vs) are some =
     let calm = calm_field v (All-head IsValue v (w ∷ vs) are) in
     calm.in_fields (9 ∷ fields (w ∷ vs)) ∙ ap₂ (λ f fs. f ∷ fs) (append-nil (field v)) (fields_again (w ∷ vs) (All-tail IsValue v (w ∷ vs) are) (omega arith))
 
--- it goes on up to what ends the line behind it
+-- it goes on up to what ends the line after it
 line_on : (row : Row) (rest : List ℕ) → All IsValue row → line_from false (fields row ++ rest) ≡ parted (fields row) (line_from false rest)
 line_on [] rest are = sym (parted_none (line_from false rest))
 line_on (v ∷ []) rest are = let calm = calm_field v (All-head IsValue v [] are) in calm.in_line rest

@@ -8,7 +8,7 @@ ghost use Rattle.mt_values.specs.Script.{ends_data, line_from};
 ghost use Rattle.mt_values.specs.Values.{AreValues, IsValue, Row, types_of};
 
 /// Rows that were printed are read again. A row with a value at least, of values that columns may hold, is the row
-/// that its line is, without its line feed. Whatever stands behind its line, the line ends at its own line feed, and it
+/// that its line is, without its line feed. Whatever comes after its line, the line ends at its own line feed, and it
 /// is not the one that ends data. And the lines of rows of one table are the data that adds those rows.
 pub fn printed_rows_are_read()
     ensures row { (types : List ColType) (row : Row) (number : ℕ) → types_of row ≡ types → All IsValue row → 0 < length row → row_of_line types number (fields row) ≡ Ok row }

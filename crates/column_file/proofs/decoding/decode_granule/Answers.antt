@@ -7,7 +7,7 @@ use Rattle.byte_numbers.specs.declared.faults.FormatFault.{FormatFault}
 use Rattle.byte_numbers.specs.declared.faults.FormatFault.TheVariants.{NoMemory}
 use Rattle.column_file.proofs.decoding.decode_granule.Goals as goal
 
--- the values of a column, each by itself, or want of memory
+-- the values of a column, each by itself, or out of memory
 module _ (t : ColType) (count : ℕ) (bytes : List ℕ) (values : List Value) where
   told : (r : Result (Vec Value Global) FormatFault) → MatchResult r (λ v. v.items ≡ values) (λ e. e ≡ NoMemory) → IsSpelling t count bytes values → IfOk r (λ v. IsSpelling t count bytes v.items)
   told (Ok v) is spelling = subst (IsSpelling t count bytes) (sym is) spelling

@@ -30,7 +30,7 @@ loop-granule-preserved c =
           c.in_ok-push_cells.ensures.bytes c.in_ok-push_cells.ensures.encodable (c.in_ok-push.ensures.ok ∙ ap (λ n. c.loop-granule.marks ++ n ∷ []) c.len-begun.ensures);
     }
 
--- want of memory
+-- out of memory
 pub returns-in_err-bytes : goal.returns-in_err-bytes
 returns-in_err-bytes c = let p = err_from_is_err_and c.from_residual.result c.from_residual.ensures.1 in rw p.1 (record { bytes = tt; marks = tt; encodable = tt })
 

@@ -1,4 +1,4 @@
--- the names in front of the place were gone over, and the disk tells the same
+-- the names before the place were gone over, and the disk tells the same
 use Rattle.std.proofs.Common.{◌≡◌, Some, take}
 use Rattle.mt_outside.specs.Disk.{Told, names_of}
 use Rattle.root_opening.specs.Keeping.{Keeps, KeepsTold}

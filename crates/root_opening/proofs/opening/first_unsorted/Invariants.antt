@@ -1,4 +1,4 @@
--- of the names in front of the place, each stands below the next one
+-- of the names before the place, each stands below the next one
 use Rattle.std.proofs.Common.{◌≡◌, ◌+◌, ◌<◌, ◌≤◌, List, ℕ, get_or}
 use Rattle.std.specs.Cmp.Lexicographic.{slice_cmp}
 use Rattle.std.specs.Ordering.{nat_cmp}

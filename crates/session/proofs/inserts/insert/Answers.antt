@@ -224,7 +224,7 @@ returns-then-is_empty-clause-gains g c = inl refl
 pub returns-in-Err-clause-gains : goal.returns-in-Err-clause-gains
 returns-in-Err-clause-gains g c = inl refl
 
--- the command of a block, as it reads for the table of the store
+-- the command of a block, as listed for the table of the store
 by_rows : {F : Type 0} (store : CoreStore F) (text : InsertText) (found : Table) (block : Grid) → table_at store text.table ≡ Some found → 0 < length block.rows
     → inserted_rows (column_types found.schema) text.lines text.ended ≡ Ok block.rows → block.types ≡ column_types found.schema
     → commands_over (schemas_in store) (statement.Insert text) ≡ Ok (inserted found.schema text.table block ∷ [])

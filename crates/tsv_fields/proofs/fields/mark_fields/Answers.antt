@@ -5,7 +5,7 @@ use Rattle.mt_values.specs.Script.{takes_next}
 use Rattle.tsv_fields.proofs.Marking.{feed_told, marked_feed, marked_fields, marked_more, marked_none, marked_tab, marked_whole, whole_fields}
 use Rattle.tsv_fields.proofs.fields.mark_fields.Goals as goal
 
--- want of memory
+-- out of memory
 pub returns-in_err-push : goal.returns-in_err-push
 returns-in_err-push c = let p = err_from_is_err_and c.from_residual.result c.from_residual.ensures.1 in rw p.1 (record { line = tt; within = tt; fields = tt })
 

@@ -5,7 +5,7 @@ use Rattle.mt_values.specs.Printing.{field}
 use Rattle.tsv_fields.proofs.Printed.{printed_push}
 use Rattle.tsv_fields.proofs.printing.write_row.Goals as goal
 
--- want of memory
+-- out of memory
 pub returns-in_err-write_tab : goal.returns-in_err-write_tab
 returns-in_err-write_tab c = let p = err_from_is_err_and c.from_residual.result c.from_residual.ensures.1 in rw p.1 tt
 

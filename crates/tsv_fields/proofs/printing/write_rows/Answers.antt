@@ -7,7 +7,7 @@ use Rattle.mt_values.specs.Values.{Row}
 use Rattle.tsv_fields.proofs.Printed.{joined, lines_of_more}
 use Rattle.tsv_fields.proofs.printing.write_rows.Goals as goal
 
--- want of memory
+-- out of memory
 pub returns-in_err-write_row_at : goal.returns-in_err-write_row_at
 returns-in_err-write_row_at c = let p = err_from_is_err_and c.from_residual.result c.from_residual.ensures.1 in rw p.1 tt
 

@@ -3,7 +3,7 @@ use Rattle.std.proofs.lemmas.Result.{err_from_is_err_and}
 use Rattle.tsv_fields.proofs.Printed.{run_ends, run_goes_on, run_last}
 use Rattle.tsv_fields.proofs.printing.write_text.Goals as goal
 
--- want of memory
+-- out of memory
 pub returns-in_err-extend_from_slice : goal.returns-in_err-extend_from_slice
 returns-in_err-extend_from_slice c = let p = err_from_is_err_and c.from_residual.result c.from_residual.ensures.1 in rw p.1 tt
 

@@ -7,7 +7,7 @@ use Rattle.tsv_fields.proofs.Unescaping.{run_ends, escape_refused, escape_read}
 use Rattle.tsv_fields.proofs.texts.unescape.Goals as goal
 use Rattle.tsv_fields.proofs.texts.unescape.Goals.{In_ok-extend_from_slice}
 
--- want of memory
+-- out of memory
 pub returns-in_err-extend_from_slice : goal.returns-in_err-extend_from_slice
 returns-in_err-extend_from_slice c = let p = err_from_is_err_and c.from_residual.result c.from_residual.ensures.1 in rw p.1 tt
 

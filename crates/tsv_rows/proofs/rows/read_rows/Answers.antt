@@ -16,7 +16,7 @@ use Rattle.tsv_rows.proofs.rows.read_rows.Goals.{In-Some, In_default, After-of_c
 written_whole : {X : Type 0} (new old : List X) (n : ℕ) → length new ≡ length old → n ≡ length new → take n (new ++ drop (length new) old) ≡ new
 written_whole new old n same all = ap (λ rest. take n (new ++ rest)) (drop_all (length new) old (omega arith)) ∙ ap (take n) (append-nil new) ∙ take_all n new (omega arith)
 
--- the line that was found, and what stands behind it
+-- the line that was found, and what comes after it
 found : (c : In-Some) → Some (take c.in-Some.len (drop c.lines.at c.args.lines.now), drop (c.in-Some.len + 1) (drop c.lines.at c.args.lines.now)) ≡ line_from false (drop c.lines.at c.args.lines.now)
 found c = rw (take_rest, c.in-Some.is) at c.in_ok-len.ensures.line
 
