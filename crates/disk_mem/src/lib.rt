@@ -11,11 +11,11 @@ mod root;
 
 pub use annals::{CountedAnnals, KeptAnnals};
 pub use arm::MemArm;
-pub use fault_plan::{CallKind, Listed};
-pub use fault_plan::{
-    images_are_reached_by_choices, images_are_started_again, images_of_an_image_are_images,
-};
 pub use disk::MemDisk;
+pub use fault_plan::{
+    CallKind, Listed, images_are_reached_by_choices, images_are_started_again,
+    images_of_an_image_are_images,
+};
 pub use folder::{MemDir, MemStage};
 pub use mt_outside::OpenGate;
 pub use outside_streams::{MemSink, MemSource};

@@ -1,4 +1,5 @@
-//! Which calls of an object of the outside are to fail, and how many have failed.
+//! What fails and what is lost in memory: which calls of an object of the outside are to fail, how many have failed, and what a choice
+//! makes of a crash. The laws say it in the sentences that a user would check.
 #![tactic(auto)]
 
 mod files;

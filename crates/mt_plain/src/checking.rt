@@ -5,9 +5,9 @@ ghost use Rattle.mt_model.specs.Script.{ScriptRun};
 ghost use Rattle.mt_plain.specs.Plain.{calm};
 
 use super::running::run;
+use crate::{same_blocks, same_creates};
 use mt_base::NoMemory;
 use mt_values::{Cause, Command, Entry, Insert, Statement};
-use crate::{same_blocks, same_creates};
 use std::alloc::Global;
 
 /// Whether a script without a history before it, over an outside without faults, may have left this history and printed

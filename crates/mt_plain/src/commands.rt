@@ -7,12 +7,12 @@ ghost use Rattle.mt_model.specs.History as history;
 ghost use Rattle.mt_model.specs.Reply as reply;
 ghost use Rattle.mt_plain.specs.Plain.{MayCome};
 
+use crate::{partitions_of, read_block, rows_in, rows_of, schema_of};
 use mt_base::{NoMemory, Twin};
 use mt_model::{Refusal, resolve};
 use mt_values::{
     Block, Command, Create, CreateText, Entry, Insert, InsertText, Name, Partition, Row, Schema,
 };
-use crate::{partitions_of, read_block, rows_in, rows_of, schema_of};
 use std::alloc::Global;
 
 /// The command of a CREATE, or why its text refuses it.

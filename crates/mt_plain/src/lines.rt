@@ -3,9 +3,9 @@ ghost use Rattle.std.specs.Prelude.{IfOk};
 ghost use Rattle.mt_model.specs.Answer.{Prints};
 
 use super::sorting::sorted_rows;
+use crate::{Order, all_lines};
 use mt_base::NoMemory;
 use mt_values::{Bytes, Row};
-use crate::{Order, all_lines};
 use std::alloc::Global;
 
 /// The rows' lines, sorted by the columns from left to right.

@@ -3,9 +3,9 @@ ghost use Rattle.std.specs.Prelude.{◌≡◌, ◌++◌, IfOk, OnOk};
 ghost use Rattle.mt_model.specs.Live.{live, rows_after};
 
 use super::sorting::sorted_rows;
+use crate::{Order, rows_of};
 use mt_base::NoMemory;
 use mt_values::{Command, Entry, Name, Row, Schema};
-use crate::{Order, rows_of};
 use std::alloc::Global;
 
 /// The rows of a table of this schema after all commands.

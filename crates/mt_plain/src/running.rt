@@ -11,10 +11,10 @@ ghost use Rattle.mt_plain.specs.Plain.{Grows, TookTurns, calm};
 use super::commands::{create_commands, insert_commands};
 use super::selecting::answer;
 use super::turns::accept;
+use crate::{rows_reply, schema_of};
 use mt_base::{NoMemory, Twin};
 use mt_model::{Refusal, ok_line, refusal_line};
 use mt_values::{Cause, Command, CreateText, Entry, InsertText, SelectText, Statement};
-use crate::{rows_reply, schema_of};
 use std::alloc::Global;
 
 /// The accepted commands of a run, and what it printed.

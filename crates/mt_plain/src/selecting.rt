@@ -5,10 +5,10 @@ ghost use Rattle.mt_model.specs.Reply.{selected_places};
 
 use super::lines::lines_of;
 use super::live::live_rows;
+use crate::picked_rows;
 use mt_base::NoMemory;
 use mt_model::{Refusal, selected_columns};
 use mt_values::{Bytes, Entry, Schema, SelectText};
-use crate::picked_rows;
 use std::alloc::Global;
 
 /// The lines of a SELECT from a table of this schema, or the first name of it that is no column's.

@@ -5,10 +5,10 @@ ghost use Rattle.mt_model.specs.Numbers as numbers;
 ghost use Rattle.mt_model.specs.Reply as reply;
 ghost use Rattle.mt_plain.specs.Plain.{Grows, after_turns, unmerged_turn};
 
+use crate::{creates, enter, inserts, last_number, schema_of};
 use mt_base::{NUMBER_LIMIT, NoMemory, PART_LIMIT, TABLE_LIMIT, Twin};
 use mt_model::{Bound, Refusal, Room};
 use mt_values::{Command, Entry, Insert, Name};
-use crate::{creates, enter, inserts, last_number, schema_of};
 use std::alloc::Global;
 
 /// Accepts commands of session 0 at the end of a history, each at its turn, up to the first that is refused, and says why

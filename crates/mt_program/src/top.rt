@@ -19,9 +19,9 @@ ghost use Rattle.mt_program.specs.Worlds.{Starts, World};
 ghost use Rattle.run_streams.specs.Streams.{ConsumesMost};
 ghost use Rattle.run_streams.specs.Words.{is_command};
 
+use crate::Status;
 use crate::refusals::damage_line;
 use crate::serving::{Ending, serve};
-use crate::Status;
 use mt_outside::{Arm, Disk, DiskError, Gate, Sink, Source};
 use mt_values::Annals;
 use root_log::{CoreStore, Damage, OpenFault, open};

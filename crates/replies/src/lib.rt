@@ -2,14 +2,14 @@
 //! before its commit. What replies told, and how they are written.
 #![tactic(auto)]
 
+mod forming;
 mod lines;
 mod printing;
-mod forming;
 mod tally;
 mod writing;
 
+pub use forming::{Replies, replies_behind};
 pub use lines::{damaged, data_line, failed_line, no_table_line, stage_line, unsettled_line};
 pub use printing::print;
-pub use forming::{Replies, replies_behind};
 pub use tally::{Tally, reply_code};
 pub use writing::write_reply;

@@ -11,11 +11,10 @@ ghost use Rattle.root_store.specs.Entries.{EntryHolds};
 ghost use Rattle.root_opening.specs.Keeping.{IsDamageOf, IsRead, TellsFile};
 ghost use Rattle.root_store.specs.Roots.{HasFolder};
 
-use crate::{Damage, OpenFault, open_entry};
+use crate::{Damage, OpenFault, check_files, open_entry};
 use mt_base::{Partition, Twin};
 use mt_outside::{Arm, Disk};
 use mt_values::{FileId, Name, Schema};
-use crate::check_files;
 use part_reader::{Part, PartFault};
 use part_set::TablePart;
 use std::alloc::Global;

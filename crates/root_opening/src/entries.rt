@@ -78,7 +78,13 @@ fn schema_in(
     ensures { IfOk result (λ found. found ≡ schema_by_items table.now text.now (statements_of script.now)) }
 {
     match next_statement(alloc, script, true) {
-        Next::Found(statement, used) => schema_alone(alloc, table, text, &statement, &script[used..]),
+        Next::Found(statement, used) => schema_alone(
+            alloc,
+            table,
+            text,
+            &statement,
+            &script[used..],
+        ),
         Next::Refused(_, _) => Ok(None),
         Next::End => Ok(None),
         Next::NeedMore => unreachable!(),

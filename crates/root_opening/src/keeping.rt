@@ -21,12 +21,11 @@ ghost use Rattle.root_opening.specs.Opening.{TellsDamage};
 ghost use Rattle.root_store.specs.Soundness.{IsSound};
 ghost use Rattle.root_store.specs.Stores.{StoreOf, table_at};
 
-use crate::OpenFault;
 use crate::checking::{check_table, check_table_part};
+use crate::{OpenFault, Root, commands_of, shows};
 use mt_base::NoMemory;
 use mt_outside::{Arm, Disk};
 use mt_values::Name;
-use crate::{Root, commands_of, shows};
 use part_set::{RootName, TablePart};
 use root_store::{CoreStore, Table, put_table};
 use std::alloc::Global;

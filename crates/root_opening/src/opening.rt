@@ -20,11 +20,10 @@ ghost use Rattle.root_store.specs.Soundness.{HasSoundParts, IsSound, NamesFit};
 ghost use Rattle.root_store.specs.Stores.{CoreStands, StoreOf};
 
 use crate::keeping::keep_root;
-use crate::{NameFault, read_names};
+use crate::{NameFault, Root, read_names, settle};
 use mt_base::{NoMemory, Twin};
 use mt_outside::{Arm, Disk, DiskError};
 use mt_values::{FileId, Name};
-use crate::{Root, settle};
 use part_set::{RootName, SetFault, visible};
 use root_store::CoreStore;
 use std::alloc::Global;

@@ -58,9 +58,10 @@ statement_gives table text schema (statement.Select s) is = absurd cc
 statement_gives table text schema (statement.Create c) is = by (same_bytes c.table table) (same_bytes c.text text) refl refl is
   where
     by : (a b : Bool) → same_bytes c.table table ≡ a → same_bytes c.text text ≡ b → cond (a && b) (result_ok (schema_of_text c)) None ≡ Some schema → IsFound table text schema (statement.Create c)
-    by true true same spelled found =
-        (ap (create_commands c.table) (ok_is (schema_of_text c) schema found) ∙ ap (λ (t : List ℕ). Ok (create_of t schema ∷ [])) (same_is c.table table same)
-        , ap Some (same_is c.text text spelled))
+    by true true same spelled found = (
+      ap (create_commands c.table) (ok_is (schema_of_text c) schema found) ∙ ap (λ (t : List ℕ). Ok (create_of t schema ∷ [])) (same_is c.table table same),
+      ap Some (same_is c.text text spelled),
+    )
     by true false same other none = absurd cc
     by false b other spelled none = absurd cc
 

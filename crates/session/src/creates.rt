@@ -13,6 +13,7 @@ ghost use Rattle.replies.specs.Causes.{HasCauses};
 ghost use Rattle.replies.specs.Foreseen.{history};
 
 use crate::stopped::{ACCEPTED_BEFORE, refused_line};
+use crate::{give_back, seal_entry};
 use mt_base::{NoMemory, Twin};
 use mt_model::{refusal_line, resolve};
 use mt_outside::{Arm, Disk};
@@ -20,7 +21,6 @@ use mt_values::{Annals, Create, CreateText};
 use replies::{replies_behind, stage_line};
 use root_commits::{Returned, commit_create};
 use root_store::CoreStore;
-use crate::{give_back, seal_entry};
 use std::alloc::Global;
 
 /// Makes a table, unless the CREATE is refused. All memory is taken before the commit.

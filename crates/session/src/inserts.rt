@@ -17,6 +17,7 @@ ghost use Rattle.replies.specs.Causes.{HasCauses};
 ghost use Rattle.replies.specs.Foreseen.{history};
 
 use crate::stopped::{ACCEPTED_BEFORE, refused_line};
+use crate::{give_back, read_block};
 use mt_base::{NoMemory, Stop};
 use mt_model::ok_line;
 use mt_outside::{Arm, Disk, DiskError};
@@ -25,7 +26,6 @@ use part_writer::{SealedPart, write_part};
 use replies::{data_line, no_table_line, replies_behind, stage_line};
 use root_commits::{Returned, commit_part};
 use root_store::CoreStore;
-use crate::{give_back, read_block};
 use std::alloc::Global;
 
 /// The files of a block as a part of a table, sealed: its rows in the order of the key, those of equal keys as they came.

@@ -12,6 +12,7 @@ ghost use Rattle.session.specs.Selects.{TellsOfDamage};
 ghost use Rattle.replies.specs.Foreseen.{Selected};
 ghost use Rattle.session.specs.Scans.{rows_kept};
 
+use crate::{count_rows, empty_columns, read_parts};
 use mt_base::NoMemory;
 use mt_model::{refusal_line, selected_columns};
 use mt_outside::{Arm, DiskError, Gate, Point, Who};
@@ -19,7 +20,6 @@ use mt_values::SelectText;
 use part_reader::PartFault;
 use replies::{damaged, failed_line, no_table_line, print, stage_line};
 use root_store::{CoreStore, Table};
-use crate::{count_rows, empty_columns, read_parts};
 use std::alloc::Global;
 
 /// The rows of a table, so many, of the columns at these places, which are the selected ones.
