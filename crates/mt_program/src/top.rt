@@ -17,7 +17,7 @@ ghost use Rattle.mt_program.specs.Headline.{Headline, HeadlineBy};
 ghost use Rattle.mt_program.specs.Promises.{IsComplete, IsUntouched, OfCrashes, OfDamage, OfFolder, Promises};
 ghost use Rattle.mt_program.specs.Worlds.{Starts, World};
 ghost use Rattle.run_streams.specs.Streams.{ConsumesMost};
-ghost use Rattle.run_streams.specs.Words.{is_command};
+ghost use Rattle.run_streams.specs.Words.{is_command, path_of};
 
 use crate::Status;
 use crate::refusals::damage_line;
@@ -291,6 +291,15 @@ fn run_opened<D: Disk, A: Annals, S: Source, K: Sink, G: Gate>(
     status_at_end(ended, opened < disk.faults())
 }
 
+/// The folder that a command line names.
+#[tactic(auto, using(crate::proofs::Folder::third_word))]
+fn folder_of(words: &[String]) -> &str
+    requires { is_command words.now ≡ true }
+    ensures { result.now ≡ path_of words.now }
+{
+    &words[2]
+}
+
 /// Looks at the words, and runs the script where they are a command line.
 fn run_words<D: Disk, A: Annals, S: Source, K: Sink, G: Gate>(
     alloc: Global,
@@ -422,7 +431,7 @@ fn run_words<D: Disk, A: Annals, S: Source, K: Sink, G: Gate>(
     }
     let mut disk = disk;
     let mut annals = annals;
-    let path = &words[2];
+    let path = folder_of(words);
     let ended = run_opened(alloc, path, source, sink, &mut disk, &mut annals, gate);
     let status = ended.number();
     Done {

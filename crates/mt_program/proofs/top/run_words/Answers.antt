@@ -6,7 +6,6 @@ use Rattle.mt_program.specs.Worlds.{World}
 use Rattle.run_streams.specs.Words.{is_command}
 use Rattle.mt_program.proofs.Completing.{none_refused, not_too_long, zero_or_six}
 use Rattle.mt_program.proofs.Crashing.{nothing_of_script}
-use Rattle.mt_program.proofs.Folder.{third_word}
 use Rattle.mt_program.proofs.Heading.{by_status, nothing_leaves, same_number, at_most_one_is}
 use Rattle.mt_program.proofs.top.run_words.Goals as goal
 
@@ -99,8 +98,7 @@ returns-then-not-is_command_line-clause-folder g c = inr (record { started = ref
 pub returns-clause-folder : goal.returns-clause-folder
 returns-clause-folder g c =
     let command : is_command c.args.words.now ≡ true = search rules in
-    let at = third_word c.args.words.now c.index-words-2.result command c.index-words-2.is in
     elim c.run_opened-ended.ensures.folder [
-      | inl started ↦ inl (record { command = command; started = started ∙ ap Some (c.deref.ensures ∙ at) })
+      | inl started ↦ inl (record { command = command; started = started ∙ ap Some c.folder_of-path.ensures })
       | inr same ↦ inr same
     ]
