@@ -1,9 +1,7 @@
 -- What a command that was given to a commit, or was not, did to what is known of annals, to the store and to the disk.
 use Rattle.std.proofs.Common.{◌≡◌, ◌⊎◌, inl, inr, ℕ, ◌<◌, ◌≤◌, List, [], ◌∷◌, ap, ◌∙◌, arith, Option, Some, None, Ok, IfSome, Bool, true, false, cond, is_some, nat_le, nat_lt, length, refl, subst, sym}
 use Rattle.std.specs.Prelude.{IsNone}
-use Rattle.std.specs.List.{Contains as HasItem}
 use Rattle.std.specs.Option.{option_map}
-use Rattle.std.proofs.lemmas.List.Elements.{Contains-get_or}
 use Rattle.mt_base.specs.declared.partition.Partition.{Partition}
 use Rattle.mt_model.specs.Commands.{commands_of}
 use Rattle.mt_outside.specs.Causes.{Rose}
@@ -15,7 +13,7 @@ use Rattle.part_set.specs.Sets.{parts_of}
 use Rattle.durable_commit.specs.declared.causes.Limit.TheVariants as limit
 use Rattle.durable_commit.specs.declared.causes.Refused.{Refused}
 use Rattle.durable_commit.specs.declared.causes.Refused.TheVariants as refused
-use Rattle.durable_commit.specs.Commits.{IsOutside, Notes, entry_of}
+use Rattle.durable_commit.specs.Commits.{IsOutside, entry_of}
 use Rattle.root_store.specs.declared.store.CoreStore.{CoreStore}
 use Rattle.root_store.specs.Stores.{table_at}
 use Rattle.root_commits.specs.Commits.{IsCause, SameStore, kept_in, refuses_create, refuses_part}
@@ -23,20 +21,6 @@ use Rattle.root_commits.proofs.Leaving.{shown_calm, shown_part_calm}
 use Rattle.replies.specs.Foreseen.{history, is_unsettled}
 use Rattle.session.specs.Answers.{AcceptsNothing, BeginsNext, IsBegun, Keeps}
 use Rattle.session.proofs.Accepting.{begins_first}
-use Rattle.session.specs.Gains.{Gains, commands_over, schemas_in}
-
--- the one item of a list
-one_item : {X : Type 0} (x : X) → HasItem (x ∷ []) x
-one_item x = Contains-get_or (x ∷ []) 0 x (omega arith)
-
-module _ {F : Type 0} (store : CoreStore F) (failed : ℕ) (said : Statement) (given : Command) (by : commands_over (schemas_in store) said ≡ Ok (given ∷ [])) (old new : Option Told) where
-  pub gains_noted : failed ≡ store.opened → (mark : ℕ) → Notes mark (entry_of 0 given) old new → Gains (Ok said) failed store old new
-  gains_noted still mark notes = inr (record { said = said; item_is = refl; commands = given ∷ []; gives = by; given = given; among = one_item given; still = still; annals = inr (mark, notes) })
-
-  -- what was sealed came back, or was given to the disk
-  pub gains_refused : {S : Type 0} (back : Option S) → IfSome back (λ _. new ≡ old) → (IsNone back → new ≡ option_map (began (entry_of 0 given)) old) → (IsNone back → failed ≡ store.opened) → Gains (Ok said) failed store old new
-  gains_refused None same begun still = inr (record { said = said; item_is = refl; commands = given ∷ []; gives = by; given = given; among = one_item given; still = still refl; annals = inl (begun refl) })
-  gains_refused (Some s) same begun still = inl same
 
 -- ---- a command is given to the disk only while its count of faults is the one at opening
 

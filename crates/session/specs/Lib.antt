@@ -1,5 +1,4 @@
 pub mod Answers
-pub mod Gains
 pub mod Scans
 pub mod Selects
 pub mod Staged

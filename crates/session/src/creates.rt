@@ -8,7 +8,6 @@ ghost use Rattle.root_store.specs.Crashes.{KeepsThroughCrashes, Storage};
 ghost use Rattle.root_store.specs.Soundness.{HasSoundParts, IsReady};
 ghost use Rattle.root_store.specs.Stores.{CoreStands};
 ghost use Rattle.session.specs.Answers.{AcceptsNothing, Answers};
-ghost use Rattle.session.specs.Gains.{Gains};
 ghost use Rattle.replies.specs.Causes.{HasCauses};
 ghost use Rattle.replies.specs.Foreseen.{history};
 
@@ -38,7 +37,6 @@ pub fn create<D: Disk, A: Annals>(
     requires ready { IsReady (D.failed disk.old) (D.told disk.old) store.old }
     ensures answers { (kept : Told) → A.told annals.old ≡ Some kept → D.Arm.tells arm.old ≡ true → CoreStands D.Arm.Dir.files (history kept) store.old
         → Answers D.Arm.Dir.files kept (Ok (statement.Create text.now)) store.old.opened (D.failed disk.new) (D.Arm.failed arm.new) result store.new (A.told annals.new) (D.told disk.old) (D.told disk.new) }
-    ensures gains { Gains (Ok (statement.Create text.now)) (D.failed disk.old) store.old (A.told annals.old) (A.told annals.new) }
     ensures causes { IfOk result (λ reply. HasCauses store.old.opened (D.failed disk.old) (D.failed disk.new) (D.Arm.failed arm.old) (D.Arm.failed arm.new) reply.items) }
     ensures stopped { store.old.opened < D.failed disk.old → AcceptsNothing store.old store.new disk.old disk.new (A.told annals.old) (A.told annals.new) }
     ensures through_crashes { let was : Storage = record { disk = D.told disk.old; clock = D.clock disk.old; failed = D.failed disk.old; annals = A.told annals.old } in

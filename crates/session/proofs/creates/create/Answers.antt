@@ -1,5 +1,5 @@
 use Rattle.std.proofs.lemmas.Result.{IfErr-weaker, IfOk-weaker}
-use Rattle.std.proofs.Common.{◌≡◌, inl, ◌<◌, ◌^◌, ◌++◌, ◌∷◌, [], List, ℕ, Some, None, Ok, Err, length, refl, sym, ap, ◌∙◌, subst, arith}
+use Rattle.std.proofs.Common.{◌≡◌, ◌<◌, ◌^◌, ◌++◌, ◌∷◌, [], List, ℕ, Some, None, Ok, Err, length, refl, sym, ap, ◌∙◌, subst, arith}
 use Rattle.std.specs.Option.{option_map}
 use Rattle.mt_values.specs.declared.command.Command.TheVariants as command
 use Rattle.mt_values.specs.declared.statement.Statement.TheVariants as statement
@@ -19,7 +19,7 @@ use Rattle.session.specs.Staged.{entry_files}
 use Rattle.session.proofs.Accepting.{answered_nothing, answers_kept, answers_line, in_any_case, nothing_accepted}
 use Rattle.session.proofs.Creating.{create_gives, created, created_accepts, entry_holds, turn_free}
 use Rattle.replies.proofs.Refusing.{command_failed, command_refused}
-use Rattle.session.proofs.Gaining.{begun_refused, create_failed, gains_noted, gains_refused, keeps_refused, leaves_told, stays_refused, still_created, still_refused}
+use Rattle.session.proofs.Gaining.{begun_refused, create_failed, keeps_refused, leaves_told, stays_refused, still_created, still_refused}
 use Rattle.root_commits.proofs.SameStores.{stands_same}
 use Rattle.root_commits.proofs.Turning.{AfterRefusal, after_refusal}
 use Rattle.root_commits.specs.Turns.{storage, turn_of_create}
@@ -160,46 +160,6 @@ returns-in-Err-commit_create-clause-through_crashes g c = λ first start tells k
     let few = subst (λ (t : List ℕ). length t < 2 ^ 32) c.as_slice.ensures c.in-Ok-seal_entry.ensures.few in
     let holds = subst (λ (t : List ℕ). EntryHolds t schema (entry_files text.text)) (sym c.in_ok-table.ensures) (entry_holds text schema c.requires.written says few) in
     c.commit_create.ensures.through_crashes first start (record { files = entry_files text.text; sealed_are = c.in-Ok-seal_entry.ensures.files tells ∙ ap (λ (t : List ℕ). Some (entry_files t)) c.as_slice.ensures; holds = holds }) keeps
-
--- what is known of annals
-pub returns-in-Err-clause-gains : goal.returns-in-Err-clause-gains
-returns-in-Err-clause-gains g c = inl refl
-
-pub returns-in-Err-seal_entry-clause-gains : goal.returns-in-Err-seal_entry-clause-gains
-returns-in-Err-seal_entry-clause-gains g c = inl refl
-
-pub returns-in-Ok-commit_create-clause-gains : goal.returns-in-Ok-commit_create-clause-gains
-returns-in-Ok-commit_create-clause-gains g c =
-    let store = c.args.store.now in
-    let text = c.args.text.now in
-    let name = c.in_ok-table.ensures in
-    let done = c.in-Ok-commit_create.ensures in
-    let before = g.D.Disk.failed c.args.disk.now in
-    let mark = g.D.Disk.clock c.commit_create.new.disk in
-    let old = g.A.Annals.told c.args.annals.now in
-    let new = g.A.Annals.told c.commit_create.new.annals in
-    let says = sym c.in_ok-resolved.ensures ∙ c.in-Ok.is in
-    let by = λ (t : List ℕ). command.Create (record { table = t; schema = c.in-Ok.schema }) in
-    gains_noted store before (statement.Create text) (by text.table) (ap (create_commands text.table) says) old new
-    (still_created store text.table before c.requires.ready.opened (subst (λ (t : List ℕ). IsCause (refuses_create store t before) None) name done.cause))
-    mark (subst (λ (t : List ℕ). Notes mark (entry_of 0 (by t)) old new) name done.turn.annals)
-
-pub returns-in-Err-commit_create-clause-gains : goal.returns-in-Err-commit_create-clause-gains
-returns-in-Err-commit_create-clause-gains g c =
-    let store = c.args.store.now in
-    let text = c.args.text.now in
-    let name = c.in_ok-table.ensures in
-    let ended = c.in-Err-commit_create.ensures in
-    let after = after_refused g c in
-    let cause = c.in-Err-commit_create.field-0.cause in
-    let before = g.D.Disk.failed c.args.disk.now in
-    let old = g.A.Annals.told c.args.annals.now in
-    let new = g.A.Annals.told c.commit_create.new.annals in
-    let says = sym c.in_ok-resolved.ensures ∙ c.in-Ok.is in
-    let by = λ (t : List ℕ). command.Create (record { table = t; schema = c.in-Ok.schema }) in
-    gains_refused store before (statement.Create text) (by text.table) (ap (create_commands text.table) says) old new c.in-Err-commit_create.field-0.back after.list_back
-    (λ none. subst (λ (t : List ℕ). new ≡ option_map (began (entry_of 0 (by t))) old) name (after.begun none))
-    (λ none. still_refused store text.table before c.requires.ready.opened cause (subst (λ (t : List ℕ). IsCause (refuses_create store t before) (Some cause)) name ended.cause) (after.given none))
 
 -- what the outside did where the reply says so
 pub returns-in-Err-clause-causes : goal.returns-in-Err-clause-causes

@@ -17,7 +17,6 @@ use Rattle.mt_model.specs.Commands.{commands_for}
 use Rattle.mt_model.specs.Numbers.{last_number}
 use Rattle.mt_model.specs.Refusals.{is_damage, refusal_line, refusal_of_data}
 use Rattle.mt_model.specs.Reply.{ok_line}
-use Rattle.root_store.specs.declared.store.CoreStore.{CoreStore}
 use Rattle.root_store.specs.declared.store.Table.{Table}
 use Rattle.root_commits.specs.Commits.{insert_into, kept_in, partition_of_block}
 use Rattle.root_store.specs.Stores.{table_at}
@@ -26,8 +25,7 @@ use Rattle.session.proofs.Accepting.{accepted_none, answered_nothing, answers_ke
 use Rattle.replies.proofs.Ends.{length_history}
 use Rattle.session.proofs.Inserting.{data_is_cause, inserted, inserted_accepts, no_rows, no_such_table, not_empty, rows_give, rows_refused, turn_free}
 use Rattle.replies.proofs.Refusing.{command_failed, command_refused}
-use Rattle.session.specs.Gains.{commands_over, schemas_in}
-use Rattle.session.proofs.Gaining.{begun_refused, gains_noted, gains_refused, keeps_refused, leaves_told, part_failed, stays_refused, still_added, still_part_refused}
+use Rattle.session.proofs.Gaining.{begun_refused, keeps_refused, leaves_told, part_failed, stays_refused, still_added, still_part_refused}
 use Rattle.root_commits.proofs.SameStores.{stands_same}
 use Rattle.root_commits.proofs.Turning.{AfterRefusal, after_refusal}
 use Rattle.root_commits.specs.Turns.{storage, turn_of_part}
@@ -210,56 +208,6 @@ returns-in-Ok-commit_part-clause-through_crashes g c = λ first start tells keep
 pub returns-in-Err-commit_part-clause-through_crashes : goal.returns-in-Err-commit_part-clause-through_crashes
 returns-in-Err-commit_part-clause-through_crashes g c = λ first start tells keeps.
     c.commit_part.ensures.through_crashes c.in-Some.found.now first start (sym c.in-Some.ensures.value) (c.in-Ok-seal_block.ensures.sealed tells) keeps
-
--- what is known of annals
-pub returns-in_default-clause-gains : goal.returns-in_default-clause-gains
-returns-in_default-clause-gains g c = inl refl
-
-pub returns-in-Err-Refused-clause-gains : goal.returns-in-Err-Refused-clause-gains
-returns-in-Err-Refused-clause-gains g c = inl refl
-
-pub returns-then-is_empty-clause-gains : goal.returns-then-is_empty-clause-gains
-returns-then-is_empty-clause-gains g c = inl refl
-
-pub returns-in-Err-clause-gains : goal.returns-in-Err-clause-gains
-returns-in-Err-clause-gains g c = inl refl
-
--- the command of a block, as listed for the table of the store
-by_rows : {F : Type 0} (store : CoreStore F) (text : InsertText) (found : Table) (block : Grid) → table_at store text.table ≡ Some found → 0 < length block.rows
-    → inserted_rows (column_types found.schema) text.lines text.ended ≡ Ok block.rows → block.types ≡ column_types found.schema
-    → commands_over (schemas_in store) (statement.Insert text) ≡ Ok (inserted found.schema text.table block ∷ [])
-by_rows store text found block at some read types =
-    ap (λ (o : Option Table). commands_for text (option_map (λ (t : Table). t.schema) o)) at ∙ rows_give text found.schema block read some types
-
-pub returns-in-Ok-commit_part-clause-gains : goal.returns-in-Ok-commit_part-clause-gains
-returns-in-Ok-commit_part-clause-gains g c =
-    let store = c.args.store.now in
-    let text = c.args.text.now in
-    let found = c.in-Some.found.now in
-    let block = c.in-Ok.block in
-    let at = sym c.in-Some.ensures.value in
-    let some = has_rows block.rows c.is_empty.result c.if-is_empty.false c.is_empty.ensures.1 in
-    let done = c.in-Ok-commit_part.ensures in
-    let before = g.D.Disk.failed c.args.disk.now in
-    gains_noted store before (statement.Insert text) (inserted found.schema text.table block) (by_rows store text found block at some c.in-Ok.ensures.rows c.in-Ok.ensures.types)
-    (g.A.Annals.told c.args.annals.now) (g.A.Annals.told c.commit_part.new.annals)
-    (still_added store text.table before c.requires.ready.opened (partition_of_block found.schema block) found.drawn (done.cause found at)) (g.D.Disk.clock c.commit_part.new.disk) (done.turn found at).annals
-
-pub returns-in-Err-commit_part-clause-gains : goal.returns-in-Err-commit_part-clause-gains
-returns-in-Err-commit_part-clause-gains g c =
-    let store = c.args.store.now in
-    let text = c.args.text.now in
-    let found = c.in-Some.found.now in
-    let block = c.in-Ok.block in
-    let at = sym c.in-Some.ensures.value in
-    let some = has_rows block.rows c.is_empty.result c.if-is_empty.false c.is_empty.ensures.1 in
-    let ended = c.in-Err-commit_part.ensures in
-    let after = after_refused g c in
-    let cause = c.in-Err-commit_part.field-0.cause in
-    let before = g.D.Disk.failed c.args.disk.now in
-    gains_refused store before (statement.Insert text) (inserted found.schema text.table block) (by_rows store text found block at some c.in-Ok.ensures.rows c.in-Ok.ensures.types)
-    (g.A.Annals.told c.args.annals.now) (g.A.Annals.told c.commit_part.new.annals) c.in-Err-commit_part.field-0.back after.list_back after.begun
-    (λ none. still_part_refused store text.table before c.requires.ready.opened (partition_of_block found.schema block) found.drawn cause (ended.cause found at) (after.given none))
 
 -- what the outside did where the reply says so
 pub returns-in_default-clause-causes : goal.returns-in_default-clause-causes
