@@ -27,16 +27,17 @@ pub fn push_leb128(bytes: &mut Bytes, number: u64) -> Result<(), NoMemory>
 ///
 /// `None` where they begin with no number's that is below 2^64.
 pub fn read_leb128(bytes: &[u8]) -> Option<(u64, usize)>
-    ensures { MatchOption result ((number : ℕ) (rest : List ℕ) → bytes.now ≡ leb128 number ++ rest → 2 ^ 64 ≤ number)
-        (λ p. Begins (leb128 p.0) p.1 bytes.now) }
+    ensures { MatchOption result ((number : ℕ) (rest : List ℕ) → bytes.now ≡ leb128 number ++ rest
+        → 2 ^ 64 ≤ number) (λ p. Begins (leb128 p.0) p.1 bytes.now) }
 {
     read_groups(bytes, 9)
 }
 
 /// The number of the groups that the bytes begin with, of which at most this many more follow the first.
 fn read_groups(bytes: &[u8], more: u32) -> Option<(u64, usize)>
-    ensures { MatchOption result ((number : ℕ) (rest : List ℕ) → bytes.now ≡ groups_within more number ++ rest → 2 ^ 64 ≤ number)
-        (λ p. Begins (groups_within more p.0) p.1 bytes.now) }
+    ensures { MatchOption result ((number : ℕ) (rest : List ℕ)
+        → bytes.now ≡ groups_within more number ++ rest
+        → 2 ^ 64 ≤ number) (λ p. Begins (groups_within more p.0) p.1 bytes.now) }
 {
     let (first, rest) = bytes.split_first()?;
     if *first < 128 || more == 0 {

@@ -49,8 +49,8 @@ fn push_text(bytes: &mut Bytes, text: &[u8]) -> Result<(), NoMemory>
 ///
 /// `None` where they begin with none.
 pub fn first_cell(col_type: ColType, bytes: &[u8]) -> Option<(Cell<'_>, usize)>
-    ensures { MatchOption result (NoneBegins col_type bytes.now)
-        (λ p. IsOfType col_type (value_of p.0) × Begins (value_bytes (value_of p.0)) p.1 bytes.now) }
+    ensures { MatchOption result (NoneBegins col_type bytes.now) (λ p. IsOfType col_type
+        (value_of p.0) × Begins (value_bytes (value_of p.0)) p.1 bytes.now) }
 {
     if bytes.len() < fewest_bytes(col_type) {
         return None;
@@ -72,8 +72,8 @@ pub fn first_cell(col_type: ColType, bytes: &[u8]) -> Option<(Cell<'_>, usize)>
 ///
 /// `None` where they begin with none.
 fn first_text(bytes: &[u8]) -> Option<(Cell<'_>, usize)>
-    ensures { MatchOption result (NoneBegins type.Text bytes.now)
-        (λ p. IsOfType type.Text (value_of p.0) × Begins (value_bytes (value_of p.0)) p.1 bytes.now) }
+    ensures { MatchOption result (NoneBegins type.Text bytes.now) (λ p. IsOfType type.Text
+        (value_of p.0) × Begins (value_bytes (value_of p.0)) p.1 bytes.now) }
 {
     let (count, head) = read_leb128(bytes)?;
     let behind = &bytes[head..];

@@ -14,8 +14,10 @@ use mt_values::ColType;
 ///
 /// `Malformed` where they spell no such values, at their first fault. It is never `NoMemory`.
 pub fn check_column(col_type: ColType, bytes: &[u8], count: usize) -> Result<(), FormatFault>
-    ensures exact { MatchResult result (λ _. Spells col_type count bytes.now) (Locates col_type count bytes.now) }
-    ensures spelled { (values : List Value) → IsSpelling col_type count bytes.now values → IsOk result }
+    ensures exact { MatchResult result (λ _. Spells col_type count bytes.now)
+        (Locates col_type count bytes.now) }
+    ensures spelled { (values : List Value) → IsSpelling col_type count bytes.now values
+        → IsOk result }
 {
     match col_type {
         ColType::Text => check_texts(bytes, count),
@@ -28,7 +30,8 @@ pub fn check_column(col_type: ColType, bytes: &[u8], count: usize) -> Result<(),
 /// `Malformed` at the first number that is not whole, or after the last where the bytes go on.
 fn check_numbers(col_type: ColType, bytes: &[u8], count: usize) -> Result<(), FormatFault>
     requires { col_type ≢ type.Text }
-    ensures { MatchResult result (λ _. Spells col_type count bytes.now) (Locates col_type count bytes.now) }
+    ensures { MatchResult result (λ _. Spells col_type count bytes.now)
+        (Locates col_type count bytes.now) }
 {
     let size = fewest_bytes(col_type);
     let whole = bytes.len() / size;
@@ -44,7 +47,8 @@ fn check_numbers(col_type: ColType, bytes: &[u8], count: usize) -> Result<(), Fo
 ///
 /// `Malformed` where a text was to begin and none does, or after the last where the bytes go on.
 fn check_texts(bytes: &[u8], count: usize) -> Result<(), FormatFault>
-    ensures { MatchResult result (λ _. Spells type.Text count bytes.now) (Locates type.Text count bytes.now) }
+    ensures { MatchResult result (λ _. Spells type.Text count bytes.now)
+        (Locates type.Text count bytes.now) }
 {
     let mut at = 0;
     for _value in 0..count {

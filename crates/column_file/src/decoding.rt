@@ -23,7 +23,8 @@ pub fn decode_column(
 ) -> Result<ColumnData, FormatFault>
     ensures col_type { IfOk result (λ c. c.col_type ≡ col_type) }
     ensures read { IfOk result (λ c. IsSpelling col_type count bytes.now c.values) }
-    ensures spelled { (values : List Value) → IsSpelling col_type count bytes.now values → MatchResult result (λ c. c.values ≡ values) (λ e. e ≡ FormatFault.NoMemory) }
+    ensures spelled { (values : List Value) → IsSpelling col_type count bytes.now values
+        → MatchResult result (λ c. c.values ≡ values) (λ e. e ≡ FormatFault.NoMemory) }
     ensures fault { IfErr result (Explains col_type count bytes.now) }
 {
     let mut column = ColumnData::new(alloc, col_type);
@@ -37,7 +38,9 @@ pub fn decode_column(
 /// After an error some of the first values may have been added.
 pub fn decode_onto(column: &mut ColumnData, bytes: &[u8], count: usize) -> Result<(), FormatFault>
     ensures read { OnOk result (GainsAll count bytes.now column.old column.new) }
-    ensures spelled { (values : List Value) → IsSpelling column.old.col_type count bytes.now values → MatchResult result (λ _. column.new ≡ with_values column.old values) (λ e. e ≡ FormatFault.NoMemory) }
+    ensures spelled { (values : List Value) → IsSpelling column.old.col_type count bytes.now values
+        → MatchResult result (λ _. column.new ≡ with_values column.old values)
+        (λ e. e ≡ FormatFault.NoMemory) }
     ensures fault { IfErr result (Explains column.old.col_type count bytes.now) }
     ensures front { GainsFront bytes.now column.old column.new }
 {
@@ -61,7 +64,8 @@ pub fn decode_granule(
     count: usize,
 ) -> Result<Vec<Value>, FormatFault>
     ensures read { IfOk result (λ v. IsSpelling col_type count bytes.now v.items) }
-    ensures spelled { (values : List Value) → IsSpelling col_type count bytes.now values → MatchResult result (λ v. v.items ≡ values) (λ e. e ≡ FormatFault.NoMemory) }
+    ensures spelled { (values : List Value) → IsSpelling col_type count bytes.now values
+        → MatchResult result (λ v. v.items ≡ values) (λ e. e ≡ FormatFault.NoMemory) }
     ensures fault { IfErr result (Explains col_type count bytes.now) }
 {
     let column = decode_column(alloc, col_type, bytes, count)?;
@@ -87,8 +91,9 @@ fn values_of(alloc: Global, column: &ColumnData) -> Result<Vec<Value>, FormatFau
 /// `Malformed` at the place where no value of the type begins there.
 pub fn cell_at(col_type: ColType, bytes: &[u8], at: usize) -> Result<(Cell<'_>, usize), FormatFault>
     requires { at ≤ length bytes.now }
-    ensures { MatchResult result (λ p. IsOfType col_type (value_of p.0) × Begins (value_bytes (value_of p.0)) p.1 (drop at bytes.now))
-        (λ e. (e ≡ FormatFault.Malformed at) × NoneBegins col_type (drop at bytes.now)) }
+    ensures { MatchResult result (λ p. IsOfType col_type (value_of p.0)
+        × Begins (value_bytes (value_of p.0)) p.1 (drop at bytes.now)) (λ e.
+        (e ≡ FormatFault.Malformed at) × NoneBegins col_type (drop at bytes.now)) }
 {
     first_cell(col_type, &bytes[at..]).ok_or(FormatFault::Malformed { place: at as u64 })
 }
@@ -97,7 +102,8 @@ pub fn cell_at(col_type: ColType, bytes: &[u8], at: usize) -> Result<(Cell<'_>, 
 ///
 /// `Malformed` at the place where they go on.
 pub fn end_at(bytes: &[u8], at: usize) -> Result<(), FormatFault>
-    ensures { MatchResult result (λ _. length bytes.now ≤ at) (λ e. (e ≡ FormatFault.Malformed at) × (at < length bytes.now)) }
+    ensures { MatchResult result (λ _. length bytes.now ≤ at)
+        (λ e. (e ≡ FormatFault.Malformed at) × (at < length bytes.now)) }
 {
     if at < bytes.len() {
         return Err(FormatFault::Malformed { place: at as u64 });

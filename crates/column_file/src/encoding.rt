@@ -34,10 +34,15 @@ pub fn encode_column(
     requires column { column < length block.now.types }
     requires places { All (λ place. place < length block.now.rows) order.now }
     requires granularity { 0 < granularity }
-    ensures bytes { IfOk result (λ c. c.bytes ≡ column_bytes (column_of column (picked block.now.rows order.now))) }
-    ensures marks { IfOk result (λ c. c.marks ≡ marks_of granularity (column_of column (picked block.now.rows order.now))) }
-    ensures encodable { IfOk result (λ _. All FitsType (column_of column (picked block.now.rows order.now))) }
-    ensures spelled { IfOk result (λ c. (t : ColType) → slice_get block.now.types column ≡ Some t → IsSpelling t (length order.now) c.bytes (column_of column (picked block.now.rows order.now))) }
+    ensures bytes { IfOk result (λ c. c.bytes ≡ column_bytes
+        (column_of column (picked block.now.rows order.now))) }
+    ensures marks { IfOk result (λ c. c.marks ≡ marks_of granularity
+        (column_of column (picked block.now.rows order.now))) }
+    ensures encodable { IfOk result
+        (λ _. All FitsType (column_of column (picked block.now.rows order.now))) }
+    ensures spelled { IfOk result (λ c. (t : ColType) → slice_get block.now.types column ≡ Some t
+        → IsSpelling t (length order.now) c.bytes
+        (column_of column (picked block.now.rows order.now))) }
 {
     let cells = block.column(column);
     // Reading the lengths shows that the column has a value for each row.
@@ -56,9 +61,12 @@ fn encode_cells(
 ) -> Result<ColumnBytes, NoMemory>
     requires places { All (λ place. place < length cells.now.values) order.now }
     requires granularity { 0 < granularity }
-    ensures bytes { IfOk result (λ c. c.bytes ≡ column_bytes (filter_map (slice_get cells.now.values) order.now)) }
-    ensures marks { IfOk result (λ c. c.marks ≡ marks_of granularity (filter_map (slice_get cells.now.values) order.now)) }
-    ensures encodable { IfOk result (λ _. All FitsType (filter_map (slice_get cells.now.values) order.now)) }
+    ensures bytes { IfOk result (λ c. c.bytes ≡ column_bytes
+        (filter_map (slice_get cells.now.values) order.now)) }
+    ensures marks { IfOk result (λ c. c.marks ≡ marks_of granularity
+        (filter_map (slice_get cells.now.values) order.now)) }
+    ensures encodable { IfOk result
+        (λ _. All FitsType (filter_map (slice_get cells.now.values) order.now)) }
 {
     let mut bytes = Seq::with_capacity(alloc, order.len())?;
     let mut marks = Seq::new(alloc);
@@ -76,8 +84,10 @@ fn encode_cells(
 /// `NoMemory` where an allocation failed; some of the bytes may have been added then.
 fn push_cells(bytes: &mut Bytes, cells: &ColumnData, places: &[u32]) -> Result<(), NoMemory>
     requires { All (λ place. place < length cells.now.values) places.now }
-    ensures bytes { OnOk result (bytes.new ≡ bytes.old ++ column_bytes (filter_map (slice_get cells.now.values) places.now)) }
-    ensures encodable { OnOk result (All FitsType (filter_map (slice_get cells.now.values) places.now)) }
+    ensures bytes { OnOk result (bytes.new ≡ bytes.old ++ column_bytes
+        (filter_map (slice_get cells.now.values) places.now)) }
+    ensures encodable { OnOk result
+        (All FitsType (filter_map (slice_get cells.now.values) places.now)) }
 {
     for place in places {
         push_cell(bytes, cells.at(*place as usize))?;

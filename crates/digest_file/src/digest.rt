@@ -44,7 +44,8 @@ pub fn push_digest(bytes: &mut Bytes) -> Result<(), NoMemory>
 /// `Malformed` at the first byte that is not the digest's, where bytes are missing at their end, and at the first after the digest.
 pub fn check_digest(bytes: &[u8], end: usize) -> Result<(), FormatFault>
     requires { end ≤ length bytes.now }
-    ensures { MatchResult result (λ _. bytes.now ≡ with_digest sha256 (take end bytes.now)) (MissesDigest bytes.now end) }
+    ensures { MatchResult result (λ _. bytes.now ≡ with_digest sha256 (take end bytes.now))
+        (MissesDigest bytes.now end) }
 {
     let digest = digest_of(&bytes[..end]);
     let behind = &bytes[end..];

@@ -35,7 +35,8 @@ pub fn entry_bytes(alloc: Global, text: &[u8]) -> Result<Vec<u8>, NoMemory>
 /// `Malformed` at the bytes' first fault where they are no entry.
 pub fn read_entry(bytes: &[u8]) -> Result<&[u8], FormatFault>
     ensures read { IfOk result (λ text. IsEntryOf bytes.now text.now) }
-    ensures spelled { (text : List ℕ) → IsEntryOf bytes.now text → IsOkAnd result (λ found. found.now ≡ text) }
+    ensures spelled { (text : List ℕ) → IsEntryOf bytes.now text
+        → IsOkAnd result (λ found. found.now ≡ text) }
     ensures fault { IfErr result (Locates IsEntry bytes.now) }
 {
     let frame = parted(bytes, &FIRST, 0, 1)?;

@@ -29,8 +29,8 @@ pub fn parted<'a>(
 ) -> Result<Frame<'a>, FormatFault>
     requires gap { length first.now + gap ≤ 100 }
     requires unit { unit ≤ 100 }
-    ensures { MatchResult result (λ f. IsFrameOf first.now gap unit bytes.now f.middle.now f.count f.items.now)
-        (Locates (IsFrame first.now gap unit) bytes.now) }
+    ensures { MatchResult result (λ f. IsFrameOf first.now gap unit bytes.now f.middle.now f.count
+        f.items.now) (Locates (IsFrame first.now gap unit) bytes.now) }
 {
     let count = count_of(bytes, first, gap)?;
     let head = first.len() + gap + 4;

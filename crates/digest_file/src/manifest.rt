@@ -67,7 +67,8 @@ fn push_mark(bytes: &mut Bytes, file: &FileMark) -> Result<(), NoMemory>
 /// `Malformed` at the bytes' first fault where they are no manifest's; `NoMemory` where an allocation failed.
 pub fn read_manifest(alloc: Global, bytes: &[u8]) -> Result<Manifest, FormatFault>
     ensures read { IfOk result (IsManifestOf bytes.now) }
-    ensures spelled { (manifest : Manifest) → IsManifestOf bytes.now manifest → MatchResult result (λ found. found ≡ manifest) (λ e. e ≡ FormatFault.NoMemory) }
+    ensures spelled { (manifest : Manifest) → IsManifestOf bytes.now manifest
+        → MatchResult result (λ found. found ≡ manifest) (λ e. e ≡ FormatFault.NoMemory) }
     ensures fault { IfErr result (Explains IsManifest bytes.now) }
 {
     let frame = parted(bytes, &FIRST, 8, MARK_SIZE)?;

@@ -38,8 +38,10 @@ impl DiskCalls {
 
     /// Counts a call, which fails where the disk was stopped, where it is listed or for another cause, and says whether it fails.
     pub fn call(&mut self, kind: CallKind, other_cause: bool) -> bool
-        ensures fails { result ≡ (other_cause || (at_stop self.old.stop || is_listed self.old.plan kind)) }
-        ensures plan { self.new.plan ≡ called kind (other_cause || (at_stop self.old.stop || is_listed self.old.plan kind)) self.old.plan }
+        ensures fails { result ≡
+            (other_cause || (at_stop self.old.stop || is_listed self.old.plan kind)) }
+        ensures plan { self.new.plan ≡ called kind
+            (other_cause || (at_stop self.old.stop || is_listed self.old.plan kind)) self.old.plan }
         ensures stop { self.new.stop ≡ one_less self.old.stop }
         ensures later { self.old.plan.failed ≤ self.new.plan.failed }
     {

@@ -67,7 +67,12 @@ impl MemDisk {
     ///
     /// `NoMemory` where the allocation failed; the disk stays as it was.
     pub fn fail(&mut self, calls: &[Listed]) -> Result<(), NoMemory>
-        ensures ok { OnOk result (self.new ≡ record self.old { plan = record self.old.plan { listed = self.old.plan.listed ++ calls.now } }) }
+        ensures ok { OnOk result (self.new ≡ record self.old {
+          plan = record self.old.plan {
+            listed
+                = self.old.plan.listed ++ calls.now;
+          };
+        }) }
         ensures err { OnErr result (self.new ≡ self.old) }
     {
         self.calls.plan.list(calls)
@@ -205,14 +210,17 @@ impl Disk for MemDisk {
     /// After a fault the name is not there.
     fn publish(&mut self, alloc: Global, stage: MemStage, name: &Name) -> Result<MemDir, DiskError>
         requires { files_at name.now (names_of self.old.told) ≡ None }
-        ensures ok { OnOk result (self.new.told ≡ with_change self.old.clock (Change.Publish name.now stage.files) self.old.told) }
+        ensures ok { OnOk result (self.new.told ≡ with_change self.old.clock
+            (Change.Publish name.now stage.files) self.old.told) }
         ensures dir { IfOk result (λ d. d ≡ stage.files) }
         ensures err { OnErr result (self.new.told ≡ self.old.told) }
         ensures clock { self.new.clock ≡ self.old.clock }
         ensures started { self.new.started ≡ self.old.started }
         ensures taken { 0 < stage.plan.failed → Rose self.old.plan.failed self.new.plan.failed }
-        ensures cause { HasStageCause stage.plan.failed self.old.plan.failed self.new.plan.failed result }
-        ensures exactly { FailsOrStops CallKind.Publish (takes stage.plan.failed self.old) self.new result }
+        ensures cause { HasStageCause stage.plan.failed self.old.plan.failed self.new.plan.failed
+            result }
+        ensures exactly { FailsOrStops CallKind.Publish (takes stage.plan.failed self.old) self.new
+            result }
     {
         let (files, failed) = stage.into_parts();
         self.calls.plan.take(failed);
@@ -228,7 +236,8 @@ impl Disk for MemDisk {
     /// After a fault the name is there.
     fn remove(&mut self, name: &Name) -> Result<(), DiskError>
         requires { IsSome (files_at name.now (names_of self.old.told)) }
-        ensures ok { OnOk result (self.new.told ≡ with_change self.old.clock (Change.Remove name.now) self.old.told) }
+        ensures ok { OnOk result (self.new.told ≡ with_change self.old.clock
+            (Change.Remove name.now) self.old.told) }
         ensures err { OnErr result (self.new.told ≡ self.old.told) }
         ensures clock { self.new.clock ≡ self.old.clock }
         ensures started { self.new.started ≡ self.old.started }

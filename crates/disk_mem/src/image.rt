@@ -52,7 +52,8 @@ fn settled(
     lose: bool,
     left: &mut Vec<Stamped<MemDir>>,
 ) -> Result<(), NoMemory>
-    ensures { OnOk result (left.new.items ≡ left.old.items ++ map (left_stamped lose) (before_clock clock changes.now)) }
+    ensures { OnOk result (left.new.items ≡ left.old.items ++ map (left_stamped lose)
+        (before_clock clock changes.now)) }
 {
     for stamped in changes {
         if stamped.clock < clock {
@@ -71,7 +72,8 @@ fn unsettled(
     lose: bool,
     left: &mut Vec<Stamped<MemDir>>,
 ) -> Result<(), NoMemory>
-    ensures { OnOk result (left.new.items ≡ left.old.items ++ map (left_stamped lose) (happened choice 0 (at_clock clock changes.now))) }
+    ensures { OnOk result (left.new.items ≡ left.old.items ++ map (left_stamped lose)
+        (happened choice 0 (at_clock clock changes.now))) }
 {
     let mut number = 0usize;
     for stamped in changes {
@@ -100,7 +102,8 @@ fn names_by(alloc: Global, changes: &[Stamped<MemDir>]) -> Result<BTreeMap<Name,
 impl Root {
     /// What a crash may leave, by the choice.
     pub fn image(&self, alloc: Global, choice: u64) -> Result<Root, NoMemory>
-        ensures told { IfOk result (λ r. r.changes.items ≡ image_told choice self.now.clock self.now.changes.items) }
+        ensures told { IfOk result (λ r. r.changes.items ≡ image_told choice self.now.clock
+            self.now.changes.items) }
         ensures clock { IfOk result (λ r. r.clock ≡ next self.now.clock) }
         ensures later { IfOk result (λ r. self.now.clock ≤ r.clock) }
     {

@@ -82,7 +82,10 @@ impl Root {
     #[tactic(auto, using(mt_outside::proofs::Changes::names_after_last))]
     pub fn put(&mut self, alloc: Global, name: &Name, files: Files) -> Result<MemDir, NoMemory>
         ensures dir { IfOk result (λ d. d ≡ files) }
-        ensures changes { OnOk result (self.new.changes.items ≡ self.old.changes.items ++ record { clock = self.old.clock; change = Change.Publish name.now files } ∷ []) }
+        ensures changes { OnOk result (self.new.changes.items ≡ self.old.changes.items ++ record {
+          clock = self.old.clock;
+          change = Change.Publish name.now files;
+        } ∷ []) }
         ensures err { OnErr result (self.new.changes.items ≡ self.old.changes.items) }
         ensures clock { self.new.clock ≡ self.old.clock }
     {
@@ -100,7 +103,11 @@ impl Root {
     #[tactic(auto, using(mt_outside::proofs::Changes::names_after_last, crate::proofs::Names::same_name))]
     pub fn cut(&mut self, name: &Name)
         requires { IsSome (files_at name.now self.old.names.entries) }
-        ensures changes { self.new.changes.items ≡ self.old.changes.items ++ record { clock = self.old.clock; change = Change.Remove name.now } ∷ [] }
+        ensures changes { self.new.changes.items ≡ self.old.changes.items ++ record {
+          clock =
+              self.old.clock;
+          change = Change.Remove name.now;
+        } ∷ [] }
         ensures clock { self.new.clock ≡ self.old.clock }
     {
         match self.names.remove_entry(name) {

@@ -58,7 +58,8 @@ pub fn refuse_stopped(opened: u64, now: u64) -> Option<Refused>
 /// A CREATE was not committed: its table is taken out again.
 pub fn take_out<T: Drop>(tables: &mut BTreeMap<Name, T>, table: &Name, error: DiskError) -> Refused
     ensures cause { result ≡ refused_by_disk error }
-    ensures entries { tables.new.entries ≡ remove_entry (is_at (slice_cmp nat_cmp table.now)) tables.old.entries }
+    ensures entries { tables.new.entries ≡ remove_entry (is_at (slice_cmp nat_cmp table.now))
+        tables.old.entries }
 {
     tables.remove(table);
     Refused::of_disk(error)

@@ -170,7 +170,8 @@ impl Plan {
     ///
     /// `NoMemory` where the allocation failed; the list stays as it was.
     pub fn list(&mut self, calls: &[Listed]) -> Result<(), NoMemory>
-        ensures ok { OnOk result (self.new ≡ record self.old { listed = self.old.listed ++ calls.now }) }
+        ensures ok { OnOk result
+            (self.new ≡ record self.old { listed = self.old.listed ++ calls.now }) }
         ensures err { OnErr result (self.new ≡ self.old) }
     {
         self.listed.extend(calls)

@@ -39,38 +39,46 @@ ghost use Rattle.mt_model.specs.Written.{IsWritten};
 /// The first entries of a legal history are a legal history, and one more entry that may come next leaves it legal.
 pub fn legal_fronts()
     ensures front { (h more : History) → IsLegal (h ++ more) → IsLegal h }
-    ensures next { (h : History) (e : Entry) → IsLegal h → IsAllowed h e.command → IsLegal (h ++ e ∷ []) }
+    ensures next { (h : History) (e : Entry) → IsLegal h → IsAllowed h e.command
+        → IsLegal (h ++ e ∷ []) }
 {}
 
 /// The rows of a table are of partitions that it may have, and so is each INSERT that may come.
 pub fn partitions_are_of_their_table()
-    ensures row { (schema : Schema) (row : Row) → MayHavePartition schema (partition_of schema row) }
-    ensures insert { (schema : Schema) (i : Insert) → IsInsertInto schema i → MayHavePartition schema i.partition }
+    ensures row { (schema : Schema) (row : Row)
+        → MayHavePartition schema (partition_of schema row) }
+    ensures insert { (schema : Schema) (i : Insert) → IsInsertInto schema i
+        → MayHavePartition schema i.partition }
 {}
 
 /// As a history grows, the live rows of a plain table stay, and others come after them.
 pub fn live_rows_only_grow()
-    ensures { (table : List ℕ) (schema : Schema) (h more : History)
-        → IsPlain schema → (rest : List Row) × (live table schema (h ++ more) ≡ live table schema h ++ rest) }
+    ensures { (table : List ℕ) (schema : Schema) (h more : History) → IsPlain schema
+        → (rest : List Row) × (live table schema (h ++ more) ≡ live table schema h ++ rest) }
 {}
 
 /// Sorting puts the rows in order, loses none and adds none, and leaves the rows of each partition and key as they stood to
 /// each other.
 pub fn sorting_keeps_each_key()
     ensures keys { (schema : Schema) (partition : Partition) (row : Row) (rows : List Row)
-        → of_key schema partition row (sorted (sorting_cmp schema) rows) ≡ of_key schema partition row rows }
-    ensures rows { (schema : Schema) (rows : List Row) → IsPermutation rows (sorted (sorting_cmp schema) rows) }
-    ensures rising { (schema : Schema) (rows : List Row) → IsSorted (sorting_cmp schema) (sorted (sorting_cmp schema) rows) }
+        → of_key schema partition row (sorted (sorting_cmp schema) rows) ≡ of_key schema partition
+        row rows }
+    ensures rows { (schema : Schema) (rows : List Row)
+        → IsPermutation rows (sorted (sorting_cmp schema) rows) }
+    ensures rising { (schema : Schema) (rows : List Row)
+        → IsSorted (sorting_cmp schema) (sorted (sorting_cmp schema) rows) }
 {}
 
 /// The lines that are printed of rows do not depend on the order in which the rows stand.
 pub fn lines_do_not_depend_on_order()
-    ensures { (rows other : List Row) (a b : List (List ℕ)) → IsPermutation rows other → Prints rows a → Prints other b → a ≡ b }
+    ensures { (rows other : List Row) (a b : List (List ℕ)) → IsPermutation rows other
+        → Prints rows a → Prints other b → a ≡ b }
 {}
 
 /// Whatever merges did, the rows of a plain table are its live rows, each as often, in another order at most.
 pub fn partly_is_a_permutation()
-    ensures { (schema : Schema) (rows x : List Row) → IsPlain schema → Partly schema rows x → IsPermutation rows x }
+    ensures { (schema : Schema) (rows x : List Row) → IsPlain schema → Partly schema rows x
+        → IsPermutation rows x }
 {}
 
 /// A SELECT from a plain table at a place of a history has one answer only, whatever merges did.
@@ -84,18 +92,22 @@ pub fn answers_are_determined()
 /// may come next.
 pub fn creates_are_allowed()
     ensures written { (script : List ℕ) → All IsWritten (statements_of script) }
-    ensures schema { (c : CreateText) (schema : Schema) → 0 < length c.key → schema_of_text c ≡ Ok schema → IsTableSchema schema }
-    ensures next { (c : CreateText) (schema : Schema) (h : History) → 0 < length c.key → schema_of_text c ≡ Ok schema → create_turn c.table h ≡ None
+    ensures schema { (c : CreateText) (schema : Schema) → 0 < length c.key
+        → schema_of_text c ≡ Ok schema → IsTableSchema schema }
+    ensures next { (c : CreateText) (schema : Schema) (h : History) → 0 < length c.key
+        → schema_of_text c ≡ Ok schema → create_turn c.table h ≡ None
         → IsAllowed h (command.Create (record { table = c.table; schema = schema })) }
 {}
 
 /// The rows that data is read as have a value of each column's type, within the type's range where the data is bytes, and
 /// are not too many.
 pub fn rows_are_of_their_table()
-    ensures types { (types : List ColType) (lines : List ℕ) (ended : Bool) (rows : List Row) → inserted_rows types lines ended ≡ Ok rows → AreRowsOf types rows }
+    ensures types { (types : List ColType) (lines : List ℕ) (ended : Bool) (rows : List Row)
+        → inserted_rows types lines ended ≡ Ok rows → AreRowsOf types rows }
     ensures values { (types : List ColType) (lines : List ℕ) (ended : Bool) (rows : List Row)
         → All (λ b. b < 2 ^ 8) lines → inserted_rows types lines ended ≡ Ok rows → AreValues rows }
-    ensures few { (types : List ColType) (lines : List ℕ) (ended : Bool) (rows : List Row) → inserted_rows types lines ended ≡ Ok rows → length rows ≤ row_limit }
+    ensures few { (types : List ColType) (lines : List ℕ) (ended : Bool) (rows : List Row)
+        → inserted_rows types lines ended ≡ Ok rows → length rows ≤ row_limit }
 {}
 
 /// The line of each refusal begins with its number, and no other reply has one.
@@ -107,48 +119,60 @@ pub fn refusals_have_numbers()
 
 /// A refused statement adds those commands to the history that its line counts, and no others.
 pub fn refused_statements_add_what_they_count()
-    ensures { (n : Outside) (h : History) (session : ℕ) (statement : Item) (from to : ℕ) (reply : List ℕ)
-        → Takes n h session statement from to reply → 0 < code_of reply
-        → (why : Refusal) × (done : List Command) × (reply ≡ refusal_line why) × (length done ≡ accepted_by why) × AddsOnly h session done from to }
+    ensures { (n : Outside) (h : History) (session : ℕ) (statement : Item) (from to : ℕ)
+        (reply : List ℕ) → Takes n h session statement from to reply → 0 < code_of reply
+        → (why : Refusal) × (done : List Command) × (reply ≡ refusal_line why)
+        × (length done ≡ accepted_by why) × AddsOnly h session done from to }
 {}
 
 /// A reply tells of a fault of the outside only where the disk's count rose. Where it did not, and stands below its type's
 /// end, a statement is accepted or refused for what the script says. No reply tells of damage.
 pub fn faults_are_of_the_outside()
-    ensures risen { (n : Outside) (h : History) (session : ℕ) (statement : Item) (from to : ℕ) (reply : List ℕ)
-        → Takes n h session statement from to reply → 14 < code_of reply → HasRisen n n.ended }
-    ensures still { (n : Outside) → n.ended ≡ n.opened → n.ended < 2 ^ 64 - 1 → HasRisen n n.ended → ⊥ }
-    ensures calm { (n : Outside) (h : History) (session : ℕ) (statement : Item) (from to : ℕ) (reply : List ℕ)
-        → n.ended ≡ n.opened → n.ended < 2 ^ 64 - 1 → Takes n h session statement from to reply → (code_of reply ≡ 0) ⊎ (is_refusal reply ≡ true) }
-    ensures undamaged { (n : Outside) (h : History) (session : ℕ) (statement : Item) (from to : ℕ) (reply : List ℕ)
-        → Takes n h session statement from to reply → is_damage reply ≡ false }
+    ensures risen { (n : Outside) (h : History) (session : ℕ) (statement : Item) (from to : ℕ)
+        (reply : List ℕ) → Takes n h session statement from to reply → 14 < code_of reply
+        → HasRisen n n.ended }
+    ensures still { (n : Outside) → n.ended ≡ n.opened → n.ended < 2 ^ 64 - 1 → HasRisen n n.ended
+        → ⊥ }
+    ensures calm { (n : Outside) (h : History) (session : ℕ) (statement : Item) (from to : ℕ)
+        (reply : List ℕ) → n.ended ≡ n.opened → n.ended < 2 ^ 64 - 1
+        → Takes n h session statement from to reply → (code_of reply ≡ 0)
+        ⊎ (is_refusal reply ≡ true) }
+    ensures undamaged { (n : Outside) (h : History) (session : ℕ) (statement : Item) (from to : ℕ)
+        (reply : List ℕ) → Takes n h session statement from to reply → is_damage reply ≡ false }
 {}
 
 /// A statement is refused for what the script says only where it meets a cause at its place. Where the disk's count did not rise and stands below
 /// its type's end, and none of a script's statements meets a cause after those before it, none of them is refused.
 pub fn refusals_have_a_cause()
-    ensures one { (n : Outside) (h : History) (session : ℕ) (statement : Item) (from to : ℕ) (reply : List ℕ)
-        → Takes n h session statement from to reply → is_refusal reply ≡ true → MeetsCause (take to h) statement }
-    ensures script { (n : Outside) (script : List Item) (h : History) (base : ℕ) (replies : List (List ℕ))
-        → n.ended ≡ n.opened → n.ended < 2 ^ 64 - 1 → ScriptReplies n script h base replies → NoneMeets (take base h) script → list_any is_refusal replies ≡ false }
+    ensures one { (n : Outside) (h : History) (session : ℕ) (statement : Item) (from to : ℕ)
+        (reply : List ℕ) → Takes n h session statement from to reply → is_refusal reply ≡ true
+        → MeetsCause (take to h) statement }
+    ensures script { (n : Outside) (script : List Item) (h : History) (base : ℕ)
+        (replies : List (List ℕ)) → n.ended ≡ n.opened → n.ended < 2 ^ 64 - 1
+        → ScriptReplies n script h base replies → NoneMeets (take base h) script
+        → list_any is_refusal replies ≡ false }
 {}
 
 /// The places of a session's statements never fall, and none is above the length of the history.
 pub fn places_never_fall()
-    ensures { (n : Outside) (h : History) (session : ℕ) (statements : List Item) (from to : ℕ) (out : List ℕ)
-        → SessionRun n h session statements from to out → from ≤ length h → (from ≤ to) × (to ≤ length h) }
+    ensures { (n : Outside) (h : History) (session : ℕ) (statements : List Item) (from to : ℕ)
+        (out : List ℕ) → SessionRun n h session statements from to out → from ≤ length h
+        → (from ≤ to) × (to ≤ length h) }
 {}
 
 /// What a session printed stays right as the history grows.
 pub fn runs_stay_as_histories_grow()
-    ensures { (n : Outside) (h more : History) (session : ℕ) (statements : List Item) (from to : ℕ) (out : List ℕ)
-        → SessionRun n h session statements from to out → SessionRun n (h ++ more) session statements from to out }
+    ensures { (n : Outside) (h more : History) (session : ℕ) (statements : List Item) (from to : ℕ)
+        (out : List ℕ) → SessionRun n h session statements from to out
+        → SessionRun n (h ++ more) session statements from to out }
 {}
 
 /// What a session printed stays right as the disk's count of faults rises.
 pub fn runs_stay_as_counts_rise()
-    ensures { (n m : Outside) (h : History) (session : ℕ) (statements : List Item) (from to : ℕ) (out : List ℕ)
-        → n.opened ≡ m.opened → n.ended ≤ m.ended → SessionRun n h session statements from to out → SessionRun m h session statements from to out }
+    ensures { (n m : Outside) (h : History) (session : ℕ) (statements : List Item) (from to : ℕ)
+        (out : List ℕ) → n.opened ≡ m.opened → n.ended ≤ m.ended
+        → SessionRun n h session statements from to out
+        → SessionRun m h session statements from to out }
 {}
 
 /// A script that runs after a base has one run only, where the disk's count did not rise and stands below its type's end,
@@ -157,22 +181,34 @@ pub fn runs_stay_as_counts_rise()
 /// merged, and refuse the next one or not.
 pub fn scripts_run_in_one_way()
     ensures { (n : Outside) (script : List Item) (h g : History) (base : ℕ) (a b : List ℕ)
-        → n.ended ≡ n.opened → n.ended < 2 ^ 64 - 1 → FewInserts h → ArePlain h → take base h ≡ take base g
-        → ScriptRun n script h base a → ScriptRun n script g base b → (a ≡ b) × (h ≡ g) }
+        → n.ended ≡ n.opened → n.ended < 2 ^ 64 - 1 → FewInserts h → ArePlain h
+        → take base h ≡ take base g → ScriptRun n script h base a → ScriptRun n script g base b
+        → (a ≡ b) × (h ≡ g) }
 {}
 
 /// The counts that bound the grammar's readers cut nothing off: each step takes at least one byte, or one token.
 pub fn bounds_cut_nothing_off()
-    ensures statements { (n m : ℕ) (script : List ℕ) → length script < n → length script < m → statements_within n script ≡ statements_within m script }
-    ensures tokens { (n m size : ℕ) (text : List ℕ) → length text < n → length text < m → tokens_within n size text ≡ tokens_within m size text }
-    ensures strings { (n m : ℕ) (text : List ℕ) → length text < n → length text < m → string_within n text ≡ string_within m text }
-    ensures names { (n m : ℕ) (next : List (List ℕ) → Reader Statement) (ts : List Placed) → length ts < n → length ts < m
-        → listed_within n (is_symbol symbol.Comma) (the symbol.Comma) one_name [] next ts ≡ listed_within m (is_symbol symbol.Comma) (the symbol.Comma) one_name [] next ts }
-    ensures columns { (n m : ℕ) (next : List Column → Reader Statement) (ts : List Placed) → length ts < n → length ts < m
-        → listed_within n (is_symbol symbol.Comma) (the symbol.Comma) column [] next ts ≡ listed_within m (is_symbol symbol.Comma) (the symbol.Comma) column [] next ts }
-    ensures lines { (n m : ℕ) (text : List ℕ) → length text < n → length text < m → data_within n text ≡ data_within m text }
-    ensures ends { (n m : ℕ) (text : List ℕ) → length text < n → length text < m → data_ended_within n text ≡ data_ended_within m text }
+    ensures statements { (n m : ℕ) (script : List ℕ) → length script < n → length script < m
+        → statements_within n script ≡ statements_within m script }
+    ensures tokens { (n m size : ℕ) (text : List ℕ) → length text < n → length text < m
+        → tokens_within n size text ≡ tokens_within m size text }
+    ensures strings { (n m : ℕ) (text : List ℕ) → length text < n → length text < m
+        → string_within n text ≡ string_within m text }
+    ensures names { (n m : ℕ) (next : List (List ℕ) → Reader Statement) (ts : List Placed)
+        → length ts < n → length ts < m
+        → listed_within n (is_symbol symbol.Comma) (the symbol.Comma) one_name [] next ts ≡
+        listed_within m (is_symbol symbol.Comma) (the symbol.Comma) one_name [] next ts }
+    ensures columns { (n m : ℕ) (next : List Column → Reader Statement) (ts : List Placed)
+        → length ts < n → length ts < m
+        → listed_within n (is_symbol symbol.Comma) (the symbol.Comma) column [] next ts ≡
+        listed_within m (is_symbol symbol.Comma) (the symbol.Comma) column [] next ts }
+    ensures lines { (n m : ℕ) (text : List ℕ) → length text < n → length text < m
+        → data_within n text ≡ data_within m text }
+    ensures ends { (n m : ℕ) (text : List ℕ) → length text < n → length text < m
+        → data_ended_within n text ≡ data_ended_within m text }
     ensures rows { (n m : ℕ) (types : List ColType) (ended : Bool) (count : ℕ) (lines : List ℕ)
-        → length lines < n → length lines < m → rows_within n types ended count lines ≡ rows_within m types ended count lines }
-    ensures texts { (n m : ℕ) (text : List ℕ) → length text < n → length text < m → unescaped_within n text ≡ unescaped_within m text }
+        → length lines < n → length lines < m
+        → rows_within n types ended count lines ≡ rows_within m types ended count lines }
+    ensures texts { (n m : ℕ) (text : List ℕ) → length text < n → length text < m
+        → unescaped_within n text ≡ unescaped_within m text }
 {}

@@ -118,7 +118,8 @@ fn numbered(alloc: Global, head: &[u8], number: u64) -> Result<Vec<u8>, NoMemory
 
 /// Two numbers after a head.
 fn numbered_twice(alloc: Global, head: &[u8], first: u64, second: u64) -> Result<Vec<u8>, NoMemory>
-    ensures { IfOk result (λ text. text.items ≡ head.now ++ refusals.and_number first ++ refusals.and_number second) }
+    ensures { IfOk result (λ text. text.items ≡ head.now ++ refusals.and_number first ++
+        refusals.and_number second) }
 {
     with_number(alloc, numbered(alloc, head, first)?, second)
 }
@@ -131,7 +132,8 @@ fn numbered_thrice(
     second: u64,
     third: u64,
 ) -> Result<Vec<u8>, NoMemory>
-    ensures { IfOk result (λ text. text.items ≡ head.now ++ refusals.and_number first ++ refusals.and_number second ++ refusals.and_number third) }
+    ensures { IfOk result (λ text. text.items ≡ head.now ++ refusals.and_number first ++
+        refusals.and_number second ++ refusals.and_number third) }
 {
     with_number(alloc, numbered_twice(alloc, head, first, second)?, third)
 }

@@ -73,14 +73,16 @@ pub trait Stage: Send {
     ///
     /// After an error the stage can only be given back: its files may hold anything.
     fn append(&mut self, file: FileId, bytes: &[u8]) -> Result<(), DiskError>
-        ensures files { OnOk result (files self.new ≡ option_map (appended file bytes.now) (files self.old)) }
+        ensures files { OnOk result
+            (files self.new ≡ option_map (appended file bytes.now) (files self.old)) }
         ensures cause { HasDiskCause (failed self.old) (failed self.new) result };
 
     /// Makes sure that a crash leaves the file as it is, once the folder's name is settled.
     ///
     /// After an error nothing was made sure of.
     fn sync(&mut self, file: FileId) -> Result<(), DiskError>
-        ensures files { OnOk result (files self.new ≡ option_map (settled_file file) (files self.old)) }
+        ensures files { OnOk result
+            (files self.new ≡ option_map (settled_file file) (files self.old)) }
         ensures err { OnErr result (files self.new ≡ files self.old) }
         ensures cause { HasDiskCause (failed self.old) (failed self.new) result };
 
@@ -115,7 +117,8 @@ pub trait Arm: Send {
 
     /// A folder to be filled, with no file and no failed call.
     fn stage(&mut self, alloc: Global) -> Result<Self::Stage, DiskError>
-        ensures empty { IfOk result (λ s. Self.Stage.files s ≡ (if tells self.old then Some [] else None)) }
+        ensures empty { IfOk result
+            (λ s. Self.Stage.files s ≡ (if tells self.old then Some [] else None)) }
         ensures none_failed { IfOk result (λ s. Self.Stage.failed s ≡ 0) }
         ensures tells { tells self.new ≡ tells self.old }
         ensures cause { HasDiskCause (failed self.old) (failed self.new) result };
@@ -137,7 +140,8 @@ pub trait Arm: Send {
         at: u64,
         buf: &mut [u8],
     ) -> Result<usize, DiskError>
-        ensures bytes { IfOk result (λ n. IfSome (Self.Dir.files dir.now) (λ files. ReadsAt (bytes_of file files) at n buf.new)) }
+        ensures bytes { IfOk result (λ n. IfSome (Self.Dir.files dir.now)
+            (λ files. ReadsAt (bytes_of file files) at n buf.new)) }
         ensures bound { IfOk result (λ n. n ≤ length buf.new) }
         ensures tells { tells self.new ≡ tells self.old }
         ensures cause { HasDiskCause (failed self.old) (failed self.new) result };
@@ -192,7 +196,8 @@ pub trait Disk: Drop + Send {
 
     /// The names as they read, without stages.
     fn list(&mut self, alloc: Global) -> Result<Vec<Name>, DiskError>
-        ensures names { IfOk result (λ v. IfSome (told self.old) (λ t. v.items ≡ map (λ e. e.0) (names_of t))) }
+        ensures names { IfOk result
+            (λ v. IfSome (told self.old) (λ t. v.items ≡ map (λ e. e.0) (names_of t))) }
         ensures told { told self.new ≡ told self.old }
         ensures clock { clock self.new ≡ clock self.old }
         ensures started { started self.new ≡ started self.old }
@@ -201,7 +206,8 @@ pub trait Disk: Drop + Send {
     /// The folder of a name that is there.
     fn open(&mut self, alloc: Global, name: &Name) -> Result<<Self::Arm as Arm>::Dir, DiskError>
         requires { ForSome (told self.old) (λ t. IsSome (files_at name.now (names_of t))) }
-        ensures files { IfOk result (λ d. Self.Arm.Dir.files d ≡ option_and_then (λ t. files_at name.now (names_of t)) (told self.old)) }
+        ensures files { IfOk result (λ d. Self.Arm.Dir.files d ≡ option_and_then
+            (λ t. files_at name.now (names_of t)) (told self.old)) }
         ensures told { told self.new ≡ told self.old }
         ensures clock { clock self.new ≡ clock self.old }
         ensures started { started self.new ≡ started self.old }
@@ -217,14 +223,18 @@ pub trait Disk: Drop + Send {
         name: &Name,
     ) -> Result<<Self::Arm as Arm>::Dir, DiskError>
         requires { ForSome (told self.old) (λ t. files_at name.now (names_of t) ≡ None) }
-        ensures ok { OnOk result (told self.new ≡ put (clock self.old) name.now (Self.Arm.Stage.files stage) (told self.old)) }
+        ensures ok { OnOk result (told self.new ≡ put (clock self.old) name.now
+            (Self.Arm.Stage.files stage) (told self.old)) }
         ensures dir { IfOk result (λ d. Self.Arm.Dir.files d ≡ Self.Arm.Stage.files stage) }
-        ensures fault { IsErrOf result DiskError.Fault → MayPut (clock self.old) name.now (Self.Arm.Stage.files stage) (told self.old) (told self.new) }
+        ensures fault { IsErrOf result DiskError.Fault
+            → MayPut (clock self.old) name.now (Self.Arm.Stage.files stage) (told self.old)
+            (told self.new) }
         ensures memory { IsErrOf result DiskError.NoMemory → told self.new ≡ told self.old }
         ensures clock { clock self.new ≡ clock self.old }
         ensures started { started self.new ≡ started self.old }
         ensures taken { 0 < Self.Arm.Stage.failed stage → Rose (failed self.old) (failed self.new) }
-        ensures cause { HasStageCause (Self.Arm.Stage.failed stage) (failed self.old) (failed self.new) result };
+        ensures cause { HasStageCause (Self.Arm.Stage.failed stage) (failed self.old)
+            (failed self.new) result };
 
     /// Takes a name away that is there. It never answers `NoMemory`.
     ///
@@ -232,7 +242,8 @@ pub trait Disk: Drop + Send {
     fn remove(&mut self, name: &Name) -> Result<(), DiskError>
         requires { ForSome (told self.old) (λ t. IsSome (files_at name.now (names_of t))) }
         ensures ok { OnOk result (told self.new ≡ cut (clock self.old) name.now (told self.old)) }
-        ensures fault { OnErr result (MayCut (clock self.old) name.now (told self.old) (told self.new)) }
+        ensures fault { OnErr result
+            (MayCut (clock self.old) name.now (told self.old) (told self.new)) }
         ensures clock { clock self.new ≡ clock self.old }
         ensures started { started self.new ≡ started self.old }
         ensures takes_none { IsErrOf result DiskError.NoMemory → ⊥ }

@@ -24,8 +24,10 @@ pub fn allows(
     entries: &[Entry],
     printed: &[u8],
 ) -> Result<bool, NoMemory>
-    ensures allowed { IfOk result (λ b. b ≡ true → ScriptRun calm statements.now entries.now 0 printed.now) }
-    ensures exact { FewInserts entries.now → ScriptRun calm statements.now entries.now 0 printed.now → IfOk result (λ b. b ≡ true) }
+    ensures allowed { IfOk result
+        (λ b. b ≡ true → ScriptRun calm statements.now entries.now 0 printed.now) }
+    ensures exact { FewInserts entries.now → ScriptRun calm statements.now entries.now 0 printed.now
+        → IfOk result (λ b. b ≡ true) }
 {
     let done = run(alloc, statements)?;
     if done.out.as_slice() == printed {

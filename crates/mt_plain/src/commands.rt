@@ -20,7 +20,9 @@ pub fn create_commands(
     alloc: Global,
     create: &CreateText,
 ) -> Result<Result<Vec<Command>, Refusal>, NoMemory>
-    ensures { IfOk result (λ given. MatchResult given (λ v. commands.create_commands create.now.table (reply.schema_of_text create.now) ≡ Ok v.items) (λ why. commands.create_commands create.now.table (reply.schema_of_text create.now) ≡ Err why)) }
+    ensures { IfOk result (λ given. MatchResult given (λ v. commands.create_commands
+        create.now.table (reply.schema_of_text create.now) ≡ Ok v.items) (λ why.
+        commands.create_commands create.now.table (reply.schema_of_text create.now) ≡ Err why)) }
 {
     let schema = match resolve(alloc, create)? {
         Ok(schema) => schema,
@@ -39,7 +41,9 @@ pub fn insert_commands(
     entries: &[Entry],
     insert: &InsertText,
 ) -> Result<Result<Vec<Command>, Refusal>, NoMemory>
-    ensures given { IfOk result (λ given. MatchResult given (λ v. commands.commands_of entries.now (statement.Insert insert.now) ≡ Ok v.items) (λ why. commands.commands_of entries.now (statement.Insert insert.now) ≡ Err why)) }
+    ensures given { IfOk result (λ given. MatchResult given (λ v. commands.commands_of entries.now
+        (statement.Insert insert.now) ≡ Ok v.items) (λ why. commands.commands_of entries.now
+        (statement.Insert insert.now) ≡ Err why)) }
     ensures may_come { IfOk result (λ given. IfOk given (λ v. All (MayCome entries.now) v.items)) }
 {
     let Some(schema) = schema_of(entries, &insert.table) else {
@@ -86,7 +90,8 @@ fn insert_command(
 ) -> Result<Command, NoMemory>
     requires typed { AreRowsOf (history.column_types schema.now) rows.now }
     requires few { length rows.now < 2 ^ 32 }
-    ensures { IfOk result (λ command. command ≡ commands.insert_command schema.now table.now rows.now partition) }
+    ensures { IfOk result (λ command. command ≡ commands.insert_command schema.now table.now
+        rows.now partition) }
 {
     let types = schema.types(alloc)?;
     let own = rows_in(alloc, schema, partition, rows)?;

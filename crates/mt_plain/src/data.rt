@@ -15,7 +15,9 @@ pub fn read_block(
     lines: &[u8],
     ended: bool,
 ) -> Result<Result<Block, DataFault>, NoMemory>
-    ensures rows { IfOk result (λ given. MatchResult given (λ b. inserted_rows types.now lines.now ended ≡ Ok b.rows) (λ fault. inserted_rows types.now lines.now ended ≡ Err fault)) }
+    ensures rows { IfOk result (λ given. MatchResult given
+        (λ b. inserted_rows types.now lines.now ended ≡ Ok b.rows)
+        (λ fault. inserted_rows types.now lines.now ended ≡ Err fault)) }
     ensures types { IfOk result (λ given. IfOk given (λ b. b.types ≡ types.now)) }
     ensures values { IfOk result (λ given. IfOk given (λ b. AreValues b.rows)) }
 {

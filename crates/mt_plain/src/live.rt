@@ -32,7 +32,8 @@ fn add_rows(
     rows: &mut Vec<Row>,
     command: &Command,
 ) -> Result<(), NoMemory>
-    ensures { OnOk result (rows.new.items ≡ rows_after table.now schema.now rows.old.items command.now) }
+    ensures { OnOk result (rows.new.items ≡ rows_after table.now schema.now rows.old.items
+        command.now) }
 {
     if let Command::Insert(insert) = command {
         if insert.table == *table {

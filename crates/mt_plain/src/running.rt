@@ -28,7 +28,8 @@ pub struct Outcome {
 ///
 /// `NoMemory` where an allocation failed.
 pub fn run(alloc: Global, statements: &[Result<Statement, Cause>]) -> Result<Outcome, NoMemory>
-    ensures run { IfOk result (λ done. ScriptRun calm statements.now done.history.items 0 done.out.items) }
+    ensures run { IfOk result
+        (λ done. ScriptRun calm statements.now done.history.items 0 done.out.items) }
     ensures legal { IfOk result (λ done. All IsWritten statements.now → IsLegal done.history.items) }
 {
     let mut history = Vec::new(alloc);
@@ -49,9 +50,11 @@ pub fn step(
     history: &mut Vec<Entry>,
     statement: &Result<Statement, Cause>,
 ) -> Result<Vec<u8>, NoMemory>
-    ensures takes { IfOk result (λ reply. Takes calm history.new.items 0 statement.now (length history.old.items) (length history.new.items) reply.items) }
+    ensures takes { IfOk result (λ reply. Takes calm history.new.items 0 statement.now
+        (length history.old.items) (length history.new.items) reply.items) }
     ensures grows { OnOk result (Grows history.old.items history.new.items) }
-    ensures legal { IsWritten statement.now → IsLegal history.old.items → IsLegal history.new.items }
+    ensures legal { IsWritten statement.now → IsLegal history.old.items
+        → IsLegal history.new.items }
     ensures err { OnErr result (history.new.items ≡ history.old.items) }
 {
     let before = history.len();
@@ -71,9 +74,11 @@ fn reply_to(
     history: &mut Vec<Entry>,
     statement: &Result<Statement, Cause>,
 ) -> Result<Vec<u8>, NoMemory>
-    ensures takes { IfOk result (λ reply. Takes calm history.new.items 0 statement.now (length history.old.items) (length history.new.items) reply.items) }
+    ensures takes { IfOk result (λ reply. Takes calm history.new.items 0 statement.now
+        (length history.old.items) (length history.new.items) reply.items) }
     ensures grows { Grows history.old.items history.new.items }
-    ensures legal { OnOk result (IsWritten statement.now → IsLegal history.old.items → IsLegal history.new.items) }
+    ensures legal { OnOk result (IsWritten statement.now → IsLegal history.old.items
+        → IsLegal history.new.items) }
 {
     match statement {
         Ok(statement) => step_statement(alloc, history, statement),
@@ -94,9 +99,11 @@ fn step_statement(
     history: &mut Vec<Entry>,
     statement: &Statement,
 ) -> Result<Vec<u8>, NoMemory>
-    ensures takes { IfOk result (λ reply. TakesStatement calm history.new.items 0 statement.now (length history.old.items) (length history.new.items) reply.items) }
+    ensures takes { IfOk result (λ reply. TakesStatement calm history.new.items 0 statement.now
+        (length history.old.items) (length history.new.items) reply.items) }
     ensures grows { Grows history.old.items history.new.items }
-    ensures legal { OnOk result (IsStatementText statement.now → IsLegal history.old.items → IsLegal history.new.items) }
+    ensures legal { OnOk result (IsStatementText statement.now → IsLegal history.old.items
+        → IsLegal history.new.items) }
 {
     match statement {
         Statement::Create(create) => step_create(alloc, history, create),
@@ -111,9 +118,12 @@ fn step_create(
     history: &mut Vec<Entry>,
     create: &CreateText,
 ) -> Result<Vec<u8>, NoMemory>
-    ensures takes { IfOk result (λ reply. TakesStatement calm history.new.items 0 (statement.Create create.now) (length history.old.items) (length history.new.items) reply.items) }
+    ensures takes { IfOk result (λ reply. TakesStatement calm history.new.items 0
+        (statement.Create create.now) (length history.old.items) (length history.new.items)
+        reply.items) }
     ensures grows { Grows history.old.items history.new.items }
-    ensures legal { OnOk result (0 < length create.now.key → IsLegal history.old.items → IsLegal history.new.items) }
+    ensures legal { OnOk result (0 < length create.now.key → IsLegal history.old.items
+        → IsLegal history.new.items) }
 {
     match create_commands(alloc, create)? {
         Ok(commands) => take_turns(alloc, history, commands),
@@ -127,7 +137,9 @@ fn step_insert(
     history: &mut Vec<Entry>,
     insert: &InsertText,
 ) -> Result<Vec<u8>, NoMemory>
-    ensures takes { IfOk result (λ reply. TakesStatement calm history.new.items 0 (statement.Insert insert.now) (length history.old.items) (length history.new.items) reply.items) }
+    ensures takes { IfOk result (λ reply. TakesStatement calm history.new.items 0
+        (statement.Insert insert.now) (length history.old.items) (length history.new.items)
+        reply.items) }
     ensures grows { Grows history.old.items history.new.items }
     ensures legal { OnOk result (IsLegal history.old.items → IsLegal history.new.items) }
 {
@@ -143,7 +155,8 @@ fn take_turns(
     history: &mut Vec<Entry>,
     commands: Vec<Command>,
 ) -> Result<Vec<u8>, NoMemory>
-    ensures took { IfOk result (λ reply. TookTurns commands.items history.old.items history.new.items reply.items) }
+    ensures took { IfOk result (λ reply. TookTurns commands.items history.old.items
+        history.new.items reply.items) }
     ensures grows { Grows history.old.items history.new.items }
 {
     match accept(alloc, history, commands)? {
@@ -154,7 +167,8 @@ fn take_turns(
 
 /// Answers a SELECT.
 fn step_select(alloc: Global, history: &[Entry], select: &SelectText) -> Result<Vec<u8>, NoMemory>
-    ensures { IfOk result (λ reply. TakesStatement calm history.now 0 (statement.Select select.now) (length history.now) (length history.now) reply.items) }
+    ensures { IfOk result (λ reply. TakesStatement calm history.now 0 (statement.Select select.now)
+        (length history.now) (length history.now) reply.items) }
 {
     let Some(schema) = schema_of(history, &select.table) else {
         return refused(alloc, Refusal::NoTable(select.table.twin(alloc)?));

@@ -20,7 +20,9 @@ pub fn answer(
     schema: &Schema,
     select: &SelectText,
 ) -> Result<Result<Vec<Bytes>, Refusal>, NoMemory>
-    ensures { IfOk result (λ given. MatchResult given (λ lines. Answer entries.now schema.now select.now lines.items) (λ why. selected_places schema.now.columns select.now.columns ≡ Err why)) }
+    ensures { IfOk result (λ given. MatchResult given
+        (λ lines. Answer entries.now schema.now select.now lines.items)
+        (λ why. selected_places schema.now.columns select.now.columns ≡ Err why)) }
 {
     let columns = schema.columns.as_slice();
     if columns.len() > u32::MAX as usize {

@@ -20,7 +20,8 @@ pub fn accept(
     history: &mut Vec<Entry>,
     commands: Vec<Command>,
 ) -> Result<Option<Refusal>, NoMemory>
-    ensures after { IfOk result (λ refused. after_turns 0 commands.items history.old.items ≡ record { history = history.new.items; refused = refused }) }
+    ensures after { IfOk result (λ refused. after_turns 0 commands.items history.old.items ≡ record
+        { history = history.new.items; refused = refused }) }
     ensures grows { Grows history.old.items history.new.items }
 {
     let mut accepted = 0;
@@ -68,7 +69,9 @@ pub fn create_turn(
 
 /// Why a partition has no room for another INSERT, or its table no number for it.
 fn insert_turn(entries: &[Entry], accepted: usize, insert: &Insert) -> Option<Refusal>
-    ensures { result ≡ reply.insert_turn (history.inserts insert.now.table insert.now.partition entries.now) (numbers.last_number insert.now.table entries.now) accepted }
+    ensures { result ≡ reply.insert_turn
+        (history.inserts insert.now.table insert.now.partition entries.now)
+        (numbers.last_number insert.now.table entries.now) accepted }
 {
     let parts = inserts(entries, &insert.table, insert.partition);
     if parts >= PART_LIMIT {

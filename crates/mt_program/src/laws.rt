@@ -16,13 +16,23 @@ ghost use Rattle.root_store.specs.Crashes.{Storage};
 /// failed. And so does a disk that was started again after a crash, at whatever moment, with one of the lists that the crash may have left:
 /// the first entries, all that were noted or more, or all of them and the one that was begun.
 pub fn premises_are_met()
-    ensures empty { (w : World) (script : List ℕ) → w.storage.disk ≡ Some [] → w.storage.annals ≡ Some (none_begun []) → w.source ≡ Some script → w.sink ≡ Some []
-        → Starts w (none_begun []) script [] × AllStand [] w.storage.clock [] × AllStand [] (w.storage.clock + 1) [] }
-    ensures next { (ended : Status) (before after w : World) (kept : Told) (script written more said : List ℕ) (left : Headline ended before after kept script written)
-        → list_any is_unsettled left.course.replies ≡ false → Begins after w more said → Starts w left.now more said }
-    ensures calm { (statements : List Item) (opened : ℕ) (now : Storage) (first : Told) (start : ℕ) (left : LeavesForCrashes statements opened now first start) (told : root.Told) (kept : Told)
-        → now.failed ≡ opened → now.disk ≡ Some told → now.annals ≡ Some kept → AllStand told now.clock (history kept) }
-    ensures crash { (statements : List Item) (opened : ℕ) (now : Storage) (first : Told) (start m mark : ℕ) (left : LeavesForCrashes statements opened now first start) (again : root.Told) (later : ℕ)
-        → IsMarkAfter (length first.list) start left.safe.kept.list m mark → root.IsStartedAgain left.safe.told now.clock mark again later
-        → (kept : Told) × IsFirstOf m left.safe.kept.list left.safe.kept.begun (history kept) × AllStand again later (history kept) }
+    ensures empty { (w : World) (script : List ℕ) → w.storage.disk ≡ Some []
+        → w.storage.annals ≡ Some (none_begun []) → w.source ≡ Some script → w.sink ≡ Some []
+        → Starts w (none_begun []) script [] × AllStand [] w.storage.clock []
+        × AllStand [] (w.storage.clock + 1) [] }
+    ensures next { (ended : Status) (before after w : World) (kept : Told)
+        (script written more said : List ℕ) (left : Headline ended before after kept script written)
+        → list_any is_unsettled left.course.replies ≡ false → Begins after w more said
+        → Starts w left.now more said }
+    ensures calm { (statements : List Item) (opened : ℕ) (now : Storage) (first : Told) (start : ℕ)
+        (left : LeavesForCrashes statements opened now first start) (told : root.Told) (kept : Told)
+        → now.failed ≡ opened → now.disk ≡ Some told → now.annals ≡ Some kept
+        → AllStand told now.clock (history kept) }
+    ensures crash { (statements : List Item) (opened : ℕ) (now : Storage) (first : Told)
+        (start m mark : ℕ) (left : LeavesForCrashes statements opened now first start)
+        (again : root.Told) (later : ℕ)
+        → IsMarkAfter (length first.list) start left.safe.kept.list m mark
+        → root.IsStartedAgain left.safe.told now.clock mark again later → (kept : Told)
+        × IsFirstOf m left.safe.kept.list left.safe.kept.begun (history kept)
+        × AllStand again later (history kept) }
 {}

@@ -42,7 +42,8 @@ fn read_next(
     alloc: Global,
     script: &[u8],
 ) -> Result<Option<(Result<Statement, Cause>, usize)>, NoMemory>
-    ensures found { IfOk result (λ found. next_statement script.now ≡ option_map (λ f. (f.0, drop f.1 script.now)) found) }
+    ensures found { IfOk result (λ found. next_statement script.now ≡ option_map
+        (λ f. (f.0, drop f.1 script.now)) found) }
     ensures used { IfOk result (λ found. IfSome found (λ f. (0 < f.1) × (f.1 ≤ length script.now))) }
 {
     match next_statement(alloc, script, true) {
@@ -66,19 +67,36 @@ pub fn serve<D: Disk, A: Annals, K: Sink, G: Gate>(
     script: &[u8],
 ) -> Ending
     requires ready { IsReady (D.failed disk.old) (D.told disk.old) store.old }
-    ensures run { (kept : Told) → A.told annals.old ≡ Some kept → D.Arm.tells arm.old ≡ true → CoreStands D.Arm.Dir.files (history kept) store.old → RootStands (D.told disk.old) (history kept)
-        → ServedBy result kept script.now store.old.opened (D.failed disk.new) (D.Arm.failed arm.new) (A.told annals.new) (D.told disk.new) (K.written sink.old) (K.written sink.new) }
-    ensures through_crashes { let was : Storage = record { disk = D.told disk.old; clock = D.clock disk.old; failed = D.failed disk.old; annals = A.told annals.old } in
-        let now : Storage = record { disk = D.told disk.new; clock = D.clock disk.new; failed = D.failed disk.new; annals = A.told annals.new } in
+    ensures run { (kept : Told) → A.told annals.old ≡ Some kept → D.Arm.tells arm.old ≡ true
+        → CoreStands D.Arm.Dir.files (history kept) store.old
+        → RootStands (D.told disk.old) (history kept)
+        → ServedBy result kept script.now store.old.opened (D.failed disk.new)
+        (D.Arm.failed arm.new) (A.told annals.new) (D.told disk.new) (K.written sink.old)
+        (K.written sink.new) }
+    ensures through_crashes { let was : Storage = record {
+      disk = D.told disk.old;
+      clock = D.clock disk.old;
+      failed = D.failed disk.old;
+      annals = A.told annals.old;
+    } in
+        let now : Storage = record {
+          disk = D.told disk.new;
+          clock = D.clock disk.new;
+          failed = D.failed disk.new;
+          annals = A.told annals.new;
+        } in
         (first : Told) (start : ℕ) → D.Arm.tells arm.old ≡ true
-        → KeepsThroughCrashes D.Arm.Dir.files store.old was first start → IsGainedBy [] (A.told annals.old) first
+        → KeepsThroughCrashes D.Arm.Dir.files store.old was first start
+        → IsGainedBy [] (A.told annals.old) first
         → LeavesForCrashes (statements_of script.now) store.old.opened now first start }
-    ensures undamaged { D.Arm.tells arm.old ≡ true → HasSoundParts D.Arm.Dir.files store.old → MetNoDamage (Ok result) }
+    ensures undamaged { D.Arm.tells arm.old ≡ true → HasSoundParts D.Arm.Dir.files store.old
+        → MetNoDamage (Ok result) }
     ensures started { D.started disk.new ≡ D.started disk.old }
     ensures disk_later { D.failed disk.old ≤ D.failed disk.new }
     ensures arm_later { D.Arm.failed arm.old ≤ D.Arm.failed arm.new }
     ensures sink_later { K.failed sink.old ≤ K.failed sink.new }
-    ensures write_fault { result ≡ Ending.WriteFault → Rose (K.failed sink.old) (K.failed sink.new) }
+    ensures write_fault { result ≡ Ending.WriteFault
+        → Rose (K.failed sink.old) (K.failed sink.new) }
 {
     let mut at = 0;
     let mut tally = Tally::none();

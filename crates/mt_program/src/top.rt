@@ -89,20 +89,39 @@ fn run_script<D: Disk, A: Annals, S: Source, K: Sink, G: Gate>(
     gate: &mut G,
 ) -> Result<Ending, Status>
     requires ready { IsReady (D.failed disk.old) (D.told disk.old) store.old }
-    ensures leaves { (kept : Told) (script : List ℕ) → A.told annals.old ≡ Some kept → D.Arm.tells arm.old ≡ true → S.left source.old ≡ Some script
-        → CoreStands D.Arm.Dir.files (history kept) store.old → RootStands (D.told disk.old) (history kept)
-        → LeftBy result kept script store.old.opened (D.failed disk.new) (D.Arm.failed arm.new) (A.told annals.new) (D.told disk.old) (D.told disk.new) (K.written sink.old) (K.written sink.new) }
-    ensures undamaged { D.Arm.tells arm.old ≡ true → HasSoundParts D.Arm.Dir.files store.old → MetNoDamage result }
-    ensures through_crashes { let was : Storage = record { disk = D.told disk.old; clock = D.clock disk.old; failed = D.failed disk.old; annals = A.told annals.old } in
-        let now : Storage = record { disk = D.told disk.new; clock = D.clock disk.new; failed = D.failed disk.new; annals = A.told annals.new } in
+    ensures leaves { (kept : Told) (script : List ℕ) → A.told annals.old ≡ Some kept
+        → D.Arm.tells arm.old ≡ true → S.left source.old ≡ Some script
+        → CoreStands D.Arm.Dir.files (history kept) store.old
+        → RootStands (D.told disk.old) (history kept)
+        → LeftBy result kept script store.old.opened (D.failed disk.new) (D.Arm.failed arm.new)
+        (A.told annals.new) (D.told disk.old) (D.told disk.new) (K.written sink.old)
+        (K.written sink.new) }
+    ensures undamaged { D.Arm.tells arm.old ≡ true → HasSoundParts D.Arm.Dir.files store.old
+        → MetNoDamage result }
+    ensures through_crashes { let was : Storage = record {
+      disk = D.told disk.old;
+      clock = D.clock disk.old;
+      failed = D.failed disk.old;
+      annals = A.told annals.old;
+    } in
+        let now : Storage = record {
+          disk = D.told disk.new;
+          clock = D.clock disk.new;
+          failed = D.failed disk.new;
+          annals = A.told annals.new;
+        } in
         (first : Told) (start : ℕ) → D.Arm.tells arm.old ≡ true
-        → KeepsThroughCrashes D.Arm.Dir.files store.old was first start → IsGainedBy [] (A.told annals.old) first
+        → KeepsThroughCrashes D.Arm.Dir.files store.old was first start
+        → IsGainedBy [] (A.told annals.old) first
         → LeavesOfScript (S.left source.old) store.old.opened now first start }
-    ensures whole { (script : List ℕ) → S.left source.old ≡ Some script → OnOk result ((length script < 2 ^ 40) × (S.left source.new ≡ Some [])) }
+    ensures whole { (script : List ℕ) → S.left source.old ≡ Some script
+        → OnOk result ((length script < 2 ^ 40) × (S.left source.new ≡ Some [])) }
     ensures early { IfErr result IsEarly }
-    ensures read { IsErrOf result Status.ReadFault → Rose (S.failed source.old) (S.failed source.new) }
+    ensures read { IsErrOf result Status.ReadFault
+        → Rose (S.failed source.old) (S.failed source.new) }
     ensures disk { result ≡ Err Status.DiskFault → ⊥ }
-    ensures long { IsErrOf result Status.TooLong → ConsumesMost (S.left source.old) (S.left source.new) }
+    ensures long { IsErrOf result Status.TooLong
+        → ConsumesMost (S.left source.old) (S.left source.new) }
     ensures write { result ≡ Ok Ending.WriteFault → Rose (K.failed sink.old) (K.failed sink.new) }
     ensures started { D.started disk.new ≡ D.started disk.old }
     ensures disk_later { D.failed disk.old ≤ D.failed disk.new }
@@ -118,7 +137,8 @@ fn run_script<D: Disk, A: Annals, S: Source, K: Sink, G: Gate>(
 
 /// Writes the line of what keeps the root from being opened.
 fn refuse_root<K: Sink>(alloc: Global, sink: &mut K, damage: &Damage) -> Status
-    ensures writes { WritesDamage result (damage_line damage.now) (K.failed sink.old) (K.failed sink.new) (K.written sink.old) (K.written sink.new) }
+    ensures writes { WritesDamage result (damage_line damage.now) (K.failed sink.old)
+        (K.failed sink.new) (K.written sink.old) (K.written sink.new) }
     ensures status { (result ≡ Status.Damaged) ⊎ (result ≡ Status.NoMemory) }
 {
     let line = match damage_line(alloc, damage) {
@@ -133,7 +153,8 @@ fn refuse_root<K: Sink>(alloc: Global, sink: &mut K, damage: &Damage) -> Status
 
 /// The status of a root that was not opened. Its damage is written.
 fn failed_root<K: Sink>(alloc: Global, sink: &mut K, fault: &OpenFault) -> Status
-    ensures writes { WritesFault fault.now result (K.failed sink.old) (K.failed sink.new) (K.written sink.old) (K.written sink.new) }
+    ensures writes { WritesFault fault.now result (K.failed sink.old) (K.failed sink.new)
+        (K.written sink.old) (K.written sink.new) }
     ensures early { IsEarly result }
     ensures read { result ≡ Status.ReadFault → ⊥ }
     ensures long { result ≡ Status.TooLong → ⊥ }
@@ -162,29 +183,62 @@ fn run_root<D: Disk, A: Annals, S: Source, K: Sink, G: Gate>(
 ) -> Result<Ending, Status>
     requires opened { opened ≤ D.failed disk.old }
     requires below { opened < 2 ^ 64 - 1 }
-    ensures leaves { (kept : Told) (told : root.Told) (script : List ℕ) → A.told annals.old ≡ Some kept → D.told disk.old ≡ Some told → Stands (root.names_of told) (history kept)
-        → D.Arm.tells arm.old ≡ true → S.left source.old ≡ Some script
-        → LeftBy result kept script opened (D.failed disk.new) (D.Arm.failed arm.new) (A.told annals.new) (D.told disk.old) (D.told disk.new) (K.written sink.old) (K.written sink.new) }
-    ensures opening { (told : root.Told) (damage : Damaged) → D.told disk.old ≡ Some told → IsRootDamage (root.names_of told) damage
-        → IsErrAnd result (λ ended. WritesDamage ended (damage_line damage) (K.failed sink.old) (K.failed sink.new) (K.written sink.old) (K.written sink.new))
-        × (D.told disk.new ≡ D.told disk.old) × (D.clock disk.new ≡ D.clock disk.old) × (A.told annals.new ≡ A.told annals.old) }
-    ensures sound { (kept : Told) (told : root.Told) → A.told annals.old ≡ Some kept → D.told disk.old ≡ Some told → Stands (root.names_of told) (history kept) → D.Arm.tells arm.old ≡ true → MetNoDamage result }
-    ensures damaged { (told : root.Told) → D.told disk.old ≡ Some told → D.Arm.tells arm.old ≡ true → MetNoDamage result ⊎ IsDamagedRoot (root.names_of told) }
-    ensures crashes { let now : Storage = record { disk = D.told disk.new; clock = D.clock disk.new; failed = D.failed disk.new; annals = A.told annals.new } in
-        (kept : Told) (told : root.Told) → A.told annals.old ≡ Some kept → D.told disk.old ≡ Some told → D.Arm.tells arm.old ≡ true → AllStand told (D.clock disk.old) (history kept)
+    ensures leaves { (kept : Told) (told : root.Told) (script : List ℕ)
+        → A.told annals.old ≡ Some kept → D.told disk.old ≡ Some told
+        → Stands (root.names_of told) (history kept) → D.Arm.tells arm.old ≡ true
+        → S.left source.old ≡ Some script
+        → LeftBy result kept script opened (D.failed disk.new) (D.Arm.failed arm.new)
+        (A.told annals.new) (D.told disk.old) (D.told disk.new) (K.written sink.old)
+        (K.written sink.new) }
+    ensures opening { (told : root.Told) (damage : Damaged) → D.told disk.old ≡ Some told
+        → IsRootDamage (root.names_of told) damage
+        → IsErrAnd result (λ ended. WritesDamage ended (damage_line damage) (K.failed sink.old)
+        (K.failed sink.new) (K.written sink.old) (K.written sink.new))
+        × (D.told disk.new ≡ D.told disk.old) × (D.clock disk.new ≡ D.clock disk.old)
+        × (A.told annals.new ≡ A.told annals.old) }
+    ensures sound { (kept : Told) (told : root.Told) → A.told annals.old ≡ Some kept
+        → D.told disk.old ≡ Some told → Stands (root.names_of told) (history kept)
+        → D.Arm.tells arm.old ≡ true → MetNoDamage result }
+    ensures damaged { (told : root.Told) → D.told disk.old ≡ Some told → D.Arm.tells arm.old ≡ true
+        → MetNoDamage result ⊎ IsDamagedRoot (root.names_of told) }
+    ensures crashes { let now : Storage = record {
+      disk = D.told disk.new;
+      clock = D.clock disk.new;
+      failed = D.failed disk.new;
+      annals = A.told annals.new;
+    } in
+        (kept : Told) (told : root.Told) → A.told annals.old ≡ Some kept
+        → D.told disk.old ≡ Some told → D.Arm.tells arm.old ≡ true
+        → AllStand told (D.clock disk.old) (history kept)
         → LeavesOfScript (S.left source.old) opened now kept (D.clock disk.old) }
-    ensures settles { let was : Storage = record { disk = D.told disk.old; clock = D.clock disk.old; failed = D.failed disk.old; annals = A.told annals.old } in
-        let now : Storage = record { disk = D.told disk.new; clock = D.clock disk.new; failed = D.failed disk.new; annals = A.told annals.new } in
-        (kept : Told) (told : root.Told) → A.told annals.old ≡ Some kept → D.told disk.old ≡ Some told → D.Arm.tells arm.old ≡ true → root.names_of told ≢ [] → AllStand told (D.clock disk.old + 1) (history kept)
+    ensures settles { let was : Storage = record {
+      disk = D.told disk.old;
+      clock = D.clock disk.old;
+      failed = D.failed disk.old;
+      annals = A.told annals.old;
+    } in
+        let now : Storage = record {
+          disk = D.told disk.new;
+          clock = D.clock disk.new;
+          failed = D.failed disk.new;
+          annals = A.told annals.new;
+        } in
+        (kept : Told) (told : root.Told) → A.told annals.old ≡ Some kept
+        → D.told disk.old ≡ Some told → D.Arm.tells arm.old ≡ true → root.names_of told ≢ []
+        → AllStand told (D.clock disk.old + 1) (history kept)
         → IsAsBefore was now (K.written sink.old) (K.written sink.new)
         ⊎ LeavesOfScript (S.left source.old) opened now kept (D.clock disk.old + 1) }
-    ensures whole { (script : List ℕ) → S.left source.old ≡ Some script → OnOk result ((length script < 2 ^ 40) × (S.left source.new ≡ Some [])) }
+    ensures whole { (script : List ℕ) → S.left source.old ≡ Some script
+        → OnOk result ((length script < 2 ^ 40) × (S.left source.new ≡ Some [])) }
     ensures early { IfErr result IsEarly }
     ensures unread { IsErrOf result Status.DiskFault → source.new ≡ source.old }
     ensures mark { IsErrOf result Status.DiskFault → D.clock disk.new ≡ D.clock disk.old }
-    ensures read { IsErrOf result Status.ReadFault → Rose (S.failed source.old) (S.failed source.new) }
-    ensures disk { IsErrOf result Status.DiskFault → Rose (D.failed disk.old) (D.failed disk.new) ⊎ Rose (D.Arm.failed arm.old) (D.Arm.failed arm.new) }
-    ensures long { IsErrOf result Status.TooLong → ConsumesMost (S.left source.old) (S.left source.new) }
+    ensures read { IsErrOf result Status.ReadFault
+        → Rose (S.failed source.old) (S.failed source.new) }
+    ensures disk { IsErrOf result Status.DiskFault → Rose (D.failed disk.old) (D.failed disk.new)
+        ⊎ Rose (D.Arm.failed arm.old) (D.Arm.failed arm.new) }
+    ensures long { IsErrOf result Status.TooLong
+        → ConsumesMost (S.left source.old) (S.left source.new) }
     ensures write { result ≡ Ok Ending.WriteFault → Rose (K.failed sink.old) (K.failed sink.new) }
     ensures started { D.started disk.new ≡ D.started disk.old }
     ensures disk_later { D.failed disk.old ≤ D.failed disk.new }
@@ -209,7 +263,12 @@ fn run_opened<D: Disk, A: Annals, S: Source, K: Sink, G: Gate>(
     gate: &mut G,
 ) -> Status
     ensures headline { let before : World = record {
-      storage = record { disk = D.told disk.old; clock = D.clock disk.old; failed = D.failed disk.old; annals = A.told annals.old };
+      storage = record {
+        disk = D.told disk.old;
+        clock = D.clock disk.old;
+        failed = D.failed disk.old;
+        annals = A.told annals.old;
+      };
       started = D.started disk.old;
       source = S.left source.old;
       source_failed = S.failed source.old;
@@ -217,29 +276,61 @@ fn run_opened<D: Disk, A: Annals, S: Source, K: Sink, G: Gate>(
       sink_failed = K.failed sink.old;
     } in
         let after : World = record {
-          storage = record { disk = D.told disk.new; clock = D.clock disk.new; failed = D.failed disk.new; annals = A.told annals.new };
+          storage = record {
+            disk = D.told disk.new;
+            clock = D.clock disk.new;
+            failed = D.failed disk.new;
+            annals = A.told annals.new;
+          };
           started = D.started disk.new;
           source = S.left source.new;
           source_failed = S.failed source.new;
           sink = K.written sink.new;
           sink_failed = K.failed sink.new;
         } in
-        (kept : Told) (script written : List ℕ) → Starts before kept script written → Headline result before after kept script written }
-    ensures opening { (told : root.Told) (damage : Damaged) → D.told disk.old ≡ Some told → IsRootDamage (root.names_of told) damage
-        → WritesDamage result (damage_line damage) (K.failed sink.old) (K.failed sink.new) (K.written sink.old) (K.written sink.new)
-        × (D.told disk.new ≡ D.told disk.old) × (D.clock disk.new ≡ D.clock disk.old) × (A.told annals.new ≡ A.told annals.old) }
-    ensures sound { (kept : Told) (told : root.Told) → A.told annals.old ≡ Some kept → D.told disk.old ≡ Some told → Stands (root.names_of told) (history kept) → result ≡ Status.Damaged → ⊥ }
-    ensures damaged { (told : root.Told) → D.told disk.old ≡ Some told → result ≡ Status.Damaged → IsDamagedRoot (root.names_of told) }
-    ensures crashes { let now : Storage = record { disk = D.told disk.new; clock = D.clock disk.new; failed = D.failed disk.new; annals = A.told annals.new } in
-        (kept : Told) (told : root.Told) → A.told annals.old ≡ Some kept → D.told disk.old ≡ Some told → AllStand told (D.clock disk.old) (history kept)
+        (kept : Told) (script written : List ℕ) → Starts before kept script written
+        → Headline result before after kept script written }
+    ensures opening { (told : root.Told) (damage : Damaged) → D.told disk.old ≡ Some told
+        → IsRootDamage (root.names_of told) damage
+        → WritesDamage result (damage_line damage) (K.failed sink.old) (K.failed sink.new)
+        (K.written sink.old) (K.written sink.new) × (D.told disk.new ≡ D.told disk.old)
+        × (D.clock disk.new ≡ D.clock disk.old) × (A.told annals.new ≡ A.told annals.old) }
+    ensures sound { (kept : Told) (told : root.Told) → A.told annals.old ≡ Some kept
+        → D.told disk.old ≡ Some told → Stands (root.names_of told) (history kept)
+        → result ≡ Status.Damaged → ⊥ }
+    ensures damaged { (told : root.Told) → D.told disk.old ≡ Some told → result ≡ Status.Damaged
+        → IsDamagedRoot (root.names_of told) }
+    ensures crashes { let now : Storage = record {
+      disk = D.told disk.new;
+      clock = D.clock disk.new;
+      failed = D.failed disk.new;
+      annals = A.told annals.new;
+    } in
+        (kept : Told) (told : root.Told) → A.told annals.old ≡ Some kept
+        → D.told disk.old ≡ Some told → AllStand told (D.clock disk.old) (history kept)
         → LeavesOfScript (S.left source.old) (D.failed disk.old) now kept (D.clock disk.old) }
-    ensures settles { let was : Storage = record { disk = D.told disk.old; clock = D.clock disk.old; failed = D.failed disk.old; annals = A.told annals.old } in
-        let now : Storage = record { disk = D.told disk.new; clock = D.clock disk.new; failed = D.failed disk.new; annals = A.told annals.new } in
-        (kept : Told) (told : root.Told) → A.told annals.old ≡ Some kept → D.told disk.old ≡ Some told → root.names_of told ≢ [] → AllStand told (D.clock disk.old + 1) (history kept)
+    ensures settles { let was : Storage = record {
+      disk = D.told disk.old;
+      clock = D.clock disk.old;
+      failed = D.failed disk.old;
+      annals = A.told annals.old;
+    } in
+        let now : Storage = record {
+          disk = D.told disk.new;
+          clock = D.clock disk.new;
+          failed = D.failed disk.new;
+          annals = A.told annals.new;
+        } in
+        (kept : Told) (told : root.Told) → A.told annals.old ≡ Some kept
+        → D.told disk.old ≡ Some told → root.names_of told ≢ []
+        → AllStand told (D.clock disk.old + 1) (history kept)
         → IsAsBefore was now (K.written sink.old) (K.written sink.new)
         ⊎ LeavesOfScript (S.left source.old) (D.failed disk.old) now kept (D.clock disk.old + 1) }
-    ensures full { D.failed disk.old ≡ 2 ^ 64 - 1 → (result ≡ Status.DiskFault) × (disk.new ≡ disk.old) × (annals.new ≡ annals.old) × (source.new ≡ source.old) × (sink.new ≡ sink.old) }
-    ensures whole { (script : List ℕ) → S.left source.old ≡ Some script → IsAnswered result → (length script < 2 ^ 40) × (S.left source.new ≡ Some []) }
+    ensures full { D.failed disk.old ≡ 2 ^ 64 - 1 → (result ≡ Status.DiskFault)
+        × (disk.new ≡ disk.old) × (annals.new ≡ annals.old) × (source.new ≡ source.old)
+        × (sink.new ≡ sink.old) }
+    ensures whole { (script : List ℕ) → S.left source.old ≡ Some script → IsAnswered result
+        → (length script < 2 ^ 40) × (S.left source.new ≡ Some []) }
     ensures words { result ≡ Status.NotWords → ⊥ }
     ensures folder { let before : World = record {
       storage = record {
@@ -312,7 +403,12 @@ fn run_words<D: Disk, A: Annals, S: Source, K: Sink, G: Gate>(
 ) -> Done<D, A>
     // What is answered.
     ensures headline { let before : World = record {
-      storage = record { disk = D.told disk; clock = D.clock disk; failed = D.failed disk; annals = A.told annals };
+      storage = record {
+        disk = D.told disk;
+        clock = D.clock disk;
+        failed = D.failed disk;
+        annals = A.told annals;
+      };
       started = D.started disk;
       source = S.left source.old;
       source_failed = S.failed source.old;
@@ -320,7 +416,12 @@ fn run_words<D: Disk, A: Annals, S: Source, K: Sink, G: Gate>(
       sink_failed = K.failed sink.old;
     } in
         let after : World = record {
-          storage = record { disk = D.told result.disk; clock = D.clock result.disk; failed = D.failed result.disk; annals = A.told result.annals };
+          storage = record {
+            disk = D.told result.disk;
+            clock = D.clock result.disk;
+            failed = D.failed result.disk;
+            annals = A.told result.annals;
+          };
           started = D.started result.disk;
           source = S.left source.new;
           source_failed = S.failed source.new;
@@ -329,7 +430,12 @@ fn run_words<D: Disk, A: Annals, S: Source, K: Sink, G: Gate>(
         } in
         HeadlineBy result.status before after }
     ensures complete { let before : World = record {
-      storage = record { disk = D.told disk; clock = D.clock disk; failed = D.failed disk; annals = A.told annals };
+      storage = record {
+        disk = D.told disk;
+        clock = D.clock disk;
+        failed = D.failed disk;
+        annals = A.told annals;
+      };
       started = D.started disk;
       source = S.left source.old;
       source_failed = S.failed source.old;
@@ -337,7 +443,12 @@ fn run_words<D: Disk, A: Annals, S: Source, K: Sink, G: Gate>(
       sink_failed = K.failed sink.old;
     } in
         let after : World = record {
-          storage = record { disk = D.told result.disk; clock = D.clock result.disk; failed = D.failed result.disk; annals = A.told result.annals };
+          storage = record {
+            disk = D.told result.disk;
+            clock = D.clock result.disk;
+            failed = D.failed result.disk;
+            annals = A.told result.annals;
+          };
           started = D.started result.disk;
           source = S.left source.new;
           source_failed = S.failed source.new;
@@ -347,7 +458,12 @@ fn run_words<D: Disk, A: Annals, S: Source, K: Sink, G: Gate>(
         IsComplete words.now before result.status after }
     // What a crash leaves, and what is told of damage.
     ensures crashes { let before : World = record {
-      storage = record { disk = D.told disk; clock = D.clock disk; failed = D.failed disk; annals = A.told annals };
+      storage = record {
+        disk = D.told disk;
+        clock = D.clock disk;
+        failed = D.failed disk;
+        annals = A.told annals;
+      };
       started = D.started disk;
       source = S.left source.old;
       source_failed = S.failed source.old;
@@ -355,7 +471,12 @@ fn run_words<D: Disk, A: Annals, S: Source, K: Sink, G: Gate>(
       sink_failed = K.failed sink.old;
     } in
         let after : World = record {
-          storage = record { disk = D.told result.disk; clock = D.clock result.disk; failed = D.failed result.disk; annals = A.told result.annals };
+          storage = record {
+            disk = D.told result.disk;
+            clock = D.clock result.disk;
+            failed = D.failed result.disk;
+            annals = A.told result.annals;
+          };
           started = D.started result.disk;
           source = S.left source.new;
           source_failed = S.failed source.new;
@@ -364,7 +485,12 @@ fn run_words<D: Disk, A: Annals, S: Source, K: Sink, G: Gate>(
         } in
         OfCrashes before after }
     ensures damage { let before : World = record {
-      storage = record { disk = D.told disk; clock = D.clock disk; failed = D.failed disk; annals = A.told annals };
+      storage = record {
+        disk = D.told disk;
+        clock = D.clock disk;
+        failed = D.failed disk;
+        annals = A.told annals;
+      };
       started = D.started disk;
       source = S.left source.old;
       source_failed = S.failed source.old;
@@ -372,7 +498,12 @@ fn run_words<D: Disk, A: Annals, S: Source, K: Sink, G: Gate>(
       sink_failed = K.failed sink.old;
     } in
         let after : World = record {
-          storage = record { disk = D.told result.disk; clock = D.clock result.disk; failed = D.failed result.disk; annals = A.told result.annals };
+          storage = record {
+            disk = D.told result.disk;
+            clock = D.clock result.disk;
+            failed = D.failed result.disk;
+            annals = A.told result.annals;
+          };
           started = D.started result.disk;
           source = S.left source.new;
           source_failed = S.failed source.new;
@@ -416,10 +547,12 @@ fn run_words<D: Disk, A: Annals, S: Source, K: Sink, G: Gate>(
     ensures write { result.status ≡ 4 → Rose (K.failed sink.old) (K.failed sink.new) }
     ensures disk { result.status ≡ 5 → Rose (D.failed disk) (D.failed result.disk) }
     ensures long { result.status ≡ 8 → ConsumesMost (S.left source.old) (S.left source.new) }
-    ensures whole { (script : List ℕ) → S.left source.old ≡ Some script → result.status ≤ 1 → (length script < 2 ^ 40) × (S.left source.new ≡ Some []) }
+    ensures whole { (script : List ℕ) → S.left source.old ≡ Some script → result.status ≤ 1
+        → (length script < 2 ^ 40) × (S.left source.new ≡ Some []) }
     ensures calm { result.status ≤ 1 → D.failed result.disk ≡ D.failed disk }
     ensures untouched { (result.status ≡ 2) ⊎ (D.failed disk ≡ 2 ^ 64 - 1)
-        → (source.new ≡ source.old) × (sink.new ≡ sink.old) × (result.disk ≡ disk) × (result.annals ≡ annals) }
+        → (source.new ≡ source.old) × (sink.new ≡ sink.old) × (result.disk ≡ disk)
+        × (result.annals ≡ annals) }
 {
     if !is_command_line(words) {
         let status = Status::NotWords.number();
@@ -452,7 +585,12 @@ pub fn run_alone<D: Disk, A: Annals, S: Source, K: Sink, G: Gate>(
     gate: &mut G,
 ) -> Done<D, A>
     ensures promises { let before : World = record {
-      storage = record { disk = D.told disk; clock = D.clock disk; failed = D.failed disk; annals = A.told annals };
+      storage = record {
+        disk = D.told disk;
+        clock = D.clock disk;
+        failed = D.failed disk;
+        annals = A.told annals;
+      };
       started = D.started disk;
       source = S.left source.old;
       source_failed = S.failed source.old;
@@ -460,7 +598,12 @@ pub fn run_alone<D: Disk, A: Annals, S: Source, K: Sink, G: Gate>(
       sink_failed = K.failed sink.old;
     } in
         let after : World = record {
-          storage = record { disk = D.told result.disk; clock = D.clock result.disk; failed = D.failed result.disk; annals = A.told result.annals };
+          storage = record {
+            disk = D.told result.disk;
+            clock = D.clock result.disk;
+            failed = D.failed result.disk;
+            annals = A.told result.annals;
+          };
           started = D.started result.disk;
           source = S.left source.new;
           source_failed = S.failed source.new;
@@ -469,7 +612,8 @@ pub fn run_alone<D: Disk, A: Annals, S: Source, K: Sink, G: Gate>(
         } in
         Promises words.now before result.status after }
     ensures untouched { (result.status ≡ 2) ⊎ (D.failed disk ≡ 2 ^ 64 - 1)
-        → (source.new ≡ source.old) × (sink.new ≡ sink.old) × (result.disk ≡ disk) × (result.annals ≡ annals) }
+        → (source.new ≡ source.old) × (sink.new ≡ sink.old) × (result.disk ≡ disk)
+        × (result.annals ≡ annals) }
 {
     run_words(alloc, words, source, sink, disk, annals, gate)
 }
@@ -490,7 +634,12 @@ pub fn run<R: Threads + Wait + Sync, D: Disk, A: Annals, S: Source, K: Sink, G: 
     gate: &mut G,
 ) -> Done<D, A>
     ensures promises { let before : World = record {
-      storage = record { disk = D.told disk; clock = D.clock disk; failed = D.failed disk; annals = A.told annals };
+      storage = record {
+        disk = D.told disk;
+        clock = D.clock disk;
+        failed = D.failed disk;
+        annals = A.told annals;
+      };
       started = D.started disk;
       source = S.left source.old;
       source_failed = S.failed source.old;
@@ -498,7 +647,12 @@ pub fn run<R: Threads + Wait + Sync, D: Disk, A: Annals, S: Source, K: Sink, G: 
       sink_failed = K.failed sink.old;
     } in
         let after : World = record {
-          storage = record { disk = D.told result.disk; clock = D.clock result.disk; failed = D.failed result.disk; annals = A.told result.annals };
+          storage = record {
+            disk = D.told result.disk;
+            clock = D.clock result.disk;
+            failed = D.failed result.disk;
+            annals = A.told result.annals;
+          };
           started = D.started result.disk;
           source = S.left source.new;
           source_failed = S.failed source.new;
@@ -507,7 +661,8 @@ pub fn run<R: Threads + Wait + Sync, D: Disk, A: Annals, S: Source, K: Sink, G: 
         } in
         Promises words.now before result.status after }
     ensures untouched { (result.status ≡ 2) ⊎ (D.failed disk ≡ 2 ^ 64 - 1)
-        → (source.new ≡ source.old) × (sink.new ≡ sink.old) × (result.disk ≡ disk) × (result.annals ≡ annals) }
+        → (source.new ≡ source.old) × (sink.new ≡ sink.old) × (result.disk ≡ disk)
+        × (result.annals ≡ annals) }
 {
     run_alone(alloc, words, source, sink, disk, annals, gate)
 }

@@ -146,7 +146,10 @@ impl Block {
 /// `NoMemory` where an allocation failed; some of the first values may have been added then.
 fn push_values(column: &mut ColumnData, rows: &[Row], place: usize) -> Result<(), NoMemory>
     requires { HaveTypeAt place column.old.col_type rows.now }
-    ensures { OnOk result (column.new ≡ record column.old { values = column.old.values ++ column_of place rows.now }) }
+    ensures { OnOk result (column.new ≡ record column.old {
+      values = column.old.values ++ column_of
+          place rows.now;
+    }) }
 {
     for row in rows {
         column.push_cell(Cell::of(row.at(place)))?;

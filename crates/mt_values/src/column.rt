@@ -76,7 +76,10 @@ impl Cells {
     /// `NoMemory` where an allocation failed; the column stays as it was.
     fn push(&mut self, cell: Cell) -> Result<(), NoMemory>
         requires { type_of (value_of cell) ≡ (cells_of self.old).col_type }
-        ensures ok { OnOk result (cells_of self.new ≡ record (cells_of self.old) { values = (cells_of self.old).values ++ value_of cell.entry ∷ [] }) }
+        ensures ok { OnOk result (cells_of self.new ≡ record (cells_of self.old) {
+          values =
+              (cells_of self.old).values ++ value_of cell.entry ∷ [];
+        }) }
         ensures err { OnErr result (cells_of self.new ≡ cells_of self.old) }
     {
         // A cell of another type does not come, so the second arms add nothing.
@@ -195,7 +198,8 @@ impl ColumnData {
     /// `NoMemory` where an allocation failed; the column stays as it was.
     pub fn push(&mut self, value: Value) -> Result<(), NoMemory>
         requires { type_of value ≡ self.old.col_type }
-        ensures ok { OnOk result (self.new ≡ record self.old { values = self.old.values ++ value ∷ [] }) }
+        ensures ok { OnOk result
+            (self.new ≡ record self.old { values = self.old.values ++ value ∷ [] }) }
         ensures err { OnErr result (self.new ≡ self.old) }
     {
         self.push_cell(Cell::of(&value))
@@ -206,7 +210,10 @@ impl ColumnData {
     /// `NoMemory` where an allocation failed; the column stays as it was.
     pub fn push_cell(&mut self, cell: Cell) -> Result<(), NoMemory>
         requires { type_of (value_of cell) ≡ self.old.col_type }
-        ensures ok { OnOk result (self.new ≡ record self.old { values = self.old.values ++ value_of cell.entry ∷ [] }) }
+        ensures ok { OnOk result (self.new ≡ record self.old {
+          values = self.old.values ++ value_of
+              cell.entry ∷ [];
+        }) }
         ensures err { OnErr result (self.new ≡ self.old) }
     {
         self.cells.push(cell)
@@ -217,7 +224,10 @@ impl ColumnData {
     /// `NoMemory` where an allocation failed; the column stays as it was.
     pub fn push_text(&mut self, text: &[u8]) -> Result<(), NoMemory>
         requires { self.old.col_type ≡ type.Text }
-        ensures ok { OnOk result (self.new ≡ record self.old { values = self.old.values ++ value.Text text.now ∷ [] }) }
+        ensures ok { OnOk result (self.new ≡ record self.old {
+          values = self.old.values ++
+              value.Text text.now ∷ [];
+        }) }
         ensures err { OnErr result (self.new ≡ self.old) }
     {
         self.push_cell(Cell::Text(text))

@@ -40,7 +40,8 @@ impl Schema {
     ///
     /// Its pairs of columns and of mentions are compared one by one: a table has 64 columns at most.
     pub fn check(&self) -> Result<(), SchemaFault>
-        ensures { MatchResult result (λ _. schema_fault self.now ≡ None) (λ fault. schema_fault self.now ≡ Some fault) }
+        ensures { MatchResult result (λ _. schema_fault self.now ≡ None)
+            (λ fault. schema_fault self.now ≡ Some fault) }
     {
         if self.columns.is_empty() {
             return Err(SchemaFault::NoColumns);

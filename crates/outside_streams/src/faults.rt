@@ -58,7 +58,8 @@ impl Faults {
 
     /// Takes over the count of an object that is given up: where calls of it had failed, one more has failed here.
     pub fn take(&mut self, failed: u64)
-        ensures count { self.new.count ≡ (if nat_lt 0 failed then next self.old.count else self.old.count) }
+        ensures count { self.new.count ≡
+            (if nat_lt 0 failed then next self.old.count else self.old.count) }
         ensures taken { 0 < failed → Rose self.old.count self.new.count }
         ensures none_failed { failed ≡ 0 → self.new.count ≡ self.old.count }
         ensures later { self.old.count ≤ self.new.count }

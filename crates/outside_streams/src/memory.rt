@@ -60,7 +60,8 @@ fn next_place(pieces: &[Vec<u8>], piece: usize, place: usize) -> (usize, usize)
     requires inside { place ≤ length (first (left_pieces pieces.now piece 0)) }
     ensures within { result.0 ≤ length pieces.now }
     ensures inside { result.1 ≤ length (first (left_pieces pieces.now result.0 0)) }
-    ensures ready { left_pieces pieces.now result.0 result.1 ≡ ready (left_pieces pieces.now piece place) }
+    ensures ready { left_pieces pieces.now result.0 result.1 ≡ ready
+        (left_pieces pieces.now piece place) }
 {
     let mut piece = piece;
     let mut place = place;
@@ -96,12 +97,15 @@ impl Source for MemSource {
 
     fn read(&mut self, buf: &mut [u8]) -> Result<usize, ReadFault>
         ensures bound { ReadsAtMost result buf.new }
-        ensures bytes { ReadConsumes (Some (concat self.old.pieces)) (Some (concat self.new.pieces)) result buf.new }
+        ensures bytes { ReadConsumes (Some (concat self.old.pieces)) (Some (concat self.new.pieces))
+            result buf.new }
         ensures cause { HasCause self.old.failed self.new.failed result }
         ensures listed { IsErr result ↔ Contains self.old.fail self.old.calls }
         ensures count { self.new.failed ≡ counted result self.old.failed }
         ensures calls { (self.new.calls ≡ next self.old.calls) × (self.new.fail ≡ self.old.fail) }
-        ensures given { IfOk result (λ n. (n ≡ min (length buf.new) (length (first (ready self.old.pieces)))) × (self.new.pieces ≡ drop_first n (ready self.old.pieces))) }
+        ensures given { IfOk result (λ n.
+            (n ≡ min (length buf.new) (length (first (ready self.old.pieces))))
+            × (self.new.pieces ≡ drop_first n (ready self.old.pieces))) }
     {
         let call = self.calls;
         self.calls = call.saturating_add(1);
@@ -193,7 +197,8 @@ impl Sink for MemSink {
     fn write(&mut self, bytes: &[u8]) -> Result<usize, WriteFault>
         ensures bound { WritesAtMost result bytes.now }
         ensures some { IfOk result (λ n. 0 < length bytes.now → 0 < n) }
-        ensures bytes { WriteAppends (Some self.old.written) (Some self.new.written) result bytes.now }
+        ensures bytes { WriteAppends (Some self.old.written) (Some self.new.written) result
+            bytes.now }
         ensures cause { HasCause self.old.failed self.new.failed result }
         ensures listed { Contains self.old.fail self.old.calls → IsErr result }
         ensures count { self.new.failed ≡ counted result self.old.failed }

@@ -16,34 +16,43 @@ ghost use Rattle.part_history.specs.Parts.{AreInBlockOrder, TableStands, parts_i
 
 /// The rows of the parts that stand for a table, part after part in block order, are what merges may have left of its live rows.
 pub fn parts_stand_for_live_rows()
-    ensures { (h : History) (table : List ℕ) (schema : Schema) (parts : List CorePart)
-        → IsLegal h → schema_of table h ≡ Some schema → TableStands table parts h → AreInBlockOrder parts
+    ensures { (h : History) (table : List ℕ) (schema : Schema) (parts : List CorePart) → IsLegal h
+        → schema_of table h ≡ Some schema → TableStands table parts h → AreInBlockOrder parts
         → Partly schema (live table schema h) (rows_of_parts parts) }
 {}
 
 /// The parts that stand for a table stand for it as the history grows: where nothing drew a number of it they stay, and an
 /// INSERT into it adds the part that it makes, after the others in block order.
 pub fn parts_stand_as_histories_grow()
-    ensures other { (h more : History) (table : List ℕ) (parts : List CorePart) → numbered table more ≡ [] → TableStands table parts h → TableStands table parts (h ++ more) }
-    ensures insert { (h : History) (session : ℕ) (i : Insert) (schema : Schema) (parts : List CorePart) → schema_of i.table h ≡ Some schema → TableStands i.table parts h
-        → TableStands i.table (parts ++ part_of_insert schema (next_number i.table h) i ∷ []) (entered h session (command.Insert i ∷ [])) }
-    ensures order { (h : History) (i : Insert) (schema : Schema) (parts : List CorePart) → IsLegal h → MayHavePartition schema i.partition → TableStands i.table parts h → AreInBlockOrder parts
+    ensures other { (h more : History) (table : List ℕ) (parts : List CorePart)
+        → numbered table more ≡ [] → TableStands table parts h
+        → TableStands table parts (h ++ more) }
+    ensures insert { (h : History) (session : ℕ) (i : Insert) (schema : Schema)
+        (parts : List CorePart) → schema_of i.table h ≡ Some schema → TableStands i.table parts h
+        → TableStands i.table (parts ++ part_of_insert schema (next_number i.table h) i ∷ [])
+        (entered h session (command.Insert i ∷ [])) }
+    ensures order { (h : History) (i : Insert) (schema : Schema) (parts : List CorePart) → IsLegal h
+        → MayHavePartition schema i.partition → TableStands i.table parts h → AreInBlockOrder parts
         → AreInBlockOrder (parts ++ part_of_insert schema (next_number i.table h) i ∷ []) }
 {}
 
 /// The parts that stand for a table are of partitions that it may have and end below its next number, and of two of one
 /// partition one stands before the other.
 pub fn parts_stand_apart()
-    ensures may { (h : History) (table : List ℕ) (schema : Schema) (parts : List CorePart) → IsLegal h → schema_of table h ≡ Some schema
-        → TableStands table parts h → All (λ p. MayHavePartition schema p.name.partition) parts }
-    ensures below { (h : History) (table : List ℕ) (parts : List CorePart) → TableStands table parts h → All (λ p. p.name.max_block < next_number table h) parts }
-    ensures before { (h : History) (table : List ℕ) (parts : List CorePart) (i j : ℕ) (a b : CorePart) → TableStands table parts h
-        → slice_get parts i ≡ Some a → slice_get parts j ≡ Some b → i ≢ j → a.name.partition ≡ b.name.partition
+    ensures may { (h : History) (table : List ℕ) (schema : Schema) (parts : List CorePart)
+        → IsLegal h → schema_of table h ≡ Some schema → TableStands table parts h
+        → All (λ p. MayHavePartition schema p.name.partition) parts }
+    ensures below { (h : History) (table : List ℕ) (parts : List CorePart)
+        → TableStands table parts h → All (λ p. p.name.max_block < next_number table h) parts }
+    ensures before { (h : History) (table : List ℕ) (parts : List CorePart) (i j : ℕ)
+        (a b : CorePart) → TableStands table parts h → slice_get parts i ≡ Some a
+        → slice_get parts j ≡ Some b → i ≢ j → a.name.partition ≡ b.name.partition
         → IsPartName a.name → IsPartName b.name → Before a.name b.name ⊎ Before b.name a.name }
 {}
 
 /// A table has in a partition at most one part for each INSERT that was accepted into it: merges leave fewer.
 pub fn parts_are_at_most_inserts()
     ensures { (h : History) (table : List ℕ) (parts : List CorePart) (partition : Partition)
-        → TableStands table parts h → length (parts_in partition parts) ≤ inserts table partition h }
+        → TableStands table parts h
+        → length (parts_in partition parts) ≤ inserts table partition h }
 {}

@@ -13,7 +13,8 @@ pub fn part_texts_are_told_apart()
 pub fn containment_is_an_order()
     ensures self_contained { (a : PartName) → Contains a a }
     ensures passed_on { (a b c : PartName) → Contains a b → Contains b c → Contains a c }
-    ensures one { (a b : PartName) → IsPartName a → IsPartName b → Contains a b → Contains b a → a ≡ b }
+    ensures one { (a b : PartName) → IsPartName a → IsPartName b → Contains a b → Contains b a
+        → a ≡ b }
     ensures not_before { (a b : PartName) → IsPartName b → Contains a b → Before a b → ⊥ }
     ensures not_behind { (a b : PartName) → IsPartName b → Contains a b → Before b a → ⊥ }
 {}

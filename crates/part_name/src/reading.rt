@@ -24,7 +24,8 @@ fn begins_number(digits: &[u8]) -> bool
 
 // The number with one more digit; none where the byte is no digit, or where that passes the greatest number.
 fn with_digit(most: u64, number: u64, byte: u8) -> Option<u64>
-    ensures { SomeIff result ((digit_value byte < 10) × (number * 10 + digit_value byte ≤ most)) (number * 10 + digit_value byte) }
+    ensures { SomeIff result ((digit_value byte < 10) × (number * 10 + digit_value byte ≤ most))
+        (number * 10 + digit_value byte) }
 {
     if !byte.is_ascii_digit() {
         return None;
@@ -98,8 +99,11 @@ fn split(text: &[u8]) -> Option<(&[u8], &[u8])>
 
 // The partition before the first underscore, and what comes after it.
 fn partition_in_front(text: &[u8]) -> Option<(Partition, &[u8])>
-    ensures spelled { IfSome result (λ p. IsPartition p.0 × (joined (partition_text p.0) p.1.now ≡ text.now)) }
-    ensures read { (p : Partition) (rest : List ℕ) → IsPartition p → joined (partition_text p) rest ≡ text.now → IsSomeAnd result (λ q. (q.0 ≡ p) × (q.1.now ≡ rest)) }
+    ensures spelled { IfSome result
+        (λ p. IsPartition p.0 × (joined (partition_text p.0) p.1.now ≡ text.now)) }
+    ensures read { (p : Partition) (rest : List ℕ) → IsPartition p
+        → joined (partition_text p) rest ≡ text.now
+        → IsSomeAnd result (λ q. (q.0 ≡ p) × (q.1.now ≡ rest)) }
 {
     let (front, rest) = split(text)?;
     let found = partition(front)?;
@@ -109,7 +113,8 @@ fn partition_in_front(text: &[u8]) -> Option<(Partition, &[u8])>
 // The number of a block before the first underscore, and what comes after it.
 fn block_in_front(text: &[u8]) -> Option<(u32, &[u8])>
     ensures spelled { IfSome result (λ p. IsBlock p.0 × (joined (decimal p.0) p.1.now ≡ text.now)) }
-    ensures read { (n : ℕ) (rest : List ℕ) → IsBlock n → joined (decimal n) rest ≡ text.now → IsSomeAnd result (λ q. (q.0 ≡ n) × (q.1.now ≡ rest)) }
+    ensures read { (n : ℕ) (rest : List ℕ) → IsBlock n → joined (decimal n) rest ≡ text.now
+        → IsSomeAnd result (λ q. (q.0 ≡ n) × (q.1.now ≡ rest)) }
 {
     let (front, rest) = split(text)?;
     let number = block(front)?;
@@ -118,8 +123,10 @@ fn block_in_front(text: &[u8]) -> Option<(u32, &[u8])>
 
 // The level, and the mutation after it where there is one.
 fn level_and_mutation(text: &[u8]) -> Option<(u32, Option<u32>)>
-    ensures spelled { IfSome result (λ p. (p.0 ≤ 4294967295) × IsMutation p.1 × (last_text p.0 p.1 ≡ text.now)) }
-    ensures read { (n : ℕ) (mutation : Option ℕ) → n ≤ 4294967295 → IsMutation mutation → last_text n mutation ≡ text.now → result ≡ Some (n, mutation) }
+    ensures spelled { IfSome result
+        (λ p. (p.0 ≤ 4294967295) × IsMutation p.1 × (last_text p.0 p.1 ≡ text.now)) }
+    ensures read { (n : ℕ) (mutation : Option ℕ) → n ≤ 4294967295 → IsMutation mutation
+        → last_text n mutation ≡ text.now → result ≡ Some (n, mutation) }
 {
     let Some((front, rest)) = split(text) else {
         return Some((level(text)?, None));

@@ -31,15 +31,23 @@ pub fn check_part<R: Arm>(
     schema: &Schema,
     arm: &mut R,
 ) -> Result<(), PartFault>
-    ensures checked { OnOk result (AreChecked (R.Dir.files part.now.dir) schema.now part.now.loaded.manifest (content_ids schema.now)) }
-    ensures damaged { IfErr result (ExplainsCheck (R.Dir.files part.now.dir) schema.now part.now.loaded.manifest) }
+    ensures checked { OnOk result (AreChecked (R.Dir.files part.now.dir) schema.now
+        part.now.loaded.manifest (content_ids schema.now)) }
+    ensures damaged { IfErr result (ExplainsCheck (R.Dir.files part.now.dir) schema.now
+        part.now.loaded.manifest) }
     ensures first { (files : Files) → R.Dir.files part.now.dir ≡ Some files
-        → MatchResult result (λ _. first_unsound schema.now part.now.loaded.manifest files (content_ids schema.now) ≡ None) (Tells (λ found. first_unsound schema.now part.now.loaded.manifest files (content_ids schema.now) ≡ found)) }
-    ensures file { (files : Files) → R.Dir.files part.now.dir ≡ Some files → IsManifestFor schema.now (bytes_of file.Manifest files) part.now.loaded.manifest
-        → MatchResult result (λ _. damaged_file schema.now files ≡ None) (Tells (λ found. damaged_file schema.now files ≡ found)) }
-    ensures held { (files : Files) → R.Dir.files part.now.dir ≡ Some files → length part.now.loaded.manifest.files ≡ length (content_ids schema.now)
+        → MatchResult result (λ _. first_unsound schema.now part.now.loaded.manifest files
+        (content_ids schema.now) ≡ None) (Tells (λ found. first_unsound schema.now
+        part.now.loaded.manifest files (content_ids schema.now) ≡ found)) }
+    ensures file { (files : Files) → R.Dir.files part.now.dir ≡ Some files
+        → IsManifestFor schema.now (bytes_of file.Manifest files) part.now.loaded.manifest
+        → MatchResult result (λ _. damaged_file schema.now files ≡ None)
+        (Tells (λ found. damaged_file schema.now files ≡ found)) }
+    ensures held { (files : Files) → R.Dir.files part.now.dir ≡ Some files
+        → length part.now.loaded.manifest.files ≡ length (content_ids schema.now)
         → OnOk result ((rows : List Row) × PartHolds R.Dir.files schema.now part.now rows) }
-    ensures sound { (rows : List Row) → PartHolds R.Dir.files schema.now part.now rows → IfErr result IsNoDamage }
+    ensures sound { (rows : List Row) → PartHolds R.Dir.files schema.now part.now rows
+        → IfErr result IsNoDamage }
     ensures tells { R.tells arm.new ≡ R.tells arm.old }
     ensures later { R.failed arm.old ≤ R.failed arm.new }
     ensures fault { IsErrOf result PartFault.Fault → Rose (R.failed arm.old) (R.failed arm.new) }
@@ -69,8 +77,10 @@ fn check_file<R: Arm>(
     arm: &mut R,
 ) -> Result<(), PartFault>
     requires content { IsContent schema.now file }
-    ensures checked { OnOk result (IsChecked (R.Dir.files part.now.dir) schema.now part.now.loaded.manifest file) }
-    ensures damaged { IfErr result (ExplainsFile (R.Dir.files part.now.dir) part.now.loaded.manifest file (GoesWrongAt schema.now part.now.loaded.manifest.rows file)) }
+    ensures checked { OnOk result (IsChecked (R.Dir.files part.now.dir) schema.now
+        part.now.loaded.manifest file) }
+    ensures damaged { IfErr result (ExplainsFile (R.Dir.files part.now.dir) part.now.loaded.manifest
+        file (GoesWrongAt schema.now part.now.loaded.manifest.rows file)) }
     ensures tells { R.tells arm.new ≡ R.tells arm.old }
     ensures later { R.failed arm.old ≤ R.failed arm.new }
     ensures fault { IsErrOf result PartFault.Fault → Rose (R.failed arm.old) (R.failed arm.new) }
@@ -90,7 +100,9 @@ fn check_bytes(
     bytes: &[u8],
 ) -> Result<(), PartFault>
     requires content { IsContent schema.now file }
-    ensures { MatchResult result (λ _. IsSound schema.now manifest.now file bytes.now) (ExplainsBytes manifest.now file (GoesWrongAt schema.now manifest.now.rows file bytes.now) bytes.now) }
+    ensures { MatchResult result (λ _. IsSound schema.now manifest.now file bytes.now)
+        (ExplainsBytes manifest.now file (GoesWrongAt schema.now manifest.now.rows file bytes.now)
+        bytes.now) }
 {
     let mark = mark_found(manifest, file, bytes)?;
     match check_content(schema, file, bytes, manifest.rows) {
@@ -110,7 +122,8 @@ fn check_bytes(
 /// `Malformed` at their first fault. It is never `NoMemory`.
 fn check_content(schema: &Schema, file: FileId, bytes: &[u8], rows: u64) -> Result<(), FormatFault>
     requires content { IsContent schema.now file }
-    ensures { MatchResult result (λ _. SpellsFile schema.now rows file bytes.now) (LocatesFault schema.now rows file bytes.now) }
+    ensures { MatchResult result (λ _. SpellsFile schema.now rows file bytes.now)
+        (LocatesFault schema.now rows file bytes.now) }
 {
     match file {
         FileId::Column(number) => {

@@ -21,7 +21,8 @@ pub fn read_file<R: Arm>(
     dir: &R::Dir,
     file: FileId,
 ) -> Result<Vec<u8>, PartFault>
-    ensures bytes { (files : Files) → R.Dir.files dir.now ≡ Some files → IfOk result (λ v. v.items ≡ bytes_of file files) }
+    ensures bytes { (files : Files) → R.Dir.files dir.now ≡ Some files
+        → IfOk result (λ v. v.items ≡ bytes_of file files) }
     ensures tells { R.tells arm.new ≡ R.tells arm.old }
     ensures later { R.failed arm.old ≤ R.failed arm.new }
     ensures fault { IsErrOf result PartFault.Fault → Rose (R.failed arm.old) (R.failed arm.new) }

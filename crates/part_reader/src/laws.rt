@@ -23,31 +23,46 @@ use mt_outside::Dir;
 /// A folder with the files that were written of rows holds them. A part whose folder holds rows, and of which their manifest is kept, holds
 /// these rows; so it does at any of its columns. The manifest's mark of a file is the one at the file's place.
 pub fn parts_hold_what_was_written<D: Dir>()
-    ensures sealed { (schema : Schema) (rows : List Row) → AreRowsOf (column_types schema) rows → All (λ (row : Row). All FitsType row) rows
-        → IsManifestOf (manifest_bytes sha256 (manifest_of schema rows)) (manifest_of schema rows) → FolderHolds schema rows (all_synced (files_of_part schema rows)) }
-    ensures written { (schema : Schema) (part : Part D) (rows : List Row) (files : Files) → D.files part.dir ≡ Some files → part.loaded.manifest ≡ manifest_of schema rows
+    ensures sealed { (schema : Schema) (rows : List Row) → AreRowsOf (column_types schema) rows
+        → All (λ (row : Row). All FitsType row) rows
+        → IsManifestOf (manifest_bytes sha256 (manifest_of schema rows)) (manifest_of schema rows)
+        → FolderHolds schema rows (all_synced (files_of_part schema rows)) }
+    ensures written { (schema : Schema) (part : Part D) (rows : List Row) (files : Files)
+        → D.files part.dir ≡ Some files → part.loaded.manifest ≡ manifest_of schema rows
         → FolderHolds schema rows files → PartHolds D.files schema part rows }
-    ensures columns { (schema : Schema) (part : Part D) (places : List ℕ) (rows : List Row) → PartHolds D.files schema part rows
-        → All (λ place. place < length schema.columns) places → HoldsAt D.files schema part (map file.Column places) rows }
-    ensures marks { (schema : Schema) (manifest : Manifest) (place : ℕ) (f : FileId) → slice_get (content_ids schema) place ≡ Some f → mark_for manifest f ≡ slice_get manifest.files place }
+    ensures columns { (schema : Schema) (part : Part D) (places : List ℕ) (rows : List Row)
+        → PartHolds D.files schema part rows → All (λ place. place < length schema.columns) places
+        → HoldsAt D.files schema part (map file.Column places) rows }
+    ensures marks { (schema : Schema) (manifest : Manifest) (place : ℕ) (f : FileId)
+        → slice_get (content_ids schema) place ≡ Some f
+        → mark_for manifest f ≡ slice_get manifest.files place }
 {}
 
 /// The function of a part's first damaged file gives what the relation says, which is one file or none; none where the folder holds rows.
 pub fn damage_is_one_file()
-    ensures file { (schema : Schema) (files : Files) → FirstDamaged schema files (damaged_file schema files) }
-    ensures one { (schema : Schema) (files : Files) (found : Option FileId) → FirstDamaged schema files found → damaged_file schema files ≡ found }
-    ensures opened { (schema : Schema) (files : Files) (manifest : Manifest) → IsManifestFor schema (bytes_of file.Manifest files) manifest
+    ensures file { (schema : Schema) (files : Files)
+        → FirstDamaged schema files (damaged_file schema files) }
+    ensures one { (schema : Schema) (files : Files) (found : Option FileId)
+        → FirstDamaged schema files found → damaged_file schema files ≡ found }
+    ensures opened { (schema : Schema) (files : Files) (manifest : Manifest)
+        → IsManifestFor schema (bytes_of file.Manifest files) manifest
         → damaged_file schema files ≡ first_unsound schema manifest files (content_ids schema) }
-    ensures content { (schema : Schema) (manifest : Manifest) (files : Files) (ids : List FileId) → FirstUnsound schema manifest files ids (first_unsound schema manifest files ids) }
-    ensures written { (schema : Schema) (files : Files) (rows : List Row) → FolderHolds schema rows files → damaged_file schema files ≡ None }
+    ensures content { (schema : Schema) (manifest : Manifest) (files : Files) (ids : List FileId)
+        → FirstUnsound schema manifest files ids (first_unsound schema manifest files ids) }
+    ensures written { (schema : Schema) (files : Files) (rows : List Row)
+        → FolderHolds schema rows files → damaged_file schema files ≡ None }
 {}
 
 /// A part of which no file is damaged holds rows. A part holds one list of rows at most, and then no file of which its manifest has a mark
 /// is damaged.
 pub fn sound_parts_hold_rows<D: Dir>()
-    ensures some { (schema : Schema) (part : Part D) (files : Files) → D.files part.dir ≡ Some files → IsManifestOf (bytes_of file.Manifest files) part.loaded.manifest
-        → damaged_file schema files ≡ None → (rows : List Row) × PartHolds D.files schema part rows }
-    ensures one { (schema : Schema) (part : Part D) (x y : List Row) → PartHolds D.files schema part x → PartHolds D.files schema part y → x ≡ y }
-    ensures sound { (schema : Schema) (part : Part D) (files : Files) (rows : List Row) → D.files part.dir ≡ Some files → PartHolds D.files schema part rows
+    ensures some { (schema : Schema) (part : Part D) (files : Files) → D.files part.dir ≡ Some files
+        → IsManifestOf (bytes_of file.Manifest files) part.loaded.manifest
+        → damaged_file schema files ≡ None → (rows : List Row)
+        × PartHolds D.files schema part rows }
+    ensures one { (schema : Schema) (part : Part D) (x y : List Row)
+        → PartHolds D.files schema part x → PartHolds D.files schema part y → x ≡ y }
+    ensures sound { (schema : Schema) (part : Part D) (files : Files) (rows : List Row)
+        → D.files part.dir ≡ Some files → PartHolds D.files schema part rows
         → first_unsound schema part.loaded.manifest files (content_ids schema) ≡ None }
 {}

@@ -22,9 +22,11 @@ pub fn add_values(
     bytes: &[u8],
     column: &mut ColumnData,
 ) -> Result<(), PartFault>
-    ensures marked { OnOk result (mark_for manifest.now (file.Column number) ≡ Some (mark_of bytes.now)) }
+    ensures marked { OnOk result
+        (mark_for manifest.now (file.Column number) ≡ Some (mark_of bytes.now)) }
     ensures gained { OnOk result (GainsAll manifest.now.rows bytes.now column.old column.new) }
-    ensures damaged { IfErr result (ExplainsBytes manifest.now (file.Column number) (IsFirstFault column.old.col_type manifest.now.rows bytes.now) bytes.now) }
+    ensures damaged { IfErr result (ExplainsBytes manifest.now (file.Column number)
+        (IsFirstFault column.old.col_type manifest.now.rows bytes.now) bytes.now) }
 {
     let file = FileId::Column(number);
     let mark = mark_found(manifest, file, bytes)?;
@@ -44,7 +46,8 @@ pub fn add_values(
 ///
 /// `Damaged` at 0 where the manifest has another, or none. It is nothing else.
 pub fn mark_found(manifest: &Manifest, file: FileId, bytes: &[u8]) -> Result<FileMark, PartFault>
-    ensures { MatchResult result (λ mark. (mark ≡ mark_of bytes.now) × (mark_for manifest.now file ≡ Some (mark_of bytes.now)))
+    ensures { MatchResult result (λ mark. (mark ≡ mark_of bytes.now)
+        × (mark_for manifest.now file ≡ Some (mark_of bytes.now)))
         (ExplainsBytes manifest.now file (λ place. ⊥) bytes.now) }
 {
     let found = mark_of(bytes);

@@ -37,13 +37,19 @@ pub fn open_part<R: Arm>(
 ) -> Result<Part<R::Dir>, PartFault>
     ensures dir { IfOk result (λ p. p.dir ≡ dir) }
     ensures opened { IfOk result (λ p. IsOpened (R.Dir.files dir) schema.now p.loaded.manifest) }
-    ensures manifest { (files : Files) → R.Dir.files dir ≡ Some files → IfOk result (λ p. IsManifestFor schema.now (bytes_of file.Manifest files) p.loaded.manifest) }
-    ensures spelled { (files : Files) (manifest : Manifest) → R.Dir.files dir ≡ Some files → IsManifestFor schema.now (bytes_of file.Manifest files) manifest
+    ensures manifest { (files : Files) → R.Dir.files dir ≡ Some files
+        → IfOk result (λ p. IsManifestFor schema.now (bytes_of file.Manifest files)
+        p.loaded.manifest) }
+    ensures spelled { (files : Files) (manifest : Manifest) → R.Dir.files dir ≡ Some files
+        → IsManifestFor schema.now (bytes_of file.Manifest files) manifest
         → MatchResult result (λ p. p.loaded.manifest ≡ manifest) IsNoDamage }
-    ensures written { (files : Files) (rows : List Row) → R.Dir.files dir ≡ Some files → FolderHolds schema.now rows files
+    ensures written { (files : Files) (rows : List Row) → R.Dir.files dir ≡ Some files
+        → FolderHolds schema.now rows files
         → MatchResult result (λ p. p.loaded.manifest ≡ manifest_of schema.now rows) IsNoDamage }
-    ensures sound { (files : Files) → R.Dir.files dir ≡ Some files → OnOk result (damaged_file schema.now files ≢ Some file.Manifest) }
-    ensures first { (files : Files) → R.Dir.files dir ≡ Some files → IfErr result (Tells (λ found. damaged_file schema.now files ≡ found)) }
+    ensures sound { (files : Files) → R.Dir.files dir ≡ Some files
+        → OnOk result (damaged_file schema.now files ≢ Some file.Manifest) }
+    ensures first { (files : Files) → R.Dir.files dir ≡ Some files
+        → IfErr result (Tells (λ found. damaged_file schema.now files ≡ found)) }
     ensures damaged { IfErr result (ExplainsOpening (R.Dir.files dir) schema.now) }
     ensures tells { R.tells arm.new ≡ R.tells arm.old }
     ensures later { R.failed arm.old ≤ R.failed arm.new }
@@ -61,7 +67,8 @@ pub fn open_part<R: Arm>(
 /// `NoMemory` where an allocation failed. It is never `Fault`.
 fn manifest_in(alloc: Global, bytes: &[u8], schema: &Schema) -> Result<Manifest, PartFault>
     ensures is { IfOk result (IsManifestFor schema.now bytes.now) }
-    ensures spelled { (manifest : Manifest) → IsManifestFor schema.now bytes.now manifest → MatchResult result (λ found. found ≡ manifest) (λ e. e ≡ PartFault.NoMemory) }
+    ensures spelled { (manifest : Manifest) → IsManifestFor schema.now bytes.now manifest
+        → MatchResult result (λ found. found ≡ manifest) (λ e. e ≡ PartFault.NoMemory) }
     ensures damaged { IfErr result (ExplainsManifest schema.now bytes.now) }
 {
     match read_manifest(alloc, bytes) {

@@ -112,14 +112,23 @@ pub fn read_columns<R: Arm>(
     columns: &mut [ColumnData],
 ) -> Result<(), PartFault>
     requires { length columns.old ≡ length places.now }
-    ensures values { (schema : Schema) (rows : List Row) → HoldsAt R.Dir.files schema part.now (map file.Column places.now) rows
-        → map (λ (c : Cells). c.col_type) columns.old ≡ filter_map (slice_get (column_types schema)) places.now → OnOk result (columns.new ≡ with_columns rows places.now columns.old) }
-    ensures sound { (schema : Schema) (rows : List Row) → HoldsAt R.Dir.files schema part.now (map file.Column places.now) rows
-        → map (λ (c : Cells). c.col_type) columns.old ≡ filter_map (slice_get (column_types schema)) places.now → IfErr result IsNoDamage }
-    ensures read { OnOk result (AreRead (R.Dir.files part.now.dir) part.now.loaded.manifest places.now columns.old columns.new) }
-    ensures even { (n : ℕ) → All (λ (c : Cells). length c.values ≡ n) columns.old → OnOk result (All (λ (c : Cells). length c.values ≡ n + part.now.loaded.manifest.rows) columns.new) }
-    ensures types { OnOk result (map (λ (c : Cells). c.col_type) columns.new ≡ map (λ (c : Cells). c.col_type) columns.old) }
-    ensures damaged { IfErr result (ExplainsPart (R.Dir.files part.now.dir) part.now.loaded.manifest places.now columns.old) }
+    ensures values { (schema : Schema) (rows : List Row)
+        → HoldsAt R.Dir.files schema part.now (map file.Column places.now) rows
+        → map (λ (c : Cells). c.col_type) columns.old ≡ filter_map (slice_get (column_types schema))
+        places.now → OnOk result (columns.new ≡ with_columns rows places.now columns.old) }
+    ensures sound { (schema : Schema) (rows : List Row)
+        → HoldsAt R.Dir.files schema part.now (map file.Column places.now) rows
+        → map (λ (c : Cells). c.col_type) columns.old ≡ filter_map (slice_get (column_types schema))
+        places.now → IfErr result IsNoDamage }
+    ensures read { OnOk result (AreRead (R.Dir.files part.now.dir) part.now.loaded.manifest
+        places.now columns.old columns.new) }
+    ensures even { (n : ℕ) → All (λ (c : Cells). length c.values ≡ n) columns.old
+        → OnOk result (All (λ (c : Cells). length c.values ≡ n + part.now.loaded.manifest.rows)
+        columns.new) }
+    ensures types { OnOk result (map (λ (c : Cells). c.col_type) columns.new ≡ map
+        (λ (c : Cells). c.col_type) columns.old) }
+    ensures damaged { IfErr result (ExplainsPart (R.Dir.files part.now.dir) part.now.loaded.manifest
+        places.now columns.old) }
     ensures tells { R.tells arm.new ≡ R.tells arm.old }
     ensures later { R.failed arm.old ≤ R.failed arm.new }
     ensures fault { IsErrOf result PartFault.Fault → Rose (R.failed arm.old) (R.failed arm.new) }
@@ -141,8 +150,10 @@ fn read_column<R: Arm>(
     number: u32,
     column: &mut ColumnData,
 ) -> Result<(), PartFault>
-    ensures read { OnOk result (IsRead (R.Dir.files part.now.dir) part.now.loaded.manifest number column.old column.new) }
-    ensures damaged { IfErr result (ExplainsColumn (R.Dir.files part.now.dir) part.now.loaded.manifest number column.old.col_type) }
+    ensures read { OnOk result (IsRead (R.Dir.files part.now.dir) part.now.loaded.manifest number
+        column.old column.new) }
+    ensures damaged { IfErr result (ExplainsColumn (R.Dir.files part.now.dir)
+        part.now.loaded.manifest number column.old.col_type) }
     ensures tells { R.tells arm.new ≡ R.tells arm.old }
     ensures later { R.failed arm.old ≤ R.failed arm.new }
     ensures fault { IsErrOf result PartFault.Fault → Rose (R.failed arm.old) (R.failed arm.new) }

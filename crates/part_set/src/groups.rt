@@ -16,7 +16,8 @@ pub type Groups = BTreeMap<Name, Seq<PartName>>;
 
 // A table gets a list without parts.
 fn open(alloc: Global, groups: &mut Groups, name: &RootName) -> Result<(), NoMemory>
-    ensures { OnOk result ((t : List ℕ) → group_of groups.new t ≡ (if is_create t name.now then Some [] else group_of groups.old t)) }
+    ensures { OnOk result ((t : List ℕ)
+        → group_of groups.new t ≡ (if is_create t name.now then Some [] else group_of groups.old t)) }
 {
     match name {
         RootName::Create(table) => {
@@ -66,7 +67,9 @@ pub fn first_orphan(groups: &Groups, names: &[RootName]) -> Option<usize>
 
 // A part comes to its table's list.
 fn note(groups: &mut Groups, name: &RootName) -> Result<(), NoMemory>
-    ensures { OnOk result ((t : List ℕ) → group_of groups.new t ≡ option_map (λ parts. parts ++ option_to_list (name_in t name.now)) (group_of groups.old t)) }
+    ensures { OnOk result ((t : List ℕ)
+        → group_of groups.new t ≡ option_map (λ parts. parts ++ option_to_list (name_in t name.now))
+        (group_of groups.old t)) }
 {
     let RootName::Part(part) = name else {
         return Ok(());

@@ -13,6 +13,7 @@ pub fn root_names_are_told_apart()
 /// Of names that rise, one stands before another where it is below it in byte order: the first that is of a kind is
 /// the first of that kind in byte order.
 pub fn places_are_in_byte_order()
-    ensures { (names : List RootName) (i j : ℕ) (a b : RootName) → Rise names → slice_get names i ≡ Some a → slice_get names j ≡ Some b
-        → (i < j) ↔ (name_cmp a b ≡ Less) }
+    ensures { (names : List RootName) (i j : ℕ) (a b : RootName) → Rise names
+        → slice_get names i ≡ Some a → slice_get names j ≡ Some b → (i < j)
+        ↔ (name_cmp a b ≡ Less) }
 {}

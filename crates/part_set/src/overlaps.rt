@@ -73,7 +73,8 @@ fn overlaps(names: &[RootName], part: &TablePart, name: &RootName) -> bool
 fn overlapping(names: &[RootName], name: &RootName) -> Option<usize>
     requires { HasItem names.now name.now }
     ensures found { IfSome result (IsFirstWith (Overlapping names.now name.now) names.now) }
-    ensures none { IfNone result ((other : RootName) → HasItem names.now other → Overlapping names.now name.now other → ⊥) }
+    ensures none { IfNone result ((other : RootName) → HasItem names.now other
+        → Overlapping names.now name.now other → ⊥) }
 {
     let RootName::Part(part) = name else {
         return None;

@@ -56,7 +56,8 @@ fn part_behind(text: &[u8]) -> Option<PartName>
 pub fn read_name(alloc: Global, bytes: &[u8]) -> Result<Option<RootName>, NoMemory>
     ensures spelled { (name : RootName) → IsRootName name → root_text name ≡ bytes.now
         → IfOk result (λ found. found ≡ Some name) }
-    ensures read { IfOk result (λ found. IfSome found (λ name. IsRootName name × (root_text name ≡ bytes.now))) }
+    ensures read { IfOk result (λ found. IfSome found
+        (λ name. IsRootName name × (root_text name ≡ bytes.now))) }
 {
     let Some((table, rest)) = split(bytes) else {
         return Ok(None);

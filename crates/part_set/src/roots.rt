@@ -45,8 +45,10 @@ fn shown_of(
     table: &Name,
 ) -> Result<Option<TableParts<()>>, NoMemory>
     requires { All IsPlainName (unwrap_or (group_of groups.now table.now) []) }
-    ensures shown { IfOk result (λ found. IfSome found (λ kept. AreShown (unwrap_or (group_of groups.now table.now) []) kept.parts)) }
-    ensures clash { IfOk result (λ found. IfNone found (Clash (unwrap_or (group_of groups.now table.now) []))) }
+    ensures shown { IfOk result (λ found. IfSome found
+        (λ kept. AreShown (unwrap_or (group_of groups.now table.now) []) kept.parts)) }
+    ensures clash { IfOk result (λ found. IfNone found
+        (Clash (unwrap_or (group_of groups.now table.now) []))) }
 {
     let Some(parts) = groups.get(table) else {
         return Ok(Some(TableParts::new(alloc)));

@@ -87,7 +87,8 @@ impl<P: Drop> PartSet<P> {
         part: P,
     ) -> Result<(), NoMemory>
         requires { NoneMeets (parts_of self.old table.now) name }
-        ensures ok { OnOk result (IsAdded (parts_of self.old table.now) (record { name = name; part = part }) (parts_of self.new table.now)) }
+        ensures ok { OnOk result (IsAdded (parts_of self.old table.now)
+            (record { name = name; part = part }) (parts_of self.new table.now)) }
         ensures ordered { OnOk result (IsInBlockOrder (parts_of self.new table.now)) }
         ensures others { (t : List ℕ) → t ≢ table.now → parts_of self.new t ≡ parts_of self.old t }
         ensures err { OnErr result ((t : List ℕ) → parts_of self.new t ≡ parts_of self.old t) }
@@ -112,7 +113,8 @@ impl<P: Drop> PartSet<P> {
         parts: TableParts<P>,
     ) -> Result<(), NoMemory>
         ensures ok { OnOk result (IsPut self.old.tables self.new.tables table.now parts) }
-        ensures err { OnErr result ((t : List ℕ) → shelf_of self.new.tables t ≡ shelf_of self.old.tables t) }
+        ensures err { OnErr result
+            ((t : List ℕ) → shelf_of self.new.tables t ≡ shelf_of self.old.tables t) }
     {
         self.tables.insert(table.twin(alloc)?, parts)?;
         Ok(())
@@ -130,7 +132,8 @@ impl<P: Drop> PartSet<P> {
     ) -> Result<Snap<P>, NoMemory>
     where
         P: Twin,
-        ensures snap { IfOk result (λ s. (s.schema ≡ schema.now) × (s.parts.items ≡ parts_of self.old table.now) × (s.length ≡ length)) }
+        ensures snap { IfOk result (λ s. (s.schema ≡ schema.now)
+            × (s.parts.items ≡ parts_of self.old table.now) × (s.length ≡ length)) }
         ensures stays { self.new ≡ self.old }
     {
         let schema = schema.twin(alloc)?;

@@ -33,7 +33,8 @@ fn place_of<P>(parts: &[Kept<P>], name: &PartName) -> usize
     requires { IsInBlockOrder parts.now }
     ensures within { result ≤ length parts.now }
     ensures front { AllWithin (λ kept. IsTrue (in_order kept.name name.now)) parts.now 0 result }
-    ensures back { AllWithin (λ kept. IsTrue (in_order name.now kept.name)) parts.now result (length parts.now) }
+    ensures back { AllWithin (λ kept. IsTrue (in_order name.now kept.name)) parts.now result
+        (length parts.now) }
 {
     parts.partition_point(|kept| in_order(&kept.name, name))
 }
@@ -130,7 +131,8 @@ impl<P: Drop> TableParts<P> {
     /// `NoMemory` where the allocation failed; the parts stay.
     pub fn add(&mut self, name: PartName, part: P) -> Result<(), NoMemory>
         requires { NoneMeets self.old.parts name }
-        ensures ok { OnOk result (IsAdded self.old.parts (record { name = name; part = part }) self.new.parts) }
+        ensures ok { OnOk result (IsAdded self.old.parts (record { name = name; part = part })
+            self.new.parts) }
         ensures ordered { OnOk result (IsInBlockOrder self.new.parts) }
         ensures err { OnErr result (self.new.parts ≡ self.old.parts) }
         ensures room { 0 < self.old.room → IsOk result }

@@ -10,12 +10,20 @@ ghost use Rattle.part_writer.specs.PartFiles.{HasBytes, IsContent, all_synced, c
 /// The list of a part's files and the table of them agree: it has each file that is content once, and the manifest
 /// has its mark at its place. A folder with these files, each synced, has their bytes.
 pub fn content_is_one_list()
-    ensures ids { (schema : Schema) (rows : List Row) → map (λ (f : FileId × List ℕ). f.0) (content_of_part schema rows) ≡ content_ids schema }
-    ensures content { (schema : Schema) (place : ℕ) (f : FileId) → slice_get (content_ids schema) place ≡ Some f → IsContent schema f }
-    ensures all { (schema : Schema) (f : FileId) → IsContent schema f → (place : ℕ) × (slice_get (content_ids schema) place ≡ Some f) }
-    ensures once { (schema : Schema) (place : ℕ) (f : FileId) → slice_get (content_ids schema) place ≡ Some f → has_file f (take place (content_ids schema)) ≡ false }
+    ensures ids { (schema : Schema) (rows : List Row)
+        → map (λ (f : FileId × List ℕ). f.0) (content_of_part schema rows) ≡ content_ids schema }
+    ensures content { (schema : Schema) (place : ℕ) (f : FileId)
+        → slice_get (content_ids schema) place ≡ Some f → IsContent schema f }
+    ensures all { (schema : Schema) (f : FileId) → IsContent schema f → (place : ℕ)
+        × (slice_get (content_ids schema) place ≡ Some f) }
+    ensures once { (schema : Schema) (place : ℕ) (f : FileId)
+        → slice_get (content_ids schema) place ≡ Some f
+        → has_file f (take place (content_ids schema)) ≡ false }
     ensures manifest { (schema : Schema) → has_file file.Manifest (content_ids schema) ≡ false }
-    ensures marks { (schema : Schema) (rows : List Row) (place : ℕ) (f : FileId) → slice_get (content_ids schema) place ≡ Some f
-        → slice_get (manifest_of schema rows).files place ≡ Some (mark_of (content_bytes schema rows f)) }
-    ensures sealed { (schema : Schema) (rows : List Row) → HasBytes (all_synced (files_of_part schema rows)) (files_of_part schema rows) }
+    ensures marks { (schema : Schema) (rows : List Row) (place : ℕ) (f : FileId)
+        → slice_get (content_ids schema) place ≡ Some f
+        → slice_get (manifest_of schema rows).files place ≡ Some
+        (mark_of (content_bytes schema rows f)) }
+    ensures sealed { (schema : Schema) (rows : List Row)
+        → HasBytes (all_synced (files_of_part schema rows)) (files_of_part schema rows) }
 {}

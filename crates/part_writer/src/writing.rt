@@ -44,11 +44,16 @@ pub fn write_part<R: Arm>(
     requires types { block.now.types ≡ column_types schema.now }
     requires places { All (λ place. place < length block.now.rows) order.now }
     requires few { length schema.now.columns < 2 ^ 32 }
-    ensures files { IfOk result (λ s. R.tells arm.old ≡ true → s.sealed.files ≡ Some (all_synced (files_of_part schema.now (picked block.now.rows order.now)))) }
-    ensures loaded { IfOk result (λ s. s.loaded.manifest ≡ manifest_of schema.now (picked block.now.rows order.now)) }
+    ensures files { IfOk result (λ s. R.tells arm.old ≡ true
+        → s.sealed.files ≡ Some
+        (all_synced (files_of_part schema.now (picked block.now.rows order.now)))) }
+    ensures loaded { IfOk result (λ s. s.loaded.manifest ≡ manifest_of schema.now
+        (picked block.now.rows order.now)) }
     ensures none_failed { IfOk result (λ s. s.sealed.failed ≡ 0) }
-    ensures encodable { IfOk result (λ _. All (λ (row : Row). All FitsType row) (picked block.now.rows order.now)) }
-    ensures readable { IfOk result (λ s. IsManifestOf (manifest_bytes sha256 s.loaded.manifest) s.loaded.manifest) }
+    ensures encodable { IfOk result (λ _. All (λ (row : Row). All FitsType row)
+        (picked block.now.rows order.now)) }
+    ensures readable { IfOk result (λ s. IsManifestOf (manifest_bytes sha256 s.loaded.manifest)
+        s.loaded.manifest) }
     ensures tells { R.tells arm.new ≡ R.tells arm.old }
     ensures cause { HasDiskCause (R.failed arm.old) (R.failed arm.new) result }
 {
@@ -101,11 +106,15 @@ fn fill<S: Stage>(
     requires types { block.now.types ≡ column_types schema.now }
     requires places { All (λ place. place < length block.now.rows) order.now }
     requires few { length schema.now.columns < 2 ^ 32 }
-    ensures files { OnOk result (option_map settled stage.new.files ≡ option_map (λ _. all_synced (files_of_part schema.now (picked block.now.rows order.now))) stage.old.files) }
+    ensures files { OnOk result (option_map settled stage.new.files ≡ option_map (λ _. all_synced
+        (files_of_part schema.now (picked block.now.rows order.now))) stage.old.files) }
     ensures intact { OnOk result (IsIntact stage.new) }
-    ensures manifest { IfOk result (λ manifest. manifest ≡ manifest_of schema.now (picked block.now.rows order.now)) }
-    ensures encodable { OnOk result (All (λ (row : Row). All FitsType row) (picked block.now.rows order.now)) }
-    ensures readable { IfOk result (λ manifest. IsManifestOf (manifest_bytes sha256 manifest) manifest) }
+    ensures manifest { IfOk result (λ manifest. manifest ≡ manifest_of schema.now
+        (picked block.now.rows order.now)) }
+    ensures encodable { OnOk result
+        (All (λ (row : Row). All FitsType row) (picked block.now.rows order.now)) }
+    ensures readable { IfOk result
+        (λ manifest. IsManifestOf (manifest_bytes sha256 manifest) manifest) }
     ensures cause { HasDiskCause stage.old.failed stage.new.failed result }
 {
     // Reading the number of rows shows that each row has a value of each column.
@@ -142,9 +151,11 @@ fn write_content<S: Stage>(
     requires places { All (λ place. place < length block.now.rows) order.now }
     requires intact { IsIntact stage.old }
     requires new { has_file file stage.old.names ≡ false }
-    ensures mark { IfOk result (λ mark. mark ≡ mark_of (content_bytes schema.now (picked block.now.rows order.now) file)) }
+    ensures mark { IfOk result (λ mark. mark ≡ mark_of
+        (content_bytes schema.now (picked block.now.rows order.now) file)) }
     ensures names { OnOk result (stage.new.names ≡ stage.old.names ++ file ∷ []) }
-    ensures files { OnOk result (stage.new.files ≡ option_map (λ files. files ++ written file (content_bytes schema.now (picked block.now.rows order.now) file) ∷ []) stage.old.files) }
+    ensures files { OnOk result (stage.new.files ≡ option_map (λ files. files ++ written file
+        (content_bytes schema.now (picked block.now.rows order.now) file) ∷ []) stage.old.files) }
     ensures intact { OnOk result (IsIntact stage.new) }
     ensures encodable { OnOk result (IsEncodable (picked block.now.rows order.now) file) }
     ensures cause { HasDiskCause stage.old.failed stage.new.failed result }
@@ -169,7 +180,8 @@ fn encode_content(
     requires content { IsContent schema.now file }
     requires types { block.now.types ≡ column_types schema.now }
     requires places { All (λ place. place < length block.now.rows) order.now }
-    ensures bytes { IfOk result (λ bytes. bytes ≡ content_bytes schema.now (picked block.now.rows order.now) file) }
+    ensures bytes { IfOk result (λ bytes. bytes ≡ content_bytes schema.now
+        (picked block.now.rows order.now) file) }
     ensures encodable { IfOk result (λ _. IsEncodable (picked block.now.rows order.now) file) }
 {
     match file {

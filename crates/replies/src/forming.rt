@@ -29,7 +29,8 @@ pub fn replies_behind(
     accepted_before: usize,
 ) -> Result<Replies, NoMemory>
     ensures accepted { IfOk result (λ r. r.accepted.items ≡ ok_line (before + 1)) }
-    ensures unsettled { IfOk result (λ r. r.unsettled.items ≡ refusal_line (refusal.Unsettled accepted_before)) }
+    ensures unsettled { IfOk result
+        (λ r. r.unsettled.items ≡ refusal_line (refusal.Unsettled accepted_before)) }
     ensures failed { IfOk result (λ r. r.failed.items ≡ refusal_line refusal.Failed) }
 {
     let Some(length) = before.checked_add(1) else {

@@ -70,7 +70,8 @@ pub fn damaged(
     part: &PartName,
     file: FileId,
 ) -> Result<Vec<u8>, NoMemory>
-    ensures { IfOk result (λ reply. reply.items ≡ refusal_line (Refusal.Damaged text.now.table (part_text part.now) (file_name file))) }
+    ensures { IfOk result (λ reply. reply.items ≡ refusal_line
+        (Refusal.Damaged text.now.table (part_text part.now) (file_name file))) }
 {
     let table = text.table.twin(alloc)?;
     let part = Seq::of(part_text(alloc, part)?);

@@ -138,8 +138,10 @@ fn prepare_create<A: Annals>(
     ensures name { IfOk result (λ r. r.name ≡ create_name create.now.table) }
     ensures table { IfOk result (λ r. r.table ≡ create.now.table) }
     ensures length { IfOk result (λ r. r.length ≡ before + 1) }
-    ensures entries { OnOk result (tables.new.entries ≡ insert_entry (slice_cmp nat_cmp) tables.old.entries create.now.table (fresh_table create.now.schema)) }
-    ensures updates { OnOk result (Updates (slice_cmp nat_cmp) tables.old tables.new create.now.table (Some (fresh_table create.now.schema))) }
+    ensures entries { OnOk result (tables.new.entries ≡ insert_entry (slice_cmp nat_cmp)
+        tables.old.entries create.now.table (fresh_table create.now.schema)) }
+    ensures updates { OnOk result (Updates (slice_cmp nat_cmp) tables.old tables.new
+        create.now.table (Some (fresh_table create.now.schema))) }
     ensures count { OnOk result (length tables.new.entries ≡ length tables.old.entries + 1) }
     ensures err { OnErr result (tables.new.entries ≡ tables.old.entries) }
     ensures room { OnOk result (A.has_room annals.new) }
@@ -320,7 +322,8 @@ pub fn commit_create<D: Disk, A: Annals>(
 // The table draws a number.
 fn draw(tables: &mut BTreeMap<Name, Table>, table: &Name, number: u32)
     ensures updates { (t : Made) → get (slice_cmp nat_cmp) tables.old table.now ≡ Some t
-        → Updates (slice_cmp nat_cmp) tables.old tables.new table.now (Some (record { schema = t.schema; drawn = number })) }
+        → Updates (slice_cmp nat_cmp) tables.old tables.new table.now
+        (Some (record { schema = t.schema; drawn = number })) }
     ensures count { length tables.new.entries ≡ length tables.old.entries }
 {
     let Some(found) = tables.get_mut(table) else {
@@ -340,11 +343,14 @@ fn enter_part<F: Drop>(
 )
     requires fresh { NoneMeets (parts_of store.old.set table.now) name }
     requires room { HasRoom store.old.set table.now }
-    ensures added { IsAdded (parts_of store.old.set table.now) (record { name = name; part = part }) (parts_of store.new.set table.now) }
+    ensures added { IsAdded (parts_of store.old.set table.now) (record { name = name; part = part })
+        (parts_of store.new.set table.now) }
     ensures ordered { IsInBlockOrder (parts_of store.new.set table.now) }
-    ensures others { (t : List ℕ) → t ≢ table.now → parts_of store.new.set t ≡ parts_of store.old.set t }
+    ensures others { (t : List ℕ) → t ≢ table.now
+        → parts_of store.new.set t ≡ parts_of store.old.set t }
     ensures updates { (t : Made) → table_at store.old table.now ≡ Some t
-        → Updates (slice_cmp nat_cmp) store.old.tables store.new.tables table.now (Some (record { schema = t.schema; drawn = name.max_block })) }
+        → Updates (slice_cmp nat_cmp) store.old.tables store.new.tables table.now
+        (Some (record { schema = t.schema; drawn = name.max_block })) }
     ensures count { length store.new.tables.entries ≡ length store.old.tables.entries }
     ensures length { store.new.length ≡ after }
     ensures opened { store.new.opened ≡ store.old.opened }

@@ -41,18 +41,22 @@ pub fn check_table<D: Disk>(
 ) -> Result<Schema, OpenFault>
     requires { ForSome (D.told disk.old) (λ t. IsSome (files_at text.now (names_of t))) }
     ensures schema { IfOk result IsTableSchema }
-    ensures holds { (told : Told) → D.told disk.old ≡ Some told → IfOk result (λ schema. HasFolder (names_of told) text.now (EntryHolds table.now schema)) }
+    ensures holds { (told : Told) → D.told disk.old ≡ Some told
+        → IfOk result (λ schema. HasFolder (names_of told) text.now (EntryHolds table.now schema)) }
     ensures damaged { (told : Told) → D.told disk.old ≡ Some told
-        → IfErr result (TellsFile (names_of told) text.now (λ files f. EntryDamaged (names_of told) table.now files × (f ≡ file.Entry))) }
+        → IfErr result (TellsFile (names_of told) text.now
+        (λ files f. EntryDamaged (names_of told) table.now files × (f ≡ file.Entry))) }
     ensures told { D.told disk.new ≡ D.told disk.old }
     ensures clock { D.clock disk.new ≡ D.clock disk.old }
     ensures started { D.started disk.new ≡ D.started disk.old }
     ensures tells { D.Arm.tells arm.new ≡ D.Arm.tells arm.old }
     ensures later { D.failed disk.old ≤ D.failed disk.new }
     ensures arm_later { D.Arm.failed arm.old ≤ D.Arm.failed arm.new }
-    ensures fault { IsErrOf result OpenFault.Disk → Rose (D.failed disk.old) (D.failed disk.new) ⊎ Rose (D.Arm.failed arm.old) (D.Arm.failed arm.new) }
+    ensures fault { IsErrOf result OpenFault.Disk → Rose (D.failed disk.old) (D.failed disk.new)
+        ⊎ Rose (D.Arm.failed arm.old) (D.Arm.failed arm.new) }
     ensures calm { (IsErrOf result OpenFault.Disk → ⊥) → D.failed disk.new ≡ D.failed disk.old }
-    ensures arm_calm { (IsErrOf result OpenFault.Disk → ⊥) → D.Arm.failed arm.new ≡ D.Arm.failed arm.old }
+    ensures arm_calm { (IsErrOf result OpenFault.Disk → ⊥)
+        → D.Arm.failed arm.new ≡ D.Arm.failed arm.old }
 {
     let dir = disk.open(alloc, text)?;
     match open_entry(alloc, arm, &dir, table)? {
@@ -74,17 +78,21 @@ pub fn check_table_part<D: Disk>(
 ) -> Result<Part<<D::Arm as Arm>::Dir>, OpenFault>
     requires { ForSome (D.told disk.old) (λ t. IsSome (files_at text.now (names_of t))) }
     ensures may { OnOk result (MayHavePartition schema.now part.now.name.partition) }
-    ensures read { (told : Told) → D.told disk.old ≡ Some told → IfOk result (IsRead D.Arm.Dir.files (names_of told) text.now schema.now) }
-    ensures damaged { (told : Told) → D.told disk.old ≡ Some told → IfErr result (TellsFile (names_of told) text.now (PartDamaged schema.now part.now)) }
+    ensures read { (told : Told) → D.told disk.old ≡ Some told
+        → IfOk result (IsRead D.Arm.Dir.files (names_of told) text.now schema.now) }
+    ensures damaged { (told : Told) → D.told disk.old ≡ Some told
+        → IfErr result (TellsFile (names_of told) text.now (PartDamaged schema.now part.now)) }
     ensures told { D.told disk.new ≡ D.told disk.old }
     ensures clock { D.clock disk.new ≡ D.clock disk.old }
     ensures started { D.started disk.new ≡ D.started disk.old }
     ensures tells { D.Arm.tells arm.new ≡ D.Arm.tells arm.old }
     ensures later { D.failed disk.old ≤ D.failed disk.new }
     ensures arm_later { D.Arm.failed arm.old ≤ D.Arm.failed arm.new }
-    ensures fault { IsErrOf result OpenFault.Disk → Rose (D.failed disk.old) (D.failed disk.new) ⊎ Rose (D.Arm.failed arm.old) (D.Arm.failed arm.new) }
+    ensures fault { IsErrOf result OpenFault.Disk → Rose (D.failed disk.old) (D.failed disk.new)
+        ⊎ Rose (D.Arm.failed arm.old) (D.Arm.failed arm.new) }
     ensures calm { (IsErrOf result OpenFault.Disk → ⊥) → D.failed disk.new ≡ D.failed disk.old }
-    ensures arm_calm { (IsErrOf result OpenFault.Disk → ⊥) → D.Arm.failed arm.new ≡ D.Arm.failed arm.old }
+    ensures arm_calm { (IsErrOf result OpenFault.Disk → ⊥)
+        → D.Arm.failed arm.new ≡ D.Arm.failed arm.old }
 {
     if part.name.partition != Partition::Whole {
         return Err(damaged(alloc, text, FileId::Manifest));

@@ -57,7 +57,8 @@ fn schema_alone(
     statement: &Statement,
     after: &[u8],
 ) -> Result<Option<Schema>, NoMemory>
-    ensures { IfOk result (λ found. found ≡ schema_by_items table.now text.now (Ok statement.now ∷ statement_and statements_of (next_statement after.now))) }
+    ensures { IfOk result (λ found. found ≡ schema_by_items table.now text.now
+        (Ok statement.now ∷ statement_and statements_of (next_statement after.now))) }
 {
     match has_statement(alloc, after) {
         Ok(false) => schema_by(alloc, table, text, statement),
@@ -75,7 +76,8 @@ fn schema_in(
     text: &[u8],
     script: &[u8],
 ) -> Result<Option<Schema>, NoMemory>
-    ensures { IfOk result (λ found. found ≡ schema_by_items table.now text.now (statements_of script.now)) }
+    ensures { IfOk result (λ found. found ≡ schema_by_items table.now text.now
+        (statements_of script.now)) }
 {
     match next_statement(alloc, script, true) {
         Next::Found(statement, used) => schema_alone(
@@ -107,9 +109,11 @@ fn schema_of_text(alloc: Global, table: &Name, text: &[u8]) -> Result<Option<Sch
 ///
 /// `NoMemory` where an allocation failed.
 pub fn read_schema(alloc: Global, table: &Name, bytes: &[u8]) -> Result<Option<Schema>, NoMemory>
-    ensures read { IfOk result (λ found. IfSome found (λ schema. IsEntryWith table.now schema bytes.now)) }
+    ensures read { IfOk result
+        (λ found. IfSome found (λ schema. IsEntryWith table.now schema bytes.now)) }
     ensures sound { IfOk result (λ found. IfSome found IsTableSchema) }
-    ensures only { (schema : Schema) → IsEntryWith table.now schema bytes.now → IfOk result (λ found. found ≡ Some schema) }
+    ensures only { (schema : Schema) → IsEntryWith table.now schema bytes.now
+        → IfOk result (λ found. found ≡ Some schema) }
 {
     match read_entry(bytes) {
         Ok(text) => schema_of_text(alloc, table, text),
@@ -126,10 +130,11 @@ pub fn open_entry<R: Arm>(
     dir: &R::Dir,
     table: &Name,
 ) -> Result<Option<Schema>, DiskError>
-    ensures holds { (files : Files) → R.Dir.files dir.now ≡ Some files → IfOk result (λ found. IfSome found (λ schema. EntryHolds table.now schema files)) }
+    ensures holds { (files : Files) → R.Dir.files dir.now ≡ Some files
+        → IfOk result (λ found. IfSome found (λ schema. EntryHolds table.now schema files)) }
     ensures sound { IfOk result (λ found. IfSome found IsTableSchema) }
-    ensures only { (files : Files) (schema : Schema) → R.Dir.files dir.now ≡ Some files → EntryHolds table.now schema files
-        → IfOk result (λ found. found ≡ Some schema) }
+    ensures only { (files : Files) (schema : Schema) → R.Dir.files dir.now ≡ Some files
+        → EntryHolds table.now schema files → IfOk result (λ found. found ≡ Some schema) }
     ensures tells { R.tells arm.new ≡ R.tells arm.old }
     ensures later { R.failed arm.old ≤ R.failed arm.new }
     ensures fault { IsErrOf result DiskError.Fault → Rose (R.failed arm.old) (R.failed arm.new) }

@@ -42,11 +42,17 @@ fn keep_table<D: Disk>(
 ) -> Result<(), OpenFault>
     requires text { text.now ≡ create_name table.now }
     requires there { ForSome (D.told disk.old) (λ t. IsSome (files_at text.now (names_of t))) }
-    ensures keeps { (read seen : List Named) → (HasTable seen table.now → ⊥) → Keeps read seen store.old → OnOk result (Keeps read (seen ++ root.Create table.now ∷ []) store.new) }
-    ensures keeps_told { (told : Told) (read seen : List Named) → D.told disk.old ≡ Some told → (HasTable seen table.now → ⊥) → Keeps read seen store.old
-        → KeepsTold D.Arm.Dir.files (names_of told) read seen store.old → OnOk result (KeepsTold D.Arm.Dir.files (names_of told) read (seen ++ root.Create table.now ∷ []) store.new) }
+    ensures keeps { (read seen : List Named) → (HasTable seen table.now → ⊥)
+        → Keeps read seen store.old
+        → OnOk result (Keeps read (seen ++ root.Create table.now ∷ []) store.new) }
+    ensures keeps_told { (told : Told) (read seen : List Named) → D.told disk.old ≡ Some told
+        → (HasTable seen table.now → ⊥) → Keeps read seen store.old
+        → KeepsTold D.Arm.Dir.files (names_of told) read seen store.old
+        → OnOk result (KeepsTold D.Arm.Dir.files (names_of told) read
+        (seen ++ root.Create table.now ∷ []) store.new) }
     ensures damaged { (told : Told) (read : List Named) → D.told disk.old ≡ Some told
-        → IfErr result (TellsFile (names_of told) text.now (IsDamaged (names_of told) read (root.Create table.now))) }
+        → IfErr result (TellsFile (names_of told) text.now
+        (IsDamaged (names_of told) read (root.Create table.now))) }
     ensures opened { store.new.opened ≡ store.old.opened }
     ensures told { D.told disk.new ≡ D.told disk.old }
     ensures clock { D.clock disk.new ≡ D.clock disk.old }
@@ -54,9 +60,11 @@ fn keep_table<D: Disk>(
     ensures tells { D.Arm.tells arm.new ≡ D.Arm.tells arm.old }
     ensures later { D.failed disk.old ≤ D.failed disk.new }
     ensures arm_later { D.Arm.failed arm.old ≤ D.Arm.failed arm.new }
-    ensures fault { IsErrOf result OpenFault.Disk → Rose (D.failed disk.old) (D.failed disk.new) ⊎ Rose (D.Arm.failed arm.old) (D.Arm.failed arm.new) }
+    ensures fault { IsErrOf result OpenFault.Disk → Rose (D.failed disk.old) (D.failed disk.new)
+        ⊎ Rose (D.Arm.failed arm.old) (D.Arm.failed arm.new) }
     ensures calm { (IsErrOf result OpenFault.Disk → ⊥) → D.failed disk.new ≡ D.failed disk.old }
-    ensures arm_calm { (IsErrOf result OpenFault.Disk → ⊥) → D.Arm.failed arm.new ≡ D.Arm.failed arm.old }
+    ensures arm_calm { (IsErrOf result OpenFault.Disk → ⊥)
+        → D.Arm.failed arm.new ≡ D.Arm.failed arm.old }
 {
     let schema = check_table(alloc, disk, arm, text, table)?;
     put_table(alloc, &mut store.tables, table, schema)?;
@@ -76,11 +84,16 @@ fn keep_part<D: Disk>(
     requires there { ForSome (D.told disk.old) (λ t. IsSome (files_at text.now (names_of t))) }
     requires table { IsSome (table_at store.old part.now.table) }
     requires apart { NoneMeets (parts_of store.old.set part.now.table) part.now.name }
-    ensures keeps { (read seen : List Named) → IsVisible read part.now → Keeps read seen store.old → OnOk result (Keeps read (seen ++ root.Part part.now ∷ []) store.new) }
+    ensures keeps { (read seen : List Named) → IsVisible read part.now → Keeps read seen store.old
+        → OnOk result (Keeps read (seen ++ root.Part part.now ∷ []) store.new) }
     ensures keeps_told { (told : Told) (read seen : List Named) → D.told disk.old ≡ Some told
-        → KeepsTold D.Arm.Dir.files (names_of told) read seen store.old → OnOk result (KeepsTold D.Arm.Dir.files (names_of told) read (seen ++ root.Part part.now ∷ []) store.new) }
-    ensures damaged { (told : Told) (read seen : List Named) → D.told disk.old ≡ Some told → IsVisible read part.now
-        → KeepsTold D.Arm.Dir.files (names_of told) read seen store.old → IfErr result (TellsFile (names_of told) text.now (IsDamaged (names_of told) read (root.Part part.now))) }
+        → KeepsTold D.Arm.Dir.files (names_of told) read seen store.old
+        → OnOk result (KeepsTold D.Arm.Dir.files (names_of told) read
+        (seen ++ root.Part part.now ∷ []) store.new) }
+    ensures damaged { (told : Told) (read seen : List Named) → D.told disk.old ≡ Some told
+        → IsVisible read part.now → KeepsTold D.Arm.Dir.files (names_of told) read seen store.old
+        → IfErr result (TellsFile (names_of told) text.now
+        (IsDamaged (names_of told) read (root.Part part.now))) }
     ensures opened { store.new.opened ≡ store.old.opened }
     ensures told { D.told disk.new ≡ D.told disk.old }
     ensures clock { D.clock disk.new ≡ D.clock disk.old }
@@ -88,9 +101,11 @@ fn keep_part<D: Disk>(
     ensures tells { D.Arm.tells arm.new ≡ D.Arm.tells arm.old }
     ensures later { D.failed disk.old ≤ D.failed disk.new }
     ensures arm_later { D.Arm.failed arm.old ≤ D.Arm.failed arm.new }
-    ensures fault { IsErrOf result OpenFault.Disk → Rose (D.failed disk.old) (D.failed disk.new) ⊎ Rose (D.Arm.failed arm.old) (D.Arm.failed arm.new) }
+    ensures fault { IsErrOf result OpenFault.Disk → Rose (D.failed disk.old) (D.failed disk.new)
+        ⊎ Rose (D.Arm.failed arm.old) (D.Arm.failed arm.new) }
     ensures calm { (IsErrOf result OpenFault.Disk → ⊥) → D.failed disk.new ≡ D.failed disk.old }
-    ensures arm_calm { (IsErrOf result OpenFault.Disk → ⊥) → D.Arm.failed arm.new ≡ D.Arm.failed arm.old }
+    ensures arm_calm { (IsErrOf result OpenFault.Disk → ⊥)
+        → D.Arm.failed arm.new ≡ D.Arm.failed arm.old }
 {
     let Some(table) = store.tables.get_mut(&part.table) else {
         unreachable!()
@@ -114,11 +129,16 @@ fn keep_name<D: Disk>(
     requires listed { ForSome (D.told disk.old) (IsTextsOf root.now) }
     requires place { place < length root.now.names.items }
     requires keeps { Keeps root.now.names.items (take place root.now.names.items) store.old }
-    ensures keeps { OnOk result (Keeps root.now.names.items (take (place + 1) root.now.names.items) store.new) }
-    ensures keeps_told { (told : Told) → D.told disk.old ≡ Some told → KeepsTold D.Arm.Dir.files (names_of told) root.now.names.items (take place root.now.names.items) store.old
-        → OnOk result (KeepsTold D.Arm.Dir.files (names_of told) root.now.names.items (take (place + 1) root.now.names.items) store.new) }
-    ensures damaged { (told : Told) → D.told disk.old ≡ Some told → KeepsTold D.Arm.Dir.files (names_of told) root.now.names.items (take place root.now.names.items) store.old
-        → IfErr result (TellsDamage (names_of told)) }
+    ensures keeps { OnOk result (Keeps root.now.names.items (take (place + 1) root.now.names.items)
+        store.new) }
+    ensures keeps_told { (told : Told) → D.told disk.old ≡ Some told
+        → KeepsTold D.Arm.Dir.files (names_of told) root.now.names.items
+        (take place root.now.names.items) store.old
+        → OnOk result (KeepsTold D.Arm.Dir.files (names_of told) root.now.names.items
+        (take (place + 1) root.now.names.items) store.new) }
+    ensures damaged { (told : Told) → D.told disk.old ≡ Some told
+        → KeepsTold D.Arm.Dir.files (names_of told) root.now.names.items
+        (take place root.now.names.items) store.old → IfErr result (TellsDamage (names_of told)) }
     ensures opened { store.new.opened ≡ store.old.opened }
     ensures told { D.told disk.new ≡ D.told disk.old }
     ensures clock { D.clock disk.new ≡ D.clock disk.old }
@@ -126,9 +146,11 @@ fn keep_name<D: Disk>(
     ensures tells { D.Arm.tells arm.new ≡ D.Arm.tells arm.old }
     ensures later { D.failed disk.old ≤ D.failed disk.new }
     ensures arm_later { D.Arm.failed arm.old ≤ D.Arm.failed arm.new }
-    ensures fault { IsErrOf result OpenFault.Disk → Rose (D.failed disk.old) (D.failed disk.new) ⊎ Rose (D.Arm.failed arm.old) (D.Arm.failed arm.new) }
+    ensures fault { IsErrOf result OpenFault.Disk → Rose (D.failed disk.old) (D.failed disk.new)
+        ⊎ Rose (D.Arm.failed arm.old) (D.Arm.failed arm.new) }
     ensures calm { (IsErrOf result OpenFault.Disk → ⊥) → D.failed disk.new ≡ D.failed disk.old }
-    ensures arm_calm { (IsErrOf result OpenFault.Disk → ⊥) → D.Arm.failed arm.new ≡ D.Arm.failed arm.old }
+    ensures arm_calm { (IsErrOf result OpenFault.Disk → ⊥)
+        → D.Arm.failed arm.new ≡ D.Arm.failed arm.old }
 {
     let text = &root.texts[place];
     match &root.names[place] {
@@ -154,8 +176,11 @@ fn keep_names<D: Disk>(
     requires named { IsNamedRoot root.now }
     requires listed { ForSome (D.told disk.old) (IsTextsOf root.now) }
     ensures keeps { IfOk result (Keeps root.now.names.items root.now.names.items) }
-    ensures keeps_told { (told : Told) → D.told disk.old ≡ Some told → IfOk result (KeepsTold D.Arm.Dir.files (names_of told) root.now.names.items root.now.names.items) }
-    ensures damaged { (told : Told) → D.told disk.old ≡ Some told → IfErr result (TellsDamage (names_of told)) }
+    ensures keeps_told { (told : Told) → D.told disk.old ≡ Some told
+        → IfOk result (KeepsTold D.Arm.Dir.files (names_of told) root.now.names.items
+        root.now.names.items) }
+    ensures damaged { (told : Told) → D.told disk.old ≡ Some told
+        → IfErr result (TellsDamage (names_of told)) }
     ensures opened { IfOk result (λ store. store.opened ≡ opened) }
     ensures told { D.told disk.new ≡ D.told disk.old }
     ensures clock { D.clock disk.new ≡ D.clock disk.old }
@@ -163,9 +188,11 @@ fn keep_names<D: Disk>(
     ensures tells { D.Arm.tells arm.new ≡ D.Arm.tells arm.old }
     ensures later { D.failed disk.old ≤ D.failed disk.new }
     ensures arm_later { D.Arm.failed arm.old ≤ D.Arm.failed arm.new }
-    ensures fault { IsErrOf result OpenFault.Disk → Rose (D.failed disk.old) (D.failed disk.new) ⊎ Rose (D.Arm.failed arm.old) (D.Arm.failed arm.new) }
+    ensures fault { IsErrOf result OpenFault.Disk → Rose (D.failed disk.old) (D.failed disk.new)
+        ⊎ Rose (D.Arm.failed arm.old) (D.Arm.failed arm.new) }
     ensures calm { (IsErrOf result OpenFault.Disk → ⊥) → D.failed disk.new ≡ D.failed disk.old }
-    ensures arm_calm { (IsErrOf result OpenFault.Disk → ⊥) → D.Arm.failed arm.new ≡ D.Arm.failed arm.old }
+    ensures arm_calm { (IsErrOf result OpenFault.Disk → ⊥)
+        → D.Arm.failed arm.new ≡ D.Arm.failed arm.old }
 {
     let mut store = CoreStore::new(alloc, opened);
     for place in 0..root.names.len() {
@@ -203,10 +230,13 @@ pub fn keep_root<D: Disk>(
 ) -> Result<CoreStore<<D::Arm as Arm>::Dir>, OpenFault>
     requires named { IsNamedRoot root.now }
     requires listed { ForSome (D.told disk.old) (IsTextsOf root.now) }
-    ensures store { (told : Told) → D.told disk.old ≡ Some told → IfOk result (StoreOf D.Arm.Dir.files (names_of told)) }
+    ensures store { (told : Told) → D.told disk.old ≡ Some told
+        → IfOk result (StoreOf D.Arm.Dir.files (names_of told)) }
     ensures sound { IfOk result IsSound }
-    ensures undamaged { (told : Told) (place : ℕ) (f : FileId) → D.told disk.old ≡ Some told → DamagedAt (names_of told) root.now.names.items place f → OnOk result ⊥ }
-    ensures damaged { (told : Told) → D.told disk.old ≡ Some told → IfErr result (TellsDamage (names_of told)) }
+    ensures undamaged { (told : Told) (place : ℕ) (f : FileId) → D.told disk.old ≡ Some told
+        → DamagedAt (names_of told) root.now.names.items place f → OnOk result ⊥ }
+    ensures damaged { (told : Told) → D.told disk.old ≡ Some told
+        → IfErr result (TellsDamage (names_of told)) }
     ensures opened { IfOk result (λ store. store.opened ≡ opened) }
     ensures told { D.told disk.new ≡ D.told disk.old }
     ensures clock { D.clock disk.new ≡ D.clock disk.old }
@@ -214,9 +244,11 @@ pub fn keep_root<D: Disk>(
     ensures tells { D.Arm.tells arm.new ≡ D.Arm.tells arm.old }
     ensures later { D.failed disk.old ≤ D.failed disk.new }
     ensures arm_later { D.Arm.failed arm.old ≤ D.Arm.failed arm.new }
-    ensures fault { IsErrOf result OpenFault.Disk → Rose (D.failed disk.old) (D.failed disk.new) ⊎ Rose (D.Arm.failed arm.old) (D.Arm.failed arm.new) }
+    ensures fault { IsErrOf result OpenFault.Disk → Rose (D.failed disk.old) (D.failed disk.new)
+        ⊎ Rose (D.Arm.failed arm.old) (D.Arm.failed arm.new) }
     ensures calm { (IsErrOf result OpenFault.Disk → ⊥) → D.failed disk.new ≡ D.failed disk.old }
-    ensures arm_calm { (IsErrOf result OpenFault.Disk → ⊥) → D.Arm.failed arm.new ≡ D.Arm.failed arm.old }
+    ensures arm_calm { (IsErrOf result OpenFault.Disk → ⊥)
+        → D.Arm.failed arm.new ≡ D.Arm.failed arm.old }
 {
     let mut store = keep_names(alloc, disk, arm, root, opened)?;
     store.length = length_of(&store.tables)?;

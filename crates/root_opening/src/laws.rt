@@ -18,21 +18,27 @@ use mt_outside::Dir;
 /// The names of a root are read in one way. Where the root stands for a history, no name is bad and none is an orphan, no two
 /// parts overlap, there are not too many tables and no file is damaged.
 pub fn sound_roots_are_not_damaged()
-    ensures one { (names : Names) (a b : List RootName) → AreRead names a → AreRead names b → a ≡ b }
-    ensures no_orphan { (names : Names) (h : History) (read : List RootName) → Stands names h → AreRead names read → HasNoOrphan read }
-    ensures no_overlap { (names : Names) (h : History) (read : List RootName) → Stands names h → AreRead names read → HasNoOverlap read }
-    ensures few { (names : Names) (h : History) (read : List RootName) → AreInByteOrder names → Stands names h → AreRead names read
-        → length (filter is_create read) ≤ most_tables }
-    ensures no_damage { (names : Names) (h : History) (read : List RootName) (place : ℕ) (f : FileId) → Stands names h → AreRead names read
-        → DamagedAt names read place f → ⊥ }
-    ensures no_bad_name { (names : Names) (h : History) (place : ℕ) (name : List ℕ) → AreInByteOrder names → Stands names h → IsFirstBadName names place name → ⊥ }
+    ensures one { (names : Names) (a b : List RootName) → AreRead names a → AreRead names b
+        → a ≡ b }
+    ensures no_orphan { (names : Names) (h : History) (read : List RootName) → Stands names h
+        → AreRead names read → HasNoOrphan read }
+    ensures no_overlap { (names : Names) (h : History) (read : List RootName) → Stands names h
+        → AreRead names read → HasNoOverlap read }
+    ensures few { (names : Names) (h : History) (read : List RootName) → AreInByteOrder names
+        → Stands names h → AreRead names read → length (filter is_create read) ≤ most_tables }
+    ensures no_damage { (names : Names) (h : History) (read : List RootName) (place : ℕ)
+        (f : FileId) → Stands names h → AreRead names read → DamagedAt names read place f → ⊥ }
+    ensures no_bad_name { (names : Names) (h : History) (place : ℕ) (name : List ℕ)
+        → AreInByteOrder names → Stands names h → IsFirstBadName names place name → ⊥ }
 {}
 
 /// What keeps a root from being opened is one: of the kinds in their order, and of names in byte order, the first. Where the
 /// root stands for a history there is none.
 pub fn damage_of_a_root_is_one()
-    ensures one { (names : Names) (d e : Damage) → IsRootDamage names d → IsRootDamage names e → d ≡ e }
-    ensures none { (names : Names) (h : History) (d : Damage) → AreInByteOrder names → Stands names h → IsRootDamage names d → ⊥ }
+    ensures one { (names : Names) (d e : Damage) → IsRootDamage names d → IsRootDamage names e
+        → d ≡ e }
+    ensures none { (names : Names) (h : History) (d : Damage) → AreInByteOrder names
+        → Stands names h → IsRootDamage names d → ⊥ }
 {}
 
 /// The names that a disk tells stand in byte order, each once.
@@ -42,5 +48,6 @@ pub fn told_names_rise()
 
 /// What a root is opened as stands for each history that the root stands for.
 pub fn roots_stand_by_their_stores<D: Dir>()
-    ensures { (names : Names) (h : History) (store : CoreStore D) → StoreOf D.files names store → Stands names h → CoreStands D.files h store }
+    ensures { (names : Names) (h : History) (store : CoreStore D) → StoreOf D.files names store
+        → Stands names h → CoreStands D.files h store }
 {}

@@ -46,8 +46,10 @@ fn tables_of(name: &RootName) -> usize
 // The name that a text is, after so many tables; none where it is a bad one.
 fn next_name(alloc: Global, text: &Name, tables: usize) -> Result<Option<RootName>, NoMemory>
     requires { tables ≤ most_tables }
-    ensures read { IfOk result (λ found. IfSome found (λ name. IsRootName name × (root_text name ≡ text.now))) }
-    ensures few { IfOk result (λ found. IfSome found (λ name. is_create name ≡ true → tables < most_tables)) }
+    ensures read { IfOk result (λ found. IfSome found
+        (λ name. IsRootName name × (root_text name ≡ text.now))) }
+    ensures few { IfOk result (λ found. IfSome found
+        (λ name. is_create name ≡ true → tables < most_tables)) }
     ensures bad { IfOk result (λ found. IfNone found (IsBadBehind tables text.now)) }
 {
     let Some(name) = read_name(alloc, text.as_slice())? else {
@@ -84,9 +86,11 @@ fn read_each(alloc: Global, texts: &[Name]) -> Result<Vec<RootName>, NameFault>
 pub fn read_names(alloc: Global, texts: &[Name]) -> Result<Vec<RootName>, NameFault>
     ensures read { IfOk result (λ names. AreNamesOf texts.now names.items) }
     ensures few { IfOk result (λ names. creates_in names.items ≤ most_tables) }
-    ensures rise { IsStrictlySortedBy (slice_cmp nat_cmp) texts.now → IfOk result (λ names. Rise names.items) }
+    ensures rise { IsStrictlySortedBy (slice_cmp nat_cmp) texts.now
+        → IfOk result (λ names. Rise names.items) }
     ensures bad { IfErr result (TellsBad texts.now) }
-    ensures exact { (place : ℕ) → IsFirstBadText texts.now place → MatchResult result (λ _. ⊥) (IsOfPlace place) }
+    ensures exact { (place : ℕ) → IsFirstBadText texts.now place
+        → MatchResult result (λ _. ⊥) (IsOfPlace place) }
 {
     read_each(alloc, texts)
 }

@@ -108,7 +108,8 @@ fn read_texts(alloc: Global, texts: &[Name]) -> Result<Vec<RootName>, OpenFault>
     ensures read { IfOk result (λ names. AreNamesOf texts.now names.items) }
     ensures few { IfOk result (λ names. creates_in names.items ≤ most_tables) }
     ensures rise { IfOk result (λ names. Rise names.items) }
-    ensures damaged { (told : Names) → AreInByteOrder told → texts.now ≡ map (λ e. e.0) told → IfErr result (TellsDamage told) }
+    ensures damaged { (told : Names) → AreInByteOrder told → texts.now ≡ map (λ e. e.0) told
+        → IfErr result (TellsDamage told) }
     ensures exact { (place : ℕ) → IsFirstBadText texts.now place → OnOk result ⊥ }
     ensures fault { IsErrOf result OpenFault.Disk → ⊥ }
 {
@@ -141,7 +142,8 @@ fn damage_of(alloc: Global, texts: &[Name], fault: SetFault) -> Result<Damage, N
 fn read_root(alloc: Global, texts: Vec<Name>) -> Result<Root, OpenFault>
     ensures texts { IfOk result (λ root. root.texts.items ≡ texts.items) }
     ensures named { IfOk result IsNamedRoot }
-    ensures damaged { (told : Names) → AreInByteOrder told → texts.items ≡ map (λ e. e.0) told → IfErr result (TellsDamage told) }
+    ensures damaged { (told : Names) → AreInByteOrder told → texts.items ≡ map (λ e. e.0) told
+        → IfErr result (TellsDamage told) }
     ensures exact { (place : ℕ) → IsFirstBadText texts.items place → OnOk result ⊥ }
     ensures fault { IsErrOf result OpenFault.Disk → ⊥ }
 {
@@ -166,28 +168,42 @@ pub fn open<D: Disk>(
     disk: &mut D,
     arm: &mut D::Arm,
 ) -> Result<CoreStore<<D::Arm as Arm>::Dir>, OpenFault>
-    ensures store { (told : Told) → D.told disk.old ≡ Some told → IfOk result (StoreOf D.Arm.Dir.files (names_of told)) }
-    ensures stands { (told : Told) (h : History) → D.told disk.old ≡ Some told → Stands (names_of told) h → MatchResult result (CoreStands D.Arm.Dir.files h) IsNotDamaged }
-    ensures core { (told : Told) (h : History) → D.told disk.old ≡ Some told → Stands (names_of told) h
-        → IfOk result (ShowsCoreOf D.Arm.Dir.files h) }
-    ensures damaged { (told : Told) → D.told disk.old ≡ Some told → IfErr result (TellsDamage (names_of told)) }
-    ensures exact { (told : Told) (damage : Damage) → D.told disk.old ≡ Some told → IsRootDamage (names_of told) damage → OnOk result ⊥ }
+    ensures store { (told : Told) → D.told disk.old ≡ Some told
+        → IfOk result (StoreOf D.Arm.Dir.files (names_of told)) }
+    ensures stands { (told : Told) (h : History) → D.told disk.old ≡ Some told
+        → Stands (names_of told) h
+        → MatchResult result (CoreStands D.Arm.Dir.files h) IsNotDamaged }
+    ensures core { (told : Told) (h : History) → D.told disk.old ≡ Some told
+        → Stands (names_of told) h → IfOk result (ShowsCoreOf D.Arm.Dir.files h) }
+    ensures damaged { (told : Told) → D.told disk.old ≡ Some told
+        → IfErr result (TellsDamage (names_of told)) }
+    ensures exact { (told : Told) (damage : Damage) → D.told disk.old ≡ Some told
+        → IsRootDamage (names_of told) damage → OnOk result ⊥ }
     ensures sound { IfOk result IsSound }
-    ensures held { (told : Told) → D.told disk.old ≡ Some told → IfOk result (HasSoundParts D.Arm.Dir.files) }
-    ensures names { (told : Told) → D.told disk.old ≡ Some told → IfOk result (λ store. NamesFit store told) }
+    ensures held { (told : Told) → D.told disk.old ≡ Some told
+        → IfOk result (HasSoundParts D.Arm.Dir.files) }
+    ensures names { (told : Told) → D.told disk.old ≡ Some told
+        → IfOk result (λ store. NamesFit store told) }
     ensures opened { IfOk result (λ store. store.opened ≡ D.failed disk.old) }
     ensures told { D.told disk.new ≡ D.told disk.old }
     ensures started { D.started disk.new ≡ D.started disk.old }
-    ensures settled { (told : Told) → D.told disk.old ≡ Some told → names_of told ≢ [] → OnOk result (D.clock disk.new ≡ D.clock disk.old + 1) }
-    ensures mark { (D.clock disk.new ≡ D.clock disk.old) ⊎ (D.clock disk.new ≡ D.clock disk.old + 1) }
+    ensures settled { (told : Told) → D.told disk.old ≡ Some told → names_of told ≢ []
+        → OnOk result (D.clock disk.new ≡ D.clock disk.old + 1) }
+    ensures mark { (D.clock disk.new ≡ D.clock disk.old)
+        ⊎ (D.clock disk.new ≡ D.clock disk.old + 1) }
     ensures mark_err { OnErr result (D.clock disk.new ≡ D.clock disk.old) }
-    ensures crashes { (told : Told) (list : List Noted) → D.told disk.old ≡ Some told → AllStand told (D.clock disk.old) (entries_of list) → IsCrashSafe told (D.clock disk.new) (none_begun list) list (D.clock disk.old) }
+    ensures crashes { (told : Told) (list : List Noted) → D.told disk.old ≡ Some told
+        → AllStand told (D.clock disk.old) (entries_of list)
+        → IsCrashSafe told (D.clock disk.new) (none_begun list) list (D.clock disk.old) }
     ensures tells { D.Arm.tells arm.new ≡ D.Arm.tells arm.old }
     ensures later { D.failed disk.old ≤ D.failed disk.new }
     ensures arm_later { D.Arm.failed arm.old ≤ D.Arm.failed arm.new }
-    ensures fault { IfErr result (λ e. e ≡ OpenFault.Disk → Rose (D.failed disk.old) (D.failed disk.new) ⊎ Rose (D.Arm.failed arm.old) (D.Arm.failed arm.new)) }
+    ensures fault { IfErr result (λ e. e ≡ OpenFault.Disk
+        → Rose (D.failed disk.old) (D.failed disk.new)
+        ⊎ Rose (D.Arm.failed arm.old) (D.Arm.failed arm.new)) }
     ensures calm { (IsErrOf result OpenFault.Disk → ⊥) → D.failed disk.new ≡ D.failed disk.old }
-    ensures arm_calm { (IsErrOf result OpenFault.Disk → ⊥) → D.Arm.failed arm.new ≡ D.Arm.failed arm.old }
+    ensures arm_calm { (IsErrOf result OpenFault.Disk → ⊥)
+        → D.Arm.failed arm.new ≡ D.Arm.failed arm.old }
 {
     let opened = disk.faults();
     let root = read_root(alloc, disk.list(alloc)?)?;

@@ -20,9 +20,13 @@ pub fn check_files<R: Arm>(
     arm: &mut R,
 ) -> Result<Part<R::Dir>, PartFault>
     ensures dir { IfOk result (λ p. p.dir ≡ dir) }
-    ensures manifest { (files : Files) → R.Dir.files dir ≡ Some files → IfOk result (λ p. IsManifestFor schema.now (bytes_of file.Manifest files) p.loaded.manifest) }
-    ensures sound { (files : Files) → R.Dir.files dir ≡ Some files → OnOk result (damaged_file schema.now files ≡ None) }
-    ensures damaged { (files : Files) → R.Dir.files dir ≡ Some files → IfErr result (Tells (λ found. damaged_file schema.now files ≡ found)) }
+    ensures manifest { (files : Files) → R.Dir.files dir ≡ Some files
+        → IfOk result (λ p. IsManifestFor schema.now (bytes_of file.Manifest files)
+        p.loaded.manifest) }
+    ensures sound { (files : Files) → R.Dir.files dir ≡ Some files
+        → OnOk result (damaged_file schema.now files ≡ None) }
+    ensures damaged { (files : Files) → R.Dir.files dir ≡ Some files
+        → IfErr result (Tells (λ found. damaged_file schema.now files ≡ found)) }
     ensures tells { R.tells arm.new ≡ R.tells arm.old }
     ensures later { R.failed arm.old ≤ R.failed arm.new }
     ensures fault { IsErrOf result PartFault.Fault → Rose (R.failed arm.old) (R.failed arm.new) }

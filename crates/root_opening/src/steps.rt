@@ -34,7 +34,8 @@ pub fn commands_of(drawn: u32) -> u64
 /// Settles the names, where there are any.
 pub fn settle<D: Disk>(disk: &mut D, texts: &[Name]) -> Result<(), DiskError>
     ensures settled { texts.now ≢ [] → OnOk result (D.clock disk.new ≡ D.clock disk.old + 1) }
-    ensures mark { (D.clock disk.new ≡ D.clock disk.old) ⊎ (D.clock disk.new ≡ D.clock disk.old + 1) }
+    ensures mark { (D.clock disk.new ≡ D.clock disk.old)
+        ⊎ (D.clock disk.new ≡ D.clock disk.old + 1) }
     ensures mark_err { OnErr result (D.clock disk.new ≡ D.clock disk.old) }
     ensures told { D.told disk.new ≡ D.told disk.old }
     ensures started { D.started disk.new ≡ D.started disk.old }

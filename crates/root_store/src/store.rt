@@ -55,9 +55,12 @@ pub fn put_table(
     table: &Name,
     schema: Schema,
 ) -> Result<(), NoMemory>
-    ensures updates { OnOk result (Updates (slice_cmp nat_cmp) tables.old tables.new table.now (Some (fresh_table schema))) }
-    ensures entries { OnOk result (tables.new.entries ≡ insert_entry (slice_cmp nat_cmp) tables.old.entries table.now (fresh_table schema)) }
-    ensures count { get (slice_cmp nat_cmp) tables.old table.now ≡ None → OnOk result (length tables.new.entries ≡ length tables.old.entries + 1) }
+    ensures updates { OnOk result (Updates (slice_cmp nat_cmp) tables.old tables.new table.now
+        (Some (fresh_table schema))) }
+    ensures entries { OnOk result (tables.new.entries ≡ insert_entry (slice_cmp nat_cmp)
+        tables.old.entries table.now (fresh_table schema)) }
+    ensures count { get (slice_cmp nat_cmp) tables.old table.now ≡ None
+        → OnOk result (length tables.new.entries ≡ length tables.old.entries + 1) }
     ensures err { OnErr result (tables.new.entries ≡ tables.old.entries) }
 {
     tables.insert(table.twin(alloc)?, Table { schema, drawn: 0 })?;

@@ -47,10 +47,13 @@ impl From<ReadFault> for ReadStop {
 /// `Fault` only where the source's count rose, and else it stays; `TooLong` only once 2^40 bytes were read.
 #[tactic(auto, using(crate::proofs::Known::consumes_more, crate::proofs::Known::consumes_none))]
 pub fn read_all<S: Source>(alloc: Global, source: &mut S) -> Result<Vec<u8>, ReadStop>
-    ensures all { IfOk result (λ v. Consumes (S.left source.old) (S.left source.new) v.items × IsAtEnd (S.left source.new)) }
+    ensures all { IfOk result (λ v. Consumes (S.left source.old) (S.left source.new) v.items
+        × IsAtEnd (S.left source.new)) }
     ensures short { IfOk result (λ v. length v.items < 2 ^ 40) }
-    ensures fault { IsErrOf result ReadStop.Fault → Rose (S.failed source.old) (S.failed source.new) }
-    ensures long { IsErrOf result ReadStop.TooLong → ConsumesMost (S.left source.old) (S.left source.new) }
+    ensures fault { IsErrOf result ReadStop.Fault
+        → Rose (S.failed source.old) (S.failed source.new) }
+    ensures long { IsErrOf result ReadStop.TooLong
+        → ConsumesMost (S.left source.old) (S.left source.new) }
     ensures later { S.failed source.old ≤ S.failed source.new }
     ensures calm { (IsErrOf result ReadStop.Fault → ⊥) → S.failed source.new ≡ S.failed source.old }
 {

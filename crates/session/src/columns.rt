@@ -23,7 +23,8 @@ pub fn empty_columns(
 ) -> Result<Vec<ColumnData>, NoMemory>
     requires { ArePlacesOf schema.now places.now }
     ensures types { IfOk result (λ columns. HaveTypes schema.now places.now columns.items) }
-    ensures empty { IfOk result (λ columns. map (λ (c : Cells). c.values) columns.items ≡ values_at [] places.now) }
+    ensures empty { IfOk result (λ columns. map (λ (c : Cells). c.values) columns.items ≡ values_at
+        [] places.now) }
 {
     let mut columns = Vec::with_capacity(alloc, places.len())?;
     for place in places {
@@ -59,19 +60,27 @@ pub fn read_parts<R: Arm>(
     columns: &mut [ColumnData],
 ) -> Result<(), (PartName, PartFault)>
     requires { length columns.old ≡ length places.now }
-    ensures values { (schema : Schema) (rows : List (List Row)) → PartsHold R.Dir.files schema parts.now rows → ArePlacesOf schema places.now
-        → HaveTypes schema places.now columns.old → map (λ (c : Cells). c.values) columns.old ≡ values_at [] places.now
-        → OnOk result (map (λ (c : Cells). c.values) columns.new ≡ values_at (joined rows) places.now) }
-    ensures even { All (λ (c : Cells). length c.values ≡ 0) columns.old → OnOk result (All (λ (c : Cells). length c.values ≡ rows_kept parts.now) columns.new) }
+    ensures values { (schema : Schema) (rows : List (List Row))
+        → PartsHold R.Dir.files schema parts.now rows → ArePlacesOf schema places.now
+        → HaveTypes schema places.now columns.old
+        → map (λ (c : Cells). c.values) columns.old ≡ values_at [] places.now
+        → OnOk result (map (λ (c : Cells). c.values) columns.new ≡ values_at (joined rows)
+        places.now) }
+    ensures even { All (λ (c : Cells). length c.values ≡ 0) columns.old
+        → OnOk result (All (λ (c : Cells). length c.values ≡ rows_kept parts.now) columns.new) }
     ensures many { OnOk result (length columns.new ≡ length columns.old) }
-    ensures sound { (schema : Schema) (rows : List (List Row)) → PartsHold R.Dir.files schema parts.now rows → ArePlacesOf schema places.now
+    ensures sound { (schema : Schema) (rows : List (List Row))
+        → PartsHold R.Dir.files schema parts.now rows → ArePlacesOf schema places.now
         → HaveTypes schema places.now columns.old → IfErr result (λ e. IsNoDamage e.1) }
-    ensures damaged { IfErr result (λ e. ExplainsParts R.Dir.files parts.now places.now (map (λ (c : Cells). c.col_type) columns.old) e.0 e.1) }
+    ensures damaged { IfErr result (λ e. ExplainsParts R.Dir.files parts.now places.now
+        (map (λ (c : Cells). c.col_type) columns.old) e.0 e.1) }
     ensures tells { R.tells arm.new ≡ R.tells arm.old }
     ensures later { R.failed arm.old ≤ R.failed arm.new }
-    ensures fault { IfErr result (λ e. e.1 ≡ PartFault.Fault → Rose (R.failed arm.old) (R.failed arm.new)) }
+    ensures fault { IfErr result
+        (λ e. e.1 ≡ PartFault.Fault → Rose (R.failed arm.old) (R.failed arm.new)) }
     ensures calm { OnOk result (R.failed arm.new ≡ R.failed arm.old) }
-    ensures calm_err { IfErr result (λ e. (e.1 ≡ PartFault.Fault → ⊥) → R.failed arm.new ≡ R.failed arm.old) }
+    ensures calm_err { IfErr result
+        (λ e. (e.1 ≡ PartFault.Fault → ⊥) → R.failed arm.new ≡ R.failed arm.old) }
 {
     for kept in parts {
         match read_columns(alloc, arm, &kept.part, places, columns) {

@@ -35,16 +35,34 @@ pub fn create<D: Disk, A: Annals>(
 ) -> Result<Vec<u8>, NoMemory>
     requires written { IsCreateText text.now }
     requires ready { IsReady (D.failed disk.old) (D.told disk.old) store.old }
-    ensures answers { (kept : Told) → A.told annals.old ≡ Some kept → D.Arm.tells arm.old ≡ true → CoreStands D.Arm.Dir.files (history kept) store.old
-        → Answers D.Arm.Dir.files kept (Ok (statement.Create text.now)) store.old.opened (D.failed disk.new) (D.Arm.failed arm.new) result store.new (A.told annals.new) (D.told disk.old) (D.told disk.new) }
-    ensures causes { IfOk result (λ reply. HasCauses store.old.opened (D.failed disk.old) (D.failed disk.new) (D.Arm.failed arm.old) (D.Arm.failed arm.new) reply.items) }
-    ensures stopped { store.old.opened < D.failed disk.old → AcceptsNothing store.old store.new disk.old disk.new (A.told annals.old) (A.told annals.new) }
-    ensures through_crashes { let was : Storage = record { disk = D.told disk.old; clock = D.clock disk.old; failed = D.failed disk.old; annals = A.told annals.old } in
-        let now : Storage = record { disk = D.told disk.new; clock = D.clock disk.new; failed = D.failed disk.new; annals = A.told annals.new } in
+    ensures answers { (kept : Told) → A.told annals.old ≡ Some kept → D.Arm.tells arm.old ≡ true
+        → CoreStands D.Arm.Dir.files (history kept) store.old
+        → Answers D.Arm.Dir.files kept (Ok (statement.Create text.now)) store.old.opened
+        (D.failed disk.new) (D.Arm.failed arm.new) result store.new (A.told annals.new)
+        (D.told disk.old) (D.told disk.new) }
+    ensures causes { IfOk result (λ reply. HasCauses store.old.opened (D.failed disk.old)
+        (D.failed disk.new) (D.Arm.failed arm.old) (D.Arm.failed arm.new) reply.items) }
+    ensures stopped { store.old.opened < D.failed disk.old
+        → AcceptsNothing store.old store.new disk.old disk.new (A.told annals.old)
+        (A.told annals.new) }
+    ensures through_crashes { let was : Storage = record {
+      disk = D.told disk.old;
+      clock = D.clock disk.old;
+      failed = D.failed disk.old;
+      annals = A.told annals.old;
+    } in
+        let now : Storage = record {
+          disk = D.told disk.new;
+          clock = D.clock disk.new;
+          failed = D.failed disk.new;
+          annals = A.told annals.new;
+        } in
         (first : Told) (start : ℕ) → D.Arm.tells arm.old ≡ true
-        → KeepsThroughCrashes D.Arm.Dir.files store.old was first start → KeepsThroughCrashes D.Arm.Dir.files store.new now first start }
+        → KeepsThroughCrashes D.Arm.Dir.files store.old was first start
+        → KeepsThroughCrashes D.Arm.Dir.files store.new now first start }
     ensures undamaged { IfOk result (λ reply. is_damage reply.items ≡ false) }
-    ensures held { HasSoundParts D.Arm.Dir.files store.old → HasSoundParts D.Arm.Dir.files store.new }
+    ensures held { HasSoundParts D.Arm.Dir.files store.old
+        → HasSoundParts D.Arm.Dir.files store.new }
     ensures ready { IsReady (D.failed disk.new) (D.told disk.new) store.new }
     ensures opened { store.new.opened ≡ store.old.opened }
     ensures tells { D.Arm.tells arm.new ≡ D.Arm.tells arm.old }

@@ -16,10 +16,12 @@ pub fn read_block(
     schema: &Schema,
     text: &InsertText,
 ) -> Result<Block, Stop<DataFault>>
-    ensures rows { IfOk result (λ block. inserted_rows (column_types schema.now) text.now.lines text.now.ended ≡ Ok block.rows) }
+    ensures rows { IfOk result (λ block. inserted_rows (column_types schema.now) text.now.lines
+        text.now.ended ≡ Ok block.rows) }
     ensures types { IfOk result (λ block. block.types ≡ column_types schema.now) }
     ensures values { IfOk result (λ block. AreValues block.rows) }
-    ensures refused { IfErr result (Refuses (inserted_rows (column_types schema.now) text.now.lines text.now.ended)) }
+    ensures refused { IfErr result (Refuses
+        (inserted_rows (column_types schema.now) text.now.lines text.now.ended)) }
 {
     let types = schema.types(alloc)?;
     read_rows(alloc, types.as_slice(), text.lines.as_slice(), text.ended)

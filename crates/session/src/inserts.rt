@@ -39,7 +39,8 @@ fn seal_block<R: Arm>(
 ) -> Result<SealedPart<R::Stage>, DiskError>
     requires types { block.now.types ≡ column_types schema.now }
     requires schema { IsTableSchema schema.now }
-    ensures sealed { R.tells arm.old ≡ true → IfOk result (λ s. IsSealedOf schema.now block.now s.sealed.files s.loaded) }
+    ensures sealed { R.tells arm.old ≡ true
+        → IfOk result (λ s. IsSealedOf schema.now block.now s.sealed.files s.loaded) }
     ensures none_failed { IfOk result (λ s. s.sealed.failed ≡ 0) }
     ensures typed { OnOk result (AreRowsOf block.now.types block.now.rows) }
     ensures tells { R.tells arm.new ≡ R.tells arm.old }
@@ -54,8 +55,10 @@ fn seal_block<R: Arm>(
 /// Gives the arm back the part that it sealed, where that was not given to the disk.
 fn give_back_part<R: Arm>(arm: &mut R, back: Option<SealedPart<R::Stage>>)
     ensures tells { R.tells arm.new ≡ R.tells arm.old }
-    ensures taken { IfSome back (λ p. 0 < p.sealed.failed → Rose (R.failed arm.old) (R.failed arm.new)) }
-    ensures none_failed { IfSome back (λ p. p.sealed.failed ≡ 0) → R.failed arm.new ≡ R.failed arm.old }
+    ensures taken { IfSome back
+        (λ p. 0 < p.sealed.failed → Rose (R.failed arm.old) (R.failed arm.new)) }
+    ensures none_failed { IfSome back (λ p. p.sealed.failed ≡ 0)
+        → R.failed arm.new ≡ R.failed arm.old }
     ensures later { R.failed arm.old ≤ R.failed arm.new }
 {
     if let Some(SealedPart { sealed, loaded: _ }) = back {
@@ -75,16 +78,34 @@ pub fn insert<D: Disk, A: Annals>(
     text: &InsertText,
 ) -> Result<Vec<u8>, NoMemory>
     requires ready { IsReady (D.failed disk.old) (D.told disk.old) store.old }
-    ensures answers { (kept : Told) → A.told annals.old ≡ Some kept → D.Arm.tells arm.old ≡ true → CoreStands D.Arm.Dir.files (history kept) store.old
-        → Answers D.Arm.Dir.files kept (Ok (statement.Insert text.now)) store.old.opened (D.failed disk.new) (D.Arm.failed arm.new) result store.new (A.told annals.new) (D.told disk.old) (D.told disk.new) }
-    ensures causes { IfOk result (λ reply. HasCauses store.old.opened (D.failed disk.old) (D.failed disk.new) (D.Arm.failed arm.old) (D.Arm.failed arm.new) reply.items) }
-    ensures stopped { store.old.opened < D.failed disk.old → AcceptsNothing store.old store.new disk.old disk.new (A.told annals.old) (A.told annals.new) }
-    ensures through_crashes { let was : Storage = record { disk = D.told disk.old; clock = D.clock disk.old; failed = D.failed disk.old; annals = A.told annals.old } in
-        let now : Storage = record { disk = D.told disk.new; clock = D.clock disk.new; failed = D.failed disk.new; annals = A.told annals.new } in
+    ensures answers { (kept : Told) → A.told annals.old ≡ Some kept → D.Arm.tells arm.old ≡ true
+        → CoreStands D.Arm.Dir.files (history kept) store.old
+        → Answers D.Arm.Dir.files kept (Ok (statement.Insert text.now)) store.old.opened
+        (D.failed disk.new) (D.Arm.failed arm.new) result store.new (A.told annals.new)
+        (D.told disk.old) (D.told disk.new) }
+    ensures causes { IfOk result (λ reply. HasCauses store.old.opened (D.failed disk.old)
+        (D.failed disk.new) (D.Arm.failed arm.old) (D.Arm.failed arm.new) reply.items) }
+    ensures stopped { store.old.opened < D.failed disk.old
+        → AcceptsNothing store.old store.new disk.old disk.new (A.told annals.old)
+        (A.told annals.new) }
+    ensures through_crashes { let was : Storage = record {
+      disk = D.told disk.old;
+      clock = D.clock disk.old;
+      failed = D.failed disk.old;
+      annals = A.told annals.old;
+    } in
+        let now : Storage = record {
+          disk = D.told disk.new;
+          clock = D.clock disk.new;
+          failed = D.failed disk.new;
+          annals = A.told annals.new;
+        } in
         (first : Told) (start : ℕ) → D.Arm.tells arm.old ≡ true
-        → KeepsThroughCrashes D.Arm.Dir.files store.old was first start → KeepsThroughCrashes D.Arm.Dir.files store.new now first start }
+        → KeepsThroughCrashes D.Arm.Dir.files store.old was first start
+        → KeepsThroughCrashes D.Arm.Dir.files store.new now first start }
     ensures undamaged { IfOk result (λ reply. is_damage reply.items ≡ false) }
-    ensures held { D.Arm.tells arm.old ≡ true → HasSoundParts D.Arm.Dir.files store.old → HasSoundParts D.Arm.Dir.files store.new }
+    ensures held { D.Arm.tells arm.old ≡ true → HasSoundParts D.Arm.Dir.files store.old
+        → HasSoundParts D.Arm.Dir.files store.new }
     ensures ready { IsReady (D.failed disk.new) (D.told disk.new) store.new }
     ensures opened { store.new.opened ≡ store.old.opened }
     ensures tells { D.Arm.tells arm.new ≡ D.Arm.tells arm.old }

@@ -39,10 +39,16 @@ fn read_places<R: Arm>(
     requires places { selected_places table.now.schema.columns text.now.columns ≡ Ok places.now }
     requires rows { rows ≡ rows_kept (parts_of store.now.set text.now.table) }
     requires few { rows < 2 ^ 32 }
-    ensures answers { (kept : Told) → CoreStands R.Dir.files (history kept) store.now → IfOk result (λ reply. Selected kept text.now (R.failed arm.new) store.now.opened reply.items) }
-    ensures undamaged { HasSoundParts R.Dir.files store.now → IfOk result (λ reply. is_damage reply.items ≡ false) }
-    ensures damaged { IfOk result (λ reply. is_damage reply.items ≡ true → TellsOfDamage R.Dir.files store.now text.now reply.items) }
-    ensures causes { (disk : ℕ) → IfOk result (λ reply. HasCauses store.now.opened disk disk (R.failed arm.old) (R.failed arm.new) reply.items) }
+    ensures answers { (kept : Told) → CoreStands R.Dir.files (history kept) store.now
+        → IfOk result (λ reply. Selected kept text.now (R.failed arm.new) store.now.opened
+        reply.items) }
+    ensures undamaged { HasSoundParts R.Dir.files store.now
+        → IfOk result (λ reply. is_damage reply.items ≡ false) }
+    ensures damaged { IfOk result (λ reply. is_damage reply.items ≡ true
+        → TellsOfDamage R.Dir.files store.now text.now reply.items) }
+    ensures causes { (disk : ℕ)
+        → IfOk result (λ reply. HasCauses store.now.opened disk disk (R.failed arm.old)
+        (R.failed arm.new) reply.items) }
     ensures tells { R.tells arm.new ≡ R.tells arm.old }
     ensures later { R.failed arm.old ≤ R.failed arm.new }
     ensures memory { OnErr result (R.failed arm.new ≡ R.failed arm.old) }
@@ -69,10 +75,16 @@ pub fn select<R: Arm, G: Gate>(
     text: &SelectText,
 ) -> Result<Vec<u8>, NoMemory>
     requires { IsSound store.now }
-    ensures answers { (kept : Told) → CoreStands R.Dir.files (history kept) store.now → IfOk result (λ reply. Selected kept text.now (R.failed arm.new) store.now.opened reply.items) }
-    ensures undamaged { HasSoundParts R.Dir.files store.now → IfOk result (λ reply. is_damage reply.items ≡ false) }
-    ensures damaged { IfOk result (λ reply. is_damage reply.items ≡ true → TellsOfDamage R.Dir.files store.now text.now reply.items) }
-    ensures causes { (disk : ℕ) → IfOk result (λ reply. HasCauses store.now.opened disk disk (R.failed arm.old) (R.failed arm.new) reply.items) }
+    ensures answers { (kept : Told) → CoreStands R.Dir.files (history kept) store.now
+        → IfOk result (λ reply. Selected kept text.now (R.failed arm.new) store.now.opened
+        reply.items) }
+    ensures undamaged { HasSoundParts R.Dir.files store.now
+        → IfOk result (λ reply. is_damage reply.items ≡ false) }
+    ensures damaged { IfOk result (λ reply. is_damage reply.items ≡ true
+        → TellsOfDamage R.Dir.files store.now text.now reply.items) }
+    ensures causes { (disk : ℕ)
+        → IfOk result (λ reply. HasCauses store.now.opened disk disk (R.failed arm.old)
+        (R.failed arm.new) reply.items) }
     ensures tells { R.tells arm.new ≡ R.tells arm.old }
     ensures later { R.failed arm.old ≤ R.failed arm.new }
     ensures memory { OnErr result (R.failed arm.new ≡ R.failed arm.old) }

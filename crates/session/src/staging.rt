@@ -19,7 +19,8 @@ pub fn seal_entry<R: Arm>(
     arm: &mut R,
     text: &[u8],
 ) -> Result<Sealed<R::Stage>, DiskError>
-    ensures files { IfOk result (λ s. R.tells arm.old ≡ true → s.files ≡ Some (entry_files text.now)) }
+    ensures files { IfOk result
+        (λ s. R.tells arm.old ≡ true → s.files ≡ Some (entry_files text.now)) }
     ensures none_failed { IfOk result (λ s. s.failed ≡ 0) }
     ensures few { OnOk result (length text.now < 2 ^ 32) }
     ensures tells { R.tells arm.new ≡ R.tells arm.old }

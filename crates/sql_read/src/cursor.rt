@@ -171,7 +171,8 @@ impl<'a> Cursor<'a> {
 
     // Takes the next token where it passes, a test of which is given, and says whether it did.
     fn skip_if(&mut self, passes: bool) -> bool
-        ensures way { (test : Token → Bool) → passes ≡ first_is test self.old → Skips test self.old result self.new }
+        ensures way { (test : Token → Bool) → passes ≡ first_is test self.old
+            → Skips test self.old result self.new }
         ensures no_more { length self.new ≤ length self.old }
     {
         if passes {

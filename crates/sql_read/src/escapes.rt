@@ -82,7 +82,8 @@ fn escape(text: &[u8]) -> Option<(u8, &[u8])>
 
 // What a quote is in a string, by what follows it: two of them say one.
 fn quote(more: &[u8]) -> Piece<'_>
-    ensures { (rest : List ℕ → Option (List ℕ × List ℕ)) → said_by rest result ≡ quote_behind rest more.now }
+    ensures { (rest : List ℕ → Option (List ℕ × List ℕ))
+        → said_by rest result ≡ quote_behind rest more.now }
 {
     if begins_with(b'\'', more) {
         Piece::Byte(b'\'', &more[1..])
@@ -93,7 +94,8 @@ fn quote(more: &[u8]) -> Piece<'_>
 
 // The first bytes of the rest of a string.
 fn first_piece(text: &[u8]) -> Piece<'_>
-    ensures { (more : List ℕ → Option (List ℕ × List ℕ)) → said_by more result ≡ string_from more text.now }
+    ensures { (more : List ℕ → Option (List ℕ × List ℕ))
+        → said_by more result ≡ string_from more text.now }
 {
     let [byte, more @ ..] = text else {
         return Piece::Faulty;
@@ -115,7 +117,8 @@ fn first_piece(text: &[u8]) -> Piece<'_>
 ///
 /// `NoMemory` where what it says found no room.
 pub fn string(alloc: Global, text: &[u8]) -> Result<Option<(Bytes, &[u8])>, NoMemory>
-    ensures { IfOk result (λ found. string_shown found ≡ string_within (length text.now + 1) text.now) }
+    ensures { IfOk result
+        (λ found. string_shown found ≡ string_within (length text.now + 1) text.now) }
 {
     let mut said = Seq::new(alloc);
     let mut rest = text;

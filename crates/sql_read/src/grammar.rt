@@ -86,7 +86,8 @@ fn in_limit(size: usize, statement: Statement) -> Result<Statement, Stop<Cause>>
 
 // Why the text of this size is no statement, where reading stopped before the rest of its tokens.
 fn refused(size: usize, stop: Stop<Slip>, rest: &[Placed]) -> Stop<Cause>
-    ensures { (reader : Reader Statement) (tokens : List Placed) → IsRead reader tokens (Err stop) rest.now
+    ensures { (reader : Reader Statement) (tokens : List Placed)
+        → IsRead reader tokens (Err stop) rest.now
         → Refuses (statement_read size (reader tokens)) result }
 {
     match stop {
@@ -103,7 +104,8 @@ fn said_by(
     lines: &[u8],
     ended: bool,
 ) -> Result<Statement, Stop<Cause>>
-    ensures { Gives (statement_read (length text.now) (statement_reader text.now lines.now ended tokens.now)) result }
+    ensures { Gives (statement_read (length text.now)
+        (statement_reader text.now lines.now ended tokens.now)) result }
 {
     let mut cursor = Cursor::new(tokens);
     match read(alloc, &mut cursor, text, lines, ended) {

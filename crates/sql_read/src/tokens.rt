@@ -76,7 +76,8 @@ fn number(alloc: Global, text: &[u8]) -> Result<(Token, &[u8]), NoMemory>
 
 // The token of a string, of which the text after its first quote is given, and what follows it.
 fn quoted(alloc: Global, text: &[u8]) -> Result<(Token, &[u8]), NoMemory>
-    ensures { IfOk result (λ found. token_shown found ≡ text_token (string_within (length text.now + 1) text.now)) }
+    ensures { IfOk result (λ found. token_shown found ≡ text_token
+        (string_within (length text.now + 1) text.now)) }
 {
     match string(alloc, text)? {
         Some((said, rest)) => Ok((Token::Text(said), rest)),

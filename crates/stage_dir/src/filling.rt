@@ -115,7 +115,8 @@ pub fn write_file<S: Stage>(
     requires intact { IsIntact stage.old }
     requires new { has_file file stage.old.names ≡ false }
     ensures names { OnOk result (stage.new.names ≡ stage.old.names ++ file ∷ []) }
-    ensures files { OnOk result (stage.new.files ≡ option_map (λ files. files ++ written file bytes.now ∷ []) stage.old.files) }
+    ensures files { OnOk result (stage.new.files ≡ option_map
+        (λ files. files ++ written file bytes.now ∷ []) stage.old.files) }
     ensures intact { OnOk result (IsIntact stage.new) }
     ensures cause { HasDiskCause stage.old.failed stage.new.failed result }
 {
@@ -129,7 +130,8 @@ fn sync_files<S: Stage>(stage: &mut S, names: &[FileId]) -> Result<(), DiskError
     requires told { ForSome (S.files stage.old) (λ files. names_in files ≡ names.now) }
     requires once { EachOnce names.now }
     ensures files { OnOk result (S.files stage.new ≡ option_map settled (S.files stage.old)) }
-    ensures kept { OnErr result (option_map contents (S.files stage.new) ≡ option_map contents (S.files stage.old)) }
+    ensures kept { OnErr result (option_map contents (S.files stage.new) ≡ option_map contents
+        (S.files stage.old)) }
     ensures cause { HasDiskCause (S.failed stage.old) (S.failed stage.new) result }
 {
     for name in names {
@@ -146,7 +148,8 @@ pub fn seal<S: Stage>(stage: Open<S>) -> Result<Sealed<S>, Unsealed<S>>
     ensures files { IfOk result (λ s. s.files ≡ option_map settled stage.files) }
     ensures failed { IfOk result (λ s. s.failed ≡ stage.failed) }
     ensures names { IfErr result (λ u. u.rest.names ≡ stage.names) }
-    ensures kept { IfErr result (λ u. option_map contents u.rest.files ≡ option_map contents stage.files) }
+    ensures kept { IfErr result
+        (λ u. option_map contents u.rest.files ≡ option_map contents stage.files) }
     ensures cause { IfErr result (λ u. IsCauseOf stage.failed u.rest.failed u.cause) }
 {
     let Open { mut stage, names } = stage;

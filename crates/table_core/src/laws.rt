@@ -10,17 +10,25 @@ ghost use Rattle.table_core.specs.Steps.{Gives, MayCome};
 /// snapshot stays what merges may have left of the front of the history at which it was taken, whatever comes later. The
 /// number of a snapshot stays its number up to the next crash, after which no number is known that was told before it.
 pub fn what_was_read_stays()
-    ensures step { (old new : Core) (e : Event) (given : Outcome) → IsCore old → MayCome old.history e → Gives old e given new → IsCore new }
-    ensures run { (events : List Event) (outcomes : List Outcome) (old new : Core) → IsCore old → MayRun old events → Runs old events outcomes new → IsCore new }
-    ensures read { (events : List Event) (outcomes : List Outcome) (old new : Core) → IsCore old → MayRun old events → Runs old events outcomes new → TellsLeft old events outcomes new }
-    ensures taken { (events : List Event) (outcomes : List Outcome) (old new : Core) → Runs old events outcomes new → TellsSnapshots old events outcomes new }
-    ensures known { (events : List Event) (outcomes : List Outcome) (old new : Core) → Runs old events outcomes new → KnowsSnapshots old events outcomes new }
+    ensures step { (old new : Core) (e : Event) (given : Outcome) → IsCore old
+        → MayCome old.history e → Gives old e given new → IsCore new }
+    ensures run { (events : List Event) (outcomes : List Outcome) (old new : Core) → IsCore old
+        → MayRun old events → Runs old events outcomes new → IsCore new }
+    ensures read { (events : List Event) (outcomes : List Outcome) (old new : Core) → IsCore old
+        → MayRun old events → Runs old events outcomes new → TellsLeft old events outcomes new }
+    ensures taken { (events : List Event) (outcomes : List Outcome) (old new : Core)
+        → Runs old events outcomes new → TellsSnapshots old events outcomes new }
+    ensures known { (events : List Event) (outcomes : List Outcome) (old new : Core)
+        → Runs old events outcomes new → KnowsSnapshots old events outcomes new }
 {}
 
 /// No entry of the history is ever lost, by a crash neither. It has each command that was accepted, at the place that was
 /// told, and else at most commands within whose accepts a crash came.
 pub fn what_was_accepted_stays()
-    ensures history { (events : List Event) (outcomes : List Outcome) (old new : Core) → Runs old events outcomes new → KeepsHistory old events outcomes new }
-    ensures accepted { (events : List Event) (outcomes : List Outcome) (old new : Core) → Runs old events outcomes new → KeepsAccepted events outcomes new }
-    ensures entries { (events : List Event) (outcomes : List Outcome) (old new : Core) → Runs old events outcomes new → HasEntries old events outcomes new }
+    ensures history { (events : List Event) (outcomes : List Outcome) (old new : Core)
+        → Runs old events outcomes new → KeepsHistory old events outcomes new }
+    ensures accepted { (events : List Event) (outcomes : List Outcome) (old new : Core)
+        → Runs old events outcomes new → KeepsAccepted events outcomes new }
+    ensures entries { (events : List Event) (outcomes : List Outcome) (old new : Core)
+        → Runs old events outcomes new → HasEntries old events outcomes new }
 {}

@@ -22,12 +22,18 @@ pub fn run(alloc: Global, events: Vec<Event>) -> Result<Done, NoMemory>
     requires { MayRun empty_core events.items }
     ensures run { IfOk result (λ done. Runs empty_core events.items done.outcomes.items done.state) }
     ensures core { IfOk result (λ done. IsCore done.state) }
-    ensures read { IfOk result (λ done. TellsLeft empty_core events.items done.outcomes.items done.state) }
-    ensures taken { IfOk result (λ done. TellsSnapshots empty_core events.items done.outcomes.items done.state) }
-    ensures known { IfOk result (λ done. KnowsSnapshots empty_core events.items done.outcomes.items done.state) }
-    ensures history { IfOk result (λ done. KeepsHistory empty_core events.items done.outcomes.items done.state) }
-    ensures accepted { IfOk result (λ done. KeepsAccepted events.items done.outcomes.items done.state) }
-    ensures entries { IfOk result (λ done. HasEntries empty_core events.items done.outcomes.items done.state) }
+    ensures read { IfOk result
+        (λ done. TellsLeft empty_core events.items done.outcomes.items done.state) }
+    ensures taken { IfOk result (λ done. TellsSnapshots empty_core events.items done.outcomes.items
+        done.state) }
+    ensures known { IfOk result (λ done. KnowsSnapshots empty_core events.items done.outcomes.items
+        done.state) }
+    ensures history { IfOk result (λ done. KeepsHistory empty_core events.items done.outcomes.items
+        done.state) }
+    ensures accepted { IfOk result
+        (λ done. KeepsAccepted events.items done.outcomes.items done.state) }
+    ensures entries { IfOk result
+        (λ done. HasEntries empty_core events.items done.outcomes.items done.state) }
 {
     let mut state = CoreState::new(alloc);
     let mut outcomes = Vec::new(alloc);

@@ -38,7 +38,8 @@ pub fn happen(alloc: Global, store: &mut Store, event: Event) -> Result<Outcome,
 fn decide(alloc: Global, store: &mut Store, accept: Accept) -> Result<Outcome, NoMemory>
     requires store { IsStore store.old }
     requires may { MayAccept store.old.entries.items accept }
-    ensures gives { IfOk result (λ given. AcceptGives (core_of store.old) accept given (core_of store.new)) }
+    ensures gives { IfOk result
+        (λ given. AcceptGives (core_of store.old) accept given (core_of store.new)) }
     ensures err { OnErr result (core_of store.new ≡ core_of store.old) }
     ensures store { IsStore store.new }
 {
@@ -52,7 +53,8 @@ fn decide(alloc: Global, store: &mut Store, accept: Accept) -> Result<Outcome, N
 fn restart(alloc: Global, store: &mut Store, crash: Crash) -> Result<Outcome, NoMemory>
     requires store { IsStore store.old }
     requires may { MayCrash store.old.entries.items crash }
-    ensures gives { IfOk result (λ given. CrashGives (core_of store.old) crash given (core_of store.new)) }
+    ensures gives { IfOk result
+        (λ given. CrashGives (core_of store.old) crash given (core_of store.new)) }
     ensures err { OnErr result (core_of store.new ≡ core_of store.old) }
     ensures store { IsStore store.new }
 {
@@ -85,7 +87,8 @@ fn make_table(
 ) -> Result<Outcome, NoMemory>
     requires store { IsStore store.old }
     requires schema { IsTableSchema create.schema }
-    ensures gives { IfOk result (λ given. CreateGives (core_of store.old) session create given (core_of store.new)) }
+    ensures gives { IfOk result (λ given. CreateGives (core_of store.old) session create given
+        (core_of store.new)) }
     ensures err { OnErr result (core_of store.new ≡ core_of store.old) }
     ensures store { IsStore store.new }
 {
@@ -108,8 +111,10 @@ fn add_rows(
     insert: Insert,
 ) -> Result<Outcome, NoMemory>
     requires store { IsStore store.old }
-    requires rows { (schema : Schema) → schema_of insert.table store.old.entries.items ≡ Some schema → IsInsertInto schema insert }
-    ensures gives { IfOk result (λ given. InsertGives (core_of store.old) session insert given (core_of store.new)) }
+    requires rows { (schema : Schema) → schema_of insert.table store.old.entries.items ≡ Some schema
+        → IsInsertInto schema insert }
+    ensures gives { IfOk result (λ given. InsertGives (core_of store.old) session insert given
+        (core_of store.new)) }
     ensures err { OnErr result (core_of store.new ≡ core_of store.old) }
     ensures store { IsStore store.new }
 {
@@ -165,7 +170,8 @@ fn rows_at(alloc: Global, block: &Block, places: &[u32]) -> Result<Seq<Row>, NoM
 /// Takes a snapshot of a table as it is now, unless there is no such table.
 fn take_snapshot(alloc: Global, store: &mut Store, table: Name) -> Result<Outcome, NoMemory>
     requires { IsStore store.old }
-    ensures gives { IfOk result (λ given. TakeGives (core_of store.old) table given (core_of store.new)) }
+    ensures gives { IfOk result
+        (λ given. TakeGives (core_of store.old) table given (core_of store.new)) }
     ensures err { OnErr result (core_of store.new ≡ core_of store.old) }
     ensures store { IsStore store.new }
 {

@@ -68,8 +68,10 @@ impl Store {
         create: Create,
     ) -> Result<(), NoMemory>
         requires { All (IsNotNamed create.table) self.old.tables.entries }
-        ensures tables { OnOk result (AddsTable create self.old.tables.entries self.new.tables.entries) }
-        ensures entries { OnOk result (self.new.entries.items ≡ entered self.old.entries.items session (command.Create create ∷ [])) }
+        ensures tables { OnOk result
+            (AddsTable create self.old.tables.entries self.new.tables.entries) }
+        ensures entries { OnOk result (self.new.entries.items ≡ entered self.old.entries.items
+            session (command.Create create ∷ [])) }
         ensures snapshots { OnOk result (self.new.snapshots.items ≡ self.old.snapshots.items) }
         ensures err { OnErr result (SameStore self.old self.new) }
     {
@@ -93,8 +95,10 @@ impl Store {
     ) -> Result<(), NoMemory>
         requires { place < length self.old.tables.entries }
         ensures tables { (t : Named) → slice_get self.old.tables.entries place ≡ Some t
-            → OnOk result (self.new.tables.entries ≡ set_value_at self.old.tables.entries place (with_part t.1 part number)) }
-        ensures entries { OnOk result (self.new.entries.items ≡ entered self.old.entries.items session (command.Insert insert ∷ [])) }
+            → OnOk result (self.new.tables.entries ≡ set_value_at self.old.tables.entries place
+            (with_part t.1 part number)) }
+        ensures entries { OnOk result (self.new.entries.items ≡ entered self.old.entries.items
+            session (command.Insert insert ∷ [])) }
         ensures snapshots { OnOk result (self.new.snapshots.items ≡ self.old.snapshots.items) }
         ensures err { OnErr result (SameStore self.old self.new) }
     {

@@ -58,7 +58,8 @@ pub fn read_line(
     said: &mut Vec<u8>,
 ) -> Result<(), Stop<RowFault>>
     requires { EndFields text.now ends.now }
-    ensures { IsReadInto (with_row columns.old (row_of_line (types_in columns.old) line text.now)) columns.new result }
+    ensures { IsReadInto (with_row columns.old (row_of_line (types_in columns.old) line text.now))
+        columns.new result }
 {
     if let Some(fault) = fault_of_count(line, ends.len(), columns.len()) {
         return Err(Stop::Refused(fault));

@@ -106,7 +106,8 @@ pub fn write_row_at(
 ) -> Result<(), NoMemory>
     requires within { place < length block.now.rows }
     requires chosen { All (λ column. column < length block.now.types) columns.now }
-    ensures { OnOk result (out.new.items ≡ out.old.items ++ line (selected columns.now (slice_index_or block.now.rows place []))) }
+    ensures { OnOk result (out.new.items ≡ out.old.items ++ line
+        (selected columns.now (slice_index_or block.now.rows place []))) }
 {
     prove!(place < block.len());
     let mut buffer = Buffer::new();
@@ -130,7 +131,8 @@ pub fn write_rows(
 ) -> Result<(), NoMemory>
     requires within { All (λ place. place < length block.now.rows) order.now }
     requires chosen { All (λ column. column < length block.now.types) columns.now }
-    ensures { OnOk result (out.new.items ≡ out.old.items ++ flat_map (λ row. line (selected columns.now row)) (picked block.now.rows order.now)) }
+    ensures { OnOk result (out.new.items ≡ out.old.items ++ flat_map
+        (λ row. line (selected columns.now row)) (picked block.now.rows order.now)) }
 {
     for place in order {
         write_row_at(block, *place as usize, columns, out)?;

@@ -11,8 +11,12 @@ ghost use Rattle.mt_values.specs.Values.{AreValues, IsValue, Row, types_of};
 /// that its line is, without its line feed. Whatever comes after its line, the line ends at its own line feed, and it
 /// is not the one that ends data. And the lines of rows of one table are the data that adds those rows.
 pub fn printed_rows_are_read()
-    ensures row { (types : List ColType) (row : Row) (number : ℕ) → types_of row ≡ types → All IsValue row → 0 < length row → row_of_line types number (fields row) ≡ Ok row }
-    ensures line { (row : Row) (rest : List ℕ) → All IsValue row → line_from false (line row ++ rest) ≡ Some (fields row, rest) }
+    ensures row { (types : List ColType) (row : Row) (number : ℕ) → types_of row ≡ types
+        → All IsValue row → 0 < length row → row_of_line types number (fields row) ≡ Ok row }
+    ensures line { (row : Row) (rest : List ℕ) → All IsValue row
+        → line_from false (line row ++ rest) ≡ Some (fields row, rest) }
     ensures not_end { (row : Row) → All IsValue row → ends_data (fields row) ≡ false }
-    ensures rows { (types : List ColType) (rows : List Row) → AreRowsOf types rows → AreValues rows → 0 < length types → length rows ≤ row_limit → inserted_rows types (flat_map line rows) true ≡ Ok rows }
+    ensures rows { (types : List ColType) (rows : List Row) → AreRowsOf types rows → AreValues rows
+        → 0 < length types → length rows ≤ row_limit
+        → inserted_rows types (flat_map line rows) true ≡ Ok rows }
 {}

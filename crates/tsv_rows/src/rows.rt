@@ -20,7 +20,8 @@ fn read_value(
     said: &mut Vec<u8>,
 ) -> Result<Value, Stop<RowFault>>
     ensures value { IfOk result (λ v. Ok v ≡ value_of_field col_type field.now) }
-    ensures refused { IfErr result (Refuses (at_field line place (value_of_field col_type field.now))) }
+    ensures refused { IfErr result
+        (Refuses (at_field line place (value_of_field col_type field.now))) }
 {
     match cell_of_field(col_type, field, said) {
         Ok(cell) => Ok(cell.to_value(alloc)?),
