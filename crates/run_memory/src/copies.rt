@@ -5,7 +5,7 @@ use crate::left::Left;
 use crate::text::first_word;
 use digest_file::mark_of;
 use disk_mem::MemDir;
-use mt_base::{NoMemory, Partition, Seq, Twin};
+use mt_base::{NoMemory, Partition, Rows, Seq, Twin};
 use mt_values::{ColType, Column, Loaded, Manifest, Name, Schema};
 use part_history::CorePart;
 use part_name::{PartName, text};

@@ -1,5 +1,5 @@
 // Running one statement.
-ghost use Rattle.std.specs.Prelude.{◌≡◌, ◌<◌, ◌≤◌, Ok, Some, true, false, IfOk, OnErr};
+ghost use Rattle.std.specs.Prelude.{◌≡◌, ◌<◌, ◌≤◌, Ok, Some, true, false, IfOk, OnErr, ℕ};
 ghost use Rattle.mt_values.specs.Annals.{Told};
 ghost use Rattle.mt_model.specs.Refusals.{is_damage};
 ghost use Rattle.mt_model.specs.Written.{IsWritten};
