@@ -40,16 +40,22 @@ pub fn check_table<D: Disk>(
     table: &Name,
 ) -> Result<Schema, OpenFault>
     requires { ForSome (D.told disk.old) (λ t. IsSome (files_at text.now (names_of t))) }
+
+    // The schema that the entry gives, and what damage is told.
     ensures schema { IfOk result IsTableSchema }
     ensures holds { (told : Told) → D.told disk.old ≡ Some told
         → IfOk result (λ schema. HasFolder (names_of told) text.now (EntryHolds table.now schema)) }
     ensures damaged { (told : Told) → D.told disk.old ≡ Some told
         → IfErr result (TellsFile (names_of told) text.now
         (λ files f. EntryDamaged (names_of told) table.now files × (f ≡ file.Entry))) }
+
+    // What stays.
     ensures told { D.told disk.new ≡ D.told disk.old }
     ensures clock { D.clock disk.new ≡ D.clock disk.old }
     ensures started { D.started disk.new ≡ D.started disk.old }
     ensures tells { D.Arm.tells arm.new ≡ D.Arm.tells arm.old }
+
+    // What the counts of faults are.
     ensures later { D.failed disk.old ≤ D.failed disk.new }
     ensures arm_later { D.Arm.failed arm.old ≤ D.Arm.failed arm.new }
     ensures fault { IsErrOf result OpenFault.Disk → Rose (D.failed disk.old) (D.failed disk.new)
@@ -77,15 +83,21 @@ pub fn check_table_part<D: Disk>(
     schema: &Schema,
 ) -> Result<Part<<D::Arm as Arm>::Dir>, OpenFault>
     requires { ForSome (D.told disk.old) (λ t. IsSome (files_at text.now (names_of t))) }
+
+    // The part that was read, and what damage is told.
     ensures may { OnOk result (MayHavePartition schema.now part.now.name.partition) }
     ensures read { (told : Told) → D.told disk.old ≡ Some told
         → IfOk result (IsRead D.Arm.Dir.files (names_of told) text.now schema.now) }
     ensures damaged { (told : Told) → D.told disk.old ≡ Some told
         → IfErr result (TellsFile (names_of told) text.now (PartDamaged schema.now part.now)) }
+
+    // What stays.
     ensures told { D.told disk.new ≡ D.told disk.old }
     ensures clock { D.clock disk.new ≡ D.clock disk.old }
     ensures started { D.started disk.new ≡ D.started disk.old }
     ensures tells { D.Arm.tells arm.new ≡ D.Arm.tells arm.old }
+
+    // What the counts of faults are.
     ensures later { D.failed disk.old ≤ D.failed disk.new }
     ensures arm_later { D.Arm.failed arm.old ≤ D.Arm.failed arm.new }
     ensures fault { IsErrOf result OpenFault.Disk → Rose (D.failed disk.old) (D.failed disk.new)

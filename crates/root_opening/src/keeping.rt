@@ -42,6 +42,8 @@ fn keep_table<D: Disk>(
 ) -> Result<(), OpenFault>
     requires text { text.now ≡ create_name table.now }
     requires there { ForSome (D.told disk.old) (λ t. IsSome (files_at text.now (names_of t))) }
+
+    // What is kept, and what damage is told.
     ensures keeps { (read seen : List Named) → (HasTable seen table.now → ⊥)
         → Keeps read seen store.old
         → OnOk result (Keeps read (seen ++ root.Create table.now ∷ []) store.new) }
@@ -53,11 +55,15 @@ fn keep_table<D: Disk>(
     ensures damaged { (told : Told) (read : List Named) → D.told disk.old ≡ Some told
         → IfErr result (TellsFile (names_of told) text.now
         (IsDamaged (names_of told) read (root.Create table.now))) }
+
+    // What stays.
     ensures opened { store.new.opened ≡ store.old.opened }
     ensures told { D.told disk.new ≡ D.told disk.old }
     ensures clock { D.clock disk.new ≡ D.clock disk.old }
     ensures started { D.started disk.new ≡ D.started disk.old }
     ensures tells { D.Arm.tells arm.new ≡ D.Arm.tells arm.old }
+
+    // What the counts of faults are.
     ensures later { D.failed disk.old ≤ D.failed disk.new }
     ensures arm_later { D.Arm.failed arm.old ≤ D.Arm.failed arm.new }
     ensures fault { IsErrOf result OpenFault.Disk → Rose (D.failed disk.old) (D.failed disk.new)
@@ -84,6 +90,8 @@ fn keep_part<D: Disk>(
     requires there { ForSome (D.told disk.old) (λ t. IsSome (files_at text.now (names_of t))) }
     requires table { IsSome (table_at store.old part.now.table) }
     requires apart { NoneMeets (parts_of store.old.set part.now.table) part.now.name }
+
+    // What is kept, and what damage is told.
     ensures keeps { (read seen : List Named) → IsVisible read part.now → Keeps read seen store.old
         → OnOk result (Keeps read (seen ++ root.Part part.now ∷ []) store.new) }
     ensures keeps_told { (told : Told) (read seen : List Named) → D.told disk.old ≡ Some told
@@ -94,11 +102,15 @@ fn keep_part<D: Disk>(
         → IsVisible read part.now → KeepsTold D.Arm.Dir.files (names_of told) read seen store.old
         → IfErr result (TellsFile (names_of told) text.now
         (IsDamaged (names_of told) read (root.Part part.now))) }
+
+    // What stays.
     ensures opened { store.new.opened ≡ store.old.opened }
     ensures told { D.told disk.new ≡ D.told disk.old }
     ensures clock { D.clock disk.new ≡ D.clock disk.old }
     ensures started { D.started disk.new ≡ D.started disk.old }
     ensures tells { D.Arm.tells arm.new ≡ D.Arm.tells arm.old }
+
+    // What the counts of faults are.
     ensures later { D.failed disk.old ≤ D.failed disk.new }
     ensures arm_later { D.Arm.failed arm.old ≤ D.Arm.failed arm.new }
     ensures fault { IsErrOf result OpenFault.Disk → Rose (D.failed disk.old) (D.failed disk.new)
@@ -129,6 +141,8 @@ fn keep_name<D: Disk>(
     requires listed { ForSome (D.told disk.old) (IsTextsOf root.now) }
     requires place { place < length root.now.names.items }
     requires keeps { Keeps root.now.names.items (take place root.now.names.items) store.old }
+
+    // What is kept, and what damage is told.
     ensures keeps { OnOk result (Keeps root.now.names.items (take (place + 1) root.now.names.items)
         store.new) }
     ensures keeps_told { (told : Told) → D.told disk.old ≡ Some told
@@ -139,11 +153,15 @@ fn keep_name<D: Disk>(
     ensures damaged { (told : Told) → D.told disk.old ≡ Some told
         → KeepsTold D.Arm.Dir.files (names_of told) root.now.names.items
         (take place root.now.names.items) store.old → IfErr result (TellsDamage (names_of told)) }
+
+    // What stays.
     ensures opened { store.new.opened ≡ store.old.opened }
     ensures told { D.told disk.new ≡ D.told disk.old }
     ensures clock { D.clock disk.new ≡ D.clock disk.old }
     ensures started { D.started disk.new ≡ D.started disk.old }
     ensures tells { D.Arm.tells arm.new ≡ D.Arm.tells arm.old }
+
+    // What the counts of faults are.
     ensures later { D.failed disk.old ≤ D.failed disk.new }
     ensures arm_later { D.Arm.failed arm.old ≤ D.Arm.failed arm.new }
     ensures fault { IsErrOf result OpenFault.Disk → Rose (D.failed disk.old) (D.failed disk.new)
@@ -175,17 +193,23 @@ fn keep_names<D: Disk>(
 ) -> Result<CoreStore<<D::Arm as Arm>::Dir>, OpenFault>
     requires named { IsNamedRoot root.now }
     requires listed { ForSome (D.told disk.old) (IsTextsOf root.now) }
+
+    // What is kept, and what damage is told.
     ensures keeps { IfOk result (Keeps root.now.names.items root.now.names.items) }
     ensures keeps_told { (told : Told) → D.told disk.old ≡ Some told
         → IfOk result (KeepsTold D.Arm.Dir.files (names_of told) root.now.names.items
         root.now.names.items) }
     ensures damaged { (told : Told) → D.told disk.old ≡ Some told
         → IfErr result (TellsDamage (names_of told)) }
+
+    // What stays.
     ensures opened { IfOk result (λ store. store.opened ≡ opened) }
     ensures told { D.told disk.new ≡ D.told disk.old }
     ensures clock { D.clock disk.new ≡ D.clock disk.old }
     ensures started { D.started disk.new ≡ D.started disk.old }
     ensures tells { D.Arm.tells arm.new ≡ D.Arm.tells arm.old }
+
+    // What the counts of faults are.
     ensures later { D.failed disk.old ≤ D.failed disk.new }
     ensures arm_later { D.Arm.failed arm.old ≤ D.Arm.failed arm.new }
     ensures fault { IsErrOf result OpenFault.Disk → Rose (D.failed disk.old) (D.failed disk.new)
@@ -230,6 +254,8 @@ pub fn keep_root<D: Disk>(
 ) -> Result<CoreStore<<D::Arm as Arm>::Dir>, OpenFault>
     requires named { IsNamedRoot root.now }
     requires listed { ForSome (D.told disk.old) (IsTextsOf root.now) }
+
+    // What the store is then, and what damage is told.
     ensures store { (told : Told) → D.told disk.old ≡ Some told
         → IfOk result (StoreOf D.Arm.Dir.files (names_of told)) }
     ensures sound { IfOk result IsSound }
@@ -238,10 +264,14 @@ pub fn keep_root<D: Disk>(
     ensures damaged { (told : Told) → D.told disk.old ≡ Some told
         → IfErr result (TellsDamage (names_of told)) }
     ensures opened { IfOk result (λ store. store.opened ≡ opened) }
+
+    // What stays.
     ensures told { D.told disk.new ≡ D.told disk.old }
     ensures clock { D.clock disk.new ≡ D.clock disk.old }
     ensures started { D.started disk.new ≡ D.started disk.old }
     ensures tells { D.Arm.tells arm.new ≡ D.Arm.tells arm.old }
+
+    // What the counts of faults are.
     ensures later { D.failed disk.old ≤ D.failed disk.new }
     ensures arm_later { D.Arm.failed arm.old ≤ D.Arm.failed arm.new }
     ensures fault { IsErrOf result OpenFault.Disk → Rose (D.failed disk.old) (D.failed disk.new)

@@ -168,6 +168,7 @@ pub fn open<D: Disk>(
     disk: &mut D,
     arm: &mut D::Arm,
 ) -> Result<CoreStore<<D::Arm as Arm>::Dir>, OpenFault>
+    // What the store is then, and what it stands for.
     ensures store { (told : Told) → D.told disk.old ≡ Some told
         → IfOk result (StoreOf D.Arm.Dir.files (names_of told)) }
     ensures stands { (told : Told) (h : History) → D.told disk.old ≡ Some told
@@ -175,16 +176,20 @@ pub fn open<D: Disk>(
         → MatchResult result (CoreStands D.Arm.Dir.files h) IsNotDamaged }
     ensures core { (told : Told) (h : History) → D.told disk.old ≡ Some told
         → Stands (names_of told) h → IfOk result (ShowsCoreOf D.Arm.Dir.files h) }
-    ensures damaged { (told : Told) → D.told disk.old ≡ Some told
-        → IfErr result (TellsDamage (names_of told)) }
-    ensures exact { (told : Told) (damage : Damage) → D.told disk.old ≡ Some told
-        → IsRootDamage (names_of told) damage → OnOk result ⊥ }
     ensures sound { IfOk result IsSound }
     ensures held { (told : Told) → D.told disk.old ≡ Some told
         → IfOk result (HasSoundParts D.Arm.Dir.files) }
     ensures names { (told : Told) → D.told disk.old ≡ Some told
         → IfOk result (λ store. NamesFit store told) }
     ensures opened { IfOk result (λ store. store.opened ≡ D.failed disk.old) }
+
+    // What is told of damage.
+    ensures damaged { (told : Told) → D.told disk.old ≡ Some told
+        → IfErr result (TellsDamage (names_of told)) }
+    ensures exact { (told : Told) (damage : Damage) → D.told disk.old ≡ Some told
+        → IsRootDamage (names_of told) damage → OnOk result ⊥ }
+
+    // What the disk shows then, and what a crash leaves of it.
     ensures told { D.told disk.new ≡ D.told disk.old }
     ensures started { D.started disk.new ≡ D.started disk.old }
     ensures settled { (told : Told) → D.told disk.old ≡ Some told → names_of told ≢ []
@@ -195,6 +200,8 @@ pub fn open<D: Disk>(
     ensures crashes { (told : Told) (list : List Noted) → D.told disk.old ≡ Some told
         → AllStand told (D.clock disk.old) (entries_of list)
         → IsCrashSafe told (D.clock disk.new) (none_begun list) list (D.clock disk.old) }
+
+    // What the counts of faults are.
     ensures tells { D.Arm.tells arm.new ≡ D.Arm.tells arm.old }
     ensures later { D.failed disk.old ≤ D.failed disk.new }
     ensures arm_later { D.Arm.failed arm.old ≤ D.Arm.failed arm.new }
