@@ -407,3 +407,8 @@ pub writes_nothing : (f : OpenFault) (ended : Status) (failed failed_now : ℕ) 
 writes_nothing (fault.Damaged d) ended failed failed_now before after sound wrote = absurd sound
 writes_nothing fault.NoMemory ended failed failed_now before after sound wrote = wrote.1
 writes_nothing fault.Disk ended failed failed_now before after sound wrote = wrote.1
+
+-- a source that failed is told by the status
+pub told_fault : (risen : Bool) (ended : Result Ending Status) → IsErrOf ended status.ReadFault → status_of risen ended ≡ status.ReadFault
+told_fault risen (Ok ending) fault = absurd fault
+told_fault risen (Err early) fault = fault

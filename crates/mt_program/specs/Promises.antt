@@ -65,13 +65,14 @@ pub record OfCrashes (before after : World) : Type 0 where
       → IsAsBefore before.storage after.storage before.sink after.sink
       ⊎ LeavesOfScript before.source before.storage.failed after.storage first (before.storage.clock + 1)
 
--- Why a run ends with its number: 2 exactly where the words are no command line; 3, 4 and 5 only where the count of the source, the sink or the disk
--- rose; 8 only where 2^40 bytes were read; 0 and 1 only where the source was read to its end and the disk's count stayed. A disk whose count
--- can't rise is not opened.
+-- Why a run ends with its number: 2 exactly where the words are no command line; 3 exactly where the source's count rose, but for one that
+-- can't rise; 4 and 5 only where the count of the sink or the disk rose; 8 only where 2^40 bytes were read; 0 and 1 only where the source was
+-- read to its end and the disk's count stayed. A disk whose count can't rise is not opened.
 pub record OfCauses (words : List (String Global)) (before : World) (status : ℕ) (after : World) : Type 0 where
   pub number : status ≤ 8
   pub words_only : (status ≡ 2) ↔ (is_command words ≡ false)
   pub read : status ≡ 3 → Rose before.source_failed after.source_failed
+  pub unfailed : (status ≡ 3 → ⊥) → after.source_failed ≡ before.source_failed
   pub write : status ≡ 4 → Rose before.sink_failed after.sink_failed
   pub disk : status ≡ 5 → Rose before.storage.failed after.storage.failed
   pub long : status ≡ 8 → ConsumesMost before.source after.source

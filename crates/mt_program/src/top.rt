@@ -119,6 +119,8 @@ fn run_script<D: Disk, A: Annals, S: Source, K: Sink, G: Gate>(
     ensures early { IfErr result IsEarly }
     ensures read { IsErrOf result Status.ReadFault
         → Rose (S.failed source.old) (S.failed source.new) }
+    ensures unfailed { (IsErrOf result Status.ReadFault → ⊥)
+        → S.failed source.new ≡ S.failed source.old }
     ensures disk { result ≡ Err Status.DiskFault → ⊥ }
     ensures long { IsErrOf result Status.TooLong
         → ConsumesMost (S.left source.old) (S.left source.new) }
@@ -235,6 +237,8 @@ fn run_root<D: Disk, A: Annals, S: Source, K: Sink, G: Gate>(
     ensures mark { IsErrOf result Status.DiskFault → D.clock disk.new ≡ D.clock disk.old }
     ensures read { IsErrOf result Status.ReadFault
         → Rose (S.failed source.old) (S.failed source.new) }
+    ensures unfailed { (IsErrOf result Status.ReadFault → ⊥)
+        → S.failed source.new ≡ S.failed source.old }
     ensures disk { IsErrOf result Status.DiskFault → Rose (D.failed disk.old) (D.failed disk.new)
         ⊎ Rose (D.Arm.failed arm.old) (D.Arm.failed arm.new) }
     ensures long { IsErrOf result Status.TooLong
@@ -360,6 +364,8 @@ fn run_opened<D: Disk, A: Annals, S: Source, K: Sink, G: Gate>(
         } in
         (D.started disk.new ≡ Some path.now) ⊎ IsUntouched before after }
     ensures read { result ≡ Status.ReadFault → Rose (S.failed source.old) (S.failed source.new) }
+    ensures unfailed { (result ≡ Status.ReadFault → ⊥)
+        → S.failed source.new ≡ S.failed source.old }
     ensures write { result ≡ Status.WriteFault → Rose (K.failed sink.old) (K.failed sink.new) }
     ensures disk { result ≡ Status.DiskFault → Rose (D.failed disk.old) (D.failed disk.new) }
     ensures long { result ≡ Status.TooLong → ConsumesMost (S.left source.old) (S.left source.new) }
@@ -544,6 +550,7 @@ fn run_words<D: Disk, A: Annals, S: Source, K: Sink, G: Gate>(
     ensures full { D.failed disk ≡ 2 ^ 64 - 1 → (result.status ≡ 2) ⊎ (result.status ≡ 5) }
     ensures words { (result.status ≡ 2) ↔ (is_command words.now ≡ false) }
     ensures read { result.status ≡ 3 → Rose (S.failed source.old) (S.failed source.new) }
+    ensures unfailed { (result.status ≡ 3 → ⊥) → S.failed source.new ≡ S.failed source.old }
     ensures write { result.status ≡ 4 → Rose (K.failed sink.old) (K.failed sink.new) }
     ensures disk { result.status ≡ 5 → Rose (D.failed disk) (D.failed result.disk) }
     ensures long { result.status ≡ 8 → ConsumesMost (S.left source.old) (S.left source.new) }

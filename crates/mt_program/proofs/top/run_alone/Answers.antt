@@ -14,6 +14,7 @@ returns-clause-promises g c =
         number = done.number;
         words_only = done.words;
         read = done.read;
+        unfailed = done.unfailed;
         write = done.write;
         disk = done.disk;
         long = done.long;

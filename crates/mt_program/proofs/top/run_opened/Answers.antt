@@ -16,7 +16,7 @@ use Rattle.root_store.specs.Crashes.{AllStand, Storage}
 use Rattle.root_store.proofs.CrashMarks.{safe_at_start, safe_opened}
 use Rattle.mt_program.specs.Crashes.{LeavesOfScript}
 use Rattle.mt_program.proofs.Crashing.{left_moved, nothing_of_script}
-use Rattle.mt_program.proofs.Heading.{answered_calm, answered_served, by_status, disk_fault, early_not_told, early_same, ended_early, error_early, error_undamaged, failed_is, leaves_all, none_answered, none_ran, not_damaged, not_words, read_fault, root_told, too_long, write_fault}
+use Rattle.mt_program.proofs.Heading.{answered_calm, answered_served, by_status, disk_fault, early_not_told, early_same, ended_early, error_early, error_undamaged, failed_is, leaves_all, none_answered, none_ran, not_damaged, not_words, read_fault, root_told, told_fault, too_long, write_fault}
 use Rattle.mt_program.proofs.Undamaged.{met_damage}
 use Rattle.mt_program.proofs.top.run_opened.Goals as goal
 
@@ -128,6 +128,10 @@ returns-clause-words g c = λ bad. not_words (nat_lt c.faults-opened.result c.fa
 
 pub returns-clause-read : goal.returns-clause-read
 returns-clause-read g c = λ e. c.run_root-ended.ensures.read (read_fault (nat_lt c.faults-opened.result c.faults.result) c.run_root-ended.result (sym c.status_at_end.ensures ∙ e))
+
+pub returns-clause-unfailed : goal.returns-clause-unfailed
+returns-clause-unfailed g c = λ other. c.run_root-ended.ensures.unfailed (λ fault.
+    other (c.status_at_end.ensures ∙ told_fault (nat_lt c.faults-opened.result c.faults.result) c.run_root-ended.result fault))
 
 pub returns-clause-write : goal.returns-clause-write
 returns-clause-write g c = λ e.

@@ -1,5 +1,5 @@
-use Rattle.std.proofs.Common.{◌∙◌, ◌<◌, ◌^◌, sym, subst, List, ℕ, length}
-use Rattle.mt_program.specs.Endings.{IsEarly}
+use Rattle.std.proofs.Common.{◌∙◌, ◌<◌, ◌^◌, ap, sym, subst, List, ℕ, length}
+use Rattle.mt_program.specs.Endings.{IsEarly, status_of_stop}
 use Rattle.mt_program.specs.Serving.{ServedBy}
 use Rattle.mt_program.proofs.Crashing.{unread}
 use Rattle.mt_program.proofs.Heading.{all_read, nothing_left, stop_early, stop_undamaged}
@@ -46,3 +46,6 @@ returns-clause-through_crashes g c = λ first start tells keeps gained.
       text_is = λ script left. c.deref.ensures.value ∙ all_read script c.in-Ok.text.items (g.S.Source.left c.args.source.now) (g.S.Source.left c.read_all.new.source) left all.0 all.1;
       leaves = c.serve-ending.ensures.through_crashes first start tells keeps gained;
     }
+
+pub returns-in-Err-clause-unfailed : goal.returns-in-Err-clause-unfailed
+returns-in-Err-clause-unfailed g c = λ other. c.in-Err.ensures.calm (λ fault. other (c.failed_reading.ensures ∙ ap status_of_stop fault))
