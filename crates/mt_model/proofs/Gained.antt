@@ -6,7 +6,7 @@ use Rattle.mt_values.specs.declared.statement.Statement.{Statement}
 use Rattle.mt_values.specs.declared.statement.Statement.TheVariants as statement
 use Rattle.mt_model.specs.History.{History}
 use Rattle.mt_model.specs.Outside.{Outside}
-use Rattle.mt_model.specs.Session.{IsNext, SessionGives, SessionReplies, Takes, TakesCommands, Unanswered}
+use Rattle.mt_model.specs.Session.{IsNextCommand, SessionGives, SessionReplies, Takes, TakesCommands, Unanswered}
 use Rattle.mt_model.proofs.Growing.{nothing_more, stays, stops_more}
 use Rattle.mt_model.proofs.Places.{all_places}
 
@@ -53,10 +53,10 @@ gives_append h s [] st from mid to g u = (to, subst (λ (p : ℕ). Unanswered h 
 gives_append h s (x ∷ ss) st from mid to g u = (g.0, g.1, gives_append h s ss st g.0 mid to g.2 u)
 
 -- a statement whose next command was not accepted gave those before it
-pub next_gives : (h : History) (s : ℕ) (st : Result Statement Cause) (from to : ℕ) (c : Command) → IsNext h s st from to c → Unanswered h s st from to
+pub next_gives : (h : History) (s : ℕ) (st : Result Statement Cause) (from to : ℕ) (c : Command) → IsNextCommand h s st from to c → Unanswered h s st from to
 next_gives h s (Ok st) from to c (done, rest, stops) = inr (done, c ∷ rest, stops)
 next_gives h s (Err why) from to c next = absurd next
 
-pub next_more : (h more : History) (s : ℕ) (st : Result Statement Cause) (from to : ℕ) (c : Command) → IsNext h s st from to c → IsNext (h ++ more) s st from to c
+pub next_more : (h more : History) (s : ℕ) (st : Result Statement Cause) (from to : ℕ) (c : Command) → IsNextCommand h s st from to c → IsNextCommand (h ++ more) s st from to c
 next_more h more s (Ok st) from to c (done, rest, stops) = (done, rest, stops_more h more s st from to done (c ∷ rest) stops)
 next_more h more s (Err why) from to c next = absurd next

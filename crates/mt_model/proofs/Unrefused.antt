@@ -5,7 +5,7 @@ use Rattle.mt_values.specs.declared.command.Command.{Command}
 use Rattle.mt_values.specs.declared.statement.Cause.{Cause}
 use Rattle.mt_values.specs.declared.statement.Statement.{Statement}
 use Rattle.mt_values.specs.declared.statement.Statement.TheVariants as statement
-use Rattle.mt_model.specs.Causes.{MeetsCause, NoneMeets, commands_or_none, given}
+use Rattle.mt_model.specs.Causes.{MeetsCause, NoneMeetsCause, commands_or_none, given}
 use Rattle.mt_model.specs.Commands.{commands_of, no_commands}
 use Rattle.mt_model.specs.declared.refusal.Refusal.{Refusal}
 use Rattle.mt_model.specs.History.{History, entered}
@@ -62,7 +62,7 @@ module _ (n : Outside) (calm : IsCalm n) (h : History) (base from to : ℕ) (own
   goes_on (Err why) reply r none = absurd (none tt)
 
 -- so no reply of the script refuses
-none_in : (n : Outside) (calm : IsCalm n) (h : History) (base : ℕ) (own : OwnEntries h base) (ss : List (Result Statement Cause)) (from to : ℕ) (replies : List (List ℕ)) → base ≤ from → SessionReplies n h 0 ss from to replies → NoneMeets (take from h) ss
+none_in : (n : Outside) (calm : IsCalm n) (h : History) (base : ℕ) (own : OwnEntries h base) (ss : List (Result Statement Cause)) (from to : ℕ) (replies : List (List ℕ)) → base ≤ from → SessionReplies n h 0 ss from to replies → NoneMeetsCause (take from h) ss
     → list_any is_refusal replies ≡ false
 none_in n calm h base own [] from to [] past run none = refl
 none_in n calm h base own [] from to (reply ∷ replies) past run none = absurd run
@@ -71,9 +71,9 @@ none_in n calm h base own (s ∷ ss) from to (reply ∷ replies) past run none =
     let step = goes_on n calm h base from run.0 own past s reply run.1 none.0 in
     let places = takes_places n h 0 s from run.0 reply run.1 in
     let later : base ≤ run.0 = omega (arith, past, places.0) in
-    let rest = none_in n calm h base own ss run.0 to replies later run.2 (subst (λ (x : History). NoneMeets x ss) (sym step.0) none.1) in
+    let rest = none_in n calm h base own ss run.0 to replies later run.2 (subst (λ (x : History). NoneMeetsCause x ss) (sym step.0) none.1) in
     rw step.1 rest
 
-pub none_refused : (n : Outside) (script : List (Result Statement Cause)) (h : History) (base : ℕ) (replies : List (List ℕ)) → n.ended ≡ n.opened → n.ended < 2 ^ 64 - 1 → ScriptReplies n script h base replies → NoneMeets (take base h) script
+pub none_refused : (n : Outside) (script : List (Result Statement Cause)) (h : History) (base : ℕ) (replies : List (List ℕ)) → n.ended ≡ n.opened → n.ended < 2 ^ 64 - 1 → ScriptReplies n script h base replies → NoneMeetsCause (take base h) script
     → list_any is_refusal replies ≡ false
 none_refused n script h base replies still below each none = none_in n (record { still = still; below = below }) h base each.sessions script base each.last replies (omega arith) each.run none

@@ -26,6 +26,6 @@ given h (Ok s) = commands_or_none (commands_of h s)
 given h (Err why) = []
 
 -- Statements run after a history, each after the commands of those before it, and none of them meets a cause to be refused (docs/definitions.md, "Runs").
-abbrev pub NoneMeets : History → List Item → Type 0
-NoneMeets h [] = Unit {0}
-NoneMeets h (s ∷ ss) = (MeetsCause h s → ⊥) × NoneMeets (entered h 0 (given h s)) ss
+abbrev pub NoneMeetsCause : History → List Item → Type 0
+NoneMeetsCause h [] = Unit {0}
+NoneMeetsCause h (s ∷ ss) = (MeetsCause h s → ⊥) × NoneMeetsCause (entered h 0 (given h s)) ss

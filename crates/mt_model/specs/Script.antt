@@ -26,5 +26,5 @@ pub record ScriptReplies (n : Outside) (script : List Item) (h : History) (base 
   pub sessions : OwnEntries h base
 
 -- a front of a list
-abbrev pub IsFront : List ℕ → List ℕ → Type 0
-IsFront xs ys = (rest : List ℕ) × (xs ++ rest ≡ ys)
+abbrev pub IsPrefix : List ℕ → List ℕ → Type 0
+IsPrefix xs ys = (rest : List ℕ) × (xs ++ rest ≡ ys)

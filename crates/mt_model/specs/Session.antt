@@ -127,9 +127,9 @@ Unanswered h session (Ok s) from to =
 Unanswered h session (Err why) from to = AddsNothing h session from to
 
 -- The session ran a statement from one place to another, and this is the next of its commands: those before it were accepted, and it was not (docs/definitions.md, "Statements taken").
-abbrev pub IsNext : History → ℕ → Item → ℕ → ℕ → Command → Type 0
-IsNext h session (Ok s) from to c = (done : List Command) × (rest : List Command) × StopsAfter h session s from to done (c ∷ rest)
-IsNext h session (Err why) from to c = ⊥
+abbrev pub IsNextCommand : History → ℕ → Item → ℕ → ℕ → Command → Type 0
+IsNextCommand h session (Ok s) from to c = (done : List Command) × (rest : List Command) × StopsAfter h session s from to done (c ∷ rest)
+IsNextCommand h session (Err why) from to c = ⊥
 
 -- Run one after another, each of the statements had the first of its commands accepted, or none (docs/definitions.md, "Statements taken").
 abbrev pub SessionGives : History → ℕ → List Item → ℕ → ℕ → Type 0

@@ -23,7 +23,7 @@ ghost use Rattle.mt_values.specs.Readers.{Reader, listed_within};
 ghost use Rattle.mt_values.specs.Grammar.{column, is_symbol, one_name, the};
 ghost use Rattle.mt_values.specs.Script.{Item, data_ended_within, data_within, statements_of, statements_within};
 ghost use Rattle.mt_values.specs.Rows.{inserted_rows, row_limit, rows_within, unescaped_within};
-ghost use Rattle.mt_model.specs.Causes.{MeetsCause, NoneMeets};
+ghost use Rattle.mt_model.specs.Causes.{MeetsCause, NoneMeetsCause};
 ghost use Rattle.mt_model.specs.declared.refusal.Refusal.{Refusal};
 ghost use Rattle.mt_model.specs.History.{History, ArePlain, FewInserts, IsAllowed, IsInsertInto, IsLegal, IsTableSchema};
 ghost use Rattle.mt_model.specs.Live.{live, sorted, of_key};
@@ -149,7 +149,7 @@ pub fn refusals_have_a_cause()
         → MeetsCause (take to h) statement }
     ensures script { (n : Outside) (script : List Item) (h : History) (base : ℕ)
         (replies : List (List ℕ)) → n.ended ≡ n.opened → n.ended < 2 ^ 64 - 1
-        → ScriptReplies n script h base replies → NoneMeets (take base h) script
+        → ScriptReplies n script h base replies → NoneMeetsCause (take base h) script
         → list_any is_refusal replies ≡ false }
 {}
 

@@ -20,7 +20,7 @@ use Rattle.mt_model.specs.Reply.{create_turn, schema_of_text}
 use Rattle.mt_model.proofs.Commands.{same_itself}
 use Rattle.mt_model.proofs.Histories.{legal_push, schema_kept}
 use Rattle.mt_model.proofs.Tables.{command_allowed, schema_is}
-use Rattle.mt_plain.specs.Plain.{MayCome, after_turns, unless_turn_refuses, unmerged_turn}
+use Rattle.mt_plain.specs.Plain.{MayFollow, after_turns, unless_turn_refuses, unmerged_turn}
 
 -- ---- each partition of rows has rows
 
@@ -64,24 +64,24 @@ own_fewer schema partition (row ∷ rows) = by (own_fewer schema partition rows)
     by fewer true = omega arith
     by fewer false = omega arith
 
-pub inserts_come : (h : History) (table : List ℕ) (schema : Schema) (rows : List Row) → schema_of table h ≡ Some schema → AreRowsOf (column_types schema) rows → AreValues rows → All (MayCome h) (insert_commands schema table rows)
+pub inserts_come : (h : History) (table : List ℕ) (schema : Schema) (rows : List Row) → schema_of table h ≡ Some schema → AreRowsOf (column_types schema) rows → AreValues rows → All (MayFollow h) (insert_commands schema table rows)
 inserts_come h table schema rows there typed values =
-    All-map (MayCome h) (insert_command schema table rows) (partitions_of schema rows)
-    (All-weaker (λ (p : Partition). 0 < length (rows_in schema p rows)) (λ (p : Partition). MayCome h (insert_command schema table rows p)) (λ p some. command_allowed h table schema rows p there some typed values) (partitions_of schema rows) (have_rows schema rows))
+    All-map (MayFollow h) (insert_command schema table rows) (partitions_of schema rows)
+    (All-weaker (λ (p : Partition). 0 < length (rows_in schema p rows)) (λ (p : Partition). MayFollow h (insert_command schema table rows p)) (λ p some. command_allowed h table schema rows p there some typed values) (partitions_of schema rows) (have_rows schema rows))
 
-pub creates_come : (h : History) (c : CreateText) (cs : List Command) → create_commands c.table (schema_of_text c) ≡ Ok cs → 0 < length c.key → All (MayCome h) cs
+pub creates_come : (h : History) (c : CreateText) (cs : List Command) → create_commands c.table (schema_of_text c) ≡ Ok cs → 0 < length c.key → All (MayFollow h) cs
 creates_come h c cs is key = by (schema_of_text c) refl is
   where
-    by : (r : Result Schema Refusal) → schema_of_text c ≡ r → create_commands c.table r ≡ Ok cs → All (MayCome h) cs
+    by : (r : Result Schema Refusal) → schema_of_text c ≡ r → create_commands c.table r ≡ Ok cs → All (MayFollow h) cs
     by (Err why) e is = cc
     by (Ok schema) e is =
         let create : Command = command.Create (record { table = c.table; schema = schema }) in
         let one : create ∷ [] ≡ cs = cc in
-        subst (All (MayCome h)) one (All-cons (MayCome h) create [] (schema_is c schema e key) (All-nil (MayCome h)))
+        subst (All (MayFollow h)) one (All-cons (MayFollow h) create [] (schema_is c schema e key) (All-nil (MayFollow h)))
 
 -- ---- histories
 
-come_kept : (h more : History) (c : Command) → MayCome h c → MayCome (h ++ more) c
+come_kept : (h more : History) (c : Command) → MayFollow h c → MayFollow (h ++ more) c
 come_kept h more (command.Create c) may = may
 come_kept h more (command.Insert i) may = (may.0, schema_kept i.table h more may.0 may.1, may.2)
 
@@ -93,18 +93,18 @@ table_free table h none = by (schema_of table h) (nat_lt (creates h) 64) refl re
     by None false e f none = cc
     by None true e f none = let few : creates h < 64 = grind (arith, nat_tests) in (e, few)
 
-allowed : (h : History) (accepted : ℕ) (c : Command) → MayCome h c → unmerged_turn h accepted c ≡ None → IsAllowed h c
+allowed : (h : History) (accepted : ℕ) (c : Command) → MayFollow h c → unmerged_turn h accepted c ≡ None → IsAllowed h c
 allowed h accepted (command.Create c) may turn = let free = table_free c.table h turn in let few : creates h < 64 = free.1 in (free.0, omega arith, may)
 allowed h accepted (command.Insert i) may turn = may
 
 -- what commands leave of a legal history is legal
-pub legal_turns : (accepted : ℕ) (cs : List Command) (h : History) → All (MayCome h) cs → IsLegal h → IsLegal (after_turns accepted cs h).history
+pub legal_turns : (accepted : ℕ) (cs : List Command) (h : History) → All (MayFollow h) cs → IsLegal h → IsLegal (after_turns accepted cs h).history
 legal_turns accepted [] h may legal = legal
 legal_turns accepted (c ∷ cs) h may legal = by (legal_turns (accepted + 1) cs (entered h 0 (c ∷ []))) (unmerged_turn h accepted c) refl
   where
-    by : (All (MayCome (entered h 0 (c ∷ []))) cs → IsLegal (entered h 0 (c ∷ [])) → IsLegal (after_turns (accepted + 1) cs (entered h 0 (c ∷ []))).history) → (o : Option Refusal) → unmerged_turn h accepted c ≡ o
+    by : (All (MayFollow (entered h 0 (c ∷ []))) cs → IsLegal (entered h 0 (c ∷ [])) → IsLegal (after_turns (accepted + 1) cs (entered h 0 (c ∷ []))).history) → (o : Option Refusal) → unmerged_turn h accepted c ≡ o
         → IsLegal (unless_turn_refuses o h (after_turns (accepted + 1) cs (entered h 0 (c ∷ [])))).history
     by later (Some why) e = legal
     by later None e =
-        later (All-weaker (MayCome h) (MayCome (entered h 0 (c ∷ []))) (λ d one. come_kept h (record { session = 0; command = c } ∷ []) d one) cs (All-tail (MayCome h) c cs may))
-        (legal_push h (record { session = 0; command = c }) legal (allowed h accepted c (All-head (MayCome h) c cs may) e))
+        later (All-weaker (MayFollow h) (MayFollow (entered h 0 (c ∷ []))) (λ d one. come_kept h (record { session = 0; command = c } ∷ []) d one) cs (All-tail (MayFollow h) c cs may))
+        (legal_push h (record { session = 0; command = c }) legal (allowed h accepted c (All-head (MayFollow h) c cs may) e))

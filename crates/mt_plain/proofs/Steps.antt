@@ -17,7 +17,7 @@ use Rattle.mt_model.specs.Reply.{columns_for, columns_of_select}
 use Rattle.mt_model.specs.Session.{AddsNothing, Accepts, StopsAfter, TurnRefuses, RefusedAs, SessionRun, Takes, TakesCommands, TakesStatement}
 use Rattle.mt_model.specs.Script.{ScriptRun}
 use Rattle.mt_model.proofs.Growing.{run_append, run_more, stays}
-use Rattle.mt_plain.specs.Plain.{Grows, MayCome, TookTurns, calm, reply_at, unmerged_turn}
+use Rattle.mt_plain.specs.Plain.{Grows, MayFollow, TookTurns, calm, reply_at, unmerged_turn}
 use Rattle.mt_plain.proofs.Coming.{legal_turns}
 use Rattle.mt_plain.proofs.Turning.{Ends, ends, front_of, turn_refuses, whole}
 
@@ -77,7 +77,7 @@ commands_take h new s cs reply gives took =
         subst (λ (x : History). TurnRefuses x (length ended.done) next why) (sym (whole new)) (turn_refuses new (length ended.done) next why refuses) in
         inr (inr (inr (ended.done, next, more, stops, inl (why, turn, line))))
 
-pub took_legal : (h new : History) (cs : List Command) (reply : List ℕ) → All (MayCome h) cs → TookTurns cs h new reply → IsLegal h → IsLegal new
+pub took_legal : (h new : History) (cs : List Command) (reply : List ℕ) → All (MayFollow h) cs → TookTurns cs h new reply → IsLegal h → IsLegal new
 took_legal h new cs reply may took legal = subst IsLegal (ap (λ t. t.history) took.after) (legal_turns 0 cs h may legal)
 
 -- ---- SELECT

@@ -47,9 +47,9 @@ pub record TookTurns (commands : List Command) (old new : History) (reply : List
   pub reply_is : reply ≡ reply_at (length new) refused
 
 -- a command may come after a history, if its turn refuses nothing
-abbrev pub MayCome : History → Command → Type 0
-MayCome h (command.Create c) = IsTableSchema c.schema
-MayCome h (command.Insert i) = (schema : Schema) × (schema_of i.table h ≡ Some schema) × IsInsertInto schema i
+abbrev pub MayFollow : History → Command → Type 0
+MayFollow h (command.Create c) = IsTableSchema c.schema
+MayFollow h (command.Insert i) = (schema : Schema) × (schema_of i.table h ≡ Some schema) × IsInsertInto schema i
 
 -- the history stayed or grew, and what was added is session 0's
 pub record Grows (old new : History) : Type 0 where

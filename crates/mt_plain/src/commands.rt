@@ -5,7 +5,7 @@ ghost use Rattle.mt_values.specs.Grid.{AreRowsOf};
 ghost use Rattle.mt_model.specs.Commands as commands;
 ghost use Rattle.mt_model.specs.History as history;
 ghost use Rattle.mt_model.specs.Reply as reply;
-ghost use Rattle.mt_plain.specs.Plain.{MayCome};
+ghost use Rattle.mt_plain.specs.Plain.{MayFollow};
 
 use crate::{partitions_of, read_block, rows_in, rows_of, schema_of};
 use mt_base::{NoMemory, Twin};
@@ -44,7 +44,7 @@ pub fn insert_commands(
     ensures given { IfOk result (λ given. MatchResult given (λ v. commands.commands_of entries.now
         (statement.Insert insert.now) ≡ Ok v.items) (λ why. commands.commands_of entries.now
         (statement.Insert insert.now) ≡ Err why)) }
-    ensures may_come { IfOk result (λ given. IfOk given (λ v. All (MayCome entries.now) v.items)) }
+    ensures may_come { IfOk result (λ given. IfOk given (λ v. All (MayFollow entries.now) v.items)) }
 {
     let Some(schema) = schema_of(entries, &insert.table) else {
         return Ok(Err(Refusal::NoTable(insert.table.twin(alloc)?)));

@@ -9,7 +9,7 @@ use Rattle.mt_values.specs.declared.command.Command.{Command}
 use Rattle.mt_values.specs.Annals.{Told}
 use Rattle.mt_model.specs.History.{History}
 use Rattle.mt_model.specs.Outside.{Outside}
-use Rattle.mt_model.specs.Session.{IsNext, SessionReplies}
+use Rattle.mt_model.specs.Session.{IsNextCommand, SessionReplies}
 use Rattle.replies.specs.Foreseen.{history, is_unsettled}
 use Rattle.replies.proofs.Ends.{length_history}
 use Rattle.session.specs.Answers.{BeginsNext, IsBegun}
@@ -49,7 +49,7 @@ module _ (n : Outside) (first old now : Told) (ran : List Item) (replies : List 
   -- the course goes on with this statement, and these replies
   module _ (course : Course) (extra : List (List ℕ)) (started_is : started course ≡ ran ++ s ∷ []) (replies_are : course.replies ≡ replies ++ extra) where
     -- it began its own next command
-    next_here : (c : Command) → IsNext (history now) 0 s (length old.list) (length now.list) c → ((reply : List ℕ) → slice_get course.replies (length ran) ≡ Some reply → is_unsettled reply ≡ true)
+    next_here : (c : Command) → IsNextCommand (history now) 0 s (length old.list) (length now.list) c → ((reply : List ℕ) → slice_get course.replies (length ran) ≡ Some reply → is_unsettled reply ≡ true)
         → IsNextOf n (history now) (length first.list) course c
     next_here c next says =
         let taken : take (length ran) course.replies ≡ replies = ap (take (length ran)) replies_are ∙ (ap (λ (m : ℕ). take m (replies ++ extra)) (sym count) ∙ take-append_seam replies extra) in
@@ -60,7 +60,7 @@ module _ (n : Outside) (first old now : Told) (ran : List Item) (replies : List 
           split = started_is;
           place = length old.list;
           ran = subst (λ (rs : List (List ℕ)). SessionReplies n (history now) 0 ran (length first.list) (length old.list) rs) (sym taken) each;
-          next = subst (λ (m : ℕ). IsNext (history now) 0 s (length old.list) m c) (sym (length_history now)) next;
+          next = subst (λ (m : ℕ). IsNextCommand (history now) 0 s (length old.list) m c) (sym (length_history now)) next;
           says = says;
         }
 
@@ -78,7 +78,7 @@ module _ (n : Outside) (first old now : Told) (ran : List Item) (replies : List 
           place = of.place;
           ran = subst (λ (rs : List (List ℕ)). SessionReplies n (history now) 0 of.before (length first.list) of.place rs) (sym taken)
               (subst (λ (h : History). SessionReplies n h 0 of.before (length first.list) of.place (take (length of.before) replies)) (sym same) of.ran);
-          next = subst (λ (h : History). IsNext h 0 of.said of.place (length h) c) (sym same) of.next;
+          next = subst (λ (h : History). IsNextCommand h 0 of.said of.place (length h) c) (sym same) of.next;
           says = λ reply there. of.says reply (item_before replies extra (length of.before) reply within (ap (λ (rs : List (List ℕ)). slice_get rs (length of.before)) (sym replies_are) ∙ there));
         }
 

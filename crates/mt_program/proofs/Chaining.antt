@@ -21,7 +21,7 @@ use Rattle.mt_program.specs.declared.status.Status.{Status}
 use Rattle.mt_program.specs.Crashes.{LeavesForCrashes}
 use Rattle.mt_program.specs.Courses.{Item}
 use Rattle.mt_program.specs.Headline.{Headline}
-use Rattle.mt_program.specs.Worlds.{Begins, Starts, World}
+use Rattle.mt_program.specs.Worlds.{BeginsAfter, Starts, World}
 
 -- ---- an empty disk
 
@@ -57,7 +57,7 @@ begins_empty w script disk annals source sink = record { told = []; disk_is = di
 -- ---- after a run
 
 -- no reply said that a commit failed
-pub starts_next : (ended : Status) (before after w : World) (kept : Told) (script written more said : List ℕ) (left : Headline ended before after kept script written) → list_any is_unsettled left.course.replies ≡ false → Begins after w more said
+pub starts_next : (ended : Status) (before after w : World) (kept : Told) (script written more said : List ℕ) (left : Headline ended before after kept script written) → list_any is_unsettled left.course.replies ≡ false → BeginsAfter after w more said
     → Starts w left.now more said
 starts_next ended before after w kept script written more said left calm begins =
     let root = left.settled calm in

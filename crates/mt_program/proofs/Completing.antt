@@ -10,22 +10,22 @@ use Rattle.mt_model.specs.History.{History}
 use Rattle.replies.proofs.Ends.{length_history}
 use Rattle.mt_values.specs.Script.{statements_of}
 use Rattle.mt_outside.specs.Causes.{Rose}
-use Rattle.mt_model.specs.Causes.{NoneMeets}
+use Rattle.mt_model.specs.Causes.{NoneMeetsCause}
 use Rattle.mt_model.proofs.Unrefused.{none_refused as calm_script}
 use Rattle.replies.specs.Foreseen.{history}
 use Rattle.mt_model.specs.Script.{ScriptReplies}
 use Rattle.mt_model.specs.Session.{AddsNothing, SessionReplies}
-use Rattle.mt_program.specs.Courses.{Course, GoesUnanswered, Item, RunOf, started, with_last}
+use Rattle.mt_program.specs.Courses.{Course, GoesUnanswered, Item, RunOf, started, with_unanswered}
 use Rattle.mt_program.specs.Headline.{AnsweredAll, Headline}
 use Rattle.mt_program.specs.Worlds.{World, counts_of}
-use Rattle.mt_program.specs.Statuses.{number_of}
+use Rattle.mt_program.specs.Statuses.{status_number}
 use Rattle.run_streams.specs.Streams.{ConsumesMost}
 use Rattle.mt_program.specs.declared.status.Status.{Status}
 use Rattle.mt_program.specs.declared.status.Status.TheVariants as status
 
 -- of a status that is none of the others
 pub zero_or_six : (s : Status) → (s ≡ status.NotWords → ⊥) → (s ≡ status.ReadFault → ⊥) → (s ≡ status.WriteFault → ⊥) → (s ≡ status.DiskFault → ⊥) → (s ≡ status.Damaged → ⊥) → (s ≡ status.TooLong → ⊥)
-    → (s ≡ status.Refused → ⊥) → (number_of s ≡ 0) ⊎ (number_of s ≡ 6)
+    → (s ≡ status.Refused → ⊥) → (status_number s ≡ 0) ⊎ (status_number s ≡ 6)
 zero_or_six status.Done words read write disk damaged long refused = inl refl
 zero_or_six status.Refused words read write disk damaged long refused = absurd (refused refl)
 zero_or_six status.NotWords words read write disk damaged long refused = absurd (words refl)
@@ -65,10 +65,10 @@ front_is kept now more is =
 
 -- where no statement meets a cause, none was refused
 pub none_refused : (before after : World) (kept : Told) (script written : List ℕ) → before.storage.failed ≤ after.storage.failed → (Rose before.storage.failed after.storage.failed → ⊥)
-    → NoneMeets (history kept) (statements_of script) → Headline status.Refused before after kept script written → ⊥
+    → NoneMeetsCause (history kept) (statements_of script) → Headline status.Refused before after kept script written → ⊥
 none_refused before after kept script written later calm none_meets left =
     let still = not_risen before.storage.failed after.storage.failed later calm in
-    let causes : NoneMeets (take (length kept.list) (history left.now)) (statements_of script) = subst (λ (h : History). NoneMeets h (statements_of script)) (sym (front_is kept left.now left.more left.begins)) none_meets in
+    let causes : NoneMeetsCause (take (length kept.list) (history left.now)) (statements_of script) = subst (λ (h : History). NoneMeetsCause h (statements_of script)) (sym (front_is kept left.now left.more left.begins)) none_meets in
     let none = calm_script (counts_of before after) (statements_of script) (history left.now) (length kept.list) left.course.replies still.0 still.1 (whole_run before after kept script written true left.now left.course left.rest left.out left.split left.ran left.ends) causes in
     false≢true (sym none ∙ sym left.ends.says.refusals)
   where
@@ -76,7 +76,7 @@ none_refused before after kept script written later calm none_meets left =
         → RunOf (counts_of before after) (history now) (length kept.list) course → AnsweredAll refused after.source script course rest out → ScriptReplies (counts_of before after) (statements_of script) (history now) (length kept.list) course.replies
     whole_run before after kept script written refused now course rest out split ran all = by course.unanswered all.answered split ran.last
       where
-        by : (u : Option Item) → u ≡ None → statements_of script ≡ with_last course.ran u ++ rest → GoesUnanswered (history now) u ran.place ran.stop
+        by : (u : Option Item) → u ≡ None → statements_of script ≡ with_unanswered course.ran u ++ rest → GoesUnanswered (history now) u ran.place ran.stop
             → ScriptReplies (counts_of before after) (statements_of script) (history now) (length kept.list) course.replies
         by (Some last) none split goes = cc
         by None none split goes = record {

@@ -11,7 +11,7 @@ use Rattle.mt_outside.specs.Disk as root
 use Rattle.mt_outside.specs.Files.{Files}
 use Rattle.mt_model.specs.History.{History}
 use Rattle.mt_model.specs.Outside.{Outside}
-use Rattle.mt_model.specs.Session.{IsNext, SessionGives, Unanswered}
+use Rattle.mt_model.specs.Session.{IsNextCommand, SessionGives, Unanswered}
 use Rattle.mt_model.proofs.Gained.{gives_append, gives_more, next_more, takes_give}
 use Rattle.mt_model.proofs.Growing.{stays}
 use Rattle.durable_commit.specs.Commits.{entry_of}
@@ -20,7 +20,7 @@ use Rattle.replies.proofs.Ends.{length_history}
 use Rattle.root_store.specs.declared.store.CoreStore.{CoreStore}
 use Rattle.root_store.specs.Crashes.{StandsForKept}
 use Rattle.root_store.specs.Stores.{CoreStands}
-use Rattle.session.specs.Answers.{Answered, BeginsNext, IsBegun, Keeps}
+use Rattle.session.specs.Answers.{Answered, BeginsNext, IsBegun, EndsUnanswered}
 use Rattle.mt_program.specs.Crashes.{IsGainedBy, MayBeBegunBy, MayBeNextOf}
 use Rattle.mt_program.specs.Courses.{Item}
 
@@ -61,11 +61,11 @@ pub record Stepped (old now : Told) (s : Item) : Type 0 where
   pub gives : Unanswered (history now) 0 s (length old.list) (length now.list)
   pub begun : ((now.begun ≡ old.begun) × (length now.list ≡ length old.list))
       ⊎ (now.begun ≡ None)
-      ⊎ ((c : Command) × (now.begun ≡ Some (entry_of 0 c)) × IsNext (history now) 0 s (length old.list) (length now.list) c)
+      ⊎ ((c : Command) × (now.begun ≡ Some (entry_of 0 c)) × IsNextCommand (history now) 0 s (length old.list) (length now.list) c)
 
 -- the next command of the statement, which was begun
-pub next_of : (old now : Told) (s : Item) (done : List Command) (b : BeginsNext old now s done) → IsNext (history now) 0 s (length old.list) (length now.list) b.next
-next_of old now s done b = subst (λ (st : Item). IsNext (history now) 0 st (length old.list) (length now.list) b.next) (sym b.statement_is) (done, b.rest, b.stops)
+pub next_of : (old now : Told) (s : Item) (done : List Command) (b : BeginsNext old now s done) → IsNextCommand (history now) 0 s (length old.list) (length now.list) b.next
+next_of old now s done b = subst (λ (st : Item). IsNextCommand (history now) 0 st (length old.list) (length now.list) b.next) (sym b.statement_is) (done, b.rest, b.stops)
 
 -- what the outside may come to
 far : (opened disk : ℕ) → Outside
@@ -87,13 +87,13 @@ stepped_answered files_of old s opened disk arm reply store told root_before now
 }
   where
     by : IsBegun old a.now s reply
-        → ((a.now.begun ≡ old.begun) × (length a.now.list ≡ length old.list)) ⊎ (a.now.begun ≡ None) ⊎ ((c : Command) × (a.now.begun ≡ Some (entry_of 0 c)) × IsNext (history a.now) 0 s (length old.list) (length a.now.list) c)
+        → ((a.now.begun ≡ old.begun) × (length a.now.list ≡ length old.list)) ⊎ (a.now.begun ≡ None) ⊎ ((c : Command) × (a.now.begun ≡ Some (entry_of 0 c)) × IsNextCommand (history a.now) 0 s (length old.list) (length a.now.list) c)
     by (inl same) = inl same
     by (inr (inl none)) = inr (inl none.0)
     by (inr (inr (failed, done, b))) = inr (inr (b.next, b.begun, next_of old a.now s done b))
 
 -- and one that has no reply
-pub stepped_keeps : (old : Told) (s : Item) (told : Option Told) (root_before now_root : Option root.Told) (k : Keeps old s told root_before now_root) → Stepped old k.now s
+pub stepped_keeps : (old : Told) (s : Item) (told : Option Told) (root_before now_root : Option root.Told) (k : EndsUnanswered old s told root_before now_root) → Stepped old k.now s
 stepped_keeps old s told root_before now_root k =
     let size : length k.now.list ≡ length old.list = ap length k.list_is in
     record {
@@ -105,7 +105,7 @@ stepped_keeps old s told root_before now_root k =
     }
   where
     by : (k.now.begun ≡ old.begun) ⊎ BeginsNext old k.now s []
-        → ((k.now.begun ≡ old.begun) × (length k.now.list ≡ length old.list)) ⊎ (k.now.begun ≡ None) ⊎ ((c : Command) × (k.now.begun ≡ Some (entry_of 0 c)) × IsNext (history k.now) 0 s (length old.list) (length k.now.list) c)
+        → ((k.now.begun ≡ old.begun) × (length k.now.list ≡ length old.list)) ⊎ (k.now.begun ≡ None) ⊎ ((c : Command) × (k.now.begun ≡ Some (entry_of 0 c)) × IsNextCommand (history k.now) 0 s (length old.list) (length k.now.list) c)
     by (inl same) = inl (same, ap length k.list_is)
     by (inr b) = inr (inr (b.next, b.begun, next_of old k.now s [] b))
 
@@ -139,8 +139,8 @@ module _ (first old now : Told) (ran : List Item) (s : Item) (step : Stepped old
     split = ap (λ (xs : List Item). xs ++ s ∷ []) of.split ∙ append_assoc of.before (of.said ∷ of.after) (s ∷ []);
     place = of.place;
     gives = subst (λ (h : History). SessionGives h 0 of.before (length first.list) of.place) (sym grown) (gives_more (history old) (entries step.more) 0 of.before (length first.list) of.place of.gives);
-    next = subst (λ (m : ℕ). IsNext (history now) 0 of.said of.place m c) (length_history old ∙ (sym size ∙ sym (length_history now)))
-        (subst (λ (h : History). IsNext h 0 of.said of.place (length (history old)) c) (sym grown) (next_more (history old) (entries step.more) 0 of.said of.place (length (history old)) c of.next));
+    next = subst (λ (m : ℕ). IsNextCommand (history now) 0 of.said of.place m c) (length_history old ∙ (sym size ∙ sym (length_history now)))
+        (subst (λ (h : History). IsNextCommand h 0 of.said of.place (length (history old)) c) (sym grown) (next_more (history old) (entries step.more) 0 of.said of.place (length (history old)) c of.next));
   }
 
   may_begin_step : MayBeBegunBy first old ran → MayBeBegunBy first now (ran ++ s ∷ [])
@@ -151,7 +151,7 @@ module _ (first old now : Told) (ran : List Item) (s : Item) (step : Stepped old
       kept same size (inr (inl none)) = inr (inl (same ∙ none))
       kept same size (inr (inr (c, is, of))) = inr (inr (c, same ∙ is, next_later size c of))
 
-      by : ((now.begun ≡ old.begun) × (length now.list ≡ length old.list)) ⊎ (now.begun ≡ None) ⊎ ((c : Command) × (now.begun ≡ Some (entry_of 0 c)) × IsNext (history now) 0 s (length old.list) (length now.list) c)
+      by : ((now.begun ≡ old.begun) × (length now.list ≡ length old.list)) ⊎ (now.begun ≡ None) ⊎ ((c : Command) × (now.begun ≡ Some (entry_of 0 c)) × IsNextCommand (history now) 0 s (length old.list) (length now.list) c)
           → MayBeBegunBy first now (ran ++ s ∷ [])
       by (inl same) = kept same.0 same.1 was
       by (inr (inl none)) = inr (inl none)
@@ -165,7 +165,7 @@ module _ (first old now : Told) (ran : List Item) (s : Item) (step : Stepped old
           split = refl;
           place = length old.list;
           gives = lifted;
-          next = subst (λ (m : ℕ). IsNext (history now) 0 s (length old.list) m c) (sym (length_history now)) next;
+          next = subst (λ (m : ℕ). IsNextCommand (history now) 0 s (length old.list) m c) (sym (length_history now)) next;
         },
       ))
 

@@ -28,7 +28,7 @@ use Rattle.replies.specs.Foreseen.{Foresees, history}
 use Rattle.mt_program.specs.Endings.{IsAnswered, IsEarly, LeftBy, MetNoDamage, settled, status_of, status_of_error, status_of_stop}
 use Rattle.mt_program.specs.Headline.{AnsweredAll, AnsweredRead, EndsBy, Headline, NothingRan}
 use Rattle.mt_program.specs.Worlds.{Starts, World, counts_of}
-use Rattle.mt_program.specs.Statuses.{number_of}
+use Rattle.mt_program.specs.Statuses.{status_number}
 use Rattle.mt_program.specs.Courses.{Course, GoesUnanswered, Item, RunOf, course_of}
 use Rattle.mt_program.specs.Serving.{Ran, ServedBy}
 use Rattle.root_opening.specs.declared.opening.Damage.{Damage}
@@ -338,7 +338,7 @@ status_at n =
     else if n == 8 then Some status.TooLong
     else None
 
-numbered : (e : Status) → status_at (number_of e) ≡ Some e
+numbered : (e : Status) → status_at (status_number e) ≡ Some e
 unfolding status_at
 numbered status.Done = refl
 numbered status.Refused = refl
@@ -350,13 +350,13 @@ numbered status.NoMemory = refl
 numbered status.Damaged = refl
 numbered status.TooLong = refl
 
-pub same_number : (e f : Status) → number_of e ≡ number_of f → e ≡ f
+pub same_number : (e f : Status) → status_number e ≡ status_number f → e ≡ f
 same_number e f same = inj (sym (numbered e) ∙ (ap status_at same ∙ numbered f))
   where
     inj : Some e ≡ Some f → e ≡ f
     inj h = cc
 
-pub at_most_one_is : (e : Status) → number_of e ≤ 1 → IsAnswered e
+pub at_most_one_is : (e : Status) → status_number e ≤ 1 → IsAnswered e
 at_most_one_is status.Done h = inl refl
 at_most_one_is status.Refused h = inr refl
 at_most_one_is status.NotWords h = absurd (omega arith)

@@ -6,14 +6,14 @@ use Rattle.mt_outside.specs.Disk.{Told, names_of}
 use Rattle.mt_outside.specs.Files.{Files}
 use Rattle.mt_model.specs.History.{History}
 use Rattle.root_store.specs.declared.store.CoreStore.{CoreStore}
-use Rattle.root_store.specs.Soundness.{IsNameUnder, IsSound, NamesFit}
+use Rattle.root_store.specs.Soundness.{IsNameUnder, IsSoundStore, NamesFit}
 use Rattle.root_store.specs.Stores.{CoreStands}
 
 abbrev pub reopened : {F : Type 0} → CoreStore F → ℕ → CoreStore F
 reopened store opened = record { tables = store.tables; set = store.set; length = store.length; opened = opened }
 
 module _ {F : Type 0} (store : CoreStore F) (opened : ℕ) where
-  pub sound_reopened : IsSound store → IsSound (reopened store opened)
+  pub sound_reopened : IsSoundStore store → IsSoundStore (reopened store opened)
   sound_reopened s = record {
     tables = λ table t at. let one = s.tables table t at in record { schema = one.schema; order = one.order; ends = one.ends; may = one.may };
     no_other = s.no_other;

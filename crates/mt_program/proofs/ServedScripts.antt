@@ -20,11 +20,11 @@ use Rattle.replies.specs.declared.tally.Tally.{Tally}
 use Rattle.root_store.specs.declared.store.CoreStore.{CoreStore}
 use Rattle.root_store.specs.Soundness.{RootStands}
 use Rattle.root_store.specs.Stores.{CoreStands}
-use Rattle.session.specs.Answers.{Answered, Keeps}
+use Rattle.session.specs.Answers.{Answered, EndsUnanswered}
 use Rattle.std.proofs.lemmas.Bool.Decides.{nat_tests}
 use Rattle.replies.specs.Causes.{HasCauses}
 use Rattle.replies.specs.Foreseen.{Foresees, history, is_unsettled}
-use Rattle.mt_program.specs.Courses.{AreSettled, AreStopped, IsBegunBy, Item, Tells, course_of}
+use Rattle.mt_program.specs.Courses.{AreSettled, AreStopped, IsBegunBy, Item, TalliesReplies, course_of}
 use Rattle.mt_program.specs.Serving.{Ran, Served, ServedBy}
 use Rattle.mt_program.proofs.Begun.{begun_answered, begun_unanswered, replies_length}
 use Rattle.mt_model.specs.Outside.{Outside}
@@ -234,7 +234,7 @@ module _ {F : Type 0} (files_of : F → Option Files) (kept : Told) (opened disk
 
 -- a statement that had no reply
 pub ran_still : (kept : Told) (opened disk arm later more : ℕ) (done : List Item) (replies : List (List ℕ)) (st : Item) (told after : Option Told) (was_root now_root : Option root.Told) → disk ≤ later → arm ≤ more
-    → (r : Ran kept opened disk arm done replies told) → Keeps r.now st after was_root now_root → Ran kept opened later more done replies after
+    → (r : Ran kept opened disk arm done replies told) → EndsUnanswered r.now st after was_root now_root → Ran kept opened later more done replies after
 ran_still kept opened disk arm later more done replies st told after was_root now_root le less r k =
     let h : history k.now ≡ history r.now = ap (map (λ (n : Noted). n.entry)) k.list_is in
     record {
@@ -252,7 +252,7 @@ ran_still kept opened disk arm later more done replies st told after was_root no
 
 -- what is begun by it
 pub begins_still : (kept : Told) (opened disk arm later more : ℕ) (done : List Item) (replies : List (List ℕ)) (st : Item) (told after : Option Told) (was_root now_root : Option root.Told) → disk ≤ later → arm ≤ more
-    → (r : Ran kept opened disk arm done replies told) (k : Keeps r.now st after was_root now_root) → ((n : Outside) → Foresees opened disk arm n → IsBegunBy n kept r.now (course_of done replies None))
+    → (r : Ran kept opened disk arm done replies told) (k : EndsUnanswered r.now st after was_root now_root) → ((n : Outside) → Foresees opened disk arm n → IsBegunBy n kept r.now (course_of done replies None))
     → (n : Outside) → Foresees opened later more n → IsBegunBy n kept k.now (course_of done replies (Some st))
 begins_still kept opened disk arm later more done replies st told after was_root now_root le less r k was n f =
     let h : history k.now ≡ history r.now = ap (map (λ (n : Noted). n.entry)) k.list_is in
@@ -261,7 +261,7 @@ begins_still kept opened disk arm later more done replies st told after was_root
     begun_unanswered n kept r.now k.now done replies st each k.list_is k.begun (was n early)
 
 -- what is told of the replies, with one more
-pub tells_more : (t : Tally) (replies : List (List ℕ)) (reply : List ℕ) → Tells t replies → Tells (tallied t reply) (replies ++ reply ∷ [])
+pub tells_more : (t : Tally) (replies : List (List ℕ)) (reply : List ℕ) → TalliesReplies t replies → TalliesReplies (tallied t reply) (replies ++ reply ∷ [])
 tells_more t replies reply tells = record {
   refusals = ap (λ b. b || is_refusal reply) tells.refusals ∙ sym (any_push is_refusal replies reply);
   damages = ap (λ b. b || is_damage reply) tells.damages ∙ sym (any_push is_damage replies reply);
@@ -311,7 +311,7 @@ module _ {F : Type 0} (files_of : F → Option Files) (kept : Told) (script : Li
 
   module _ (later more : ℕ) (le : disk ≤ later) (less : arm ≤ more) where
     -- the next statement had no reply
-    pub served_unanswered : (used : ℕ) (st : Item) → statements_of (drop at script) ≡ st ∷ statements_of (drop (at + used) script) → (after : Option Told) (now_root : Option root.Told) → Keeps s.ran.now st after was_root now_root
+    pub served_unanswered : (used : ℕ) (st : Item) → statements_of (drop at script) ≡ st ∷ statements_of (drop (at + used) script) → (after : Option Told) (now_root : Option root.Told) → EndsUnanswered s.ran.now st after was_root now_root
         → ServedBy ending.NoMemory kept script opened later more after now_root before now
     unfolding ran_still
     served_unanswered used st left after now_root k = record {

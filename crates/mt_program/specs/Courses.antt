@@ -8,8 +8,8 @@ use Rattle.mt_outside.specs.Disk as root
 use Rattle.mt_model.specs.History.{History}
 use Rattle.mt_model.specs.Outside.{Outside}
 use Rattle.mt_model.specs.Refusals.{is_refusal, is_damage}
-use Rattle.mt_model.specs.Script.{IsFront, OwnEntries}
-use Rattle.mt_model.specs.Session.{AddsNothing, IsNext, SessionReplies, Unanswered}
+use Rattle.mt_model.specs.Script.{IsPrefix, OwnEntries}
+use Rattle.mt_model.specs.Session.{AddsNothing, IsNextCommand, SessionReplies, Unanswered}
 use Rattle.root_store.specs.Soundness.{RootStands}
 use Rattle.durable_commit.specs.Commits.{entry_of}
 use Rattle.replies.specs.Foreseen.{history, is_unsettled}
@@ -26,12 +26,12 @@ abbrev pub course_of : List Item → List (List ℕ) → Option Item → Course
 course_of ran replies last = record { ran = ran; replies = replies; unanswered = last }
 
 -- every statement that ran
-abbrev pub with_last : List Item → Option Item → List Item
-with_last ran None = ran
-with_last ran (Some last) = ran ++ last ∷ []
+abbrev pub with_unanswered : List Item → Option Item → List Item
+with_unanswered ran None = ran
+with_unanswered ran (Some last) = ran ++ last ∷ []
 
 abbrev pub started : Course → List Item
-started course = with_last course.ran course.unanswered
+started course = with_unanswered course.ran course.unanswered
 
 -- the statement without a reply takes the history from one place to another
 abbrev pub GoesUnanswered : History → Option Item → ℕ → ℕ → Type 0
@@ -65,7 +65,7 @@ pub record IsNextOf (n : Outside) (h : History) (base : ℕ) (course : Course) (
   pub split : started course ≡ before ++ said ∷ after
   pub place : ℕ
   pub ran : SessionReplies n h 0 before base place (take (length before) course.replies)
-  pub next : IsNext h 0 said place (length h) c
+  pub next : IsNextCommand h 0 said place (length h) c
   pub says : (reply : List ℕ) → slice_get course.replies (length before) ≡ Some reply → is_unsettled reply ≡ true
 
 -- What is begun after statements ran: what was begun before, where nothing was accepted; nothing, where something was; or the next command of
@@ -82,11 +82,11 @@ pub record IsCut (replies : List (List ℕ)) (out : List ℕ) : Type 0 where
   pub last : List ℕ
   pub part : List ℕ
   pub replies_are : replies ≡ whole ++ last ∷ []
-  pub front : IsFront part last
+  pub front : IsPrefix part last
   pub out_is : out ≡ concat whole ++ part
 
 -- whether some reply refuses its statement for what the script says, and whether some reply tells of damage
-pub record Tells (t : Tally) (replies : List (List ℕ)) : Type 0 where
+pub record TalliesReplies (t : Tally) (replies : List (List ℕ)) : Type 0 where
   pub refusals : t.refused ≡ list_any is_refusal replies
   pub damages : t.damaged ≡ list_any is_damage replies
 

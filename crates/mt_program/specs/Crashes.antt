@@ -5,7 +5,7 @@ use Rattle.mt_values.specs.declared.command.Command.{Command}
 use Rattle.mt_values.specs.Annals.{Told}
 use Rattle.mt_values.specs.Script.{statements_of}
 use Rattle.mt_model.specs.History.{History}
-use Rattle.mt_model.specs.Session.{IsNext, SessionGives}
+use Rattle.mt_model.specs.Session.{IsNextCommand, SessionGives}
 use Rattle.durable_commit.specs.Commits.{entry_of}
 use Rattle.root_store.specs.Crashes.{AreCalm, AreCrashSafe, Storage}
 use Rattle.replies.specs.Foreseen.{history}
@@ -20,7 +20,7 @@ pub record MayBeNextOf (h : History) (base : ℕ) (statements : List Item) (c : 
   pub split : statements ≡ before ++ said ∷ after
   pub place : ℕ
   pub gives : SessionGives h 0 before base place
-  pub next : IsNext h 0 said place (length h) c
+  pub next : IsNextCommand h 0 said place (length h) c
 
 -- What may be begun after statements ran whose replies are not known: what was begun before, where nothing was accepted; nothing; or the next
 -- command of one of them.

@@ -5,9 +5,9 @@ use Rattle.mt_values.specs.declared.annals.Noted.{Noted}
 use Rattle.mt_values.specs.Annals.{Told}
 use Rattle.mt_values.specs.Script.{statements_of}
 use Rattle.mt_model.specs.History.{IsLegal}
-use Rattle.mt_program.specs.Statuses.{number_of}
+use Rattle.mt_program.specs.Statuses.{status_number}
 use Rattle.replies.specs.Foreseen.{history}
-use Rattle.mt_program.specs.Courses.{AreSettled, Course, IsBegunBy, IsCut, Item, RunOf, Tells, started}
+use Rattle.mt_program.specs.Courses.{AreSettled, Course, IsBegunBy, IsCut, Item, RunOf, TalliesReplies, started}
 use Rattle.mt_program.specs.Worlds.{Starts, World, counts_of}
 use Rattle.mt_program.specs.declared.status.Status.{Status}
 use Rattle.mt_program.specs.declared.status.Status.TheVariants as status
@@ -18,7 +18,7 @@ pub record AnsweredAll (refused : Bool) (source : Option (List ℕ)) (script : L
   pub all : rest ≡ []
   pub answered : course.unanswered ≡ None
   pub out_is : out ≡ concat course.replies
-  pub says : Tells (record { refused = refused; damaged = false }) course.replies
+  pub says : TalliesReplies (record { refused = refused; damaged = false }) course.replies
   pub short : length script < 2 ^ 40
   pub read : source ≡ Some []
 
@@ -78,4 +78,4 @@ pub record Headline (ended : Status) (before after : World) (kept : Told) (scrip
 
 -- the same, of a run that ended with this number
 abbrev pub HeadlineBy : ℕ → World → World → Type 0
-HeadlineBy number before after = (kept : Told) (script written : List ℕ) → Starts before kept script written → (ended : Status) × (number ≡ number_of ended) × Headline ended before after kept script written
+HeadlineBy number before after = (kept : Told) (script written : List ℕ) → Starts before kept script written → (ended : Status) × (number ≡ status_number ended) × Headline ended before after kept script written

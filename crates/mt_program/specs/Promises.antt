@@ -5,7 +5,7 @@ use Rattle.mt_values.specs.Annals.{Told}
 use Rattle.mt_values.specs.Script.{statements_of}
 use Rattle.mt_outside.specs.Causes.{Rose}
 use Rattle.mt_outside.specs.Disk as root
-use Rattle.mt_model.specs.Causes.{NoneMeets}
+use Rattle.mt_model.specs.Causes.{NoneMeetsCause}
 use Rattle.mt_model.specs.History.{History}
 use Rattle.root_opening.specs.declared.opening.Damage.{Damage}
 use Rattle.root_opening.specs.Opening.{IsRootDamage}
@@ -15,7 +15,7 @@ use Rattle.replies.specs.Foreseen.{history}
 use Rattle.run_streams.specs.Streams.{ConsumesMost}
 use Rattle.run_streams.specs.Words.{is_command, path_of}
 use Rattle.mt_program.specs.declared.status.Status.{Status}
-use Rattle.mt_program.specs.Statuses.{number_of}
+use Rattle.mt_program.specs.Statuses.{status_number}
 use Rattle.mt_program.specs.Crashes.{IsAsBefore, LeavesOfScript}
 use Rattle.mt_program.specs.Damage.{IsDamagedRoot, WritesDamage, damage_line}
 use Rattle.mt_program.specs.Headline.{HeadlineBy}
@@ -32,7 +32,7 @@ pub record NoCountRose (before after : World) : Type 0 where
 pub record NothingRefuses (command : List (String Global)) (script : List ℕ) (h : History) : Type 0 where
   pub words : is_command command ≡ true
   pub short : length script < 2 ^ 40
-  pub causes : NoneMeets h (statements_of script)
+  pub causes : NoneMeetsCause h (statements_of script)
 
 -- where nothing stands against a run, and no count rose, it ends with 0, or where memory ran out
 abbrev pub IsComplete : List (String Global) → World → ℕ → World → Type 0
@@ -43,7 +43,7 @@ IsComplete words before status after =
 -- and so is the disk's mark
 pub record NotOpened (number : ℕ) (line : List ℕ) (before after : World) : Type 0 where
   pub ended : Status
-  pub number_is : number ≡ number_of ended
+  pub number_is : number ≡ status_number ended
   pub writes : WritesDamage ended line before.sink_failed after.sink_failed before.sink after.sink
   pub disk : after.storage.disk ≡ before.storage.disk
   pub clock : after.storage.clock ≡ before.storage.clock

@@ -13,7 +13,7 @@ use Rattle.mt_model.specs.Session.{SessionReplies}
 use Rattle.root_store.specs.declared.store.CoreStore.{CoreStore}
 use Rattle.root_store.specs.Stores.{CoreStands}
 use Rattle.replies.specs.Foreseen.{Foresees, history, is_unsettled}
-use Rattle.mt_program.specs.Courses.{AreSettled, AreStopped, IsBegunBy, IsCut, Item, Tells, course_of, with_last}
+use Rattle.mt_program.specs.Courses.{AreSettled, AreStopped, IsBegunBy, IsCut, Item, TalliesReplies, course_of, with_unanswered}
 use Rattle.mt_program.specs.declared.serving.Ending.{Ending}
 use Rattle.mt_program.specs.declared.serving.Ending.TheVariants as ending
 use Rattle.replies.specs.declared.tally.Tally.{Tally}
@@ -39,12 +39,12 @@ pub record Served {F : Type 0} (files_of : F → Option Files) (kept : Told) (sc
   pub begun : (n : Outside) → Foresees opened disk arm n → IsBegunBy n kept ran.now (course_of done replies None)
   pub stands : CoreStands files_of (history ran.now) store
   pub wrote : Appends before after (concat replies)
-  pub tells : Tells tally replies
+  pub tells : TalliesReplies tally replies
   pub settled : AreSettled replies root (history ran.now)
 
 -- which statements are left, and what was written of the replies: all of them whole, but where the sink failed
 abbrev pub StopsBy : Ending → Option Item → List Item → List (List ℕ) → List ℕ → Type 0
-StopsBy (ending.Done tally) unanswered rest replies out = (unanswered ≡ None) × (rest ≡ []) × Tells tally replies × (out ≡ concat replies)
+StopsBy (ending.Done tally) unanswered rest replies out = (unanswered ≡ None) × (rest ≡ []) × TalliesReplies tally replies × (out ≡ concat replies)
 StopsBy ending.NoMemory unanswered rest replies out = out ≡ concat replies
 StopsBy ending.WriteFault unanswered rest replies out = (unanswered ≡ None) × IsCut replies out
 
@@ -55,7 +55,7 @@ pub record ServedBy (ended : Ending) (kept : Told) (script : List ℕ) (opened d
   pub replies : List (List ℕ)
   pub unanswered : Option Item
   pub out : List ℕ
-  pub split : statements_of script ≡ with_last done unanswered ++ rest
+  pub split : statements_of script ≡ with_unanswered done unanswered ++ rest
   pub ran : Ran kept opened disk arm done replies told
   pub begun : (n : Outside) → Foresees opened disk arm n → IsBegunBy n kept ran.now (course_of done replies unanswered)
   pub wrote : Appends before after out

@@ -4,13 +4,13 @@ use Rattle.mt_program.specs.declared.status.Status.{Status}
 use Rattle.mt_program.specs.declared.status.Status.TheVariants as status
 
 -- the number of each status
-abbrev pub number_of : Status → ℕ
-number_of status.Done = 0
-number_of status.Refused = 1
-number_of status.NotWords = 2
-number_of status.ReadFault = 3
-number_of status.WriteFault = 4
-number_of status.DiskFault = 5
-number_of status.NoMemory = 6
-number_of status.Damaged = 7
-number_of status.TooLong = 8
+abbrev pub status_number : Status → ℕ
+status_number status.Done = 0
+status_number status.Refused = 1
+status_number status.NotWords = 2
+status_number status.ReadFault = 3
+status_number status.WriteFault = 4
+status_number status.DiskFault = 5
+status_number status.NoMemory = 6
+status_number status.Damaged = 7
+status_number status.TooLong = 8

@@ -31,7 +31,7 @@ pub record Starts (w : World) (kept : Told) (script written : List ℕ) : Type 0
   pub sink_is : w.sink ≡ Some written
 
 -- A run begins with the disk and the annals that another left, another script, and a sink to which something was written.
-pub record Begins (left w : World) (script written : List ℕ) : Type 0 where
+pub record BeginsAfter (left w : World) (script written : List ℕ) : Type 0 where
   pub disk_is : w.storage.disk ≡ left.storage.disk
   pub annals_is : w.storage.annals ≡ left.storage.annals
   pub source_is : w.source ≡ Some script

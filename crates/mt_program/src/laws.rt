@@ -9,7 +9,7 @@ ghost use Rattle.mt_program.specs.declared.status.Status.{Status};
 ghost use Rattle.mt_program.specs.Crashes.{LeavesForCrashes};
 ghost use Rattle.mt_program.specs.Courses.{Item};
 ghost use Rattle.mt_program.specs.Headline.{Headline};
-ghost use Rattle.mt_program.specs.Worlds.{Begins, Starts, World};
+ghost use Rattle.mt_program.specs.Worlds.{BeginsAfter, Starts, World};
 ghost use Rattle.root_store.specs.Crashes.{Storage};
 
 /// An empty disk with annals that hold nothing meets all that is asked before a run. So does what a run leaves, where no reply says that a commit
@@ -22,7 +22,7 @@ pub fn premises_are_met()
         × AllStand [] (w.storage.clock + 1) [] }
     ensures next { (ended : Status) (before after w : World) (kept : Told)
         (script written more said : List ℕ) (left : Headline ended before after kept script written)
-        → list_any is_unsettled left.course.replies ≡ false → Begins after w more said
+        → list_any is_unsettled left.course.replies ≡ false → BeginsAfter after w more said
         → Starts w left.now more said }
     ensures calm { (statements : List Item) (opened : ℕ) (now : Storage) (first : Told) (start : ℕ)
         (left : LeavesForCrashes statements opened now first start) (told : root.Told) (kept : Told)

@@ -1,6 +1,6 @@
 // How a run ends.
 ghost use Rattle.std.specs.Prelude.{◌≡◌, Bool};
-ghost use Rattle.mt_program.specs.Statuses.{number_of};
+ghost use Rattle.mt_program.specs.Statuses.{status_number};
 
 /// How a run ends: by what ends it early, or else, at the script's end, by damage before a disk's fault before a refusal.
 #[derive(Clone, Copy)]
@@ -27,7 +27,7 @@ pub enum Status {
 impl Status {
     /// The number with which the program ends.
     pub fn number(self) -> u8
-        ensures { result ≡ number_of self }
+        ensures { result ≡ status_number self }
     {
         match self {
             Status::Done => 0,

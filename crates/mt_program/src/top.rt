@@ -89,6 +89,8 @@ fn run_script<D: Disk, A: Annals, S: Source, K: Sink, G: Gate>(
     gate: &mut G,
 ) -> Result<Ending, Status>
     requires ready { IsReady (D.failed disk.old) (D.told disk.old) store.old }
+
+    // What is answered, and what a crash leaves.
     ensures leaves { (kept : Told) (script : List ℕ) → A.told annals.old ≡ Some kept
         → D.Arm.tells arm.old ≡ true → S.left source.old ≡ Some script
         → CoreStands D.Arm.Dir.files (history kept) store.old
@@ -114,6 +116,8 @@ fn run_script<D: Disk, A: Annals, S: Source, K: Sink, G: Gate>(
         → KeepsThroughCrashes D.Arm.Dir.files store.old was first start
         → IsGainedBy [] (A.told annals.old) first
         → LeavesOfScript (S.left source.old) store.old.opened now first start }
+
+    // What was read, and why it ended early.
     ensures whole { (script : List ℕ) → S.left source.old ≡ Some script
         → OnOk result ((length script < 2 ^ 40) × (S.left source.new ≡ Some [])) }
     ensures early { IfErr result IsEarly }
@@ -125,6 +129,8 @@ fn run_script<D: Disk, A: Annals, S: Source, K: Sink, G: Gate>(
     ensures long { IsErrOf result Status.TooLong
         → ConsumesMost (S.left source.old) (S.left source.new) }
     ensures write { result ≡ Ok Ending.WriteFault → Rose (K.failed sink.old) (K.failed sink.new) }
+
+    // What stays, and what the counts of faults are.
     ensures started { D.started disk.new ≡ D.started disk.old }
     ensures disk_later { D.failed disk.old ≤ D.failed disk.new }
     ensures arm_later { D.Arm.failed arm.old ≤ D.Arm.failed arm.new }
@@ -185,6 +191,8 @@ fn run_root<D: Disk, A: Annals, S: Source, K: Sink, G: Gate>(
 ) -> Result<Ending, Status>
     requires opened { opened ≤ D.failed disk.old }
     requires below { opened < 2 ^ 64 - 1 }
+
+    // What is answered, and what is told of damage.
     ensures leaves { (kept : Told) (told : root.Told) (script : List ℕ)
         → A.told annals.old ≡ Some kept → D.told disk.old ≡ Some told
         → Stands (root.names_of told) (history kept) → D.Arm.tells arm.old ≡ true
@@ -203,6 +211,8 @@ fn run_root<D: Disk, A: Annals, S: Source, K: Sink, G: Gate>(
         → D.Arm.tells arm.old ≡ true → MetNoDamage result }
     ensures damaged { (told : root.Told) → D.told disk.old ≡ Some told → D.Arm.tells arm.old ≡ true
         → MetNoDamage result ⊎ IsDamagedRoot (root.names_of told) }
+
+    // What a crash leaves.
     ensures crashes { let now : Storage = record {
       disk = D.told disk.new;
       clock = D.clock disk.new;
@@ -230,6 +240,8 @@ fn run_root<D: Disk, A: Annals, S: Source, K: Sink, G: Gate>(
         → AllStand told (D.clock disk.old + 1) (history kept)
         → IsAsBefore was now (K.written sink.old) (K.written sink.new)
         ⊎ LeavesOfScript (S.left source.old) opened now kept (D.clock disk.old + 1) }
+
+    // What was read, and why it ended early.
     ensures whole { (script : List ℕ) → S.left source.old ≡ Some script
         → OnOk result ((length script < 2 ^ 40) × (S.left source.new ≡ Some [])) }
     ensures early { IfErr result IsEarly }
@@ -244,6 +256,8 @@ fn run_root<D: Disk, A: Annals, S: Source, K: Sink, G: Gate>(
     ensures long { IsErrOf result Status.TooLong
         → ConsumesMost (S.left source.old) (S.left source.new) }
     ensures write { result ≡ Ok Ending.WriteFault → Rose (K.failed sink.old) (K.failed sink.new) }
+
+    // What stays, and what the counts of faults are.
     ensures started { D.started disk.new ≡ D.started disk.old }
     ensures disk_later { D.failed disk.old ≤ D.failed disk.new }
     ensures arm_later { D.Arm.failed arm.old ≤ D.Arm.failed arm.new }
@@ -266,6 +280,7 @@ fn run_opened<D: Disk, A: Annals, S: Source, K: Sink, G: Gate>(
     annals: &mut A,
     gate: &mut G,
 ) -> Status
+    // What is answered, and what is told of damage.
     ensures headline { let before : World = record {
       storage = record {
         disk = D.told disk.old;
@@ -304,6 +319,8 @@ fn run_opened<D: Disk, A: Annals, S: Source, K: Sink, G: Gate>(
         → result ≡ Status.Damaged → ⊥ }
     ensures damaged { (told : root.Told) → D.told disk.old ≡ Some told → result ≡ Status.Damaged
         → IsDamagedRoot (root.names_of told) }
+
+    // What a crash leaves.
     ensures crashes { let now : Storage = record {
       disk = D.told disk.new;
       clock = D.clock disk.new;
@@ -330,12 +347,8 @@ fn run_opened<D: Disk, A: Annals, S: Source, K: Sink, G: Gate>(
         → AllStand told (D.clock disk.old + 1) (history kept)
         → IsAsBefore was now (K.written sink.old) (K.written sink.new)
         ⊎ LeavesOfScript (S.left source.old) (D.failed disk.old) now kept (D.clock disk.old + 1) }
-    ensures full { D.failed disk.old ≡ 2 ^ 64 - 1 → (result ≡ Status.DiskFault)
-        × (disk.new ≡ disk.old) × (annals.new ≡ annals.old) × (source.new ≡ source.old)
-        × (sink.new ≡ sink.old) }
-    ensures whole { (script : List ℕ) → S.left source.old ≡ Some script → IsAnswered result
-        → (length script < 2 ^ 40) × (S.left source.new ≡ Some []) }
-    ensures words { result ≡ Status.NotWords → ⊥ }
+
+    // Which folder was opened.
     ensures folder { let before : World = record {
       storage = record {
         disk = D.told disk.old;
@@ -363,6 +376,14 @@ fn run_opened<D: Disk, A: Annals, S: Source, K: Sink, G: Gate>(
           sink_failed = K.failed sink.new;
         } in
         (D.started disk.new ≡ Some path.now) ⊎ IsUntouched before after }
+
+    // What was read, and why it ended so.
+    ensures full { D.failed disk.old ≡ 2 ^ 64 - 1 → (result ≡ Status.DiskFault)
+        × (disk.new ≡ disk.old) × (annals.new ≡ annals.old) × (source.new ≡ source.old)
+        × (sink.new ≡ sink.old) }
+    ensures whole { (script : List ℕ) → S.left source.old ≡ Some script → IsAnswered result
+        → (length script < 2 ^ 40) × (S.left source.new ≡ Some []) }
+    ensures words { result ≡ Status.NotWords → ⊥ }
     ensures read { result ≡ Status.ReadFault → Rose (S.failed source.old) (S.failed source.new) }
     ensures unfailed { (result ≡ Status.ReadFault → ⊥)
         → S.failed source.new ≡ S.failed source.old }

@@ -18,8 +18,8 @@ use Rattle.mt_model.specs.Partial.{Partly}
 use Rattle.part_history.specs.declared.part.CorePart.{CorePart}
 
 -- the parts of a table, in their order (docs/definitions.md, "The core")
-abbrev pub parts_of : List ℕ → List CorePart → List CorePart
-parts_of table parts = filter (λ (p : CorePart). same_bytes p.table table) parts
+abbrev pub core_parts_of : List ℕ → List CorePart → List CorePart
+core_parts_of table parts = filter (λ (p : CorePart). same_bytes p.table table) parts
 
 -- the parts of one partition, in their order (docs/definitions.md, "The core")
 abbrev pub parts_in : Partition → List CorePart → List CorePart
@@ -51,7 +51,7 @@ pub record TableStands (table : List ℕ) (parts : List CorePart) (h : History) 
 
 -- the parts stand for the history: those of every table do (docs/definitions.md, "The core")
 abbrev pub PartsStand : List CorePart → History → Type 0
-PartsStand parts h = (table : List ℕ) → TableStands table (parts_of table parts) h
+PartsStand parts h = (table : List ℕ) → TableStands table (core_parts_of table parts) h
 
 -- the whole comes before the partitions that have numbers, and these by their numbers
 abbrev pub partition_cmp : Partition → Partition → Ordering

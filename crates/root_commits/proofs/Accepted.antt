@@ -26,7 +26,7 @@ use Rattle.part_set.specs.declared.set.PartSet.{PartSet}
 use Rattle.part_set.specs.Sets as sets
 use Rattle.part_history.specs.declared.part.CorePart.{CorePart}
 use Rattle.part_history.specs.Entered.{part_of_insert}
-use Rattle.part_history.specs.Parts.{AreInBlockOrder, parts_of}
+use Rattle.part_history.specs.Parts.{AreInBlockOrder, core_parts_of}
 use Rattle.table_core.specs.declared.event.Accept.TheVariants as accept
 use Rattle.table_core.specs.Core.{Core}
 use Rattle.table_core.specs.Steps.{AddsPart}
@@ -48,7 +48,7 @@ module _ {F : Type 0} (files_of : F → Option Files) where
   Hold schema ks rows = AllZip (λ (k : Kept (Part F)) (r : List Row). PartHolds files_of schema k.part r) ks rows
 
   -- a table whose parts are the same in the store, and in the state
-  parts_kept : (old new : CoreStore F) (core next : Core) (table : List ℕ) (schema : Schema) → sets.parts_of new.set table ≡ sets.parts_of old.set table → parts_of table next.parts ≡ parts_of table core.parts
+  parts_kept : (old new : CoreStore F) (core next : Core) (table : List ℕ) (schema : Schema) → sets.parts_of new.set table ≡ sets.parts_of old.set table → core_parts_of table next.parts ≡ core_parts_of table core.parts
       → ShowsParts files_of old core table schema → ShowsParts files_of new next table schema
   parts_kept old new core next table schema kept same p = record {
     rows = p.rows;
@@ -99,8 +99,8 @@ module _ {F : Type 0} (files_of : F → Option Files) where
         subst (λ (y : Table). ShowsParts files_of new made u y.schema) fresh (subst (λ (v : List ℕ). ShowsParts files_of new made v c.schema) same empty_shown)
     shown_at u x at (inr other) = parts_kept old new core made u x.schema (kept_parts u) refl (s.parts u x (sym other.1 ∙ at))
 
-    none_at : (u : List ℕ) → table_at new u ≡ None → IsNewOr u → parts_of u core.parts ≡ []
-    none_at u none (inl same) = subst (λ (v : List ℕ). parts_of v core.parts ≡ []) same (s.no_other c.table a.absent)
+    none_at : (u : List ℕ) → table_at new u ≡ None → IsNewOr u → core_parts_of u core.parts ≡ []
+    none_at u none (inl same) = subst (λ (v : List ℕ). core_parts_of v core.parts ≡ []) same (s.no_other c.table a.absent)
     none_at u none (inr other) = s.no_other u (sym other.1 ∙ none)
 
     pub create_accepted : IsTableSchema c.schema → length old.tables.entries < 64 → IsAccepted files_of core (accept.Create session c) new
@@ -125,8 +125,8 @@ record Parted (table : List ℕ) (n : ℕ) (ps : List CorePart) : Type 0 where
   front : List CorePart
   behind : List CorePart
   are : ps ≡ front ++ behind
-  first : parts_of table front ≡ take n (parts_of table ps)
-  rest : parts_of table behind ≡ drop n (parts_of table ps)
+  first : core_parts_of table front ≡ take n (core_parts_of table ps)
+  rest : core_parts_of table behind ≡ drop n (core_parts_of table ps)
 
 part_at : (table : List ℕ) (n : ℕ) (ps : List CorePart) → Parted table n ps
 part_at table zero ps = record { front = []; behind = ps; are = refl; first = refl; rest = refl }
@@ -134,7 +134,7 @@ part_at table (suc n) [] = record { front = []; behind = []; are = refl; first =
 part_at table (suc n) (p ∷ ps) = by (same_bytes p.table table) refl (part_at table n ps) (part_at table (suc n) ps)
   where
     kept : Bool → List CorePart → List CorePart
-    kept b qs = cond b (p ∷ parts_of table qs) (parts_of table qs)
+    kept b qs = cond b (p ∷ core_parts_of table qs) (core_parts_of table qs)
 
     by : (b : Bool) → same_bytes p.table table ≡ b → Parted table n ps → Parted table (suc n) ps → Parted table (suc n) (p ∷ ps)
     by true own s later = record {
@@ -153,12 +153,12 @@ part_at table (suc n) (p ∷ ps) = by (same_bytes p.table table) refl (part_at t
     }
 
 -- a part of the table put there is in that place among the table's parts
-placed_at : (table : List ℕ) (n : ℕ) (ps : List CorePart) (p : CorePart) (s : Parted table n ps) → p.table ≡ table → parts_of table (s.front ++ p ∷ s.behind) ≡ insert (parts_of table ps) n p
+placed_at : (table : List ℕ) (n : ℕ) (ps : List CorePart) (p : CorePart) (s : Parted table n ps) → p.table ≡ table → core_parts_of table (s.front ++ p ∷ s.behind) ≡ insert (core_parts_of table ps) n p
 placed_at table n ps p s own =
     let test : CorePart → Bool = λ q. same_bytes q.table table in
     let yes : same_bytes p.table table ≡ true = ap (λ (u : List ℕ). same_bytes u table) own ∙ itself_same table in
-    let mine : parts_of table (p ∷ s.behind) ≡ p ∷ drop n (parts_of table ps) =
-    ap (λ (b : Bool). cond b (p ∷ parts_of table s.behind) (parts_of table s.behind)) yes ∙ ap (λ (qs : List CorePart). p ∷ qs) s.rest in
+    let mine : core_parts_of table (p ∷ s.behind) ≡ p ∷ drop n (core_parts_of table ps) =
+    ap (λ (b : Bool). cond b (p ∷ core_parts_of table s.behind) (core_parts_of table s.behind)) yes ∙ ap (λ (qs : List CorePart). p ∷ qs) s.rest in
     filter-append test s.front (p ∷ s.behind) ∙ ap₂ (λ (xs ys : List CorePart). xs ++ ys) s.first mine
 
 -- ---- an INSERT
@@ -193,7 +193,7 @@ module _ {F : Type 0} (files_of : F → Option Files) (core : Core) (old new : C
   abbrev all_rows : List (List Row)
   all_rows = insert there.rows place (part_rows t.schema block)
 
-  now_are : parts_of table next.parts ≡ core_parts table (sets.parts_of new.set table) all_rows
+  now_are : core_parts_of table next.parts ≡ core_parts table (sets.parts_of new.set table) all_rows
   now_are =
       placed_at table place core.parts part parted refl
       ∙ (ap (λ (ps : List CorePart). insert ps place part) there.same
@@ -234,7 +234,7 @@ module _ {F : Type 0} (files_of : F → Option Files) (core : Core) (old new : C
   shown_of u x at (inr other) =
       parts_kept files_of old new core next u x.schema (a.enters.others u (other_table u other.0)) (parts_added_apart u part core.parts next.parts adds other.0) (s.parts u x (sym other.1 ∙ at))
 
-  none_of : (u : List ℕ) → table_at new u ≡ None → IsItOr u → parts_of u next.parts ≡ []
+  none_of : (u : List ℕ) → table_at new u ≡ None → IsItOr u → core_parts_of u next.parts ≡ []
   none_of u none (inl same) = absurd (no_some (table_at new u) more none (subst (λ (v : List ℕ). table_at new v ≡ Some more) same a.enters.updates.1))
   none_of u none (inr other) = parts_added_apart u part core.parts next.parts adds other.0 ∙ s.no_other u (sym other.1 ∙ none)
 

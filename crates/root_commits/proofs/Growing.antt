@@ -28,7 +28,7 @@ use Rattle.part_set.specs.declared.root_name.TablePart.{TablePart}
 use Rattle.part_set.specs.RootNames.{IsRootName, is_table, root_text}
 use Rattle.part_set.specs.Visible.{Covers, HasPart, IsVisible}
 use Rattle.part_history.specs.declared.part.CorePart.{CorePart}
-use Rattle.part_history.specs.Parts.{TableStands, parts_of}
+use Rattle.part_history.specs.Parts.{TableStands, core_parts_of}
 use Rattle.part_history.specs.Entered.{next_number, part_of_insert}
 use Rattle.part_history.proofs.Apart.{ends_below}
 use Rattle.part_history.proofs.Growing.{drawn_apart, table_grown, table_kept}
@@ -145,7 +145,7 @@ module _ (names : Names) (h : History) (session : ℕ) (c : Create) (files : Fil
     no_other = entry_of_one;
     parts = s.parts;
     visible = λ part. (λ visible. (s.visible part).0 (table_shows_none s.read c.table part visible), λ has. table_hides_none s.read c.table part ((s.visible part).1 has));
-    stand = λ t. table_kept t (parts_of t s.parts) h (last h session c ∷ []) refl (s.stand t);
+    stand = λ t. table_kept t (core_parts_of t s.parts) h (last h session c ∷ []) refl (s.stand t);
     there = All-weaker (PartIsThere names h) (PartIsThere (with_name names (create_name c.table) files) (h ++ last h session c ∷ []))
         (part_there names h (create_name c.table) files (last h session c) free) s.parts s.there;
   }
@@ -164,8 +164,8 @@ module _ (names : Names) (h : History) (s : Stands names h) (table : List ℕ) w
   visible_end_by part visible own =
       let found = of_core names h s part visible in
       let here : found.core.table ≡ table = ap (λ (p : TablePart). p.table) found.name_is ∙ own in
-      let below = All-contains (λ (p : CorePart). p.name.max_block < next_number table h) (parts_of table s.parts) found.core
-      (ends_below h table (parts_of table s.parts) (s.stand table)) (of_table table s.parts found.core found.here here) in
+      let below = All-contains (λ (p : CorePart). p.name.max_block < next_number table h) (core_parts_of table s.parts) found.core
+      (ends_below h table (core_parts_of table s.parts) (s.stand table)) (of_table table s.parts found.core found.here here) in
       let block : found.core.name.max_block ≡ part.name.max_block = ap (λ (p : TablePart). p.name.max_block) found.name_is in
       omega (arith, below, block)
 
@@ -225,23 +225,23 @@ module _ (names : Names) (h : History) (session : ℕ) (i : Insert) (schema : Sc
   ]
 
   -- the parts of each table stand for the longer history
-  tables_stand : (t : List ℕ) → TableStands t (parts_of t (s.parts ++ core ∷ [])) (h ++ entry ∷ [])
+  tables_stand : (t : List ℕ) → TableStands t (core_parts_of t (s.parts ++ core ∷ [])) (h ++ entry ∷ [])
   tables_stand t = by (same_bytes i.table t) refl
     where
-      more : parts_of t (s.parts ++ core ∷ []) ≡ parts_of t s.parts ++ cond (same_bytes i.table t) (core ∷ []) []
+      more : core_parts_of t (s.parts ++ core ∷ []) ≡ core_parts_of t s.parts ++ cond (same_bytes i.table t) (core ∷ []) []
       more = filter-append (λ (p : CorePart). same_bytes p.table t) s.parts (core ∷ [])
 
-      by : (b : Bool) → same_bytes i.table t ≡ b → TableStands t (parts_of t (s.parts ++ core ∷ [])) (h ++ entry ∷ [])
+      by : (b : Bool) → same_bytes i.table t ≡ b → TableStands t (core_parts_of t (s.parts ++ core ∷ [])) (h ++ entry ∷ [])
       by true here =
           let same = same_is i.table t here in
-          let parts = more ∙ ap (λ (b : Bool). parts_of t s.parts ++ cond b (core ∷ []) []) here in
-          let grown = table_grown h entry i schema refl known (parts_of i.table s.parts) (s.stand i.table) in
+          let parts = more ∙ ap (λ (b : Bool). core_parts_of t s.parts ++ cond b (core ∷ []) []) here in
+          let grown = table_grown h entry i schema refl known (core_parts_of i.table s.parts) (s.stand i.table) in
           subst (λ (ps : List CorePart). TableStands t ps (h ++ entry ∷ [])) (sym parts)
-          (subst (λ (u : List ℕ). TableStands u (parts_of u s.parts ++ core ∷ []) (h ++ entry ∷ [])) same grown)
+          (subst (λ (u : List ℕ). TableStands u (core_parts_of u s.parts ++ core ∷ []) (h ++ entry ∷ [])) same grown)
       by false apart =
-          let parts = more ∙ (ap (λ (b : Bool). parts_of t s.parts ++ cond b (core ∷ []) []) apart ∙ append-nil (parts_of t s.parts)) in
+          let parts = more ∙ (ap (λ (b : Bool). core_parts_of t s.parts ++ cond b (core ∷ []) []) apart ∙ append-nil (core_parts_of t s.parts)) in
           subst (λ (ps : List CorePart). TableStands t ps (h ++ entry ∷ [])) (sym parts)
-          (table_kept t (parts_of t s.parts) h (entry ∷ []) (drawn_apart h entry i schema refl known t apart) (s.stand t))
+          (table_kept t (core_parts_of t s.parts) h (entry ∷ []) (drawn_apart h entry i schema refl known t apart) (s.stand t))
 
   new_there : PartIsThere (with_name names text files) (h ++ entry ∷ []) core
   new_there = record {

@@ -22,7 +22,7 @@ use Rattle.root_store.specs.declared.store.CoreStore.{CoreStore}
 use Rattle.root_store.specs.declared.store.Table.{Table}
 use Rattle.root_store.specs.Stores.{fresh_table}
 use Rattle.root_commits.specs.Commits.{EntersSealed, EntersTable, IsSealedOf, SameStore, fresh_part, part_rows, partition_of_block}
-use Rattle.root_store.specs.Soundness.{HasSoundParts, HoldsRows, IsSound}
+use Rattle.root_store.specs.Soundness.{HasSoundParts, HoldsRows, IsSoundStore}
 use Rattle.root_store.specs.Stores.{table_at}
 use Rattle.root_commits.proofs.Placed.{all_added}
 use Rattle.root_commits.proofs.Updated.{it_or, one_some}
@@ -34,7 +34,7 @@ module _ {F : Type 0} (files_of : F → Option Files) where
       subst (All (HoldsRows files_of t.schema)) (sym (same.parts table)) (held table t (sym (ap (λ (es : List (List ℕ × Table)). lookup (is_at (slice_cmp nat_cmp table)) es) same.tables) ∙ at))
 
   -- one table more
-  pub held_made : (old new : CoreStore F) (table : List ℕ) (schema : Schema) → EntersTable table schema old new → IsSound old → HasSoundParts files_of old → HasSoundParts files_of new
+  pub held_made : (old new : CoreStore F) (table : List ℕ) (schema : Schema) → EntersTable table schema old new → IsSoundStore old → HasSoundParts files_of old → HasSoundParts files_of new
   held_made old new table schema enters sound held = λ u t at. elim (it_or old new table (Some (fresh_table schema)) enters.updates u) [
     | inl same ↦ subst (All (HoldsRows files_of t.schema)) (sym (parts u ∙ subst (λ (v : List ℕ). parts_of old.set v ≡ []) same (sound.no_other table enters.absent))) (All-nil (HoldsRows files_of t.schema))
     | inr other ↦ subst (All (HoldsRows files_of t.schema)) (sym (parts u)) (held u t (sym other.1 ∙ at))

@@ -24,7 +24,7 @@ use Rattle.root_store.specs.declared.store.CoreStore.{CoreStore}
 use Rattle.root_store.specs.declared.store.Table.{Table}
 use Rattle.root_store.specs.Stores.{fresh_table}
 use Rattle.root_commits.specs.Commits.{EntersPart, EntersTable, SameStore, fresh_part}
-use Rattle.root_store.specs.Soundness.{IsNameUnder, IsReady, IsSound, IsSoundTable, NamesFit, NamesFitUnlessRisen}
+use Rattle.root_store.specs.Soundness.{IsNameUnder, IsReady, IsSoundStore, IsSoundTable, NamesFit, NamesFitUnlessRisen}
 use Rattle.root_store.specs.Stores.{table_at}
 use Rattle.root_commits.proofs.Placed.{all_added}
 use Rattle.root_commits.proofs.Updated.{it_or, no_some, one_some}
@@ -54,7 +54,7 @@ module _ {F : Type 0} where
       same_table table = ap (λ (es : List (List ℕ × Table)). lookup (is_at (slice_cmp nat_cmp table)) es) same.tables
 
       -- the same store is as sound
-      pub sound_same : IsSound old → IsSound new
+      pub sound_same : IsSoundStore old → IsSoundStore new
       sound_same sound = record {
         tables = λ table t at. moved old new table t (same.parts table) (sound.tables table t (sym (same_table table) ∙ at));
         no_other = λ table none. same.parts table ∙ sound.no_other table (sym (same_table table) ∙ none);
@@ -106,7 +106,7 @@ module _ {F : Type 0} where
       }
 
     -- one table more
-    pub sound_made : (table : List ℕ) (schema : Schema) → EntersTable table schema old new → IsTableSchema schema → IsSound old → IsSound new
+    pub sound_made : (table : List ℕ) (schema : Schema) → EntersTable table schema old new → IsTableSchema schema → IsSoundStore old → IsSoundStore new
     sound_made table schema enters fits sound = record {
       tables = λ u t at. elim (it_or old new table (Some (fresh_table schema)) enters.updates u) [
         | inl same ↦ here u t same (one_some (table_at new u) (fresh_table schema) t (subst (λ (v : List ℕ). table_at new v ≡ Some (fresh_table schema)) same enters.updates.1) at)
@@ -157,7 +157,7 @@ module _ {F : Type 0} where
         order = parts_new Rises was.order (omega arith);
       }
 
-      pub sound_added : IsSound old → IsSound new
+      pub sound_added : IsSoundStore old → IsSoundStore new
       sound_added sound = record {
         tables = λ u x at. elim (it_or old new table (Some more) a.updates u) [
           | inl same ↦ subst (IsSoundTable new u) (one_some (table_at new u) more x (subst (λ (v : List ℕ). table_at new v ≡ Some more) same a.updates.1) at)

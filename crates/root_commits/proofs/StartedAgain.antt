@@ -16,7 +16,7 @@ use Rattle.part_set.specs.declared.root_name.RootName.{RootName}
 use Rattle.part_set.specs.declared.root_name.TablePart.{TablePart}
 use Rattle.part_set.specs.Visible.{HasPart}
 use Rattle.part_history.specs.declared.part.CorePart.{CorePart}
-use Rattle.part_history.specs.Parts.{has_block, parts_of}
+use Rattle.part_history.specs.Parts.{has_block, core_parts_of}
 use Rattle.part_history.proofs.Numbered.{all_whole, insert_at}
 use Rattle.root_store.specs.ByteOrder.{AreInByteOrder}
 use Rattle.root_store.specs.Crashes.{AllStand, IsCrashSafe, IsFirstOf, IsMarkAfter, entries_of}
@@ -39,7 +39,7 @@ last_there names h s table some =
     let partition = last.insert.partition in
     let insert : IsNumberOfInsert table partition n h = record { from_one = omega (arith, some); insert = last.insert; there = last.there; partition_is = refl } in
     let once = (s.stand table).once partition n insert in
-    let found = counted_one (has_block partition n) (parts_of table s.parts) (omega (arith, once)) in
+    let found = counted_one (has_block partition n) (core_parts_of table s.parts) (omega (arith, once)) in
     let from = unfiltered (λ (x : CorePart). same_bytes x.table table) s.parts found.0 found.1 in
     (named found.0, ((s.visible (named found.0)).1 (map_item named s.parts found.0 from.0)).here, same_is found.0.table table from.1, (blocks partition n found.0 found.2).high)
 

@@ -8,7 +8,7 @@ use Rattle.table_core.specs.declared.event.Accept.TheVariants as accept
 use Rattle.table_core.specs.declared.event.Event.TheVariants as event
 use Rattle.table_core.specs.declared.event.Outcome.TheVariants as outcome
 use Rattle.table_core.specs.Core.{Core}
-use Rattle.table_core.specs.Steps.{Gives, MayAccept}
+use Rattle.table_core.specs.Steps.{GivesOutcome, MayAccept}
 use Rattle.root_store.specs.declared.store.CoreStore.{CoreStore}
 use Rattle.root_store.specs.Cores.{ShowsCore}
 use Rattle.root_commits.specs.Commits.{insert_into, partition_of_block}
@@ -21,5 +21,5 @@ accept_of_block session table schema block = accept.Insert session (insert_into 
 pub record IsAccepted {F : Type 0} (files_of : F → Option Files) (core : Core) (a : Accept) (store : CoreStore F) : Type 0 where
   pub next : Core
   pub may : MayAccept core.history a
-  pub gives : Gives core (event.Accept a) (outcome.Accepted (length core.history + 1)) next
+  pub gives : GivesOutcome core (event.Accept a) (outcome.Accepted (length core.history + 1)) next
   pub shows : ShowsCore files_of store next

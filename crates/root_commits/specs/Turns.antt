@@ -85,10 +85,10 @@ pub record IsNotGiven {S : Type 0} (sealed back : S) (cause : Refused) (was now 
   pub other : cause ≢ refused.Disk
 
 -- a turn was refused: before anything was given to the disk where what was sealed comes back, else after it
-abbrev pub IsRefused : {S : Type 0} → Turn → Storage → Storage → S → Returned S → Type 0
-IsRefused turn was now sealed r = MatchOption r.back (IsInDoubt turn r.cause was now) (λ back. IsNotGiven sealed back r.cause was now)
+abbrev pub IsTurnRefused : {S : Type 0} → Turn → Storage → Storage → S → Returned S → Type 0
+IsTurnRefused turn was now sealed r = MatchOption r.back (IsInDoubt turn r.cause was now) (λ back. IsNotGiven sealed back r.cause was now)
 
 -- what a turn does to the outside: it is done, or refused
 abbrev pub Turns : {T S : Type 0} → Turn → Storage → Storage → S → Result T (Returned S) → Type 0
 Turns turn was now sealed (Ok x) = IsDone turn was now
-Turns turn was now sealed (Err r) = IsRefused turn was now sealed r
+Turns turn was now sealed (Err r) = IsTurnRefused turn was now sealed r

@@ -14,7 +14,7 @@ use Rattle.mt_model.specs.Reply.{schema_of_text}
 use Rattle.mt_model.specs.Written.{IsWritten}
 use Rattle.mt_model.proofs.Keys.{statements_are}
 use Rattle.mt_model.proofs.Tables.{schema_is}
-use Rattle.root_store.specs.Entries.{schema_by, schema_by_items, schema_of_entry}
+use Rattle.root_store.specs.Entries.{schema_of_statement, schema_of_items, schema_of_entry}
 
 -- a CREATE that is written names a key
 key_named : (c : CreateText) → IsWritten (Ok (statement.Create c)) → 0 < length c.key
@@ -24,7 +24,7 @@ ok_is : (r : Result Schema Refusal) (schema : Schema) → result_ok r ≡ Some s
 ok_is (Ok x) schema is = cc
 ok_is (Err why) schema is = absurd cc
 
-by_statement : (table text : List ℕ) (schema : Schema) (s : Statement) → schema_by table text s ≡ Some schema → IsWritten (Ok s) → IsTableSchema schema
+by_statement : (table text : List ℕ) (schema : Schema) (s : Statement) → schema_of_statement table text s ≡ Some schema → IsWritten (Ok s) → IsTableSchema schema
 by_statement table text schema (statement.Insert i) is written = absurd cc
 by_statement table text schema (statement.Select i) is written = absurd cc
 by_statement table text schema (statement.Create c) is written = by (same_bytes c.table table && same_bytes c.text text) is
@@ -33,7 +33,7 @@ by_statement table text schema (statement.Create c) is written = by (same_bytes 
     by true found = schema_is c schema (ok_is (schema_of_text c) schema found) (key_named c written)
     by false none = absurd cc
 
-by_items : (table text : List ℕ) (schema : Schema) (items : List (Result Statement Cause)) → schema_by_items table text items ≡ Some schema → All IsWritten items → IsTableSchema schema
+by_items : (table text : List ℕ) (schema : Schema) (items : List (Result Statement Cause)) → schema_of_items table text items ≡ Some schema → All IsWritten items → IsTableSchema schema
 by_items table text schema [] is written = absurd cc
 by_items table text schema (Err why ∷ items) is written = absurd cc
 by_items table text schema (Ok s ∷ item ∷ items) is written = absurd cc

@@ -7,27 +7,27 @@ use Rattle.mt_values.specs.declared.statement.Statement.{Statement}
 use Rattle.mt_values.specs.Script.{Step, next_statement, statement_and, statements_of}
 use Rattle.mt_values.proofs.ScriptBounds.{statements_of_step}
 use Rattle.digest_file.specs.Spellings.{IsEntryOf}
-use Rattle.root_store.specs.Entries.{IsEntryWith, schema_by, schema_by_items, schema_of_entry}
+use Rattle.root_store.specs.Entries.{IsEntryWith, schema_of_statement, schema_of_items, schema_of_entry}
 use Rattle.root_store.proofs.EntryReads.{reads_as}
 
 -- a script without a statement gives a table no schema
-pub none_read : (table text script : List ℕ) → next_statement script ≡ None → schema_by_items table text (statements_of script) ≡ None
-none_read table text script none = ap (schema_by_items table text) (statements_of_step script ∙ ap (statement_and statements_of) none)
+pub none_read : (table text script : List ℕ) → next_statement script ≡ None → schema_of_items table text (statements_of script) ≡ None
+none_read table text script none = ap (schema_of_items table text) (statements_of_step script ∙ ap (statement_and statements_of) none)
 
 -- nor does one whose first text is refused
-pub refused_read : (table text script rest : List ℕ) (why : Cause) → next_statement script ≡ Some (Err why, rest) → schema_by_items table text (statements_of script) ≡ None
-refused_read table text script rest why next = ap (schema_by_items table text) (statements_of_step script ∙ ap (statement_and statements_of) next)
+pub refused_read : (table text script rest : List ℕ) (why : Cause) → next_statement script ≡ Some (Err why, rest) → schema_of_items table text (statements_of script) ≡ None
+refused_read table text script rest why next = ap (schema_of_items table text) (statements_of_step script ∙ ap (statement_and statements_of) next)
 
 -- what a script gives by its first statement and what comes after it
-first_read : (table text script rest : List ℕ) (s : Statement) → next_statement script ≡ Some (Ok s, rest) → schema_by_items table text (statements_of script) ≡ schema_by_items table text (Ok s ∷ statement_and statements_of (next_statement rest))
+first_read : (table text script rest : List ℕ) (s : Statement) → next_statement script ≡ Some (Ok s, rest) → schema_of_items table text (statements_of script) ≡ schema_of_items table text (Ok s ∷ statement_and statements_of (next_statement rest))
 first_read table text script rest s next =
-    ap (schema_by_items table text) (statements_of_step script ∙ (ap (statement_and statements_of) next ∙ ap (λ (items : List (Result Statement Cause)). Ok s ∷ items) (statements_of_step rest)))
+    ap (schema_of_items table text) (statements_of_step script ∙ (ap (statement_and statements_of) next ∙ ap (λ (items : List (Result Statement Cause)). Ok s ∷ items) (statements_of_step rest)))
 
-pub behind_read : (table text : List ℕ) (s : Statement) (o : Option Step) → is_some o ≡ true → schema_by_items table text (Ok s ∷ statement_and statements_of o) ≡ None
+pub behind_read : (table text : List ℕ) (s : Statement) (o : Option Step) → is_some o ≡ true → schema_of_items table text (Ok s ∷ statement_and statements_of o) ≡ None
 behind_read table text s None more = absurd cc
 behind_read table text s (Some found) more = refl
 
-pub alone_read : (table text : List ℕ) (s : Statement) (o : Option Step) → is_some o ≡ false → schema_by_items table text (Ok s ∷ statement_and statements_of o) ≡ schema_by table text s
+pub alone_read : (table text : List ℕ) (s : Statement) (o : Option Step) → is_some o ≡ false → schema_of_items table text (Ok s ∷ statement_and statements_of o) ≡ schema_of_statement table text s
 alone_read table text s None none = refl
 alone_read table text s (Some found) none = absurd cc
 
@@ -51,9 +51,9 @@ read_on (Err f) x y is same = tt
 
 -- what a script gives by its first statement is what this gives with what comes after it
 pub read_alone : {F : Type 0} (r : Result (Option Schema) F) (table text script : List ℕ) (used : ℕ) (s : Statement) → next_statement script ≡ Some (Ok s, drop used script)
-    → IfOk r (λ found. found ≡ schema_by_items table text (Ok s ∷ statement_and statements_of (next_statement (take (length script - used) (drop used script))))) → IfOk r (λ found. found ≡ schema_by_items table text (statements_of script))
+    → IfOk r (λ found. found ≡ schema_of_items table text (Ok s ∷ statement_and statements_of (next_statement (take (length script - used) (drop used script))))) → IfOk r (λ found. found ≡ schema_of_items table text (statements_of script))
 read_alone r table text script used s next is =
-    read_on r _ _ is (first_read table text script (drop used script) s next ∙ ap (λ (t : List ℕ). schema_by_items table text (Ok s ∷ statement_and statements_of (next_statement t))) (sym (sliced script used)))
+    read_on r _ _ is (first_read table text script (drop used script) s next ∙ ap (λ (t : List ℕ). schema_of_items table text (Ok s ∷ statement_and statements_of (next_statement t))) (sym (sliced script used)))
 
 pub told_entry : {F : Type 0} (r : Result (Option Schema) F) (table bytes text : List ℕ) → IsEntryOf bytes text → IfOk r (λ found. found ≡ schema_of_entry table text) → IfOk r (λ found. IfSome found (λ schema. IsEntryWith table schema bytes))
 told_entry (Ok found) table bytes text entry is = entry_found table bytes text entry found is

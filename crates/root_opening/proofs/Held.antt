@@ -17,13 +17,13 @@ use Rattle.part_set.specs.Sets.{parts_of}
 use Rattle.root_store.specs.declared.store.CoreStore.{CoreStore}
 use Rattle.root_store.specs.declared.store.Table.{Table}
 use Rattle.root_store.specs.Damage.{DamagedAt}
-use Rattle.root_store.specs.Soundness.{HasSoundParts, HoldsRows, IsSound}
+use Rattle.root_store.specs.Soundness.{HasSoundParts, HoldsRows, IsSoundStore}
 use Rattle.root_store.specs.Stores.{StoreOf}
 use Rattle.root_store.proofs.Items.{map_item}
 
 module _ {F : Type 0} (files_of : F → Option Files) where
   -- a root of which no file is damaged was opened
-  pub held_opened : (names : Names) (store : CoreStore F) (o : StoreOf files_of names store) → IsSound store → ((place : ℕ) (f : FileId) → DamagedAt names o.read place f → ⊥) → HasSoundParts files_of store
+  pub held_opened : (names : Names) (store : CoreStore F) (o : StoreOf files_of names store) → IsSoundStore store → ((place : ℕ) (f : FileId) → DamagedAt names o.read place f → ⊥) → HasSoundParts files_of store
   held_opened names store o sound undamaged = λ table t at k d within.
       let kept = o.kept table t at k d within in
       let part = get_or (parts_of store.set table) k d in

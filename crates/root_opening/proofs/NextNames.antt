@@ -40,7 +40,7 @@ use Rattle.root_store.specs.Damage.{DamagedAt, IsDamaged}
 use Rattle.root_opening.specs.Keeping.{IsNamedRoot, IsSeen, IsTextsOf, Keeps, KeepsTold, TellsFile}
 use Rattle.root_opening.specs.Opening.{TellsDamage}
 use Rattle.root_store.specs.Roots.{AreRead}
-use Rattle.root_store.specs.Soundness.{IsSound}
+use Rattle.root_store.specs.Soundness.{IsSoundStore}
 use Rattle.root_store.specs.Stores.{CoreStands, StoreOf, table_at}
 use Rattle.root_store.proofs.Items.{item_either, mapped}
 use Rattle.root_store.proofs.Tabled.{never_below}
@@ -197,7 +197,7 @@ module _ {F : Type 0} (r : Root) (named : IsNamedRoot r) (store : CoreStore F) (
   read_soundly : (part : TablePart) → HasPart r.names.items part → IsRootName (root.Part part)
   read_soundly part has = All-contains IsRootName r.names.items (root.Part part) named.are.sound has
 
-  pub sound_store : IsSound Whole_
+  pub sound_store : IsSoundStore Whole_
   sound_store = record {
     tables = λ table t at.
         let s = k.known table t at in

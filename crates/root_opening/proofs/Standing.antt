@@ -46,7 +46,7 @@ use Rattle.part_set.proofs.Items.{item_first, item_none}
 use Rattle.part_set.proofs.Maps.{found_is}
 use Rattle.part_set.proofs.Orphans.{item_more}
 use Rattle.part_history.specs.declared.part.CorePart.{CorePart}
-use Rattle.part_history.specs.Parts.{PartStands, has_block, parts_of}
+use Rattle.part_history.specs.Parts.{PartStands, has_block, core_parts_of}
 use Rattle.part_history.proofs.Growing.{number_drawn}
 use Rattle.part_history.proofs.Numbered.{all_whole, insert_at}
 use Rattle.root_store.specs.declared.store.CoreStore.{CoreStore}
@@ -232,7 +232,7 @@ module _ {F : Type 0} (files_of : F → Option Files) (names : Names) (h : Histo
     kept_here : (partition : Partition) (n : ℕ) (r : RowsOf (sets.parts_of store.set table)) → IsNumberOfInsert table partition n h → 1 ≤ count_by (has_block partition n) (core_parts table (sets.parts_of store.set table) r.rows)
     kept_here partition n r is =
         let once = (s.stand table).once partition n is in
-        let found = counted_one (has_block partition n) (parts_of table s.parts) (omega (arith, once)) in
+        let found = counted_one (has_block partition n) (core_parts_of table s.parts) (omega (arith, once)) in
         let p = found.0 in
         let from = unfiltered (λ (x : CorePart). same_bytes x.table table) s.parts p found.1 in
         let own : p.table ≡ table = same_is p.table table from.1 in
@@ -288,7 +288,7 @@ module _ {F : Type 0} (files_of : F → Option Files) (names : Names) (h : Histo
           let partition = last.insert.partition in
           let insert : IsNumberOfInsert table partition n h = record { from_one = omega (arith, some); insert = last.insert; there = last.there; partition_is = refl } in
           let once = (s.stand table).once partition n insert in
-          let found = counted_one (has_block partition n) (parts_of table s.parts) (omega (arith, once)) in
+          let found = counted_one (has_block partition n) (core_parts_of table s.parts) (omega (arith, once)) in
           let from = unfiltered (λ (x : CorePart). same_bytes x.table table) s.parts found.0 found.1 in
           let visible = subst (λ (r : List RootName). IsVisible r (named found.0)) (sym same_read) ((s.visible (named found.0)).1 (map_item named s.parts found.0 from.0)) in
           let most = (o.tables table t at).drawn.most (named found.0) visible (same_is found.0.table table from.1) in

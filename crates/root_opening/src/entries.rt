@@ -5,7 +5,7 @@ ghost use Rattle.mt_values.specs.Script.{next_statement, statement_and, statemen
 ghost use Rattle.mt_outside.specs.Causes.{Rose};
 ghost use Rattle.mt_outside.specs.Files.{Files};
 ghost use Rattle.mt_model.specs.History.{IsTableSchema};
-ghost use Rattle.root_store.specs.Entries.{EntryHolds, IsEntryWith, schema_by, schema_by_items, schema_of_entry};
+ghost use Rattle.root_store.specs.Entries.{EntryHolds, IsEntryWith, schema_of_statement, schema_of_items, schema_of_entry};
 
 use digest_file::read_entry;
 use mt_base::{NoMemory, Seq};
@@ -17,13 +17,13 @@ use sql_read::{Next, next_statement};
 use std::alloc::Global;
 
 // The schema that a statement with this text gives a table: none where it is no CREATE of the table, has another text, or is refused.
-fn schema_by(
+fn schema_of_statement(
     alloc: Global,
     table: &Name,
     text: &[u8],
     statement: &Statement,
 ) -> Result<Option<Schema>, NoMemory>
-    ensures { IfOk result (λ found. found ≡ schema_by table.now text.now statement.now) }
+    ensures { IfOk result (λ found. found ≡ schema_of_statement table.now text.now statement.now) }
 {
     let Statement::Create(create) = statement else {
         return Ok(None);
@@ -57,11 +57,11 @@ fn schema_alone(
     statement: &Statement,
     after: &[u8],
 ) -> Result<Option<Schema>, NoMemory>
-    ensures { IfOk result (λ found. found ≡ schema_by_items table.now text.now
+    ensures { IfOk result (λ found. found ≡ schema_of_items table.now text.now
         (Ok statement.now ∷ statement_and statements_of (next_statement after.now))) }
 {
     match has_statement(alloc, after) {
-        Ok(false) => schema_by(alloc, table, text, statement),
+        Ok(false) => schema_of_statement(alloc, table, text, statement),
         Ok(true) => Ok(None),
         Err(error) => Err(error),
     }
@@ -76,7 +76,7 @@ fn schema_in(
     text: &[u8],
     script: &[u8],
 ) -> Result<Option<Schema>, NoMemory>
-    ensures { IfOk result (λ found. found ≡ schema_by_items table.now text.now
+    ensures { IfOk result (λ found. found ≡ schema_of_items table.now text.now
         (statements_of script.now)) }
 {
     match next_statement(alloc, script, true) {

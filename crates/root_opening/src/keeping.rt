@@ -18,7 +18,7 @@ ghost use Rattle.part_set.specs.Visible.{HasTable, IsVisible};
 ghost use Rattle.root_store.specs.Damage.{DamagedAt, IsDamaged};
 ghost use Rattle.root_opening.specs.Keeping.{IsNamedRoot, IsTextsOf, Keeps, KeepsTold, TellsFile};
 ghost use Rattle.root_opening.specs.Opening.{TellsDamage};
-ghost use Rattle.root_store.specs.Soundness.{IsSound};
+ghost use Rattle.root_store.specs.Soundness.{IsSoundStore};
 ghost use Rattle.root_store.specs.Stores.{StoreOf, table_at};
 
 use crate::checking::{check_table, check_table_part};
@@ -258,7 +258,7 @@ pub fn keep_root<D: Disk>(
     // What the store is then, and what damage is told.
     ensures store { (told : Told) → D.told disk.old ≡ Some told
         → IfOk result (StoreOf D.Arm.Dir.files (names_of told)) }
-    ensures sound { IfOk result IsSound }
+    ensures sound { IfOk result IsSoundStore }
     ensures undamaged { (told : Told) (place : ℕ) (f : FileId) → D.told disk.old ≡ Some told
         → DamagedAt (names_of told) root.now.names.items place f → OnOk result ⊥ }
     ensures damaged { (told : Told) → D.told disk.old ≡ Some told

@@ -16,7 +16,7 @@ ghost use Rattle.root_opening.specs.Keeping.{IsBadNameAt, IsDamageOfSet, IsNamed
 ghost use Rattle.root_opening.specs.Names.{AreNamesOf, IsFirstBadText, creates_in};
 ghost use Rattle.root_opening.specs.Opening.{IsNotDamaged, IsRootDamage, TellsDamage};
 ghost use Rattle.root_store.specs.Roots.{Stands};
-ghost use Rattle.root_store.specs.Soundness.{HasSoundParts, IsSound, NamesFit};
+ghost use Rattle.root_store.specs.Soundness.{HasSoundParts, IsSoundStore, NamesFit};
 ghost use Rattle.root_store.specs.Stores.{CoreStands, StoreOf};
 
 use crate::keeping::keep_root;
@@ -176,7 +176,7 @@ pub fn open<D: Disk>(
         → MatchResult result (CoreStands D.Arm.Dir.files h) IsNotDamaged }
     ensures core { (told : Told) (h : History) → D.told disk.old ≡ Some told
         → Stands (names_of told) h → IfOk result (ShowsCoreOf D.Arm.Dir.files h) }
-    ensures sound { IfOk result IsSound }
+    ensures sound { IfOk result IsSoundStore }
     ensures held { (told : Told) → D.told disk.old ≡ Some told
         → IfOk result (HasSoundParts D.Arm.Dir.files) }
     ensures names { (told : Told) → D.told disk.old ≡ Some told

@@ -11,7 +11,7 @@ use Rattle.mt_model.proofs.Tables.{itself_same}
 use Rattle.part_set.specs.declared.root_name.TablePart.{TablePart}
 use Rattle.part_set.specs.Visible.{Overlap}
 use Rattle.part_history.specs.declared.part.CorePart.{CorePart}
-use Rattle.part_history.specs.Parts.{PartStands, has_block, parts_of}
+use Rattle.part_history.specs.Parts.{PartStands, has_block, core_parts_of}
 use Rattle.part_history.proofs.Apart.{has_at}
 use Rattle.root_store.specs.Roots.{Stands, named}
 use Rattle.root_store.proofs.Items.{filtered, two_count}
@@ -22,12 +22,12 @@ pub block_here : (part : CorePart) (partition : Partition) (n : ℕ) → part.na
 block_here part partition n same low high = has_at partition n part same low high
 
 -- a part of a table is among its parts
-pub of_table : (table : List ℕ) (parts : List CorePart) (part : CorePart) → HasItem parts part → part.table ≡ table → HasItem (parts_of table parts) part
+pub of_table : (table : List ℕ) (parts : List CorePart) (part : CorePart) → HasItem parts part → part.table ≡ table → HasItem (core_parts_of table parts) part
 of_table table parts part here is = filtered (λ (p : CorePart). same_bytes p.table table) parts part here (ap (λ (t : List ℕ). same_bytes t table) is ∙ itself_same table)
 
 module _ (names : Names) (h : History) (s : Stands names h) where
   pub part_stands : (part : CorePart) → HasItem s.parts part → PartStands h part
-  part_stands part here = All-contains (PartStands h) (parts_of part.table s.parts) part (s.stand part.table).each (of_table part.table s.parts part here refl)
+  part_stands part here = All-contains (PartStands h) (core_parts_of part.table s.parts) part (s.stand part.table).each (of_table part.table s.parts part here refl)
 
   -- no two parts of a table have the least block of one of them
   one_block : (x y : CorePart) → HasItem s.parts x → HasItem s.parts y → x.table ≡ y.table → (x ≡ y → ⊥) → x.name.partition ≡ y.name.partition
@@ -36,7 +36,7 @@ module _ (names : Names) (h : History) (s : Stands names h) where
       let n = y.name.min_block in
       let test = has_block y.name.partition n in
       let once = (s.stand y.table).once y.name.partition n (part_stands y second).least in
-      let twice = two_count test (parts_of y.table s.parts) x y apart (of_table y.table s.parts x first same) (of_table y.table s.parts y second refl)
+      let twice = two_count test (core_parts_of y.table s.parts) x y apart (of_table y.table s.parts x first same) (of_table y.table s.parts y second refl)
       (block_here x y.name.partition n partition low high) (block_here y y.name.partition n refl (omega arith) own) in
       omega (arith, once, twice)
 

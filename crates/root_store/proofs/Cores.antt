@@ -27,7 +27,7 @@ use Rattle.part_set.specs.declared.kept.Kept.{Kept}
 use Rattle.part_set.specs.Sets as sets
 use Rattle.part_set.proofs.Maps.{found_is}
 use Rattle.part_history.specs.declared.part.CorePart.{CorePart}
-use Rattle.part_history.specs.Parts.{AreInBlockOrder, PartStands, TableStands, parts_of}
+use Rattle.part_history.specs.Parts.{AreInBlockOrder, PartStands, TableStands, core_parts_of}
 use Rattle.table_core.specs.Core.{Core, IsCore, IsSnapshot}
 use Rattle.table_core.proofs.Keeping.{none_numbered, others_none, own_all}
 use Rattle.root_store.specs.declared.store.CoreStore.{CoreStore}
@@ -75,10 +75,10 @@ module _ {F : Type 0} (files_of : F → Option Files) where
 -- ---- what a store shows
 
 module _ {F : Type 0} (files_of : F → Option Files) (store : CoreStore F) (core : Core) (s : ShowsCore files_of store core) where
-  shown_table : (table : List ℕ) → StandInOrder table core.history (parts_of table core.parts)
+  shown_table : (table : List ℕ) → StandInOrder table core.history (core_parts_of table core.parts)
   shown_table table = by (table_at store table) refl
     where
-      by : (found : Option Table) → table_at store table ≡ found → StandInOrder table core.history (parts_of table core.parts)
+      by : (found : Option Table) → table_at store table ≡ found → StandInOrder table core.history (core_parts_of table core.parts)
       by None none =
           let absent : schema_of table core.history ≡ None = sym (s.stands.tables table) ∙ ap (option_map (λ (t : Table). t.schema)) none in
           subst (StandInOrder table core.history) (sym (s.no_other table none)) (none_stand core.history table s.stands.legal absent, none_in_order)
@@ -87,7 +87,7 @@ module _ {F : Type 0} (files_of : F → Option Files) (store : CoreStore F) (cor
           let shown = s.parts table t at in
           let ks = sets.parts_of store.set table in
           let rows = one_list files_of t.schema ks there.rows shown.rows there.hold shown.hold in
-          let are : core_parts table ks there.rows ≡ parts_of table core.parts = ap (core_parts table ks) rows ∙ sym shown.same in
+          let are : core_parts table ks there.rows ≡ core_parts_of table core.parts = ap (core_parts table ks) rows ∙ sym shown.same in
           subst (StandInOrder table core.history) are (there.stand, there.order)
 
   -- what always holds of the core holds of a state that a store shows, where its snapshots are of its history
@@ -155,18 +155,18 @@ module _ {F : Type 0} (files_of : F → Option Files) (h : History) (store : Cor
   all_parts [] = []
   all_parts (name ∷ names) = cond (has names name) (all_parts names) (parts_at name ++ all_parts names)
 
-  own_at : (table : List ℕ) → parts_of table (parts_at table) ≡ parts_at table
+  own_at : (table : List ℕ) → core_parts_of table (parts_at table) ≡ parts_at table
   own_at table = own_all table (parts_at table) (own_by table (table_at store table) refl)
 
-  parts_among : (names : List (List ℕ)) (table : List ℕ) → parts_of table (all_parts names) ≡ cond (has names table) (parts_at table) []
+  parts_among : (names : List (List ℕ)) (table : List ℕ) → core_parts_of table (all_parts names) ≡ cond (has names table) (parts_at table) []
   parts_among [] table = refl
   parts_among (name ∷ names) table = by (has names name) refl (is_at (slice_cmp nat_cmp table) name) refl (parts_among names table)
     where
       test : CorePart → Bool
       test p = same_bytes p.table table
 
-      by : (b : Bool) → has names name ≡ b → (c : Bool) → is_at (slice_cmp nat_cmp table) name ≡ c → parts_of table (all_parts names) ≡ cond (has names table) (parts_at table) []
-          → parts_of table (cond b (all_parts names) (parts_at name ++ all_parts names)) ≡ cond (c || has names table) (parts_at table) []
+      by : (b : Bool) → has names name ≡ b → (c : Bool) → is_at (slice_cmp nat_cmp table) name ≡ c → core_parts_of table (all_parts names) ≡ cond (has names table) (parts_at table) []
+          → core_parts_of table (cond b (all_parts names) (parts_at name ++ all_parts names)) ≡ cond (c || has names table) (parts_at table) []
       by true again true hit rest =
           let among : has names table ≡ true = ap (has names) (found_is table name hit) ∙ again in
           rest ∙ ap (λ (b : Bool). cond b (parts_at table) []) among
@@ -174,7 +174,7 @@ module _ {F : Type 0} (files_of : F → Option Files) (h : History) (store : Cor
       by false first true hit rest =
           let same = found_is table name hit in
           let none : has names table ≡ false = ap (has names) same ∙ first in
-          subst (λ (n : List ℕ). parts_of table (parts_at n ++ all_parts names) ≡ parts_at table) same
+          subst (λ (n : List ℕ). core_parts_of table (parts_at n ++ all_parts names) ≡ parts_at table) same
           (filter-append test (parts_at table) (all_parts names)
           ∙ (ap₂ (λ (xs ys : List CorePart). xs ++ ys) (own_at table) (rest ∙ ap (λ (b : Bool). cond b (parts_at table) []) none) ∙ append-nil (parts_at table)))
       by false first false miss rest =
@@ -184,7 +184,7 @@ module _ {F : Type 0} (files_of : F → Option Files) (h : History) (store : Cor
   abbrev state : Core
   state = record { parts = all_parts (keys_of store.tables.entries); history = h; snapshots = [] }
 
-  parts_are : (table : List ℕ) → parts_of table state.parts ≡ parts_at table
+  parts_are : (table : List ℕ) → core_parts_of table state.parts ≡ parts_at table
   parts_are table =
       parts_among (keys_of store.tables.entries) table
       ∙ (ap (λ (b : Bool). cond b (parts_at table) []) (sym (is_some-lookup (is_at (slice_cmp nat_cmp table)) store.tables.entries)) ∙ by (table_at store table) refl)

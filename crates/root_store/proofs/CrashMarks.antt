@@ -10,7 +10,7 @@ use Rattle.mt_outside.specs.Disk.{Image, Names, Since, Told, at_clock, names_of}
 use Rattle.mt_outside.proofs.Changes.{image_from_left, left_at_all, since-sync, survive_same}
 use Rattle.mt_outside.proofs.Crashes.{image_as_read, image_synced, stamped_sync}
 use Rattle.mt_model.specs.History.{History}
-use Rattle.root_store.specs.Crashes.{AllStand, Begins, HoldsFirst, IsCrashSafe, IsFirstOf, IsMarkAfter, entries_of, none_begun}
+use Rattle.root_store.specs.Crashes.{AllStand, BeginsWith, HoldsFirst, IsCrashSafe, IsFirstOf, IsMarkAfter, entries_of, none_begun}
 use Rattle.root_store.specs.Roots.{Stands}
 
 -- ---- numbers, and options that are equal
@@ -76,7 +76,7 @@ pub all_entries : (list : List Noted) → take (length list) (entries_of list) �
 all_entries list = take_all (length list) (entries_of list) (let same = length-map list (λ (n : Noted). n.entry) in omega (arith, same))
 
 -- a list that begins with another is no shorter
-pub no_shorter : (first list : List Noted) → Begins first list → length first ≤ length list
+pub no_shorter : (first list : List Noted) → BeginsWith first list → length first ≤ length list
 no_shorter first list begins = (let count = ap length begins.1 ∙ length-append first begins.0 in omega (arith, count))
 
 -- what holds of the list alone holds whatever is begun

@@ -15,7 +15,7 @@ use Rattle.mt_model.specs.declared.refusal.Refusal.{Refusal}
 use Rattle.mt_model.specs.Commands.{commands_of, create_commands, no_commands}
 use Rattle.mt_model.specs.Reply.{columns_of_select, schema_of_text}
 use Rattle.mt_model.proofs.Tables.{itself_same, same_is}
-use Rattle.root_store.specs.Entries.{ReadsAs, create_of, schema_by, schema_by_items, schema_of_entry, text_of}
+use Rattle.root_store.specs.Entries.{ReadsAs, create_of, schema_of_statement, schema_of_items, schema_of_entry, entry_text}
 
 abbrev Item : Type 0
 Item = Result Statement Cause
@@ -50,9 +50,9 @@ ok_is (Err why) schema is = absurd cc
 
 -- what a statement is by which a schema is found: it gives the command, and its text is the entry's
 abbrev IsFound : List ℕ → List ℕ → Schema → Statement → Type 0
-IsFound table text schema s = (commands_of [] s ≡ Ok (create_of table schema ∷ [])) × (text_of s ≡ Some text)
+IsFound table text schema s = (commands_of [] s ≡ Ok (create_of table schema ∷ [])) × (entry_text s ≡ Some text)
 
-statement_gives : (table text : List ℕ) (schema : Schema) (s : Statement) → schema_by table text s ≡ Some schema → IsFound table text schema s
+statement_gives : (table text : List ℕ) (schema : Schema) (s : Statement) → schema_of_statement table text s ≡ Some schema → IsFound table text schema s
 statement_gives table text schema (statement.Insert i) is = absurd cc
 statement_gives table text schema (statement.Select s) is = absurd cc
 statement_gives table text schema (statement.Create c) is = by (same_bytes c.table table) (same_bytes c.text text) refl refl is
@@ -65,7 +65,7 @@ statement_gives table text schema (statement.Create c) is = by (same_bytes c.tab
     by true false same other none = absurd cc
     by false b other spelled none = absurd cc
 
-items_read : (table text : List ℕ) (schema : Schema) (items : List Item) → statements_of (text ++ codes ";") ≡ items → schema_by_items table text items ≡ Some schema → ReadsAs text (create_of table schema)
+items_read : (table text : List ℕ) (schema : Schema) (items : List Item) → statements_of (text ++ codes ";") ≡ items → schema_of_items table text items ≡ Some schema → ReadsAs text (create_of table schema)
 items_read table text schema [] are is = absurd cc
 items_read table text schema (Err why ∷ items) are is = absurd cc
 items_read table text schema (Ok s ∷ item ∷ items) are is = absurd cc
@@ -82,7 +82,7 @@ no_create (Ok columns) c is = cc
 no_create (Err why) c is = cc
 
 created_by : (table text : List ℕ) (schema : Schema) (c : CreateText) (r : Result Schema Refusal) → c.text ≡ text → schema_of_text c ≡ r → create_commands c.table r ≡ Ok (create_of table schema ∷ [])
-    → schema_by table text (statement.Create c) ≡ Some schema
+    → schema_of_statement table text (statement.Create c) ≡ Some schema
 created_by table text schema c (Err why) spelled read is = absurd cc
 created_by table text schema c (Ok x) spelled read is =
     let one = one_create (record { table = c.table; schema = x }) (record { table = table; schema = schema }) (one_given (create_of c.table x) (create_of table schema) is) in
@@ -93,11 +93,11 @@ created_by table text schema c (Ok x) spelled read is =
 one_text : (a b : List ℕ) → ◌≡◌ {A = Option (List ℕ)} (Some a) (Some b) → a ≡ b
 one_text a b is = cc
 
-given_by : (table text : List ℕ) (schema : Schema) (s : Statement) → text_of s ≡ Some text → commands_of [] s ≡ Ok (create_of table schema ∷ []) → schema_by table text s ≡ Some schema
+given_by : (table text : List ℕ) (schema : Schema) (s : Statement) → entry_text s ≡ Some text → commands_of [] s ≡ Ok (create_of table schema ∷ []) → schema_of_statement table text s ≡ Some schema
 given_by table text schema (statement.Create c) spelled is = created_by table text schema c (schema_of_text c) (one_text c.text text spelled) refl is
 given_by table text schema (statement.Insert i) spelled is = absurd cc
 given_by table text schema (statement.Select s) spelled is = absurd (no_create (columns_of_select s []) (create_of table schema) is)
 
 -- and one that reads so has the schema
 pub found_as : (table text : List ℕ) (schema : Schema) → ReadsAs text (create_of table schema) → schema_of_entry table text ≡ Some schema
-found_as table text schema reads = ap (schema_by_items table text) reads.alone ∙ given_by table text schema reads.statement reads.spelled reads.gives
+found_as table text schema reads = ap (schema_of_items table text) reads.alone ∙ given_by table text schema reads.statement reads.spelled reads.gives

@@ -23,7 +23,7 @@ use Rattle.part_set.specs.declared.root_name.TablePart.{TablePart}
 use Rattle.part_set.specs.RootNames.{root_text}
 use Rattle.part_set.specs.Visible.{IsVisible}
 use Rattle.part_history.specs.declared.part.CorePart.{CorePart}
-use Rattle.part_history.specs.Parts.{parts_of}
+use Rattle.part_history.specs.Parts.{core_parts_of}
 use Rattle.part_history.proofs.Apart.{may_have}
 use Rattle.root_store.specs.Damage.{DamagedAt, IsDamaged, PartDamaged}
 use Rattle.root_store.specs.Entries.{EntryHolds, ReadsAs, create_of}
@@ -77,9 +77,9 @@ module _ (names : Names) (h : History) (s : Stands names h) where
   may part schema visible known =
       let c = of_core names h s part visible in
       let table : c.core.table ≡ part.table = ap (λ (p : TablePart). p.table) c.name_is in
-      let all = may_have h part.table schema (parts_of part.table s.parts) s.legal known (s.stand part.table) in
+      let all = may_have h part.table schema (core_parts_of part.table s.parts) s.legal known (s.stand part.table) in
       subst (λ (p : TablePart). MayHavePartition schema p.name.partition) c.name_is
-      (All-contains (λ (p : CorePart). MayHavePartition schema p.name.partition) (parts_of part.table s.parts) c.core all (of_table part.table s.parts c.core c.here table))
+      (All-contains (λ (p : CorePart). MayHavePartition schema p.name.partition) (core_parts_of part.table s.parts) c.core all (of_table part.table s.parts c.core c.here table))
 
   entry_sound : (table : List ℕ) (files : Files) → HasItem s.read (root.Create table) → files_at (create_name table) names ≡ Some files → ((schema : Schema) → EntryHolds table schema files → ⊥) → ⊥
   entry_sound table files here at damaged =

@@ -9,7 +9,7 @@ use Rattle.part_reader.specs.declared.reading.Part.{Part}
 use Rattle.part_reader.specs.Parts.{PartHolds}
 use Rattle.part_set.specs.declared.kept.Kept.{Kept}
 use Rattle.part_set.specs.Sets as sets
-use Rattle.part_history.specs.Parts.{parts_of}
+use Rattle.part_history.specs.Parts.{core_parts_of}
 use Rattle.table_core.specs.Core.{Core, IsCore}
 use Rattle.root_store.specs.declared.store.CoreStore.{CoreStore}
 use Rattle.root_store.specs.declared.store.Table.{Table}
@@ -20,13 +20,13 @@ pub record ShowsParts {F : Type 0} (files_of : F → Option Files) (store : Core
     (table : List ℕ) (schema : Schema) : Type 0 where
   pub rows : List (List Row)
   pub hold : AllZip (λ (k : Kept (Part F)) (r : List Row). PartHolds files_of schema k.part r) (sets.parts_of store.set table) rows
-  pub same : parts_of table core.parts ≡ core_parts table (sets.parts_of store.set table) rows
+  pub same : core_parts_of table core.parts ≡ core_parts table (sets.parts_of store.set table) rows
 
 -- a store shows a state of the core: it stands for the state's history, and its parts hold the rows that the state has of them
 pub record ShowsCore {F : Type 0} (files_of : F → Option Files) (store : CoreStore F) (core : Core) : Type 0 where
   pub stands : CoreStands files_of core.history store
   pub parts : (table : List ℕ) (t : Table) → table_at store table ≡ Some t → ShowsParts files_of store core table t.schema
-  pub no_other : (table : List ℕ) → table_at store table ≡ None → parts_of table core.parts ≡ []
+  pub no_other : (table : List ℕ) → table_at store table ≡ None → core_parts_of table core.parts ≡ []
 
 -- a store shows a state of the core with this history and no snapshots, of which holds what always holds
 pub record ShowsCoreOf {F : Type 0} (files_of : F → Option Files) (h : History) (store : CoreStore F) : Type 0 where

@@ -44,8 +44,8 @@ IsMarkAfter base start list m mark =
     ((m ≡ base) × (mark ≡ start)) ⊎ ((n : ℕ) × (last : Noted) × (base ≤ n) × (m ≡ n + 1) × (slice_get list n ≡ Some last) × (mark ≡ last.mark))
 
 -- the list begins with these entries
-abbrev pub Begins : List Noted → List Noted → Type 0
-Begins first list = (more : List Noted) × (list ≡ first ++ more)
+abbrev pub BeginsWith : List Noted → List Noted → Type 0
+BeginsWith first list = (more : List Noted) × (list ≡ first ++ more)
 
 -- a list, and nothing that is begun
 abbrev pub none_begun : List Noted → keeper.Told
@@ -55,7 +55,7 @@ none_begun list = record { list = list; begun = None }
 -- a moment when the first m entries were noted holds them: it stands for the first entries, these or more, or for all of them and the one that is begun.
 pub record IsCrashSafe (told : Told) (clock : ℕ) (kept : keeper.Told) (first : List Noted) (start : ℕ) : Type 0 where
   pub stamped : IsStamped clock told
-  pub begins : Begins first kept.list
+  pub begins : BeginsWith first kept.list
   pub at_start : (names : Names) → LeftAt told start 0 names → Stands names (entries_of first)
   pub past : (m mark : ℕ) → IsMarkAfter (length first) start kept.list m mark → mark ≤ clock
   pub images : (m mark : ℕ) (names : Names) → IsMarkAfter (length first) start kept.list m mark → Since told clock mark names → HoldsFirst m kept.list kept.begun names

@@ -18,36 +18,36 @@ use Rattle.mt_model.specs.Commands.{commands_of}
 use Rattle.mt_model.specs.Reply.{schema_of_text}
 
 -- the text of a statement that has an entry, from its first token up to its semicolon (docs/formats.md, "Entries")
-abbrev pub text_of : Statement → Option (List ℕ)
-text_of (statement.Create c) = Some c.text
-text_of (statement.Insert i) = None
-text_of (statement.Select s) = None
+abbrev pub entry_text : Statement → Option (List ℕ)
+entry_text (statement.Create c) = Some c.text
+entry_text (statement.Insert i) = None
+entry_text (statement.Select s) = None
 
 -- the schema that a statement with this text gives a table: it is a CREATE of the table that no rule refuses
-abbrev pub schema_by : List ℕ → List ℕ → Statement → Option Schema
-schema_by table text (statement.Create c) =
+abbrev pub schema_of_statement : List ℕ → List ℕ → Statement → Option Schema
+schema_of_statement table text (statement.Create c) =
     if same_bytes c.table table && same_bytes c.text text then result_ok (schema_of_text c) else None
-schema_by table text (statement.Insert i) = None
-schema_by table text (statement.Select s) = None
+schema_of_statement table text (statement.Insert i) = None
+schema_of_statement table text (statement.Select s) = None
 
 -- the same of what a text is read as: one statement, and no more
-abbrev pub schema_by_items : List ℕ → List ℕ → List (Result Statement Cause) → Option Schema
-schema_by_items table text [] = None
-schema_by_items table text (Err why ∷ items) = None
-schema_by_items table text (Ok s ∷ []) = schema_by table text s
-schema_by_items table text (Ok s ∷ item ∷ items) = None
+abbrev pub schema_of_items : List ℕ → List ℕ → List (Result Statement Cause) → Option Schema
+schema_of_items table text [] = None
+schema_of_items table text (Err why ∷ items) = None
+schema_of_items table text (Ok s ∷ []) = schema_of_statement table text s
+schema_of_items table text (Ok s ∷ item ∷ items) = None
 
 -- the schema that the text of an entry gives a table: the text and a semicolon are one statement, a CREATE of the table, whose own text
 -- is this one, with nothing before it and nothing after it (docs/formats.md, "Entries")
 abbrev pub schema_of_entry : List ℕ → List ℕ → Option Schema
-schema_of_entry table text = schema_by_items table text (statements_of (text ++ codes ";"))
+schema_of_entry table text = schema_of_items table text (statements_of (text ++ codes ";"))
 
 -- A text reads as a command: the text and a semicolon are one statement, whose own text is this one, and which gives this command and no
 -- other (docs/formats.md, "Entries").
 pub record ReadsAs (text : List ℕ) (command : Command) : Type 0 where
   pub statement : Statement
   pub alone : statements_of (text ++ codes ";") ≡ Ok statement ∷ []
-  pub spelled : text_of statement ≡ Some text
+  pub spelled : entry_text statement ≡ Some text
   pub gives : commands_of [] statement ≡ Ok (command ∷ [])
 
 -- bytes are the entry of a command: those of a text that reads as it, and whose length fits the number before it

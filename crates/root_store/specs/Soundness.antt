@@ -33,7 +33,7 @@ pub record IsSoundTable {F : Type 0} (store : CoreStore F) (table : List ℕ) (t
   pub order : All (λ (k : Kept (Part F)). k.name.min_block ≤ k.name.max_block) (parts_of store.set table)
 
 -- each table is so, and no other has parts
-pub record IsSound {F : Type 0} (store : CoreStore F) : Type 0 where
+pub record IsSoundStore {F : Type 0} (store : CoreStore F) : Type 0 where
   pub tables : (table : List ℕ) (t : Table) → table_at store table ≡ Some t → IsSoundTable store table t
   pub no_other : (table : List ℕ) → table_at store table ≡ None → parts_of store.set table ≡ []
 
@@ -56,7 +56,7 @@ NamesFitUnlessRisen failed told store = failed ≡ store.opened → ForSome told
 -- sound, and the disk's count of faults at opening is at most the one now, and below the end of its type.
 pub record IsReady {F : Type 0} (failed : ℕ) (told : Option Told) (store : CoreStore F) : Type 0 where
   pub names : NamesFitUnlessRisen failed told store
-  pub sound : IsSound store
+  pub sound : IsSoundStore store
   pub opened : store.opened ≤ failed
   pub below : store.opened < 2 ^ 64 - 1
 

@@ -15,8 +15,8 @@ use Rattle.table_core.specs.declared.event.Event.TheVariants as event
 use Rattle.table_core.specs.declared.event.Outcome.{Outcome}
 use Rattle.table_core.specs.declared.event.Outcome.TheVariants as outcome
 use Rattle.table_core.specs.Core.{Core, empty_core}
-use Rattle.table_core.specs.Runs.{AddAll, Adds, HasEntries, MayRun, entry_of}
-use Rattle.table_core.specs.Steps.{Gives, MayAccept, MayCome}
+use Rattle.table_core.specs.Runs.{AddAll, AddsEntries, HasEntries, MayRun, entry_of_accept}
+use Rattle.table_core.specs.Steps.{GivesOutcome, MayAccept, MayCome}
 use Rattle.table_core.proofs.Telling.{run_entries}
 use Rattle.run_memory.specs.Events.{Fits, FitsAccept, of_numbers}
 
@@ -64,7 +64,7 @@ unfolding OfNumbers
 both [] more a b = b
 both (e ∷ h) more a b = (a.0, both h more a.1 b)
 
-one_entry : (a : Accept) → FitsAccept a → OfNumbers (entry_of a ∷ [])
+one_entry : (a : Accept) → FitsAccept a → OfNumbers (entry_of_accept a ∷ [])
 unfolding OfNumbers IsOfNumbers
 one_entry (accept.Create session c) fits = (fits, tt)
 one_entry (accept.Insert session i) fits = (tt, tt)
@@ -74,7 +74,7 @@ unfolding OfNumbers
 no_entry = tt
 
 -- the entries that an event may add
-added : (e : Event) (given : Outcome) (entries : History) → Fits e → Adds e given entries → OfNumbers entries
+added : (e : Event) (given : Outcome) (entries : History) → Fits e → AddsEntries e given entries → OfNumbers entries
 added (event.Accept a) (outcome.Accepted place) entries fits is = subst OfNumbers (sym is) (one_entry a fits)
 added (event.Crash (crash.Within a true)) given entries fits (inl is) = subst OfNumbers (sym is) (one_entry a fits)
 added (event.Crash (crash.Within a true)) given entries fits (inr is) = subst OfNumbers (sym is) no_entry
@@ -85,7 +85,7 @@ all_added e given entries fits adds =
     let last : OfNumbers adds.1 = subst OfNumbers (sym adds.3) no_entry in
     subst OfNumbers (sym adds.4) (both adds.0 adds.1 (added e given adds.0 fits adds.2) last)
 
-kept : (core next : Core) (e : Event) (given : Outcome) → OfNumbers core.history → Fits e → Gives core e given next → OfNumbers next.history
+kept : (core next : Core) (e : Event) (given : Outcome) → OfNumbers core.history → Fits e → GivesOutcome core e given next → OfNumbers next.history
 kept core next e given of fits gives =
     let has : HasEntries core (e ∷ []) (given ∷ []) next = run_entries (e ∷ []) (given ∷ []) core next (next, gives, refl) in
     subst OfNumbers (sym has.2) (both core.history has.0 of (all_added e given has.0 fits has.1))

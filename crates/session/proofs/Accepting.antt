@@ -21,7 +21,7 @@ use Rattle.durable_commit.specs.Commits.{Notes, entry_of}
 use Rattle.root_store.specs.Soundness.{RootStands}
 use Rattle.root_store.specs.Stores.{CoreStands}
 use Rattle.mt_base.specs.declared.memory.NoMemory.{NoMemory}
-use Rattle.session.specs.Answers.{AcceptsNothing, Answered, Answers, BeginsNext, IsBegun, Keeps}
+use Rattle.session.specs.Answers.{AcceptsNothing, Answered, Answers, BeginsNext, IsBegun, EndsUnanswered}
 use Rattle.replies.specs.Foreseen.{history, Foresees, is_unsettled}
 use Rattle.replies.proofs.Ends.{added_nothing, length_history, whole_front}
 use Rattle.replies.proofs.Refusing.{stops_first}
@@ -48,7 +48,7 @@ answered_nothing files_of kept now st opened disk arm reply store told root_befo
 
 -- A line that is answered as it was formed, where it has what is said of it; else out of memory.
 pub answers_line : {F : Type 0} (files_of : F → Option Files) (kept : Told) (st : Result Statement Cause) (opened disk arm : ℕ) (line : Result (Vec ℕ Global) NoMemory) (store : CoreStore F) (told : Option Told) (root_before now_root : Option root.Told) (P : List ℕ → Type 0)
-    → IfOk line (λ text. P text.items) → IfErr line (λ _. Keeps kept st told root_before now_root)
+    → IfOk line (λ text. P text.items) → IfErr line (λ _. EndsUnanswered kept st told root_before now_root)
     → ((reply : List ℕ) → P reply → Answered files_of kept st opened disk arm reply store told root_before now_root) → Answers files_of kept st opened disk arm line store told root_before now_root
 answers_line files_of kept st opened disk arm (Ok text) store told root_before now_root P is keeps answered = answered text.items is
 answers_line files_of kept st opened disk arm (Err e) store told root_before now_root P is keeps answered = keeps

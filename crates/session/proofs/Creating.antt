@@ -24,7 +24,7 @@ use Rattle.mt_model.specs.Written.{IsCreateText}
 use Rattle.mt_model.proofs.Tables.{itself_same}
 use Rattle.root_store.specs.declared.store.CoreStore.{CoreStore}
 use Rattle.durable_commit.specs.Commits.{Notes, entry_of}
-use Rattle.root_store.specs.Entries.{EntryHolds, schema_by_items, schema_of_entry}
+use Rattle.root_store.specs.Entries.{EntryHolds, schema_of_items, schema_of_entry}
 use Rattle.root_store.specs.Soundness.{RootStands}
 use Rattle.root_store.specs.Stores.{CoreStands}
 use Rattle.session.specs.Answers.{Answered}
@@ -59,7 +59,7 @@ module _ (c : CreateText) (schema : Schema) (is : IsCreateText c) (text : schema
   reads =
       let alone : statements_of (c.text ++ codes ";") ≡ Ok (statement.Create c) ∷ [] =
       statements_of_step (c.text ++ codes ";") ∙ (ap (statement_and statements_of) is.again ∙ ap (λ (ss : Items). Ok (statement.Create c) ∷ ss) (statements_of_step [])) in
-      ap (schema_by_items c.table c.text) alone
+      ap (schema_of_items c.table c.text) alone
       ∙ (ap₂ (λ (a b : Bool). cond (a && b) (result_ok (schema_of_text c)) None) (itself_same c.table) (itself_same c.text) ∙ ap result_ok text)
 
   pub entry_holds : length c.text < 2 ^ 32 → EntryHolds c.table schema (entry_files c.text)

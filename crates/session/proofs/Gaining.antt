@@ -19,7 +19,7 @@ use Rattle.root_store.specs.Stores.{table_at}
 use Rattle.root_commits.specs.Commits.{IsCause, SameStore, kept_in, refuses_create, refuses_part}
 use Rattle.root_commits.proofs.Leaving.{shown_calm, shown_part_calm}
 use Rattle.replies.specs.Foreseen.{history, is_unsettled}
-use Rattle.session.specs.Answers.{AcceptsNothing, BeginsNext, IsBegun, Keeps}
+use Rattle.session.specs.Answers.{AcceptsNothing, BeginsNext, IsBegun, EndsUnanswered}
 use Rattle.session.proofs.Accepting.{begins_first}
 
 -- ---- a command is given to the disk only while its count of faults is the one at opening
@@ -79,7 +79,7 @@ leaves_told c kept given (Some s) old new was same begun by = record { now = kep
 
 module _ (said : Statement) (c : Command) (kept : Told) (gives : commands_of (history kept) said ≡ Ok (c ∷ [])) (given : Type 0) (told : Option Told) (l : LeavesTold c kept given told) where
   -- without a reply
-  pub keeps_refused : (was now : Option root.Told) → now ≡ was → Keeps kept (Ok said) told was now
+  pub keeps_refused : (was now : Option root.Told) → now ≡ was → EndsUnanswered kept (Ok said) told was now
   keeps_refused was now same = record { now = l.now; told_is = l.told_is; list_is = l.list_is; begun = by l.begun; root_is = same }
     where
       by : (l.now.begun ≡ kept.begun) ⊎ ((l.now.begun ≡ Some (entry_of 0 c)) × given) → (l.now.begun ≡ kept.begun) ⊎ BeginsNext kept l.now (Ok said) []

@@ -50,7 +50,7 @@ pub record Answered {F : Type 0} (files_of : F → Option Files) (kept : Told) (
   pub settled : is_unsettled reply ≡ false → RootStands root_before (history kept) → RootStands root (history now)
 
 -- A statement that ended the run without a reply added nothing, to the list and to the root. What is begun is what was, or its first command.
-pub record Keeps (kept : Told) (statement : Result Statement Cause) (told : Option Told) (root_before root : Option root.Told) : Type 0 where
+pub record EndsUnanswered (kept : Told) (statement : Result Statement Cause) (told : Option Told) (root_before root : Option root.Told) : Type 0 where
   pub now : Told
   pub told_is : told ≡ Some now
   pub list_is : now.list ≡ kept.list
@@ -61,7 +61,7 @@ pub record Keeps (kept : Told) (statement : Result Statement Cause) (told : Opti
 -- told of the root before and tells now
 abbrev pub Answers : {F : Type 0} → (F → Option Files) → Told → Result Statement Cause → ℕ → ℕ → ℕ → Result (Vec ℕ Global) NoMemory → CoreStore F → Option Told → Option root.Told → Option root.Told → Type 0
 Answers files_of kept statement opened disk arm result store told root_before root =
-    MatchResult result (λ reply. Answered files_of kept statement opened disk arm reply.items store told root_before root) (λ _. Keeps kept statement told root_before root)
+    MatchResult result (λ reply. Answered files_of kept statement opened disk arm reply.items store told root_before root) (λ _. EndsUnanswered kept statement told root_before root)
 
 -- a statement accepted nothing: the store, the disk and what is known of annals are as they were
 pub record AcceptsNothing {F D : Type 0} (store_old store_new : CoreStore F) (disk_old disk_new : D) (annals_old annals_new : Option Told) : Type 0 where

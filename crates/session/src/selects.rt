@@ -2,7 +2,7 @@
 ghost use Rattle.std.specs.Prelude.{◌≡◌, ◌≤◌, ◌<◌, ◌^◌, Ok, Some, true, false, ℕ, IfOk, OnErr};
 ghost use Rattle.mt_values.specs.Annals.{Told};
 ghost use Rattle.mt_model.specs.Refusals.{is_damage};
-ghost use Rattle.root_store.specs.Soundness.{HasSoundParts, IsSound};
+ghost use Rattle.root_store.specs.Soundness.{HasSoundParts, IsSoundStore};
 ghost use Rattle.root_store.specs.Stores.{CoreStands, table_at};
 ghost use Rattle.part_set.specs.Sets.{parts_of};
 ghost use Rattle.mt_model.specs.Reply.{selected_places};
@@ -34,7 +34,7 @@ fn read_places<R: Arm>(
     places: &[u32],
     rows: usize,
 ) -> Result<Vec<u8>, NoMemory>
-    requires store { IsSound store.now }
+    requires store { IsSoundStore store.now }
     requires table { table_at store.now text.now.table ≡ Some table.now }
     requires places { selected_places table.now.schema.columns text.now.columns ≡ Ok places.now }
     requires rows { rows ≡ rows_kept (parts_of store.now.set text.now.table) }
@@ -74,7 +74,7 @@ pub fn select<R: Arm, G: Gate>(
     gate: &mut G,
     text: &SelectText,
 ) -> Result<Vec<u8>, NoMemory>
-    requires { IsSound store.now }
+    requires { IsSoundStore store.now }
     ensures answers { (kept : Told) → CoreStands R.Dir.files (history kept) store.now
         → IfOk result (λ reply. Selected kept text.now (R.failed arm.new) store.now.opened
         reply.items) }

@@ -34,6 +34,8 @@ pub fn run_statement<D: Disk, A: Annals, G: Gate>(
 ) -> Result<Vec<u8>, NoMemory>
     requires written { IsWritten statement }
     requires ready { IsReady (D.failed disk.old) (D.told disk.old) store.old }
+
+    // What is answered, and why.
     ensures answers { (kept : Told) → A.told annals.old ≡ Some kept → D.Arm.tells arm.old ≡ true
         → CoreStands D.Arm.Dir.files (history kept) store.old
         → Answers D.Arm.Dir.files kept statement store.old.opened (D.failed disk.new)
@@ -44,6 +46,8 @@ pub fn run_statement<D: Disk, A: Annals, G: Gate>(
     ensures stopped { store.old.opened < D.failed disk.old
         → AcceptsNothing store.old store.new disk.old disk.new (A.told annals.old)
         (A.told annals.new) }
+
+    // What a crash leaves.
     ensures through_crashes { let was : Storage = record {
       disk = D.told disk.old;
       clock = D.clock disk.old;
@@ -59,6 +63,8 @@ pub fn run_statement<D: Disk, A: Annals, G: Gate>(
         (first : Told) (start : ℕ) → D.Arm.tells arm.old ≡ true
         → KeepsThroughCrashes D.Arm.Dir.files store.old was first start
         → KeepsThroughCrashes D.Arm.Dir.files store.new now first start }
+
+    // What the store is then, and what stays.
     ensures undamaged { HasSoundParts D.Arm.Dir.files store.old
         → IfOk result (λ reply. is_damage reply.items ≡ false) }
     ensures held { D.Arm.tells arm.old ≡ true → HasSoundParts D.Arm.Dir.files store.old
@@ -67,6 +73,8 @@ pub fn run_statement<D: Disk, A: Annals, G: Gate>(
     ensures opened { store.new.opened ≡ store.old.opened }
     ensures tells { D.Arm.tells arm.new ≡ D.Arm.tells arm.old }
     ensures started { D.started disk.new ≡ D.started disk.old }
+
+    // What the counts of faults are.
     ensures disk_later { D.failed disk.old ≤ D.failed disk.new }
     ensures arm_later { D.Arm.failed arm.old ≤ D.Arm.failed arm.new }
     ensures memory { OnErr result (D.failed disk.new ≡ D.failed disk.old) }

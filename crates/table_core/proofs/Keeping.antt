@@ -35,10 +35,10 @@ use Rattle.table_core.specs.declared.store.Store.{Store}
 use Rattle.table_core.specs.declared.store.Table.{Table}
 use Rattle.table_core.specs.Core.{Core, IsCore}
 use Rattle.mt_model.specs.Numbers.{draws, numbered}
-use Rattle.part_history.specs.Parts.{AreInBlockOrder, parts_of}
+use Rattle.part_history.specs.Parts.{AreInBlockOrder, core_parts_of}
 use Rattle.part_history.specs.Entered.{part_of_insert}
 use Rattle.table_core.specs.Steps.{AcceptsInsert, AddsPart, snapshot_of}
-use Rattle.table_core.specs.Store.{AddsTable, IsNotNamed, IsStore, Named, SameStore, StandsAt, TableKept, core_of, empty_table, name_by, parts_in, table_names, with_part}
+use Rattle.table_core.specs.Store.{AddsTable, IsNotNamed, IsStore, Named, SameTables, StandsAt, TableKept, core_of, empty_table, name_by, parts_of_tables, table_names, with_part}
 use Rattle.part_history.proofs.Growing.{drawn_apart, drawn_here}
 use Rattle.part_history.proofs.Ordered.{order_grown}
 use Rattle.table_core.proofs.Stepping.{create_core, insert_core, parts_last, take_core}
@@ -119,10 +119,10 @@ none_named t (x ∷ ts) all = ap₂ ◌||◌ all.0 (none_named t ts all.1)
 pub core_is : (a b : Core) → a.parts ≡ b.parts → a.history ≡ b.history → a.snapshots ≡ b.snapshots → a ≡ b
 core_is a b parts history snapshots = λ j. record { parts = parts j; history = history j; snapshots = snapshots j }
 
-pub same_core : (old new : Store) → SameStore old new → core_of new ≡ core_of old
-same_core old new s = core_is (core_of new) (core_of old) (ap parts_in s.tables) s.entries s.snapshots
+pub same_core : (old new : Store) → SameTables old new → core_of new ≡ core_of old
+same_core old new s = core_is (core_of new) (core_of old) (ap parts_of_tables s.tables) s.entries s.snapshots
 
-pub same_store : (old new : Store) → IsStore old → SameStore old new → IsStore new
+pub same_store : (old new : Store) → IsStore old → SameTables old new → IsStore new
 same_store old new is s = record {
   core = subst IsCore (sym (same_core old new s)) is.core;
   names = ap (map (λ (t : Named). t.0.items)) s.tables ∙ (is.names ∙ ap table_names (sym s.entries));
@@ -174,21 +174,21 @@ module _ (store : Store) (is : IsStore store) where
 abbrev OwnParts : Named → Type 0
 OwnParts t = All (λ (p : CorePart). p.table ≡ t.0.items) t.1.parts
 
-pub others_none : (table own : List ℕ) (ps : List CorePart) → same_bytes own table ≡ false → AllByRecursion (λ (p : CorePart). p.table ≡ own) ps → parts_of table ps ≡ []
+pub others_none : (table own : List ℕ) (ps : List CorePart) → same_bytes own table ≡ false → AllByRecursion (λ (p : CorePart). p.table ≡ own) ps → core_parts_of table ps ≡ []
 others_none table own [] apart all = refl
 others_none table own (p ∷ ps) apart all =
-    ap (λ b. cond b (p ∷ parts_of table ps) (parts_of table ps)) (ap (λ (u : List ℕ). same_bytes u table) all.0 ∙ apart) ∙ others_none table own ps apart all.1
+    ap (λ b. cond b (p ∷ core_parts_of table ps) (core_parts_of table ps)) (ap (λ (u : List ℕ). same_bytes u table) all.0 ∙ apart) ∙ others_none table own ps apart all.1
 
-pub own_all : (table : List ℕ) (ps : List CorePart) → AllByRecursion (λ (p : CorePart). p.table ≡ table) ps → parts_of table ps ≡ ps
+pub own_all : (table : List ℕ) (ps : List CorePart) → AllByRecursion (λ (p : CorePart). p.table ≡ table) ps → core_parts_of table ps ≡ ps
 own_all table [] all = refl
 own_all table (p ∷ ps) all =
-    ap (λ b. cond b (p ∷ parts_of table ps) (parts_of table ps)) (ap (λ (u : List ℕ). same_bytes u table) all.0 ∙ itself_same table) ∙ ap (λ (qs : List CorePart). p ∷ qs) (own_all table ps all.1)
+    ap (λ b. cond b (p ∷ core_parts_of table ps) (core_parts_of table ps)) (ap (λ (u : List ℕ). same_bytes u table) all.0 ∙ itself_same table) ∙ ap (λ (qs : List CorePart). p ∷ qs) (own_all table ps all.1)
 
 -- tables of other names have none of its parts
-pub parts_apart : (table : List ℕ) (h : History) (ts : List Named) → AllByRecursion (IsNotNamed table) ts → AllByRecursion (TableKept h) ts → parts_of table (parts_in ts) ≡ []
+pub parts_apart : (table : List ℕ) (h : History) (ts : List Named) → AllByRecursion (IsNotNamed table) ts → AllByRecursion (TableKept h) ts → core_parts_of table (parts_of_tables ts) ≡ []
 parts_apart table h [] apart kept = refl
 parts_apart table h (t ∷ ts) apart kept =
-    filter-append (λ (p : CorePart). same_bytes p.table table) t.1.parts (parts_in ts)
+    filter-append (λ (p : CorePart). same_bytes p.table table) t.1.parts (parts_of_tables ts)
     ∙ ap₂ (λ (xs ys : List CorePart). xs ++ ys)
     (others_none table t.0.items t.1.parts apart.0 (recursion_from_All (λ (p : CorePart). p.table ≡ t.0.items) t.1.parts kept.0.own)) (parts_apart table h ts apart.1 kept.1)
 
@@ -215,15 +215,15 @@ module _ (store : Store) (is : IsStore store) (t : List ℕ) (place : ℕ) (s : 
   kept_back = (all_right (TableKept store.entries.items) s.front (s.here ∷ s.back) kept_all).1
 
   -- a table's parts are those that it has
-  pub parts_here : parts_of t (parts_in store.tables.entries) ≡ s.here.1.parts
+  pub parts_here : core_parts_of t (parts_of_tables store.tables.entries) ≡ s.here.1.parts
   parts_here =
       let f : CorePart → Bool = λ p. same_bytes p.table t in
       let own : All (λ (p : CorePart). p.table ≡ t) s.here.1.parts = subst (λ (n : List ℕ). All (λ (p : CorePart). p.table ≡ n) s.here.1.parts) s.name_is (kept_here store is t place s).own in
-      ap (λ ts. parts_of t (parts_in ts)) s.tables_are
-      ∙ (ap (parts_of t) (flat_map-append (λ (x : Named). x.1.parts) s.front (s.here ∷ s.back))
-      ∙ (filter-append f (parts_in s.front) (s.here.1.parts ++ parts_in s.back)
+      ap (λ ts. core_parts_of t (parts_of_tables ts)) s.tables_are
+      ∙ (ap (core_parts_of t) (flat_map-append (λ (x : Named). x.1.parts) s.front (s.here ∷ s.back))
+      ∙ (filter-append f (parts_of_tables s.front) (s.here.1.parts ++ parts_of_tables s.back)
       ∙ (ap₂ (λ (xs ys : List CorePart). xs ++ ys) (parts_apart t store.entries.items s.front s.before kept_front)
-      (filter-append f s.here.1.parts (parts_in s.back)
+      (filter-append f s.here.1.parts (parts_of_tables s.back)
       ∙ ap₂ (λ (xs ys : List CorePart). xs ++ ys) (own_all t s.here.1.parts (recursion_from_All (λ (p : CorePart). p.table ≡ t) s.here.1.parts own)) (parts_apart t store.entries.items s.back s.behind kept_back))
       ∙ append-nil s.here.1.parts)))
 
@@ -238,11 +238,11 @@ table_still h e t none k = record {
 
 module _ (old new : Store) (session : ℕ) (c : Create) (is : IsStore old) (adds : AddsTable c old.tables.entries new.tables.entries)
     (entries : new.entries.items ≡ entered old.entries.items session (command.Create c ∷ [])) (snapshots : new.snapshots.items ≡ old.snapshots.items) where
-  pub create_is : core_of new ≡ record { parts = parts_in old.tables.entries; history = entered old.entries.items session (command.Create c ∷ []); snapshots = old.snapshots.items }
+  pub create_is : core_of new ≡ record { parts = parts_of_tables old.tables.entries; history = entered old.entries.items session (command.Create c ∷ []); snapshots = old.snapshots.items }
   create_is =
-      core_is (core_of new) (record { parts = parts_in old.tables.entries; history = entered old.entries.items session (command.Create c ∷ []); snapshots = old.snapshots.items })
-      (ap parts_in adds.tables_are
-      ∙ (flat_map-append (λ (t : Named). t.1.parts) old.tables.entries ((adds.key, empty_table c.schema) ∷ []) ∙ append-nil (parts_in old.tables.entries)))
+      core_is (core_of new) (record { parts = parts_of_tables old.tables.entries; history = entered old.entries.items session (command.Create c ∷ []); snapshots = old.snapshots.items })
+      (ap parts_of_tables adds.tables_are
+      ∙ (flat_map-append (λ (t : Named). t.1.parts) old.tables.entries ((adds.key, empty_table c.schema) ∷ []) ∙ append-nil (parts_of_tables old.tables.entries)))
       entries snapshots
 
   pub create_store : IsTableSchema c.schema → schema_of c.table old.entries.items ≡ None → creates old.entries.items < 65536 → IsStore new
@@ -287,29 +287,29 @@ module _ (old new : Store) (session : ℕ) (i : Insert) (place number : ℕ) (is
       ∙ (ap₂ (λ (ts : List Named) (k : ℕ). set_value_at ts k (with_part s.here.1 part number)) s.tables_are s.place_is ∙ set_here s.front s.back s.here (with_part s.here.1 part number))
 
   abbrev before : List CorePart
-  before = parts_in s.front ++ s.here.1.parts
+  before = parts_of_tables s.front ++ s.here.1.parts
 
-  old_are : parts_in old.tables.entries ≡ before ++ parts_in s.back
-  old_are = ap parts_in s.tables_are ∙ (flat_map-append (λ (t : Named). t.1.parts) s.front (s.here ∷ s.back) ∙ sym (append_assoc (parts_in s.front) s.here.1.parts (parts_in s.back)))
+  old_are : parts_of_tables old.tables.entries ≡ before ++ parts_of_tables s.back
+  old_are = ap parts_of_tables s.tables_are ∙ (flat_map-append (λ (t : Named). t.1.parts) s.front (s.here ∷ s.back) ∙ sym (append_assoc (parts_of_tables s.front) s.here.1.parts (parts_of_tables s.back)))
 
-  new_are : parts_in new.tables.entries ≡ before ++ part ∷ parts_in s.back
+  new_are : parts_of_tables new.tables.entries ≡ before ++ part ∷ parts_of_tables s.back
   new_are =
-      ap parts_in tables_now
+      ap parts_of_tables tables_now
       ∙ (flat_map-append (λ (t : Named). t.1.parts) s.front (grown ∷ s.back)
-      ∙ (ap (λ (ps : List CorePart). parts_in s.front ++ ps) (append_assoc s.here.1.parts (part ∷ []) (parts_in s.back)) ∙ sym (append_assoc (parts_in s.front) s.here.1.parts (part ∷ parts_in s.back))))
+      ∙ (ap (λ (ps : List CorePart). parts_of_tables s.front ++ ps) (append_assoc s.here.1.parts (part ∷ []) (parts_of_tables s.back)) ∙ sym (append_assoc (parts_of_tables s.front) s.here.1.parts (part ∷ parts_of_tables s.back))))
 
   -- the part is the last of its table, and that is its place
-  ordered : IsInsertInto s.here.1.schema i → AreInBlockOrder (parts_of i.table (parts_in new.tables.entries))
+  ordered : IsInsertInto s.here.1.schema i → AreInBlockOrder (core_parts_of i.table (parts_of_tables new.tables.entries))
   ordered into =
       let h = old.entries.items in
-      let mine = parts_of i.table (parts_in old.tables.entries) in
+      let mine = core_parts_of i.table (parts_of_tables old.tables.entries) in
       let last = parts_apart i.table h s.back s.behind (kept_back old is i.table place s) in
-      subst AreInBlockOrder (sym (parts_last part before (parts_in s.back) (parts_in old.tables.entries) (parts_in new.tables.entries) old_are new_are last))
+      subst AreInBlockOrder (sym (parts_last part before (parts_of_tables s.back) (parts_of_tables old.tables.entries) (parts_of_tables new.tables.entries) old_are new_are last))
       (subst (λ n. AreInBlockOrder (mine ++ part_of_insert s.here.1.schema n i ∷ [])) (sym drawn)
       (order_grown h i s.here.1.schema mine is.core.legal (own_partition s.here.1.schema i into) (is.core.parts i.table) (is.core.order i.table)))
 
-  adds_part : IsInsertInto s.here.1.schema i → AddsPart part (parts_in old.tables.entries) (parts_in new.tables.entries)
-  adds_part into = record { front = before; behind = parts_in s.back; old_is = old_are; new_is = new_are; order = ordered into }
+  adds_part : IsInsertInto s.here.1.schema i → AddsPart part (parts_of_tables old.tables.entries) (parts_of_tables new.tables.entries)
+  adds_part into = record { front = before; behind = parts_of_tables s.back; old_is = old_are; new_is = new_are; order = ordered into }
 
   pub insert_accepted : IsInsertInto s.here.1.schema i → AcceptsInsert (core_of old) session i (length old.entries.items + 1) (core_of new)
   insert_accepted into = record {
@@ -317,7 +317,7 @@ module _ (old new : Store) (session : ℕ) (i : Insert) (place number : ℕ) (is
     there = schema_here old is i.table place s;
     room = omega (arith, drawn, fits);
     place_is = refl;
-    parts = subst (λ n. AddsPart (part_of_insert s.here.1.schema n i) (parts_in old.tables.entries) (parts_in new.tables.entries)) drawn (adds_part into);
+    parts = subst (λ n. AddsPart (part_of_insert s.here.1.schema n i) (parts_of_tables old.tables.entries) (parts_of_tables new.tables.entries)) drawn (adds_part into);
     history = entries;
     snapshots = snapshots;
   }
@@ -376,10 +376,10 @@ module _ (old new : Store) (t : List ℕ) (place : ℕ) (one : Snapshot) (is : I
   one_is : one ≡ snapshot_of t (core_of old)
   one_is = λ j. record { table = named j; parts = (parts ∙ sym (parts_here old is t place s)) j; length = len j }
 
-  pub take_is : core_of new ≡ record { parts = parts_in old.tables.entries; history = old.entries.items; snapshots = old.snapshots.items ++ snapshot_of t (core_of old) ∷ [] }
+  pub take_is : core_of new ≡ record { parts = parts_of_tables old.tables.entries; history = old.entries.items; snapshots = old.snapshots.items ++ snapshot_of t (core_of old) ∷ [] }
   take_is =
-      core_is (core_of new) (record { parts = parts_in old.tables.entries; history = old.entries.items; snapshots = old.snapshots.items ++ snapshot_of t (core_of old) ∷ [] })
-      (ap parts_in tables) entries (snapshots ∙ ap (λ (x : Snapshot). old.snapshots.items ++ x ∷ []) one_is)
+      core_is (core_of new) (record { parts = parts_of_tables old.tables.entries; history = old.entries.items; snapshots = old.snapshots.items ++ snapshot_of t (core_of old) ∷ [] })
+      (ap parts_of_tables tables) entries (snapshots ∙ ap (λ (x : Snapshot). old.snapshots.items ++ x ∷ []) one_is)
 
   pub take_there : IsSome (schema_of t old.entries.items)
   take_there = ap is_some (schema_here old is t place s)

@@ -26,9 +26,9 @@ use Rattle.table_core.specs.declared.event.Outcome.TheVariants as outcome
 use Rattle.part_history.specs.declared.part.CorePart.{CorePart}
 use Rattle.table_core.specs.declared.snapshot.Snapshot.{Snapshot}
 use Rattle.table_core.specs.Core.{Core, IsCore, IsSnapshot}
-use Rattle.part_history.specs.Parts.{AreInBlockOrder, PartStands, PartsStand, TableStands, has_block, parts_of, rows_of_parts}
+use Rattle.part_history.specs.Parts.{AreInBlockOrder, PartStands, PartsStand, TableStands, has_block, core_parts_of, rows_of_parts}
 use Rattle.part_history.specs.Entered.{next_number, part_of_insert}
-use Rattle.table_core.specs.Steps.{AcceptGives, AcceptsInsert, AddsPart, AreLeftOf, CrashMeets, Gives, MayAccept, MayCome, MayCrash, snapshot_of, without_snapshots}
+use Rattle.table_core.specs.Steps.{AcceptGives, AcceptsInsert, AddsPart, AreLeftOf, CrashMeets, GivesOutcome, MayAccept, MayCome, MayCrash, snapshot_of, without_snapshots}
 use Rattle.part_history.proofs.Growing.{count_push, drawn_apart, table_grown, table_kept}
 use Rattle.part_history.proofs.Joined.{parts_joined}
 
@@ -38,37 +38,37 @@ is_of : List ℕ → CorePart → Bool
 is_of table p = same_bytes p.table table
 
 -- the parts of its table have it between those before and those after it
-pub parts_added_here : (part : CorePart) (old new : List CorePart) → (a : AddsPart part old new) → parts_of part.table new ≡ parts_of part.table a.front ++ part ∷ parts_of part.table a.behind
+pub parts_added_here : (part : CorePart) (old new : List CorePart) → (a : AddsPart part old new) → core_parts_of part.table new ≡ core_parts_of part.table a.front ++ part ∷ core_parts_of part.table a.behind
 parts_added_here part old new a =
     let t = part.table in
     let f : CorePart → Bool = λ p. same_bytes p.table t in
-    let mine : parts_of t (part ∷ a.behind) ≡ part ∷ parts_of t a.behind = ap (λ b. cond b (part ∷ parts_of t a.behind) (parts_of t a.behind)) (itself_same t) in
-    ap (parts_of t) a.new_is ∙ (filter-append f a.front (part ∷ a.behind) ∙ ap (λ (xs : List CorePart). parts_of t a.front ++ xs) mine)
+    let mine : core_parts_of t (part ∷ a.behind) ≡ part ∷ core_parts_of t a.behind = ap (λ b. cond b (part ∷ core_parts_of t a.behind) (core_parts_of t a.behind)) (itself_same t) in
+    ap (core_parts_of t) a.new_is ∙ (filter-append f a.front (part ∷ a.behind) ∙ ap (λ (xs : List CorePart). core_parts_of t a.front ++ xs) mine)
 
 -- and were these without it
-pub parts_before : (t : List ℕ) (part : CorePart) (old new : List CorePart) → (a : AddsPart part old new) → parts_of t old ≡ parts_of t a.front ++ parts_of t a.behind
+pub parts_before : (t : List ℕ) (part : CorePart) (old new : List CorePart) → (a : AddsPart part old new) → core_parts_of t old ≡ core_parts_of t a.front ++ core_parts_of t a.behind
 parts_before t part old new a =
     let f : CorePart → Bool = λ p. same_bytes p.table t in
-    ap (parts_of t) a.old_is ∙ filter-append f a.front a.behind
+    ap (core_parts_of t) a.old_is ∙ filter-append f a.front a.behind
 
 -- a part after which none of its table stands is the last of its table
-pub parts_last : (part : CorePart) (front behind old new : List CorePart) → old ≡ front ++ behind → new ≡ front ++ part ∷ behind → parts_of part.table behind ≡ []
-    → parts_of part.table new ≡ parts_of part.table old ++ part ∷ []
+pub parts_last : (part : CorePart) (front behind old new : List CorePart) → old ≡ front ++ behind → new ≡ front ++ part ∷ behind → core_parts_of part.table behind ≡ []
+    → core_parts_of part.table new ≡ core_parts_of part.table old ++ part ∷ []
 parts_last part front behind old new old_is new_is last =
     let t = part.table in
     let f : CorePart → Bool = λ p. same_bytes p.table t in
-    let was : parts_of t old ≡ parts_of t front =
-    ap (parts_of t) old_is ∙ (filter-append f front behind ∙ (ap (λ (xs : List CorePart). parts_of t front ++ xs) last ∙ append-nil (parts_of t front))) in
-    let mine : parts_of t (part ∷ behind) ≡ part ∷ [] =
-    ap (λ b. cond b (part ∷ parts_of t behind) (parts_of t behind)) (itself_same t) ∙ ap (λ (xs : List CorePart). part ∷ xs) last in
-    ap (parts_of t) new_is ∙ (filter-append f front (part ∷ behind) ∙ ap₂ (λ (xs ys : List CorePart). xs ++ ys) (sym was) mine)
+    let was : core_parts_of t old ≡ core_parts_of t front =
+    ap (core_parts_of t) old_is ∙ (filter-append f front behind ∙ (ap (λ (xs : List CorePart). core_parts_of t front ++ xs) last ∙ append-nil (core_parts_of t front))) in
+    let mine : core_parts_of t (part ∷ behind) ≡ part ∷ [] =
+    ap (λ b. cond b (part ∷ core_parts_of t behind) (core_parts_of t behind)) (itself_same t) ∙ ap (λ (xs : List CorePart). part ∷ xs) last in
+    ap (core_parts_of t) new_is ∙ (filter-append f front (part ∷ behind) ∙ ap₂ (λ (xs ys : List CorePart). xs ++ ys) (sym was) mine)
 
-pub parts_added_apart : (t : List ℕ) (part : CorePart) (old new : List CorePart) → AddsPart part old new → same_bytes part.table t ≡ false → parts_of t new ≡ parts_of t old
+pub parts_added_apart : (t : List ℕ) (part : CorePart) (old new : List CorePart) → AddsPart part old new → same_bytes part.table t ≡ false → core_parts_of t new ≡ core_parts_of t old
 parts_added_apart t part old new a apart =
     let f : CorePart → Bool = λ p. same_bytes p.table t in
-    let rest : parts_of t (part ∷ a.behind) ≡ parts_of t a.behind = ap (λ b. cond b (part ∷ parts_of t a.behind) (parts_of t a.behind)) apart in
-    ap (parts_of t) a.new_is
-    ∙ (filter-append f a.front (part ∷ a.behind) ∙ (ap (λ (xs : List CorePart). parts_of t a.front ++ xs) rest ∙ sym (ap (parts_of t) a.old_is ∙ filter-append f a.front a.behind)))
+    let rest : core_parts_of t (part ∷ a.behind) ≡ core_parts_of t a.behind = ap (λ b. cond b (part ∷ core_parts_of t a.behind) (core_parts_of t a.behind)) apart in
+    ap (core_parts_of t) a.new_is
+    ∙ (filter-append f a.front (part ∷ a.behind) ∙ (ap (λ (xs : List CorePart). core_parts_of t a.front ++ xs) rest ∙ sym (ap (core_parts_of t) a.old_is ∙ filter-append f a.front a.behind)))
 
 -- ---- parts stand for a table in any order
 
@@ -173,7 +173,7 @@ meets old met crash.Between may m = Same m
 meets old met (crash.Within a false) may m = Same m
 meets old met (crash.Within a true) may m = enters old met a m.0 may m.1
 
-pub changes : (old new : Core) (e : Event) (given : Outcome) → MayCome old.history e → Gives old e given new → Change old new
+pub changes : (old new : Core) (e : Event) (given : Outcome) → MayCome old.history e → GivesOutcome old e given new → Change old new
 changes old new (event.Accept a) given may g = Entering (enters old new a given may g)
 changes old new (event.TakeSnapshot table) (outcome.Taken number) may g = Taken (record { table = table; there = g.0; new_is = g.2 })
 changes old new (event.TakeSnapshot table) (outcome.Refused guard.NoTable) may g = Entering (Same g.1)
@@ -192,7 +192,7 @@ create_core old session c is schema absent few =
     let e : Entry = record { session = session; command = command.Create c } in
     record {
       legal = legal_push old.history e is.legal (absent, few, schema);
-      parts = λ t. table_kept t (parts_of t old.parts) old.history (e ∷ []) refl (is.parts t);
+      parts = λ t. table_kept t (core_parts_of t old.parts) old.history (e ∷ []) refl (is.parts t);
       order = is.order;
       snapshots = snapshots_kept old.history (e ∷ []) old.snapshots is.snapshots;
     }
@@ -204,7 +204,7 @@ take_core old table is there =
     let one : IsSnapshot old.history (snapshot_of table old) = record {
       within = omega arith;
       there = subst (λ (x : History). IsSome (schema_of table x)) (sym all) there;
-      stands = subst (λ (x : History). TableStands table (parts_of table old.parts) x) (sym all) (is.parts table);
+      stands = subst (λ (x : History). TableStands table (core_parts_of table old.parts) x) (sym all) (is.parts table);
       order = is.order table;
     } in
     record {
@@ -224,34 +224,34 @@ module _ (old new : Core) (session : ℕ) (i : Insert) (place : ℕ) (is : IsCor
   abbrev part : CorePart
   part = part_of_insert a.schema (next_number i.table h) i
 
-  stands_here : TableStands i.table (parts_of i.table new.parts) (h ++ e ∷ [])
+  stands_here : TableStands i.table (core_parts_of i.table new.parts) (h ++ e ∷ [])
   stands_here =
-      let before = parts_of i.table a.parts.front in
-      let after = parts_of i.table a.parts.behind in
+      let before = core_parts_of i.table a.parts.front in
+      let after = core_parts_of i.table a.parts.behind in
       let was : TableStands i.table (before ++ after) h = subst (λ (ps : List CorePart). TableStands i.table ps h) (parts_before i.table part old.parts new.parts a.parts) (is.parts i.table) in
       subst (λ (ps : List CorePart). TableStands i.table ps (h ++ e ∷ []))
       (sym (parts_added_here part old.parts new.parts a.parts))
       (table_placed i.table before after part (h ++ e ∷ []) (table_grown h e i a.schema refl a.there (before ++ after) was))
 
-  stands_apart : (t : List ℕ) → same_bytes i.table t ≡ false → TableStands t (parts_of t new.parts) (h ++ e ∷ [])
+  stands_apart : (t : List ℕ) → same_bytes i.table t ≡ false → TableStands t (core_parts_of t new.parts) (h ++ e ∷ [])
   stands_apart t apart =
       subst (λ (ps : List CorePart). TableStands t ps (old.history ++ e ∷ []))
       (sym (parts_added_apart t part old.parts new.parts a.parts apart))
-      (table_kept t (parts_of t old.parts) old.history (e ∷ [])
+      (table_kept t (core_parts_of t old.parts) old.history (e ∷ [])
       (drawn_apart old.history e i a.schema refl a.there t apart) (is.parts t))
 
   stand_all : PartsStand new.parts (h ++ e ∷ [])
   stand_all t = by (same_bytes i.table t) refl
     where
-      by : (b : Bool) → same_bytes i.table t ≡ b → TableStands t (parts_of t new.parts) (h ++ e ∷ [])
-      by true same = subst (λ u. TableStands u (parts_of u new.parts) (h ++ e ∷ [])) (same_is i.table t same) stands_here
+      by : (b : Bool) → same_bytes i.table t ≡ b → TableStands t (core_parts_of t new.parts) (h ++ e ∷ [])
+      by true same = subst (λ u. TableStands u (core_parts_of u new.parts) (h ++ e ∷ [])) (same_is i.table t same) stands_here
       by false apart = stands_apart t apart
 
-  order_all : (t : List ℕ) → AreInBlockOrder (parts_of t new.parts)
+  order_all : (t : List ℕ) → AreInBlockOrder (core_parts_of t new.parts)
   order_all t = by (same_bytes i.table t) refl
     where
-      by : (b : Bool) → same_bytes i.table t ≡ b → AreInBlockOrder (parts_of t new.parts)
-      by true same = subst (λ u. AreInBlockOrder (parts_of u new.parts)) (same_is i.table t same) a.parts.order
+      by : (b : Bool) → same_bytes i.table t ≡ b → AreInBlockOrder (core_parts_of t new.parts)
+      by true same = subst (λ u. AreInBlockOrder (core_parts_of u new.parts)) (same_is i.table t same) a.parts.order
       by false apart = subst AreInBlockOrder (sym (parts_added_apart t part old.parts new.parts a.parts apart)) (is.order t)
 
   pub insert_core : IsCore new
@@ -281,5 +281,5 @@ change_core old new is (Taken t) = subst IsCore (sym t.new_is) (take_core old t.
 change_core old new is (Ended met entered same) = subst IsCore (sym same) (crash_core met (enters_core old met is entered))
 
 -- the core is kept
-pub gives_core : (old new : Core) (e : Event) (given : Outcome) → IsCore old → MayCome old.history e → Gives old e given new → IsCore new
+pub gives_core : (old new : Core) (e : Event) (given : Outcome) → IsCore old → MayCome old.history e → GivesOutcome old e given new → IsCore new
 gives_core old new e given is may g = change_core old new is (changes old new e given may g)

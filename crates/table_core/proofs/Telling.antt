@@ -19,8 +19,8 @@ use Rattle.table_core.specs.declared.event.Outcome.{Outcome}
 use Rattle.table_core.specs.declared.event.Outcome.TheVariants as outcome
 use Rattle.table_core.specs.declared.snapshot.Snapshot.{Snapshot}
 use Rattle.table_core.specs.Core.{Core, IsCore, IsSnapshot}
-use Rattle.table_core.specs.Runs.{Adds, Comes, HasEntries, IsFrontOf, IsNoCrash, KeepsAccepted, KeepsHistory, KnowsSnapshots, MayRun, NoCrash, ReadsLeft, Runs, TakenAt, TellsLeft, TellsSnapshots, entry_of}
-use Rattle.table_core.specs.Steps.{AcceptGives, AreLeftOf, CrashMeets, Gives, MayCome, snapshot_of, without_snapshots}
+use Rattle.table_core.specs.Runs.{AddsEntries, Comes, HasEntries, IsFrontOf, IsNoCrash, KeepsAccepted, KeepsHistory, KnowsSnapshots, MayRun, NoCrash, ReadsLeft, Runs, TakenAt, TellsLeft, TellsSnapshots, entry_of_accept}
+use Rattle.table_core.specs.Steps.{AcceptGives, AreLeftOf, CrashMeets, GivesOutcome, MayCome, snapshot_of, without_snapshots}
 use Rattle.part_history.proofs.Growing.{slice_last, slice_left}
 use Rattle.table_core.proofs.Stepping.{gives_core, reads_left}
 
@@ -29,7 +29,7 @@ use Rattle.table_core.proofs.Stepping.{gives_core, reads_left}
 -- an accept adds its entry, and tells the new length
 record Accepts (old : Core) (a : Accept) (given : Outcome) (new : Core) : Type 0 where
   given_is : given ≡ outcome.Accepted (length old.history + 1)
-  history : new.history ≡ old.history ++ entry_of a ∷ []
+  history : new.history ≡ old.history ++ entry_of_accept a ∷ []
   snapshots : new.snapshots ≡ old.snapshots
 
 -- or nothing
@@ -53,23 +53,23 @@ accepts_or_not old new (accept.Insert session i) given g = absurd g
 -- an event adds entries after the history
 record Longer (old : Core) (e : Event) (given : Outcome) (new : Core) : Type 0 where
   entries : History
-  adds : Adds e given entries
+  adds : AddsEntries e given entries
   history : new.history ≡ old.history ++ entries
 
-same_longer : (old new : Core) (e : Event) (given : Outcome) → Adds e given [] → new ≡ old → Longer old e given new
+same_longer : (old new : Core) (e : Event) (given : Outcome) → AddsEntries e given [] → new ≡ old → Longer old e given new
 same_longer old new e given none same = record { entries = []; adds = none; history = ap (λ (x : Core). x.history) same ∙ sym (append-nil old.history) }
 
 accept_longer : (old new : Core) (a : Accept) (given : Outcome) → Accepts old a given new ⊎ Refuses old given new → Longer old (event.Accept a) given new
 accept_longer old new a given (inl done) = record {
-  entries = entry_of a ∷ [];
-  adds = subst (λ o. Adds (event.Accept a) o (entry_of a ∷ [])) (sym done.given_is) refl;
+  entries = entry_of_accept a ∷ [];
+  adds = subst (λ o. AddsEntries (event.Accept a) o (entry_of_accept a ∷ [])) (sym done.given_is) refl;
   history = done.history;
 }
-accept_longer old new a given (inr refused) = same_longer old new (event.Accept a) given (subst (λ o. Adds (event.Accept a) o []) (sym refused.given_is) refl) refused.new_is
+accept_longer old new a given (inr refused) = same_longer old new (event.Accept a) given (subst (λ o. AddsEntries (event.Accept a) o []) (sym refused.given_is) refl) refused.new_is
 
 -- a crash within an accept that was done adds the entry of the accept or none
 done_longer : (old met : Core) (a : Accept) (given : Outcome) → Accepts old a given met ⊎ Refuses old given met → Longer old (event.Crash (crash.Within a true)) outcome.Restarted met
-done_longer old met a given (inl done) = record { entries = entry_of a ∷ []; adds = inl refl; history = done.history }
+done_longer old met a given (inl done) = record { entries = entry_of_accept a ∷ []; adds = inl refl; history = done.history }
 done_longer old met a given (inr refused) = same_longer old met (event.Crash (crash.Within a true)) outcome.Restarted (inr refl) refused.new_is
 
 meets_longer : (old met : Core) (c : Crash) → CrashMeets old c met → Longer old (event.Crash c) outcome.Restarted met
@@ -80,7 +80,7 @@ meets_longer old met (crash.Within a true) m = done_longer old met a m.0 (accept
 crash_longer : (old met new : Core) (c : Crash) → Longer old (event.Crash c) outcome.Restarted met → new ≡ without_snapshots met → Longer old (event.Crash c) outcome.Restarted new
 crash_longer old met new c m same = record { entries = m.entries; adds = m.adds; history = ap (λ (x : Core). x.history) same ∙ m.history }
 
-gives_longer : (old new : Core) (e : Event) (given : Outcome) → Gives old e given new → Longer old e given new
+gives_longer : (old new : Core) (e : Event) (given : Outcome) → GivesOutcome old e given new → Longer old e given new
 gives_longer old new (event.Accept a) given g = accept_longer old new a given (accepts_or_not old new a given g)
 gives_longer old new (event.TakeSnapshot table) (outcome.Taken number) g = record { entries = []; adds = refl; history = ap (λ (x : Core). x.history) g.2 ∙ sym (append-nil old.history) }
 gives_longer old new (event.TakeSnapshot table) (outcome.Refused guard.NoTable) g = same_longer old new (event.TakeSnapshot table) (outcome.Refused guard.NoTable) refl g.1
@@ -107,7 +107,7 @@ accept_holds : (old new : Core) (a : Accept) (given : Outcome) → Accepts old a
 accept_holds old new a given (inl done) = Stay tt done.snapshots
 accept_holds old new a given (inr refused) = Stay tt (ap (λ (x : Core). x.snapshots) refused.new_is)
 
-gives_holds : (old new : Core) (e : Event) (given : Outcome) → Gives old e given new → Holds old e given new
+gives_holds : (old new : Core) (e : Event) (given : Outcome) → GivesOutcome old e given new → Holds old e given new
 gives_holds old new (event.Accept a) given g = accept_holds old new a given (accepts_or_not old new a given g)
 gives_holds old new (event.TakeSnapshot table) (outcome.Taken number) g =
     More (record { table = table; event_is = refl; given_is = ap outcome.Taken g.1; snapshots = ap (λ (x : Core). x.snapshots) g.2 })
@@ -146,8 +146,8 @@ run_core (e ∷ es) [] old new is may r = absurd r
 run_core (e ∷ es) (o ∷ os) old new is may r = run_core es os r.0 new (gives_core old r.0 e o is may.0 r.1) (may.1 o r.0 r.1) r.2
 
 -- one event more
-pub run_push : (events : List Event) (outcomes : List Outcome) (old mid new : Core) (e : Event) (given : Outcome) → Runs old events outcomes mid → Gives mid e given new → Runs old (events ++ e ∷ []) (outcomes ++ given ∷ []) new
-run_push [] [] old mid new e given r g = (new, subst (λ (c : Core). Gives c e given new) r g, refl)
+pub run_push : (events : List Event) (outcomes : List Outcome) (old mid new : Core) (e : Event) (given : Outcome) → Runs old events outcomes mid → GivesOutcome mid e given new → Runs old (events ++ e ∷ []) (outcomes ++ given ∷ []) new
+run_push [] [] old mid new e given r g = (new, subst (λ (c : Core). GivesOutcome c e given new) r g, refl)
 run_push [] (o ∷ os) old mid new e given r g = absurd r
 run_push (x ∷ es) [] old mid new e given r g = absurd r
 run_push (x ∷ es) (o ∷ os) old mid new e given r g = (r.0, r.1, run_push es os r.0 mid new e given r.2 g)
@@ -185,16 +185,16 @@ run_history (e ∷ es) (o ∷ os) old new r (suc k) = let later = run_history es
 
 -- the entry that an accept added is there to the end
 entry_stays : (old mid new : Core) (a : Accept) (given : Outcome) (place : ℕ) → Accepts old a given mid ⊎ Refuses old given mid → given ≡ outcome.Accepted place → IsFrontOf mid.history new.history
-    → (1 ≤ place) × (slice_get new.history (place - 1) ≡ Some (entry_of a))
+    → (1 ≤ place) × (slice_get new.history (place - 1) ≡ Some (entry_of_accept a))
 entry_stays old mid new a given place (inl done) told front =
     let both : outcome.Accepted place ≡ outcome.Accepted (length old.history + 1) = sym told ∙ done.given_is in
     let place_is : place ≡ length old.history + 1 = cc in
     let back : place - 1 ≡ length old.history = omega (arith, place_is) in
-    let count = length-append old.history (entry_of a ∷ []) in (
+    let count = length-append old.history (entry_of_accept a ∷ []) in (
       omega (arith, place_is),
       ap (slice_get new.history) back
           ∙ (ap (λ (h : History). slice_get h (length old.history)) (front.1 ∙ ap (λ (h : History). h ++ front.0) done.history)
-          ∙ (slice_left (old.history ++ entry_of a ∷ []) front.0 (length old.history) (omega (arith, count)) ∙ slice_last old.history (entry_of a))),
+          ∙ (slice_left (old.history ++ entry_of_accept a ∷ []) front.0 (length old.history) (omega (arith, count)) ∙ slice_last old.history (entry_of_accept a))),
     )
 entry_stays old mid new a given place (inr refused) told front =
     let both : outcome.Accepted place ≡ outcome.Refused refused.guard = sym told ∙ refused.given_is in
@@ -206,7 +206,7 @@ run_accepted (e ∷ es) [] old new r k place a at given = absurd r
 run_accepted (e ∷ es) (o ∷ os) old new r zero place a at given =
     let event_is : e ≡ event.Accept a = cc in
     let told : o ≡ outcome.Accepted place = cc in
-    let gives : AcceptGives old a o r.0 = subst (λ x. Gives old x o r.0) event_is r.1 in
+    let gives : AcceptGives old a o r.0 = subst (λ x. GivesOutcome old x o r.0) event_is r.1 in
     entry_stays old r.0 new a o place (accepts_or_not old r.0 a o gives) told (run_front es os r.0 new r.2)
 run_accepted (e ∷ es) (o ∷ os) old new r (suc k) place a at given = run_accepted es os r.0 new r.2 k place a at given
 
@@ -222,7 +222,7 @@ run_stays (e ∷ es) (o ∷ os) old new r calm number s at =
     run_stays es os r.0 new r.2 calm.1 number s (still_there old r.0 e o (gives_holds old r.0 e o r.1) calm.0 number s at)
 
 -- one event before a run
-module _ (old next : Core) (e : Event) (given : Outcome) (g : Gives old e given next) (es : List Event) (os : List Outcome) (number : ℕ) (s : Snapshot) where
+module _ (old next : Core) (e : Event) (given : Outcome) (g : GivesOutcome old e given next) (es : List Event) (os : List Outcome) (number : ℕ) (s : Snapshot) where
   taken_later : (k : ℕ) → TakenAt next es os number s k → TakenAt old (e ∷ es) (given ∷ os) number s (suc k)
   taken_later k t = record { event_is = t.event_is; told = t.told; met = t.met; ran = (next, g, t.ran); snapshot_is = t.snapshot_is; since = t.since }
 
@@ -265,8 +265,8 @@ run_tells_snapshots (e ∷ es) [] old new r k number table at given calm = absur
 run_tells_snapshots (e ∷ es) (o ∷ os) old new r zero number table at given calm =
     let event_is : e ≡ event.TakeSnapshot table = cc in
     let outcome_is : o ≡ outcome.Taken number = cc in
-    let gives : Gives old (event.TakeSnapshot table) (outcome.Taken number) r.0 =
-    subst (λ x. Gives old x (outcome.Taken number) r.0) event_is (subst (λ x. Gives old e x r.0) outcome_is r.1) in
+    let gives : GivesOutcome old (event.TakeSnapshot table) (outcome.Taken number) r.0 =
+    subst (λ x. GivesOutcome old x (outcome.Taken number) r.0) event_is (subst (λ x. GivesOutcome old e x r.0) outcome_is r.1) in
     let there : slice_get r.0.snapshots number ≡ Some (snapshot_of table old) =
     ap (λ (c : Core). slice_get c.snapshots number) gives.2 ∙ (ap (slice_get (old.snapshots ++ snapshot_of table old ∷ [])) gives.1 ∙ slice_last old.snapshots (snapshot_of table old)) in (
       snapshot_of table old,
@@ -289,7 +289,7 @@ left_stays old new number s rows is front at left =
     subst (λ (x : History). (schema : Schema) → schema_of s.table x ≡ Some schema → Partly schema (live s.table schema x) rows) (sym same) left
 
 -- what is read of a snapshot
-read_now : (old next : Core) (number place : ℕ) (rows : List Row) → IsCore old → (g : Gives old (event.ReadSnapshot number) (outcome.Rows rows place) next) → AreLeftOf g.0.table g.0.length old.history rows
+read_now : (old next : Core) (number place : ℕ) (rows : List Row) → IsCore old → (g : GivesOutcome old (event.ReadSnapshot number) (outcome.Rows rows place) next) → AreLeftOf g.0.table g.0.length old.history rows
 read_now old next number place rows is g = subst (λ (rs : List Row). AreLeftOf g.0.table g.0.length old.history rs) (sym g.2) (reads_left old number g.0 is g.1)
 
 -- what was read stays so to the end of a run
@@ -299,8 +299,8 @@ run_tells_left (e ∷ es) [] old new is may r k number place rows at given = abs
 run_tells_left (e ∷ es) (o ∷ os) old new is may r zero number place rows at given =
     let event_is : e ≡ event.ReadSnapshot number = cc in
     let outcome_is : o ≡ outcome.Rows rows place = cc in
-    let gives : Gives old (event.ReadSnapshot number) (outcome.Rows rows place) r.0 =
-    subst (λ x. Gives old x (outcome.Rows rows place) r.0) event_is (subst (λ x. Gives old e x r.0) outcome_is r.1) in
+    let gives : GivesOutcome old (event.ReadSnapshot number) (outcome.Rows rows place) r.0 =
+    subst (λ x. GivesOutcome old x (outcome.Rows rows place) r.0) event_is (subst (λ x. GivesOutcome old e x r.0) outcome_is r.1) in
     let s : Snapshot = gives.0 in
     record {
       snapshot = s;
@@ -322,13 +322,13 @@ run_tells_left (e ∷ es) (o ∷ os) old new is may r (suc k) number place rows 
       stays = later.stays;
     }
 
-reads_rows : (old new : Core) (number place : ℕ) (rows : List Row) → IsCore old → Gives old (event.ReadSnapshot number) (outcome.Rows rows place) new → ReadsLeft new (event.ReadSnapshot number) (outcome.Rows rows place)
+reads_rows : (old new : Core) (number place : ℕ) (rows : List Row) → IsCore old → GivesOutcome old (event.ReadSnapshot number) (outcome.Rows rows place) new → ReadsLeft new (event.ReadSnapshot number) (outcome.Rows rows place)
 reads_rows old new number place rows is g =
     subst (λ (c : Core). ReadsLeft c (event.ReadSnapshot number) (outcome.Rows rows place)) (sym g.4)
     (g.0, g.1, g.3, subst (λ n. AreLeftOf g.0.table n old.history rows) (sym g.3) (read_now old new number place rows is g))
 
 -- what an event reads
-pub gives_reads : (old new : Core) (e : Event) (given : Outcome) → IsCore old → Gives old e given new → ReadsLeft new e given
+pub gives_reads : (old new : Core) (e : Event) (given : Outcome) → IsCore old → GivesOutcome old e given new → ReadsLeft new e given
 gives_reads old new (event.ReadSnapshot number) (outcome.Rows rows place) is g = reads_rows old new number place rows is g
 gives_reads old new (event.ReadSnapshot number) given is g = tt
 gives_reads old new (event.Accept a) given is g = tt

@@ -3,7 +3,7 @@ use Rattle.std.specs.Prelude.{◌≤◌, ℕ, List, [], All, IsSome, length, tak
 use Rattle.mt_model.specs.History.{History, IsLegal, schema_of}
 use Rattle.part_history.specs.declared.part.CorePart.{CorePart}
 use Rattle.table_core.specs.declared.snapshot.Snapshot.{Snapshot}
-use Rattle.part_history.specs.Parts.{AreInBlockOrder, PartsStand, TableStands, parts_of}
+use Rattle.part_history.specs.Parts.{AreInBlockOrder, PartsStand, TableStands, core_parts_of}
 
 -- the visible parts of all tables, the accepted commands and the snapshots, in order (docs/definitions.md, "The core")
 pub record Core : Type 0 where
@@ -26,5 +26,5 @@ pub record IsSnapshot (h : History) (s : Snapshot) : Type 0 where
 pub record IsCore (core : Core) : Type 0 where
   pub legal : IsLegal core.history
   pub parts : PartsStand core.parts core.history
-  pub order : (table : List ℕ) → AreInBlockOrder (parts_of table core.parts)
+  pub order : (table : List ℕ) → AreInBlockOrder (core_parts_of table core.parts)
   pub snapshots : All (IsSnapshot core.history) core.snapshots

@@ -15,19 +15,19 @@ use Rattle.table_core.specs.declared.event.Outcome.TheVariants as outcome
 use Rattle.table_core.specs.declared.snapshot.Snapshot.{Snapshot}
 use Rattle.table_core.specs.Core.{Core}
 use Rattle.part_history.specs.Parts.{rows_of_parts}
-use Rattle.table_core.specs.Steps.{AreLeftOf, Gives, MayCome, snapshot_of}
+use Rattle.table_core.specs.Steps.{AreLeftOf, GivesOutcome, MayCome, snapshot_of}
 
 -- each event gives the outcome at its place, from the state that those before it left (docs/definitions.md, "The core")
 abbrev pub Runs : Core → List Event → List Outcome → Core → Type 0
 Runs old [] [] new = new ≡ old
-Runs old (e ∷ events) (given ∷ outcomes) new = (next : Core) × Gives old e given next × Runs next events outcomes new
+Runs old (e ∷ events) (given ∷ outcomes) new = (next : Core) × GivesOutcome old e given next × Runs next events outcomes new
 Runs old [] (given ∷ outcomes) new = ⊥
 Runs old (e ∷ events) [] new = ⊥
 
 -- each event may come after those before it, whatever state they left (docs/definitions.md, "The core")
 abbrev pub MayRun : Core → List Event → Type 0
 MayRun core [] = Unit {0}
-MayRun core (e ∷ events) = MayCome core.history e × ((given : Outcome) (next : Core) → Gives core e given next → MayRun next events)
+MayRun core (e ∷ events) = MayCome core.history e × ((given : Outcome) (next : Core) → GivesOutcome core e given next → MayRun next events)
 
 -- an event is no crash (docs/definitions.md, "The core")
 abbrev pub IsNoCrash : Event → Type 0
@@ -63,7 +63,7 @@ TellsSnapshots old events outcomes new =
     → (s : Snapshot) × (slice_get new.snapshots number ≡ Some s) × TakenAt old events outcomes number s k
 
 -- rows that were read after events are of a snapshot that comes from these; at the end they are what merges may have left of the live rows of its front of the history, and it keeps its number as long as no crash comes (docs/definitions.md, "The core")
-pub record IsRead (old : Core) (events : List Event) (outcomes : List Outcome) (number : ℕ) (rows : List Row) (place : ℕ) (behind : List Event) (new : Core) : Type 0 where
+pub record IsReadOf (old : Core) (events : List Event) (outcomes : List Outcome) (number : ℕ) (rows : List Row) (place : ℕ) (behind : List Event) (new : Core) : Type 0 where
   pub snapshot : Snapshot
   pub comes : Comes old events outcomes number snapshot
   pub rows_are : rows ≡ rows_of_parts snapshot.parts
@@ -75,7 +75,7 @@ pub record IsRead (old : Core) (events : List Event) (outcomes : List Outcome) (
 abbrev pub TellsLeft : Core → List Event → List Outcome → Core → Type 0
 TellsLeft old events outcomes new =
     (k number place : ℕ) (rows : List Row) → slice_get events k ≡ Some (event.ReadSnapshot number) → slice_get outcomes k ≡ Some (outcome.Rows rows place)
-    → IsRead old (take k events) (take k outcomes) number rows place (drop k events) new
+    → IsReadOf old (take k events) (take k outcomes) number rows place (drop k events) new
 
 -- the longer history begins with the other (docs/definitions.md, "The core")
 abbrev pub IsFrontOf : History → History → Type 0
@@ -87,27 +87,27 @@ KeepsHistory old events outcomes new =
     (k : ℕ) → (met : Core) × Runs old (take k events) (take k outcomes) met × Runs met (drop k events) (drop k outcomes) new × IsFrontOf met.history new.history
 
 -- the entry of an accept (docs/definitions.md, "The core")
-abbrev pub entry_of : Accept → Entry
-entry_of (accept.Create session c) = record { session = session; command = command.Create c }
-entry_of (accept.Insert session i) = record { session = session; command = command.Insert i }
+abbrev pub entry_of_accept : Accept → Entry
+entry_of_accept (accept.Create session c) = record { session = session; command = command.Create c }
+entry_of_accept (accept.Insert session i) = record { session = session; command = command.Insert i }
 
 -- the entry of each accept that was accepted is in the history, at the place that was told (docs/definitions.md, "The core")
 abbrev pub KeepsAccepted : List Event → List Outcome → Core → Type 0
 KeepsAccepted events outcomes new =
     (k place : ℕ) (a : Accept) → slice_get events k ≡ Some (event.Accept a) → slice_get outcomes k ≡ Some (outcome.Accepted place)
-    → (1 ≤ place) × (slice_get new.history (place - 1) ≡ Some (entry_of a))
+    → (1 ≤ place) × (slice_get new.history (place - 1) ≡ Some (entry_of_accept a))
 
 -- the entries that an event may add: an accept that was accepted its own, a crash within an accept that was done the entry of the accept or none, all others none (docs/definitions.md, "The core")
-abbrev pub Adds : Event → Outcome → History → Type 0
-Adds (event.Accept a) (outcome.Accepted place) entries = entries ≡ entry_of a ∷ []
-Adds (event.Crash (crash.Within a true)) given entries = (entries ≡ entry_of a ∷ []) ⊎ (entries ≡ [])
-Adds e given entries = entries ≡ []
+abbrev pub AddsEntries : Event → Outcome → History → Type 0
+AddsEntries (event.Accept a) (outcome.Accepted place) entries = entries ≡ entry_of_accept a ∷ []
+AddsEntries (event.Crash (crash.Within a true)) given entries = (entries ≡ entry_of_accept a ∷ []) ⊎ (entries ≡ [])
+AddsEntries e given entries = entries ≡ []
 
 -- the entries that events add, one after another (docs/definitions.md, "The core")
 abbrev pub AddAll : List Event → List Outcome → History → Type 0
 AddAll [] outcomes entries = entries ≡ []
 AddAll (e ∷ events) [] entries = ⊥
-AddAll (e ∷ events) (given ∷ outcomes) entries = (first rest : History) × Adds e given first × AddAll events outcomes rest × (entries ≡ first ++ rest)
+AddAll (e ∷ events) (given ∷ outcomes) entries = (first rest : History) × AddsEntries e given first × AddAll events outcomes rest × (entries ≡ first ++ rest)
 
 -- nothing else is in the history: it is the old one with the entries that the events add (docs/definitions.md, "The core")
 abbrev pub HasEntries : Core → List Event → List Outcome → Core → Type 0

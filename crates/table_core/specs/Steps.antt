@@ -22,7 +22,7 @@ use Rattle.part_history.specs.declared.part.CorePart.{CorePart}
 use Rattle.table_core.specs.declared.snapshot.Snapshot.{Snapshot}
 use Rattle.table_core.specs.Core.{Core}
 use Rattle.part_history.specs.Entered.{next_number, part_of_insert}
-use Rattle.part_history.specs.Parts.{AreInBlockOrder, parts_of, rows_of_parts}
+use Rattle.part_history.specs.Parts.{AreInBlockOrder, core_parts_of, rows_of_parts}
 
 -- an accept may come: a CREATE has a schema that a table may have, an INSERT has rows of its table, where there is the table (docs/definitions.md, "The core")
 abbrev pub MayAccept : History → Accept → Type 0
@@ -47,7 +47,7 @@ pub record AddsPart (part : CorePart) (old new : List CorePart) : Type 0 where
   pub behind : List CorePart
   pub old_is : old ≡ front ++ behind
   pub new_is : new ≡ front ++ part ∷ behind
-  pub order : AreInBlockOrder (parts_of part.table new)
+  pub order : AreInBlockOrder (core_parts_of part.table new)
 
 -- a CREATE: accepted, or refused since there is the table, or else since there are 65,536 (docs/definitions.md, "The core")
 abbrev pub CreateGives : Core → ℕ → Create → Outcome → Core → Type 0
@@ -82,7 +82,7 @@ AcceptGives old (accept.Insert session i) given new = InsertGives old session i 
 
 -- the snapshot of a table as it is now
 abbrev pub snapshot_of : List ℕ → Core → Snapshot
-snapshot_of table core = record { table = table; parts = parts_of table core.parts; length = length core.history }
+snapshot_of table core = record { table = table; parts = core_parts_of table core.parts; length = length core.history }
 
 -- the taking of a snapshot: one more, or refused since there is no such table (docs/definitions.md, "The core")
 abbrev pub TakeGives : Core → List ℕ → Outcome → Core → Type 0
@@ -115,11 +115,11 @@ CrashGives old c outcome.Restarted new = (met : Core) × CrashMeets old c met ×
 CrashGives old c given new = ⊥
 
 -- what an event gives, and the state after it (docs/definitions.md, "The core")
-abbrev pub Gives : Core → Event → Outcome → Core → Type 0
-Gives old (event.Accept a) given new = AcceptGives old a given new
-Gives old (event.TakeSnapshot table) given new = TakeGives old table given new
-Gives old (event.ReadSnapshot number) given new = ReadGives old number given new
-Gives old (event.Crash c) given new = CrashGives old c given new
+abbrev pub GivesOutcome : Core → Event → Outcome → Core → Type 0
+GivesOutcome old (event.Accept a) given new = AcceptGives old a given new
+GivesOutcome old (event.TakeSnapshot table) given new = TakeGives old table given new
+GivesOutcome old (event.ReadSnapshot number) given new = ReadGives old number given new
+GivesOutcome old (event.Crash c) given new = CrashGives old c given new
 
 -- rows are what merges may have left of a table's live rows after as many entries of a history as the place says (docs/definitions.md, "The core")
 abbrev pub AreLeftOf : List ℕ → ℕ → History → List Row → Type 0

@@ -19,12 +19,12 @@ abbrev pub Named : Type 0
 Named = Vec ℕ Global × Table
 
 -- the parts of all tables, one table after another
-abbrev pub parts_in : List Named → List CorePart
-parts_in tables = flat_map (λ (t : Named). t.1.parts) tables
+abbrev pub parts_of_tables : List Named → List CorePart
+parts_of_tables tables = flat_map (λ (t : Named). t.1.parts) tables
 
 -- what contracts see of the store
 abbrev pub core_of : Store → Core
-core_of store = record { parts = parts_in store.tables.entries; history = store.entries.items; snapshots = store.snapshots.items }
+core_of store = record { parts = parts_of_tables store.tables.entries; history = store.entries.items; snapshots = store.snapshots.items }
 
 abbrev pub name_by : Command → List (List ℕ)
 name_by (command.Create c) = c.table ∷ []
@@ -77,7 +77,7 @@ pub record AddsTable (c : Create) (old new : List Named) : Type 0 where
   pub tables_are : new ≡ old ++ (key, empty_table c.schema) ∷ []
 
 -- the same tables, commands and snapshots
-pub record SameStore (old new : Store) : Type 0 where
+pub record SameTables (old new : Store) : Type 0 where
   pub tables : new.tables.entries ≡ old.tables.entries
   pub entries : new.entries.items ≡ old.entries.items
   pub snapshots : new.snapshots.items ≡ old.snapshots.items

@@ -4,14 +4,14 @@ ghost use Rattle.table_core.specs.declared.event.Event.{Event};
 ghost use Rattle.table_core.specs.declared.event.Outcome.{Outcome};
 ghost use Rattle.table_core.specs.Core.{Core, IsCore};
 ghost use Rattle.table_core.specs.Runs.{HasEntries, KeepsAccepted, KeepsHistory, KnowsSnapshots, MayRun, Runs, TellsLeft, TellsSnapshots};
-ghost use Rattle.table_core.specs.Steps.{Gives, MayCome};
+ghost use Rattle.table_core.specs.Steps.{GivesOutcome, MayCome};
 
 /// What always holds of the core holds after each event that may come, and so after a run of events. What was read of a
 /// snapshot stays what merges may have left of the front of the history at which it was taken, whatever comes later. The
 /// number of a snapshot stays its number up to the next crash, after which no number is known that was told before it.
 pub fn what_was_read_stays()
     ensures step { (old new : Core) (e : Event) (given : Outcome) → IsCore old
-        → MayCome old.history e → Gives old e given new → IsCore new }
+        → MayCome old.history e → GivesOutcome old e given new → IsCore new }
     ensures run { (events : List Event) (outcomes : List Outcome) (old new : Core) → IsCore old
         → MayRun old events → Runs old events outcomes new → IsCore new }
     ensures read { (events : List Event) (outcomes : List Outcome) (old new : Core) → IsCore old

@@ -3,7 +3,7 @@ ghost use Rattle.std.specs.Prelude.{◌≡◌, IfOk, OnErr, option_copied};
 ghost use Rattle.mt_model.specs.History.{schema_of};
 ghost use Rattle.table_core.specs.Core.{IsCore, empty_core};
 ghost use Rattle.table_core.specs.Runs.{ReadsLeft};
-ghost use Rattle.table_core.specs.Steps.{Gives, MayCome};
+ghost use Rattle.table_core.specs.Steps.{GivesOutcome, MayCome};
 
 use crate::steps::happen;
 use crate::store::Store;
@@ -54,7 +54,7 @@ impl CoreState {
 /// `NoMemory` where an allocation failed; the state stays as it was.
 pub fn step(alloc: Global, state: &mut CoreState, event: Event) -> Result<Outcome, NoMemory>
     requires { MayCome state.old.history event }
-    ensures gives { IfOk result (λ given. Gives state.old event given state.new) }
+    ensures gives { IfOk result (λ given. GivesOutcome state.old event given state.new) }
     ensures err { OnErr result (state.new ≡ state.old) }
     ensures core { IsCore state.new }
     ensures read { IfOk result (λ given. ReadsLeft state.new event given) }

@@ -6,7 +6,7 @@ ghost use Rattle.mt_values.specs.Tables.{sorting_columns};
 ghost use Rattle.mt_model.specs.History.{IsInsertInto, IsTableSchema, schema_of};
 ghost use Rattle.part_history.specs.Parts.{rows_of_parts};
 ghost use Rattle.part_history.specs.Entered as adding;
-ghost use Rattle.table_core.specs.Steps.{AcceptGives, CrashGives, CrashMeets, CreateGives, Gives, InsertGives, MayAccept, MayCome, MayCrash, ReadGives, TakeGives};
+ghost use Rattle.table_core.specs.Steps.{AcceptGives, CrashGives, CrashMeets, CreateGives, GivesOutcome, InsertGives, MayAccept, MayCome, MayCrash, ReadGives, TakeGives};
 ghost use Rattle.table_core.specs.Store.{IsStore, core_of};
 
 use crate::store::Store;
@@ -22,7 +22,7 @@ use std::alloc::Global;
 pub fn happen(alloc: Global, store: &mut Store, event: Event) -> Result<Outcome, NoMemory>
     requires store { IsStore store.old }
     requires may { MayCome store.old.entries.items event }
-    ensures gives { IfOk result (λ given. Gives (core_of store.old) event given (core_of store.new)) }
+    ensures gives { IfOk result (λ given. GivesOutcome (core_of store.old) event given (core_of store.new)) }
     ensures err { OnErr result (core_of store.new ≡ core_of store.old) }
     ensures store { IsStore store.new }
 {

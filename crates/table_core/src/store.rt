@@ -4,7 +4,7 @@ ghost use Rattle.indexmap.specs.IndexMap.{set_value_at};
 ghost use Rattle.mt_values.specs.declared.command.Command.TheVariants as command;
 ghost use Rattle.mt_model.specs.History.{entered, schema_of};
 ghost use Rattle.table_core.specs.Core.{empty_core};
-ghost use Rattle.table_core.specs.Store.{AddsTable, IsNotNamed, IsStore, Named, SameStore, StandsAt, core_of, with_part};
+ghost use Rattle.table_core.specs.Store.{AddsTable, IsNotNamed, IsStore, Named, SameTables, StandsAt, core_of, with_part};
 
 use crate::{CorePart, Snapshot};
 use indexmap::IndexMap;
@@ -73,7 +73,7 @@ impl Store {
         ensures entries { OnOk result (self.new.entries.items ≡ entered self.old.entries.items
             session (command.Create create ∷ [])) }
         ensures snapshots { OnOk result (self.new.snapshots.items ≡ self.old.snapshots.items) }
-        ensures err { OnErr result (SameStore self.old self.new) }
+        ensures err { OnErr result (SameTables self.old self.new) }
     {
         self.entries.reserve(1)?;
         add_table(alloc, &mut self.tables, &create)?;
@@ -100,7 +100,7 @@ impl Store {
         ensures entries { OnOk result (self.new.entries.items ≡ entered self.old.entries.items
             session (command.Insert insert ∷ [])) }
         ensures snapshots { OnOk result (self.new.snapshots.items ≡ self.old.snapshots.items) }
-        ensures err { OnErr result (SameStore self.old self.new) }
+        ensures err { OnErr result (SameTables self.old self.new) }
     {
         self.entries.reserve(1)?;
         add_part(&mut self.tables[place], part, number)?;

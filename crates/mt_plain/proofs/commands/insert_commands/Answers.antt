@@ -3,7 +3,7 @@ use Rattle.mt_values.specs.declared.value.ColType.{ColType}
 use Rattle.mt_values.specs.Grid.{AreRowsOf}
 use Rattle.mt_model.specs.Commands as commands
 use Rattle.mt_model.specs.History.{column_types, schema_of}
-use Rattle.mt_plain.specs.Plain.{MayCome}
+use Rattle.mt_plain.specs.Plain.{MayFollow}
 use Rattle.mt_plain.proofs.Coming.{inserts_come}
 use Rattle.mt_plain.proofs.commands.insert_commands.Goals as goal
 
@@ -20,4 +20,4 @@ returns-clause-may_come c =
     let typed : AreRowsOf (column_types schema) block.rows = subst (λ (ts : List ColType). AreRowsOf ts block.rows) kinds c.len.ensures.typed in
     let rows : c.deref.result.now ≡ block.rows = c.deref.ensures.value ∙ c.in_ok-rows.ensures in
     let is = c.in_ok-commands_of_rows.ensures ∙ ap (commands.insert_commands schema table) rows in
-    subst (All (MayCome h)) (sym is) (inserts_come h table schema block.rows there typed values)
+    subst (All (MayFollow h)) (sym is) (inserts_come h table schema block.rows there typed values)

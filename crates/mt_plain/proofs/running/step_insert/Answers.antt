@@ -2,7 +2,7 @@ use Rattle.std.proofs.Common.{◌≡◌, All, Ok, subst}
 use Rattle.mt_values.specs.declared.statement.Statement.TheVariants as statement
 use Rattle.mt_model.specs.Commands.{commands_of}
 use Rattle.mt_model.specs.History.{History}
-use Rattle.mt_plain.specs.Plain.{MayCome, TookTurns}
+use Rattle.mt_plain.specs.Plain.{MayFollow, TookTurns}
 use Rattle.mt_plain.proofs.Steps.{commands_take, took_legal, when_ok, when_on}
 use Rattle.mt_plain.proofs.running.step_insert.Goals as goal
 
@@ -22,5 +22,5 @@ returns-in-Ok-clause-legal c =
     let new = c.take_turns.new.history.items in
     let cs = c.in-Ok.commands.items in
     let come = rw c.in-Ok.is at c.in_ok-commands.ensures.may_come in
-    let may : All (MayCome h) cs = subst (λ (x : History). All (MayCome x) cs) c.deref.ensures.value come in
+    let may : All (MayFollow h) cs = subst (λ (x : History). All (MayFollow x) cs) c.deref.ensures.value come in
     when_on c.take_turns.result (λ reply. TookTurns cs h new reply.items) _ (λ reply took legal. took_legal h new cs reply.items may took legal) c.take_turns.ensures.took
