@@ -1,5 +1,6 @@
 -- The list of accepted commands, and what makes it legal (docs/definitions.md, "Histories").
 use Rattle.std.specs.Prelude.{◌≡◌, ℕ, ◌<◌, ◌≤◌, Bool, true, false, List, [], ◌∷◌, ◌++◌, length, All, Option, Some, None, ◌&&◌, ◌==◌, if◌then◌else◌, map, filter}
+use Rattle.mt_values.specs.declared.annals.Noted.{Noted}
 use Rattle.mt_values.specs.declared.command.Entry.{Entry}
 use Rattle.mt_values.specs.declared.command.Command.{Command}
 use Rattle.mt_values.specs.declared.command.Command.TheVariants as command
@@ -17,6 +18,10 @@ use Rattle.mt_values.specs.Values.{Row, AreValues}
 -- the accepted commands of all tables, each with its session, in the order in which they were accepted
 abbrev pub History : Type 0
 History = List Entry
+
+-- the entries of a list, without their marks (docs/definitions.md, "Histories")
+abbrev pub entries_of : List Noted → History
+entries_of list = map (λ (n : Noted). n.entry) list
 
 -- the schema that a command gives a table
 abbrev pub schema_by : List ℕ → Command → Option Schema

@@ -1,17 +1,16 @@
 -- When a statement may have a reply at the end of what annals list, whatever the outside comes to.
-use Rattle.std.specs.Prelude.{◌≡◌, ◌==◌, ℕ, ◌<◌, ◌≤◌, Bool, List, length, map, Ok}
-use Rattle.mt_values.specs.declared.annals.Noted.{Noted}
+use Rattle.std.specs.Prelude.{◌≡◌, ◌==◌, ℕ, ◌<◌, ◌≤◌, Bool, List, length, Ok}
 use Rattle.mt_values.specs.declared.statement.SelectText.{SelectText}
 use Rattle.mt_values.specs.declared.statement.Statement.TheVariants as statement
 use Rattle.mt_values.specs.Annals.{Told}
-use Rattle.mt_model.specs.History.{History}
+use Rattle.mt_model.specs.History.{History, entries_of}
 use Rattle.mt_model.specs.Outside.{HasRisen, Outside}
 use Rattle.mt_model.specs.Refusals.{code_of}
 use Rattle.mt_model.specs.Session.{Takes}
 
 -- the entries that annals list
 abbrev pub history : Told → History
-history t = map (λ (n : Noted). n.entry) t.list
+history t = entries_of t.list
 
 -- What the outside did in a run agrees with the disk's count at opening, and with the disk's and the arm's counts as they stand now:
 -- neither falls, and a call of the arm that failed shows in the disk's count once the arm is given back.

@@ -1,5 +1,5 @@
 -- What a crash leaves of a root while commands are added to it (docs/definitions.md, "Crashes").
-use Rattle.std.specs.Prelude.{◌≡◌, ◌⊎◌, ℕ, ◌+◌, ◌≤◌, List, [], ◌∷◌, ◌++◌, length, map, take, slice_get, Option, Some, None}
+use Rattle.std.specs.Prelude.{◌≡◌, ◌⊎◌, ℕ, ◌+◌, ◌≤◌, List, [], ◌∷◌, ◌++◌, length, take, slice_get, Option, Some, None}
 use Rattle.std.specs.Option.{ForSome}
 use Rattle.mt_values.specs.declared.annals.Noted.{Noted}
 use Rattle.mt_values.specs.declared.command.Entry.{Entry}
@@ -7,6 +7,7 @@ use Rattle.mt_values.specs.Annals as keeper
 use Rattle.mt_outside.specs.Disk.{Image, IsStamped, LeftAt, Names, Since, Told}
 use Rattle.mt_outside.specs.Files.{Files}
 use Rattle.mt_model.specs.History.{History}
+pub use Rattle.mt_model.specs.History.{entries_of}
 use Rattle.root_store.specs.declared.store.CoreStore.{CoreStore}
 use Rattle.root_store.specs.Roots.{Stands}
 use Rattle.root_store.specs.Stores.{CoreStands}
@@ -17,10 +18,6 @@ pub record Storage : Type 0 where
   pub clock : ℕ
   pub failed : ℕ
   pub annals : Option keeper.Told
-
--- the entries of a list, without their marks
-abbrev pub entries_of : List Noted → History
-entries_of list = map (λ (n : Noted). n.entry) list
 
 -- Whatever a crash now leaves of the disk stands for the history. What is settled comes before what isn't.
 pub record AllStand (told : Told) (clock : ℕ) (h : History) : Type 0 where
