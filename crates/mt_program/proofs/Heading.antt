@@ -410,5 +410,11 @@ writes_nothing fault.Disk ended failed failed_now before after sound wrote = wro
 
 -- a source that failed is told by the status
 pub told_fault : (risen : Bool) (ended : Result Ending Status) → IsErrOf ended status.ReadFault → status_of risen ended ≡ status.ReadFault
-told_fault risen (Ok ending) fault = absurd fault
-told_fault risen (Err early) fault = fault
+told_fault risen (Ok ending) fault = absurd cc
+told_fault risen (Err early) fault = cc
+
+-- a read that failed is told by the status
+pub told_stop : {T U : Type 0} (why : ReadStop) (ended : Status) → ended ≡ status_of_stop why → IsErrOf {T = T} (Err why) unread.Fault → IsErrOf {T = U} (Err ended) status.ReadFault
+told_stop unread.Fault ended is fault = ap Err is
+told_stop unread.NoMemory ended is fault = absurd cc
+told_stop unread.TooLong ended is fault = absurd cc

@@ -1,8 +1,8 @@
-use Rattle.std.proofs.Common.{◌∙◌, ◌<◌, ◌^◌, ap, sym, subst, List, ℕ, length}
-use Rattle.mt_program.specs.Endings.{IsEarly, status_of_stop}
+use Rattle.std.proofs.Common.{◌∙◌, ◌<◌, ◌^◌, sym, subst, List, ℕ, length}
+use Rattle.mt_program.specs.Endings.{IsEarly}
 use Rattle.mt_program.specs.Serving.{ServedBy}
 use Rattle.mt_program.proofs.Crashing.{unread}
-use Rattle.mt_program.proofs.Heading.{all_read, nothing_left, stop_early, stop_undamaged}
+use Rattle.mt_program.proofs.Heading.{all_read, nothing_left, stop_early, stop_undamaged, told_stop}
 use Rattle.mt_program.proofs.top.run_script.Goals as goal
 
 -- the script was not read
@@ -48,4 +48,4 @@ returns-clause-through_crashes g c = λ first start tells keeps gained.
     }
 
 pub returns-in-Err-clause-unfailed : goal.returns-in-Err-clause-unfailed
-returns-in-Err-clause-unfailed g c = λ other. c.in-Err.ensures.calm (λ fault. other (c.failed_reading.ensures ∙ ap status_of_stop fault))
+returns-in-Err-clause-unfailed g c = λ other. c.in-Err.ensures.calm (λ fault. other (told_stop c.in-Err.stop c.failed_reading.result c.failed_reading.ensures fault))
