@@ -50,7 +50,7 @@ fn read_next(
         Next::Found(statement, used) => Ok(Some((Ok(statement), used))),
         Next::Refused(cause, used) => Ok(Some((Err(cause), used))),
         Next::End => Ok(None),
-        Next::NeedMore => Err(NoMemory),
+        Next::NeedMore => unreachable!(),
         Next::NoMemory => Err(NoMemory),
     }
 }

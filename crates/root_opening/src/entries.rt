@@ -143,7 +143,8 @@ pub fn open_entry<R: Arm>(
     let bytes = match read_file(alloc, arm, dir, FileId::Entry) {
         Ok(bytes) => bytes,
         Err(PartFault::Fault) => return Err(DiskError::Fault),
-        Err(_) => return Err(DiskError::NoMemory),
+        Err(PartFault::NoMemory) => return Err(DiskError::NoMemory),
+        Err(PartFault::Damaged { .. }) => unreachable!(),
     };
     match read_schema(alloc, table, &bytes) {
         Ok(found) => Ok(found),
