@@ -30,7 +30,7 @@ use Rattle.mt_model.specs.declared.refusal.Bound.TheVariants as bound
 use Rattle.mt_model.specs.declared.refusal.Refusal.{Refusal}
 use Rattle.mt_model.specs.declared.refusal.Refusal.TheVariants as refusal
 use Rattle.mt_model.specs.declared.refusal.Room.TheVariants as room
-use Rattle.mt_model.specs.Reply.{place_of, found_or, place_onto, places_of, first_refusal, refusal_of_rules, refusal_of_schema, refusal_of_table, too_many_columns, unless_refused, schema_with_key, schema_of_text, create_turn, rows_or_refused, rows_for, rows_of_insert, insert_turn, selected_places, columns_for, columns_of_select}
+use Rattle.mt_model.specs.Reply.{column_place, found_or, place_onto, places_of, first_refusal, refusal_of_rules, refusal_of_schema, refusal_of_table, too_many_columns, unless_refused, schema_with_key, schema_of_text, create_turn, rows_or_refused, rows_for, rows_of_insert, insert_turn, selected_places, columns_for, columns_of_select}
 use Rattle.mt_values.specs.declared.statement.Statement.{Statement}
 use Rattle.mt_values.specs.declared.statement.Statement.TheVariants as statement
 use Rattle.mt_values.specs.declared.statement.CreateText.{CreateText}
@@ -93,7 +93,7 @@ onto_tells (Ok place) (Ok places) h k = tt
 
 places_tell : (columns : List Column) (names : List (List ℕ)) → Scripted (places_of columns names)
 places_tell columns [] = tt
-places_tell columns (name ∷ names) = onto_tells (found_or name (place_of columns name)) (places_of columns names) (found_tells name (place_of columns name)) (places_tell columns names)
+places_tell columns (name ∷ names) = onto_tells (found_or name (column_place columns name)) (places_of columns names) (found_tells name (column_place columns name)) (places_tell columns names)
 
 rules_tell : (columns : List Column) (o : Option SchemaFault) → Tells (option_map (refusal_of_schema columns) o)
 rules_tell columns None = tt

@@ -12,7 +12,7 @@ use Rattle.mt_values.specs.declared.statement.Statement.{Statement}
 use Rattle.mt_values.specs.declared.statement.Statement.TheVariants as statement
 use Rattle.mt_values.specs.Tables.{MayHavePartition, partition_of, same_partition}
 use Rattle.mt_values.specs.Values.{Row}
-use Rattle.mt_model.specs.Commands.{commands_for, commands_of, commands_of_rows, create_commands, insert_command, insert_commands, no_commands, partitions_of, rows_in, without}
+use Rattle.mt_model.specs.Commands.{commands_for, commands_of, commands_of_rows, create_commands, insert_command, insert_commands, no_commands, partitions_of, rows_in, other_partitions}
 use Rattle.mt_model.specs.declared.refusal.Bound.TheVariants as bound
 use Rattle.mt_model.specs.declared.refusal.Refusal.{Refusal}
 use Rattle.mt_model.specs.declared.refusal.Refusal.TheVariants as refusal
@@ -46,9 +46,9 @@ pub all_rows_in : (schema : Schema) (rows : List Row) → rows_in schema Whole r
 all_rows_in schema [] = refl
 all_rows_in schema (row ∷ rows) = ap (λ (zs : List Row). row ∷ zs) (all_rows_in schema rows)
 
-none_without : (schema : Schema) (rows : List Row) → without Whole (partitions_of schema rows) ≡ []
+none_without : (schema : Schema) (rows : List Row) → other_partitions Whole (partitions_of schema rows) ≡ []
 none_without schema [] = refl
-none_without schema (row ∷ rows) = ap (without Whole) (none_without schema rows)
+none_without schema (row ∷ rows) = ap (other_partitions Whole) (none_without schema rows)
 
 -- rows are of the whole
 pub one_partition : (schema : Schema) (row : Row) (rows : List Row) → partitions_of schema (row ∷ rows) ≡ Whole ∷ []

@@ -11,7 +11,7 @@ use Rattle.mt_values.specs.declared.statement.CreateText.{CreateText}
 use Rattle.mt_model.specs.declared.refusal.Bound.TheVariants as bound
 use Rattle.mt_model.specs.declared.refusal.Refusal.{Refusal}
 use Rattle.mt_model.specs.declared.refusal.Refusal.TheVariants as refusal
-use Rattle.mt_model.specs.Reply.{place_of, found_or, place_onto, places_of, first_refusal, refusal_of_schema, refusal_of_table, too_many_columns, unless_refused, schema_with_key, schema_of_text}
+use Rattle.mt_model.specs.Reply.{column_place, found_or, place_onto, places_of, first_refusal, refusal_of_schema, refusal_of_table, too_many_columns, unless_refused, schema_with_key, schema_of_text}
 
 -- ---- the places of names
 
@@ -29,22 +29,22 @@ behind_onto front place (Ok places) = ap Ok (sym (append_assoc front (place ∷ 
 behind_onto front place (Err why) = refl
 
 -- the places of the names from a place on are that of the first of them and those of the rest
-step : (columns : List Column) (names : List (List ℕ)) (i : ℕ) (d : List ℕ) (o : Option ℕ) → i < length names → place_of columns (get_or names i d) ≡ o
+step : (columns : List Column) (names : List (List ℕ)) (i : ℕ) (d : List ℕ) (o : Option ℕ) → i < length names → column_place columns (get_or names i d) ≡ o
     → places_of columns (drop i names) ≡ place_onto (found_or (get_or names i d) o) (places_of columns (drop (i + 1) names))
 step columns names i d o below is = ap (places_of columns) (drop_more names i d below) ∙ ap (λ z. place_onto (found_or (get_or names i d) z) (places_of columns (drop (i + 1) names))) is
 
 -- ---- one name after another, as loops go over them
 
 -- the place of a name comes after those before it
-pub place_at : (columns : List Column) (names : List (List ℕ)) (i : ℕ) (name : List ℕ) (places : List ℕ) (place : ℕ) → i < length names → name ≡ get_or names i name → Some place ≡ place_of columns name
+pub place_at : (columns : List Column) (names : List (List ℕ)) (i : ℕ) (name : List ℕ) (places : List ℕ) (place : ℕ) → i < length names → name ≡ get_or names i name → Some place ≡ column_place columns name
     → behind (places ++ place ∷ []) (places_of columns (drop (i + 1) names)) ≡ behind places (places_of columns (drop i names))
 place_at columns names i name places place below is found =
-    sym (ap (behind places) (step columns names i name (Some place) below (ap (place_of columns) (sym is) ∙ sym found)) ∙ behind_onto places place (places_of columns (drop (i + 1) names)))
+    sym (ap (behind places) (step columns names i name (Some place) below (ap (column_place columns) (sym is) ∙ sym found)) ∙ behind_onto places place (places_of columns (drop (i + 1) names)))
 
-pub no_place_at : (columns : List Column) (names : List (List ℕ)) (i : ℕ) (name : List ℕ) (places : List ℕ) → i < length names → name ≡ get_or names i name → None ≡ place_of columns name
+pub no_place_at : (columns : List Column) (names : List (List ℕ)) (i : ℕ) (name : List ℕ) (places : List ℕ) → i < length names → name ≡ get_or names i name → None ≡ column_place columns name
     → behind places (places_of columns (drop i names)) ≡ Err (refusal.NoColumn name)
 no_place_at columns names i name places below is none =
-    ap (behind places) (step columns names i name None below (ap (place_of columns) (sym is) ∙ sym none)) ∙ ap (λ n. Err (refusal.NoColumn n)) (sym is)
+    ap (behind places) (step columns names i name None below (ap (column_place columns) (sym is) ∙ sym none)) ∙ ap (λ n. Err (refusal.NoColumn n)) (sym is)
 
 -- after the last name all is found
 pub no_name_left : (columns : List Column) (names : List (List ℕ)) (i : ℕ) (places : List ℕ) → length names ≤ i → behind places (places_of columns (drop i names)) ≡ Ok places

@@ -25,14 +25,14 @@ use Rattle.mt_model.specs.declared.refusal.Refusal.TheVariants as refusal
 use Rattle.mt_model.specs.Commands.{insert_command, rows_in}
 use Rattle.mt_model.specs.History.{History, schema_of, creates, column_types, IsAllowed, IsTableSchema}
 use Rattle.mt_model.proofs.Commands.{partition_is}
-use Rattle.mt_model.specs.Reply.{place_of, found_or, place_onto, places_of, first_refusal, refusal_of_schema, too_many_columns, unless_refused, schema_with_key, schema_of_text, create_turn}
+use Rattle.mt_model.specs.Reply.{column_place, found_or, place_onto, places_of, first_refusal, refusal_of_schema, too_many_columns, unless_refused, schema_with_key, schema_of_text, create_turn}
 
 -- ---- the key
 
 -- each of the names is that of the column at its place
 abbrev pub AreAt : List Column → List (List ℕ) → List ℕ → Type 0
 AreAt columns [] [] = Unit {0}
-AreAt columns (name ∷ names) (place ∷ places) = (place_of columns name ≡ Some place) × AreAt columns names places
+AreAt columns (name ∷ names) (place ∷ places) = (column_place columns name ≡ Some place) × AreAt columns names places
 AreAt columns [] (place ∷ places) = ⊥
 AreAt columns (name ∷ names) [] = ⊥
 
@@ -44,14 +44,14 @@ Gives P (Err why) = Unit {0}
 given : {A : Type 0} (P : A → Type 0) (r : Result A Refusal) (x : A) → r ≡ Ok x → Gives P r → P x
 given {A} P r x is h = subst (λ (z : Result A Refusal). Gives P z) is h
 
-onto_at : (columns : List Column) (name : List ℕ) (names : List (List ℕ)) (o : Option ℕ) (r : Result (List ℕ) Refusal) → place_of columns name ≡ o → Gives (AreAt columns names) r → Gives (AreAt columns (name ∷ names)) (place_onto (found_or name o) r)
+onto_at : (columns : List Column) (name : List ℕ) (names : List (List ℕ)) (o : Option ℕ) (r : Result (List ℕ) Refusal) → column_place columns name ≡ o → Gives (AreAt columns names) r → Gives (AreAt columns (name ∷ names)) (place_onto (found_or name o) r)
 onto_at columns name names None r is h = tt
 onto_at columns name names (Some place) (Err why) is h = tt
 onto_at columns name names (Some place) (Ok places) is h = (is, h)
 
 places_at : (columns : List Column) (names : List (List ℕ)) → Gives (AreAt columns names) (places_of columns names)
 places_at columns [] = tt
-places_at columns (name ∷ names) = onto_at columns name names (place_of columns name) (places_of columns names) refl (places_at columns names)
+places_at columns (name ∷ names) = onto_at columns name names (column_place columns name) (places_of columns names) refl (places_at columns names)
 
 pub same_is : (a b : List ℕ) → same_bytes a b ≡ true → a ≡ b
 same_is a b same = (pointwise_decides Decides-eqb a b).0 same
@@ -64,7 +64,7 @@ record Stands (columns : List Column) (name : List ℕ) (place : ℕ) (d : Colum
   below : place < length columns
   name_is : (get_or columns place d).name ≡ name
 
-stands : (columns : List Column) (name : List ℕ) (place : ℕ) (d : Column) → place_of columns name ≡ Some place → Stands columns name place d
+stands : (columns : List Column) (name : List ℕ) (place : ℕ) (d : Column) → column_place columns name ≡ Some place → Stands columns name place d
 stands columns name place d is =
     let found = position-Some (λ (c : Column). same_bytes c.name name) columns place d is in
     record { below = found.0; name_is = same_is (get_or columns place d).name name found.1 }

@@ -20,13 +20,13 @@ abbrev pub rows_in : Schema → Partition → List Row → List Row
 rows_in schema partition rows = filter (λ (row : Row). same_partition (partition_of schema row) partition) rows
 
 -- the other partitions of a list (docs/definitions.md, "Commands of statements")
-abbrev pub without : Partition → List Partition → List Partition
-without partition others = filter (λ (p : Partition). not (same_partition p partition)) others
+abbrev pub other_partitions : Partition → List Partition → List Partition
+other_partitions partition others = filter (λ (p : Partition). not (same_partition p partition)) others
 
 -- the partitions of rows, each once, in the order in which they first occur (docs/definitions.md, "Commands of statements")
 abbrev pub partitions_of : Schema → List Row → List Partition
 partitions_of schema [] = []
-partitions_of schema (row ∷ rows) = partition_of schema row ∷ without (partition_of schema row) (partitions_of schema rows)
+partitions_of schema (row ∷ rows) = partition_of schema row ∷ other_partitions (partition_of schema row) (partitions_of schema rows)
 
 -- the command that adds those of the rows that are of one partition (docs/definitions.md, "Commands of statements")
 abbrev pub insert_command : Schema → List ℕ → List Row → Partition → Command

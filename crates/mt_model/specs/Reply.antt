@@ -40,8 +40,8 @@ rows_reply lines h = rows_line (length lines) h ++ concat lines
 -- ---- columns by their names
 
 -- the place of the column of a name
-abbrev pub place_of : List Column → List ℕ → Option ℕ
-place_of columns name = position (λ (c : Column). same_bytes c.name name) columns
+abbrev pub column_place : List Column → List ℕ → Option ℕ
+column_place columns name = position (λ (c : Column). same_bytes c.name name) columns
 
 abbrev pub found_or : List ℕ → Option ℕ → Result ℕ Refusal
 found_or name None = Err (refusal.NoColumn name)
@@ -55,18 +55,18 @@ place_onto (Ok place) (Ok places) = Ok (place ∷ places)
 -- the places of the columns that are named; the first name that is no column's refuses
 abbrev pub places_of : List Column → List (List ℕ) → Result (List ℕ) Refusal
 places_of columns [] = Ok []
-places_of columns (name ∷ names) = place_onto (found_or name (place_of columns name)) (places_of columns names)
+places_of columns (name ∷ names) = place_onto (found_or name (column_place columns name)) (places_of columns names)
 
 -- ---- CREATE
 
 -- the name of a column, where there is one
-abbrev pub name_of : Option Column → List ℕ
-name_of None = []
-name_of (Some column) = column.name
+abbrev pub column_name : Option Column → List ℕ
+column_name None = []
+column_name (Some column) = column.name
 
 -- the name of the column at a place
 abbrev pub name_at : List Column → ℕ → List ℕ
-name_at columns place = name_of (slice_get columns place)
+name_at columns place = column_name (slice_get columns place)
 
 -- the refusal of a schema with these columns for the rule that it breaks; no column has the name "-"
 abbrev pub refusal_of_schema : List Column → SchemaFault → Refusal

@@ -110,7 +110,7 @@ fn places_of(
 
 /// The place of the first column of this name.
 fn find_column(columns: &[Column], name: &Name) -> Option<usize>
-    ensures place { result ≡ reply.place_of columns.now name.now }
+    ensures place { result ≡ reply.column_place columns.now name.now }
     ensures within { IfSome result (λ place. place < length columns.now) }
 {
     columns.iter().position(|column| column.name == *name)

@@ -11,7 +11,7 @@ use Rattle.mt_values.specs.declared.statement.CreateText.{CreateText}
 use Rattle.mt_values.specs.Grid.{AreRowsOf}
 use Rattle.mt_values.specs.Tables.{partition_of, same_partition}
 use Rattle.mt_values.specs.Values.{Row, AreValues, types_of}
-use Rattle.mt_model.specs.Commands.{create_commands, insert_command, insert_commands, partitions_of, rows_in, without}
+use Rattle.mt_model.specs.Commands.{create_commands, insert_command, insert_commands, partitions_of, rows_in, other_partitions}
 use Rattle.mt_model.specs.declared.refusal.Bound.TheVariants as bound
 use Rattle.mt_model.specs.declared.refusal.Refusal.{Refusal}
 use Rattle.mt_model.specs.declared.refusal.Refusal.TheVariants as refusal
@@ -44,7 +44,7 @@ have_rows schema (row ∷ rows) =
     let own = partition_of schema row in
     let before = λ (p : Partition). 0 < length (rows_in schema p rows) in
     let now = λ (p : Partition). 0 < length (rows_in schema p (row ∷ rows)) in
-    let others = without own (partitions_of schema rows) in
+    let others = other_partitions own (partitions_of schema rows) in
     All-cons now own others (own_in schema row rows)
     (All-weaker before now (λ p some. more_in schema p row rows some) others (All-filter (λ (p : Partition). not (same_partition p own)) before (partitions_of schema rows) (have_rows schema rows)))
 

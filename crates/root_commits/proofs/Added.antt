@@ -18,7 +18,7 @@ use Rattle.part_set.proofs.Items.{item_first, item_none}
 use Rattle.part_set.proofs.NameTexts.{root_names_same}
 use Rattle.part_set.proofs.Orphans.{item_more}
 use Rattle.stage_dir.proofs.Lookups.{other_kept, published_at}
-use Rattle.root_store.specs.Roots.{AreRead, HasFolder}
+use Rattle.root_store.specs.Roots.{AreNamesRead, HasFolder}
 use Rattle.root_store.proofs.Items.{item_either}
 
 -- names with one more
@@ -100,7 +100,7 @@ module _ (n : RootName) where
         by rest Greater = ap₂ (λ (t : List ℕ) (ts : List (List ℕ)). t ∷ ts) first rest
 
     -- the names with one more are read so
-    pub are_read : (names : Names) (files : Files) (read : List RootName) → AreRead names read → AreRead (with_name names (root_text n) files) (read_with read)
+    pub are_read : (names : Names) (files : Files) (read : List RootName) → AreNamesRead names read → AreNamesRead (with_name names (root_text n) files) (read_with read)
     are_read names files read are = record {
       sound = All-from_recursion IsRootName (read_with read) (sound_by read (recursion_from_All IsRootName read are.sound));
       spelled = texts_by names files read are.spelled;

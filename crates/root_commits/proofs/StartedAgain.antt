@@ -20,7 +20,7 @@ use Rattle.part_history.specs.Parts.{has_block, core_parts_of}
 use Rattle.part_history.proofs.Numbered.{all_whole, insert_at}
 use Rattle.root_store.specs.ByteOrder.{AreInByteOrder}
 use Rattle.root_store.specs.Crashes.{AllStand, IsCrashSafe, IsFirstOf, IsMarkAfter, entries_of}
-use Rattle.root_store.specs.Roots.{AreRead, Stands, named}
+use Rattle.root_store.specs.Roots.{AreNamesRead, Stands, named}
 use Rattle.root_store.proofs.Counted.{AreTables, as_long, sizes}
 use Rattle.root_store.proofs.CrashOrder.{image_rise, same_names}
 use Rattle.root_commits.proofs.Growing.{parts_end_by}
@@ -66,7 +66,7 @@ sizes_same h k (t ∷ tables) same = let here = same t in let rest = sizes_same 
 -- histories that roots of the same names stand for are equally long
 pub one_length : (a b : Names) (h k : History) → Stands a h → Stands b k → AreInByteOrder a → AreInByteOrder b → map (λ (n : List ℕ × Files). n.0) a ≡ map (λ (n : List ℕ × Files). n.0) b → length h ≡ length k
 one_length a b h k s r rise also keys =
-    let other : AreRead a r.read = record { sound = r.are.sound; spelled = r.are.spelled ∙ sym keys } in
+    let other : AreNamesRead a r.read = record { sound = r.are.sound; spelled = r.are.spelled ∙ sym keys } in
     let same : s.read ≡ r.read = one_reading a s.read r.read s.are other in
     let tables : AreTables k (tables_in s.read) = subst (λ (read : List RootName). AreTables k (tables_in read)) (sym same) (are_tables b k r also) in
     sym (as_long h (tables_in s.read) s.legal (are_tables a h s rise))

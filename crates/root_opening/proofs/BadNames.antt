@@ -11,7 +11,7 @@ use Rattle.part_set.proofs.Items.{item_first}
 use Rattle.part_set.proofs.NameTexts.{root_names_same}
 use Rattle.part_set.proofs.Orphans.{item_more}
 use Rattle.root_store.specs.ByteOrder.{AreInByteOrder}
-use Rattle.root_store.specs.Damage.{IsBadName, IsFirstBadName, is_create}
+use Rattle.root_store.specs.Damage.{IsBadName, IsFirstBadName, is_entry_name}
 use Rattle.root_store.specs.Roots.{Stands}
 use Rattle.root_store.proofs.Tabled.{few_tables}
 
@@ -19,13 +19,13 @@ abbrev one_if : Bool → ℕ
 one_if b = cond b 1 0
 
 creates_in : List RootName → ℕ
-creates_in names = length (filter is_create names)
+creates_in names = length (filter is_entry_name names)
 
-creates_more : (n : RootName) (names : List RootName) → creates_in (n ∷ names) ≡ one_if (is_create n) + creates_in names
+creates_more : (n : RootName) (names : List RootName) → creates_in (n ∷ names) ≡ one_if (is_entry_name n) + creates_in names
 unfolding creates_in
-creates_more n names = by (is_create n)
+creates_more n names = by (is_entry_name n)
   where
-    by : (b : Bool) → length (cond b (n ∷ filter is_create names) (filter is_create names)) ≡ one_if b + length (filter is_create names)
+    by : (b : Bool) → length (cond b (n ∷ filter is_entry_name names) (filter is_entry_name names)) ≡ one_if b + length (filter is_entry_name names)
     by true = omega arith
     by false = omega arith
 
@@ -34,7 +34,7 @@ record IsReadAt (read before : List RootName) (name : List ℕ) : Type 0 where
   n : RootName
   here : HasItem read n
   text : root_text n ≡ name
-  count : creates_in before + one_if (is_create n) ≤ creates_in read
+  count : creates_in before + one_if (is_entry_name n) ≤ creates_in read
 
 read_at : (names : Names) (read before : List RootName) (place : ℕ) (name : List ℕ) (files : Files) → AllByRecursion IsRootName read → map root_text read ≡ map (λ (n : List ℕ × Files). n.0) names
     → slice_get names place ≡ Some (name, files) → AllByRecursion IsRootName before → map root_text before ≡ map (λ (n : List ℕ × Files). n.0) (take place names) → IsReadAt read before name
@@ -57,7 +57,7 @@ read_at (m ∷ names) (r ∷ read) (b ∷ before) (suc place) name files sound i
     let counts = rest.count in
     let one = creates_more b before in
     let two = creates_more r read in
-    let kinds : one_if (is_create b) ≡ one_if (is_create r) = ap (λ (x : RootName). one_if (is_create x)) same in
+    let kinds : one_if (is_entry_name b) ≡ one_if (is_entry_name r) = ap (λ (x : RootName). one_if (is_entry_name x)) same in
     record { n = rest.n; here = item_more r rest.n read rest.here; text = rest.text; count = omega (arith, counts, one, two, kinds) }
 
 module _ (names : Names) (h : History) (s : Stands names h) (rise : AreInByteOrder names) where
@@ -66,7 +66,7 @@ module _ (names : Names) (h : History) (s : Stands names h) (rise : AreInByteOrd
   not_bad before name at (inl none) = none at.n (All-contains IsRootName s.read at.n s.are.sound at.here) at.text
   not_bad before name at (inr many) =
       let same : many.0 ≡ at.n = root_names_same many.0 at.n many.1 (All-contains IsRootName s.read at.n s.are.sound at.here) (many.2 ∙ sym at.text) in
-      let one : ◌≡◌ {A = ℕ} (one_if (is_create at.n)) 1 = ap one_if (sym (ap is_create same) ∙ many.3) in
+      let one : ◌≡◌ {A = ℕ} (one_if (is_entry_name at.n)) 1 = ap one_if (sym (ap is_entry_name same) ∙ many.3) in
       let few = few_tables names h s rise in
       let count = at.count in
       let full = many.4 in

@@ -14,7 +14,7 @@ use Rattle.part_set.specs.declared.root_name.RootName.{RootName}
 use Rattle.part_set.specs.NameOrder.{Rise}
 use Rattle.part_set.specs.RootNames.{IsRootName, root_text}
 use Rattle.part_set.proofs.NameTexts.{root_names_same}
-use Rattle.root_store.specs.Damage.{IsBadName, is_create, most_tables}
+use Rattle.root_store.specs.Damage.{IsBadName, is_entry_name, most_tables}
 use Rattle.root_opening.specs.Names.{AreNamesOf, IsFirstBadText, IsOfPlace, TellsBad, creates_in}
 use Rattle.root_opening.specs.declared.names.NameFault.{NameFault}
 use Rattle.root_opening.specs.declared.names.NameFault.TheVariants as fault
@@ -28,16 +28,16 @@ mapped (Some x) text is = (x, refl, same_Some (root_text x) text is)
 front_fewer : (names : List RootName) (k : ℕ) → creates_in (take k names) ≤ creates_in names
 front_fewer names k =
     let whole : creates_in (take k names) + creates_in (drop k names) ≡ creates_in names =
-    sym (length-append (filter is_create (take k names)) (filter is_create (drop k names)))
-    ∙ (ap length (sym (filter-append is_create (take k names) (drop k names))) ∙ ap creates_in (take-append-drop k names)) in
+    sym (length-append (filter is_entry_name (take k names)) (filter is_entry_name (drop k names)))
+    ∙ (ap length (sym (filter-append is_entry_name (take k names) (drop k names))) ∙ ap creates_in (take-append-drop k names)) in
     omega arith
 
 -- a name of a table adds one
-front_more : (names : List RootName) (k : ℕ) (x : RootName) → slice_get names k ≡ Some x → is_create x ≡ true → creates_in (take k names) + 1 ≤ creates_in names
+front_more : (names : List RootName) (k : ℕ) (x : RootName) → slice_get names k ≡ Some x → is_entry_name x ≡ true → creates_in (take k names) + 1 ≤ creates_in names
 front_more names k x at is =
-    let more = length-filter_more is_create names k x (slice_get_within names k x at) in
-    let made : is_create (get_or names k x) ≡ true = ap is_create (get_or_from_slice_get names k x x at) ∙ is in
-    let one : 1 ≤ cond (is_create (get_or names k x)) 1 0 = subst (λ (b : Bool). 1 ≤ cond b 1 0) (sym made) (omega arith) in
+    let more = length-filter_more is_entry_name names k x (slice_get_within names k x at) in
+    let made : is_entry_name (get_or names k x) ≡ true = ap is_entry_name (get_or_from_slice_get names k x x at) ∙ is in
+    let one : 1 ≤ cond (is_entry_name (get_or names k x)) 1 0 = subst (λ (b : Bool). 1 ≤ cond b 1 0) (sym made) (omega arith) in
     let fewer = front_fewer names (k + 1) in
     omega (arith, more, one, fewer)
 
@@ -67,7 +67,7 @@ module _ (texts : List (List ℕ)) (at place : ℕ) (names : List RootName) (are
   refuted (inl none) = none there.0 named there.2
   refuted (inr (n, sound, is, create, full)) =
       let same : n ≡ there.0 = root_names_same n there.0 sound named (is ∙ sym there.2) in
-      let more = front_more names place there.0 there.1 (ap is_create (sym same) ∙ create) in
+      let more = front_more names place there.0 there.1 (ap is_entry_name (sym same) ∙ create) in
       let count : creates_in (take place names) ≡ most_tables = ap creates_in (sym before_same) ∙ full in
       omega (arith, few, more, count)
 

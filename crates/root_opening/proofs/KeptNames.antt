@@ -31,7 +31,7 @@ use Rattle.root_store.specs.declared.store.Table.{Table}
 use Rattle.root_store.specs.Stores.{fresh_table}
 use Rattle.root_store.specs.Damage.{IsDamaged, PartDamaged}
 use Rattle.root_store.specs.Entries.{EntryHolds}
-use Rattle.root_opening.specs.Keeping.{IsRead, IsSeen, IsSeenTable, Keeps, KeepsTold}
+use Rattle.root_opening.specs.Keeping.{IsPartRead, IsSeen, IsSeenTable, Keeps, KeepsTold}
 use Rattle.root_store.specs.Roots.{HasFolder}
 use Rattle.root_store.specs.Stores.{IsKeptOf, table_at}
 use Rattle.root_store.proofs.Items.{map_item, mapped}
@@ -303,7 +303,7 @@ module _ {F : Type 0} (read seen : List RootName) (old new : CoreStore F) (part 
       ];
     }
 
-  module _ (files_of : F → Option Files) (names : Names) (r : IsRead files_of names (root_text P) t0.schema checked) (told : KeepsTold files_of names read seen old) where
+  module _ (files_of : F → Option Files) (names : Names) (r : IsPartRead files_of names (root_text P) t0.schema checked) (told : KeepsTold files_of names read seen old) where
     not_damaged : (files : Files) (f : FileId) → files_at (root_text P) names ≡ Some files → IsDamaged names read P files f → ⊥
     not_damaged files f there damaged =
         let schema = folders_agree names (create_name part.table) part.table damaged.1.0 t0.schema damaged.1.1 (told.entries part.table t0 at0) in

@@ -12,7 +12,7 @@ use Rattle.part_set.specs.declared.root_name.RootName.{RootName}
 use Rattle.part_set.specs.NameOrder.{Rise, name_cmp}
 use Rattle.part_set.specs.RootNames.{IsRootName, root_text}
 use Rattle.part_set.proofs.NameTexts.{root_names_same}
-use Rattle.root_store.specs.Damage.{is_create, most_tables}
+use Rattle.root_store.specs.Damage.{is_entry_name, most_tables}
 use Rattle.root_opening.specs.Names.{AreNamesOf, IsBadBehind, IsFirstBadText, creates_in}
 
 -- names whose texts rise in byte order do so
@@ -38,7 +38,7 @@ names_more texts place text names n inside here are named is = record {
       ∙ (ap₂ (λ (front : List (List ℕ)) (t : List ℕ). front ++ t ∷ []) are.spelled (is ∙ here) ∙ sym (take_more texts place text inside));
 }
 
-one_counted : (n : RootName) (b : Bool) → is_create n ≡ b → length (filter is_create (n ∷ [])) ≡ cond b 1 0
+one_counted : (n : RootName) (b : Bool) → is_entry_name n ≡ b → length (filter is_entry_name (n ∷ [])) ≡ cond b 1 0
 one_counted n b is = ap (λ (c : Bool). length (cond c (n ∷ []) [])) is ∙ counted b
   where
     counted : (c : Bool) → length (cond c (n ∷ []) []) ≡ cond c 1 0
@@ -46,9 +46,9 @@ one_counted n b is = ap (λ (c : Bool). length (cond c (n ∷ []) [])) is ∙ co
     counted false = refl
 
 -- one name more of a table, or none
-pub creates_more : (names : List RootName) (n : RootName) → creates_in (names ++ n ∷ []) ≡ creates_in names + cond (is_create n) 1 0
+pub creates_more : (names : List RootName) (n : RootName) → creates_in (names ++ n ∷ []) ≡ creates_in names + cond (is_entry_name n) 1 0
 creates_more names n =
-    ap length (filter-append is_create names (n ∷ [])) ∙ (length-append (filter is_create names) (filter is_create (n ∷ [])) ∙ ap (λ (k : ℕ). creates_in names + k) (one_counted n (is_create n) refl))
+    ap length (filter-append is_entry_name names (n ∷ [])) ∙ (length-append (filter is_entry_name names) (filter is_entry_name (n ∷ [])) ∙ ap (λ (k : ℕ). creates_in names + k) (one_counted n (is_entry_name n) refl))
 
 -- texts are those of one list of names
 pub same_names : (a b : List RootName) → All IsRootName a → All IsRootName b → map root_text a ≡ map root_text b → a ≡ b
@@ -61,10 +61,10 @@ same_names (x ∷ a) (y ∷ b) sound also is =
     ap₂ ◌∷◌ (root_names_same x y (All-head IsRootName x a sound) (All-head IsRootName y b also) first) (same_names a b (All-tail IsRootName x a sound) (All-tail IsRootName y b also) rest)
 
 -- of a table there is room for one more
-pub few_more : (tables count : ℕ) (n : RootName) → tables ≤ most_tables → (is_create n ≡ true → tables < most_tables) → count ≡ cond (is_create n) 1 0 → tables + count ≤ most_tables
-few_more tables count n few room is = by (is_create n) refl
+pub few_more : (tables count : ℕ) (n : RootName) → tables ≤ most_tables → (is_entry_name n ≡ true → tables < most_tables) → count ≡ cond (is_entry_name n) 1 0 → tables + count ≤ most_tables
+few_more tables count n few room is = by (is_entry_name n) refl
   where
-    by : (b : Bool) → is_create n ≡ b → tables + count ≤ most_tables
+    by : (b : Bool) → is_entry_name n ≡ b → tables + count ≤ most_tables
     by true create = let one : count ≡ 1 = is ∙ ap (λ (c : Bool). cond c 1 0) create in let less = room create in omega arith
     by false part = let none : count ≡ 0 = is ∙ ap (λ (c : Bool). cond c 1 0) part in omega arith
 

@@ -9,15 +9,15 @@ use Rattle.mt_outside.specs.Files.{Files}
 use Rattle.part_set.specs.declared.root_name.RootName.{RootName}
 use Rattle.root_store.specs.Damage.{IsFirstBadName}
 use Rattle.root_opening.specs.Names.{AreNamesOf, IsFirstBadText}
-use Rattle.root_store.specs.Roots.{AreRead}
+use Rattle.root_store.specs.Roots.{AreNamesRead}
 
 abbrev pub text_of : List ℕ × Files → List ℕ
 text_of n = n.0
 
-pub read_told : (names : Names) (read : List RootName) → AreNamesOf (map text_of names) read → AreRead names read
+pub read_told : (names : Names) (read : List RootName) → AreNamesOf (map text_of names) read → AreNamesRead names read
 read_told names read are = record { sound = are.sound; spelled = are.spelled }
 
-pub told_read : (names : Names) (read : List RootName) → AreRead names read → AreNamesOf (map text_of names) read
+pub told_read : (names : Names) (read : List RootName) → AreNamesRead names read → AreNamesOf (map text_of names) read
 told_read names read are = record { sound = are.sound; spelled = are.spelled }
 
 with_files : (o : Option (List ℕ × Files)) (text : List ℕ) → option_map text_of o ≡ Some text → (files : Files) × (o ≡ Some (text, files))

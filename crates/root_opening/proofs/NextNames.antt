@@ -39,7 +39,7 @@ use Rattle.root_store.specs.declared.store.Table.{Table}
 use Rattle.root_store.specs.Damage.{DamagedAt, IsDamaged}
 use Rattle.root_opening.specs.Keeping.{IsNamedRoot, IsSeen, IsTextsOf, Keeps, KeepsTold, TellsFile}
 use Rattle.root_opening.specs.Opening.{TellsDamage}
-use Rattle.root_store.specs.Roots.{AreRead}
+use Rattle.root_store.specs.Roots.{AreNamesRead}
 use Rattle.root_store.specs.Soundness.{IsSoundStore}
 use Rattle.root_store.specs.Stores.{CoreStands, StoreOf, table_at}
 use Rattle.root_store.proofs.Items.{item_either, mapped}
@@ -132,7 +132,7 @@ module _ (r : Root) (named : IsNamedRoot r) (place : ℕ) (inside : place < leng
 -- ---- damage
 
 module _ (r : Root) (named : IsNamedRoot r) (told : Told) (listed : IsTextsOf r told) where
-  pub are_read : AreRead (names_of told) r.names.items
+  pub are_read : AreNamesRead (names_of told) r.names.items
   are_read = record { sound = named.are.sound; spelled = named.are.spelled ∙ listed }
 
   -- no file of a name that was gone over is damaged

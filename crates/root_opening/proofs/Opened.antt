@@ -26,11 +26,11 @@ use Rattle.root_opening.specs.declared.opening.Damage.{Damage}
 use Rattle.root_opening.specs.declared.opening.Damage.TheVariants as damage
 use Rattle.root_opening.specs.declared.opening.OpenFault.{OpenFault}
 use Rattle.root_opening.specs.declared.opening.OpenFault.TheVariants as fault
-use Rattle.root_store.specs.Damage.{DamagedAt, IsFirstBadName, is_create, most_tables}
+use Rattle.root_store.specs.Damage.{DamagedAt, IsFirstBadName, is_entry_name, most_tables}
 use Rattle.root_opening.specs.Keeping.{IsBadNameAt, IsDamageOfSet}
 use Rattle.root_opening.specs.Names.{AreNamesOf, IsFirstBadText}
 use Rattle.root_opening.specs.Opening.{AreGood, IsNotDamaged, IsRootDamage, IsSpelledAt, TellsDamage}
-use Rattle.root_store.specs.Roots.{AreRead, Stands}
+use Rattle.root_store.specs.Roots.{AreNamesRead, Stands}
 use Rattle.root_opening.proofs.BadNames.{no_bad_name}
 use Rattle.root_store.proofs.Clear as clear
 use Rattle.root_opening.proofs.NamesTold.{first_told, text_of}
@@ -64,7 +64,7 @@ bad_told names texts place (fault.Damaged d) are first told =
     let same : found.0 ≡ told.0 = one_text (slice_get texts place) found.0 told.0 here told.1 in
     subst (IsRootDamage names) (sym told.2) (record { place = place; first = subst (IsFirstBadName names place) same found.1 })
 
-module _ (names : Names) (texts : List (List ℕ)) (read : List RootName) (are : AreNamesOf texts read) (few : length (filter is_create read) ≤ most_tables) (told : texts ≡ map (λ (n : List ℕ × Files). n.0) names) where
+module _ (names : Names) (texts : List (List ℕ)) (read : List RootName) (are : AreNamesOf texts read) (few : length (filter is_entry_name read) ≤ most_tables) (told : texts ≡ map (λ (n : List ℕ × Files). n.0) names) where
   good : AreGood names read
   good = record { are = record { sound = are.sound; spelled = are.spelled ∙ told }; few = few }
 
@@ -98,7 +98,7 @@ module _ (names : Names) (texts : List (List ℕ)) (read : List RootName) (are :
 
 -- ---- where nothing is wrong, nothing is told
 
-module _ (names : Names) (read : List RootName) (are : AreRead names read) (no_bad : (place : ℕ) (name : List ℕ) → IsFirstBadName names place name → ⊥) (no_orphan : HasNoOrphan read) (no_overlap : HasNoOverlap read)
+module _ (names : Names) (read : List RootName) (are : AreNamesRead names read) (no_bad : (place : ℕ) (name : List ℕ) → IsFirstBadName names place name → ⊥) (no_orphan : HasNoOrphan read) (no_overlap : HasNoOverlap read)
     (none : (place : ℕ) (f : FileId) → DamagedAt names read place f → ⊥) where
   overlapping_none : (a b : RootName) → Overlapping read a b → ⊥
   overlapping_none (root.Create t) b is = is

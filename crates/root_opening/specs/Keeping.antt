@@ -41,9 +41,9 @@ use Rattle.root_store.specs.Stores.{IsKeptOf, table_at}
 -- ---- faults
 
 -- a fault of the disk stays one, and out of memory stays that
-abbrev pub FaultOf : DiskError → OpenFault → Type 0
-FaultOf failure.Fault e = e ≡ fault.Disk
-FaultOf failure.NoMemory e = e ≡ fault.NoMemory
+abbrev pub OpenFaultOf : DiskError → OpenFault → Type 0
+OpenFaultOf failure.Fault e = e ≡ fault.Disk
+OpenFaultOf failure.NoMemory e = e ≡ fault.NoMemory
 
 -- of the folder of a name, this file is damaged
 pub record FileTold (names : Names) (text : List ℕ) (Is : Files → FileId → Type 0) (name : List ℕ) (f : FileId) : Type 0 where
@@ -68,7 +68,7 @@ IsDamageOf text file fault.Disk = ⊥
 IsDamageOf text file (fault.Damaged d) = d ≡ damage.File text file
 
 -- a part has the folder of this name, as it is told, and the manifest that `manifest.bin` spells, and no file of it is damaged
-pub record IsRead {F : Type 0} (files_of : F → Option Files) (names : Names) (text : List ℕ) (schema : Schema) (part : Part F) : Type 0 where
+pub record IsPartRead {F : Type 0} (files_of : F → Option Files) (names : Names) (text : List ℕ) (schema : Schema) (part : Part F) : Type 0 where
   pub files : Files
   pub there : files_at text names ≡ Some files
   pub told : files_of part.dir ≡ Some files

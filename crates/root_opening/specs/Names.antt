@@ -4,11 +4,11 @@ use Rattle.part_set.specs.declared.root_name.RootName.{RootName}
 use Rattle.part_set.specs.RootNames.{IsRootName, root_text}
 use Rattle.root_opening.specs.declared.names.NameFault.{NameFault}
 use Rattle.root_opening.specs.declared.names.NameFault.TheVariants as fault
-use Rattle.root_store.specs.Damage.{IsBadName, is_create, most_tables}
+use Rattle.root_store.specs.Damage.{IsBadName, is_entry_name, most_tables}
 
 -- how many of the names are of tables
 abbrev pub creates_in : List RootName → ℕ
-creates_in names = length (filter is_create names)
+creates_in names = length (filter is_entry_name names)
 
 -- the texts are those of these names, each of the grammar
 pub record AreNamesOf (texts : List (List ℕ)) (read : List RootName) : Type 0 where
@@ -19,7 +19,7 @@ pub record AreNamesOf (texts : List (List ℕ)) (read : List RootName) : Type 0 
 abbrev pub IsBadBehind : ℕ → List ℕ → Type 0
 IsBadBehind tables text =
     ((n : RootName) → IsRootName n → root_text n ≡ text → ⊥)
-    ⊎ ((n : RootName) × IsRootName n × (root_text n ≡ text) × (is_create n ≡ true) × (tables ≡ most_tables))
+    ⊎ ((n : RootName) × IsRootName n × (root_text n ≡ text) × (is_entry_name n ≡ true) × (tables ≡ most_tables))
 
 -- the first of the texts that is a bad name is at the place
 pub record IsFirstBadText (texts : List (List ℕ)) (place : ℕ) : Type 0 where

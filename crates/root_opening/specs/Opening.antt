@@ -9,13 +9,13 @@ use Rattle.root_opening.specs.declared.opening.Damage.{Damage}
 use Rattle.root_opening.specs.declared.opening.Damage.TheVariants as damage
 use Rattle.root_opening.specs.declared.opening.OpenFault.{OpenFault}
 use Rattle.root_opening.specs.declared.opening.OpenFault.TheVariants as fault
-use Rattle.root_store.specs.Damage.{IsFirstBadName, IsFirstDamaged, is_create, most_tables}
-use Rattle.root_store.specs.Roots.{AreRead}
+use Rattle.root_store.specs.Damage.{IsFirstBadName, IsFirstDamaged, is_entry_name, most_tables}
+use Rattle.root_store.specs.Roots.{AreNamesRead}
 
 -- no name of the root is bad: these are its names, and not too many of them are tables
 pub record AreGood (names : Names) (read : List RootName) : Type 0 where
-  pub are : AreRead names read
-  pub few : length (filter is_create read) ≤ most_tables
+  pub are : AreNamesRead names read
+  pub few : length (filter is_entry_name read) ≤ most_tables
 
 -- the name at a place is spelled so
 pub record IsSpelledAt (read : List RootName) (place : ℕ) (text : List ℕ) : Type 0 where

@@ -8,7 +8,7 @@ ghost use Rattle.mt_outside.specs.Disk.{Told, files_at, names_of};
 ghost use Rattle.mt_model.specs.History.{IsTableSchema};
 ghost use Rattle.root_store.specs.Damage.{EntryDamaged, PartDamaged};
 ghost use Rattle.root_store.specs.Entries.{EntryHolds};
-ghost use Rattle.root_opening.specs.Keeping.{IsDamageOf, IsRead, TellsFile};
+ghost use Rattle.root_opening.specs.Keeping.{IsDamageOf, IsPartRead, TellsFile};
 ghost use Rattle.root_store.specs.Roots.{HasFolder};
 
 use crate::{Damage, OpenFault, check_files, open_entry};
@@ -87,7 +87,7 @@ pub fn check_table_part<D: Disk>(
     // The part that was read, and what damage is told.
     ensures may { OnOk result (MayHavePartition schema.now part.now.name.partition) }
     ensures read { (told : Told) → D.told disk.old ≡ Some told
-        → IfOk result (IsRead D.Arm.Dir.files (names_of told) text.now schema.now) }
+        → IfOk result (IsPartRead D.Arm.Dir.files (names_of told) text.now schema.now) }
     ensures damaged { (told : Told) → D.told disk.old ≡ Some told
         → IfErr result (TellsFile (names_of told) text.now (PartDamaged schema.now part.now)) }
 

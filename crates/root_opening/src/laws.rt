@@ -8,9 +8,9 @@ ghost use Rattle.part_set.specs.Visible.{HasNoOrphan, HasNoOverlap};
 ghost use Rattle.root_opening.specs.declared.opening.Damage.{Damage};
 ghost use Rattle.root_store.specs.declared.store.CoreStore.{CoreStore};
 ghost use Rattle.root_store.specs.ByteOrder.{AreInByteOrder};
-ghost use Rattle.root_store.specs.Damage.{DamagedAt, IsFirstBadName, is_create, most_tables};
+ghost use Rattle.root_store.specs.Damage.{DamagedAt, IsFirstBadName, is_entry_name, most_tables};
 ghost use Rattle.root_opening.specs.Opening.{IsRootDamage};
-ghost use Rattle.root_store.specs.Roots.{AreRead, Stands};
+ghost use Rattle.root_store.specs.Roots.{AreNamesRead, Stands};
 ghost use Rattle.root_store.specs.Stores.{CoreStands, StoreOf};
 
 use mt_outside::Dir;
@@ -18,16 +18,16 @@ use mt_outside::Dir;
 /// The names of a root are read in one way. Where the root stands for a history, no name is bad and none is an orphan, no two
 /// parts overlap, there are not too many tables and no file is damaged.
 pub fn sound_roots_are_not_damaged()
-    ensures one { (names : Names) (a b : List RootName) → AreRead names a → AreRead names b
+    ensures one { (names : Names) (a b : List RootName) → AreNamesRead names a → AreNamesRead names b
         → a ≡ b }
     ensures no_orphan { (names : Names) (h : History) (read : List RootName) → Stands names h
-        → AreRead names read → HasNoOrphan read }
+        → AreNamesRead names read → HasNoOrphan read }
     ensures no_overlap { (names : Names) (h : History) (read : List RootName) → Stands names h
-        → AreRead names read → HasNoOverlap read }
+        → AreNamesRead names read → HasNoOverlap read }
     ensures few { (names : Names) (h : History) (read : List RootName) → AreInByteOrder names
-        → Stands names h → AreRead names read → length (filter is_create read) ≤ most_tables }
+        → Stands names h → AreNamesRead names read → length (filter is_entry_name read) ≤ most_tables }
     ensures no_damage { (names : Names) (h : History) (read : List RootName) (place : ℕ)
-        (f : FileId) → Stands names h → AreRead names read → DamagedAt names read place f → ⊥ }
+        (f : FileId) → Stands names h → AreNamesRead names read → DamagedAt names read place f → ⊥ }
     ensures no_bad_name { (names : Names) (h : History) (place : ℕ) (name : List ℕ)
         → AreInByteOrder names → Stands names h → IsFirstBadName names place name → ⊥ }
 {}

@@ -5,7 +5,7 @@ ghost use Rattle.std.specs.List.Sorted.{IsStrictlySortedBy};
 ghost use Rattle.std.specs.Ordering.{nat_cmp};
 ghost use Rattle.part_set.specs.NameOrder.{Rise};
 ghost use Rattle.part_set.specs.RootNames.{IsRootName, root_text};
-ghost use Rattle.root_store.specs.Damage.{is_create, most_tables};
+ghost use Rattle.root_store.specs.Damage.{is_entry_name, most_tables};
 ghost use Rattle.root_opening.specs.Names.{AreNamesOf, IsBadBehind, IsFirstBadText, IsOfPlace, TellsBad, creates_in};
 
 use mt_base::{NoMemory, ROOT_TABLE_LIMIT, Seq};
@@ -34,7 +34,7 @@ impl From<NoMemory> for NameFault {
 
 // How many tables a name is.
 fn tables_of(name: &RootName) -> usize
-    ensures value { result ≡ (if is_create name.now then 1 else 0) }
+    ensures value { result ≡ (if is_entry_name name.now then 1 else 0) }
     ensures few { result ≤ 1 }
 {
     match name {
@@ -49,7 +49,7 @@ fn next_name(alloc: Global, text: &Name, tables: usize) -> Result<Option<RootNam
     ensures read { IfOk result (λ found. IfSome found
         (λ name. IsRootName name × (root_text name ≡ text.now))) }
     ensures few { IfOk result (λ found. IfSome found
-        (λ name. is_create name ≡ true → tables < most_tables)) }
+        (λ name. is_entry_name name ≡ true → tables < most_tables)) }
     ensures bad { IfOk result (λ found. IfNone found (IsBadBehind tables text.now)) }
 {
     let Some(name) = read_name(alloc, text.as_slice())? else {

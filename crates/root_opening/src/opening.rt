@@ -65,9 +65,9 @@ impl From<NoMemory> for OpenFault {
 }
 
 impl From<DiskError> for OpenFault {
-    ghost use Rattle.root_opening.specs.Keeping.{FaultOf};
+    ghost use Rattle.root_opening.specs.Keeping.{OpenFaultOf};
 
-    ghost from_gives = { FaultOf };
+    ghost from_gives = { OpenFaultOf };
 
     fn from(error: DiskError) -> Self {
         match error {

@@ -23,7 +23,7 @@ use Rattle.part_set.proofs.Items.{item_first}
 use Rattle.part_set.proofs.Maps.{found_is}
 use Rattle.part_set.proofs.NameTexts.{root_names_same}
 use Rattle.part_set.proofs.Orphans.{item_more}
-use Rattle.root_store.specs.Roots.{AreRead}
+use Rattle.root_store.specs.Roots.{AreNamesRead}
 
 -- ---- one reading
 
@@ -37,7 +37,7 @@ same_names (x ∷ a) (y ∷ b) p q is =
     ap₂ (λ (z : RootName) (zs : List RootName). z ∷ zs) (root_names_same x y p.0 q.0 first) (same_names a b p.1 q.1 rest)
 
 -- two lists that were read of the names are one
-pub one_reading : (names : Names) (a b : List RootName) → AreRead names a → AreRead names b → a ≡ b
+pub one_reading : (names : Names) (a b : List RootName) → AreNamesRead names a → AreNamesRead names b → a ≡ b
 one_reading names a b p q = same_names a b (recursion_from_All IsRootName a p.sound) (recursion_from_All IsRootName b q.sound) (p.spelled ∙ sym q.spelled)
 
 -- ---- the last byte of a name
@@ -102,7 +102,7 @@ name_read (m ∷ names) (r ∷ read) name files is at = by (is_at (slice_cmp nat
     by false miss found rest = let more = rest found in (more.0, item_more r more.0 read more.1, more.2)
 
 -- a table that has a folder is among them
-pub table_read : (names : Names) (read : List RootName) (table : List ℕ) (files : Files) → AreRead names read → files_at (create_name table) names ≡ Some files → HasTable read table
+pub table_read : (names : Names) (read : List RootName) (table : List ℕ) (files : Files) → AreNamesRead names read → files_at (create_name table) names ≡ Some files → HasTable read table
 table_read names read table files are at =
     let found = name_read names read (create_name table) files are.spelled at in
     subst (HasItem read) (create_is found.0 table (All-contains IsRootName read found.0 are.sound found.1) found.2) found.1

@@ -20,7 +20,7 @@ use Rattle.part_set.proofs.Items.{item_first, item_none}
 use Rattle.part_set.proofs.Orphans.{item_more}
 use Rattle.part_set.specs.Visible.{HasTable}
 use Rattle.root_store.specs.ByteOrder.{AreInByteOrder}
-use Rattle.root_store.specs.Damage.{is_create, most_tables}
+use Rattle.root_store.specs.Damage.{is_entry_name, most_tables}
 use Rattle.root_store.specs.Roots.{Stands}
 use Rattle.root_store.proofs.Counted.{Apart, AreTables, AreThere, as_many, creates_few, is_among}
 use Rattle.root_store.proofs.EntriesOf.{entry_known, table_entry}
@@ -33,7 +33,7 @@ tables_in [] = []
 tables_in (Create t ∷ names) = t ∷ tables_in names
 tables_in (Part p ∷ names) = tables_in names
 
-pub as_many_names : (names : List RootName) → length (filter is_create names) ≡ length (tables_in names)
+pub as_many_names : (names : List RootName) → length (filter is_entry_name names) ≡ length (tables_in names)
 as_many_names [] = refl
 as_many_names (Create t ∷ names) = let more = as_many_names names in omega (arith, more)
 as_many_names (Part p ∷ names) = as_many_names names
@@ -102,7 +102,7 @@ module _ (names : Names) (h : History) (s : Stands names h) where
     all = λ t some. among_read s.read t (table_here t some);
   }
 
-  pub few_tables : AreInByteOrder names → length (filter is_create s.read) ≤ most_tables
+  pub few_tables : AreInByteOrder names → length (filter is_entry_name s.read) ≤ most_tables
   few_tables rise =
       let count = as_many_names s.read ∙ as_many h (tables_in s.read) s.legal (are_tables rise) in
       let few = creates_few h s.legal in

@@ -14,22 +14,22 @@ use Rattle.part_set.specs.declared.root_name.TablePart.{TablePart}
 use Rattle.part_set.specs.RootNames.{IsRootName, root_text}
 use Rattle.part_set.specs.Visible.{IsVisible}
 use Rattle.root_store.specs.Entries.{EntryHolds}
-use Rattle.root_store.specs.Roots.{AreRead, HasFolder}
+use Rattle.root_store.specs.Roots.{AreNamesRead, HasFolder}
 
-abbrev pub is_create : RootName → Bool
-is_create (root.Create table) = true
-is_create (root.Part part) = false
+abbrev pub is_entry_name : RootName → Bool
+is_entry_name (root.Create table) = true
+is_entry_name (root.Part part) = false
 
 -- Names before a place are of the grammar, and there are not too many of tables among them.
 pub record AreReadUpTo (names : Names) (place : ℕ) (read : List RootName) : Type 0 where
-  pub are : AreRead (take place names) read
-  pub few : length (filter is_create read) ≤ most_tables
+  pub are : AreNamesRead (take place names) read
+  pub few : length (filter is_entry_name read) ≤ most_tables
 
 -- a name that is none of the grammar, or a table's after too many
 abbrev pub IsBadName : List RootName → List ℕ → Type 0
 IsBadName before name =
     ((n : RootName) → IsRootName n → root_text n ≡ name → ⊥)
-    ⊎ ((n : RootName) × IsRootName n × (root_text n ≡ name) × (is_create n ≡ true) × (length (filter is_create before) ≡ most_tables))
+    ⊎ ((n : RootName) × IsRootName n × (root_text n ≡ name) × (is_entry_name n ≡ true) × (length (filter is_entry_name before) ≡ most_tables))
 
 -- the first bad name is at the place
 pub record IsFirstBadName (names : Names) (place : ℕ) (name : List ℕ) : Type 0 where

@@ -33,7 +33,7 @@ pub record PartIsThere (names : Names) (h : History) (part : CorePart) : Type 0 
   pub folder : HasFolder names (root_text (root.Part (named part))) (FolderHolds schema part.rows)
 
 -- the names of a root are those that were read of it, each of the grammar
-pub record AreRead (names : Names) (read : List RootName) : Type 0 where
+pub record AreNamesRead (names : Names) (read : List RootName) : Type 0 where
   pub sound : All IsRootName read
   pub spelled : map root_text read ≡ map (λ (n : List ℕ × Files). n.0) names
 
@@ -48,7 +48,7 @@ IsOfEntry (root.Part part) = ⊥
 pub record Stands (names : Names) (h : History) : Type 0 where
   pub legal : IsLegal h
   pub read : List RootName
-  pub are : AreRead names read
+  pub are : AreNamesRead names read
   pub unmutated : (part : TablePart) → HasPart read part → part.name.mutation ≡ None
   pub entries : (e : Entry) (name : List ℕ) → HasItem h e → entry_name e.command ≡ Some name → HasFolder names name (HoldsEntry e.command)
   pub no_other : (n : RootName) → HasItem read n → IsOfEntry n → (e : Entry) × HasItem h e × (entry_name e.command ≡ Some (root_text n))

@@ -30,7 +30,7 @@ use Rattle.part_history.specs.Parts.{AreInBlockOrder, TableStands}
 use Rattle.root_store.specs.declared.store.CoreStore.{CoreStore}
 use Rattle.root_store.specs.declared.store.Table.{Table}
 use Rattle.root_store.specs.Entries.{EntryHolds}
-use Rattle.root_store.specs.Roots.{AreRead, HasFolder}
+use Rattle.root_store.specs.Roots.{AreNamesRead, HasFolder}
 
 -- the table of a name
 abbrev pub table_at : {F : Type 0} → CoreStore F → List ℕ → Option Table
@@ -96,7 +96,7 @@ pub record IsKeptOf {F : Type 0} (files_of : F → Option Files) (names : Names)
 -- block order, of which no two meet.
 pub record StoreOf {F : Type 0} (files_of : F → Option Files) (names : Names) (store : CoreStore F) : Type 0 where
   pub read : List RootName
-  pub are : AreRead names read
+  pub are : AreNamesRead names read
   pub ordered : IsOrdered (slice_cmp nat_cmp) store.tables
   pub tables : (table : List ℕ) (t : Table) → table_at store table ≡ Some t → IsTableOf names read table t
   pub all : (table : List ℕ) → HasTable read table → IsSome (table_at store table)

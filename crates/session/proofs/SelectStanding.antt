@@ -15,10 +15,10 @@ use Rattle.part_history.proofs.Joined.{parts_joined}
 use Rattle.root_store.specs.declared.store.CoreStore.{CoreStore}
 use Rattle.root_store.specs.declared.store.Table.{Table}
 use Rattle.root_store.specs.Stores.{CoreStands, core_parts, table_at}
-use Rattle.session.specs.Scans.{PartsHold, joined}
+use Rattle.session.specs.Scans.{PartsHold, joined_rows}
 
 rows_joined : {F : Type 0} (files_of : F → Option Files) (schema : Schema) (table : List ℕ) (kept : List (Kept (Part F))) (rows : List (List Row)) → PartsHold files_of schema kept rows
-    → rows_of_parts (core_parts table kept rows) ≡ joined rows
+    → rows_of_parts (core_parts table kept rows) ≡ joined_rows rows
 rows_joined files_of schema table [] [] h = refl
 rows_joined files_of schema table [] (r ∷ rows) h = absurd h
 rows_joined files_of schema table (k ∷ kept) [] h = absurd h
@@ -28,7 +28,7 @@ rows_joined files_of schema table (k ∷ kept) (r ∷ rows) h = ap (λ (rs : Lis
 pub record Held {F : Type 0} (files_of : F → Option Files) (h : History) (table : List ℕ) (schema : Schema) (parts : List (Kept (Part F))) : Type 0 where
   pub rows : List (List Row)
   pub hold : PartsHold files_of schema parts rows
-  pub partly : Partly schema (live table schema h) (joined rows)
+  pub partly : Partly schema (live table schema h) (joined_rows rows)
 
 module _ {F : Type 0} (files_of : F → Option Files) (h : History) (store : CoreStore F) (s : CoreStands files_of h store) (table : List ℕ) where
   abbrev schema_at : Option Table → Option Schema

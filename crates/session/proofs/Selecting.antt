@@ -30,14 +30,14 @@ use Rattle.mt_model.specs.History.{History, schema_of, column_types}
 use Rattle.mt_model.specs.Live.{sorted, live}
 use Rattle.mt_model.specs.Partial.{Partly}
 use Rattle.mt_model.specs.Answer.{Prints, Answer}
-use Rattle.mt_model.specs.Reply.{rows_line, place_of, place_onto, found_or, places_of, selected_places, columns_for, columns_of_select}
+use Rattle.mt_model.specs.Reply.{rows_line, column_place, place_onto, found_or, places_of, selected_places, columns_for, columns_of_select}
 use Rattle.mt_model.specs.Session.{Selects}
 use Rattle.mt_model.proofs.SameKeys.{stable_is_sorted}
 use Rattle.mt_model.proofs.Determined.{key_total}
 use Rattle.part_reader.specs.declared.reading.Part.{Part}
 use Rattle.part_reader.specs.Parts.{PartHolds, with_columns}
 use Rattle.part_set.specs.declared.kept.Kept.{Kept}
-use Rattle.session.specs.Scans.{ArePlacesOf, PartsHold, joined, rows_kept, values_at}
+use Rattle.session.specs.Scans.{ArePlacesOf, PartsHold, joined_rows, rows_kept, values_at}
 use Rattle.replies.specs.Lines.{Printed}
 
 -- rows ordered by the key are the rows stably sorted by it
@@ -66,7 +66,7 @@ option_true true x y h = (refl, cc)
 option_true false x y h = cc
 
 -- the place of a name is a column's
-place_below : (columns : List Column) (name : List ℕ) (place : ℕ) → place_of columns name ≡ Some place → place < length columns
+place_below : (columns : List Column) (name : List ℕ) (place : ℕ) → column_place columns name ≡ Some place → place < length columns
 place_below columns name place h =
     let parts = option_true _ _ place h in
     let lt = parts.0 in
@@ -75,9 +75,9 @@ place_below columns name place h =
 
 named_below : (columns : List Column) (names : List (List ℕ)) (places : List ℕ) → places_of columns names ≡ Ok places → All (λ p. p < length columns) places
 named_below columns [] places is = let nil : [] ≡ places = cc in subst (All (λ p. p < length columns)) nil (All-nil (λ (p : ℕ). p < length columns))
-named_below columns (name ∷ names) places is = by (λ ps. named_below columns names ps) (place_of columns name) refl (places_of columns names) refl is
+named_below columns (name ∷ names) places is = by (λ ps. named_below columns names ps) (column_place columns name) refl (places_of columns names) refl is
   where
-    by : ((ps : List ℕ) → places_of columns names ≡ Ok ps → All (λ p. p < length columns) ps) → (o : Option ℕ) → place_of columns name ≡ o → (r : Result (List ℕ) Refusal) → places_of columns names ≡ r
+    by : ((ps : List ℕ) → places_of columns names ≡ Ok ps → All (λ p. p < length columns) ps) → (o : Option ℕ) → column_place columns name ≡ o → (r : Result (List ℕ) Refusal) → places_of columns names ≡ r
         → place_onto (found_or name o) r ≡ Ok places → All (λ p. p < length columns) places
     by more None e r f is = cc
     by more (Some place) e (Err why) f is = cc
@@ -144,9 +144,9 @@ values_more rows more (p ∷ ps) (c ∷ cs) are =
     let rest : map (λ (x : Cells). x.values) cs ≡ values_at rows ps = cc in
     ap₂ (λ (v : List Value) (vs : List (List Value)). v ∷ vs) (ap (λ vs. vs ++ column_of p more) first ∙ sym (filter_map-append (λ (row : Row). slice_get row p) rows more)) (values_more rows more ps cs rest)
 
-joined_push : (parts : List (List Row)) (rows : List Row) → joined (parts ++ rows ∷ []) ≡ joined parts ++ rows
+joined_push : (parts : List (List Row)) (rows : List Row) → joined_rows (parts ++ rows ∷ []) ≡ joined_rows parts ++ rows
 joined_push [] rows = append-nil rows
-joined_push (p ∷ ps) rows = ap (λ rs. p ++ rs) (joined_push ps rows) ∙ sym (append_assoc p (joined ps) rows)
+joined_push (p ∷ ps) rows = ap (λ rs. p ++ rs) (joined_push ps rows) ∙ sym (append_assoc p (joined_rows ps) rows)
 
 -- the rows of the part at a place of a list
 pub record PartAt {F : Type 0} (files_of : F → Option Files) (schema : Schema) (part : Part F) (at : ℕ) (lists : List (List Row)) : Type 0 where
@@ -166,27 +166,27 @@ part_at files_of schema (p ∷ ps) (r ∷ rs) (suc at) part h lt is =
 
 -- one part more was read
 pub values_next : (lists : List (List Row)) (at : ℕ) (rows : List Row) (places : List ℕ) (columns new : List Cells) → take (at + 1) lists ≡ take at lists ++ rows ∷ []
-    → map (λ (c : Cells). c.values) columns ≡ values_at (joined (take at lists)) places → new ≡ with_columns rows places columns
-    → map (λ (c : Cells). c.values) new ≡ values_at (joined (take (at + 1) lists)) places
+    → map (λ (c : Cells). c.values) columns ≡ values_at (joined_rows (take at lists)) places → new ≡ with_columns rows places columns
+    → map (λ (c : Cells). c.values) new ≡ values_at (joined_rows (take (at + 1) lists)) places
 values_next lists at rows places columns new next are is =
     ap (map (λ (c : Cells). c.values)) is
-    ∙ (values_more (joined (take at lists)) rows places columns are ∙ ap (λ rs. values_at rs places) (sym (ap joined next ∙ joined_push (take at lists) rows)))
+    ∙ (values_more (joined_rows (take at lists)) rows places columns are ∙ ap (λ rs. values_at rs places) (sym (ap joined_rows next ∙ joined_push (take at lists) rows)))
 
 module _ {F : Type 0} (files_of : F → Option Files) (schema : Schema) where
-  pub joined_typed : (parts : List (Kept (Part F))) (lists : List (List Row)) → PartsHold files_of schema parts lists → AreRowsOf (column_types schema) (joined lists)
+  pub joined_typed : (parts : List (Kept (Part F))) (lists : List (List Row)) → PartsHold files_of schema parts lists → AreRowsOf (column_types schema) (joined_rows lists)
   joined_typed [] [] h = All-nil (λ row. types_of row ≡ column_types schema)
   joined_typed [] (r ∷ rs) h = absurd h
   joined_typed (p ∷ ps) [] h = absurd h
-  joined_typed (p ∷ ps) (r ∷ rs) h = All-append (λ row. types_of row ≡ column_types schema) r (joined rs) h.0.typed (joined_typed ps rs h.1)
+  joined_typed (p ∷ ps) (r ∷ rs) h = All-append (λ row. types_of row ≡ column_types schema) r (joined_rows rs) h.0.typed (joined_typed ps rs h.1)
 
   -- the manifests count the rows
-  pub rows_counted : (parts : List (Kept (Part F))) (lists : List (List Row)) → PartsHold files_of schema parts lists → rows_kept parts ≡ length (joined lists)
+  pub rows_counted : (parts : List (Kept (Part F))) (lists : List (List Row)) → PartsHold files_of schema parts lists → rows_kept parts ≡ length (joined_rows lists)
   rows_counted [] [] h = refl
   rows_counted [] (r ∷ rs) h = absurd h
   rows_counted (p ∷ ps) [] h = absurd h
   rows_counted (p ∷ ps) (r ∷ rs) h =
       let count : p.part.loaded.manifest.rows ≡ length r = ap (λ (m : Manifest). m.rows) h.0.loaded_is in
-      sum_by-cons (λ (q : Kept (Part F)). q.part.loaded.manifest.rows) p ps ∙ (ap₂ (λ m n. m + n) count (rows_counted ps rs h.1) ∙ sym (length-append r (joined rs)))
+      sum_by-cons (λ (q : Kept (Part F)). q.part.loaded.manifest.rows) p ps ∙ (ap₂ (λ m n. m + n) count (rows_counted ps rs h.1) ∙ sym (length-append r (joined_rows rs)))
 
   lists_made : (parts : List (Kept (Part F))) (lists : List (List Row)) → PartsHold files_of schema parts lists → length lists ≡ length parts
   lists_made [] [] h = refl
@@ -196,8 +196,8 @@ module _ {F : Type 0} (files_of : F → Option Files) (schema : Schema) where
 
   -- all parts were read
   pub values_all : (parts : List (Kept (Part F))) (lists : List (List Row)) (at : ℕ) (places : List ℕ) (columns : List Cells) → PartsHold files_of schema parts lists → length parts ≤ at
-      → map (λ (c : Cells). c.values) columns ≡ values_at (joined (take at lists)) places → map (λ (c : Cells). c.values) columns ≡ values_at (joined lists) places
-  values_all parts lists at places columns h le are = are ∙ ap (λ ls. values_at (joined ls) places) (take_all at lists (omega (arith, lists_made parts lists h)))
+      → map (λ (c : Cells). c.values) columns ≡ values_at (joined_rows (take at lists)) places → map (λ (c : Cells). c.values) columns ≡ values_at (joined_rows lists) places
+  values_all parts lists at places columns h le are = are ∙ ap (λ ls. values_at (joined_rows ls) places) (take_all at lists (omega (arith, lists_made parts lists h)))
 
 -- what is read of a list at a place is one of its items
 pub item_at : {X : Type 0} (xs : List X) (k : ℕ) (x : X) → k < length xs → x ≡ get_or xs k x → HasItem xs x

@@ -28,8 +28,8 @@ abbrev pub values_at : List Row → List ℕ → List (List Value)
 values_at rows places = map (λ place. column_of place rows) places
 
 -- rows of parts, one part after another
-abbrev pub joined : List (List Row) → List Row
-joined parts = flat_map (λ (part : List Row). part) parts
+abbrev pub joined_rows : List (List Row) → List Row
+joined_rows parts = flat_map (λ (part : List Row). part) parts
 
 -- how many rows parts have, by what is kept of them
 abbrev pub rows_kept : {F : Type 0} → List (Kept (Part F)) → ℕ

@@ -5,7 +5,7 @@ ghost use Rattle.mt_values.specs.Grid.{Cells};
 ghost use Rattle.mt_values.specs.Values.{Row};
 ghost use Rattle.mt_outside.specs.Causes.{Rose};
 ghost use Rattle.part_reader.specs.Faults.{IsNoDamage};
-ghost use Rattle.session.specs.Scans.{ArePlacesOf, ExplainsParts, HaveTypes, PartsHold, joined, rows_kept, values_at};
+ghost use Rattle.session.specs.Scans.{ArePlacesOf, ExplainsParts, HaveTypes, PartsHold, joined_rows, rows_kept, values_at};
 
 use mt_base::{NoMemory, Rows};
 use mt_outside::Arm;
@@ -64,7 +64,7 @@ pub fn read_parts<R: Arm>(
         → PartsHold R.Dir.files schema parts.now rows → ArePlacesOf schema places.now
         → HaveTypes schema places.now columns.old
         → map (λ (c : Cells). c.values) columns.old ≡ values_at [] places.now
-        → OnOk result (map (λ (c : Cells). c.values) columns.new ≡ values_at (joined rows)
+        → OnOk result (map (λ (c : Cells). c.values) columns.new ≡ values_at (joined_rows rows)
         places.now) }
     ensures even { All (λ (c : Cells). length c.values ≡ 0) columns.old
         → OnOk result (All (λ (c : Cells). length c.values ≡ rows_kept parts.now) columns.new) }

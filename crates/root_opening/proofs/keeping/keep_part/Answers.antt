@@ -2,7 +2,7 @@ use Rattle.std.proofs.Common.{◌≡◌, ◌≤◌, ◌⊎◌, List, ℕ, subst,
 use Rattle.mt_outside.specs.Disk.{names_of}
 use Rattle.part_set.specs.declared.root_name.RootName.TheVariants as root
 use Rattle.root_store.specs.Damage.{IsDamaged, PartDamaged}
-use Rattle.root_opening.specs.Keeping.{IsRead, TellsFile}
+use Rattle.root_opening.specs.Keeping.{IsPartRead, TellsFile}
 use Rattle.root_opening.proofs.Checked.{told_weaker}
 use Rattle.root_opening.proofs.KeptNames.{part_damaged, part_kept, part_told}
 use Rattle.root_opening.proofs.keeping.keep_part.Goals as goal
@@ -34,5 +34,5 @@ returns-clause-keeps_told g c = λ told read seen is tells.
     let table = c.in-Some.table.now in
     let n = c.max-table.result in
     let updates = (c.get_mut.follows.holds (record { schema = table.schema; drawn = n })).3 (search rules) in
-    let checked = subst (λ (t : List ℕ). IsRead g.D.Arm.Dir.Dir.files (names_of told) t table.schema c.in_ok-checked.checked) c.requires.text (c.in_ok-checked.ensures.read told is) in
+    let checked = subst (λ (t : List ℕ). IsPartRead g.D.Arm.Dir.Dir.files (names_of told) t table.schema c.in_ok-checked.checked) c.requires.text (c.in_ok-checked.ensures.read told is) in
     part_told read seen c.args.store.now _ part c.in_ok-checked.checked table n (sym c.in-Some.ensures.value) updates c.in_ok-add.ensures.ok c.in_ok-add.ensures.others c.in_ok-checked.ensures.may g.D.Arm.Dir.Dir.files (names_of told) checked tells

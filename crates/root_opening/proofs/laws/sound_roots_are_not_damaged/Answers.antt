@@ -1,7 +1,7 @@
 use Rattle.std.proofs.Common.{◌≤◌, List, filter, length, subst}
 use Rattle.part_set.specs.declared.root_name.RootName.{RootName}
 use Rattle.part_set.specs.Visible.{HasNoOrphan, HasNoOverlap}
-use Rattle.root_store.specs.Damage.{DamagedAt, is_create, most_tables}
+use Rattle.root_store.specs.Damage.{DamagedAt, is_entry_name, most_tables}
 use Rattle.root_opening.proofs.BadNames.{no_bad_name}
 use Rattle.root_store.proofs.Clear as clear
 use Rattle.root_store.proofs.Orphaned as orphaned
@@ -25,7 +25,7 @@ returns-clause-no_damage c = λ names h read place f s are bad.
 
 pub returns-clause-few : goal.returns-clause-few
 returns-clause-few c = λ names h read rise s are.
-    subst (λ (r : List RootName). length (filter is_create r) ≤ most_tables) (one_reading names s.read read s.are are) (tabled.few_tables names h s rise)
+    subst (λ (r : List RootName). length (filter is_entry_name r) ≤ most_tables) (one_reading names s.read read s.are are) (tabled.few_tables names h s rise)
 
 pub returns-clause-no_bad_name : goal.returns-clause-no_bad_name
 returns-clause-no_bad_name c = λ names h place name rise s bad. no_bad_name names h s rise place name bad

@@ -6,7 +6,7 @@ use Rattle.mt_model.specs.Refusals.{is_damage}
 use Rattle.part_reader.specs.Faults.{IsNoDamage}
 use Rattle.replies.specs.Foreseen.{history}
 use Rattle.replies.specs.Lines.{Printed}
-use Rattle.session.specs.Scans.{ExplainsParts, PartsHold, joined, rows_kept, values_at}
+use Rattle.session.specs.Scans.{ExplainsParts, PartsHold, joined_rows, rows_kept, values_at}
 use Rattle.std.proofs.lemmas.Bool.{false≢true}
 use Rattle.part_reader.specs.declared.reading.PartFault.{PartFault}
 use Rattle.part_set.specs.Sets.{parts_of}
@@ -81,18 +81,18 @@ returns-in-Ok-clause-answers g c = λ kept stands.
     let new = c.read_parts.new.columns in
     let types = ap (map (λ (x : Cells). x.col_type)) lent ∙ c.in_ok-columns.ensures.types in
     let empty = ap (map (λ (x : Cells). x.values)) lent ∙ c.in_ok-columns.ensures.empty in
-    let values : map (λ (x : Cells). x.values) new ≡ values_at (joined held.rows) c.args.places.now =
+    let values : map (λ (x : Cells). x.values) new ≡ values_at (joined_rows held.rows) c.args.places.now =
     c.in-Ok.ensures.values table.schema held.rows hold within types empty in
     let back = lent_back items new c.in_ok-columns.columns.len (c.in-Ok.ensures.many ∙ ap length lent) (ap length (sym lent) ∙ c.deref_mut.ensures.len) in
-    let count : c.args.rows ≡ length (joined held.rows) = (c.requires.rows ∙ ap rows_kept (sym c.parts-parts.ensures.parts)) ∙ rows_counted files table.schema c.parts-parts.result.now held.rows hold in
+    let count : c.args.rows ≡ length (joined_rows held.rows) = (c.requires.rows ∙ ap rows_kept (sym c.parts-parts.ensures.parts)) ∙ rows_counted files table.schema c.parts-parts.result.now held.rows hold in
     let typed = joined_typed files table.schema c.parts-parts.result.now held.rows hold in
-    let rows_are = ap (rows_of new) count ∙ projected new c.args.places.now (joined held.rows) values (typed_have_all table.schema c.args.places.now (joined held.rows) within typed) in
+    let rows_are = ap (rows_of new) count ∙ projected new c.args.places.now (joined_rows held.rows) values (typed_have_all table.schema c.args.places.now (joined_rows held.rows) within typed) in
     let place : store.length ≡ length kept.list = stands.length_is ∙ length_history kept in
     IfOk-weaker c.print.result _ _ (λ reply is n disk f.
     let printed = subst (λ (cs : List Cells). Printed (grid_of cs c.args.rows) store.length reply.items) back is in
     let here = subst (λ (m : ℕ). Printed (grid_of new c.args.rows) m reply.items) place printed in
     inl (
-      selects (history kept) text table.schema c.args.places.now (joined held.rows) (grid_of new c.args.rows) (length kept.list) reply.items (whole_front kept) there chosen held.partly rows_are here,
+      selects (history kept) text table.schema c.args.places.now (joined_rows held.rows) (grid_of new c.args.rows) (length kept.list) reply.items (whole_front kept) there chosen held.partly rows_are here,
       added_nothing kept,
     )) c.print.ensures
 
