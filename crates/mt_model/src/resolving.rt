@@ -1,38 +1,36 @@
 // The columns that a statement names: the schema that a CREATE writes, and the columns that a SELECT prints.
 ghost use Rattle.std.specs.Prelude.{◌≡◌, ◌<◌, ◌^◌, IfOk, IfSome, length};
+ghost use Rattle.mt_base.specs.Stops.{Gives};
 ghost use Rattle.mt_model.specs.Reply as reply;
 
 use crate::refusal::{Bound, Reason, Refusal};
-use mt_base::{COLUMN_LIMIT, NoMemory, Seq, Twin};
+use mt_base::{COLUMN_LIMIT, NoMemory, Seq, Stop, Twin};
 use mt_values::{Column, CreateText, Name, Schema, SchemaFault, Selected, all_places};
 use std::alloc::Global;
 
 /// The schema that a CREATE writes, or the first thing that it is refused for: a name of its key that is no column's, a
 /// rule of schemas that is broken, too many columns.
 ///
-/// `NoMemory` where an allocation failed, and where a place of the columns has no room in the 32 bits of a key's.
-pub fn resolve(alloc: Global, create: &CreateText) -> Result<Result<Schema, Refusal>, NoMemory>
-    ensures { IfOk result (λ schema. schema ≡ reply.schema_of_text create.now) }
+/// `Stop::NoMemory` where an allocation failed, and where a place of the columns has no room in the 32 bits of a key's.
+pub fn resolve(alloc: Global, create: &CreateText) -> Result<Schema, Stop<Refusal>>
+    ensures { Gives (reply.schema_of_text create.now) result }
 {
     let columns = create.columns.as_slice();
     if columns.len() > u32::MAX as usize {
-        return Err(NoMemory);
+        return Err(Stop::NoMemory);
     }
-    let key = match places_of(alloc, columns, create.key.as_slice())? {
-        Ok(key) => key,
-        Err(refusal) => return Ok(Err(refusal)),
-    };
+    let key = places_of(alloc, columns, create.key.as_slice())?;
     let schema = Schema {
         columns: create.columns.twin(alloc)?,
         key,
     };
     if let Err(fault) = schema.check() {
-        return Ok(Err(refusal_of_schema(alloc, columns, fault)?));
+        return Err(Stop::Refused(refusal_of_schema(alloc, columns, fault)?));
     }
     if columns.len() > COLUMN_LIMIT {
-        return Ok(Err(Refusal::Past(Bound::Columns)));
+        return Err(Stop::Refused(Refusal::Past(Bound::Columns)));
     }
-    Ok(Ok(schema))
+    Ok(schema)
 }
 
 /// The refusal of a schema with these columns for the rule that it breaks.
@@ -71,41 +69,37 @@ fn name_at(alloc: Global, columns: &[Column], place: usize) -> Result<Name, NoMe
 
 /// The places of the columns that a SELECT takes, or the first name of it that is no column's.
 ///
-/// `NoMemory` where an allocation failed.
+/// `Stop::NoMemory` where an allocation failed.
 pub fn selected_columns(
     alloc: Global,
     columns: &[Column],
     selected: &Selected,
-) -> Result<Result<Seq<u32>, Refusal>, NoMemory>
+) -> Result<Seq<u32>, Stop<Refusal>>
     requires { length columns.now < 2 ^ 32 }
-    ensures { IfOk result (λ places. places ≡ reply.selected_places columns.now selected.now) }
+    ensures { Gives (reply.selected_places columns.now selected.now) result }
 {
     match selected {
         Selected::All => {
             let places = all_places(alloc, columns.len() as u32)?;
-            Ok(Ok(Seq::of(places)))
+            Ok(Seq::of(places))
         }
         Selected::Named(names) => places_of(alloc, columns, names.as_slice()),
     }
 }
 
 /// The places of the columns of these names, or the first name that is no column's.
-fn places_of(
-    alloc: Global,
-    columns: &[Column],
-    names: &[Name],
-) -> Result<Result<Seq<u32>, Refusal>, NoMemory>
+fn places_of(alloc: Global, columns: &[Column], names: &[Name]) -> Result<Seq<u32>, Stop<Refusal>>
     requires { length columns.now < 2 ^ 32 }
-    ensures { IfOk result (λ places. places ≡ reply.places_of columns.now names.now) }
+    ensures { Gives (reply.places_of columns.now names.now) result }
 {
     let mut places = Seq::new(alloc);
     for name in names {
         let Some(place) = find_column(columns, name) else {
-            return Ok(Err(Refusal::NoColumn(name.twin(alloc)?)));
+            return Err(Stop::Refused(Refusal::NoColumn(name.twin(alloc)?)));
         };
         places.push(place as u32)?;
     }
-    Ok(Ok(places))
+    Ok(places)
 }
 
 /// The place of the first column of this name.

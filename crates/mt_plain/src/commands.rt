@@ -1,5 +1,6 @@
 // The commands that statements give.
-ghost use Rattle.std.specs.Prelude.{◌≡◌, ◌<◌, ◌^◌, All, Err, Ok, IfOk, MatchResult, length};
+ghost use Rattle.std.specs.Prelude.{◌≡◌, ◌<◌, ◌^◌, All, Ok, IfErr, IfOk, length};
+ghost use Rattle.mt_base.specs.Stops.{Refuses};
 ghost use Rattle.mt_values.specs.declared.statement.Statement.TheVariants as statement;
 ghost use Rattle.mt_values.specs.Grid.{AreRowsOf};
 ghost use Rattle.mt_model.specs.Commands as commands;
@@ -7,31 +8,29 @@ ghost use Rattle.mt_model.specs.History as history;
 ghost use Rattle.mt_model.specs.Reply as reply;
 ghost use Rattle.mt_plain.specs.Plain.{MayFollow};
 
-use crate::{partitions_of, read_block, rows_in, rows_of, schema_of};
-use mt_base::{NoMemory, Twin};
+use crate::{partitions_of, rows_in, rows_of, schema_of};
+use mt_base::{NoMemory, Stop, Twin};
 use mt_model::{Refusal, resolve};
 use mt_values::{
     Block, Command, Create, CreateText, Entry, Insert, InsertText, Name, Partition, Row, Schema,
 };
 use std::alloc::Global;
+use tsv_rows::read_rows;
 
 /// The command of a CREATE, or why its text refuses it.
-pub fn create_commands(
-    alloc: Global,
-    create: &CreateText,
-) -> Result<Result<Vec<Command>, Refusal>, NoMemory>
-    ensures { IfOk result (λ given. MatchResult given (λ v. commands.create_commands
-        create.now.table (reply.schema_of_text create.now) ≡ Ok v.items) (λ why.
-        commands.create_commands create.now.table (reply.schema_of_text create.now) ≡ Err why)) }
+pub fn create_commands(alloc: Global, create: &CreateText) -> Result<Vec<Command>, Stop<Refusal>>
+    ensures given { IfOk result (λ v. commands.create_commands create.now.table
+        (reply.schema_of_text create.now) ≡ Ok v.items) }
+    ensures refused { IfErr result (Refuses
+        (commands.create_commands create.now.table (reply.schema_of_text create.now))) }
 {
-    let schema = match resolve(alloc, create)? {
-        Ok(schema) => schema,
-        Err(refusal) => return Ok(Err(refusal)),
-    };
+    let schema = resolve(alloc, create)?;
     let table = create.table.twin(alloc)?;
     let mut commands = Vec::new(alloc);
-    commands.push(Command::Create(Create { table, schema }))?;
-    Ok(Ok(commands))
+    match commands.push(Command::Create(Create { table, schema })) {
+        Ok(()) => Ok(commands),
+        Err(_) => Err(Stop::NoMemory),
+    }
 }
 
 /// The commands of an INSERT at the end of a history, one for each partition of its rows, or why its table or its data
@@ -40,25 +39,27 @@ pub fn insert_commands(
     alloc: Global,
     entries: &[Entry],
     insert: &InsertText,
-) -> Result<Result<Vec<Command>, Refusal>, NoMemory>
-    ensures given { IfOk result (λ given. MatchResult given (λ v. commands.commands_of entries.now
-        (statement.Insert insert.now) ≡ Ok v.items) (λ why. commands.commands_of entries.now
-        (statement.Insert insert.now) ≡ Err why)) }
-    ensures may_come { IfOk result (λ given. IfOk given (λ v. All (MayFollow entries.now) v.items)) }
+) -> Result<Vec<Command>, Stop<Refusal>>
+    ensures given { IfOk result
+        (λ v. commands.commands_of entries.now (statement.Insert insert.now) ≡ Ok v.items) }
+    ensures refused { IfErr result
+        (Refuses (commands.commands_of entries.now (statement.Insert insert.now))) }
+    ensures may_come { IfOk result (λ v. All (MayFollow entries.now) v.items) }
 {
     let Some(schema) = schema_of(entries, &insert.table) else {
-        return Ok(Err(Refusal::NoTable(insert.table.twin(alloc)?)));
+        return Err(Stop::Refused(Refusal::NoTable(insert.table.twin(alloc)?)));
     };
     let types = schema.types(alloc)?;
     let lines = insert.lines.as_slice();
-    let block = match read_block(alloc, types.as_slice(), lines, insert.ended)? {
+    let block = match read_rows(alloc, types.as_slice(), lines, insert.ended) {
         Ok(block) => block,
-        Err(fault) => return Ok(Err(Refusal::of_data(fault))),
+        Err(Stop::Refused(fault)) => return Err(Stop::Refused(Refusal::of_data(fault))),
+        Err(Stop::NoMemory) => return Err(Stop::NoMemory),
     };
     // Its length says that each row has a value of each column's type.
     prove!(block.len() < 4294967296);
     let rows = rows_of(alloc, &block)?;
-    Ok(Ok(commands_of_rows(alloc, schema, &insert.table, &rows)?))
+    Ok(commands_of_rows(alloc, schema, &insert.table, &rows)?)
 }
 
 /// The commands that add rows to a table of this schema, one for each of their partitions.

@@ -12,7 +12,7 @@ use super::commands::{create_commands, insert_commands};
 use super::selecting::answer;
 use super::turns::accept;
 use crate::{rows_reply, schema_of};
-use mt_base::{NoMemory, Twin};
+use mt_base::{NoMemory, Stop, Twin};
 use mt_model::{Refusal, ok_line, refusal_line};
 use mt_values::{Cause, Command, CreateText, Entry, InsertText, SelectText, Statement};
 use std::alloc::Global;
@@ -125,9 +125,10 @@ fn step_create(
     ensures legal { OnOk result (0 < length create.now.key → IsLegal history.old.items
         → IsLegal history.new.items) }
 {
-    match create_commands(alloc, create)? {
+    match create_commands(alloc, create) {
         Ok(commands) => take_turns(alloc, history, commands),
-        Err(refusal) => refused(alloc, refusal),
+        Err(Stop::Refused(refusal)) => refused(alloc, refusal),
+        Err(Stop::NoMemory) => Err(NoMemory),
     }
 }
 
@@ -143,9 +144,10 @@ fn step_insert(
     ensures grows { Grows history.old.items history.new.items }
     ensures legal { OnOk result (IsLegal history.old.items → IsLegal history.new.items) }
 {
-    match insert_commands(alloc, history, insert)? {
+    match insert_commands(alloc, history, insert) {
         Ok(commands) => take_turns(alloc, history, commands),
-        Err(refusal) => refused(alloc, refusal),
+        Err(Stop::Refused(refusal)) => refused(alloc, refusal),
+        Err(Stop::NoMemory) => Err(NoMemory),
     }
 }
 
@@ -173,8 +175,9 @@ fn step_select(alloc: Global, history: &[Entry], select: &SelectText) -> Result<
     let Some(schema) = schema_of(history, &select.table) else {
         return refused(alloc, Refusal::NoTable(select.table.twin(alloc)?));
     };
-    match answer(alloc, history, schema, select)? {
+    match answer(alloc, history, schema, select) {
         Ok(lines) => rows_reply(alloc, &lines, history.len() as u64),
-        Err(refusal) => refused(alloc, refusal),
+        Err(Stop::Refused(refusal)) => refused(alloc, refusal),
+        Err(Stop::NoMemory) => Err(NoMemory),
     }
 }

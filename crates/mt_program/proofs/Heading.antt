@@ -17,8 +17,8 @@ use Rattle.mt_model.specs.History.{History, IsLegal}
 use Rattle.mt_model.specs.Outside.{Outside}
 use Rattle.mt_model.specs.Script.{OwnEntries}
 use Rattle.mt_model.specs.Session.{AddsNothing}
-use Rattle.run_streams.specs.declared.streams.ReadStop.{ReadStop}
-use Rattle.run_streams.specs.declared.streams.ReadStop.TheVariants as unread
+use Rattle.run_streams.specs.declared.streams.SourceStop.{SourceStop}
+use Rattle.run_streams.specs.declared.streams.SourceStop.TheVariants as unread
 use Rattle.mt_program.specs.declared.serving.Ending.{Ending}
 use Rattle.mt_program.specs.declared.serving.Ending.TheVariants as ending
 use Rattle.replies.specs.declared.tally.Tally.{Tally}
@@ -369,12 +369,12 @@ at_most_one_is status.TooLong h = absurd (omega arith)
 
 -- ---- how a run ends before its script is served
 
-pub stop_early : (why : ReadStop) → IsEarly (status_of_stop why)
+pub stop_early : (why : SourceStop) → IsEarly (status_of_stop why)
 stop_early unread.NoMemory = tt
 stop_early unread.Fault = tt
 stop_early unread.TooLong = tt
 
-pub stop_undamaged : (why : ReadStop) → status_of_stop why ≡ status.Damaged → ⊥
+pub stop_undamaged : (why : SourceStop) → status_of_stop why ≡ status.Damaged → ⊥
 stop_undamaged unread.NoMemory h = cc
 stop_undamaged unread.Fault h = cc
 stop_undamaged unread.TooLong h = cc
@@ -414,7 +414,7 @@ told_fault risen (Ok ending) fault = absurd cc
 told_fault risen (Err early) fault = cc
 
 -- a read that failed is told by the status
-pub told_stop : {T U : Type 0} (why : ReadStop) (ended : Status) → ended ≡ status_of_stop why → IsErrOf {T = T} (Err why) unread.Fault → IsErrOf {T = U} (Err ended) status.ReadFault
+pub told_stop : {T U : Type 0} (why : SourceStop) (ended : Status) → ended ≡ status_of_stop why → IsErrOf {T = T} (Err why) unread.Fault → IsErrOf {T = U} (Err ended) status.ReadFault
 told_stop unread.Fault ended is fault = ap Err is
 told_stop unread.NoMemory ended is fault = absurd cc
 told_stop unread.TooLong ended is fault = absurd cc

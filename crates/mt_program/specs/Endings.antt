@@ -7,8 +7,8 @@ use Rattle.mt_outside.specs.declared.disk.DiskError.TheVariants as failure
 use Rattle.mt_program.specs.declared.serving.Ending.{Ending}
 use Rattle.mt_program.specs.declared.serving.Ending.TheVariants as ending
 use Rattle.replies.specs.declared.tally.Tally.{Tally}
-use Rattle.run_streams.specs.declared.streams.ReadStop.{ReadStop}
-use Rattle.run_streams.specs.declared.streams.ReadStop.TheVariants as unread
+use Rattle.run_streams.specs.declared.streams.SourceStop.{SourceStop}
+use Rattle.run_streams.specs.declared.streams.SourceStop.TheVariants as unread
 use Rattle.mt_program.specs.Serving.{ServedBy}
 use Rattle.mt_program.specs.declared.status.Status.{Status}
 use Rattle.mt_program.specs.declared.status.Status.TheVariants as status
@@ -19,7 +19,7 @@ status_of_error failure.Fault = status.DiskFault
 status_of_error failure.NoMemory = status.NoMemory
 
 -- the status of a script that was not read
-abbrev pub status_of_stop : ReadStop → Status
+abbrev pub status_of_stop : SourceStop → Status
 status_of_stop unread.NoMemory = status.NoMemory
 status_of_stop unread.Fault = status.ReadFault
 status_of_stop unread.TooLong = status.TooLong

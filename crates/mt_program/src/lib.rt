@@ -9,7 +9,7 @@ mod top;
 
 pub use laws::premises_are_met;
 pub use replies::Tally;
-pub use run_streams::ReadStop;
+pub use run_streams::SourceStop;
 pub use serving::Ending;
 pub use status::Status;
 pub use top::{Done, run, run_alone};

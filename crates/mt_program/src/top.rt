@@ -25,7 +25,7 @@ use crate::serving::{Ending, serve};
 use mt_outside::{Arm, Disk, DiskError, Gate, Sink, Source};
 use mt_values::Annals;
 use root_log::{CoreStore, Damage, OpenFault, open};
-use run_streams::{ReadStop, is_command_line, read_all, write_all};
+use run_streams::{SourceStop, is_command_line, read_all, write_all};
 use std::alloc::Global;
 use std::sync::Wait;
 use std::thread::Threads;
@@ -49,13 +49,13 @@ fn failed_opening(error: DiskError) -> Status
 }
 
 /// The status of a script that was not read.
-fn failed_reading(stop: ReadStop) -> Status
+fn failed_reading(stop: SourceStop) -> Status
     ensures { result ≡ status_of_stop stop }
 {
     match stop {
-        ReadStop::NoMemory => Status::NoMemory,
-        ReadStop::Fault => Status::ReadFault,
-        ReadStop::TooLong => Status::TooLong,
+        SourceStop::NoMemory => Status::NoMemory,
+        SourceStop::Fault => Status::ReadFault,
+        SourceStop::TooLong => Status::TooLong,
     }
 }
 

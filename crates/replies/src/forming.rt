@@ -5,19 +5,19 @@ ghost use Rattle.mt_model.specs.Refusals.{refusal_line};
 ghost use Rattle.mt_model.specs.Reply.{ok_line};
 
 use crate::lines::{failed_line, unsettled_line};
+use crate::reply::Reply;
 use mt_base::NoMemory;
-use mt_model::ok_line;
 use std::alloc::Global;
 
 /// The replies to a command, formed before its files are written, so that no memory is wanted for one once the outside has failed.
 #[derive(Drop)]
 pub struct Replies {
     /// To a command that was committed.
-    pub accepted: Vec<u8>,
+    pub accepted: Reply,
     /// To one whose publish or whose sync failed.
-    pub unsettled: Vec<u8>,
+    pub unsettled: Reply,
     /// To one whose files were not written.
-    pub failed: Vec<u8>,
+    pub failed: Reply,
 }
 
 /// The replies to the next command of a history of this length, after some commands of its statement were accepted.
@@ -28,15 +28,15 @@ pub fn replies_behind(
     before: u64,
     accepted_before: usize,
 ) -> Result<Replies, NoMemory>
-    ensures accepted { IfOk result (λ r. r.accepted.items ≡ ok_line (before + 1)) }
+    ensures accepted { IfOk result (λ r. r.accepted ≡ ok_line (before + 1)) }
     ensures unsettled { IfOk result
-        (λ r. r.unsettled.items ≡ refusal_line (refusal.Unsettled accepted_before)) }
-    ensures failed { IfOk result (λ r. r.failed.items ≡ refusal_line refusal.Failed) }
+        (λ r. r.unsettled ≡ refusal_line (refusal.Unsettled accepted_before)) }
+    ensures failed { IfOk result (λ r. r.failed ≡ refusal_line refusal.Failed) }
 {
     let Some(length) = before.checked_add(1) else {
         return Err(NoMemory);
     };
-    let accepted = ok_line(alloc, length)?;
+    let accepted = Reply::accepted(alloc, length)?;
     let unsettled = unsettled_line(alloc, accepted_before)?;
     let failed = failed_line(alloc)?;
     Ok(Replies {

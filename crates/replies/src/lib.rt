@@ -5,11 +5,13 @@
 mod forming;
 mod lines;
 mod printing;
+mod reply;
 mod tally;
 mod writing;
 
 pub use forming::{Replies, replies_behind};
 pub use lines::{damaged, data_line, failed_line, no_table_line, stage_line, unsettled_line};
 pub use printing::print;
-pub use tally::{Tally, reply_code};
+pub use reply::Reply;
+pub use tally::Tally;
 pub use writing::write_reply;

@@ -6,36 +6,37 @@ ghost use Rattle.part_name.specs.PartNames.{part_text};
 ghost use Rattle.replies.specs.Lines.{IsLineOfStage};
 ghost use Rattle.mt_base.specs.Files.{file_name};
 
+use crate::reply::Reply;
 use mt_base::{NoMemory, Seq, Twin};
-use mt_model::{Refusal, refusal_line};
+use mt_model::Refusal;
 use mt_outside::DiskError;
 use mt_values::{DataFault, FileId, Name, SelectText};
 use part_name::{PartName, text as part_text};
 use std::alloc::Global;
 
 /// The reply to a statement on a table that is not there.
-pub fn no_table_line(alloc: Global, table: &Name) -> Result<Vec<u8>, NoMemory>
-    ensures { IfOk result (λ line. line.items ≡ refusal_line (refusal.NoTable table.now)) }
+pub fn no_table_line(alloc: Global, table: &Name) -> Result<Reply, NoMemory>
+    ensures { IfOk result (λ line. line ≡ refusal_line (refusal.NoTable table.now)) }
 {
     let why = Refusal::NoTable(table.twin(alloc)?);
-    refusal_line(alloc, &why)
+    Reply::refused(alloc, &why)
 }
 
 /// The reply to an INSERT whose rows are refused.
-pub fn data_line(alloc: Global, fault: DataFault) -> Result<Vec<u8>, NoMemory>
-    ensures { IfOk result (λ line. line.items ≡ refusal_line (refusal_of_data fault)) }
+pub fn data_line(alloc: Global, fault: DataFault) -> Result<Reply, NoMemory>
+    ensures { IfOk result (λ line. line ≡ refusal_line (refusal_of_data fault)) }
 {
     let why = Refusal::of_data(fault);
-    refusal_line(alloc, &why)
+    Reply::refused(alloc, &why)
 }
 
 /// The reply to a statement for which parts were not read, or a stage was not sealed. Where the arm failed it is `failed`, so that no
 /// memory is wanted then.
 ///
 /// `NoMemory` where that was why; never where the arm failed.
-pub fn stage_line(error: DiskError, failed: Vec<u8>) -> Result<Vec<u8>, NoMemory>
-    requires { failed.items ≡ refusal_line refusal.Failed }
-    ensures line { IfOk result (λ line. IsLineOfStage error line.items) }
+pub fn stage_line(error: DiskError, failed: Reply) -> Result<Reply, NoMemory>
+    requires { failed ≡ refusal_line refusal.Failed }
+    ensures line { IfOk result (λ line. IsLineOfStage error line) }
     ensures fault { IfErr result (λ _. error ≡ DiskError.Fault → ⊥) }
 {
     match error {
@@ -47,20 +48,20 @@ pub fn stage_line(error: DiskError, failed: Vec<u8>) -> Result<Vec<u8>, NoMemory
 /// The reply to a statement of which a call on the arm or on a stage failed. It is formed before these calls.
 ///
 /// `NoMemory` where an allocation failed.
-pub fn failed_line(alloc: Global) -> Result<Vec<u8>, NoMemory>
-    ensures { IfOk result (λ line. line.items ≡ refusal_line refusal.Failed) }
+pub fn failed_line(alloc: Global) -> Result<Reply, NoMemory>
+    ensures { IfOk result (λ line. line ≡ refusal_line refusal.Failed) }
 {
-    refusal_line(alloc, &Refusal::Failed)
+    Reply::refused(alloc, &Refusal::Failed)
 }
 
 /// The reply to a command whose publish or whose sync failed, after some commands of its statement were accepted. It is formed before
 /// the commit.
 ///
 /// `NoMemory` where an allocation failed.
-pub fn unsettled_line(alloc: Global, accepted: usize) -> Result<Vec<u8>, NoMemory>
-    ensures { IfOk result (λ line. line.items ≡ refusal_line (refusal.Unsettled accepted)) }
+pub fn unsettled_line(alloc: Global, accepted: usize) -> Result<Reply, NoMemory>
+    ensures { IfOk result (λ line. line ≡ refusal_line (refusal.Unsettled accepted)) }
 {
-    refusal_line(alloc, &Refusal::Unsettled { accepted })
+    Reply::refused(alloc, &Refusal::Unsettled { accepted })
 }
 
 /// The reply to a SELECT that met damage in a file of a part.
@@ -69,13 +70,13 @@ pub fn damaged(
     text: &SelectText,
     part: &PartName,
     file: FileId,
-) -> Result<Vec<u8>, NoMemory>
-    ensures { IfOk result (λ reply. reply.items ≡ refusal_line
+) -> Result<Reply, NoMemory>
+    ensures { IfOk result (λ reply. reply ≡ refusal_line
         (Refusal.Damaged text.now.table (part_text part.now) (file_name file))) }
 {
     let table = text.table.twin(alloc)?;
     let part = Seq::of(part_text(alloc, part)?);
     let file = Seq::of(file.name(alloc)?.into_bytes());
     let why = Refusal::Damaged { table, part, file };
-    refusal_line(alloc, &why)
+    Reply::refused(alloc, &why)
 }

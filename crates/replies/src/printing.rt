@@ -3,6 +3,7 @@ ghost use Rattle.std.specs.Prelude.{◌≡◌, ◌<◌, ◌^◌, All, IfOk, leng
 ghost use Rattle.mt_values.specs.Grid.{Cells, grid_of};
 ghost use Rattle.replies.specs.Lines.{Printed};
 
+use crate::reply::Reply;
 use mt_base::NoMemory;
 use mt_model::rows_line;
 use mt_values::{Block, ColumnData, all_places};
@@ -15,10 +16,10 @@ pub fn print(
     place: u64,
     columns: Vec<ColumnData>,
     rows: usize,
-) -> Result<Vec<u8>, NoMemory>
+) -> Result<Reply, NoMemory>
     requires few { rows < 2 ^ 32 }
     requires even { All (λ (c : Cells). length c.values ≡ rows) columns.items }
-    ensures { IfOk result (λ reply. Printed (grid_of columns.items rows) place reply.items) }
+    ensures { IfOk result (λ reply. Printed (grid_of columns.items rows) place reply) }
 {
     let block = Block::of_columns(columns, rows);
     let Ok(width) = u32::try_from(block.width()) else {
@@ -27,7 +28,7 @@ pub fn print(
     let all = all_places(alloc, width)?;
     let places = all.as_slice();
     let order = block.order_by(alloc, places)?;
-    let mut reply = rows_line(alloc, block.len(), place)?;
-    write_rows(&block, order.as_slice(), places, &mut reply)?;
-    Ok(reply)
+    let mut bytes = rows_line(alloc, block.len(), place)?;
+    write_rows(&block, order.as_slice(), places, &mut bytes)?;
+    Ok(Reply::answer(bytes))
 }

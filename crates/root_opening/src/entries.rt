@@ -8,7 +8,7 @@ ghost use Rattle.mt_model.specs.History.{IsTableSchema};
 ghost use Rattle.root_store.specs.Entries.{EntryHolds, IsEntryWith, schema_of_statement, schema_of_items, schema_of_entry};
 
 use digest_file::read_entry;
-use mt_base::{NoMemory, Seq};
+use mt_base::{NoMemory, Seq, Stop};
 use mt_model::resolve;
 use mt_outside::{Arm, DiskError};
 use mt_values::{FileId, Name, Schema, Statement};
@@ -29,7 +29,11 @@ fn schema_of_statement(
         return Ok(None);
     };
     if create.table == *table && create.text.as_slice() == text {
-        Ok(resolve(alloc, create)?.ok())
+        match resolve(alloc, create) {
+            Ok(schema) => Ok(Some(schema)),
+            Err(Stop::Refused(_)) => Ok(None),
+            Err(Stop::NoMemory) => Err(NoMemory),
+        }
     } else {
         Ok(None)
     }

@@ -4,5 +4,5 @@
 mod streams;
 mod words;
 
-pub use streams::{MOST_BYTES, ReadStop, read_all, write_all};
+pub use streams::{MOST_BYTES, SourceStop, read_all, write_all};
 pub use words::is_command_line;

@@ -12,7 +12,7 @@ pub const MOST_BYTES: usize = 1 << 40;
 
 /// Why a script was not read to its end.
 #[derive(Clone, Copy)]
-pub enum ReadStop {
+pub enum SourceStop {
     NoMemory,
     /// A read failed.
     Fault,
@@ -20,25 +20,25 @@ pub enum ReadStop {
     TooLong,
 }
 
-impl From<AllocError> for ReadStop {
+impl From<AllocError> for SourceStop {
     ghost use Rattle.std.specs.Prelude.{◌≡◌};
-    ghost use Rattle.run_streams.specs.declared.streams.ReadStop.TheVariants.{NoMemory};
+    ghost use Rattle.run_streams.specs.declared.streams.SourceStop.TheVariants.{NoMemory};
 
     ghost from_gives = { λ _ e. e ≡ NoMemory };
 
     fn from(_: AllocError) -> Self {
-        ReadStop::NoMemory
+        SourceStop::NoMemory
     }
 }
 
-impl From<ReadFault> for ReadStop {
+impl From<ReadFault> for SourceStop {
     ghost use Rattle.std.specs.Prelude.{◌≡◌};
-    ghost use Rattle.run_streams.specs.declared.streams.ReadStop.TheVariants.{Fault};
+    ghost use Rattle.run_streams.specs.declared.streams.SourceStop.TheVariants.{Fault};
 
     ghost from_gives = { λ _ e. e ≡ Fault };
 
     fn from(_: ReadFault) -> Self {
-        ReadStop::Fault
+        SourceStop::Fault
     }
 }
 
@@ -46,16 +46,17 @@ impl From<ReadFault> for ReadStop {
 ///
 /// `Fault` only where the source's count rose, and else it stays; `TooLong` only once 2^40 bytes were read.
 #[tactic(auto, using(crate::proofs::Known::consumes_more, crate::proofs::Known::consumes_none))]
-pub fn read_all<S: Source>(alloc: Global, source: &mut S) -> Result<Vec<u8>, ReadStop>
+pub fn read_all<S: Source>(alloc: Global, source: &mut S) -> Result<Vec<u8>, SourceStop>
     ensures all { IfOk result (λ v. Consumes (S.left source.old) (S.left source.new) v.items
         × IsAtEnd (S.left source.new)) }
     ensures short { IfOk result (λ v. length v.items < 2 ^ 40) }
-    ensures fault { IsErrOf result ReadStop.Fault
+    ensures fault { IsErrOf result SourceStop.Fault
         → Rose (S.failed source.old) (S.failed source.new) }
-    ensures long { IsErrOf result ReadStop.TooLong
+    ensures long { IsErrOf result SourceStop.TooLong
         → ConsumesMost (S.left source.old) (S.left source.new) }
     ensures later { S.failed source.old ≤ S.failed source.new }
-    ensures calm { (IsErrOf result ReadStop.Fault → ⊥) → S.failed source.new ≡ S.failed source.old }
+    ensures calm { (IsErrOf result SourceStop.Fault → ⊥)
+        → S.failed source.new ≡ S.failed source.old }
 {
     let mut bytes = Vec::new(alloc);
     let mut buf = [0; 65536];
@@ -67,7 +68,7 @@ pub fn read_all<S: Source>(alloc: Global, source: &mut S) -> Result<Vec<u8>, Rea
         }
         bytes.extend_from_slice(&buf[..count])?;
     }
-    Err(ReadStop::TooLong)
+    Err(SourceStop::TooLong)
 }
 
 /// Writes all of the bytes.

@@ -1,5 +1,5 @@
 -- From what a statement did to what its answer says.
-use Rattle.std.proofs.Common.{◌≡◌, ℕ, ◌+◌, ◌-◌, ◌≤◌, false, List, [], ◌∷◌, ◌++◌, length, map, take, refl, sym, ap, ◌∙◌, subst, append-nil, Option, Some, Ok, Err, Result, Vec, Global, IfOk, IfErr, length-append, inl, inr, arith}
+use Rattle.std.proofs.Common.{◌≡◌, ℕ, ◌+◌, ◌-◌, ◌≤◌, false, List, [], ◌∷◌, ◌++◌, length, map, take, refl, sym, ap, ◌∙◌, subst, append-nil, Option, Some, Ok, Err, Result, IfOk, IfErr, length-append, inl, inr, arith}
 use Rattle.std.specs.Option.{option_map}
 use Rattle.std.proofs.lemmas.List.{take_at, map-append}
 use Rattle.std.proofs.lemmas.List.Elements.{All-cons, All-nil}
@@ -12,7 +12,9 @@ use Rattle.mt_outside.specs.Disk as root
 use Rattle.mt_outside.specs.Files.{Files}
 use Rattle.mt_model.specs.Commands.{commands_of}
 use Rattle.mt_model.specs.History.{History}
+use Rattle.mt_model.specs.declared.refusal.Refusal.{Refusal}
 use Rattle.mt_model.specs.Outside.{Outside}
+use Rattle.mt_model.specs.Refusals.{refusal_line}
 use Rattle.mt_model.specs.Reply.{ok_line}
 use Rattle.mt_model.specs.Session.{Adds, StopsAfter, Takes, TakesCommands, TurnAllows}
 use Rattle.mt_model.proofs.Growing.{adds_last, stays}
@@ -47,19 +49,23 @@ answered_nothing files_of kept now st opened disk arm reply store told root_befo
     }
 
 -- A line that is answered as it was formed, where it has what is said of it; else out of memory.
-pub answers_line : {F : Type 0} (files_of : F → Option Files) (kept : Told) (st : Result Statement Cause) (opened disk arm : ℕ) (line : Result (Vec ℕ Global) NoMemory) (store : CoreStore F) (told : Option Told) (root_before now_root : Option root.Told) (P : List ℕ → Type 0)
-    → IfOk line (λ text. P text.items) → IfErr line (λ _. EndsUnanswered kept st told root_before now_root)
+pub answers_line : {F : Type 0} (files_of : F → Option Files) (kept : Told) (st : Result Statement Cause) (opened disk arm : ℕ) (line : Result (List ℕ) NoMemory) (store : CoreStore F) (told : Option Told) (root_before now_root : Option root.Told) (P : List ℕ → Type 0)
+    → IfOk line (λ text. P text) → IfErr line (λ _. EndsUnanswered kept st told root_before now_root)
     → ((reply : List ℕ) → P reply → Answered files_of kept st opened disk arm reply store told root_before now_root) → Answers files_of kept st opened disk arm line store told root_before now_root
-answers_line files_of kept st opened disk arm (Ok text) store told root_before now_root P is keeps answered = answered text.items is
+answers_line files_of kept st opened disk arm (Ok text) store told root_before now_root P is keeps answered = answered text is
 answers_line files_of kept st opened disk arm (Err e) store told root_before now_root P is keeps answered = keeps
 
+-- the line of a refusal is the line of one that equals it
+pub refused_as : (why same : Refusal) (line : Result (List ℕ) NoMemory) → why ≡ same → IfOk line (λ text. text ≡ refusal_line why) → IfOk line (λ text. text ≡ refusal_line same)
+refused_as why same line is refused = subst (λ (w : Refusal). IfOk line (λ text. text ≡ refusal_line w)) is refused
+
 -- a line in answer to a statement that did nothing, to what the annals list, to the store and to the root
-pub answers_kept : {F : Type 0} (files_of : F → Option Files) (kept : Told) (st : Result Statement Cause) (opened disk arm : ℕ) (line : Result (Vec ℕ Global) NoMemory) (store : CoreStore F) (told : Option Told) (root_same : Option root.Told) (P : List ℕ → Type 0)
-    → told ≡ Some kept → CoreStands files_of (history kept) store → IfOk line (λ text. P text.items)
+pub answers_kept : {F : Type 0} (files_of : F → Option Files) (kept : Told) (st : Result Statement Cause) (opened disk arm : ℕ) (line : Result (List ℕ) NoMemory) (store : CoreStore F) (told : Option Told) (root_same : Option root.Told) (P : List ℕ → Type 0)
+    → told ≡ Some kept → CoreStands files_of (history kept) store → IfOk line (λ text. P text)
     → ((reply : List ℕ) → P reply → (n : Outside) → Foresees opened disk arm n → Takes n (history kept) 0 st (length kept.list) (length kept.list) reply)
     → Answers files_of kept st opened disk arm line store told root_same root_same
 answers_kept files_of kept st opened disk arm (Ok text) store told root_same P told_is stands is takes =
-    answered_nothing files_of kept kept st opened disk arm text.items store told root_same root_same told_is refl (inl (refl, refl)) stands (takes text.items is) (λ calm before. before)
+    answered_nothing files_of kept kept st opened disk arm text store told root_same root_same told_is refl (inl (refl, refl)) stands (takes text is) (λ calm before. before)
 answers_kept files_of kept st opened disk arm (Err e) store told root_same P told_is stands is takes =
     record { now = kept; told_is = told_is; list_is = refl; begun = inl refl; root_is = refl }
 

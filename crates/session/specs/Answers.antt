@@ -1,6 +1,5 @@
 -- What the answer to a statement does to what the annals list and to the store.
-use Rattle.std.specs.Prelude.{◌≡◌, ◌⊎◌, ◌<◌, ℕ, true, false, List, [], ◌∷◌, ◌++◌, length, All, Option, None, Some, Result, Ok, MatchResult, Vec}
-use Rattle.std.specs.declared.alloc.Global.{Global}
+use Rattle.std.specs.Prelude.{◌≡◌, ◌⊎◌, ◌<◌, ℕ, true, false, List, [], ◌∷◌, ◌++◌, length, All, Option, None, Some, Result, Ok, MatchResult}
 use Rattle.mt_values.specs.declared.annals.Noted.{Noted}
 use Rattle.mt_values.specs.declared.command.Command.{Command}
 use Rattle.mt_values.specs.declared.statement.Cause.{Cause}
@@ -59,9 +58,9 @@ pub record EndsUnanswered (kept : Told) (statement : Result Statement Cause) (to
 
 -- a statement's reply, or out of memory; with the disk's count at opening, the disk's and the arm's counts now, and what the disk
 -- told of the root before and tells now
-abbrev pub Answers : {F : Type 0} → (F → Option Files) → Told → Result Statement Cause → ℕ → ℕ → ℕ → Result (Vec ℕ Global) NoMemory → CoreStore F → Option Told → Option root.Told → Option root.Told → Type 0
+abbrev pub Answers : {F : Type 0} → (F → Option Files) → Told → Result Statement Cause → ℕ → ℕ → ℕ → Result (List ℕ) NoMemory → CoreStore F → Option Told → Option root.Told → Option root.Told → Type 0
 Answers files_of kept statement opened disk arm result store told root_before root =
-    MatchResult result (λ reply. Answered files_of kept statement opened disk arm reply.items store told root_before root) (λ _. EndsUnanswered kept statement told root_before root)
+    MatchResult result (λ reply. Answered files_of kept statement opened disk arm reply store told root_before root) (λ _. EndsUnanswered kept statement told root_before root)
 
 -- a statement accepted nothing: the store, the disk and what is known of annals are as they were
 pub record AcceptsNothing {F D : Type 0} (store_old store_new : CoreStore F) (disk_old disk_new : D) (annals_old annals_new : Option Told) : Type 0 where

@@ -13,11 +13,11 @@ ghost use Rattle.replies.specs.Foreseen.{history};
 
 use crate::stopped::{ACCEPTED_BEFORE, refused_line};
 use crate::{give_back, seal_entry};
-use mt_base::{NoMemory, Twin};
-use mt_model::{refusal_line, resolve};
+use mt_base::{NoMemory, Stop, Twin};
+use mt_model::resolve;
 use mt_outside::{Arm, Disk};
 use mt_values::{Annals, Create, CreateText};
-use replies::{replies_behind, stage_line};
+use replies::{Reply, replies_behind, stage_line};
 use root_commits::{Returned, commit_create};
 use root_store::CoreStore;
 use std::alloc::Global;
@@ -32,7 +32,7 @@ pub fn create<D: Disk, A: Annals>(
     arm: &mut D::Arm,
     annals: &mut A,
     text: &CreateText,
-) -> Result<Vec<u8>, NoMemory>
+) -> Result<Reply, NoMemory>
     requires written { IsCreateText text.now }
     requires ready { IsReady (D.failed disk.old) (D.told disk.old) store.old }
 
@@ -43,7 +43,7 @@ pub fn create<D: Disk, A: Annals>(
         (D.failed disk.new) (D.Arm.failed arm.new) result store.new (A.told annals.new)
         (D.told disk.old) (D.told disk.new) }
     ensures causes { IfOk result (λ reply. HasCauses store.old.opened (D.failed disk.old)
-        (D.failed disk.new) (D.Arm.failed arm.old) (D.Arm.failed arm.new) reply.items) }
+        (D.failed disk.new) (D.Arm.failed arm.old) (D.Arm.failed arm.new) reply) }
     ensures stopped { store.old.opened < D.failed disk.old
         → AcceptsNothing store.old store.new disk.old disk.new (A.told annals.old)
         (A.told annals.new) }
@@ -66,7 +66,7 @@ pub fn create<D: Disk, A: Annals>(
         → KeepsThroughCrashes D.Arm.Dir.files store.new now first start }
 
     // What the store is then, and what stays.
-    ensures undamaged { IfOk result (λ reply. is_damage reply.items ≡ false) }
+    ensures undamaged { IfOk result (λ reply. is_damage reply ≡ false) }
     ensures held { HasSoundParts D.Arm.Dir.files store.old
         → HasSoundParts D.Arm.Dir.files store.new }
     ensures ready { IsReady (D.failed disk.new) (D.told disk.new) store.new }
@@ -80,10 +80,10 @@ pub fn create<D: Disk, A: Annals>(
     ensures memory { OnErr result (D.failed disk.new ≡ D.failed disk.old) }
     ensures arm_memory { OnErr result (D.Arm.failed arm.new ≡ D.Arm.failed arm.old) }
 {
-    let resolved = resolve(alloc, text)?;
-    let schema = match resolved {
+    let schema = match resolve(alloc, text) {
         Ok(schema) => schema,
-        Err(refusal) => return refusal_line(alloc, &refusal),
+        Err(Stop::Refused(refusal)) => return Reply::refused(alloc, &refusal),
+        Err(Stop::NoMemory) => return Err(NoMemory),
     };
     let replies = replies_behind(alloc, store.length, ACCEPTED_BEFORE)?;
     let table = text.table.twin(alloc)?;

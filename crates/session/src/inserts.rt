@@ -18,11 +18,10 @@ ghost use Rattle.replies.specs.Foreseen.{history};
 use crate::stopped::{ACCEPTED_BEFORE, refused_line};
 use crate::{give_back, read_block};
 use mt_base::{NoMemory, Stop};
-use mt_model::ok_line;
 use mt_outside::{Arm, Disk, DiskError};
 use mt_values::{Annals, Block, InsertText, Schema};
 use part_writer::{SealedPart, write_part};
-use replies::{data_line, no_table_line, replies_behind, stage_line};
+use replies::{Reply, data_line, no_table_line, replies_behind, stage_line};
 use root_commits::{Returned, commit_part};
 use root_store::CoreStore;
 use std::alloc::Global;
@@ -76,7 +75,7 @@ pub fn insert<D: Disk, A: Annals>(
     arm: &mut D::Arm,
     annals: &mut A,
     text: &InsertText,
-) -> Result<Vec<u8>, NoMemory>
+) -> Result<Reply, NoMemory>
     requires ready { IsReady (D.failed disk.old) (D.told disk.old) store.old }
 
     // What is answered, and why.
@@ -86,7 +85,7 @@ pub fn insert<D: Disk, A: Annals>(
         (D.failed disk.new) (D.Arm.failed arm.new) result store.new (A.told annals.new)
         (D.told disk.old) (D.told disk.new) }
     ensures causes { IfOk result (λ reply. HasCauses store.old.opened (D.failed disk.old)
-        (D.failed disk.new) (D.Arm.failed arm.old) (D.Arm.failed arm.new) reply.items) }
+        (D.failed disk.new) (D.Arm.failed arm.old) (D.Arm.failed arm.new) reply) }
     ensures stopped { store.old.opened < D.failed disk.old
         → AcceptsNothing store.old store.new disk.old disk.new (A.told annals.old)
         (A.told annals.new) }
@@ -109,7 +108,7 @@ pub fn insert<D: Disk, A: Annals>(
         → KeepsThroughCrashes D.Arm.Dir.files store.new now first start }
 
     // What the store is then, and what stays.
-    ensures undamaged { IfOk result (λ reply. is_damage reply.items ≡ false) }
+    ensures undamaged { IfOk result (λ reply. is_damage reply ≡ false) }
     ensures held { D.Arm.tells arm.old ≡ true → HasSoundParts D.Arm.Dir.files store.old
         → HasSoundParts D.Arm.Dir.files store.new }
     ensures ready { IsReady (D.failed disk.new) (D.told disk.new) store.new }
@@ -132,7 +131,7 @@ pub fn insert<D: Disk, A: Annals>(
         Err(Stop::Refused(fault)) => return data_line(alloc, fault),
     };
     if block.is_empty() {
-        return ok_line(alloc, store.length);
+        return Reply::accepted(alloc, store.length);
     }
     let replies = replies_behind(alloc, store.length, ACCEPTED_BEFORE)?;
     let part = match seal_block(alloc, arm, &found.schema, &block) {

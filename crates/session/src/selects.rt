@@ -13,12 +13,12 @@ ghost use Rattle.replies.specs.Foreseen.{Selected};
 ghost use Rattle.session.specs.Scans.{rows_kept};
 
 use crate::{count_rows, empty_columns, read_parts};
-use mt_base::NoMemory;
-use mt_model::{refusal_line, selected_columns};
+use mt_base::{NoMemory, Stop};
+use mt_model::selected_columns;
 use mt_outside::{Arm, DiskError, Gate, Point, Who};
 use mt_values::SelectText;
 use part_reader::PartFault;
-use replies::{damaged, failed_line, no_table_line, print, stage_line};
+use replies::{Reply, damaged, failed_line, no_table_line, print, stage_line};
 use root_store::{CoreStore, Table};
 use std::alloc::Global;
 
@@ -33,7 +33,7 @@ fn read_places<R: Arm>(
     table: &Table,
     places: &[u32],
     rows: usize,
-) -> Result<Vec<u8>, NoMemory>
+) -> Result<Reply, NoMemory>
     requires store { IsSoundStore store.now }
     requires table { table_at store.now text.now.table ≡ Some table.now }
     requires places { selected_places table.now.schema.columns text.now.columns ≡ Ok places.now }
@@ -41,14 +41,14 @@ fn read_places<R: Arm>(
     requires few { rows < 2 ^ 32 }
     ensures answers { (kept : Told) → CoreStands R.Dir.files (history kept) store.now
         → IfOk result (λ reply. Selected kept text.now (R.failed arm.new) store.now.opened
-        reply.items) }
+        reply) }
     ensures undamaged { HasSoundParts R.Dir.files store.now
-        → IfOk result (λ reply. is_damage reply.items ≡ false) }
-    ensures damaged { IfOk result (λ reply. is_damage reply.items ≡ true
-        → TellsOfDamage R.Dir.files store.now text.now reply.items) }
+        → IfOk result (λ reply. is_damage reply ≡ false) }
+    ensures damaged { IfOk result (λ reply. is_damage reply ≡ true
+        → TellsOfDamage R.Dir.files store.now text.now reply) }
     ensures causes { (disk : ℕ)
         → IfOk result (λ reply. HasCauses store.now.opened disk disk (R.failed arm.old)
-        (R.failed arm.new) reply.items) }
+        (R.failed arm.new) reply) }
     ensures tells { R.tells arm.new ≡ R.tells arm.old }
     ensures later { R.failed arm.old ≤ R.failed arm.new }
     ensures memory { OnErr result (R.failed arm.new ≡ R.failed arm.old) }
@@ -73,18 +73,18 @@ pub fn select<R: Arm, G: Gate>(
     arm: &mut R,
     gate: &mut G,
     text: &SelectText,
-) -> Result<Vec<u8>, NoMemory>
+) -> Result<Reply, NoMemory>
     requires { IsSoundStore store.now }
     ensures answers { (kept : Told) → CoreStands R.Dir.files (history kept) store.now
         → IfOk result (λ reply. Selected kept text.now (R.failed arm.new) store.now.opened
-        reply.items) }
+        reply) }
     ensures undamaged { HasSoundParts R.Dir.files store.now
-        → IfOk result (λ reply. is_damage reply.items ≡ false) }
-    ensures damaged { IfOk result (λ reply. is_damage reply.items ≡ true
-        → TellsOfDamage R.Dir.files store.now text.now reply.items) }
+        → IfOk result (λ reply. is_damage reply ≡ false) }
+    ensures damaged { IfOk result (λ reply. is_damage reply ≡ true
+        → TellsOfDamage R.Dir.files store.now text.now reply) }
     ensures causes { (disk : ℕ)
         → IfOk result (λ reply. HasCauses store.now.opened disk disk (R.failed arm.old)
-        (R.failed arm.new) reply.items) }
+        (R.failed arm.new) reply) }
     ensures tells { R.tells arm.new ≡ R.tells arm.old }
     ensures later { R.failed arm.old ≤ R.failed arm.new }
     ensures memory { OnErr result (R.failed arm.new ≡ R.failed arm.old) }
@@ -92,10 +92,10 @@ pub fn select<R: Arm, G: Gate>(
     let Some(table) = store.tables.get(&text.table) else {
         return no_table_line(alloc, &text.table);
     };
-    let selected = selected_columns(alloc, table.schema.columns.as_slice(), &text.columns)?;
-    let places = match selected {
+    let places = match selected_columns(alloc, table.schema.columns.as_slice(), &text.columns) {
         Ok(places) => places,
-        Err(refusal) => return refusal_line(alloc, &refusal),
+        Err(Stop::Refused(refusal)) => return Reply::refused(alloc, &refusal),
+        Err(Stop::NoMemory) => return Err(NoMemory),
     };
     let Some(rows) = count_rows(store.set.parts(&text.table)) else {
         return Err(NoMemory);

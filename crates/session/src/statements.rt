@@ -14,9 +14,10 @@ use crate::creates::create;
 use crate::inserts::insert;
 use crate::selects::select;
 use mt_base::NoMemory;
-use mt_model::{Refusal, refusal_line};
+use mt_model::Refusal;
 use mt_outside::{Arm, Disk, Gate};
 use mt_values::{Annals, Cause, Statement};
+use replies::Reply;
 use root_store::CoreStore;
 use std::alloc::Global;
 
@@ -31,7 +32,7 @@ pub fn run_statement<D: Disk, A: Annals, G: Gate>(
     annals: &mut A,
     gate: &mut G,
     statement: Result<Statement, Cause>,
-) -> Result<Vec<u8>, NoMemory>
+) -> Result<Reply, NoMemory>
     requires written { IsWritten statement }
     requires ready { IsReady (D.failed disk.old) (D.told disk.old) store.old }
 
@@ -42,7 +43,7 @@ pub fn run_statement<D: Disk, A: Annals, G: Gate>(
         (D.Arm.failed arm.new) result store.new (A.told annals.new) (D.told disk.old)
         (D.told disk.new) }
     ensures causes { IfOk result (λ reply. HasCauses store.old.opened (D.failed disk.old)
-        (D.failed disk.new) (D.Arm.failed arm.old) (D.Arm.failed arm.new) reply.items) }
+        (D.failed disk.new) (D.Arm.failed arm.old) (D.Arm.failed arm.new) reply) }
     ensures stopped { store.old.opened < D.failed disk.old
         → AcceptsNothing store.old store.new disk.old disk.new (A.told annals.old)
         (A.told annals.new) }
@@ -66,7 +67,7 @@ pub fn run_statement<D: Disk, A: Annals, G: Gate>(
 
     // What the store is then, and what stays.
     ensures undamaged { HasSoundParts D.Arm.Dir.files store.old
-        → IfOk result (λ reply. is_damage reply.items ≡ false) }
+        → IfOk result (λ reply. is_damage reply ≡ false) }
     ensures held { D.Arm.tells arm.old ≡ true → HasSoundParts D.Arm.Dir.files store.old
         → HasSoundParts D.Arm.Dir.files store.new }
     ensures ready { IsReady (D.failed disk.new) (D.told disk.new) store.new }
@@ -84,6 +85,6 @@ pub fn run_statement<D: Disk, A: Annals, G: Gate>(
         Ok(Statement::Create(text)) => create(alloc, store, disk, arm, annals, &text),
         Ok(Statement::Insert(text)) => insert(alloc, store, disk, arm, annals, &text),
         Ok(Statement::Select(text)) => select(alloc, store, arm, gate, &text),
-        Err(cause) => refusal_line(alloc, &Refusal::of_cause(cause)),
+        Err(cause) => Reply::refused(alloc, &Refusal::of_cause(cause)),
     }
 }

@@ -6,8 +6,9 @@ ghost use Rattle.mt_model.specs.Refusals.{refusal_line};
 
 use durable_commit::{Limit, Refused};
 use mt_base::{NoMemory, Twin};
-use mt_model::{Bound, Refusal, Room, refusal_line};
+use mt_model::{Bound, Refusal, Room};
 use mt_values::Name;
+use replies::Reply;
 use std::alloc::Global;
 
 /// How many of a statement's commands are accepted before the one that it runs: a statement has one at most.
@@ -55,10 +56,10 @@ pub fn refused_line(
     accepted: usize,
     table: &Name,
     cause: Refused,
-    unsettled: Vec<u8>,
-) -> Result<Vec<u8>, NoMemory>
-    requires { unsettled.items ≡ refusal_line (refusal.Unsettled accepted) }
-    ensures line { IfOk result (λ line. IsLineOf accepted table.now cause line.items) }
+    unsettled: Reply,
+) -> Result<Reply, NoMemory>
+    requires { unsettled ≡ refusal_line (refusal.Unsettled accepted) }
+    ensures line { IfOk result (λ line. IsLineOf accepted table.now cause line) }
     ensures disk { IfErr result (λ _. cause ≡ Refused.Disk → ⊥) }
 {
     if let Refused::Disk = cause {
@@ -67,5 +68,5 @@ pub fn refused_line(
     let Some(refusal) = refusal_of(alloc, accepted, table, cause)? else {
         return Err(NoMemory);
     };
-    refusal_line(alloc, &refusal)
+    Reply::refused(alloc, &refusal)
 }

@@ -18,9 +18,9 @@ loop-name-preserved c =
 
 pub returns-in_default : goal.returns-in_default
 returns-in_default c =
-    ap (λ n. Err (refusal.NoColumn n)) c.in_ok-twin.ensures
-    ∙ sym (no_place_at c.args.columns.now c.args.names.now c.loop-name.name-index c.name-item.result c.loop-name.places c.loop-name-test.true c.name-item.is c.in_default.ensures.place)
-    ∙ c.loop-name.invariant
+    sym c.loop-name.invariant
+    ∙ no_place_at c.args.columns.now c.args.names.now c.loop-name.name-index c.name-item.result c.loop-name.places c.loop-name-test.true c.name-item.is c.in_default.ensures.place
+    ∙ ap (λ n. Err (refusal.NoColumn n)) (sym c.in_ok-twin.ensures)
 
 pub returns : goal.returns
-returns c = sym (no_name_left c.args.columns.now c.args.names.now c.loop-name.name-index c.loop-name.places c.loop-name-test.false) ∙ c.loop-name.invariant
+returns c = sym c.loop-name.invariant ∙ no_name_left c.args.columns.now c.args.names.now c.loop-name.name-index c.loop-name.places c.loop-name-test.false

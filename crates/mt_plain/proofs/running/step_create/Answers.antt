@@ -9,7 +9,7 @@ returns-in-Ok-clause-takes c =
     let h = c.args.history.now.items in
     let new = c.take_turns.new.history.items in
     let cs = c.in-Ok.commands.items in
-    let gives = rw c.in-Ok.is at c.in_ok-commands.ensures in
+    let gives = c.in-Ok.ensures.given in
     when_ok c.take_turns.result (λ reply. TookTurns cs h new reply.items) _ (λ reply took. commands_take h new (statement.Create c.args.create.now) cs reply.items gives took) c.take_turns.ensures.took
 
 pub returns-in-Ok-clause-legal : goal.returns-in-Ok-clause-legal
@@ -17,5 +17,5 @@ returns-in-Ok-clause-legal c =
     let h = c.args.history.now.items in
     let new = c.take_turns.new.history.items in
     let cs = c.in-Ok.commands.items in
-    let gives = rw c.in-Ok.is at c.in_ok-commands.ensures in
+    let gives = c.in-Ok.ensures.given in
     when_on c.take_turns.result (λ reply. TookTurns cs h new reply.items) _ (λ reply took key legal. took_legal h new cs reply.items (creates_come h c.args.create.now cs gives key) took legal) c.take_turns.ensures.took

@@ -12,7 +12,7 @@ returns-in-Ok-clause-takes c =
     let new = c.take_turns.new.history.items in
     let cs = c.in-Ok.commands.items in
     let s = statement.Insert c.args.insert.now in
-    let given = rw c.in-Ok.is at c.in_ok-commands.ensures.given in
+    let given = c.in-Ok.ensures.given in
     let gives : commands_of h s ≡ Ok cs = subst (λ (x : History). commands_of x s ≡ Ok cs) c.deref.ensures.value given in
     when_ok c.take_turns.result (λ reply. TookTurns cs h new reply.items) _ (λ reply took. commands_take h new s cs reply.items gives took) c.take_turns.ensures.took
 
@@ -21,6 +21,6 @@ returns-in-Ok-clause-legal c =
     let h = c.args.history.now.items in
     let new = c.take_turns.new.history.items in
     let cs = c.in-Ok.commands.items in
-    let come = rw c.in-Ok.is at c.in_ok-commands.ensures.may_come in
+    let come = c.in-Ok.ensures.may_come in
     let may : All (MayFollow h) cs = subst (λ (x : History). All (MayFollow x) cs) c.deref.ensures.value come in
     when_on c.take_turns.result (λ reply. TookTurns cs h new reply.items) _ (λ reply took legal. took_legal h new cs reply.items may took legal) c.take_turns.ensures.took

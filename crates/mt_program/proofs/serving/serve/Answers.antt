@@ -66,15 +66,15 @@ returns-in-Err-write_reply-clause-run g c = λ kept is tells stands settled.
     let left = one_statement c.args.script.now c.statements.at c.in-Ok-Some.found.1 c.in-Ok-Some.found.0 found in
     let disk = g.D.Disk.failed c.run_statement.new.disk in
     let arm = g.D.Arm.Arm.failed c.run_statement.new.arm in
-    let a = subst (λ o. Answered files s.ran.now c.in-Ok-Some.found.0 o disk arm c.in-Ok.reply.items c.run_statement.new.store (g.A.Annals.told c.run_statement.new.annals) (g.D.Disk.told c.statements.disk) (g.D.Disk.told c.run_statement.new.disk)) c.statements.invariant.opened
+    let a = subst (λ o. Answered files s.ran.now c.in-Ok-Some.found.0 o disk arm c.in-Ok.reply c.run_statement.new.store (g.A.Annals.told c.run_statement.new.annals) (g.D.Disk.told c.statements.disk) (g.D.Disk.told c.run_statement.new.disk)) c.statements.invariant.opened
     (c.in-Ok.ensures.answers s.ran.now s.ran.told_is (c.statements.invariant.tells ∙ tells) s.stands) in
     let low = c.requires.ready.opened in
     let later = c.statements.invariant.disk_later in
-    let failed = unsettled_rose c.statements.store.opened c.args.store.now.opened (g.D.Disk.failed c.statements.disk) disk (g.D.Arm.Arm.failed c.statements.arm) arm c.in-Ok.reply.items c.statements.invariant.opened (omega arith) c.requires.ready.below c.in-Ok.ensures.causes in
+    let failed = unsettled_rose c.statements.store.opened c.args.store.now.opened (g.D.Disk.failed c.statements.disk) disk (g.D.Arm.Arm.failed c.statements.arm) arm c.in-Ok.reply c.statements.invariant.opened (omega arith) c.requires.ready.below c.in-Ok.ensures.causes in
     let still : c.args.store.now.opened < g.D.Disk.failed c.statements.disk → g.A.Annals.told c.run_statement.new.annals ≡ g.A.Annals.told c.statements.annals = λ risen. (c.in-Ok.ensures.stopped (omega (arith, c.statements.invariant.opened, risen))).annals_is in
     served_cut files kept c.args.script.now c.args.store.now.opened (g.D.Disk.failed c.statements.disk) (g.D.Arm.Arm.failed c.statements.arm) c.statements.at c.statements.tally c.statements.store (g.A.Annals.told c.statements.annals) (g.D.Disk.told c.statements.disk)
     (g.K.Sink.written c.args.sink.now) (g.K.Sink.written c.statements.sink) s disk arm c.in-Ok.ensures.disk_later c.in-Ok.ensures.arm_later
-    c.in-Ok-Some.found.1 c.in-Ok-Some.found.0 left c.run_statement.new.store (g.A.Annals.told c.run_statement.new.annals) (g.D.Disk.told c.run_statement.new.disk) c.in-Ok.reply.items (g.K.Sink.written c.write_reply.new.sink) failed still a (rw c.deref.ensures.value at c.in-Err-write_reply.ensures.front)
+    c.in-Ok-Some.found.1 c.in-Ok-Some.found.0 left c.run_statement.new.store (g.A.Annals.told c.run_statement.new.annals) (g.D.Disk.told c.run_statement.new.disk) c.in-Ok.reply (g.K.Sink.written c.write_reply.new.sink) failed still a c.in-Err-write_reply.ensures.front
 
 pub statements-preserved : goal.statements-preserved
 statements-preserved g c = record {
@@ -89,21 +89,21 @@ statements-preserved g c = record {
       let left = one_statement c.args.script.now c.statements.at c.in-Ok-Some.found.1 c.in-Ok-Some.found.0 found in
       let disk = g.D.Disk.failed c.run_statement.new.disk in
       let arm = g.D.Arm.Arm.failed c.run_statement.new.arm in
-      let a = subst (λ o. Answered files s.ran.now c.in-Ok-Some.found.0 o disk arm c.in-Ok.reply.items c.run_statement.new.store (g.A.Annals.told c.run_statement.new.annals) (g.D.Disk.told c.statements.disk) (g.D.Disk.told c.run_statement.new.disk)) c.statements.invariant.opened
+      let a = subst (λ o. Answered files s.ran.now c.in-Ok-Some.found.0 o disk arm c.in-Ok.reply c.run_statement.new.store (g.A.Annals.told c.run_statement.new.annals) (g.D.Disk.told c.statements.disk) (g.D.Disk.told c.run_statement.new.disk)) c.statements.invariant.opened
       (c.in-Ok.ensures.answers s.ran.now s.ran.told_is (c.statements.invariant.tells ∙ tells) s.stands) in
       let low = c.requires.ready.opened in
       let later = c.statements.invariant.disk_later in
-      let failed = unsettled_rose c.statements.store.opened c.args.store.now.opened (g.D.Disk.failed c.statements.disk) disk (g.D.Arm.Arm.failed c.statements.arm) arm c.in-Ok.reply.items c.statements.invariant.opened (omega arith) c.requires.ready.below c.in-Ok.ensures.causes in
+      let failed = unsettled_rose c.statements.store.opened c.args.store.now.opened (g.D.Disk.failed c.statements.disk) disk (g.D.Arm.Arm.failed c.statements.arm) arm c.in-Ok.reply c.statements.invariant.opened (omega arith) c.requires.ready.below c.in-Ok.ensures.causes in
       let still : c.args.store.now.opened < g.D.Disk.failed c.statements.disk → g.A.Annals.told c.run_statement.new.annals ≡ g.A.Annals.told c.statements.annals = λ risen. (c.in-Ok.ensures.stopped (omega (arith, c.statements.invariant.opened, risen))).annals_is in
       let more = served_more files kept c.args.script.now c.args.store.now.opened (g.D.Disk.failed c.statements.disk) (g.D.Arm.Arm.failed c.statements.arm) c.statements.at c.statements.tally c.statements.store (g.A.Annals.told c.statements.annals) (g.D.Disk.told c.statements.disk)
       (g.K.Sink.written c.args.sink.now) (g.K.Sink.written c.statements.sink) s disk arm c.in-Ok.ensures.disk_later c.in-Ok.ensures.arm_later
-      c.in-Ok-Some.found.1 c.in-Ok-Some.found.0 left c.run_statement.new.store (g.A.Annals.told c.run_statement.new.annals) (g.D.Disk.told c.run_statement.new.disk) c.in-Ok.reply.items (g.K.Sink.written c.write_reply.new.sink) failed still a (rw c.deref.ensures.value at c.in-Ok-write_reply.ensures.all) in
+      c.in-Ok-Some.found.1 c.in-Ok-Some.found.0 left c.run_statement.new.store (g.A.Annals.told c.run_statement.new.annals) (g.D.Disk.told c.run_statement.new.disk) c.in-Ok.reply (g.K.Sink.written c.write_reply.new.sink) failed still a c.in-Ok-write_reply.ensures.all in
       subst (λ t. Served files kept c.args.script.now c.args.store.now.opened disk arm (c.statements.at + c.in-Ok-Some.found.1) t c.run_statement.new.store (g.A.Annals.told c.run_statement.new.annals) (g.D.Disk.told c.run_statement.new.disk) (g.K.Sink.written c.args.sink.now) (g.K.Sink.written c.write_reply.new.sink))
-      (sym (rw c.deref.ensures.value at c.in-Ok-write_reply.ensures.tally)) more;
+      (sym c.in-Ok-write_reply.ensures.tally) more;
   held = λ tells held. c.in-Ok.ensures.held (c.statements.invariant.tells ∙ tells) (c.statements.invariant.held tells held);
   undamaged = λ tells held.
       let reply = c.in-Ok.ensures.undamaged (c.statements.invariant.held tells held) in
-      tallied_undamaged c.statements.tally c.in-Ok.reply.items c.in-Ok-write_reply.told (rw c.deref.ensures.value at c.in-Ok-write_reply.ensures.tally) (c.statements.invariant.undamaged tells held) reply;
+      tallied_undamaged c.statements.tally c.in-Ok.reply c.in-Ok-write_reply.told c.in-Ok-write_reply.ensures.tally (c.statements.invariant.undamaged tells held) reply;
   keeps = λ first start tells keeps gained.
       let found = subst (λ o. Found c.args.script.now c.statements.at o) c.in-Ok-Some.field-0-is c.in-Ok-Some.ensures.found in
       let left = one_statement c.args.script.now c.statements.at c.in-Ok-Some.found.1 c.in-Ok-Some.found.0 found in
@@ -115,7 +115,7 @@ statements-preserved g c = record {
             (λ still. (was.2.calm still).1)
             (λ kept is stands.
             let a = c.in-Ok.ensures.answers kept is (c.statements.invariant.tells ∙ tells) stands in
-            (a.now, a.told_is, stepped_answered g.D.Arm.Dir.Dir.files kept c.in-Ok-Some.found.0 c.statements.store.opened (g.D.Disk.failed c.run_statement.new.disk) (g.D.Arm.Arm.failed c.run_statement.new.arm) c.in-Ok.reply.items c.run_statement.new.store (g.A.Annals.told c.run_statement.new.annals) (g.D.Disk.told c.statements.disk) (g.D.Disk.told c.run_statement.new.disk) a))
+            (a.now, a.told_is, stepped_answered g.D.Arm.Dir.Dir.files kept c.in-Ok-Some.found.0 c.statements.store.opened (g.D.Disk.failed c.run_statement.new.disk) (g.D.Arm.Arm.failed c.run_statement.new.arm) c.in-Ok.reply c.run_statement.new.store (g.A.Annals.told c.run_statement.new.annals) (g.D.Disk.told c.statements.disk) (g.D.Disk.told c.run_statement.new.disk) a))
             (λ risen. (c.in-Ok.ensures.stopped risen).annals_is),
       );
   within = used_within c.args.script.now c.statements.at c.in-Ok-Some.found.1 c.statements.invariant.within (subst (λ o. Used c.args.script.now c.statements.at o) c.in-Ok-Some.field-0-is c.in-Ok-Some.ensures.used).1;
@@ -166,7 +166,7 @@ returns-in-Err-write_reply-clause-through_crashes g c = λ first start tells kee
     (λ still. (was.2.calm still).1)
     (λ kept is stands.
     let a = c.in-Ok.ensures.answers kept is (c.statements.invariant.tells ∙ tells) stands in
-    (a.now, a.told_is, stepped_answered g.D.Arm.Dir.Dir.files kept c.in-Ok-Some.found.0 c.statements.store.opened (g.D.Disk.failed c.run_statement.new.disk) (g.D.Arm.Arm.failed c.run_statement.new.arm) c.in-Ok.reply.items c.run_statement.new.store (g.A.Annals.told c.run_statement.new.annals) (g.D.Disk.told c.statements.disk) (g.D.Disk.told c.run_statement.new.disk) a))
+    (a.now, a.told_is, stepped_answered g.D.Arm.Dir.Dir.files kept c.in-Ok-Some.found.0 c.statements.store.opened (g.D.Disk.failed c.run_statement.new.disk) (g.D.Arm.Arm.failed c.run_statement.new.arm) c.in-Ok.reply c.run_statement.new.store (g.A.Annals.told c.run_statement.new.annals) (g.D.Disk.told c.statements.disk) (g.D.Disk.told c.run_statement.new.disk) a))
     (λ risen. (c.in-Ok.ensures.stopped risen).annals_is))
 
 pub returns-clause-through_crashes : goal.returns-clause-through_crashes

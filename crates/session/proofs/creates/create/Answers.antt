@@ -5,7 +5,8 @@ use Rattle.mt_values.specs.declared.command.Command.TheVariants as command
 use Rattle.mt_values.specs.declared.statement.Statement.TheVariants as statement
 use Rattle.mt_values.specs.Annals.{began}
 use Rattle.mt_model.specs.Commands.{create_commands}
-use Rattle.mt_model.specs.Reply.{create_turn}
+use Rattle.mt_base.specs.Stops.{Refuses}
+use Rattle.mt_model.specs.Reply.{create_turn, schema_of_text}
 use Rattle.mt_model.proofs.Causes.{text_is_cause, undamaged_line}
 use Rattle.mt_model.proofs.Tables.{schema_is}
 use Rattle.mt_model.specs.Refusals.{is_damage, refusal_line}
@@ -16,7 +17,7 @@ use Rattle.root_store.specs.Soundness.{RootStands}
 use Rattle.root_store.specs.Stores.{CoreStands}
 use Rattle.replies.specs.Foreseen.{history}
 use Rattle.session.specs.Staged.{entry_files}
-use Rattle.session.proofs.Accepting.{answered_nothing, answers_kept, answers_line, in_any_case, nothing_accepted}
+use Rattle.session.proofs.Accepting.{answered_nothing, answers_kept, answers_line, in_any_case, nothing_accepted, refused_as}
 use Rattle.session.proofs.Creating.{create_gives, created, created_accepts, entry_holds, turn_free}
 use Rattle.replies.proofs.Refusing.{command_failed, command_refused}
 use Rattle.session.proofs.Gaining.{begun_refused, create_failed, keeps_refused, leaves_told, stays_refused, still_created, still_refused}
@@ -37,31 +38,31 @@ use Rattle.stage_dir.specs.Stages.{Filled}
 use Rattle.session.proofs.creates.create.Goals as goal
 
 -- what it says is refused
+pub returns-in-Err-Refused-clause-answers : goal.returns-in-Err-Refused-clause-answers
+returns-in-Err-Refused-clause-answers g c = λ kept is tells stands.
+    let text = c.args.text.now in
+    let opened = c.args.store.now.opened in
+    let why = c.in-Err-Refused.refusal in
+    answers_kept g.D.Arm.Dir.Dir.files kept (Ok (statement.Create text)) opened (g.D.Disk.failed c.args.disk.now) (g.D.Arm.Arm.failed c.args.arm.now) c.refused.result c.args.store.now (g.A.Annals.told c.args.annals.now)
+    (g.D.Disk.told c.args.disk.now) (λ reply. reply ≡ refusal_line why) is stands (refused_as _ c.in-Err-Refused.refusal c.refused.result c.in-Err-Refused.refusal-is c.refused.ensures)
+    (λ reply line n f. command_refused n kept reply (statement.Create text) why (ap (create_commands text.table) (subst (Refuses (schema_of_text c.args.text.now)) c.in-Err-Refused.field-0-is c.in-Err-Refused.ensures)) line)
+
+-- its entry was not sealed
 pub returns-in-Err-clause-answers : goal.returns-in-Err-clause-answers
 returns-in-Err-clause-answers g c = λ kept is tells stands.
     let text = c.args.text.now in
     let opened = c.args.store.now.opened in
-    let why = c.in-Err.refusal in
-    answers_kept g.D.Arm.Dir.Dir.files kept (Ok (statement.Create text)) opened (g.D.Disk.failed c.args.disk.now) (g.D.Arm.Arm.failed c.args.arm.now) c.refusal_line.result c.args.store.now (g.A.Annals.told c.args.annals.now)
-    (g.D.Disk.told c.args.disk.now) (λ reply. reply ≡ refusal_line why) is stands c.refusal_line.ensures
-    (λ reply line n f. command_refused n kept reply (statement.Create text) why (ap (create_commands text.table) (sym c.in_ok-resolved.ensures ∙ c.in-Err.is)) line)
-
--- its entry was not sealed
-pub returns-in-Err-seal_entry-clause-answers : goal.returns-in-Err-seal_entry-clause-answers
-returns-in-Err-seal_entry-clause-answers g c = λ kept is tells stands.
-    let text = c.args.text.now in
-    let opened = c.args.store.now.opened in
     let disk = g.D.Disk.failed c.args.disk.now in
     let arm = g.D.Arm.Arm.failed c.seal_entry.new.arm in
-    let says = sym c.in_ok-resolved.ensures ∙ c.in-Ok.is in
-    let error = c.in-Err-seal_entry.error in
+    let says = c.in-Ok.ensures in
+    let error = c.in-Err.error in
     answers_kept g.D.Arm.Dir.Dir.files kept (Ok (statement.Create text)) opened disk arm c.stage_line.result c.args.store.now (g.A.Annals.told c.args.annals.now)
     (g.D.Disk.told c.args.disk.now) (IsLineOfStage error) is stands c.stage_line.ensures.line
     (λ reply line n f. command_failed n kept reply (statement.Create text) (created text c.in-Ok.schema says) [] (create_gives text c.in-Ok.schema says (history kept))
-    (line_of_stage opened disk arm (g.D.Arm.Arm.failed c.args.arm.now) error reply n line (λ e. c.in-Err-seal_entry.ensures.cause.failed (ap Err e)) f))
+    (line_of_stage opened disk arm (g.D.Arm.Arm.failed c.args.arm.now) error reply n line (λ e. c.in-Err.ensures.cause.failed (ap Err e)) f))
 
 pub commit_create-requires-clause-schema : goal.commit_create-requires-clause-schema
-commit_create-requires-clause-schema g c κs within = schema_is c.args.text.now c.in-Ok.schema (sym c.in_ok-resolved.ensures ∙ c.in-Ok.is) c.requires.written.key
+commit_create-requires-clause-schema g c κs within = schema_is c.args.text.now c.in-Ok.schema c.in-Ok.ensures c.requires.written.key
 
 -- the table was made
 pub returns-in-Ok-commit_create-clause-answers : goal.returns-in-Ok-commit_create-clause-answers
@@ -78,13 +79,13 @@ returns-in-Ok-commit_create-clause-answers g c = λ kept is tells stands.
     let now = g.D.Disk.told c.commit_create.new.disk in
     let old = g.A.Annals.told c.args.annals.now in
     let told = g.A.Annals.told c.commit_create.new.annals in
-    let says = sym c.in_ok-resolved.ensures ∙ c.in-Ok.is in
+    let says = c.in-Ok.ensures in
     let before = g.D.Disk.failed c.args.disk.now in
     let free = nothing_shown_to_create store text.table before (subst (λ (t : List ℕ). IsCause (refuses_create store t before) None) name done.cause) in
     let made = tables_made files h store stands text.table in
     let turn : create_turn text.table h ≡ None = turn_free text.table h (no_table files h store stands text.table free.0) (omega (arith, made, free.1)) in
     let entry = λ (t : List ℕ). entry_of 0 (command.Create (record { table = t; schema = schema })) in
-    created_accepts text schema says files kept mark store.opened (g.D.Disk.failed c.commit_create.new.disk) (g.D.Arm.Arm.failed c.seal_entry.new.arm) store.length c.commit_create.new.store c.in_ok-replies.replies.accepted.items old told was now
+    created_accepts text schema says files kept mark store.opened (g.D.Disk.failed c.commit_create.new.disk) (g.D.Arm.Arm.failed c.seal_entry.new.arm) store.length c.commit_create.new.store c.in_ok-replies.replies.accepted old told was now
     stands.length_is turn is
     (subst (λ (t : List ℕ). Notes mark (entry t) old told) name done.turn.annals)
     (subst (λ (t : List ℕ). CoreStands files (h ++ entry t ∷ []) c.commit_create.new.store) name (done.stands h stands).store_stands)
@@ -127,7 +128,7 @@ returns-in-Err-commit_create-clause-answers g c = λ kept is tells stands.
     let arm = g.D.Arm.Arm.failed c.give_back.new.arm in
     let old = g.A.Annals.told c.args.annals.now in
     let told = g.A.Annals.told c.commit_create.new.annals in
-    let says = sym c.in_ok-resolved.ensures ∙ c.in-Ok.is in
+    let says = c.in-Ok.ensures in
     let said = statement.Create text in
     let next = created text schema says in
     let gives = create_gives text schema says h in
@@ -147,7 +148,7 @@ pub returns-in-Ok-commit_create-clause-through_crashes : goal.returns-in-Ok-comm
 returns-in-Ok-commit_create-clause-through_crashes g c = λ first start tells keeps.
     let text = c.args.text.now in
     let schema = c.in-Ok.schema in
-    let says = sym c.in_ok-resolved.ensures ∙ c.in-Ok.is in
+    let says = c.in-Ok.ensures in
     let few = subst (λ (t : List ℕ). length t < 2 ^ 32) c.as_slice.ensures c.in-Ok-seal_entry.ensures.few in
     let holds = subst (λ (t : List ℕ). EntryHolds t schema (entry_files text.text)) (sym c.in_ok-table.ensures) (entry_holds text schema c.requires.written says few) in
     c.commit_create.ensures.through_crashes first start (record { files = entry_files text.text; sealed_are = c.in-Ok-seal_entry.ensures.files tells ∙ ap (λ (t : List ℕ). Some (entry_files t)) c.as_slice.ensures; holds = holds }) keeps
@@ -156,29 +157,29 @@ pub returns-in-Err-commit_create-clause-through_crashes : goal.returns-in-Err-co
 returns-in-Err-commit_create-clause-through_crashes g c = λ first start tells keeps.
     let text = c.args.text.now in
     let schema = c.in-Ok.schema in
-    let says = sym c.in_ok-resolved.ensures ∙ c.in-Ok.is in
+    let says = c.in-Ok.ensures in
     let few = subst (λ (t : List ℕ). length t < 2 ^ 32) c.as_slice.ensures c.in-Ok-seal_entry.ensures.few in
     let holds = subst (λ (t : List ℕ). EntryHolds t schema (entry_files text.text)) (sym c.in_ok-table.ensures) (entry_holds text schema c.requires.written says few) in
     c.commit_create.ensures.through_crashes first start (record { files = entry_files text.text; sealed_are = c.in-Ok-seal_entry.ensures.files tells ∙ ap (λ (t : List ℕ). Some (entry_files t)) c.as_slice.ensures; holds = holds }) keeps
 
 -- what the outside did where the reply says so
+pub returns-in-Err-Refused-clause-causes : goal.returns-in-Err-Refused-clause-causes
+returns-in-Err-Refused-clause-causes g c =
+    let disk = g.D.Disk.failed c.args.disk.now in
+    let arm = g.D.Arm.Arm.failed c.args.arm.now in
+    let why = c.in-Err-Refused.refusal in
+    IfOk-weaker c.refused.result _ _ (λ line is. says_script c.args.store.now.opened disk disk arm arm line why is (text_is_cause c.args.text.now why (subst (Refuses (schema_of_text c.args.text.now)) c.in-Err-Refused.field-0-is c.in-Err-Refused.ensures))) (refused_as _ c.in-Err-Refused.refusal c.refused.result c.in-Err-Refused.refusal-is c.refused.ensures)
+
 pub returns-in-Err-clause-causes : goal.returns-in-Err-clause-causes
 returns-in-Err-clause-causes g c =
     let disk = g.D.Disk.failed c.args.disk.now in
-    let arm = g.D.Arm.Arm.failed c.args.arm.now in
-    let why = c.in-Err.refusal in
-    IfOk-weaker c.refusal_line.result _ _ (λ line is. says_script c.args.store.now.opened disk disk arm arm line.items why is (text_is_cause c.args.text.now why (sym c.in_ok-resolved.ensures ∙ c.in-Err.is))) c.refusal_line.ensures
-
-pub returns-in-Err-seal_entry-clause-causes : goal.returns-in-Err-seal_entry-clause-causes
-returns-in-Err-seal_entry-clause-causes g c =
-    let disk = g.D.Disk.failed c.args.disk.now in
-    IfOk-weaker c.stage_line.result _ _ (λ line is. says_failed c.args.store.now.opened disk disk (g.D.Arm.Arm.failed c.args.arm.now) (g.D.Arm.Arm.failed c.seal_entry.new.arm) line.items c.in-Err-seal_entry.error is
-    (λ e. c.in-Err-seal_entry.ensures.cause.failed (ap Err e))) c.stage_line.ensures.line
+    IfOk-weaker c.stage_line.result _ _ (λ line is. says_failed c.args.store.now.opened disk disk (g.D.Arm.Arm.failed c.args.arm.now) (g.D.Arm.Arm.failed c.seal_entry.new.arm) line c.in-Err.error is
+    (λ e. c.in-Err.ensures.cause.failed (ap Err e))) c.stage_line.ensures.line
 
 pub returns-in-Ok-commit_create-clause-causes : goal.returns-in-Ok-commit_create-clause-causes
 returns-in-Ok-commit_create-clause-causes g c =
     says_answer c.args.store.now.opened (g.D.Disk.failed c.args.disk.now) (g.D.Disk.failed c.commit_create.new.disk) (g.D.Arm.Arm.failed c.args.arm.now) (g.D.Arm.Arm.failed c.seal_entry.new.arm)
-    c.in_ok-replies.replies.accepted.items _ c.in_ok-replies.ensures.accepted refl
+    c.in_ok-replies.replies.accepted _ c.in_ok-replies.ensures.accepted refl
 
 pub returns-in-Err-commit_create-clause-causes : goal.returns-in-Err-commit_create-clause-causes
 returns-in-Err-commit_create-clause-causes g c =
@@ -189,15 +190,15 @@ returns-in-Err-commit_create-clause-causes g c =
     let cause = c.in-Err-commit_create.field-0.cause in
     let before = g.D.Disk.failed c.args.disk.now in
     let shown = subst (λ (t : List ℕ). IsCause (refuses_create store t before) (Some cause)) c.in_ok-table.ensures ended.cause in
-    IfOk-weaker c.refused_line.result _ _ (λ line is. refused_says store.opened before (g.D.Disk.failed c.commit_create.new.disk) (g.D.Arm.Arm.failed c.args.arm.now) (g.D.Arm.Arm.failed c.give_back.new.arm) table cause line.items is
+    IfOk-weaker c.refused_line.result _ _ (λ line is. refused_says store.opened before (g.D.Disk.failed c.commit_create.new.disk) (g.D.Arm.Arm.failed c.args.arm.now) (g.D.Arm.Arm.failed c.give_back.new.arm) table cause line is
     (create_risen store table before cause shown) (create_failed store table before c.requires.ready.opened (g.D.Disk.failed c.commit_create.new.disk) cause shown after.rose)) c.refused_line.ensures.line
 
 -- where the store was stopped before
+pub returns-in-Err-Refused-clause-stopped : goal.returns-in-Err-Refused-clause-stopped
+returns-in-Err-Refused-clause-stopped g c = λ risen. nothing_accepted c.args.store.now c.args.disk.now (g.A.Annals.told c.args.annals.now)
+
 pub returns-in-Err-clause-stopped : goal.returns-in-Err-clause-stopped
 returns-in-Err-clause-stopped g c = λ risen. nothing_accepted c.args.store.now c.args.disk.now (g.A.Annals.told c.args.annals.now)
-
-pub returns-in-Err-seal_entry-clause-stopped : goal.returns-in-Err-seal_entry-clause-stopped
-returns-in-Err-seal_entry-clause-stopped g c = λ risen. nothing_accepted c.args.store.now c.args.disk.now (g.A.Annals.told c.args.annals.now)
 
 pub returns-in-Ok-commit_create-clause-stopped : goal.returns-in-Ok-commit_create-clause-stopped
 returns-in-Ok-commit_create-clause-stopped g c = λ risen.
@@ -218,31 +219,31 @@ returns-in-Err-commit_create-clause-stopped g c = λ risen.
     (λ none. still_refused store c.args.text.now.table before c.requires.ready.opened cause shown (after.given none)) risen ended.enters ended.untouched after.list_back
 
 -- the reply does not tell of damage
-pub returns-in-Err-clause-undamaged : goal.returns-in-Err-clause-undamaged
-returns-in-Err-clause-undamaged g c = IfOk-weaker c.refusal_line.result _ _ (λ line is. line_of line.items c.in-Err.refusal is (undamaged_line c.in-Err.refusal (text_is_cause c.args.text.now c.in-Err.refusal (sym c.in_ok-resolved.ensures ∙ c.in-Err.is)))) c.refusal_line.ensures
+pub returns-in-Err-Refused-clause-undamaged : goal.returns-in-Err-Refused-clause-undamaged
+returns-in-Err-Refused-clause-undamaged g c = IfOk-weaker c.refused.result _ _ (λ line is. line_of line c.in-Err-Refused.refusal is (undamaged_line c.in-Err-Refused.refusal (text_is_cause c.args.text.now c.in-Err-Refused.refusal (subst (Refuses (schema_of_text c.args.text.now)) c.in-Err-Refused.field-0-is c.in-Err-Refused.ensures)))) (refused_as _ c.in-Err-Refused.refusal c.refused.result c.in-Err-Refused.refusal-is c.refused.ensures)
 
-pub returns-in-Err-seal_entry-clause-undamaged : goal.returns-in-Err-seal_entry-clause-undamaged
-returns-in-Err-seal_entry-clause-undamaged g c = IfOk-weaker c.stage_line.result _ _ (λ line is. stage_line c.in-Err-seal_entry.error line.items is) c.stage_line.ensures.line
+pub returns-in-Err-clause-undamaged : goal.returns-in-Err-clause-undamaged
+returns-in-Err-clause-undamaged g c = IfOk-weaker c.stage_line.result _ _ (λ line is. stage_line c.in-Err.error line is) c.stage_line.ensures.line
 
 pub returns-in-Ok-commit_create-clause-undamaged : goal.returns-in-Ok-commit_create-clause-undamaged
 returns-in-Ok-commit_create-clause-undamaged g c = ap is_damage c.in_ok-replies.ensures.accepted
 
 pub returns-in-Err-commit_create-clause-undamaged : goal.returns-in-Err-commit_create-clause-undamaged
-returns-in-Err-commit_create-clause-undamaged g c = IfOk-weaker c.refused_line.result _ _ (λ line is. commit_line c.args.text.now.table c.in-Err-commit_create.field-0.cause line.items is) c.refused_line.ensures.line
+returns-in-Err-commit_create-clause-undamaged g c = IfOk-weaker c.refused_line.result _ _ (λ line is. commit_line c.args.text.now.table c.in-Err-commit_create.field-0.cause line is) c.refused_line.ensures.line
 
 -- without a fault no count rose
+pub returns-in-Err-Refused-clause-memory : goal.returns-in-Err-Refused-clause-memory
+returns-in-Err-Refused-clause-memory g c = in_any_case c.refused.result refl
+
+pub returns-in-Err-Refused-clause-arm_memory : goal.returns-in-Err-Refused-clause-arm_memory
+returns-in-Err-Refused-clause-arm_memory g c = in_any_case c.refused.result refl
+
 pub returns-in-Err-clause-memory : goal.returns-in-Err-clause-memory
-returns-in-Err-clause-memory g c = in_any_case c.refusal_line.result refl
+returns-in-Err-clause-memory g c = in_any_case c.stage_line.result refl
 
 pub returns-in-Err-clause-arm_memory : goal.returns-in-Err-clause-arm_memory
-returns-in-Err-clause-arm_memory g c = in_any_case c.refusal_line.result refl
-
-pub returns-in-Err-seal_entry-clause-memory : goal.returns-in-Err-seal_entry-clause-memory
-returns-in-Err-seal_entry-clause-memory g c = in_any_case c.stage_line.result refl
-
-pub returns-in-Err-seal_entry-clause-arm_memory : goal.returns-in-Err-seal_entry-clause-arm_memory
-returns-in-Err-seal_entry-clause-arm_memory g c =
-    IfErr-weaker c.stage_line.result _ _ (λ e calm. unfailed _ _ c.in-Err-seal_entry.error (λ is. c.in-Err-seal_entry.ensures.cause.memory (ap Err is)) calm) c.stage_line.ensures.fault
+returns-in-Err-clause-arm_memory g c =
+    IfErr-weaker c.stage_line.result _ _ (λ e calm. unfailed _ _ c.in-Err.error (λ is. c.in-Err.ensures.cause.memory (ap Err is)) calm) c.stage_line.ensures.fault
 
 pub returns-in-Ok-commit_create-clause-memory : goal.returns-in-Ok-commit_create-clause-memory
 returns-in-Ok-commit_create-clause-memory g c = tt

@@ -1,10 +1,8 @@
 use Rattle.std.proofs.lemmas.Result.{IfErr-weaker, IfOk-weaker}
-use Rattle.std.proofs.Common.{◌≡◌, inl, ◌<◌, ℕ, Bool, List, [], ◌∷◌, Option, Some, Ok, Err, true, false, length, refl, sym, ap, ◌∙◌, subst, arith, IfOk}
-use Rattle.std.specs.Option.{option_map}
+use Rattle.std.proofs.Common.{◌≡◌, ◌<◌, ℕ, Bool, List, [], Option, Some, Ok, Err, true, false, length, refl, sym, ap, ◌∙◌, subst, arith, IfOk}
 use Rattle.mt_base.specs.Stops.{Refuses}
 use Rattle.mt_values.specs.declared.row_fault.DataFault.{DataFault}
 use Rattle.mt_values.specs.declared.schema.Schema.{Schema}
-use Rattle.mt_values.specs.declared.statement.InsertText.{InsertText}
 use Rattle.mt_values.specs.declared.statement.Statement.TheVariants as statement
 use Rattle.mt_values.specs.declared.value.ColType.{ColType}
 use Rattle.mt_values.specs.Grid.{AreRowsOf, Grid}
@@ -79,7 +77,7 @@ returns-in-Err-Refused-clause-answers g c = λ kept is tells stands.
     let fault = c.in-Err-Refused.fault in
     answers_kept files kept (Ok (statement.Insert text)) c.args.store.now.opened (g.D.Disk.failed c.args.disk.now) (g.D.Arm.Arm.failed c.args.arm.now) c.data_line.result c.args.store.now (g.A.Annals.told c.args.annals.now)
     (g.D.Disk.told c.args.disk.now) (λ reply. reply ≡ refusal_line (refusal_of_data fault)) is stands
-    (subst (λ (f : DataFault). IfOk c.data_line.result (λ line. line.items ≡ refusal_line (refusal_of_data f))) c.in-Err-Refused.fault-is c.data_line.ensures)
+    (subst (λ (f : DataFault). IfOk c.data_line.result (λ line. line ≡ refusal_line (refusal_of_data f))) c.in-Err-Refused.fault-is c.data_line.ensures)
     (λ reply line n f. command_refused n kept reply (statement.Insert text) (refusal_of_data fault) (ap (commands_for text) there ∙ rows_refused text found.schema fault read) line)
 
 -- there are no rows
@@ -90,8 +88,8 @@ returns-then-is_empty-clause-answers g c = λ kept is tells stands.
     let found = c.in-Some.found.now in
     let there = table_schema files (history kept) c.args.store.now stands text.table found (sym c.in-Some.ensures.value) in
     let none = c.is_empty.ensures.0 c.if-is_empty.true in
-    answers_kept files kept (Ok (statement.Insert text)) c.args.store.now.opened (g.D.Disk.failed c.args.disk.now) (g.D.Arm.Arm.failed c.args.arm.now) c.ok_line.result c.args.store.now (g.A.Annals.told c.args.annals.now)
-    (g.D.Disk.told c.args.disk.now) (λ reply. reply ≡ ok_line c.args.store.now.length) is stands c.ok_line.ensures
+    answers_kept files kept (Ok (statement.Insert text)) c.args.store.now.opened (g.D.Disk.failed c.args.disk.now) (g.D.Arm.Arm.failed c.args.arm.now) c.accepted.result c.args.store.now (g.A.Annals.told c.args.annals.now)
+    (g.D.Disk.told c.args.disk.now) (λ reply. reply ≡ ok_line c.args.store.now.length) is stands c.accepted.ensures
     (λ reply line n f. accepted_none n kept (statement.Insert text) reply (ap (commands_for text) there ∙ no_rows text found.schema (c.in-Ok.ensures.rows ∙ ap Ok none)) (line ∙ ap ok_line (stands.length_is ∙ length_history kept)))
 
 pub seal_block-requires-clause-schema : goal.seal_block-requires-clause-schema
@@ -149,7 +147,7 @@ returns-in-Ok-commit_part-clause-answers g c = λ kept is tells stands.
     let turn = turn_free count (last_number text.table h) found.drawn 0 (drawn_is files h store stands text.table found at) free.0 free.1 in
     let sealed = c.in-Ok-seal_block.ensures.sealed tells in
     inserted_accepts text found.schema block kept gives files (g.D.Disk.clock c.commit_part.new.disk) store.opened (g.D.Disk.failed c.commit_part.new.disk) (g.D.Arm.Arm.failed c.seal_block.new.arm) store.length count c.commit_part.new.store
-    c.in_ok-replies.replies.accepted.items (g.A.Annals.told c.args.annals.now) (g.A.Annals.told c.commit_part.new.annals) (g.D.Disk.told c.args.disk.now) (g.D.Disk.told c.commit_part.new.disk)
+    c.in_ok-replies.replies.accepted (g.A.Annals.told c.args.annals.now) (g.A.Annals.told c.commit_part.new.annals) (g.D.Disk.told c.args.disk.now) (g.D.Disk.told c.commit_part.new.disk)
     stands.length_is (parts_made files h store stands text.table found at partition) turn is (done.turn found at).annals (done.stands h found at sealed stands).store_stands
     c.in_ok-replies.ensures.accepted
     (done.stands h found at sealed stands).root_stands
@@ -214,7 +212,7 @@ pub returns-in_default-clause-causes : goal.returns-in_default-clause-causes
 returns-in_default-clause-causes g c =
     let disk = g.D.Disk.failed c.args.disk.now in
     let arm = g.D.Arm.Arm.failed c.args.arm.now in
-    IfOk-weaker c.no_table_line.result _ _ (λ line is. says_script c.args.store.now.opened disk disk arm arm line.items (refusal.NoTable c.args.text.now.table) is (omega arith)) c.no_table_line.ensures
+    IfOk-weaker c.no_table_line.result _ _ (λ line is. says_script c.args.store.now.opened disk disk arm arm line (refusal.NoTable c.args.text.now.table) is (omega arith)) c.no_table_line.ensures
 
 pub returns-in-Err-Refused-clause-causes : goal.returns-in-Err-Refused-clause-causes
 returns-in-Err-Refused-clause-causes g c =
@@ -224,25 +222,25 @@ returns-in-Err-Refused-clause-causes g c =
     let schema = c.in-Some.found.now.schema in
     let read = subst (Refuses (inserted_rows (column_types schema) text.lines text.ended)) c.in-Err-Refused.field-0-is c.in-Err-Refused.ensures.refused in
     let fault = c.in-Err-Refused.fault in
-    IfOk-weaker c.data_line.result _ _ (λ line is. says_script c.args.store.now.opened disk disk arm arm line.items (refusal_of_data fault) is (data_is_cause text schema fault read))
-    (subst (λ (f : DataFault). IfOk c.data_line.result (λ line. line.items ≡ refusal_line (refusal_of_data f))) c.in-Err-Refused.fault-is c.data_line.ensures)
+    IfOk-weaker c.data_line.result _ _ (λ line is. says_script c.args.store.now.opened disk disk arm arm line (refusal_of_data fault) is (data_is_cause text schema fault read))
+    (subst (λ (f : DataFault). IfOk c.data_line.result (λ line. line ≡ refusal_line (refusal_of_data f))) c.in-Err-Refused.fault-is c.data_line.ensures)
 
 pub returns-then-is_empty-clause-causes : goal.returns-then-is_empty-clause-causes
 returns-then-is_empty-clause-causes g c =
     let disk = g.D.Disk.failed c.args.disk.now in
     let arm = g.D.Arm.Arm.failed c.args.arm.now in
-    IfOk-weaker c.ok_line.result _ _ (λ line is. says_answer c.args.store.now.opened disk disk arm arm line.items _ is refl) c.ok_line.ensures
+    IfOk-weaker c.accepted.result _ _ (λ line is. says_answer c.args.store.now.opened disk disk arm arm line _ is refl) c.accepted.ensures
 
 pub returns-in-Err-clause-causes : goal.returns-in-Err-clause-causes
 returns-in-Err-clause-causes g c =
     let disk = g.D.Disk.failed c.args.disk.now in
-    IfOk-weaker c.stage_line.result _ _ (λ line is. says_failed c.args.store.now.opened disk disk (g.D.Arm.Arm.failed c.args.arm.now) (g.D.Arm.Arm.failed c.seal_block.new.arm) line.items c.in-Err.error is
+    IfOk-weaker c.stage_line.result _ _ (λ line is. says_failed c.args.store.now.opened disk disk (g.D.Arm.Arm.failed c.args.arm.now) (g.D.Arm.Arm.failed c.seal_block.new.arm) line c.in-Err.error is
     (λ e. c.in-Err.ensures.cause.failed (ap Err e))) c.stage_line.ensures.line
 
 pub returns-in-Ok-commit_part-clause-causes : goal.returns-in-Ok-commit_part-clause-causes
 returns-in-Ok-commit_part-clause-causes g c =
     says_answer c.args.store.now.opened (g.D.Disk.failed c.args.disk.now) (g.D.Disk.failed c.commit_part.new.disk) (g.D.Arm.Arm.failed c.args.arm.now) (g.D.Arm.Arm.failed c.seal_block.new.arm)
-    c.in_ok-replies.replies.accepted.items _ c.in_ok-replies.ensures.accepted refl
+    c.in_ok-replies.replies.accepted _ c.in_ok-replies.ensures.accepted refl
 
 pub returns-in-Err-commit_part-clause-causes : goal.returns-in-Err-commit_part-clause-causes
 returns-in-Err-commit_part-clause-causes g c =
@@ -255,7 +253,7 @@ returns-in-Err-commit_part-clause-causes g c =
     let before = g.D.Disk.failed c.args.disk.now in
     let partition = partition_of_block found.schema c.in-Ok.block in
     let shown = ended.cause found (sym c.in-Some.ensures.value) in
-    IfOk-weaker c.refused_line.result _ _ (λ line is. refused_says store.opened before (g.D.Disk.failed c.commit_part.new.disk) (g.D.Arm.Arm.failed c.args.arm.now) (g.D.Arm.Arm.failed c.give_back_part.new.arm) table cause line.items is
+    IfOk-weaker c.refused_line.result _ _ (λ line is. refused_says store.opened before (g.D.Disk.failed c.commit_part.new.disk) (g.D.Arm.Arm.failed c.args.arm.now) (g.D.Arm.Arm.failed c.give_back_part.new.arm) table cause line is
     (part_risen store table before cause partition found.drawn shown) (part_failed store table before c.requires.ready.opened partition found.drawn (g.D.Disk.failed c.commit_part.new.disk) cause shown after.rose)) c.refused_line.ensures.line
 
 -- where the store was stopped before
@@ -299,7 +297,7 @@ pub returns-in-Err-Refused-clause-undamaged : goal.returns-in-Err-Refused-clause
 returns-in-Err-Refused-clause-undamaged g c = IfOk-weaker c.data_line.result _ _ (λ line is. ap is_damage is ∙ data_line _) c.data_line.ensures
 
 pub returns-then-is_empty-clause-undamaged : goal.returns-then-is_empty-clause-undamaged
-returns-then-is_empty-clause-undamaged g c = IfOk-weaker c.ok_line.result _ _ (λ line is. ap is_damage is) c.ok_line.ensures
+returns-then-is_empty-clause-undamaged g c = IfOk-weaker c.accepted.result _ _ (λ line is. ap is_damage is) c.accepted.ensures
 
 pub returns-in-Err-clause-undamaged : goal.returns-in-Err-clause-undamaged
 returns-in-Err-clause-undamaged g c = IfOk-weaker c.stage_line.result _ _ (λ line is. stage_line c.in-Err.error _ is) c.stage_line.ensures.line
@@ -331,10 +329,10 @@ pub returns-in-Err-Refused-clause-arm_memory : goal.returns-in-Err-Refused-claus
 returns-in-Err-Refused-clause-arm_memory g c = in_any_case c.data_line.result refl
 
 pub returns-then-is_empty-clause-memory : goal.returns-then-is_empty-clause-memory
-returns-then-is_empty-clause-memory g c = in_any_case c.ok_line.result refl
+returns-then-is_empty-clause-memory g c = in_any_case c.accepted.result refl
 
 pub returns-then-is_empty-clause-arm_memory : goal.returns-then-is_empty-clause-arm_memory
-returns-then-is_empty-clause-arm_memory g c = in_any_case c.ok_line.result refl
+returns-then-is_empty-clause-arm_memory g c = in_any_case c.accepted.result refl
 
 pub returns-in-Err-clause-memory : goal.returns-in-Err-clause-memory
 returns-in-Err-clause-memory g c = in_any_case c.stage_line.result refl

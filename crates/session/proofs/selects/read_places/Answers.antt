@@ -37,8 +37,8 @@ returns-in-Err-default-Fault-clause-answers g c = λ kept stands.
     let there = table_schema g.R.Dir.Dir.files (history kept) c.args.store.now stands c.args.text.now.table table c.requires.table in
     let chosen = c.requires.places in
     let rose = c.in-Err-default-Fault.ensures.fault c.in-Err-default-Fault.field-0-1-is in
-    IfOk-weaker c.stage_line.result _ _ (λ line is n disk f. select_failed n kept line.items c.args.text.now c.args.places.now (columns_are c.args.text.now (history kept) table.schema there ∙ chosen)
-    (line_of_stage c.args.store.now.opened disk (g.R.Arm.failed c.read_parts.new.arm) (g.R.Arm.failed c.args.arm.now) failure.Fault line.items n is (λ same. rose) f)) c.stage_line.ensures.line
+    IfOk-weaker c.stage_line.result _ _ (λ line is n disk f. select_failed n kept line c.args.text.now c.args.places.now (columns_are c.args.text.now (history kept) table.schema there ∙ chosen)
+    (line_of_stage c.args.store.now.opened disk (g.R.Arm.failed c.read_parts.new.arm) (g.R.Arm.failed c.args.arm.now) failure.Fault line n is (λ same. rose) f)) c.stage_line.ensures.line
 
 -- a part is not damaged
 pub returns-clause-answers : goal.returns-clause-answers
@@ -89,16 +89,16 @@ returns-in-Ok-clause-answers g c = λ kept stands.
     let rows_are = ap (rows_of new) count ∙ projected new c.args.places.now (joined_rows held.rows) values (typed_have_all table.schema c.args.places.now (joined_rows held.rows) within typed) in
     let place : store.length ≡ length kept.list = stands.length_is ∙ length_history kept in
     IfOk-weaker c.print.result _ _ (λ reply is n disk f.
-    let printed = subst (λ (cs : List Cells). Printed (grid_of cs c.args.rows) store.length reply.items) back is in
-    let here = subst (λ (m : ℕ). Printed (grid_of new c.args.rows) m reply.items) place printed in
+    let printed = subst (λ (cs : List Cells). Printed (grid_of cs c.args.rows) store.length reply) back is in
+    let here = subst (λ (m : ℕ). Printed (grid_of new c.args.rows) m reply) place printed in
     inl (
-      selects (history kept) text table.schema c.args.places.now (joined_rows held.rows) (grid_of new c.args.rows) (length kept.list) reply.items (whole_front kept) there chosen held.partly rows_are here,
+      selects (history kept) text table.schema c.args.places.now (joined_rows held.rows) (grid_of new c.args.rows) (length kept.list) reply (whole_front kept) there chosen held.partly rows_are here,
       added_nothing kept,
     )) c.print.ensures
 
 -- the reply does not tell of damage
 pub returns-in-Err-default-Fault-clause-undamaged : goal.returns-in-Err-default-Fault-clause-undamaged
-returns-in-Err-default-Fault-clause-undamaged g c = λ held. IfOk-weaker c.stage_line.result _ _ (λ line is. stage_line failure.Fault line.items is) c.stage_line.ensures.line
+returns-in-Err-default-Fault-clause-undamaged g c = λ held. IfOk-weaker c.stage_line.result _ _ (λ line is. stage_line failure.Fault line is) c.stage_line.ensures.line
 
 pub returns-clause-undamaged : goal.returns-clause-undamaged
 returns-clause-undamaged g c = λ held.
@@ -117,7 +117,7 @@ returns-in-Ok-clause-undamaged g c = λ held. IfOk-weaker c.print.result _ _ (λ
 
 -- what it tells where it does
 pub returns-in-Err-default-Fault-clause-damaged : goal.returns-in-Err-default-Fault-clause-damaged
-returns-in-Err-default-Fault-clause-damaged g c = IfOk-weaker c.stage_line.result _ _ (λ line is bad. absurd (false≢true (sym (stage_line failure.Fault line.items is) ∙ bad))) c.stage_line.ensures.line
+returns-in-Err-default-Fault-clause-damaged g c = IfOk-weaker c.stage_line.result _ _ (λ line is bad. absurd (false≢true (sym (stage_line failure.Fault line is) ∙ bad))) c.stage_line.ensures.line
 
 pub returns-clause-damaged : goal.returns-clause-damaged
 returns-clause-damaged g c =
@@ -127,7 +127,7 @@ returns-clause-damaged g c =
     let table = c.args.table.now in
     let chosen = c.requires.places in
     let types = ap (map (λ (x : Cells). x.col_type)) c.deref_mut.ensures.value ∙ c.in_ok-columns.ensures.types in
-    IfOk-weaker c.damaged.result _ _ (λ line is bad. tells_of_damage files store text line.items table c.args.places.now c.requires.table chosen
+    IfOk-weaker c.damaged.result _ _ (λ line is bad. tells_of_damage files store text line table c.args.places.now c.requires.table chosen
     c.parts-parts.result.now c.args.places.now (map (λ (x : Cells). x.col_type) c.deref_mut.result.now) c.parts-parts.ensures.parts refl types
     c.in-Err-default-Damaged.part c.in-Err-default-Damaged.file _ _ _ (subst (λ (w : PartFault). ExplainsParts files c.parts-parts.result.now c.args.places.now (map (λ (x : Cells). x.col_type) c.deref_mut.result.now) c.in-Err-default-Damaged.part w) c.in-Err-default-Damaged.field-0-1-is c.in-Err-default-Damaged.ensures.damaged)
     is) c.damaged.ensures
@@ -139,12 +139,12 @@ returns-in-Ok-clause-damaged g c = IfOk-weaker c.print.result _ _ (λ reply is b
 pub returns-in-Err-default-Fault-clause-causes : goal.returns-in-Err-default-Fault-clause-causes
 returns-in-Err-default-Fault-clause-causes g c = λ disk.
     let rose = c.in-Err-default-Fault.ensures.fault c.in-Err-default-Fault.field-0-1-is in
-    IfOk-weaker c.stage_line.result _ _ (λ line is. says_failed c.args.store.now.opened disk disk (g.R.Arm.failed c.args.arm.now) (g.R.Arm.failed c.read_parts.new.arm) line.items failure.Fault is (λ same. rose)) c.stage_line.ensures.line
+    IfOk-weaker c.stage_line.result _ _ (λ line is. says_failed c.args.store.now.opened disk disk (g.R.Arm.failed c.args.arm.now) (g.R.Arm.failed c.read_parts.new.arm) line failure.Fault is (λ same. rose)) c.stage_line.ensures.line
 
 pub returns-clause-causes : goal.returns-clause-causes
 returns-clause-causes g c = λ disk.
-    IfOk-weaker c.damaged.result _ _ (λ line is. says_damage c.args.store.now.opened disk disk (g.R.Arm.failed c.args.arm.now) (g.R.Arm.failed c.read_parts.new.arm) line.items _ _ _ is) c.damaged.ensures
+    IfOk-weaker c.damaged.result _ _ (λ line is. says_damage c.args.store.now.opened disk disk (g.R.Arm.failed c.args.arm.now) (g.R.Arm.failed c.read_parts.new.arm) line _ _ _ is) c.damaged.ensures
 
 pub returns-in-Ok-clause-causes : goal.returns-in-Ok-clause-causes
 returns-in-Ok-clause-causes g c = λ disk.
-    IfOk-weaker c.print.result _ _ (λ reply is. says_answer c.args.store.now.opened disk disk (g.R.Arm.failed c.args.arm.now) (g.R.Arm.failed c.read_parts.new.arm) reply.items _ is.reply_is refl) c.print.ensures
+    IfOk-weaker c.print.result _ _ (λ reply is. says_answer c.args.store.now.opened disk disk (g.R.Arm.failed c.args.arm.now) (g.R.Arm.failed c.read_parts.new.arm) reply _ is.reply_is refl) c.print.ensures

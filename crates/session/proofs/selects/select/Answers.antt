@@ -1,5 +1,6 @@
 use Rattle.std.proofs.lemmas.Result.{IfOk-weaker}
-use Rattle.std.proofs.Common.{◌∙◌, List, length, sym, ap, Ok, arith}
+use Rattle.std.proofs.Common.{◌∙◌, List, length, sym, ap, subst, Ok, arith}
+use Rattle.mt_base.specs.Stops.{Refuses}
 use Rattle.mt_values.specs.declared.schema.Column.{Column}
 use Rattle.mt_model.specs.declared.refusal.Refusal.TheVariants as refusal
 use Rattle.mt_model.specs.Refusals.{is_damage}
@@ -10,6 +11,7 @@ use Rattle.mt_model.proofs.Causes.{selected_is_cause, undamaged_line}
 use Rattle.replies.proofs.Causing.{says_script}
 use Rattle.replies.proofs.Undamaged.{line_of}
 use Rattle.replies.proofs.Refusing.{select_refused}
+use Rattle.session.proofs.Accepting.{refused_as}
 use Rattle.session.proofs.Selecting.{columns_are, no_columns}
 use Rattle.session.proofs.SelectStanding.{no_table, table_schema}
 use Rattle.session.proofs.selects.select.Goals as goal
@@ -18,15 +20,16 @@ use Rattle.session.proofs.selects.select.Goals as goal
 pub returns-in_default-clause-answers : goal.returns-in_default-clause-answers
 returns-in_default-clause-answers g c = λ kept stands.
     let none = no_table g.R.Dir.Dir.files (history kept) c.args.store.now stands c.args.text.now.table (sym c.in_default.ensures.value) in
-    IfOk-weaker c.no_table_line.result _ _ (λ line is n disk f. select_refused n kept line.items c.args.text.now (refusal.NoTable c.args.text.now.table) (no_columns c.args.text.now (history kept) none) is) c.no_table_line.ensures
+    IfOk-weaker c.no_table_line.result _ _ (λ line is n disk f. select_refused n kept line c.args.text.now (refusal.NoTable c.args.text.now.table) (no_columns c.args.text.now (history kept) none) is) c.no_table_line.ensures
 
 -- a name that is no column's
-pub returns-in-Err-clause-answers : goal.returns-in-Err-clause-answers
-returns-in-Err-clause-answers g c = λ kept stands.
+pub returns-in-Err-Refused-clause-answers : goal.returns-in-Err-Refused-clause-answers
+returns-in-Err-Refused-clause-answers g c = λ kept stands.
     let table = c.in-Some.table.now in
     let there = table_schema g.R.Dir.Dir.files (history kept) c.args.store.now stands c.args.text.now.table table (sym c.in-Some.ensures.value) in
-    let chosen = ap (λ (cs : List Column). selected_places cs c.args.text.now.columns) (sym c.as_slice.ensures) ∙ (sym c.in_ok-selected.ensures ∙ c.in-Err.is) in
-    IfOk-weaker c.refusal_line.result _ _ (λ line is n disk f. select_refused n kept line.items c.args.text.now c.in-Err.refusal (columns_are c.args.text.now (history kept) table.schema there ∙ chosen) is) c.refusal_line.ensures
+    let chosen = ap (λ (cs : List Column). selected_places cs c.args.text.now.columns) (sym c.as_slice.ensures)
+    ∙ subst (Refuses (selected_places c.as_slice.result.now c.args.text.now.columns)) c.in-Err-Refused.field-0-is c.in-Err-Refused.ensures in
+    IfOk-weaker c.refused.result _ _ (λ line is n disk f. select_refused n kept line c.args.text.now c.in-Err-Refused.refusal (columns_are c.args.text.now (history kept) table.schema there ∙ chosen) is) (refused_as _ c.in-Err-Refused.refusal c.refused.result c.in-Err-Refused.refusal-is c.refused.ensures)
 
 -- the columns of a table are not too many
 pub selected_columns-requires : goal.selected_columns-requires
@@ -37,36 +40,39 @@ selected_columns-requires g c =
 -- what is read of the columns that were selected
 pub read_places-requires-clause-places : goal.read_places-requires-clause-places
 read_places-requires-clause-places g c κs within =
-    ap (λ (cs : List Column). selected_places cs c.args.text.now.columns) (sym c.as_slice.ensures) ∙ (sym c.in_ok-selected.ensures ∙ (c.in-Ok.is ∙ ap Ok (sym c.as_slice-2.ensures)))
+    ap (λ (cs : List Column). selected_places cs c.args.text.now.columns) (sym c.as_slice.ensures) ∙ (c.in-Ok.ensures ∙ ap Ok (sym c.as_slice-2.ensures))
 
 -- the reply does not tell of damage
 pub returns-in_default-clause-undamaged : goal.returns-in_default-clause-undamaged
 returns-in_default-clause-undamaged g c = λ held. IfOk-weaker c.no_table_line.result _ _ (λ line is. ap is_damage is) c.no_table_line.ensures
 
-pub returns-in-Err-clause-undamaged : goal.returns-in-Err-clause-undamaged
-returns-in-Err-clause-undamaged g c = λ held.
-    let chosen = ap (λ (cs : List Column). selected_places cs c.args.text.now.columns) (sym c.as_slice.ensures) ∙ (sym c.in_ok-selected.ensures ∙ c.in-Err.is) in
-    IfOk-weaker c.refusal_line.result _ _ (λ line is. line_of line.items c.in-Err.refusal is (undamaged_line c.in-Err.refusal (selected_is_cause c.in-Some.table.now.schema.columns c.args.text.now.columns c.in-Err.refusal chosen))) c.refusal_line.ensures
+pub returns-in-Err-Refused-clause-undamaged : goal.returns-in-Err-Refused-clause-undamaged
+returns-in-Err-Refused-clause-undamaged g c = λ held.
+    let chosen = ap (λ (cs : List Column). selected_places cs c.args.text.now.columns) (sym c.as_slice.ensures)
+    ∙ subst (Refuses (selected_places c.as_slice.result.now c.args.text.now.columns)) c.in-Err-Refused.field-0-is c.in-Err-Refused.ensures in
+    IfOk-weaker c.refused.result _ _ (λ line is. line_of line c.in-Err-Refused.refusal is (undamaged_line c.in-Err-Refused.refusal (selected_is_cause c.in-Some.table.now.schema.columns c.args.text.now.columns c.in-Err-Refused.refusal chosen))) (refused_as _ c.in-Err-Refused.refusal c.refused.result c.in-Err-Refused.refusal-is c.refused.ensures)
 
 -- what it tells where it does
 pub returns-in_default-clause-damaged : goal.returns-in_default-clause-damaged
 returns-in_default-clause-damaged g c = IfOk-weaker c.no_table_line.result _ _ (λ line is bad. absurd (false≢true (sym (ap is_damage is) ∙ bad))) c.no_table_line.ensures
 
-pub returns-in-Err-clause-damaged : goal.returns-in-Err-clause-damaged
-returns-in-Err-clause-damaged g c =
-    let chosen = ap (λ (cs : List Column). selected_places cs c.args.text.now.columns) (sym c.as_slice.ensures) ∙ (sym c.in_ok-selected.ensures ∙ c.in-Err.is) in
-    IfOk-weaker c.refusal_line.result _ _ (λ line is bad.
-    let none = line_of line.items c.in-Err.refusal is (undamaged_line c.in-Err.refusal (selected_is_cause c.in-Some.table.now.schema.columns c.args.text.now.columns c.in-Err.refusal chosen)) in
-    absurd (false≢true (sym none ∙ bad))) c.refusal_line.ensures
+pub returns-in-Err-Refused-clause-damaged : goal.returns-in-Err-Refused-clause-damaged
+returns-in-Err-Refused-clause-damaged g c =
+    let chosen = ap (λ (cs : List Column). selected_places cs c.args.text.now.columns) (sym c.as_slice.ensures)
+    ∙ subst (Refuses (selected_places c.as_slice.result.now c.args.text.now.columns)) c.in-Err-Refused.field-0-is c.in-Err-Refused.ensures in
+    IfOk-weaker c.refused.result _ _ (λ line is bad.
+    let none = line_of line c.in-Err-Refused.refusal is (undamaged_line c.in-Err-Refused.refusal (selected_is_cause c.in-Some.table.now.schema.columns c.args.text.now.columns c.in-Err-Refused.refusal chosen)) in
+    absurd (false≢true (sym none ∙ bad))) (refused_as _ c.in-Err-Refused.refusal c.refused.result c.in-Err-Refused.refusal-is c.refused.ensures)
 
 -- what the outside did where it says so
 pub returns-in_default-clause-causes : goal.returns-in_default-clause-causes
 returns-in_default-clause-causes g c = λ disk.
     let arm = g.R.Arm.failed c.args.arm.now in
-    IfOk-weaker c.no_table_line.result _ _ (λ line is. says_script c.args.store.now.opened disk disk arm arm line.items (refusal.NoTable c.args.text.now.table) is (omega arith)) c.no_table_line.ensures
+    IfOk-weaker c.no_table_line.result _ _ (λ line is. says_script c.args.store.now.opened disk disk arm arm line (refusal.NoTable c.args.text.now.table) is (omega arith)) c.no_table_line.ensures
 
-pub returns-in-Err-clause-causes : goal.returns-in-Err-clause-causes
-returns-in-Err-clause-causes g c = λ disk.
+pub returns-in-Err-Refused-clause-causes : goal.returns-in-Err-Refused-clause-causes
+returns-in-Err-Refused-clause-causes g c = λ disk.
     let arm = g.R.Arm.failed c.args.arm.now in
-    let chosen = ap (λ (cs : List Column). selected_places cs c.args.text.now.columns) (sym c.as_slice.ensures) ∙ (sym c.in_ok-selected.ensures ∙ c.in-Err.is) in
-    IfOk-weaker c.refusal_line.result _ _ (λ line is. says_script c.args.store.now.opened disk disk arm arm line.items c.in-Err.refusal is (selected_is_cause c.in-Some.table.now.schema.columns c.args.text.now.columns c.in-Err.refusal chosen)) c.refusal_line.ensures
+    let chosen = ap (λ (cs : List Column). selected_places cs c.args.text.now.columns) (sym c.as_slice.ensures)
+    ∙ subst (Refuses (selected_places c.as_slice.result.now c.args.text.now.columns)) c.in-Err-Refused.field-0-is c.in-Err-Refused.ensures in
+    IfOk-weaker c.refused.result _ _ (λ line is. says_script c.args.store.now.opened disk disk arm arm line c.in-Err-Refused.refusal is (selected_is_cause c.in-Some.table.now.schema.columns c.args.text.now.columns c.in-Err-Refused.refusal chosen)) (refused_as _ c.in-Err-Refused.refusal c.refused.result c.in-Err-Refused.refusal-is c.refused.ensures)

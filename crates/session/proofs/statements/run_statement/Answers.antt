@@ -30,9 +30,9 @@ returns-in-Err-clause-answers g c = λ kept is tells stands.
     let told = g.A.Annals.told c.args.annals.now in
     let root = g.D.Disk.told c.args.disk.now in
     let opened = c.args.store.now.opened in
-    let result = c.refusal_line.result in
+    let result = c.refused.result in
     let why = refusal_of_cause c.in-Err.cause in
-    let line = subst (λ (w : Refusal). IfOk result (λ line. line.items ≡ refusal_line w)) c.of_cause.ensures c.refusal_line.ensures in
+    let line = subst (λ (w : Refusal). IfOk result (λ line. line ≡ refusal_line w)) c.of_cause.ensures c.refused.ensures in
     subst (λ st. Answers files kept st opened disk arm result c.args.store.now told root root) (sym c.in-Err.is)
     (answers_kept files kept (Err c.in-Err.cause) opened disk arm result c.args.store.now told root (λ reply. reply ≡ refusal_line why) is stands line (λ reply line n f. text_refused n kept reply c.in-Err.cause line))
 
@@ -57,8 +57,8 @@ returns-in-Ok-Select-clause-causes g c = c.select.ensures.causes (g.D.Disk.faile
 pub returns-in-Err-clause-causes : goal.returns-in-Err-clause-causes
 returns-in-Err-clause-causes g c =
     let cause = c.in-Err.cause in
-    IfOk-weaker c.refusal_line.result _ _
-    (λ line is. says_script c.args.store.now.opened (g.D.Disk.failed c.args.disk.now) (g.D.Disk.failed c.args.disk.now) (g.D.Arm.Arm.failed c.args.arm.now) (g.D.Arm.Arm.failed c.args.arm.now) line.items (refusal_of_cause cause) (is ∙ ap refusal_line c.of_cause.ensures) (text_code cause)) c.refusal_line.ensures
+    IfOk-weaker c.refused.result _ _
+    (λ line is. says_script c.args.store.now.opened (g.D.Disk.failed c.args.disk.now) (g.D.Disk.failed c.args.disk.now) (g.D.Arm.Arm.failed c.args.arm.now) (g.D.Arm.Arm.failed c.args.arm.now) line (refusal_of_cause cause) (is ∙ ap refusal_line c.of_cause.ensures) (text_code cause)) c.refused.ensures
   where
     text_code : (cause : Cause) → code (refusal_of_cause cause) ≤ 14
     text_code (cause.Grammar place) = omega arith
@@ -67,4 +67,4 @@ returns-in-Err-clause-causes g c =
 
 -- the reply does not tell of damage
 pub returns-in-Err-clause-undamaged : goal.returns-in-Err-clause-undamaged
-returns-in-Err-clause-undamaged g c = λ held. IfOk-weaker c.refusal_line.result _ _ (λ line is. ap is_damage (is ∙ ap refusal_line c.of_cause.ensures) ∙ cause_line c.in-Err.cause) c.refusal_line.ensures
+returns-in-Err-clause-undamaged g c = λ held. IfOk-weaker c.refused.result _ _ (λ line is. ap is_damage (is ∙ ap refusal_line c.of_cause.ensures) ∙ cause_line c.in-Err.cause) c.refused.ensures
