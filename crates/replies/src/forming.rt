@@ -23,7 +23,7 @@ pub struct Replies {
 /// The replies to the next command of a history of this length, after some commands of its statement were accepted.
 ///
 /// `NoMemory` where an allocation failed, and at a history of 2^64 - 1 commands.
-pub fn replies_behind(
+pub fn replies_after(
     alloc: Global,
     before: u64,
     accepted_before: usize,

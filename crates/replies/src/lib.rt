@@ -9,7 +9,7 @@ mod reply;
 mod tally;
 mod writing;
 
-pub use forming::{Replies, replies_behind};
+pub use forming::{Replies, replies_after};
 pub use lines::{damaged, data_line, failed_line, no_table_line, stage_line, unsettled_line};
 pub use printing::print;
 pub use reply::Reply;

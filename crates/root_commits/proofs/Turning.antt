@@ -66,6 +66,7 @@ pub record AfterRefusal {S : Type 0} (turn : Turn) (was now : Storage) (sealed :
   pub list : SameList was.annals now.annals
   pub returned : IfSome back (λ s. s ≡ sealed)
   pub list_back : IfSome back (λ _. now.annals ≡ was.annals)
+  pub stays : IfSome back (λ _. now ≡ was)
   pub faulted : cause ≡ refused.Disk → IsNone back
   pub given : IsNone back → IsOutside (Some cause)
   pub published : IsNone back → MayPut was.clock turn.name turn.files was.disk now.disk
@@ -83,6 +84,7 @@ module _ {S : Type 0} (turn : Turn) (was now : Storage) (sealed : S) (cause : Re
     list = begun_same was.annals now.annals turn.entry d.annals;
     returned = tt;
     list_back = tt;
+    stays = tt;
     faulted = λ disk. refl;
     given = λ none. d.outside;
     published = λ none. d.root;
@@ -103,6 +105,7 @@ module _ {S : Type 0} (turn : Turn) (was now : Storage) (sealed : S) (cause : Re
         list = same_list was.annals now.annals list;
         returned = n.returned;
         list_back = list;
+        stays = n.stays;
         faulted = λ disk. absurd (n.other disk);
         given = λ none. absurd (not_none none);
         published = λ none. absurd (not_none none);

@@ -1,14 +1,13 @@
 -- From what a statement did to what its answer says.
-use Rattle.std.proofs.Common.{◌≡◌, ℕ, ◌+◌, ◌-◌, ◌≤◌, false, List, [], ◌∷◌, ◌++◌, length, map, take, refl, sym, ap, ◌∙◌, subst, append-nil, Option, Some, Ok, Err, Result, IfOk, IfErr, length-append, inl, inr, arith}
+use Rattle.std.proofs.Common.{◌≡◌, ℕ, ◌+◌, ◌-◌, ◌≤◌, false, List, [], ◌∷◌, ◌++◌, length, map, take, refl, sym, ap, ◌∙◌, subst, append-nil, Some, Ok, Err, Result, IfOk, IfErr, length-append, inl, inr, arith}
 use Rattle.std.specs.Option.{option_map}
 use Rattle.std.proofs.lemmas.List.{take_at, map-append}
 use Rattle.std.proofs.lemmas.List.Elements.{All-cons, All-nil}
 use Rattle.mt_values.specs.declared.annals.Noted.{Noted}
 use Rattle.mt_values.specs.declared.command.Command.{Command}
-use Rattle.mt_values.specs.declared.statement.Cause.{Cause}
+use Rattle.mt_values.specs.Script.{Item}
 use Rattle.mt_values.specs.declared.statement.Statement.{Statement}
 use Rattle.mt_values.specs.Annals.{Told, began, noted}
-use Rattle.mt_outside.specs.Disk as root
 use Rattle.mt_outside.specs.Files.{Files}
 use Rattle.mt_model.specs.Commands.{commands_of}
 use Rattle.mt_model.specs.History.{History}
@@ -16,24 +15,24 @@ use Rattle.mt_model.specs.declared.refusal.Refusal.{Refusal}
 use Rattle.mt_model.specs.Outside.{Outside}
 use Rattle.mt_model.specs.Refusals.{refusal_line}
 use Rattle.mt_model.specs.Reply.{ok_line}
-use Rattle.mt_model.specs.Session.{Adds, StopsAfter, Takes, TakesCommands, TurnAllows}
+use Rattle.mt_model.specs.Session.{Adds, StopsAfter, Takes, TakesCommands, TurnAllows, Unanswered}
 use Rattle.mt_model.proofs.Growing.{adds_last, stays}
-use Rattle.root_store.specs.declared.store.CoreStore.{CoreStore}
 use Rattle.durable_commit.specs.Commits.{Notes, entry_of}
 use Rattle.root_store.specs.Soundness.{RootStands}
 use Rattle.root_store.specs.Stores.{CoreStands}
 use Rattle.mt_base.specs.declared.memory.NoMemory.{NoMemory}
-use Rattle.session.specs.Answers.{AcceptsNothing, Answered, Answers, BeginsNext, IsBegun, EndsUnanswered}
+use Rattle.shared_store.specs.Engines.{Opened}
+use Rattle.session.specs.Answers.{AcceptsNothing, Answered, Answers, BeginsNext, EndsUnanswered, IsBegun, Knows, Turned}
 use Rattle.replies.specs.Foreseen.{history, Foresees, is_unsettled}
 use Rattle.replies.proofs.Ends.{added_nothing, length_history, whole_front}
 use Rattle.replies.proofs.Refusing.{stops_first}
 
 -- a statement that adds nothing
-pub answered_nothing : {F : Type 0} (files_of : F → Option Files) (kept now : Told) (st : Result Statement Cause) (opened disk arm : ℕ) (reply : List ℕ) (store : CoreStore F) (told : Option Told) (root_before now_root : Option root.Told)
-    → told ≡ Some now → now.list ≡ kept.list → IsBegun kept now st reply → CoreStands files_of (history kept) store
-    → ((n : Outside) → Foresees opened disk arm n → Takes n (history kept) 0 st (length kept.list) (length kept.list) reply)
-    → (is_unsettled reply ≡ false → RootStands root_before (history kept) → RootStands now_root (history kept)) → Answered files_of kept st opened disk arm reply store told root_before now_root
-answered_nothing files_of kept now st opened disk arm reply store told root_before now_root is same begun stands takes settled =
+pub answered_nothing : {F : Type 0} (files_of : F → Option Files) (kept now : Told) (st : Item) (t : Turned F) (reply : List ℕ)
+    → t.now.storage.annals ≡ Some now → now.list ≡ kept.list → IsBegun kept now st (is_unsettled reply ≡ true) → CoreStands files_of (history kept) t.now.store
+    → ((n : Outside) → Foresees t.was.store.opened t.now.storage.failed t.arm n → Takes n (history kept) 0 st (length kept.list) (length kept.list) reply)
+    → (is_unsettled reply ≡ false → RootStands t.was.storage.disk (history kept) → RootStands t.now.storage.disk (history kept)) → Answered files_of kept st t reply
+answered_nothing files_of kept now st t reply is same begun stands takes settled =
     let h : history now ≡ history kept = ap (map (λ (n : Noted). n.entry)) same in
     record {
       now = now;
@@ -42,32 +41,56 @@ answered_nothing files_of kept now st opened disk arm reply store told root_befo
       list_is = same ∙ sym (append-nil kept.list);
       begun = begun;
       sessions = All-nil (λ (n : Noted). n.entry.session ≡ 0);
-      stands = subst (λ (x : History). CoreStands files_of x store) (sym h) stands;
+      stands = subst (λ (x : History). CoreStands files_of x t.now.store) (sym h) stands;
       takes = λ n f. subst (λ (m : ℕ). Takes n (history now) 0 st (length kept.list) m reply) (sym (ap length same))
           (subst (λ (x : History). Takes n x 0 st (length kept.list) (length kept.list) reply) (sym h) (takes n f));
-      settled = λ calm before. subst (RootStands now_root) (sym h) (settled calm before);
+      settled = λ calm before. subst (RootStands t.now.storage.disk) (sym h) (settled calm before);
+    }
+
+-- a statement that adds nothing gives nothing
+nothing_given : (kept : Told) (st : Item) → Unanswered (history kept) 0 st (length kept.list) (length kept.list)
+nothing_given kept (Ok s) = inl (added_nothing kept)
+nothing_given kept (Err why) = added_nothing kept
+
+-- a statement that adds nothing and has no reply
+pub unanswered_nothing : {F : Type 0} (files_of : F → Option Files) (kept now : Told) (st : Item) (t : Turned F)
+    → t.now.storage.annals ≡ Some now → now.list ≡ kept.list → IsBegun kept now st (Unit {0}) → CoreStands files_of (history kept) t.now.store
+    → (RootStands t.was.storage.disk (history kept) → RootStands t.now.storage.disk (history kept)) → EndsUnanswered files_of kept st t
+unanswered_nothing files_of kept now st t is same begun stands settled =
+    let h : history now ≡ history kept = ap (map (λ (n : Noted). n.entry)) same in
+    record {
+      now = now;
+      more = [];
+      told_is = is;
+      list_is = same ∙ sym (append-nil kept.list);
+      begun = begun;
+      sessions = All-nil (λ (n : Noted). n.entry.session ≡ 0);
+      stands = subst (λ (x : History). CoreStands files_of x t.now.store) (sym h) stands;
+      gives = subst (λ (m : ℕ). Unanswered (history now) 0 st (length kept.list) m) (sym (ap length same))
+          (subst (λ (x : History). Unanswered x 0 st (length kept.list) (length kept.list)) (sym h) (nothing_given kept st));
+      settled = λ before. subst (RootStands t.now.storage.disk) (sym h) (settled before);
     }
 
 -- A line that is answered as it was formed, where it has what is said of it; else out of memory.
-pub answers_line : {F : Type 0} (files_of : F → Option Files) (kept : Told) (st : Result Statement Cause) (opened disk arm : ℕ) (line : Result (List ℕ) NoMemory) (store : CoreStore F) (told : Option Told) (root_before now_root : Option root.Told) (P : List ℕ → Type 0)
-    → IfOk line (λ text. P text) → IfErr line (λ _. EndsUnanswered kept st told root_before now_root)
-    → ((reply : List ℕ) → P reply → Answered files_of kept st opened disk arm reply store told root_before now_root) → Answers files_of kept st opened disk arm line store told root_before now_root
-answers_line files_of kept st opened disk arm (Ok text) store told root_before now_root P is keeps answered = answered text is
-answers_line files_of kept st opened disk arm (Err e) store told root_before now_root P is keeps answered = keeps
+pub answers_line : {F : Type 0} (files_of : F → Option Files) (kept : Told) (st : Item) (t : Turned F) (line : Result (List ℕ) NoMemory) (P : List ℕ → Type 0)
+    → IfOk line (λ text. P text) → IfErr line (λ _. EndsUnanswered files_of kept st t) → ((reply : List ℕ) → P reply → Answered files_of kept st t reply) → Answers files_of kept st t line
+answers_line files_of kept st t (Ok text) P is keeps answered = answered text is
+answers_line files_of kept st t (Err e) P is keeps answered = keeps
 
 -- the line of a refusal is the line of one that equals it
 pub refused_as : (why same : Refusal) (line : Result (List ℕ) NoMemory) → why ≡ same → IfOk line (λ text. text ≡ refusal_line why) → IfOk line (λ text. text ≡ refusal_line same)
 refused_as why same line is refused = subst (λ (w : Refusal). IfOk line (λ text. text ≡ refusal_line w)) is refused
 
--- a line in answer to a statement that did nothing, to what the annals list, to the store and to the root
-pub answers_kept : {F : Type 0} (files_of : F → Option Files) (kept : Told) (st : Result Statement Cause) (opened disk arm : ℕ) (line : Result (List ℕ) NoMemory) (store : CoreStore F) (told : Option Told) (root_same : Option root.Told) (P : List ℕ → Type 0)
-    → told ≡ Some kept → CoreStands files_of (history kept) store → IfOk line (λ text. P text)
-    → ((reply : List ℕ) → P reply → (n : Outside) → Foresees opened disk arm n → Takes n (history kept) 0 st (length kept.list) (length kept.list) reply)
-    → Answers files_of kept st opened disk arm line store told root_same root_same
-answers_kept files_of kept st opened disk arm (Ok text) store told root_same P told_is stands is takes =
-    answered_nothing files_of kept kept st opened disk arm text store told root_same root_same told_is refl (inl (refl, refl)) stands (takes text is) (λ calm before. before)
-answers_kept files_of kept st opened disk arm (Err e) store told root_same P told_is stands is takes =
-    record { now = kept; told_is = told_is; list_is = refl; begun = inl refl; root_is = refl }
+-- a statement that did nothing: to what the annals list, to the store and to the root
+abbrev pub unturned : {F : Type 0} → Opened F → ℕ → Turned F
+unturned root arm = record { was = root; now = root; arm = arm }
+
+-- a line in answer to such a statement
+pub answers_kept : {F : Type 0} (files_of : F → Option Files) (kept : Told) (st : Item) (here : Opened F) (arm : ℕ) (line : Result (List ℕ) NoMemory) (P : List ℕ → Type 0) → Knows files_of kept here → IfOk line (λ text. P text)
+    → ((reply : List ℕ) → P reply → (n : Outside) → Foresees here.store.opened here.storage.failed arm n → Takes n (history kept) 0 st (length kept.list) (length kept.list) reply)
+    → Answers files_of kept st (unturned here arm) line
+answers_kept files_of kept st here arm (Ok text) P knows is takes = answered_nothing files_of kept kept st (unturned here arm) text knows.told_is refl (inl (refl, refl)) knows.stands (takes text is) (λ calm before. before)
+answers_kept files_of kept st here arm (Err e) P knows is takes = unanswered_nothing files_of kept kept st (unturned here arm) knows.told_is refl (inl (refl, refl)) knows.stands (λ before. before)
 
 -- what holds in any case holds of an error
 pub in_any_case : {T E P : Type 0} (line : Result T E) → P → IfErr line (λ _. P)
@@ -75,12 +98,8 @@ in_any_case (Ok x) p = tt
 in_any_case (Err e) p = p
 
 -- what was not touched
-pub nothing_accepted : {F D : Type 0} (store : CoreStore F) (disk : D) (annals : Option Told) → AcceptsNothing store store disk disk annals annals
-nothing_accepted store disk annals = record {
-  store_is = record { tables = refl; parts = λ table. refl; length_is = refl; opened_is = refl };
-  disk_is = refl;
-  annals_is = refl;
-}
+pub nothing_accepted : {F : Type 0} (here : Opened F) → AcceptsNothing here here
+nothing_accepted here = record { store_is = record { tables = refl; parts = λ table. refl; length_is = refl; opened_is = refl }; storage_is = refl }
 
 -- the first command of a statement that is begun and was not accepted
 pub begins_first : (kept now : Told) (said : Statement) (next : Command) (rest : List Command) → now.list ≡ kept.list → commands_of (history kept) said ≡ Ok (next ∷ rest) → now.begun ≡ Some (entry_of 0 next)
@@ -141,18 +160,18 @@ module _ (mark : ℕ) (c : Command) (kept : Told) where
       subst (λ (h : History). Adds h 0 c (length kept.list) (length kept.list + 1)) (sym history_after) here
 
   -- a statement that adds one command
-  pub accepts_command : {F : Type 0} (files_of : F → Option Files) (st : Result Statement Cause) (opened disk arm : ℕ) (reply : List ℕ) (store : CoreStore F) (old told : Option Told) (root_before now_root : Option root.Told)
-      → old ≡ Some kept → Notes mark (entry_of 0 c) old told → CoreStands files_of (history kept ++ entry_of 0 c ∷ []) store
+  pub accepts_command : {F : Type 0} (files_of : F → Option Files) (st : Item) (t : Turned F) (reply : List ℕ)
+      → t.was.storage.annals ≡ Some kept → Notes mark (entry_of 0 c) t.was.storage.annals t.now.storage.annals → CoreStands files_of (history kept ++ entry_of 0 c ∷ []) t.now.store
       → ((n : Outside) (h : History) (m : ℕ) → take m h ≡ history kept → Adds h 0 c m (m + 1) → m ≡ length kept.list → Takes n h 0 st m (m + 1) reply)
-      → (RootStands root_before (history kept) → RootStands now_root (history kept ++ entry_of 0 c ∷ [])) → Answered files_of kept st opened disk arm reply store told root_before now_root
-  accepts_command files_of st opened disk arm reply store old told root_before now_root is notes stands takes settled = record {
+      → (RootStands t.was.storage.disk (history kept) → RootStands t.now.storage.disk (history kept ++ entry_of 0 c ∷ [])) → Answered files_of kept st t reply
+  accepts_command files_of st t reply is notes stands takes settled = record {
     now = after_note mark c kept;
     more = record { entry = entry_of 0 c; mark = mark } ∷ [];
     told_is = notes ∙ ap (option_map (after_note mark c)) is;
     list_is = refl;
     begun = let longer = length_after in inr (inl (refl, omega (arith, longer)));
     sessions = All-cons (λ (n : Noted). n.entry.session ≡ 0) (record { entry = entry_of 0 c; mark = mark }) [] refl (All-nil (λ (n : Noted). n.entry.session ≡ 0));
-    stands = subst (λ (h : History). CoreStands files_of h store) (sym history_after) stands;
+    stands = subst (λ (h : History). CoreStands files_of h t.now.store) (sym history_after) stands;
     takes = λ n f. subst (λ (m : ℕ). Takes n (history (after_note mark c kept)) 0 st (length kept.list) m reply) (sym length_after) (takes n (history (after_note mark c kept)) (length kept.list) front_after adds_after refl);
-    settled = λ calm before. subst (RootStands now_root) (sym history_after) (settled before);
+    settled = λ calm before. subst (RootStands t.now.storage.disk) (sym history_after) (settled before);
   }

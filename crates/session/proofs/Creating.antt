@@ -27,7 +27,7 @@ use Rattle.durable_commit.specs.Commits.{Notes, entry_of}
 use Rattle.root_store.specs.Entries.{EntryHolds, schema_of_items, schema_of_entry}
 use Rattle.root_store.specs.Soundness.{RootStands}
 use Rattle.root_store.specs.Stores.{CoreStands}
-use Rattle.session.specs.Answers.{Answered}
+use Rattle.session.specs.Answers.{Answered, Knows, Turned}
 use Rattle.replies.specs.Foreseen.{history}
 use Rattle.session.specs.Staged.{entry_files}
 use Rattle.session.proofs.Accepting.{accepted_one, accepts_command}
@@ -74,14 +74,13 @@ module _ (text : CreateText) (schema : Schema) (says : schema_of_text text ≡ O
   create_gives h = ap (create_commands text.table) says
 
   -- a CREATE that is accepted
-  pub created_accepts : {F : Type 0} (files_of : F → Option Files) (kept : Told) (mark opened disk arm place : ℕ) (new : CoreStore F) (reply : List ℕ) (old told : Option Told) (root_before now_root : Option root.Told)
-      → place ≡ length (history kept) → create_turn text.table (history kept) ≡ None → old ≡ Some kept
-      → Notes mark (entry_of 0 created) old told → CoreStands files_of (history kept ++ entry_of 0 created ∷ []) new → reply ≡ ok_line (place + 1)
-      → (RootStands root_before (history kept) → RootStands now_root (history kept ++ entry_of 0 created ∷ []))
-      → Answered files_of kept (Ok (statement.Create text)) opened disk arm reply new told root_before now_root
-  created_accepts files_of kept mark opened disk arm place new reply old told root_before now_root at turn was notes stands ok settled =
-      let length_kept : place ≡ length kept.list = at ∙ length_history kept in
-      accepts_command mark created kept files_of (Ok (statement.Create text)) opened disk arm reply new old told root_before now_root was notes stands
+  pub created_accepts : {F : Type 0} (files_of : F → Option Files) (kept : Told) (t : Turned F) (mark : ℕ) (reply : List ℕ) → Knows files_of kept t.was → create_turn text.table (history kept) ≡ None
+      → Notes mark (entry_of 0 created) t.was.storage.annals t.now.storage.annals → CoreStands files_of (history kept ++ entry_of 0 created ∷ []) t.now.store → reply ≡ ok_line (t.was.store.length + 1)
+      → (RootStands t.was.storage.disk (history kept) → RootStands t.now.storage.disk (history kept ++ entry_of 0 created ∷ []))
+      → Answered files_of kept (Ok (statement.Create text)) t reply
+  created_accepts files_of kept t mark reply knows turn notes stands ok settled =
+      let length_kept : t.was.store.length ≡ length kept.list = knows.stands.length_is ∙ length_history kept in
+      accepts_command mark created kept files_of (Ok (statement.Create text)) t reply knows.told_is notes stands
       (λ n now m front added at_m.
       accepted_one n now (history kept) (statement.Create text) created m reply front (create_gives (history kept)) turn added (ok ∙ ap (λ k. ok_line (k + 1)) (length_kept ∙ sym at_m)))
       settled

@@ -19,12 +19,9 @@ use Rattle.part_name.specs.PartNames.{part_text}
 use Rattle.part_reader.specs.declared.reading.Part.{Part}
 use Rattle.part_reader.specs.declared.reading.PartFault.TheVariants as fault
 use Rattle.part_set.specs.declared.kept.Kept.{Kept}
-use Rattle.part_set.specs.Sets.{parts_of}
+use Rattle.part_set.specs.declared.kept.Snap.{Snap}
 use Rattle.mt_base.specs.Files.{file_name}
-use Rattle.root_store.specs.declared.store.CoreStore.{CoreStore}
-use Rattle.root_store.specs.declared.store.Table.{Table}
 use Rattle.root_store.specs.Soundness.{HoldsRows}
-use Rattle.root_store.specs.Stores.{table_at}
 use Rattle.session.specs.Selects.{TellsOfDamage}
 use Rattle.session.specs.Scans.{ExplainsParts, PartsHold}
 
@@ -37,33 +34,30 @@ all_hold files_of schema (part ∷ parts) held =
     (first.0 ∷ rest.0, (first.1, rest.1))
 
 -- a SELECT that tells of damage, from why its parts were not read
-tells : {F : Type 0} (files_of : F → Option Files) (store : CoreStore F) (text : SelectText) (reply : List ℕ) (table : Table) (places : List ℕ) → table_at store text.table ≡ Some table → selected_places table.schema.columns text.columns ≡ Ok places
+tells : {F : Type 0} (files_of : F → Option Files) (snap : Snap (Part F)) (text : SelectText) (reply : List ℕ) (places : List ℕ) → selected_places snap.schema.columns text.columns ≡ Ok places
     → (part : PartName) (f : FileId) (place : ℕ) (wanted found : FileMark)
-    → ExplainsParts files_of (parts_of store.set text.table) places (filter_map (slice_get (column_types table.schema)) places) part (fault.Damaged f place wanted found)
-    → reply ≡ refusal_line (refusal.Damaged text.table (part_text part) (file_name f)) → TellsOfDamage files_of store text reply
-tells files_of store text reply table places there chosen part f place wanted found why is =
+    → ExplainsParts files_of snap.parts.items places (filter_map (slice_get (column_types snap.schema)) places) part (fault.Damaged f place wanted found)
+    → reply ≡ refusal_line (refusal.Damaged text.table (part_text part) (file_name f)) → TellsOfDamage files_of snap text reply
+tells files_of snap text reply places chosen part f place wanted found why is =
     let column : f ≡ file.Column why.number = why.explained.explained.0 in
     record {
-      table = table;
       places = places;
-      table_is = there;
       places_are = chosen;
       name = part;
       number = why.number;
       place = place;
       wanted = wanted;
       found = found;
-      part = subst (λ (x : FileId). ExplainsParts files_of (parts_of store.set text.table) places (filter_map (slice_get (column_types table.schema)) places) part (fault.Damaged x place wanted found)) column why;
+      part = subst (λ (x : FileId). ExplainsParts files_of snap.parts.items places (filter_map (slice_get (column_types snap.schema)) places) part (fault.Damaged x place wanted found)) column why;
       reply_is = is ∙ ap (λ (x : FileId). refusal_line (refusal.Damaged text.table (part_text part) (file_name x))) column;
     }
 
-pub tells_of_damage : {F : Type 0} (files_of : F → Option Files) (store : CoreStore F) (text : SelectText) (reply : List ℕ) (table : Table) (places : List ℕ) → table_at store text.table ≡ Some table → selected_places table.schema.columns text.columns ≡ Ok places
-    → (parts : List (Kept (Part F))) (asked : List ℕ) (types : List ColType) → parts ≡ parts_of store.set text.table → asked ≡ places → types ≡ filter_map (slice_get (column_types table.schema)) places
-    → (part : PartName) (f : FileId) (place : ℕ) (wanted found : FileMark) → ExplainsParts files_of parts asked types part (fault.Damaged f place wanted found)
-    → reply ≡ refusal_line (refusal.Damaged text.table (part_text part) (file_name f)) → TellsOfDamage files_of store text reply
-tells_of_damage {F} files_of store text reply table places there chosen parts asked types parts_are asked_are types_are part f place wanted found why is =
+pub tells_of_damage : {F : Type 0} (files_of : F → Option Files) (snap : Snap (Part F)) (text : SelectText) (reply : List ℕ) (places : List ℕ) → selected_places snap.schema.columns text.columns ≡ Ok places
+    → (parts : List (Kept (Part F))) (types : List ColType) → parts ≡ snap.parts.items → types ≡ filter_map (slice_get (column_types snap.schema)) places
+    → (part : PartName) (f : FileId) (place : ℕ) (wanted found : FileMark) → ExplainsParts files_of parts places types part (fault.Damaged f place wanted found)
+    → reply ≡ refusal_line (refusal.Damaged text.table (part_text part) (file_name f)) → TellsOfDamage files_of snap text reply
+tells_of_damage {F} files_of snap text reply places chosen parts types parts_are types_are part f place wanted found why is =
     let damage = fault.Damaged f place wanted found in
-    let of_parts = subst (λ (ps : List (Kept (Part F))). ExplainsParts files_of ps asked types part damage) parts_are why in
-    let of_places = subst (λ (ps : List ℕ). ExplainsParts files_of (parts_of store.set text.table) ps types part damage) asked_are of_parts in
-    let of_types = subst (λ (ts : List ColType). ExplainsParts files_of (parts_of store.set text.table) places ts part damage) types_are of_places in
-    tells files_of store text reply table places there chosen part f place wanted found of_types is
+    let of_parts = subst (λ (ps : List (Kept (Part F))). ExplainsParts files_of ps places types part damage) parts_are why in
+    let of_types = subst (λ (ts : List ColType). ExplainsParts files_of snap.parts.items places ts part damage) types_are of_parts in
+    tells files_of snap text reply places chosen part f place wanted found of_types is

@@ -5,7 +5,6 @@ use Rattle.std.specs.Option.{option_map}
 use Rattle.mt_base.specs.declared.partition.Partition.{Partition}
 use Rattle.mt_model.specs.Commands.{commands_of}
 use Rattle.mt_outside.specs.Causes.{Rose}
-use Rattle.mt_outside.specs.Disk as root
 use Rattle.mt_values.specs.declared.command.Command.{Command}
 use Rattle.mt_values.specs.declared.statement.Statement.{Statement}
 use Rattle.mt_values.specs.Annals.{Told, began}
@@ -15,12 +14,16 @@ use Rattle.durable_commit.specs.declared.causes.Refused.{Refused}
 use Rattle.durable_commit.specs.declared.causes.Refused.TheVariants as refused
 use Rattle.durable_commit.specs.Commits.{IsOutside, entry_of}
 use Rattle.root_store.specs.declared.store.CoreStore.{CoreStore}
-use Rattle.root_store.specs.Stores.{table_at}
+use Rattle.root_store.specs.Stores.{CoreStands, table_at}
 use Rattle.root_commits.specs.Commits.{IsCause, SameStore, kept_in, refuses_create, refuses_part}
 use Rattle.root_commits.proofs.Leaving.{shown_calm, shown_part_calm}
 use Rattle.replies.specs.Foreseen.{history, is_unsettled}
-use Rattle.session.specs.Answers.{AcceptsNothing, BeginsNext, IsBegun, EndsUnanswered}
-use Rattle.session.proofs.Accepting.{begins_first}
+use Rattle.shared_store.specs.Engines.{Opened}
+use Rattle.session.specs.Answers.{AcceptsNothing, BeginsNext, EndsUnanswered, IsBegun, Turned}
+use Rattle.session.proofs.Accepting.{begins_first, unanswered_nothing}
+use Rattle.mt_outside.specs.Disk as root
+use Rattle.mt_outside.specs.Files.{Files}
+use Rattle.root_store.specs.Soundness.{RootStands}
 
 -- ---- a command is given to the disk only while its count of faults is the one at opening
 
@@ -78,24 +81,25 @@ leaves_told c kept given None old new was same begun by =
 leaves_told c kept given (Some s) old new was same begun by = record { now = kept; told_is = same ∙ was; list_is = refl; begun = inl refl }
 
 module _ (said : Statement) (c : Command) (kept : Told) (gives : commands_of (history kept) said ≡ Ok (c ∷ [])) (given : Type 0) (told : Option Told) (l : LeavesTold c kept given told) where
-  -- without a reply
-  pub keeps_refused : (was now : Option root.Told) → now ≡ was → EndsUnanswered kept (Ok said) told was now
-  keeps_refused was now same = record { now = l.now; told_is = l.told_is; list_is = l.list_is; begun = by l.begun; root_is = same }
+  -- what is begun, and whether its commit failed
+  begun_if : (only : Type 0) → (given → only) → IsBegun kept l.now (Ok said) only
+  begun_if only says = by l.begun
     where
-      by : (l.now.begun ≡ kept.begun) ⊎ ((l.now.begun ≡ Some (entry_of 0 c)) × given) → (l.now.begun ≡ kept.begun) ⊎ BeginsNext kept l.now (Ok said) []
-      by (inl same) = inl same
-      by (inr (begun, outside)) = inr (begins_first kept l.now said c [] l.list_is gives begun)
+      by : (l.now.begun ≡ kept.begun) ⊎ ((l.now.begun ≡ Some (entry_of 0 c)) × given) → IsBegun kept l.now (Ok said) only
+      by (inl same) = inl (same, ap length l.list_is)
+      by (inr (begun, outside)) = inr (inr (says outside, [], begins_first kept l.now said c [] l.list_is gives begun))
+
+  -- without a reply
+  pub keeps_refused : {F : Type 0} (files_of : F → Option Files) (t : Turned F) → t.now.storage.annals ≡ told → t.now.storage.disk ≡ t.was.storage.disk → CoreStands files_of (history kept) t.now.store → EndsUnanswered files_of kept (Ok said) t
+  keeps_refused files_of t told_same same stands =
+      unanswered_nothing files_of kept l.now (Ok said) t (told_same ∙ l.told_is) l.list_is (begun_if (Unit {0}) (λ _. tt)) stands (λ before. subst (λ (r : Option root.Told). RootStands r (history kept)) (sym same) before)
 
   -- with one
-  pub begun_refused : (reply : List ℕ) → (given → is_unsettled reply ≡ true) → IsBegun kept l.now (Ok said) reply
-  begun_refused reply unsettled = by l.begun
-    where
-      by : (l.now.begun ≡ kept.begun) ⊎ ((l.now.begun ≡ Some (entry_of 0 c)) × given) → IsBegun kept l.now (Ok said) reply
-      by (inl same) = inl (same, ap length l.list_is)
-      by (inr (begun, outside)) = inr (inr (unsettled outside, [], begins_first kept l.now said c [] l.list_is gives begun))
+  pub begun_refused : (reply : List ℕ) → (given → is_unsettled reply ≡ true) → IsBegun kept l.now (Ok said) (is_unsettled reply ≡ true)
+  begun_refused reply unsettled = begun_if (is_unsettled reply ≡ true) unsettled
 
 -- a store that was stopped before gave the disk nothing
-pub stays_refused : {F S D : Type 0} (store after : CoreStore F) (failed : ℕ) (back : Option S) (disk disk_after : D) (old new : Option Told) → (IsNone back → failed ≡ store.opened) → store.opened < failed
-    → SameStore store after → IfSome back (λ _. disk_after ≡ disk) → IfSome back (λ _. new ≡ old) → AcceptsNothing store after disk disk_after old new
-stays_refused store after failed None disk disk_after old new still risen same disk_same told_same = let calm = still refl in absurd (omega (arith, calm, risen))
-stays_refused store after failed (Some s) disk disk_after old new still risen same disk_same told_same = record { store_is = same; disk_is = disk_same; annals_is = told_same }
+pub stays_refused : {F S : Type 0} (was now : Opened F) (back : Option S) → (IsNone back → was.storage.failed ≡ was.store.opened) → was.store.opened < was.storage.failed → SameStore was.store now.store → IfSome back (λ _. now.storage ≡ was.storage)
+    → AcceptsNothing was now
+stays_refused was now None still risen same stays = let calm = still refl in absurd (omega (arith, calm, risen))
+stays_refused was now (Some s) still risen same stays = record { store_is = same; storage_is = stays }

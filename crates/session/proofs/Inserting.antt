@@ -31,7 +31,7 @@ use Rattle.durable_commit.specs.Commits.{Notes, entry_of}
 use Rattle.root_commits.specs.Commits.{insert_of_block, partition_of_block}
 use Rattle.root_store.specs.Soundness.{RootStands}
 use Rattle.root_store.specs.Stores.{CoreStands}
-use Rattle.session.specs.Answers.{Answered}
+use Rattle.session.specs.Answers.{Answered, Knows, Turned}
 use Rattle.replies.specs.Foreseen.{history}
 use Rattle.session.proofs.Accepting.{accepted_one, accepts_command}
 use Rattle.replies.proofs.Ends.{length_history}
@@ -102,16 +102,16 @@ module _ (parts last drawn accepted : ℕ) (made : last ≡ drawn) where
 
 -- an INSERT whose one command is accepted
 module _ (text : InsertText) (schema : Schema) (block : Grid) (kept : Told) (gives : commands_of (history kept) (statement.Insert text) ≡ Ok (inserted schema text.table block ∷ [])) where
-  pub inserted_accepts : {F : Type 0} (files_of : F → Option Files) (mark opened disk arm place parts : ℕ) (new : CoreStore F) (reply : List ℕ) (old told : Option Told) (root_before now_root : Option root.Told)
-      → place ≡ length (history kept) → parts ≤ inserts text.table (partition_of_block schema block) (history kept) → insert_turn parts (last_number text.table (history kept)) 0 ≡ None → old ≡ Some kept
-      → Notes mark (entry_of 0 (inserted schema text.table block)) old told → CoreStands files_of (history kept ++ entry_of 0 (inserted schema text.table block) ∷ []) new
-      → reply ≡ ok_line (place + 1)
-      → (RootStands root_before (history kept) → RootStands now_root (history kept ++ entry_of 0 (inserted schema text.table block) ∷ []))
-      → Answered files_of kept (Ok (statement.Insert text)) opened disk arm reply new told root_before now_root
-  inserted_accepts files_of mark opened disk arm place parts new reply old told root_before now_root at merged turn was notes stands ok settled =
+  pub inserted_accepts : {F : Type 0} (files_of : F → Option Files) (t : Turned F) (mark parts : ℕ) (reply : List ℕ) → Knows files_of kept t.was
+      → parts ≤ inserts text.table (partition_of_block schema block) (history kept) → insert_turn parts (last_number text.table (history kept)) 0 ≡ None
+      → Notes mark (entry_of 0 (inserted schema text.table block)) t.was.storage.annals t.now.storage.annals → CoreStands files_of (history kept ++ entry_of 0 (inserted schema text.table block) ∷ []) t.now.store
+      → reply ≡ ok_line (t.was.store.length + 1)
+      → (RootStands t.was.storage.disk (history kept) → RootStands t.now.storage.disk (history kept ++ entry_of 0 (inserted schema text.table block) ∷ []))
+      → Answered files_of kept (Ok (statement.Insert text)) t reply
+  inserted_accepts files_of t mark parts reply knows merged turn notes stands ok settled =
       let c = inserted schema text.table block in
-      let length_kept : place ≡ length kept.list = at ∙ length_history kept in
-      accepts_command mark c kept files_of (Ok (statement.Insert text)) opened disk arm reply new old told root_before now_root was notes stands
+      let length_kept : t.was.store.length ≡ length kept.list = knows.stands.length_is ∙ length_history kept in
+      accepts_command mark c kept files_of (Ok (statement.Insert text)) t reply knows.told_is notes stands
       (λ n now m front added at_m.
       accepted_one n now (history kept) (statement.Insert text) c m reply front gives (parts, merged, turn) added (ok ∙ ap (λ k. ok_line (k + 1)) (length_kept ∙ sym at_m)))
       settled

@@ -2,6 +2,7 @@ pub mod Accepting
 pub mod Creating
 pub mod Damaged
 pub mod Gaining
+pub mod Kept
 pub mod Inserting
 pub mod Sealing
 pub mod SelectAnswers

@@ -15,7 +15,9 @@ use Rattle.part_history.proofs.Joined.{parts_joined}
 use Rattle.root_store.specs.declared.store.CoreStore.{CoreStore}
 use Rattle.root_store.specs.declared.store.Table.{Table}
 use Rattle.root_store.specs.Stores.{CoreStands, core_parts, table_at}
+use Rattle.part_set.specs.declared.kept.Snap.{Snap}
 use Rattle.session.specs.Scans.{PartsHold, joined_rows}
+use Rattle.shared_store.specs.Engines.{IsSnapOf}
 
 rows_joined : {F : Type 0} (files_of : F → Option Files) (schema : Schema) (table : List ℕ) (kept : List (Kept (Part F))) (rows : List (List Row)) → PartsHold files_of schema kept rows
     → rows_of_parts (core_parts table kept rows) ≡ joined_rows rows
@@ -51,3 +53,13 @@ module _ {F : Type 0} (files_of : F → Option Files) (h : History) (store : Cor
           partly = subst (Partly t.schema (live table t.schema h)) (rows_joined files_of t.schema table (parts_of store.set table) p.rows p.hold)
               (parts_joined h table t.schema s.legal table_schema (core_parts table (parts_of store.set table) p.rows) p.stand p.order);
         }
+
+  -- what a snapshot of the table says of the history
+  module _ (snap : Snap (Part F)) (pinned : IsSnapOf store table snap) where
+    pub snap_schema : schema_of table h ≡ Some snap.schema
+    snap_schema = table_schema pinned.made pinned.there ∙ ap Some (sym pinned.schema)
+
+    pub snap_held : Held files_of h table snap.schema snap.parts.items
+    snap_held =
+        subst (λ (s : Schema). Held files_of h table s snap.parts.items) (sym pinned.schema)
+        (subst (λ (ps : List (Kept (Part F))). Held files_of h table pinned.made.schema ps) (sym pinned.parts) (rows_held pinned.made pinned.there))

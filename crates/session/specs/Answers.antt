@@ -1,24 +1,30 @@
--- What the answer to a statement does to what the annals list and to the store.
+-- What the answer to a statement does to what the annals list and to the open root (docs/definitions.md, "Statements taken").
 use Rattle.std.specs.Prelude.{◌≡◌, ◌⊎◌, ◌<◌, ℕ, true, false, List, [], ◌∷◌, ◌++◌, length, All, Option, None, Some, Result, Ok, MatchResult}
 use Rattle.mt_values.specs.declared.annals.Noted.{Noted}
 use Rattle.mt_values.specs.declared.command.Command.{Command}
-use Rattle.mt_values.specs.declared.statement.Cause.{Cause}
 use Rattle.mt_values.specs.declared.statement.Statement.{Statement}
 use Rattle.mt_values.specs.Annals.{Told}
-use Rattle.mt_outside.specs.Disk as root
+use Rattle.mt_values.specs.Script.{Item}
 use Rattle.mt_outside.specs.Files.{Files}
 use Rattle.mt_model.specs.Outside.{Outside}
-use Rattle.mt_model.specs.Session.{StopsAfter, Takes}
+use Rattle.mt_model.specs.Session.{StopsAfter, Takes, Unanswered}
 use Rattle.replies.specs.Foreseen.{Foresees, history, is_unsettled}
-use Rattle.root_store.specs.declared.store.CoreStore.{CoreStore}
 use Rattle.durable_commit.specs.Commits.{entry_of}
 use Rattle.root_commits.specs.Commits.{SameStore}
+use Rattle.root_store.specs.Crashes.{Storage}
 use Rattle.root_store.specs.Soundness.{RootStands}
 use Rattle.root_store.specs.Stores.{CoreStands}
 use Rattle.mt_base.specs.declared.memory.NoMemory.{NoMemory}
+use Rattle.shared_store.specs.Engines.{Opened}
+
+-- What a statement met and left: what was known of the open root before it, what is known after it, and the arm's count of faults after it.
+pub record Turned (F : Type 0) : Type 0 where
+  pub was : Opened F
+  pub now : Opened F
+  pub arm : ℕ
 
 -- the first of a statement's commands were accepted, and the next one is begun and was not
-pub record BeginsNext (kept now : Told) (statement : Result Statement Cause) (done : List Command) : Type 0 where
+pub record BeginsNext (kept now : Told) (statement : Item) (done : List Command) : Type 0 where
   pub said : Statement
   pub statement_is : statement ≡ Ok said
   pub next : Command
@@ -26,44 +32,51 @@ pub record BeginsNext (kept now : Told) (statement : Result Statement Cause) (do
   pub stops : StopsAfter (history now) 0 said (length kept.list) (length now.list) done (next ∷ rest)
   pub begun : now.begun ≡ Some (entry_of 0 next)
 
--- What is begun after a statement that has a reply: what was begun before, where nothing was accepted; nothing, where something was; or the
--- next of the statement's commands, where the reply says that its commit failed.
-abbrev pub IsBegun : Told → Told → Result Statement Cause → List ℕ → Type 0
-IsBegun kept now statement reply =
+-- What is begun after a statement: what was begun before, where nothing was accepted; nothing, where something was; or the next of its
+-- commands, which is so only where this holds.
+abbrev pub IsBegun : Told → Told → Item → Type 0 → Type 0
+IsBegun kept now statement only =
     ((now.begun ≡ kept.begun) × (length now.list ≡ length kept.list))
     ⊎ ((now.begun ≡ None) × (length kept.list < length now.list))
-    ⊎ ((is_unsettled reply ≡ true) × (done : List Command) × BeginsNext kept now statement done)
+    ⊎ (only × (done : List Command) × BeginsNext kept now statement done)
 
--- The annals list what it told and these entries of session 0. The store stands for all of it, and the reply is one that the
+-- The annals list what they told and these entries of session 0. The store stands for all of it, and the reply is one that the
 -- statement may have, whatever the outside comes to. A root that stood for what was told stands for what is told now, unless the
 -- reply says that a commit failed.
-pub record Answered {F : Type 0} (files_of : F → Option Files) (kept : Told) (statement : Result Statement Cause) (opened disk arm : ℕ) (reply : List ℕ) (store : CoreStore F) (told : Option Told) (root_before root : Option root.Told) : Type 0 where
+pub record Answered {F : Type 0} (files_of : F → Option Files) (kept : Told) (statement : Item) (t : Turned F) (reply : List ℕ) : Type 0 where
   pub now : Told
   pub more : List Noted
-  pub told_is : told ≡ Some now
+  pub told_is : t.now.storage.annals ≡ Some now
   pub list_is : now.list ≡ kept.list ++ more
-  pub begun : IsBegun kept now statement reply
+  pub begun : IsBegun kept now statement (is_unsettled reply ≡ true)
   pub sessions : All (λ (n : Noted). n.entry.session ≡ 0) more
-  pub stands : CoreStands files_of (history now) store
-  pub takes : (n : Outside) → Foresees opened disk arm n → Takes n (history now) 0 statement (length kept.list) (length now.list) reply
-  pub settled : is_unsettled reply ≡ false → RootStands root_before (history kept) → RootStands root (history now)
+  pub stands : CoreStands files_of (history now) t.now.store
+  pub takes : (n : Outside) → Foresees t.was.store.opened t.now.storage.failed t.arm n → Takes n (history now) 0 statement (length kept.list) (length now.list) reply
+  pub settled : is_unsettled reply ≡ false → RootStands t.was.storage.disk (history kept) → RootStands t.now.storage.disk (history now)
 
--- A statement that ended the run without a reply added nothing, to the list and to the root. What is begun is what was, or its first command.
-pub record EndsUnanswered (kept : Told) (statement : Result Statement Cause) (told : Option Told) (root_before root : Option root.Told) : Type 0 where
+-- A statement that ended the run without a reply: the annals list the first of its commands as entries of session 0, or none. The store stands
+-- for all of it, and so does a root that stood for what was told.
+pub record EndsUnanswered {F : Type 0} (files_of : F → Option Files) (kept : Told) (statement : Item) (t : Turned F) : Type 0 where
   pub now : Told
-  pub told_is : told ≡ Some now
-  pub list_is : now.list ≡ kept.list
-  pub begun : (now.begun ≡ kept.begun) ⊎ BeginsNext kept now statement []
-  pub root_is : root ≡ root_before
+  pub more : List Noted
+  pub told_is : t.now.storage.annals ≡ Some now
+  pub list_is : now.list ≡ kept.list ++ more
+  pub begun : IsBegun kept now statement (Unit {0})
+  pub sessions : All (λ (n : Noted). n.entry.session ≡ 0) more
+  pub stands : CoreStands files_of (history now) t.now.store
+  pub gives : Unanswered (history now) 0 statement (length kept.list) (length now.list)
+  pub settled : RootStands t.was.storage.disk (history kept) → RootStands t.now.storage.disk (history now)
 
--- a statement's reply, or out of memory; with the disk's count at opening, the disk's and the arm's counts now, and what the disk
--- told of the root before and tells now
-abbrev pub Answers : {F : Type 0} → (F → Option Files) → Told → Result Statement Cause → ℕ → ℕ → ℕ → Result (List ℕ) NoMemory → CoreStore F → Option Told → Option root.Told → Option root.Told → Type 0
-Answers files_of kept statement opened disk arm result store told root_before root =
-    MatchResult result (λ reply. Answered files_of kept statement opened disk arm reply store told root_before root) (λ _. EndsUnanswered kept statement told root_before root)
+-- a statement's reply, or out of memory
+abbrev pub Answers : {F : Type 0} → (F → Option Files) → Told → Item → Turned F → Result (List ℕ) NoMemory → Type 0
+Answers files_of kept statement t result = MatchResult result (Answered files_of kept statement t) (λ _. EndsUnanswered files_of kept statement t)
 
--- a statement accepted nothing: the store, the disk and what is known of annals are as they were
-pub record AcceptsNothing {F D : Type 0} (store_old store_new : CoreStore F) (disk_old disk_new : D) (annals_old annals_new : Option Told) : Type 0 where
-  pub store_is : SameStore store_old store_new
-  pub disk_is : disk_new ≡ disk_old
-  pub annals_is : annals_new ≡ annals_old
+-- the annals are known to list these entries, and the store stands for them
+pub record Knows {F : Type 0} (files_of : F → Option Files) (kept : Told) (root : Opened F) : Type 0 where
+  pub told_is : root.storage.annals ≡ Some kept
+  pub stands : CoreStands files_of (history kept) root.store
+
+-- a statement accepted nothing: the store keeps the same, and what is known of the disk and the annals is as it was
+pub record AcceptsNothing {F : Type 0} (was now : Opened F) : Type 0 where
+  pub store_is : SameStore was.store now.store
+  pub storage_is : now.storage ≡ was.storage

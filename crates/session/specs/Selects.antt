@@ -12,23 +12,19 @@ use Rattle.part_name.specs.declared.part.PartName.{PartName}
 use Rattle.part_name.specs.PartNames.{part_text}
 use Rattle.part_reader.specs.declared.reading.PartFault.TheVariants as fault
 use Rattle.session.specs.Scans.{ExplainsParts}
-use Rattle.part_set.specs.Sets.{parts_of}
+use Rattle.part_set.specs.declared.kept.Snap.{Snap}
+use Rattle.part_reader.specs.declared.reading.Part.{Part}
 use Rattle.mt_base.specs.Files.{file_name}
-use Rattle.root_store.specs.declared.store.CoreStore.{CoreStore}
-use Rattle.root_store.specs.declared.store.Table.{Table}
-use Rattle.root_store.specs.Stores.{table_at}
 
 -- The reply tells of damage: of a part of the table, and of the file of a selected column in it. The bytes that were read there are not those
 -- that the part's manifest means, or spell no values of the column's type.
-pub record TellsOfDamage {F : Type 0} (files_of : F → Option Files) (store : CoreStore F) (text : SelectText) (reply : List ℕ) : Type 0 where
-  pub table : Table
+pub record TellsOfDamage {F : Type 0} (files_of : F → Option Files) (snap : Snap (Part F)) (text : SelectText) (reply : List ℕ) : Type 0 where
   pub places : List ℕ
-  pub table_is : table_at store text.table ≡ Some table
-  pub places_are : selected_places table.schema.columns text.columns ≡ Ok places
+  pub places_are : selected_places snap.schema.columns text.columns ≡ Ok places
   pub name : PartName
   pub number : ℕ
   pub place : ℕ
   pub wanted : FileMark
   pub found : FileMark
-  pub part : ExplainsParts files_of (parts_of store.set text.table) places (filter_map (slice_get (column_types table.schema)) places) name (fault.Damaged (file.Column number) place wanted found)
+  pub part : ExplainsParts files_of snap.parts.items places (filter_map (slice_get (column_types snap.schema)) places) name (fault.Damaged (file.Column number) place wanted found)
   pub reply_is : reply ≡ refusal_line (refusal.Damaged text.table (part_text name) (file_name (file.Column number)))

@@ -14,6 +14,6 @@ pub use columns::{count_rows, empty_columns, read_parts};
 pub use creates::create;
 pub use data::read_block;
 pub use inserts::insert;
-pub use selects::select;
+pub use selects::{scan, select};
 pub use staging::{give_back, seal_entry};
 pub use statements::run_statement;

@@ -9,13 +9,12 @@ use Rattle.replies.specs.Lines.{Printed}
 use Rattle.session.specs.Scans.{ExplainsParts, PartsHold, joined_rows, rows_kept, values_at}
 use Rattle.std.proofs.lemmas.Bool.{false≢true}
 use Rattle.part_reader.specs.declared.reading.PartFault.{PartFault}
-use Rattle.part_set.specs.Sets.{parts_of}
 use Rattle.replies.proofs.Undamaged.{stage_line}
 use Rattle.session.proofs.Damaged.{all_hold, tells_of_damage}
 use Rattle.replies.proofs.Ends.{added_nothing, length_history, whole_front}
 use Rattle.replies.proofs.Refusing.{select_failed}
 use Rattle.session.proofs.Selecting.{columns_are, empty_even, empty_many, joined_typed, lent_back, projected, rows_counted, selected_below, selects, typed_have_all}
-use Rattle.session.proofs.SelectStanding.{rows_held, table_schema}
+use Rattle.session.proofs.SelectStanding.{snap_held, snap_schema}
 use Rattle.replies.proofs.Causing.{says_answer, says_damage, says_failed}
 use Rattle.replies.proofs.Counting.{line_of_stage}
 use Rattle.session.proofs.selects.read_places.Goals as goal
@@ -23,34 +22,32 @@ use Rattle.session.proofs.selects.read_places.Goals as goal
 -- the columns that are read
 pub empty_columns-requires : goal.empty_columns-requires
 empty_columns-requires g c =
-    let table = c.args.table.now in
+    let schema = c.args.snap.now.schema in
     let chosen = c.requires.places in
-    selected_below table.schema c.args.text.now.columns c.args.places.now chosen
+    selected_below schema c.args.text.now.columns c.args.places.now chosen
 
 pub read_parts-requires-after_bounds : goal.read_parts-requires-after_bounds
 read_parts-requires-after_bounds g c κs within = ap length c.deref_mut.ensures.value ∙ empty_many c.args.places.now c.in_ok-columns.columns.items c.in_ok-columns.ensures.empty
 
 -- the arm failed
 pub returns-in-Err-default-Fault-clause-answers : goal.returns-in-Err-default-Fault-clause-answers
-returns-in-Err-default-Fault-clause-answers g c = λ kept stands.
-    let table = c.args.table.now in
-    let there = table_schema g.R.Dir.Dir.files (history kept) c.args.store.now stands c.args.text.now.table table c.requires.table in
+returns-in-Err-default-Fault-clause-answers g c = λ kept store stands pinned.
+    let there = snap_schema g.R.Dir.Dir.files (history kept) store stands c.args.text.now.table c.args.snap.now pinned in
     let chosen = c.requires.places in
     let rose = c.in-Err-default-Fault.ensures.fault c.in-Err-default-Fault.field-0-1-is in
-    IfOk-weaker c.stage_line.result _ _ (λ line is n disk f. select_failed n kept line c.args.text.now c.args.places.now (columns_are c.args.text.now (history kept) table.schema there ∙ chosen)
-    (line_of_stage c.args.store.now.opened disk (g.R.Arm.failed c.read_parts.new.arm) (g.R.Arm.failed c.args.arm.now) failure.Fault line n is (λ same. rose) f)) c.stage_line.ensures.line
+    IfOk-weaker c.stage_line.result _ _ (λ line is n disk f. select_failed n kept line c.args.text.now c.args.places.now (columns_are c.args.text.now (history kept) c.args.snap.now.schema there ∙ chosen)
+    (line_of_stage store.opened disk (g.R.Arm.failed c.read_parts.new.arm) (g.R.Arm.failed c.args.arm.now) failure.Fault line n is (λ same. rose) f)) c.stage_line.ensures.line
 
 -- a part is not damaged
 pub returns-clause-answers : goal.returns-clause-answers
-returns-clause-answers g c = λ kept stands.
+returns-clause-answers g c = λ kept store stands pinned.
     let files = g.R.Dir.Dir.files in
-    let table = c.args.table.now in
-    let there = c.requires.table in
-    let held = rows_held files (history kept) c.args.store.now stands c.args.text.now.table table there in
+    let schema = c.args.snap.now.schema in
+    let held = snap_held files (history kept) store stands c.args.text.now.table c.args.snap.now pinned in
     let chosen = c.requires.places in
-    let within = selected_below table.schema c.args.text.now.columns c.args.places.now chosen in
+    let within = selected_below schema c.args.text.now.columns c.args.places.now chosen in
     let types = ap (map (λ (x : Cells). x.col_type)) c.deref_mut.ensures.value ∙ c.in_ok-columns.ensures.types in
-    let sound = c.in-Err-default-Damaged.ensures.sound table.schema held.rows (subst (λ ps. PartsHold files table.schema ps held.rows) (sym c.parts-parts.ensures.parts) held.hold)
+    let sound = c.in-Err-default-Damaged.ensures.sound schema held.rows (subst (λ ps. PartsHold files schema ps held.rows) (sym c.as_slice-parts.ensures) held.hold)
     within types in
     absurd (subst IsNoDamage c.in-Err-default-Damaged.field-0-1-is sound)
 
@@ -61,38 +58,36 @@ print-requires-clause-even g c =
     let back = lent_back items new c.in_ok-columns.columns.len (c.in-Ok.ensures.many ∙ ap length c.deref_mut.ensures.value) (ap length (sym c.deref_mut.ensures.value) ∙ c.deref_mut.ensures.len) in
     let none = subst (All (λ (x : Cells). length x.values ≡ 0)) (sym c.deref_mut.ensures.value) (empty_even c.args.places.now items c.in_ok-columns.ensures.empty) in
     let even = c.in-Ok.ensures.even none in
-    let count = (c.requires.rows ∙ ap rows_kept (sym c.parts-parts.ensures.parts)) in
+    let count = (c.requires.rows ∙ ap rows_kept (sym c.as_slice-parts.ensures)) in
     subst (All (λ (x : Cells). length x.values ≡ c.args.rows)) (sym back) (subst (λ m. All (λ (x : Cells). length x.values ≡ m) new) (sym count) even)
 
 pub returns-in-Ok-clause-answers : goal.returns-in-Ok-clause-answers
-returns-in-Ok-clause-answers g c = λ kept stands.
+returns-in-Ok-clause-answers g c = λ kept store stands pinned.
     let files = g.R.Dir.Dir.files in
-    let store = c.args.store.now in
     let text = c.args.text.now in
-    let table = c.args.table.now in
-    let at = c.requires.table in
-    let held = rows_held files (history kept) store stands text.table table at in
-    let there = table_schema files (history kept) store stands text.table table at in
-    let hold = subst (λ ps. PartsHold files table.schema ps held.rows) (sym c.parts-parts.ensures.parts) held.hold in
+    let schema = c.args.snap.now.schema in
+    let held = snap_held files (history kept) store stands text.table c.args.snap.now pinned in
+    let there = snap_schema files (history kept) store stands text.table c.args.snap.now pinned in
+    let hold = subst (λ ps. PartsHold files schema ps held.rows) (sym c.as_slice-parts.ensures) held.hold in
     let chosen = c.requires.places in
-    let within = selected_below table.schema text.columns c.args.places.now chosen in
+    let within = selected_below schema text.columns c.args.places.now chosen in
     let lent = c.deref_mut.ensures.value in
     let items = c.in_ok-columns.columns.items in
     let new = c.read_parts.new.columns in
     let types = ap (map (λ (x : Cells). x.col_type)) lent ∙ c.in_ok-columns.ensures.types in
     let empty = ap (map (λ (x : Cells). x.values)) lent ∙ c.in_ok-columns.ensures.empty in
     let values : map (λ (x : Cells). x.values) new ≡ values_at (joined_rows held.rows) c.args.places.now =
-    c.in-Ok.ensures.values table.schema held.rows hold within types empty in
+    c.in-Ok.ensures.values schema held.rows hold within types empty in
     let back = lent_back items new c.in_ok-columns.columns.len (c.in-Ok.ensures.many ∙ ap length lent) (ap length (sym lent) ∙ c.deref_mut.ensures.len) in
-    let count : c.args.rows ≡ length (joined_rows held.rows) = (c.requires.rows ∙ ap rows_kept (sym c.parts-parts.ensures.parts)) ∙ rows_counted files table.schema c.parts-parts.result.now held.rows hold in
-    let typed = joined_typed files table.schema c.parts-parts.result.now held.rows hold in
-    let rows_are = ap (rows_of new) count ∙ projected new c.args.places.now (joined_rows held.rows) values (typed_have_all table.schema c.args.places.now (joined_rows held.rows) within typed) in
-    let place : store.length ≡ length kept.list = stands.length_is ∙ length_history kept in
+    let count : c.args.rows ≡ length (joined_rows held.rows) = (c.requires.rows ∙ ap rows_kept (sym c.as_slice-parts.ensures)) ∙ rows_counted files schema c.as_slice-parts.result.now held.rows hold in
+    let typed = joined_typed files schema c.as_slice-parts.result.now held.rows hold in
+    let rows_are = ap (rows_of new) count ∙ projected new c.args.places.now (joined_rows held.rows) values (typed_have_all schema c.args.places.now (joined_rows held.rows) within typed) in
+    let place : c.args.snap.now.length ≡ length kept.list = pinned.length_is ∙ (stands.length_is ∙ length_history kept) in
     IfOk-weaker c.print.result _ _ (λ reply is n disk f.
-    let printed = subst (λ (cs : List Cells). Printed (grid_of cs c.args.rows) store.length reply) back is in
+    let printed = subst (λ (cs : List Cells). Printed (grid_of cs c.args.rows) c.args.snap.now.length reply) back is in
     let here = subst (λ (m : ℕ). Printed (grid_of new c.args.rows) m reply) place printed in
     inl (
-      selects (history kept) text table.schema c.args.places.now (joined_rows held.rows) (grid_of new c.args.rows) (length kept.list) reply (whole_front kept) there chosen held.partly rows_are here,
+      selects (history kept) text schema c.args.places.now (joined_rows held.rows) (grid_of new c.args.rows) (length kept.list) reply (whole_front kept) there chosen held.partly rows_are here,
       added_nothing kept,
     )) c.print.ensures
 
@@ -103,12 +98,12 @@ returns-in-Err-default-Fault-clause-undamaged g c = λ held. IfOk-weaker c.stage
 pub returns-clause-undamaged : goal.returns-clause-undamaged
 returns-clause-undamaged g c = λ held.
     let files = g.R.Dir.Dir.files in
-    let table = c.args.table.now in
-    let hold = all_hold files table.schema (parts_of c.args.store.now.set c.args.text.now.table) (held c.args.text.now.table table c.requires.table) in
+    let schema = c.args.snap.now.schema in
+    let hold = all_hold files schema c.args.snap.now.parts.items held in
     let chosen = c.requires.places in
-    let within = selected_below table.schema c.args.text.now.columns c.args.places.now chosen in
+    let within = selected_below schema c.args.text.now.columns c.args.places.now chosen in
     let types = ap (map (λ (x : Cells). x.col_type)) c.deref_mut.ensures.value ∙ c.in_ok-columns.ensures.types in
-    let sound = c.in-Err-default-Damaged.ensures.sound table.schema hold.0 (subst (λ ps. PartsHold files table.schema ps hold.0) (sym c.parts-parts.ensures.parts) hold.1)
+    let sound = c.in-Err-default-Damaged.ensures.sound schema hold.0 (subst (λ ps. PartsHold files schema ps hold.0) (sym c.as_slice-parts.ensures) hold.1)
     within types in
     absurd (subst IsNoDamage c.in-Err-default-Damaged.field-0-1-is sound)
 
@@ -122,14 +117,12 @@ returns-in-Err-default-Fault-clause-damaged g c = IfOk-weaker c.stage_line.resul
 pub returns-clause-damaged : goal.returns-clause-damaged
 returns-clause-damaged g c =
     let files = g.R.Dir.Dir.files in
-    let store = c.args.store.now in
     let text = c.args.text.now in
-    let table = c.args.table.now in
     let chosen = c.requires.places in
     let types = ap (map (λ (x : Cells). x.col_type)) c.deref_mut.ensures.value ∙ c.in_ok-columns.ensures.types in
-    IfOk-weaker c.damaged.result _ _ (λ line is bad. tells_of_damage files store text line table c.args.places.now c.requires.table chosen
-    c.parts-parts.result.now c.args.places.now (map (λ (x : Cells). x.col_type) c.deref_mut.result.now) c.parts-parts.ensures.parts refl types
-    c.in-Err-default-Damaged.part c.in-Err-default-Damaged.file _ _ _ (subst (λ (w : PartFault). ExplainsParts files c.parts-parts.result.now c.args.places.now (map (λ (x : Cells). x.col_type) c.deref_mut.result.now) c.in-Err-default-Damaged.part w) c.in-Err-default-Damaged.field-0-1-is c.in-Err-default-Damaged.ensures.damaged)
+    IfOk-weaker c.damaged.result _ _ (λ line is bad. tells_of_damage files c.args.snap.now text line c.args.places.now chosen
+    c.as_slice-parts.result.now (map (λ (x : Cells). x.col_type) c.deref_mut.result.now) c.as_slice-parts.ensures types
+    c.in-Err-default-Damaged.part c.in-Err-default-Damaged.file _ _ _ (subst (λ (w : PartFault). ExplainsParts files c.as_slice-parts.result.now c.args.places.now (map (λ (x : Cells). x.col_type) c.deref_mut.result.now) c.in-Err-default-Damaged.part w) c.in-Err-default-Damaged.field-0-1-is c.in-Err-default-Damaged.ensures.damaged)
     is) c.damaged.ensures
 
 pub returns-in-Ok-clause-damaged : goal.returns-in-Ok-clause-damaged
@@ -137,14 +130,14 @@ returns-in-Ok-clause-damaged g c = IfOk-weaker c.print.result _ _ (λ reply is b
 
 -- what the outside did where it says so
 pub returns-in-Err-default-Fault-clause-causes : goal.returns-in-Err-default-Fault-clause-causes
-returns-in-Err-default-Fault-clause-causes g c = λ disk.
+returns-in-Err-default-Fault-clause-causes g c = λ opened disk.
     let rose = c.in-Err-default-Fault.ensures.fault c.in-Err-default-Fault.field-0-1-is in
-    IfOk-weaker c.stage_line.result _ _ (λ line is. says_failed c.args.store.now.opened disk disk (g.R.Arm.failed c.args.arm.now) (g.R.Arm.failed c.read_parts.new.arm) line failure.Fault is (λ same. rose)) c.stage_line.ensures.line
+    IfOk-weaker c.stage_line.result _ _ (λ line is. says_failed opened disk disk (g.R.Arm.failed c.args.arm.now) (g.R.Arm.failed c.read_parts.new.arm) line failure.Fault is (λ same. rose)) c.stage_line.ensures.line
 
 pub returns-clause-causes : goal.returns-clause-causes
-returns-clause-causes g c = λ disk.
-    IfOk-weaker c.damaged.result _ _ (λ line is. says_damage c.args.store.now.opened disk disk (g.R.Arm.failed c.args.arm.now) (g.R.Arm.failed c.read_parts.new.arm) line _ _ _ is) c.damaged.ensures
+returns-clause-causes g c = λ opened disk.
+    IfOk-weaker c.damaged.result _ _ (λ line is. says_damage opened disk disk (g.R.Arm.failed c.args.arm.now) (g.R.Arm.failed c.read_parts.new.arm) line _ _ _ is) c.damaged.ensures
 
 pub returns-in-Ok-clause-causes : goal.returns-in-Ok-clause-causes
-returns-in-Ok-clause-causes g c = λ disk.
-    IfOk-weaker c.print.result _ _ (λ reply is. says_answer c.args.store.now.opened disk disk (g.R.Arm.failed c.args.arm.now) (g.R.Arm.failed c.read_parts.new.arm) reply _ is.reply_is refl) c.print.ensures
+returns-in-Ok-clause-causes g c = λ opened disk.
+    IfOk-weaker c.print.result _ _ (λ reply is. says_answer opened disk disk (g.R.Arm.failed c.args.arm.now) (g.R.Arm.failed c.read_parts.new.arm) reply _ is.reply_is refl) c.print.ensures

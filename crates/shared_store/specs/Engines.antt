@@ -1,0 +1,55 @@
+-- What is known of a root that is open, and what its turns keep of it (docs/architecture.md, "The open root").
+use Rattle.std.specs.Prelude.{◌≡◌, ◌≤◌, ℕ, List, Option, None, Some}
+use Rattle.std.specs.Option.{MatchOption}
+use Rattle.mt_values.specs.Annals as keeper
+use Rattle.mt_values.specs.declared.schema.Schema.{Schema}
+use Rattle.mt_outside.specs.Files.{Files}
+use Rattle.part_reader.specs.declared.reading.Part.{Part}
+use Rattle.part_set.specs.declared.kept.Snap.{Snap}
+use Rattle.part_set.specs.Sets.{parts_of}
+use Rattle.root_store.specs.declared.store.CoreStore.{CoreStore}
+use Rattle.root_store.specs.declared.store.Table.{Table}
+use Rattle.root_store.specs.Crashes.{KeepsThroughCrashes, Storage}
+use Rattle.root_store.specs.Soundness.{IsReady}
+use Rattle.root_store.specs.Stores.{table_at}
+
+-- What is known of an open root: what its store keeps, what is known of its disk and its annals, and the path of the folder that was started.
+pub record Opened (F : Type 0) : Type 0 where
+  pub store : CoreStore F
+  pub storage : Storage
+  pub started : Option (List ℕ)
+
+-- the root is ready for a turn: its store is sound, and the disk's names and its count of faults fit it
+abbrev pub IsOpen : {F : Type 0} → Opened F → Type 0
+IsOpen root = IsReady root.storage.failed root.storage.disk root.store
+
+-- A turn finds the root ready for it and leaves it ready for the next. It keeps the disk's count of faults at opening and the folder
+-- that was started, and the count now does not fall.
+pub record GoesOn {F : Type 0} (was now : Opened F) : Type 0 where
+  pub found : IsOpen was
+  pub left : IsOpen now
+  pub opened : now.store.opened ≡ was.store.opened
+  pub started : now.started ≡ was.started
+  pub later : was.storage.failed ≤ now.storage.failed
+
+-- A turn leaves a root through crashes as it was before: a crash leaves all that was noted (docs/crashes.md).
+abbrev pub GoesThroughCrashes : {F : Type 0} → (F → Option Files) → Opened F → Opened F → Type 0
+GoesThroughCrashes files_of was now =
+    (first : keeper.Told) (start : ℕ) → KeepsThroughCrashes files_of was.store was.storage first start → KeepsThroughCrashes files_of now.store now.storage first start
+
+-- the snapshot has what the store keeps of a table, and the length of its history
+pub record IsSnapOf {F : Type 0} (store : CoreStore F) (table : List ℕ) (snap : Snap (Part F)) : Type 0 where
+  pub made : Table
+  pub there : table_at store table ≡ Some made
+  pub schema : snap.schema ≡ made.schema
+  pub parts : snap.parts.items ≡ parts_of store.set table
+  pub length_is : snap.length ≡ store.length
+
+-- a snapshot of a table, where there is the table
+abbrev pub Snaps : {F : Type 0} → CoreStore F → List ℕ → Option (Snap (Part F)) → Type 0
+Snaps store table found = MatchOption found (table_at store table ≡ None) (λ snap. IsSnapOf store table snap)
+
+-- the schema of a table
+abbrev pub schema_kept : Option Table → Option Schema
+schema_kept None = None
+schema_kept (Some made) = Some made.schema
