@@ -40,12 +40,22 @@ pub struct Engine<F: Dir, R: Arm<Dir = F>, D: Disk<Arm = R>, A: Annals> {
 }
 
 impl<F: Dir, R: Arm<Dir = F>, D: Disk<Arm = R>, A: Annals> Model for Engine<F, R, D, A> {
+    ghost use Rattle.std.specs.Coded.{codes};
+    ghost use Rattle.std_collections.specs.Layout.BTreeMap.{btree_map_code};
+    ghost use Rattle.root_commits.specs.Turns.{storage};
+    ghost use Rattle.root_store.specs.Soundness.{IsReady};
+    ghost use Rattle.shared_store.specs.Engines.{Opened};
+
     ghost Value = { Opened F };
+
+    ghost coded = { Prim.hlevel (codes, btree_map_code) };
+
     ghost view = { λ e. record {
       store = e.store;
       storage = storage (D.told e.disk) (D.clock e.disk) (D.failed e.disk) (A.told e.annals);
       started = D.started e.disk;
     } };
+
     ghost invariant = { λ e. IsReady (D.failed e.disk) (D.told e.disk) e.store };
 }
 
@@ -184,18 +194,13 @@ impl<F: Dir, R: Arm<Dir = F>, D: Disk<Arm = R>, A: Annals> Engine<F, R, D, A> {
             → GoesThroughCrashes F.files self.old self.new }
     {
         let store = &mut self.store;
-        match commit_create(
-            alloc,
-            store,
-            &mut self.disk,
-            &mut self.annals,
-            session,
-            create,
-            sealed,
-        ) {
-            Ok(()) => Ok(self.store.length),
-            Err(returned) => Err(returned),
+        let disk = &mut self.disk;
+        let annals = &mut self.annals;
+        match commit_create(alloc, store, disk, annals, session, create, sealed) {
+            Ok(()) => {}
+            Err(returned) => return Err(returned),
         }
+        Ok(self.store.length)
     }
 
     /// Commits a block of one partition whose part was sealed, and gives the length of the history then: its name is published and
@@ -262,18 +267,12 @@ impl<F: Dir, R: Arm<Dir = F>, D: Disk<Arm = R>, A: Annals> Engine<F, R, D, A> {
             → GoesThroughCrashes F.files self.old self.new }
     {
         let store = &mut self.store;
-        match commit_part(
-            alloc,
-            store,
-            &mut self.disk,
-            &mut self.annals,
-            session,
-            table,
-            part,
-            block,
-        ) {
-            Ok(()) => Ok(self.store.length),
-            Err(returned) => Err(returned),
+        let disk = &mut self.disk;
+        let annals = &mut self.annals;
+        match commit_part(alloc, store, disk, annals, session, table, part, block) {
+            Ok(()) => {}
+            Err(returned) => return Err(returned),
         }
+        Ok(self.store.length)
     }
 }
