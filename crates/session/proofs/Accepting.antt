@@ -1,5 +1,5 @@
 -- From what a statement did to what its answer says.
-use Rattle.std.proofs.Common.{◌≡◌, ℕ, ◌+◌, ◌-◌, ◌≤◌, false, List, [], ◌∷◌, ◌++◌, length, map, take, refl, sym, ap, ◌∙◌, subst, append-nil, Some, Ok, Err, Result, IfOk, IfErr, length-append, inl, inr, arith}
+use Rattle.std.proofs.Common.{◌≡◌, ℕ, ◌+◌, ◌-◌, ◌≤◌, true, false, List, [], ◌∷◌, ◌++◌, length, map, take, refl, sym, ap, ◌∙◌, subst, append-nil, Option, Some, Ok, Err, Result, IfOk, IfErr, length-append, inl, inr, arith}
 use Rattle.std.specs.Option.{option_map}
 use Rattle.std.proofs.lemmas.List.{take_at, map-append}
 use Rattle.std.proofs.lemmas.List.Elements.{All-cons, All-nil}
@@ -21,7 +21,7 @@ use Rattle.durable_commit.specs.Commits.{Notes, entry_of}
 use Rattle.root_store.specs.Soundness.{RootStands}
 use Rattle.root_store.specs.Stores.{CoreStands}
 use Rattle.mt_base.specs.declared.memory.NoMemory.{NoMemory}
-use Rattle.shared_store.specs.Engines.{Opened}
+use Rattle.shared_store.specs.Engines.{GoesOn, IsOpen, Opened}
 use Rattle.session.specs.Answers.{AcceptsNothing, Answered, Answers, BeginsNext, EndsUnanswered, IsBegun, Knows, Turned}
 use Rattle.replies.specs.Foreseen.{history, Foresees, is_unsettled}
 use Rattle.replies.proofs.Ends.{added_nothing, length_history, whole_front}
@@ -85,12 +85,16 @@ refused_as why same line is refused = subst (λ (w : Refusal). IfOk line (λ tex
 abbrev pub unturned : {F : Type 0} → Opened F → ℕ → Turned F
 unturned root arm = record { was = root; now = root; arm = arm }
 
+-- without a reply
+pub keeps_nothing : {F : Type 0} (files_of : F → Option Files) (kept : Told) (st : Item) (here : Opened F) (arm : ℕ) → Knows files_of kept here → EndsUnanswered files_of kept st (unturned here arm)
+keeps_nothing files_of kept st here arm knows = unanswered_nothing files_of kept kept st (unturned here arm) knows.told_is refl (inl (refl, refl)) knows.stands (λ before. before)
+
 -- a line in answer to such a statement
 pub answers_kept : {F : Type 0} (files_of : F → Option Files) (kept : Told) (st : Item) (here : Opened F) (arm : ℕ) (line : Result (List ℕ) NoMemory) (P : List ℕ → Type 0) → Knows files_of kept here → IfOk line (λ text. P text)
     → ((reply : List ℕ) → P reply → (n : Outside) → Foresees here.store.opened here.storage.failed arm n → Takes n (history kept) 0 st (length kept.list) (length kept.list) reply)
     → Answers files_of kept st (unturned here arm) line
 answers_kept files_of kept st here arm (Ok text) P knows is takes = answered_nothing files_of kept kept st (unturned here arm) text knows.told_is refl (inl (refl, refl)) knows.stands (takes text is) (λ calm before. before)
-answers_kept files_of kept st here arm (Err e) P knows is takes = unanswered_nothing files_of kept kept st (unturned here arm) knows.told_is refl (inl (refl, refl)) knows.stands (λ before. before)
+answers_kept files_of kept st here arm (Err e) P knows is takes = keeps_nothing files_of kept st here arm knows
 
 -- what holds in any case holds of an error
 pub in_any_case : {T E P : Type 0} (line : Result T E) → P → IfErr line (λ _. P)
@@ -100,6 +104,10 @@ in_any_case (Err e) p = p
 -- what was not touched
 pub nothing_accepted : {F : Type 0} (here : Opened F) → AcceptsNothing here here
 nothing_accepted here = record { store_is = record { tables = refl; parts = λ table. refl; length_is = refl; opened_is = refl }; storage_is = refl }
+
+-- a turn that did nothing
+pub stays_open : {F : Type 0} (here : Opened F) → IsOpen here → GoesOn here here
+stays_open here ready = record { found = ready; left = ready; opened = refl; started = refl; later = omega arith }
 
 -- the first command of a statement that is begun and was not accepted
 pub begins_first : (kept now : Told) (said : Statement) (next : Command) (rest : List Command) → now.list ≡ kept.list → commands_of (history kept) said ≡ Ok (next ∷ rest) → now.begun ≡ Some (entry_of 0 next)

@@ -23,6 +23,7 @@ use std::alloc::Global;
 /// Makes a table, unless the CREATE is refused. All memory is taken before the commit.
 ///
 /// `NoMemory` where an allocation failed; the annals list the same entries, the root is as it was, and no count of faults rose.
+#[tactic(auto, using(crate::proofs::Accepting::keeps_nothing))]
 pub fn create<F: Dir, R: Arm<Dir = F>, D: Disk<Arm = R>, A: Annals>(
     alloc: Global,
     engine: &mut Engine<F, R, D, A>,

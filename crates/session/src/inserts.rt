@@ -66,6 +66,7 @@ fn give_back_part<R: Arm>(arm: &mut R, back: Option<SealedPart<R::Stage>>)
 /// Adds the rows of an INSERT to its table, unless it is refused. All memory is taken before the commit.
 ///
 /// `NoMemory` where an allocation failed; the annals list the same entries, the root is as it was, and no count of faults rose.
+#[tactic(auto, using(crate::proofs::Accepting::keeps_nothing))]
 pub fn insert<F: Dir, R: Arm<Dir = F>, D: Disk<Arm = R>, A: Annals>(
     alloc: Global,
     engine: &mut Engine<F, R, D, A>,

@@ -13,7 +13,7 @@ ghost use Rattle.root_store.specs.Stores.{CoreStands};
 ghost use Rattle.session.specs.Answers.{Knows};
 ghost use Rattle.session.specs.Scans.{rows_kept};
 ghost use Rattle.session.specs.Selects.{TellsOfDamage};
-ghost use Rattle.shared_store.specs.Engines.{IsSnapOf};
+ghost use Rattle.shared_store.specs.Engines.{IsOpen, IsSnapOf};
 ghost use Rattle.part_set.specs.declared.kept.Snap.{Snap};
 ghost use Rattle.part_reader.specs.declared.reading.Part.{Part};
 
@@ -121,6 +121,8 @@ pub fn select<F: Dir, R: Arm<Dir = F>, D: Disk<Arm = R>, A: Annals, G: Gate>(
     ensures damaged { IfOk result (λ reply. is_damage reply ≡ true → (snap : Snap (Part F))
         × IsSnapOf engine.old.store text.now.table snap
         × TellsOfDamage F.files snap text.now reply) }
+
+    ensures open { IsOpen engine.old }
 
     // What stays, and the arm's count of faults.
     ensures stays { engine.new ≡ engine.old }

@@ -16,6 +16,7 @@ use Rattle.root_store.specs.Entries.{EntryHolds}
 use Rattle.root_store.specs.Soundness.{RootStands}
 use Rattle.root_store.specs.Stores.{CoreStands}
 use Rattle.replies.specs.Foreseen.{history}
+use Rattle.session.specs.Answers.{Turned}
 use Rattle.session.specs.Staged.{entry_files}
 use Rattle.session.proofs.Accepting.{answered_nothing, answers_kept, answers_line, in_any_case, nothing_accepted, refused_as}
 use Rattle.session.proofs.Creating.{create_gives, created, created_accepts, entry_holds, turn_free}
@@ -100,7 +101,7 @@ returns-in-Err-create-clause-answers g c = λ kept tells knows.
     let files = g.F.Dir.files in
     let was = c.args.engine.now in
     let now = c.create.new.self in
-    let t = record { was = was; now = now; arm = g.R.Arm.failed c.give_back.new.arm } in
+    let t : Turned _ = record { was = was; now = now; arm = g.R.Arm.failed c.give_back.new.arm } in
     let text = c.args.text.now in
     let schema = c.in-Ok.schema in
     let name = c.in_ok-table.ensures in
@@ -233,5 +234,5 @@ returns-in-Err-create-clause-memory g c =
     IfErr-weaker c.refused_line.result _ _ (λ e other. (
       after.calm c.in-Ok-seal_entry.ensures.none_failed other,
       c.give_back.ensures.none_failed (IfSome_then c.in-Err-create.field-0.back after.returned (λ s same. ap (λ (x : Filled). x.failed) same ∙ c.in-Ok-seal_entry.ensures.none_failed))
-      ∙ c.in-Ok-seal_entry.ensures.cause.ok,
+          ∙ c.in-Ok-seal_entry.ensures.cause.ok,
     )) c.refused_line.ensures.disk

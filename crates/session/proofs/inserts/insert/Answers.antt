@@ -26,9 +26,10 @@ use Rattle.session.proofs.Inserting.{data_is_cause, inserted, inserted_accepts, 
 use Rattle.replies.proofs.Refusing.{command_failed, command_refused}
 use Rattle.session.proofs.Gaining.{begun_refused, keeps_refused, leaves_told, part_failed, stays_refused, still_added, still_part_refused}
 use Rattle.root_commits.proofs.SameStores.{stands_same}
-use Rattle.root_commits.proofs.Turning.{AfterRefusal, after_refusal}
+use Rattle.root_commits.proofs.Turning.{after_refusal}
 use Rattle.root_commits.specs.Turns.{turn_of_part}
 use Rattle.session.proofs.Standing.{drawn_is, no_table, parts_made, table_schema}
+use Rattle.session.specs.Answers.{Turned}
 use Rattle.session.specs.Stops.{IsLineOf}
 use Rattle.replies.specs.Lines.{IsLineOfStage}
 use Rattle.session.proofs.Stopping.{by_disk, insert_not_committed, nothing_shown, part_risen, refused_says, root_unless_disk}
@@ -62,7 +63,7 @@ pub returns-in_default-clause-answers : goal.returns-in_default-clause-answers
 returns-in_default-clause-answers g c = λ kept tells knows.
     let text = c.args.text.now in
     let here = c.args.engine.now in
-    let none = no_table g.F.Dir.files (history kept) here.store knows.stands text.table (none_kept (table_at here.store text.table) FOUND) in
+    let none = no_table g.F.Dir.files (history kept) here.store knows.stands text.table (none_kept (table_at here.store text.table) (sym c.in_default.is ∙ c.in_ok-schema.ensures.schema)) in
     answers_kept g.F.Dir.files kept (Ok (statement.Insert text)) here (g.R.Arm.failed c.args.arm.now) c.no_table_line.result (λ reply. reply ≡ refusal_line (refusal.NoTable text.table)) knows c.no_table_line.ensures
     (λ reply line n f. command_refused n kept reply (statement.Insert text) (refusal.NoTable text.table) (no_such_table text (history kept) none) line)
 
@@ -71,7 +72,7 @@ pub returns-in-Err-Refused-clause-answers : goal.returns-in-Err-Refused-clause-a
 returns-in-Err-Refused-clause-answers g c = λ kept tells knows.
     let text = c.args.text.now in
     let here = c.args.engine.now in
-    let table = kept_as (table_at here.store text.table) c.in-Some.schema KEPT in
+    let table = kept_as (table_at here.store text.table) c.in-Some.schema (sym c.in-Some.is ∙ c.in_ok-schema.ensures.schema) in
     let there = table_schema g.F.Dir.files (history kept) here.store knows.stands text.table table.made table.there in
     let read = subst (Refuses (inserted_rows (column_types c.in-Some.schema) text.lines text.ended)) c.in-Err-Refused.field-0-is c.in-Err-Refused.ensures.refused in
     let fault = c.in-Err-Refused.fault in
@@ -84,7 +85,7 @@ pub returns-then-is_empty-clause-answers : goal.returns-then-is_empty-clause-ans
 returns-then-is_empty-clause-answers g c = λ kept tells knows.
     let text = c.args.text.now in
     let here = c.args.engine.now in
-    let table = kept_as (table_at here.store text.table) c.in-Some.schema KEPT in
+    let table = kept_as (table_at here.store text.table) c.in-Some.schema (sym c.in-Some.is ∙ c.in_ok-schema.ensures.schema) in
     let there = table_schema g.F.Dir.files (history kept) here.store knows.stands text.table table.made table.there in
     let none = c.is_empty.ensures.0 c.if-is_empty.true in
     answers_kept g.F.Dir.files kept (Ok (statement.Insert text)) here (g.R.Arm.failed c.args.arm.now) c.accepted.result (λ reply. reply ≡ ok_line c.look.result) knows c.accepted.ensures
@@ -94,7 +95,7 @@ returns-then-is_empty-clause-answers g c = λ kept tells knows.
 pub seal_block-requires-clause-schema : goal.seal_block-requires-clause-schema
 seal_block-requires-clause-schema g c κs within =
     let here = c.args.engine.now in
-    let table = kept_as (table_at here.store c.args.text.now.table) c.in-Some.schema KEPT in
+    let table = kept_as (table_at here.store c.args.text.now.table) c.in-Some.schema (sym c.in-Some.is ∙ c.in_ok-schema.ensures.schema) in
     subst IsTableSchema (sym table.same) (c.schema.ensures.open.sound.tables c.args.text.now.table table.made table.there).schema
 
 -- its files were not sealed
@@ -105,7 +106,7 @@ returns-in-Err-clause-answers g c = λ kept tells knows.
     let arm = g.R.Arm.failed c.seal_block.new.arm in
     let schema = c.in-Some.schema in
     let block = c.in-Ok.block in
-    let table = kept_as (table_at here.store text.table) schema KEPT in
+    let table = kept_as (table_at here.store text.table) schema (sym c.in-Some.is ∙ c.in_ok-schema.ensures.schema) in
     let there = table_schema g.F.Dir.files (history kept) here.store knows.stands text.table table.made table.there ∙ ap Some (sym table.same) in
     let some = has_rows block.rows c.is_empty.result c.if-is_empty.false c.is_empty.ensures.1 in
     let gives = ap (commands_for text) there ∙ rows_give text schema block c.in-Ok.ensures.rows some c.in-Ok.ensures.types in
@@ -119,15 +120,15 @@ one_table o a b first second = let both : Some a ≡ Some b = sym first ∙ seco
 
 pub insert-requires-clause-there : goal.insert-requires-clause-there
 insert-requires-clause-there g c κs within =
-    let table = kept_as (table_at c.args.engine.now.store c.args.text.now.table) c.in-Some.schema KEPT in
-    subst IsSome (sym table.there) tt
+    let table = kept_as (table_at c.args.engine.now.store c.args.text.now.table) c.in-Some.schema (sym c.in-Some.is ∙ c.in_ok-schema.ensures.schema) in
+    subst IsSome (sym table.there) refl
 
 pub insert-requires-clause-rows : goal.insert-requires-clause-rows
 insert-requires-clause-rows g c κs within = λ t there.
     let schema = c.in-Some.schema in
     let block = c.in-Ok.block in
     let name = c.args.text.now.table in
-    let table = kept_as (table_at c.args.engine.now.store name) schema KEPT in
+    let table = kept_as (table_at c.args.engine.now.store name) schema (sym c.in-Some.is ∙ c.in_ok-schema.ensures.schema) in
     let same = one_table (table_at c.args.engine.now.store name) table.made t table.there there in
     let some = has_rows block.rows c.is_empty.result c.if-is_empty.false c.is_empty.ensures.1 in
     subst (λ (s : Schema). IsInsertInto s (insert_into name (partition_of_block s block) block)) (table.same ∙ ap (λ (x : Table). x.schema) same)
@@ -142,7 +143,7 @@ returns-in-Ok-insert-clause-answers g c = λ kept tells knows.
     let text = c.args.text.now in
     let h = history kept in
     let block = c.in-Ok.block in
-    let table = kept_as (table_at was.store text.table) c.in-Some.schema KEPT in
+    let table = kept_as (table_at was.store text.table) c.in-Some.schema (sym c.in-Some.is ∙ c.in_ok-schema.ensures.schema) in
     let found = table.made in
     let at = table.there in
     let partition = partition_of_block found.schema block in
@@ -162,24 +163,17 @@ returns-in-Ok-insert-clause-answers g c = λ kept tells knows.
     (c.in_ok-replies.ensures.accepted ∙ ap (λ (l : ℕ). ok_line (l + 1)) c.look-2.ensures)
     (done.stands h found at sealed knows.stands).root_stands
 
--- what is known after a commit that was refused
-after_refused : (g : _) (c : goal.After-drop-replies-in-Err-insert-2 g) (made : Table) → table_at c.args.engine.now.store c.args.text.now.table ≡ Some made
-    → AfterRefusal (turn_of_part 0 c.args.text.now.table made c.in-Ok.block c.in-Ok-seal_block.part.sealed) c.args.engine.now.storage c.insert.new.self.storage c.in-Ok-seal_block.part c.in-Err-insert.field-0.cause c.in-Err-insert.field-0.back
-after_refused g c made there =
-    after_refusal (turn_of_part 0 c.args.text.now.table made c.in-Ok.block c.in-Ok-seal_block.part.sealed) c.args.engine.now.storage c.insert.new.self.storage
-    c.in-Ok-seal_block.part c.in-Err-insert.field-0.cause c.in-Err-insert.field-0.back (c.in-Err-insert.ensures.turn made there)
-
 -- it was not
-pub returns-in-Err-insert-clause-answers : goal.returns-in-Err-insert-clause-answers
-returns-in-Err-insert-clause-answers g c = λ kept tells knows.
+pub returns-clause-answers : goal.returns-clause-answers
+returns-clause-answers g c = λ kept tells knows.
     let files = g.F.Dir.files in
     let was = c.args.engine.now in
     let now = c.insert.new.self in
-    let t = record { was = was; now = now; arm = g.R.Arm.failed c.give_back_part.new.arm } in
+    let t : Turned _ = record { was = was; now = now; arm = g.R.Arm.failed c.give_back_part.new.arm } in
     let text = c.args.text.now in
     let h = history kept in
     let block = c.in-Ok.block in
-    let table = kept_as (table_at was.store text.table) c.in-Some.schema KEPT in
+    let table = kept_as (table_at was.store text.table) c.in-Some.schema (sym c.in-Some.is ∙ c.in_ok-schema.ensures.schema) in
     let found = table.made in
     let at = table.there in
     let there = table_schema files h was.store knows.stands text.table found at in
@@ -188,7 +182,7 @@ returns-in-Err-insert-clause-answers g c = λ kept tells knows.
     let types = subst (λ (s : Schema). block.types ≡ column_types s) table.same c.in-Ok.ensures.types in
     let gives = ap (commands_for text) there ∙ rows_give text found.schema block rows some types in
     let ended = c.in-Err-insert.ensures in
-    let after = after_refused g c found at in
+    let after = after_refusal (turn_of_part 0 text.table found block c.in-Ok-seal_block.part.sealed) was.storage now.storage c.in-Ok-seal_block.part c.in-Err-insert.field-0.cause c.in-Err-insert.field-0.back (ended.turn found at) in
     let cause = c.in-Err-insert.field-0.cause in
     let result = c.refused_line.result in
     let said = statement.Insert text in
@@ -208,14 +202,14 @@ returns-in-Err-insert-clause-answers g c = λ kept tells knows.
 pub returns-in-Ok-insert-clause-through_crashes : goal.returns-in-Ok-insert-clause-through_crashes
 returns-in-Ok-insert-clause-through_crashes g c = λ tells first start keeps.
     let part = c.in-Ok-seal_block.part in
-    let table = kept_as (table_at c.args.engine.now.store c.args.text.now.table) c.in-Some.schema KEPT in
+    let table = kept_as (table_at c.args.engine.now.store c.args.text.now.table) c.in-Some.schema (sym c.in-Some.is ∙ c.in_ok-schema.ensures.schema) in
     let sealed = subst (λ (s : Schema). IsSealedOf s c.in-Ok.block part.sealed.files part.loaded) table.same (c.in-Ok-seal_block.ensures.sealed tells) in
     c.insert.ensures.through_crashes table.made table.there sealed first start keeps
 
-pub returns-in-Err-insert-clause-through_crashes : goal.returns-in-Err-insert-clause-through_crashes
-returns-in-Err-insert-clause-through_crashes g c = λ tells first start keeps.
+pub returns-clause-through_crashes : goal.returns-clause-through_crashes
+returns-clause-through_crashes g c = λ tells first start keeps.
     let part = c.in-Ok-seal_block.part in
-    let table = kept_as (table_at c.args.engine.now.store c.args.text.now.table) c.in-Some.schema KEPT in
+    let table = kept_as (table_at c.args.engine.now.store c.args.text.now.table) c.in-Some.schema (sym c.in-Some.is ∙ c.in_ok-schema.ensures.schema) in
     let sealed = subst (λ (s : Schema). IsSealedOf s c.in-Ok.block part.sealed.files part.loaded) table.same (c.in-Ok-seal_block.ensures.sealed tells) in
     c.insert.ensures.through_crashes table.made table.there sealed first start keeps
 
@@ -254,14 +248,15 @@ returns-in-Ok-insert-clause-causes g c =
     says_answer c.args.engine.now.store.opened c.args.engine.now.storage.failed c.insert.new.self.storage.failed (g.R.Arm.failed c.args.arm.now) (g.R.Arm.failed c.seal_block.new.arm)
     c.in_ok-replies.replies.accepted _ c.in_ok-replies.ensures.accepted refl
 
-pub returns-in-Err-insert-clause-causes : goal.returns-in-Err-insert-clause-causes
-returns-in-Err-insert-clause-causes g c =
+pub returns-clause-causes : goal.returns-clause-causes
+returns-clause-causes g c =
     let store = c.args.engine.now.store in
     let table = c.args.text.now.table in
-    let kept = kept_as (table_at c.args.engine.now.store c.args.text.now.table) c.in-Some.schema KEPT in
+    let kept = kept_as (table_at c.args.engine.now.store c.args.text.now.table) c.in-Some.schema (sym c.in-Some.is ∙ c.in_ok-schema.ensures.schema) in
     let found = kept.made in
     let ended = c.in-Err-insert.ensures in
-    let after = after_refused g c kept.made kept.there in
+    let after = after_refusal (turn_of_part 0 c.args.text.now.table kept.made c.in-Ok.block c.in-Ok-seal_block.part.sealed) c.args.engine.now.storage c.insert.new.self.storage c.in-Ok-seal_block.part c.in-Err-insert.field-0.cause
+    c.in-Err-insert.field-0.back (c.in-Err-insert.ensures.turn kept.made kept.there) in
     let cause = c.in-Err-insert.field-0.cause in
     let before = c.args.engine.now.storage.failed in
     let partition = partition_of_block found.schema c.in-Ok.block in
@@ -285,19 +280,20 @@ returns-in-Err-clause-stopped g c = λ risen. nothing_accepted c.args.engine.now
 pub returns-in-Ok-insert-clause-stopped : goal.returns-in-Ok-insert-clause-stopped
 returns-in-Ok-insert-clause-stopped g c = λ risen.
     let store = c.args.engine.now.store in
-    let kept = kept_as (table_at c.args.engine.now.store c.args.text.now.table) c.in-Some.schema KEPT in
+    let kept = kept_as (table_at c.args.engine.now.store c.args.text.now.table) c.in-Some.schema (sym c.in-Some.is ∙ c.in_ok-schema.ensures.schema) in
     let found = kept.made in
     let before = c.args.engine.now.storage.failed in
     let calm = still_added store c.args.text.now.table before c.schema.ensures.open.opened (partition_of_block found.schema c.in-Ok.block) found.drawn (c.in-Ok-insert.ensures.cause found kept.there) in
     absurd (omega (arith, calm, risen))
 
-pub returns-in-Err-insert-clause-stopped : goal.returns-in-Err-insert-clause-stopped
-returns-in-Err-insert-clause-stopped g c = λ risen.
+pub returns-clause-stopped : goal.returns-clause-stopped
+returns-clause-stopped g c = λ risen.
     let store = c.args.engine.now.store in
-    let kept = kept_as (table_at c.args.engine.now.store c.args.text.now.table) c.in-Some.schema KEPT in
+    let kept = kept_as (table_at c.args.engine.now.store c.args.text.now.table) c.in-Some.schema (sym c.in-Some.is ∙ c.in_ok-schema.ensures.schema) in
     let found = kept.made in
     let ended = c.in-Err-insert.ensures in
-    let after = after_refused g c kept.made kept.there in
+    let after = after_refusal (turn_of_part 0 c.args.text.now.table kept.made c.in-Ok.block c.in-Ok-seal_block.part.sealed) c.args.engine.now.storage c.insert.new.self.storage c.in-Ok-seal_block.part c.in-Err-insert.field-0.cause
+    c.in-Err-insert.field-0.back (c.in-Err-insert.ensures.turn kept.made kept.there) in
     let cause = c.in-Err-insert.field-0.cause in
     let before = c.args.engine.now.storage.failed in
     stays_refused c.args.engine.now c.insert.new.self c.in-Err-insert.field-0.back
@@ -320,21 +316,21 @@ returns-in-Err-clause-undamaged g c = IfOk-weaker c.stage_line.result _ _ (λ li
 pub returns-in-Ok-insert-clause-undamaged : goal.returns-in-Ok-insert-clause-undamaged
 returns-in-Ok-insert-clause-undamaged g c = ap is_damage c.in_ok-replies.ensures.accepted
 
-pub returns-in-Err-insert-clause-undamaged : goal.returns-in-Err-insert-clause-undamaged
-returns-in-Err-insert-clause-undamaged g c = IfOk-weaker c.refused_line.result _ _ (λ line is. commit_line c.args.text.now.table c.in-Err-insert.field-0.cause _ is) c.refused_line.ensures.line
+pub returns-clause-undamaged : goal.returns-clause-undamaged
+returns-clause-undamaged g c = IfOk-weaker c.refused_line.result _ _ (λ line is. commit_line c.args.text.now.table c.in-Err-insert.field-0.cause _ is) c.refused_line.ensures.line
 
 -- the parts of the store hold rows
 pub returns-in-Ok-insert-clause-held : goal.returns-in-Ok-insert-clause-held
 returns-in-Ok-insert-clause-held g c = λ tells held.
     let part = c.in-Ok-seal_block.part in
-    let table = kept_as (table_at c.args.engine.now.store c.args.text.now.table) c.in-Some.schema KEPT in
+    let table = kept_as (table_at c.args.engine.now.store c.args.text.now.table) c.in-Some.schema (sym c.in-Some.is ∙ c.in_ok-schema.ensures.schema) in
     let sealed = subst (λ (s : Schema). IsSealedOf s c.in-Ok.block part.sealed.files part.loaded) table.same (c.in-Ok-seal_block.ensures.sealed tells) in
     c.insert.ensures.held table.made table.there sealed held
 
-pub returns-in-Err-insert-clause-held : goal.returns-in-Err-insert-clause-held
-returns-in-Err-insert-clause-held g c = λ tells held.
+pub returns-clause-held : goal.returns-clause-held
+returns-clause-held g c = λ tells held.
     let part = c.in-Ok-seal_block.part in
-    let table = kept_as (table_at c.args.engine.now.store c.args.text.now.table) c.in-Some.schema KEPT in
+    let table = kept_as (table_at c.args.engine.now.store c.args.text.now.table) c.in-Some.schema (sym c.in-Some.is ∙ c.in_ok-schema.ensures.schema) in
     let sealed = subst (λ (s : Schema). IsSealedOf s c.in-Ok.block part.sealed.files part.loaded) table.same (c.in-Ok-seal_block.ensures.sealed tells) in
     c.insert.ensures.held table.made table.there sealed held
 
@@ -355,12 +351,13 @@ returns-in-Err-clause-memory g c =
 pub returns-in-Ok-insert-clause-memory : goal.returns-in-Ok-insert-clause-memory
 returns-in-Ok-insert-clause-memory g c = tt
 
-pub returns-in-Err-insert-clause-memory : goal.returns-in-Err-insert-clause-memory
-returns-in-Err-insert-clause-memory g c =
-    let kept = kept_as (table_at c.args.engine.now.store c.args.text.now.table) c.in-Some.schema KEPT in
-    let after = after_refused g c kept.made kept.there in
+pub returns-clause-memory : goal.returns-clause-memory
+returns-clause-memory g c =
+    let kept = kept_as (table_at c.args.engine.now.store c.args.text.now.table) c.in-Some.schema (sym c.in-Some.is ∙ c.in_ok-schema.ensures.schema) in
+    let after = after_refusal (turn_of_part 0 c.args.text.now.table kept.made c.in-Ok.block c.in-Ok-seal_block.part.sealed) c.args.engine.now.storage c.insert.new.self.storage c.in-Ok-seal_block.part c.in-Err-insert.field-0.cause
+    c.in-Err-insert.field-0.back (c.in-Err-insert.ensures.turn kept.made kept.there) in
     IfErr-weaker c.refused_line.result _ _ (λ e other. (
       after.calm c.in-Ok-seal_block.ensures.none_failed other,
       c.give_back_part.ensures.none_failed (IfSome_then c.in-Err-insert.field-0.back after.returned (λ p same. ap (λ (x : SealedPart _). x.sealed.failed) same ∙ c.in-Ok-seal_block.ensures.none_failed))
-      ∙ c.in-Ok-seal_block.ensures.cause.ok,
+          ∙ c.in-Ok-seal_block.ensures.cause.ok,
     )) c.refused_line.ensures.disk

@@ -47,7 +47,7 @@ returns-clause-answers g c = λ kept store stands pinned.
     let chosen = c.requires.places in
     let within = selected_below schema c.args.text.now.columns c.args.places.now chosen in
     let types = ap (map (λ (x : Cells). x.col_type)) c.deref_mut.ensures.value ∙ c.in_ok-columns.ensures.types in
-    let sound = c.in-Err-default-Damaged.ensures.sound schema held.rows (subst (λ ps. PartsHold files schema ps held.rows) (sym c.as_slice-parts.ensures) held.hold)
+    let sound = c.in-Err-default-Damaged.ensures.sound schema held.rows (subst (λ ps. PartsHold files schema ps held.rows) (sym c.as_slice-parts.ensures.value) held.hold)
     within types in
     absurd (subst IsNoDamage c.in-Err-default-Damaged.field-0-1-is sound)
 
@@ -58,7 +58,7 @@ print-requires-clause-even g c =
     let back = lent_back items new c.in_ok-columns.columns.len (c.in-Ok.ensures.many ∙ ap length c.deref_mut.ensures.value) (ap length (sym c.deref_mut.ensures.value) ∙ c.deref_mut.ensures.len) in
     let none = subst (All (λ (x : Cells). length x.values ≡ 0)) (sym c.deref_mut.ensures.value) (empty_even c.args.places.now items c.in_ok-columns.ensures.empty) in
     let even = c.in-Ok.ensures.even none in
-    let count = (c.requires.rows ∙ ap rows_kept (sym c.as_slice-parts.ensures)) in
+    let count = (c.requires.rows ∙ ap rows_kept (sym c.as_slice-parts.ensures.value)) in
     subst (All (λ (x : Cells). length x.values ≡ c.args.rows)) (sym back) (subst (λ m. All (λ (x : Cells). length x.values ≡ m) new) (sym count) even)
 
 pub returns-in-Ok-clause-answers : goal.returns-in-Ok-clause-answers
@@ -68,7 +68,7 @@ returns-in-Ok-clause-answers g c = λ kept store stands pinned.
     let schema = c.args.snap.now.schema in
     let held = snap_held files (history kept) store stands text.table c.args.snap.now pinned in
     let there = snap_schema files (history kept) store stands text.table c.args.snap.now pinned in
-    let hold = subst (λ ps. PartsHold files schema ps held.rows) (sym c.as_slice-parts.ensures) held.hold in
+    let hold = subst (λ ps. PartsHold files schema ps held.rows) (sym c.as_slice-parts.ensures.value) held.hold in
     let chosen = c.requires.places in
     let within = selected_below schema text.columns c.args.places.now chosen in
     let lent = c.deref_mut.ensures.value in
@@ -79,7 +79,7 @@ returns-in-Ok-clause-answers g c = λ kept store stands pinned.
     let values : map (λ (x : Cells). x.values) new ≡ values_at (joined_rows held.rows) c.args.places.now =
     c.in-Ok.ensures.values schema held.rows hold within types empty in
     let back = lent_back items new c.in_ok-columns.columns.len (c.in-Ok.ensures.many ∙ ap length lent) (ap length (sym lent) ∙ c.deref_mut.ensures.len) in
-    let count : c.args.rows ≡ length (joined_rows held.rows) = (c.requires.rows ∙ ap rows_kept (sym c.as_slice-parts.ensures)) ∙ rows_counted files schema c.as_slice-parts.result.now held.rows hold in
+    let count : c.args.rows ≡ length (joined_rows held.rows) = (c.requires.rows ∙ ap rows_kept (sym c.as_slice-parts.ensures.value)) ∙ rows_counted files schema c.as_slice-parts.result.now held.rows hold in
     let typed = joined_typed files schema c.as_slice-parts.result.now held.rows hold in
     let rows_are = ap (rows_of new) count ∙ projected new c.args.places.now (joined_rows held.rows) values (typed_have_all schema c.args.places.now (joined_rows held.rows) within typed) in
     let place : c.args.snap.now.length ≡ length kept.list = pinned.length_is ∙ (stands.length_is ∙ length_history kept) in
@@ -103,7 +103,7 @@ returns-clause-undamaged g c = λ held.
     let chosen = c.requires.places in
     let within = selected_below schema c.args.text.now.columns c.args.places.now chosen in
     let types = ap (map (λ (x : Cells). x.col_type)) c.deref_mut.ensures.value ∙ c.in_ok-columns.ensures.types in
-    let sound = c.in-Err-default-Damaged.ensures.sound schema hold.0 (subst (λ ps. PartsHold files schema ps hold.0) (sym c.as_slice-parts.ensures) hold.1)
+    let sound = c.in-Err-default-Damaged.ensures.sound schema hold.0 (subst (λ ps. PartsHold files schema ps hold.0) (sym c.as_slice-parts.ensures.value) hold.1)
     within types in
     absurd (subst IsNoDamage c.in-Err-default-Damaged.field-0-1-is sound)
 
@@ -121,7 +121,7 @@ returns-clause-damaged g c =
     let chosen = c.requires.places in
     let types = ap (map (λ (x : Cells). x.col_type)) c.deref_mut.ensures.value ∙ c.in_ok-columns.ensures.types in
     IfOk-weaker c.damaged.result _ _ (λ line is bad. tells_of_damage files c.args.snap.now text line c.args.places.now chosen
-    c.as_slice-parts.result.now (map (λ (x : Cells). x.col_type) c.deref_mut.result.now) c.as_slice-parts.ensures types
+    c.as_slice-parts.result.now (map (λ (x : Cells). x.col_type) c.deref_mut.result.now) c.as_slice-parts.ensures.value types
     c.in-Err-default-Damaged.part c.in-Err-default-Damaged.file _ _ _ (subst (λ (w : PartFault). ExplainsParts files c.as_slice-parts.result.now c.args.places.now (map (λ (x : Cells). x.col_type) c.deref_mut.result.now) c.in-Err-default-Damaged.part w) c.in-Err-default-Damaged.field-0-1-is c.in-Err-default-Damaged.ensures.damaged)
     is) c.damaged.ensures
 

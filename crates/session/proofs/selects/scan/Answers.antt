@@ -33,7 +33,7 @@ selected_columns-requires g c =
 -- what is read of the columns that were selected
 pub read_places-requires-clause-places : goal.read_places-requires-clause-places
 read_places-requires-clause-places g c κs within =
-    ap (λ (cs : List Column). selected_places cs c.args.text.now.columns) (sym c.as_slice.ensures) ∙ (c.in-Ok.ensures ∙ ap Ok (sym c.as_slice-2.ensures))
+    ap (λ (cs : List Column). selected_places cs c.args.text.now.columns) (sym c.as_slice.ensures) ∙ (c.in-Ok.ensures ∙ ap Ok (sym c.as_slice-3.ensures))
 
 -- the reply does not tell of damage
 pub returns-in-Err-Refused-clause-undamaged : goal.returns-in-Err-Refused-clause-undamaged
