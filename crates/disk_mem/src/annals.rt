@@ -1,7 +1,7 @@
 // Keepers of the accepted commands.
 ghost use Rattle.std.specs.Prelude.{◌≡◌, ◌+◌, ◌-◌, ◌^◌, min, [], map, length, None, option_copied};
 ghost use Rattle.disk_mem.specs.Annals.{noted_all};
-ghost use Rattle.outside_streams.specs.Counts.{next};
+ghost use Rattle.mt_outside.specs.Counts.{next};
 
 use mt_base::NoMemory;
 use mt_values::{Annals, Entry};

@@ -8,6 +8,7 @@ mod disk;
 mod folder;
 mod image;
 mod root;
+mod streams;
 
 pub use annals::{CountedAnnals, KeptAnnals};
 pub use arm::MemArm;
@@ -18,4 +19,4 @@ pub use fault_plan::{
 };
 pub use folder::{MemDir, MemStage};
 pub use mt_outside::OpenGate;
-pub use outside_streams::{MemSink, MemSource};
+pub use streams::{MemSink, MemSource};
