@@ -3,7 +3,8 @@
 
 contracts of more than seven clauses, clauses wider than 100 columns, relations of specs/ with more than five explicit arguments, and
 functions of more than 40 lines, their contracts not counted. It also compares the list of crates of docs/architecture.md with
-crates.txt. It reads the repository alone, and takes a moment. The status is 0 whatever it finds, or 1 where the lists differ.
+crates.txt, and each section of a page of docs/ that is cited with the headings of that page. It reads the repository alone, and takes a
+moment. The status is 0 whatever it finds, or 1 where the lists differ or a cited section is not on its page.
 """
 import glob
 import os
@@ -15,6 +16,7 @@ MOST_CLAUSES, MOST_COLUMNS, MOST_ARGUMENTS, MOST_LINES = 7, 100, 5, 40
 FUNCTION = re.compile(r"^( *)(?:pub(?:\([a-z]+\))? )?(?:const |unsafe )*fn (\w+)")
 CLAUSE = re.compile(r"^ *(?:requires|ensures)\b")
 RELATION = re.compile(r"^(?:pub record|abbrev pub) (\S+)(.*)$")
+CITATION = re.compile(r'([\w-]+\.md)(?:\]\([^)]*\))?, ((?:"[^"]+"(?:, | and )?)+)')
 
 
 def lines_of(path):
@@ -149,6 +151,17 @@ def differences():
             yield f"{name}: docs/architecture.md lacks {lacks}, and has {has} beyond crates.txt"
 
 
+def lost_citations():
+    """The sections of pages of docs/ that are cited, in code, definitions or pages, and that the page has no heading of."""
+    headings = {os.path.basename(path): set(re.findall(r"^#+ (.*)$", "\n".join(lines_of(path)), re.M)) for path in files("docs/*.md")}
+    for path in [*files("README.md"), *files("docs/*.md"), *files("crates/*/*/**/*.rt"), *files("crates/*/*/**/*.antt")]:
+        for number, line in enumerate(lines_of(path), 1):
+            for page, sections in CITATION.findall(line):
+                for section in re.findall(r'"([^"]+)"', sections):
+                    if page in headings and section not in headings[page]:
+                        yield f"{path}:{number} {page} has no section {section}"
+
+
 def main():
     found = [one for path in files("crates/*/src/**/*.rt") for one in functions(path)]
     many = [one for one in found if len(one.clauses) > MOST_CLAUSES]
@@ -163,7 +176,9 @@ def main():
     report("functions over 40 lines", [f"{one.path}:{one.line} {one.name}: {one.lines}" for one in long])
     differ = list(differences())
     report("differences between the lists of crates", differ)
-    return 1 if differ else 0
+    lost = list(lost_citations())
+    report("cited sections that are not on their page", lost)
+    return 1 if differ or lost else 0
 
 
 if __name__ == "__main__":

@@ -1,33 +1,33 @@
 #!/usr/bin/env bash
-# Runs the built program on each case of a folder, and compares what it prints, its status and the files that it leaves with what is
-# wanted. The one word is the folder, `cases` beside this script if it is left out. It prints a line for each case, and ends with 1
-# where one differs. Each run is in a new folder of its own, outside the repository.
+# Runs the built program on the cases of `cases/`, and compares what it prints, its status and the files that it leaves with what is
+# wanted. The words are the names of the cases, all of them if they are left out. It prints a line for each case, and at the end the names
+# of those that differ; it ends with 1 where one does. Each run is in a new folder of its own, outside the repository.
 #
-# A case NAME has some of the files
-#   NAME.sql      the script
-#   NAME.make     commands that write the script, where it is long; neither: the script is that of the case two_rows
-#   NAME.source   what is read in place of the script
-#   NAME.sink     what is written to in place of a file that is compared
-#   NAME.closed   the numbers of the standard streams that are closed in the run, one a line
-#   NAME.words    the words of the command line after the program's name, one a line; none: --path d
-#   NAME.size     the bytes of a small file system that is mounted for the case; where none can be mounted the case is skipped, aloud
-#   NAME.before   a script that is run before, with the same words in the same folder
-#   NAME.change   commands that change the folder of the run, after that script
-#   NAME.beside   the script of a run that has opened the folder before the case's run, and goes on once that has ended
-#   NAME.after    a script that is run at the end, with the same words in the same folder
-#   NAME.stdout   what is to be printed, to the byte; none: nothing
-#   NAME.status   the status that is wanted; none: 0
-#   NAME.seconds  how long the run may take, where it has to wait for many syncs; none: 60
-#   NAME.replies  what the run beside it is to print, which is to end with 0
-#   NAME.found    what the run at the end is to print, whatever its status
-#   NAME.files    what is to lie in the folder of the run at the end, in the order of the paths' bytes: a file as its path, a space
-#                 and its bytes in hexadecimal digits, an empty folder as its path and a slash; none: that is not compared
+# A case is a folder of `cases/`, whose name is the case's. It has some of the files
+#   script.sql     the script
+#   script.sh      commands that write the script, where it is long; neither: the script is that of the case two_rows
+#   source         what is read in place of the script
+#   sink           what is written to in place of a file that is compared
+#   closed         the numbers of the standard streams that are closed in the run, one a line
+#   words          the words of the command line after the program's name, one a line; none: --path d
+#   size           the bytes of a small file system that is mounted for the case; where none can be mounted the case is skipped, aloud
+#   before.sql     a script that is run before, with the same words in the same folder
+#   change.sh      commands that change the folder of the run, after that script
+#   beside.sql     the script of a run that has opened the folder before the case's run, and goes on once that has ended
+#   after.sql      a script that is run at the end, with the same words in the same folder
+#   stdout         what is to be printed, to the byte; none: nothing
+#   status         the status that is wanted; none: 0
+#   seconds        how long the run may take, where it has to wait for many syncs; none: 60
+#   beside.stdout  what the run beside it is to print, which is to end with 0
+#   after.stdout   what the run at the end is to print, whatever its status
+#   files          what is to lie in the folder of the run at the end, in the order of the paths' bytes: a file as its path, a space
+#                  and its bytes in hexadecimal digits, an empty folder as its path and a slash; none: that is not compared
 # Where MERGETREE is set, it is the program that is run.
 set -euo pipefail
 here=$(cd "$(dirname "$0")" && pwd -P)
-cases=$(cd "${1:-$here/cases}" && pwd -P)
 program=${MERGETREE:-$here/../../bin/mergetree}
 work=$(mktemp -d)
+folder= # the folder of the case that is tried
 beside= # the run beside the one that is looked at
 mounted=
 
@@ -56,7 +56,7 @@ first_of() {
     done
 }
 
-# Prints what lies in a folder, as NAME.files has it.
+# Prints what lies in a folder, as a case's `files` has it.
 files_in() {
     local path
     cd "$1"
@@ -70,26 +70,26 @@ files_in() {
 
 # Prints how a run differs from the files of its case: nothing where it does not.
 differences() {
-    local name=$1 status=$2 wanted printed
-    wanted=$(cat "$cases/$name.status" 2>/dev/null || echo 0)
-    printed=$(first_of "$cases/$name.stdout" /dev/null)
+    local status=$1 wanted printed
+    wanted=$(cat "$folder/status" 2>/dev/null || echo 0)
+    printed=$(first_of "$folder/stdout" /dev/null)
     if [ "$status" != "$wanted" ]; then
         printf 'status %s in place of %s; ' "$status" "$wanted"
     fi
     if ! cmp -s "$work/out" "$printed"; then
         printf 'other output: %s; ' "$(diff "$printed" "$work/out" | tr '\n' '|')"
     fi
-    if [ -e "$cases/$name.beside" ] && [ "$besides" != 0 ]; then
+    if [ -e "$folder/beside.sql" ] && [ "$besides" != 0 ]; then
         printf 'status %s of the run beside it; ' "$besides"
     fi
-    if [ -e "$cases/$name.beside" ] && ! cmp -s "$work/beside" "$cases/$name.replies"; then
-        printf 'other replies beside it: %s; ' "$(diff "$cases/$name.replies" "$work/beside" | tr '\n' '|')"
+    if [ -e "$folder/beside.sql" ] && ! cmp -s "$work/beside" "$folder/beside.stdout"; then
+        printf 'other replies beside it: %s; ' "$(diff "$folder/beside.stdout" "$work/beside" | tr '\n' '|')"
     fi
-    if [ -e "$cases/$name.after" ] && ! cmp -s "$work/after" "$cases/$name.found"; then
-        printf 'found at the end: %s; ' "$(diff "$cases/$name.found" "$work/after" | tr '\n' '|')"
+    if [ -e "$folder/after.sql" ] && ! cmp -s "$work/after" "$folder/after.stdout"; then
+        printf 'found at the end: %s; ' "$(diff "$folder/after.stdout" "$work/after" | tr '\n' '|')"
     fi
-    if [ -e "$cases/$name.files" ] && ! (files_in "$work/room") | cmp -s "$cases/$name.files"; then
-        printf 'other files: %s' "$( (files_in "$work/room") | diff "$cases/$name.files" - | tr '\n' '|')"
+    if [ -e "$folder/files" ] && ! (files_in "$work/room") | cmp -s "$folder/files"; then
+        printf 'other files: %s' "$( (files_in "$work/room") | diff "$folder/files" - | tr '\n' '|')"
     fi
 }
 
@@ -100,12 +100,11 @@ run_in_room() {
 
 # The same for as long as the case may take, with the standard streams closed that it wants closed.
 run_closed() {
-    local name=$1 number closing= seconds=60
-    shift
-    if [ -e "$cases/$name.seconds" ]; then
-        seconds=$(cat "$cases/$name.seconds")
+    local number closing= seconds=60
+    if [ -e "$folder/seconds" ]; then
+        seconds=$(cat "$folder/seconds")
     fi
-    for number in $(cat "$cases/$name.closed" 2>/dev/null); do
+    for number in $(cat "$folder/closed" 2>/dev/null); do
         closing="$closing $number>&-"
     done
     (cd "$work/room" && exec timeout "$seconds" bash -c "exec \"\$0\" \"\$@\" $closing" "$program" "$@")
@@ -141,8 +140,8 @@ finish_beside() {
 make_room() {
     rm -rf "$work/room"
     mkdir "$work/room"
-    if [ -e "$cases/$1.size" ]; then
-        mount -t tmpfs -o "size=$(cat "$cases/$1.size")" tmpfs "$work/room" 2>/dev/null || return 1
+    if [ -e "$folder/size" ]; then
+        mount -t tmpfs -o "size=$(cat "$folder/size")" tmpfs "$work/room" 2>/dev/null || return 1
         mounted=1
     fi
 }
@@ -151,40 +150,41 @@ make_room() {
 try_case() {
     local name=$1 status=0 besides=0 script source sink found later
     local words=(--path d)
-    if [ -e "$cases/$name.words" ]; then
-        mapfile -t words <"$cases/$name.words"
+    folder=$here/cases/$name
+    if [ -e "$folder/words" ]; then
+        mapfile -t words <"$folder/words"
     fi
-    script=$(first_of "$cases/$name.sql" "$here/cases/two_rows.sql")
-    if [ -e "$cases/$name.make" ]; then
+    script=$(first_of "$folder/script.sql" "$here/cases/two_rows/script.sql")
+    if [ -e "$folder/script.sh" ]; then
         script=$work/script
-        bash "$cases/$name.make" >"$script"
+        bash "$folder/script.sh" >"$script"
     fi
-    source=$(cat "$cases/$name.source" 2>/dev/null || echo "$script")
-    sink=$(cat "$cases/$name.sink" 2>/dev/null || echo "$work/out")
+    source=$(cat "$folder/source" 2>/dev/null || echo "$script")
+    sink=$(cat "$folder/sink" 2>/dev/null || echo "$work/out")
     : >"$work/out"
     : >"$work/beside"
-    if ! make_room "$name"; then
+    if ! make_room; then
         printf '%s: SKIPPED, no file system can be mounted\n' "$name"
         skipped=$((skipped + 1))
         return 0
     fi
-    if [ -e "$cases/$name.before" ]; then
-        run_in_room "${words[@]}" <"$cases/$name.before" >/dev/null
+    if [ -e "$folder/before.sql" ]; then
+        run_in_room "${words[@]}" <"$folder/before.sql" >/dev/null
     fi
-    if [ -e "$cases/$name.change" ]; then
-        (cd "$work/room" && bash -e "$cases/$name.change")
+    if [ -e "$folder/change.sh" ]; then
+        (cd "$work/room" && bash -e "$folder/change.sh")
     fi
-    if [ -e "$cases/$name.beside" ]; then
+    if [ -e "$folder/beside.sql" ]; then
         start_beside "${words[@]}"
     fi
-    run_closed "$name" "${words[@]}" <"$source" >"$sink" || status=$?
-    if [ -e "$cases/$name.beside" ]; then
-        finish_beside "$cases/$name.beside"
+    run_closed "${words[@]}" <"$source" >"$sink" || status=$?
+    if [ -e "$folder/beside.sql" ]; then
+        finish_beside "$folder/beside.sql"
     fi
-    if [ -e "$cases/$name.after" ]; then
-        run_in_room "${words[@]}" <"$cases/$name.after" >"$work/after" || true
+    if [ -e "$folder/after.sql" ]; then
+        run_in_room "${words[@]}" <"$folder/after.sql" >"$work/after" || true
     fi
-    found=$(differences "$name" "$status" || true)
+    found=$(differences "$status" || true)
     end_case
     printf '%s: %s\n' "$name" "${found:-ok}"
     [ -z "$found" ]
@@ -193,10 +193,19 @@ try_case() {
 "$program" --path "$work/built" </dev/null >/dev/null # builds the program, where needed
 tried=0
 skipped=0
-failed=0
-for name in $(find "$cases" -type f -name '*.*' -printf '%f\n' | sed 's/\.[a-z]*$//' | sort -u); do
+differ=()
+mapfile -t names < <(if [ $# -gt 0 ]; then printf '%s\n' "$@"; else ls "$here/cases"; fi)
+for name in "${names[@]}"; do
+    if [ ! -d "$here/cases/$name" ]; then
+        printf '%s: no such case\n' "$name" >&2
+        exit 2
+    fi
     tried=$((tried + 1))
-    try_case "$name" || failed=$((failed + 1))
+    try_case "$name" || differ+=("$name")
 done
-printf '%d cases, %d skipped, %d differ\n' "$tried" "$skipped" "$failed"
-[ "$tried" -gt 0 ] && [ "$failed" -eq 0 ]
+printf '%d cases, %d skipped, %d differ\n' "$tried" "$skipped" "${#differ[@]}"
+if [ "${#differ[@]}" -gt 0 ]; then
+    printf 'differs: %s\n' "${differ[@]}"
+    exit 1
+fi
+[ "$tried" -gt 0 ]

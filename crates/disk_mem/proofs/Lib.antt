@@ -1,3 +1,4 @@
 pub mod FirstFile
 pub mod Names
 pub mod NotedAll
+pub mod PieceReads

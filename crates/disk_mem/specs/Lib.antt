@@ -1,3 +1,5 @@
 pub mod Annals
 pub mod Disks
 pub mod Folders
+pub mod Pieces
+pub mod Streams

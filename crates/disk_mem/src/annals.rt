@@ -1,7 +1,6 @@
-// Keepers of the accepted commands.
-ghost use Rattle.std.specs.Prelude.{◌≡◌, ◌+◌, ◌-◌, ◌^◌, min, [], map, length, None, option_copied};
+// Annals that keep the accepted commands, and tell all.
+ghost use Rattle.std.specs.Prelude.{◌≡◌, [], map, length, None, option_copied};
 ghost use Rattle.disk_mem.specs.Annals.{noted_all};
-ghost use Rattle.outside_streams.specs.Counts.{next};
 
 use mt_base::NoMemory;
 use mt_values::{Annals, Entry};
@@ -97,59 +96,5 @@ impl Annals for KeptAnnals {
             self.list.push_reserved(entry);
             self.marks.push_reserved(mark);
         }
-    }
-}
-
-/// Counts what is noted, keeps no entry and tells nothing.
-#[derive(Drop)]
-pub struct CountedAnnals {
-    count: u64,
-}
-
-impl Model for CountedAnnals {
-    ghost use Rattle.std.specs.Prelude.{ℕ};
-
-    ghost Value = { ℕ };
-
-    ghost view = { λ a. a.count };
-}
-
-impl CountedAnnals {
-    /// Annals that have noted nothing.
-    pub fn new() -> Self
-        ensures { result ≡ 0 }
-    {
-        CountedAnnals { count: 0 }
-    }
-
-    /// How many entries were noted, as far as 64 bits count.
-    pub fn count(&self) -> u64
-        ensures { result ≡ self.now }
-    {
-        self.count
-    }
-}
-
-impl Annals for CountedAnnals {
-    ghost use Rattle.std.specs.Prelude.{None, ℕ};
-
-    ghost told = { λ _. None };
-
-    ghost has_room = { λ _. Unit {0} };
-
-    fn reserve(&mut self, _alloc: Global) -> Result<(), NoMemory>
-        ensures { self.new ≡ self.old }
-    {
-        Ok(())
-    }
-
-    fn begin(&mut self, _entry: Entry)
-        ensures { self.new ≡ self.old }
-    {}
-
-    fn note(&mut self, _mark: u64)
-        ensures { self.new ≡ next self.old }
-    {
-        self.count = self.count.saturating_add(1);
     }
 }

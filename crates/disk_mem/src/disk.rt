@@ -3,7 +3,7 @@ ghost use Rattle.std.specs.Prelude.{◌≡◌, ◌+◌, ◌-◌, ◌^◌, ◌<�
 ghost use Rattle.mt_outside.specs.Causes.{Rose};
 ghost use Rattle.mt_outside.specs.DiskCauses.{HasDiskCause, HasStageCause};
 ghost use Rattle.mt_outside.specs.Disk.{AllBy, Image, names_of, files_at, with_change};
-ghost use Rattle.outside_streams.specs.Counts.{next};
+ghost use Rattle.mt_outside.specs.Counts.{next};
 ghost use Rattle.fault_plan.specs.Images.{image_told};
 ghost use Rattle.disk_mem.specs.Disks.{FailsOrStops, SyncFails, takes};
 ghost use Rattle.fault_plan.specs.Plan.{fresh, next_arm, taken};

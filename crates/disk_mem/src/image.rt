@@ -1,7 +1,7 @@
 // What a crash may leave of a disk in memory.
 ghost use Rattle.std.specs.Prelude.{◌≡◌, ◌+◌, ◌<◌, ◌≤◌, ◌++◌, ◌∷◌, [], IfOk, OnOk, map};
 ghost use Rattle.mt_outside.specs.Disk.{names_after, before_clock, at_clock};
-ghost use Rattle.outside_streams.specs.Counts.{next};
+ghost use Rattle.mt_outside.specs.Counts.{next};
 ghost use Rattle.fault_plan.specs.Images.{happened, left_files, left_stamped, image_told};
 
 use crate::folder::MemDir;

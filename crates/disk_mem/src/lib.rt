@@ -8,8 +8,9 @@ mod disk;
 mod folder;
 mod image;
 mod root;
+mod streams;
 
-pub use annals::{CountedAnnals, KeptAnnals};
+pub use annals::KeptAnnals;
 pub use arm::MemArm;
 pub use disk::MemDisk;
 pub use fault_plan::{
@@ -18,4 +19,5 @@ pub use fault_plan::{
 };
 pub use folder::{MemDir, MemStage};
 pub use mt_outside::OpenGate;
-pub use outside_streams::{MemSink, MemSource};
+pub use mt_values::CountedAnnals;
+pub use streams::{MemSink, MemSource};

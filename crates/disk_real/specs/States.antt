@@ -17,3 +17,8 @@ pub record StageState : Type 0 where
 pub record DirState : Type 0 where
   pub path : List ℕ
   pub number : ℕ
+
+-- what reads or writes, and how many of its calls have failed, as far as 64 bits count
+pub record Counted (T : Type 0) : Type 0 where
+  pub inner : T
+  pub failed : ℕ

@@ -9,8 +9,7 @@ use crate::root::Root;
 use crate::system::{System, is_folder, names_in, publish_folder, sync_folder, take_away};
 use file_names::{path_in, root_name};
 use mt_base::{Name, NoMemory};
-use mt_outside::{Disk, DiskError};
-use outside_streams::Faults;
+use mt_outside::{Disk, DiskError, Faults};
 use std::alloc::Global;
 use std::marker::Model;
 

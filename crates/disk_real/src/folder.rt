@@ -7,8 +7,7 @@ use crate::system::{System, fault, make_folder, open_at_end, remove_folder, sync
 use crate::tries::write_whole;
 use file_names::path_in;
 use mt_base::{FileId, NoMemory};
-use mt_outside::{Dir, DiskError, Stage};
-use outside_streams::Faults;
+use mt_outside::{Dir, DiskError, Faults, Stage};
 use std::alloc::Global;
 use std::fs::File;
 use std::marker::Model;

@@ -9,6 +9,7 @@ mod handles;
 mod numbers;
 mod root;
 mod standard;
+mod streams;
 mod system;
 mod tries;
 
@@ -16,7 +17,7 @@ pub use arm::RealArm;
 pub use disk::RealDisk;
 pub use file_names::is_root_name;
 pub use folder::{RealDir, RealStage};
-pub use mt_outside::OpenGate;
-pub use outside_streams::{MOST_TRIES, StdSink, StdSource};
+pub use mt_outside::{MOST_TRIES, OpenGate};
 pub use standard::{StandardNumbers, hold_standard_numbers};
+pub use streams::{StdSink, StdSource};
 pub use system::System;

@@ -1,7 +1,7 @@
 // Files read and written whole, by calls that are tried again where they were interrupted.
 ghost use Rattle.std.specs.Prelude.{◌≤◌, length, IfOk};
 
-use outside_streams::{read_some, write_some};
+use mt_outside::{read_some, write_some};
 use std::io;
 use std::io::{Read, Write};
 

@@ -1,7 +1,7 @@
 -- Which calls of an object fail.
 use Rattle.std.specs.Prelude.{◌≡◌, ℕ, ◌&&◌, ◌==◌, Bool, false, true, List, Option, Some, None, IsTrue, slice_index, slice_set, nat_lt, filter, replicate, if◌then◌else◌, ◌↔◌, Result, IsErrOf}
 use Rattle.std.specs.List.{list_any}
-use Rattle.outside_streams.specs.Counts.{next}
+use Rattle.mt_outside.specs.Counts.{next}
 use Rattle.fault_plan.specs.declared.plan.CallKind.{CallKind}
 use Rattle.fault_plan.specs.declared.plan.CallKind.TheVariants as kind
 use Rattle.fault_plan.specs.declared.plan.Listed.{Listed}

@@ -1,5 +1,5 @@
 -- What the folders of a root are called on a real disk (docs/formats.md, "Names").
-use Rattle.std.specs.Prelude.{ℕ, List, [], ◌∷◌, ◌++◌, Bool, false, ◌||◌, ◌&&◌, ◌==◌, nat_le, not, Option, None, Some, slice_get, filter, if◌then◌else◌, codes, decimal}
+use Rattle.std.specs.Prelude.{ℕ, List, [], ◌∷◌, ◌++◌, Bool, false, ◌||◌, ◌&&◌, ◌==◌, nat_le, not, Option, None, Some, slice_get, filter, if◌then◌else◌}
 use Rattle.std.specs.List.{list_all}
 
 -- a letter, a digit, an underscore or a dot

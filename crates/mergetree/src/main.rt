@@ -1,10 +1,10 @@
 //! The program: it runs the script of standard input over the folder that the words name, and prints the replies to standard output.
 #![tactic(auto)]
 
-use disk_mem::CountedAnnals;
 use disk_real::{OpenGate, RealDisk, StandardNumbers, StdSink, StdSource, hold_standard_numbers};
 use mt_outside::DiskError;
 use mt_program::{Status, run};
+use mt_values::CountedAnnals;
 use std::alloc::{AllocGlobal, Global};
 use std::env::{self, Env};
 use std::io::ErrorKind;

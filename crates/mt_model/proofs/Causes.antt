@@ -1,5 +1,5 @@
 -- The causes of refusals: the script, or the outside, whose count rose then.
-use Rattle.std.proofs.Common.{◌≡◌, ◌⊎◌, ℕ, ◌+◌, ◌-◌, ◌<◌, ◌≤◌, ◌^◌, Bool, true, false, cond, List, [], ◌∷◌, ◌++◌, Option, Some, None, Result, Ok, Err, length, take, drop, refl, sym, zero, suc, ◌==◌, ap, ◌∙◌, subst, inl, inr, arith, nat_le, nat_lt, is_some, ◌&&◌, ◌||◌}
+use Rattle.std.proofs.Common.{◌≡◌, ◌⊎◌, ℕ, ◌-◌, ◌<◌, ◌≤◌, ◌^◌, Bool, true, false, cond, List, [], ◌∷◌, ◌++◌, Option, Some, None, Result, Ok, Err, length, take, drop, refl, sym, zero, suc, ◌==◌, ap, ◌∙◌, subst, inl, inr, arith, nat_le, nat_lt, is_some, ◌&&◌, ◌||◌}
 use Rattle.std.proofs.lemmas.Bool.{false≢true}
 use Rattle.std.proofs.lemmas.Bool.Decides.{nat_tests}
 use Rattle.std.specs.Option.{option_map}
@@ -7,8 +7,6 @@ use Rattle.mt_values.specs.declared.command.Command.{Command}
 use Rattle.mt_values.specs.declared.command.Command.TheVariants as command
 use Rattle.mt_values.specs.declared.row_fault.DataFault.{DataFault}
 use Rattle.mt_values.specs.declared.row_fault.DataFault.TheVariants as data_fault
-use Rattle.mt_values.specs.declared.row_fault.FieldFault.{FieldFault}
-use Rattle.mt_values.specs.declared.row_fault.FieldFault.TheVariants as field_fault
 use Rattle.mt_values.specs.declared.row_fault.RowFault.{RowFault}
 use Rattle.mt_values.specs.declared.row_fault.RowFault.TheVariants as row_fault
 use Rattle.mt_values.specs.declared.schema.Column.{Column}
@@ -19,18 +17,14 @@ use Rattle.mt_values.specs.declared.statement.Cause.{Cause}
 use Rattle.mt_values.specs.declared.statement.Cause.TheVariants as cause
 use Rattle.mt_values.specs.declared.statement.Selected.{Selected}
 use Rattle.mt_values.specs.declared.statement.Selected.TheVariants as selected
-use Rattle.mt_values.specs.declared.value.ColType.{ColType}
-use Rattle.mt_values.specs.declared.value.Value.{Value}
-use Rattle.mt_values.specs.Grammar.{same_bytes}
-use Rattle.mt_values.specs.Rows.{fields_from, value_of_field, at_field, value_onto, row_of_fields, row_of_line, row_limit, row_onto, rows_behind, rows_within, inserted_rows}
+use Rattle.mt_values.specs.Rows.{inserted_rows}
 use Rattle.mt_values.specs.Schemas.{schema_fault as rule_of}
-use Rattle.mt_values.specs.Script.{line_from}
 use Rattle.mt_values.specs.Values.{Row}
 use Rattle.mt_model.specs.declared.refusal.Bound.TheVariants as bound
 use Rattle.mt_model.specs.declared.refusal.Refusal.{Refusal}
 use Rattle.mt_model.specs.declared.refusal.Refusal.TheVariants as refusal
 use Rattle.mt_model.specs.declared.refusal.Room.TheVariants as room
-use Rattle.mt_model.specs.Reply.{column_place, found_or, place_onto, places_of, first_refusal, refusal_of_rules, refusal_of_schema, refusal_of_table, too_many_columns, unless_refused, schema_with_key, schema_of_text, create_turn, rows_or_refused, rows_for, rows_of_insert, insert_turn, selected_places, columns_for, columns_of_select}
+use Rattle.mt_model.specs.Reply.{column_place, found_or, place_onto, places_of, first_refusal, refusal_of_rules, refusal_of_schema, refusal_of_table, too_many_columns, unless_refused, schema_with_key, schema_of_text, create_turn, rows_or_refused, rows_for, insert_turn, selected_places, columns_for, columns_of_select}
 use Rattle.mt_values.specs.declared.statement.Statement.{Statement}
 use Rattle.mt_values.specs.declared.statement.Statement.TheVariants as statement
 use Rattle.mt_values.specs.declared.statement.CreateText.{CreateText}

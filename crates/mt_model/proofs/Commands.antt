@@ -1,5 +1,5 @@
 -- The commands that statements give: they stay as the history grows, and today each statement gives one at most.
-use Rattle.std.proofs.Common.{◌≡◌, ◌⊎◌, ℕ, ◌+◌, ◌<◌, ◌≤◌, Bool, true, false, cond, not, List, [], ◌∷◌, ◌++◌, All, Option, Some, None, Result, Ok, Err, filter, is_some, length, map, nat_le, nat_lt, get_or, refl, sym, ap, ◌∙◌, subst, arith, append-nil, inl, inr, zero, suc}
+use Rattle.std.proofs.Common.{◌≡◌, ◌⊎◌, ℕ, ◌≤◌, Bool, true, false, cond, List, [], ◌∷◌, ◌++◌, Option, Some, None, Result, Ok, Err, is_some, length, map, nat_le, nat_lt, refl, sym, ap, ◌∙◌, subst, arith, append-nil, inl, inr}
 use Rattle.std.specs.List.{AllByRecursion}
 use Rattle.std.proofs.lemmas.Bool.Decides.{Decides-eqb, nat_tests}
 use Rattle.mt_base.specs.declared.partition.Partition.{Partition}
@@ -10,14 +10,14 @@ use Rattle.mt_values.specs.declared.command.Insert.{Insert}
 use Rattle.mt_values.specs.declared.schema.Schema.{Schema}
 use Rattle.mt_values.specs.declared.statement.Statement.{Statement}
 use Rattle.mt_values.specs.declared.statement.Statement.TheVariants as statement
-use Rattle.mt_values.specs.Tables.{MayHavePartition, partition_of, same_partition}
+use Rattle.mt_values.specs.Tables.{MayHavePartition, same_partition}
 use Rattle.mt_values.specs.Values.{Row}
 use Rattle.mt_model.specs.Commands.{commands_for, commands_of, commands_of_rows, create_commands, insert_command, insert_commands, no_commands, partitions_of, rows_in, other_partitions}
 use Rattle.mt_model.specs.declared.refusal.Bound.TheVariants as bound
 use Rattle.mt_model.specs.declared.refusal.Refusal.{Refusal}
 use Rattle.mt_model.specs.declared.refusal.Refusal.TheVariants as refusal
 use Rattle.mt_model.specs.declared.refusal.Room.TheVariants as room
-use Rattle.mt_model.specs.History.{History, IsInsertInto, column_types, creates, entered, inserts, schema_of}
+use Rattle.mt_model.specs.History.{History, IsInsertInto, column_types, creates, entered, schema_of}
 use Rattle.mt_model.specs.Numbers.{last_number}
 use Rattle.mt_model.specs.Refusals.{accepted_by}
 use Rattle.mt_model.specs.Reply.{columns_for, create_turn, insert_turn, rows_for, schema_of_text}

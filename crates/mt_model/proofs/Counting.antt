@@ -1,5 +1,5 @@
 -- What a session adds from one place to another, and that a refused statement adds the commands that its line counts.
-use Rattle.std.proofs.Common.{◌≡◌, ◌⊎◌, ℕ, ◌+◌, ◌-◌, ◌<◌, ◌≤◌, Bool, true, false, cond, ◌==◌, List, [], ◌∷◌, ◌++◌, Some, Result, Ok, Err, length, take, drop, slice_get, refl, sym, ap, ◌∙◌, subst, append-nil, arith, inl, inr, zero, suc}
+use Rattle.std.proofs.Common.{◌≡◌, ℕ, ◌+◌, ◌-◌, ◌<◌, ◌≤◌, Bool, true, false, cond, ◌==◌, List, [], ◌∷◌, ◌++◌, Some, Result, Ok, Err, length, take, drop, slice_get, refl, sym, ap, ◌∙◌, subst, append-nil, arith, inl, inr, zero, suc}
 use Rattle.std.proofs.Math.Seq.{take-add}
 use Rattle.std.proofs.lemmas.Bool.Decides.{Decides-eqb}
 use Rattle.std.proofs.lemmas.List.{drop-drop}

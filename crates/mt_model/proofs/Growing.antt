@@ -1,5 +1,5 @@
 -- A run stays one as the history grows, one more statement joins it at its end, and what one more entry adds.
-use Rattle.std.proofs.Common.{◌≡◌, ℕ, ◌+◌, ◌-◌, ◌≤◌, List, [], ◌∷◌, ◌++◌, length, take, drop, refl, sym, ap, ◌∙◌, inl, inr, append_assoc, arith, Some, None, Result, Ok, Err, slice_get, subst, length-append, length-drop, append-nil, zero, suc}
+use Rattle.std.proofs.Common.{◌≡◌, ℕ, ◌+◌, ◌-◌, ◌≤◌, List, [], ◌∷◌, ◌++◌, length, take, drop, refl, sym, ap, ◌∙◌, inl, inr, append_assoc, arith, Some, Result, Ok, Err, slice_get, subst, length-append, length-drop, append-nil, zero, suc}
 use Rattle.std.proofs.lemmas.List.{take-append-le, drop-append-le}
 use Rattle.mt_values.specs.declared.command.Entry.{Entry}
 use Rattle.mt_values.specs.declared.command.Command.{Command}

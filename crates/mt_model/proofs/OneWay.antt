@@ -1,5 +1,5 @@
 -- A script's run after a base is determined: what its statements do is a function of the history before them.
-use Rattle.std.proofs.Common.{◌≡◌, ◌⊎◌, ℕ, Bool, true, false, cond, nat_le, ◌+◌, ◌-◌, ◌<◌, ◌≤◌, ◌^◌, List, [], ◌∷◌, ◌++◌, All, Option, Some, None, Result, Ok, Err, length, map, take, drop, slice_get, refl, sym, ap, ap₂, ◌∙◌, subst, inl, inr, append_assoc, append-nil, arith, suc}
+use Rattle.std.proofs.Common.{◌≡◌, ◌⊎◌, ℕ, Bool, true, false, cond, nat_le, ◌+◌, ◌-◌, ◌<◌, ◌≤◌, ◌^◌, List, [], ◌∷◌, ◌++◌, All, Option, Some, None, Result, Ok, Err, length, map, take, drop, slice_get, refl, sym, ap, ◌∙◌, subst, inl, inr, append_assoc, append-nil, arith, suc}
 use Rattle.std.proofs.lemmas.List.{drop-drop, length-take-le, take_all, length-drop, take-append-drop}
 use Rattle.std.proofs.lemmas.List.Elements.{All-head, All-tail, All-take, All-drop}
 use Rattle.std.proofs.lemmas.Bool.Decides.{nat_tests}
@@ -14,7 +14,7 @@ use Rattle.mt_values.specs.declared.statement.SelectText.{SelectText}
 use Rattle.mt_values.specs.Order.{key_of, row_cmp}
 use Rattle.mt_values.specs.Printing.{line}
 use Rattle.mt_model.specs.Commands.{commands_of}
-use Rattle.mt_model.specs.History.{History, ArePlain, FewInserts, entered, inserts, own, schema_of}
+use Rattle.mt_model.specs.History.{History, ArePlain, FewInserts, entered, own, schema_of}
 use Rattle.mt_model.specs.Live.{live, sorted}
 use Rattle.mt_model.specs.Numbers.{last_number}
 use Rattle.mt_model.specs.Answer.{Answer, Prints}
@@ -24,7 +24,7 @@ use Rattle.mt_model.specs.declared.refusal.Room.TheVariants as room
 use Rattle.mt_model.specs.Outside.{Outside, HasRisen, ReadOrStageFailed, TurnFailed}
 use Rattle.mt_model.specs.Refusals.{refusal_line, refusal_of_cause}
 use Rattle.mt_model.specs.Reply.{ok_line, rows_reply, create_turn, insert_turn, selected_places, columns_for, columns_of_select}
-use Rattle.mt_model.specs.Session.{AddsNothing, Adds, Accepts, AcceptsAll, StopsAfter, TurnAllows, TurnRefuses, Selects, RefusedAs, SelectRefused, TakesCommands, Takes, SessionRun}
+use Rattle.mt_model.specs.Session.{AddsNothing, Adds, Accepts, TurnAllows, TurnRefuses, Selects, RefusedAs, SelectRefused, TakesCommands, Takes, SessionRun}
 use Rattle.mt_model.specs.Script.{OwnEntries, ScriptRun}
 use Rattle.mt_model.proofs.Lists.{take_got}
 use Rattle.mt_model.proofs.Places.{stops_places, takes_places}

@@ -1,4 +1,4 @@
--- What a SELECT answers (docs/definitions.md, "Answers"; ClickHouse, SELECT).
+-- What a SELECT answers (docs/definitions-of-runs.md, "Answers"; ClickHouse, SELECT).
 use Rattle.std.specs.Prelude.{◌≡◌, ℕ, List, map, Ok}
 use Rattle.std.specs.List.Sorted.{IsPermutation, IsSorted}
 use Rattle.mt_values.specs.declared.schema.Schema.{Schema}
@@ -11,14 +11,14 @@ use Rattle.mt_model.specs.Live.{live}
 use Rattle.mt_model.specs.Partial.{Partly}
 use Rattle.mt_model.specs.Reply.{selected_places}
 
--- the rows' lines, sorted by their columns from left to right, each row as often as it occurs (docs/definitions.md, "Answers")
+-- the rows' lines, sorted by their columns from left to right, each row as often as it occurs (docs/definitions-of-runs.md, "Answers")
 pub record Prints (rows : List Row) (lines : List (List ℕ)) : Type 0 where
   pub order : List Row
   pub same : IsPermutation rows order
   pub rising : IsSorted row_cmp order
   pub lines_are : lines ≡ map line order
 
--- the lines of a SELECT: its columns of the rows that merges may have left of its table's live rows (docs/definitions.md, "Answers")
+-- the lines of a SELECT: its columns of the rows that merges may have left of its table's live rows (docs/definitions-of-runs.md, "Answers")
 pub record Answer (h : History) (schema : Schema) (s : SelectText) (lines : List (List ℕ)) : Type 0 where
   pub columns : List ℕ
   pub selected : selected_places schema.columns s.columns ≡ Ok columns

@@ -1,30 +1,30 @@
--- What the outside may refuse a statement for (docs/definitions.md, "Faults of the outside").
+-- What the outside may refuse a statement for (docs/definitions-of-runs.md, "Faults of the outside").
 use Rattle.std.specs.Prelude.{◌≡◌, ◌⊎◌, ℕ, ◌+◌, ◌-◌, ◌≤◌, ◌^◌, min, List}
 use Rattle.mt_model.specs.declared.refusal.Refusal.TheVariants as refusal
 use Rattle.mt_model.specs.Refusals.{refusal_line}
 
--- What the outside did in a run: the disk's count of faults as it stood when the root was opened, and as it stands at the end (docs/definitions.md, "Faults of the outside").
+-- What the outside did in a run: the disk's count of faults as it stood when the root was opened, and as it stands at the end (docs/definitions-of-runs.md, "Faults of the outside").
 pub record Outside : Type 0 where
   pub opened : ℕ
   pub ended : ℕ
 
--- the count is above the one at opening, or stands at its type's end (docs/definitions.md, "Faults of the outside")
+-- the count is above the one at opening, or stands at its type's end (docs/definitions-of-runs.md, "Faults of the outside")
 abbrev pub HasRisen : Outside → ℕ → Type 0
 HasRisen n now = min (n.opened + 1) (2 ^ 64 - 1) ≤ now
 
--- reading parts or writing a stage failed: only where the disk's count rose in the run (docs/definitions.md, "Faults of the outside")
+-- reading parts or writing a stage failed: only where the disk's count rose in the run (docs/definitions-of-runs.md, "Faults of the outside")
 abbrev pub ReadOrStageFailed : Outside → List ℕ → Type 0
 ReadOrStageFailed n reply = (reply ≡ refusal_line refusal.Failed) × HasRisen n n.ended
 
--- the commit failed, after some of the statement's commands were accepted: only where the disk's count rose in the run (docs/definitions.md, "Faults of the outside")
+-- the commit failed, after some of the statement's commands were accepted: only where the disk's count rose in the run (docs/definitions-of-runs.md, "Faults of the outside")
 abbrev pub CommitFailed : Outside → ℕ → List ℕ → Type 0
 CommitFailed n accepted reply = (reply ≡ refusal_line (refusal.Unsettled accepted)) × HasRisen n n.ended
 
--- the store was stopped for writing, after some of the statement's commands were accepted: the count had risen before (docs/definitions.md, "Faults of the outside")
+-- the store was stopped for writing, after some of the statement's commands were accepted: the count had risen before (docs/definitions-of-runs.md, "Faults of the outside")
 abbrev pub WasStopped : Outside → ℕ → List ℕ → Type 0
 WasStopped n accepted reply =
     (now : ℕ) × (now ≤ n.ended) × HasRisen n now × (reply ≡ refusal_line (refusal.Stopped n.opened now accepted))
 
--- in the turn of a command, after some of the statement's commands were accepted (docs/definitions.md, "Faults of the outside")
+-- in the turn of a command, after some of the statement's commands were accepted (docs/definitions-of-runs.md, "Faults of the outside")
 abbrev pub TurnFailed : Outside → ℕ → List ℕ → Type 0
 TurnFailed n accepted reply = CommitFailed n accepted reply ⊎ WasStopped n accepted reply

@@ -80,7 +80,7 @@ code (refusal.Unsettled accepted) = 16
 code (refusal.Stopped opened now accepted) = 17
 code (refusal.Damaged table part file) = 19
 
--- how many of its statement's commands a refusal says were accepted (docs/definitions.md, "Replies and refusals")
+-- how many of its statement's commands a refusal says were accepted (docs/definitions-of-runs.md, "Replies and refusals")
 abbrev pub accepted_by : Refusal → ℕ
 accepted_by (refusal.Full which accepted) = accepted
 accepted_by (refusal.Unsettled accepted) = accepted

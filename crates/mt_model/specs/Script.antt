@@ -1,11 +1,10 @@
--- What a run of a script may print (docs/definitions.md, "Runs").
-use Rattle.std.specs.Prelude.{◌++◌, ◌⊎◌, ◌≡◌, ◌∷◌, [], ℕ, List, length, drop, All, take, slice_get, Some}
-use Rattle.std.specs.List.{concat}
+-- What a run of a script may print (docs/definitions-of-runs.md, "Runs").
+use Rattle.std.specs.Prelude.{◌++◌, ◌≡◌, ℕ, List, length, drop, All}
 use Rattle.mt_values.specs.declared.command.Entry.{Entry}
 use Rattle.mt_values.specs.Script.{Item}
 use Rattle.mt_model.specs.History.{History}
 use Rattle.mt_model.specs.Outside.{Outside}
-use Rattle.mt_model.specs.Session.{SessionRun, SessionReplies, AddsNothing, Unanswered}
+use Rattle.mt_model.specs.Session.{SessionRun, SessionReplies, AddsNothing}
 
 -- every entry past a place is session 0's: a script has no other session
 abbrev pub OwnEntries : History → ℕ → Type 0

@@ -1,4 +1,5 @@
 pub mod Causes
+pub mod Counts
 pub mod Disk
 pub mod DiskCauses
 pub mod Files

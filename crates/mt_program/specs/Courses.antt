@@ -1,4 +1,4 @@
--- Statements that ran, and their replies (docs/definitions.md, "Runs").
+-- Statements that ran, and their replies (docs/definitions-of-runs.md, "Runs").
 use Rattle.std.specs.Prelude.{◌≡◌, ◌⊎◌, ◌+◌, ◌<◌, ℕ, false, true, List, [], ◌∷◌, ◌++◌, length, take, slice_get, Option, Some, None}
 use Rattle.std.specs.List.{concat, list_any}
 use Rattle.mt_values.specs.declared.command.Command.{Command}

@@ -1,4 +1,4 @@
--- What a run promises (docs/definitions.md, "Runs").
+-- What a run promises (docs/definitions-of-runs.md, "Runs").
 use Rattle.std.specs.Prelude.{◌≡◌, ◌⊎◌, ◌<◌, ◌^◌, ℕ, List, [], ◌++◌, length, take, Bool, true, false, Option, Some, None}
 use Rattle.std.specs.List.{concat}
 use Rattle.mt_values.specs.declared.annals.Noted.{Noted}

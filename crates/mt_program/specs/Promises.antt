@@ -1,4 +1,4 @@
--- All that a run promises (docs/definitions.md, "Runs").
+-- All that a run promises (docs/definitions-of-runs.md, "Runs").
 use Rattle.std.specs.Prelude.{◌≡◌, ◌≢◌, ◌⊎◌, ◌↔◌, ◌+◌, ◌-◌, ◌<◌, ◌≤◌, ◌^◌, ℕ, List, [], length, String, true, false, Some}
 use Rattle.std.specs.declared.alloc.Global.{Global}
 use Rattle.mt_values.specs.Annals.{Told}

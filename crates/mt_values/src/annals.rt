@@ -1,11 +1,12 @@
-// Who keeps the accepted commands. The engine writes entries and cannot read them back.
-ghost use Rattle.std.specs.Prelude.{◌≡◌, Option, OnOk, IsSome, ℕ};
+// Who keeps the accepted commands, and annals that count them alone. The engine writes entries and cannot read them back.
+ghost use Rattle.std.specs.Prelude.{◌≡◌, ◌+◌, ◌-◌, ◌^◌, min, Option, OnOk, IsSome, ℕ};
 ghost use Rattle.std.specs.Option.{option_map, ForSome};
 ghost use Rattle.mt_values.specs.Annals.{Told, began, noted};
 
 use crate::Entry;
 use mt_base::NoMemory;
 use std::alloc::Global;
+use std::marker::Model;
 
 /// A command that was accepted, with the disk's mark when its commit ended.
 #[derive(Drop)]
@@ -40,4 +41,58 @@ pub trait Annals: Drop + Send {
         requires room { has_room self.old }
         requires begun { ForSome (told self.old) (λ t. IsSome t.begun) }
         ensures told { told self.new ≡ option_map (noted mark) (told self.old) };
+}
+
+/// Counts what is noted, keeps no entry and tells nothing.
+#[derive(Drop)]
+pub struct CountedAnnals {
+    count: u64,
+}
+
+impl Model for CountedAnnals {
+    ghost use Rattle.std.specs.Prelude.{ℕ};
+
+    ghost Value = { ℕ };
+
+    ghost view = { λ a. a.count };
+}
+
+impl CountedAnnals {
+    /// Annals that have noted nothing.
+    pub fn new() -> Self
+        ensures { result ≡ 0 }
+    {
+        CountedAnnals { count: 0 }
+    }
+
+    /// How many entries were noted, as far as 64 bits count.
+    pub fn count(&self) -> u64
+        ensures { result ≡ self.now }
+    {
+        self.count
+    }
+}
+
+impl Annals for CountedAnnals {
+    ghost use Rattle.std.specs.Prelude.{None, ℕ};
+
+    ghost told = { λ _. None };
+
+    ghost has_room = { λ _. Unit {0} };
+
+    fn reserve(&mut self, _alloc: Global) -> Result<(), NoMemory>
+        ensures { self.new ≡ self.old }
+    {
+        Ok(())
+    }
+
+    fn begin(&mut self, _entry: Entry)
+        ensures { self.new ≡ self.old }
+    {}
+
+    fn note(&mut self, _mark: u64)
+        ensures { self.new ≡ min (self.old + 1) (2 ^ 64 - 1) }
+    {
+        self.count = self.count.saturating_add(1);
+    }
 }

@@ -19,7 +19,7 @@ mod strings;
 mod token;
 mod value;
 
-pub use annals::{Annals, Noted};
+pub use annals::{Annals, CountedAnnals, Noted};
 pub use block::Block;
 pub use cell::Cell;
 pub use column::ColumnData;

@@ -1,8 +1,0 @@
-use Rattle.std.proofs.Common.{◌∙◌, arith}
-use Rattle.outside_streams.proofs.PieceReads.{at_piece}
-use Rattle.outside_streams.proofs.memory.next_place.Goals as goal
-
-pub returns-then-place-len-clause-ready : goal.returns-then-place-len-clause-ready
-returns-then-place-len-clause-ready c =
-    at_piece c.args.pieces.now c.loop-piece.piece c.loop-piece.place c.index-pieces-piece.result c.loop-piece-test.true c.index-pieces-piece.is (omega arith)
-    ∙ c.loop-piece.invariant.rest

@@ -1,6 +1,0 @@
--- interrupted reads took nothing
-use Rattle.std.specs.Io.KnownBytes.{Keeps}
-use Rattle.outside_streams.proofs.tries.read_some.Given as goal
-
-abbrev pub invariant-loop : goal.invariant-loop
-invariant-loop g l = Keeps (g.R.Read.remaining l.initial.reader) (g.R.Read.remaining l.reader)

@@ -1,4 +1,0 @@
-pub mod Counts
-pub mod DiskCounts
-pub mod Pieces
-pub mod Streams
