@@ -1,8 +1,10 @@
 #!/usr/bin/env python3
 """Counts what the style of docs/CONTRIBUTING.md wants small, and prints each place with its file and line, and a total for each kind:
 
-contracts of more than seven clauses, clauses wider than 100 columns, relations of specs/ with more than five explicit arguments, and
-functions of more than 40 lines, their contracts not counted. It also compares the list of crates of docs/architecture.md with
+contracts with more than seven clauses in a row, clauses wider than 100 columns, relations of specs/ with more than five explicit
+arguments, and
+functions of more than 40 lines, their contracts not counted. A blank line or a comment ends a row of clauses. It also compares the
+list of crates of docs/architecture.md with
 crates.txt, and each section of a page of docs/ that is cited with the headings of that page. It reads the repository alone, and takes a
 moment. The status is 0 whatever it finds, or 1 where the lists differ or a cited section is not on its page.
 """
@@ -34,6 +36,7 @@ class Function:
     def __init__(self, path, line, indent, name):
         self.path, self.line, self.indent, self.name = path, line, indent, name
         self.clauses, self.wide, self.lines = [], [], 0
+        self.in_row, self.most_in_row = 0, 0
 
 
 def functions(path):
@@ -52,6 +55,10 @@ def functions(path):
         if not in_body:
             if CLAUSE.match(line):
                 one.clauses.append(number)
+                one.in_row += 1
+                one.most_in_row = max(one.most_in_row, one.in_row)
+            elif not text or text.startswith("//"):
+                one.in_row = 0
             if one.clauses and text not in ("{", "{}") and len(line) > MOST_COLUMNS and one.clauses[-1] not in one.wide:
                 one.wide.append(one.clauses[-1])
             in_body = text == "{" or (not one.clauses and text.endswith("{"))
@@ -164,8 +171,8 @@ def lost_citations():
 
 def main():
     found = [one for path in files("crates/*/src/**/*.rt") for one in functions(path)]
-    many = [one for one in found if len(one.clauses) > MOST_CLAUSES]
-    report("contracts over 7 clauses", [f"{one.path}:{one.line} {one.name}: {len(one.clauses)}" for one in many])
+    many = [one for one in found if one.most_in_row > MOST_CLAUSES]
+    report("contracts with over 7 clauses in a row", [f"{one.path}:{one.line} {one.name}: {one.most_in_row}" for one in many])
     report("clauses over 100 columns", [f"{one.path}:{line} {one.name}" for one in found for line in one.wide])
     named = [(path, *one) for path in files("crates/*/specs/**/*.antt") for one in relations(path)]
     report(

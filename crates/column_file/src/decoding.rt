@@ -76,7 +76,8 @@ pub fn decode_granule(
 ///
 /// `NoMemory` where an allocation failed.
 fn values_of(alloc: Global, column: &ColumnData) -> Result<Vec<Value>, FormatFault>
-    ensures { MatchResult result (λ v. v.items ≡ column.now.values) (λ e. e ≡ FormatFault.NoMemory) }
+    ensures { MatchResult result (λ v. v.items ≡ column.now.values)
+        (λ e. e ≡ FormatFault.NoMemory) }
 {
     let count = column.len();
     let mut values = Vec::with_capacity(alloc, count)?;

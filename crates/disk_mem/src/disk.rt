@@ -210,12 +210,16 @@ impl Disk for MemDisk {
     /// After a fault the name is not there.
     fn publish(&mut self, alloc: Global, stage: MemStage, name: &Name) -> Result<MemDir, DiskError>
         requires { files_at name.now (names_of self.old.told) ≡ None }
+
+        // What the disk is then.
         ensures ok { OnOk result (self.new.told ≡ with_change self.old.clock
             (Change.Publish name.now stage.files) self.old.told) }
         ensures dir { IfOk result (λ d. d ≡ stage.files) }
         ensures err { OnErr result (self.new.told ≡ self.old.told) }
         ensures clock { self.new.clock ≡ self.old.clock }
         ensures started { self.new.started ≡ self.old.started }
+
+        // Which faults are counted, and which calls fail.
         ensures taken { 0 < stage.plan.failed → Rose self.old.plan.failed self.new.plan.failed }
         ensures cause { HasStageCause stage.plan.failed self.old.plan.failed self.new.plan.failed
             result }
@@ -241,6 +245,8 @@ impl Disk for MemDisk {
         ensures err { OnErr result (self.new.told ≡ self.old.told) }
         ensures clock { self.new.clock ≡ self.old.clock }
         ensures started { self.new.started ≡ self.old.started }
+
+        // Which calls fail.
         ensures takes_none { IsErrOf result DiskError.NoMemory → ⊥ }
         ensures cause { HasDiskCause self.old.plan.failed self.new.plan.failed result }
         ensures exactly { FailsOrStops CallKind.Remove self.old self.new result }
@@ -258,6 +264,8 @@ impl Disk for MemDisk {
         ensures clock_err { OnErr result (self.new.clock ≡ self.old.clock) }
         ensures started { self.new.started ≡ self.old.started }
         ensures last { self.old.clock ≡ 2 ^ 64 - 1 → IsErr result }
+
+        // Which calls fail.
         ensures takes_none { IsErrOf result DiskError.NoMemory → ⊥ }
         ensures cause { HasDiskCause self.old.plan.failed self.new.plan.failed result }
         ensures exactly { SyncFails self.old self.new result }

@@ -201,6 +201,8 @@ impl Sink for MemSink {
         ensures bytes { WriteAppends (Some self.old.written) (Some self.new.written) result
             bytes.now }
         ensures cause { HasCause self.old.failed self.new.failed result }
+
+        // Which calls fail.
         ensures listed { Contains self.old.fail self.old.calls → IsErr result }
         ensures count { self.new.failed ≡ count_after result self.old.failed }
         ensures calls { (self.new.calls ≡ next self.old.calls) × (self.new.fail ≡ self.old.fail) }

@@ -16,6 +16,8 @@ use std::alloc::Global;
 fn settle<D: Disk, A: Annals>(disk: &mut D, annals: &mut A) -> Result<(), DiskError>
     requires room { A.has_room annals.old }
     requires begun { ForSome (A.told annals.old) (λ t. IsSome t.begun) }
+
+    // What the annals and the disk are then.
     ensures annals { OnOk result (A.told annals.new ≡ option_map (noted (D.clock disk.new))
         (A.told annals.old)) }
     ensures annals_err { OnErr result (A.told annals.new ≡ A.told annals.old) }
@@ -23,6 +25,8 @@ fn settle<D: Disk, A: Annals>(disk: &mut D, annals: &mut A) -> Result<(), DiskEr
     ensures clock_err { OnErr result (D.clock disk.new ≡ D.clock disk.old) }
     ensures told { D.told disk.new ≡ D.told disk.old }
     ensures started { D.started disk.new ≡ D.started disk.old }
+
+    // Why it failed.
     ensures takes_none { IsErrOf result DiskError.NoMemory → ⊥ }
     ensures cause { HasDiskCause (D.failed disk.old) (D.failed disk.new) result }
 {
@@ -49,19 +53,26 @@ pub fn commit<D: Disk, A: Annals>(
 ) -> Result<<D::Arm as Arm>::Dir, DiskError>
     requires free { ForSome (D.told disk.old) (λ t. files_at name.now (names_of t) ≡ None) }
     requires room { A.has_room annals.old }
+
+    // What is published, settled and noted.
     ensures disk { OnOk result (D.told disk.new ≡ put (D.clock disk.old) name.now sealed.files
         (D.told disk.old)) }
     ensures dir { IfOk result (λ d. D.Arm.Dir.files d ≡ sealed.files) }
     ensures settled { OnOk result (D.clock disk.new ≡ D.clock disk.old + 1) }
     ensures annals { OnOk result
         (Notes (D.clock disk.new) entry (A.told annals.old) (A.told annals.new)) }
+
+    // What stands after an error.
     ensures annals_err { OnErr result (SameList (A.told annals.old) (A.told annals.new)) }
-    ensures begun { OnErr result (A.told annals.new ≡ option_map (began entry) (A.told annals.old)) }
+    ensures begun { OnErr result
+        (A.told annals.new ≡ option_map (began entry) (A.told annals.old)) }
     ensures mark_err { OnErr result (D.clock disk.new ≡ D.clock disk.old) }
     ensures sealed { ForSome sealed.files AreSealed }
     ensures left { OnErr result (MayPut (D.clock disk.old) name.now sealed.files (D.told disk.old)
         (D.told disk.new)) }
     ensures memory { IsErrOf result DiskError.NoMemory → D.told disk.new ≡ D.told disk.old }
+
+    // What stays, and why it failed.
     ensures started { D.started disk.new ≡ D.started disk.old }
     ensures cause { HasStageCause sealed.failed (D.failed disk.old) (D.failed disk.new) result }
 {

@@ -52,7 +52,8 @@ impl FileId {
 
 // The name of a file that is one of many, with its number.
 fn numbered(alloc: Global, letter: &str, number: u32) -> Result<String, NoMemory>
-    ensures { IfOk result (λ name. string_bytes name ≡ letter.now ++ decimal number ++ codes ".bin") }
+    ensures { IfOk result (λ name. string_bytes name ≡ letter.now ++ decimal number
+        ++ codes ".bin") }
 {
     Ok(format!(in alloc; "{letter}{number}.bin")?)
 }

@@ -198,6 +198,8 @@ pub fn bounds_cut_nothing_off()
         → length ts < n → length ts < m
         → listed_within n (is_symbol symbol.Comma) (the symbol.Comma) one_name [] next ts ≡
         listed_within m (is_symbol symbol.Comma) (the symbol.Comma) one_name [] next ts }
+
+    // Of values and rows.
     ensures columns { (n m : ℕ) (next : List Column → Reader Statement) (ts : List Placed)
         → length ts < n → length ts < m
         → listed_within n (is_symbol symbol.Comma) (the symbol.Comma) column [] next ts ≡

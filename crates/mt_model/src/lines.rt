@@ -97,7 +97,8 @@ fn room_text(room: Room) -> &'static [u8]
 
 /// The line of damage, without its line feed.
 fn damaged(alloc: Global, table: &Name, part: &Name, file: &Name) -> Result<Vec<u8>, NoMemory>
-    ensures { IfOk result (λ text. text.items ≡ codes "E19" ++ refusals.and_name table.now ++ refusals.and_name part.now ++ refusals.and_name file.now) }
+    ensures { IfOk result (λ text. text.items ≡ codes "E19" ++ refusals.and_name table.now
+        ++ refusals.and_name part.now ++ refusals.and_name file.now) }
 {
     with_name(with_name(named(alloc, b"E19", table)?, part)?, file)
 }

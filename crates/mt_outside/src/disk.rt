@@ -223,6 +223,8 @@ pub trait Disk: Drop + Send {
         name: &Name,
     ) -> Result<<Self::Arm as Arm>::Dir, DiskError>
         requires { ForSome (told self.old) (λ t. files_at name.now (names_of t) ≡ None) }
+
+        // What the disk is then.
         ensures ok { OnOk result (told self.new ≡ put (clock self.old) name.now
             (Self.Arm.Stage.files stage) (told self.old)) }
         ensures dir { IfOk result (λ d. Self.Arm.Dir.files d ≡ Self.Arm.Stage.files stage) }
@@ -232,6 +234,8 @@ pub trait Disk: Drop + Send {
         ensures memory { IsErrOf result DiskError.NoMemory → told self.new ≡ told self.old }
         ensures clock { clock self.new ≡ clock self.old }
         ensures started { started self.new ≡ started self.old }
+
+        // Which faults are counted.
         ensures taken { 0 < Self.Arm.Stage.failed stage → Rose (failed self.old) (failed self.new) }
         ensures cause { HasStageCause (Self.Arm.Stage.failed stage) (failed self.old)
             (failed self.new) result };

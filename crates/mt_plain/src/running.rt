@@ -30,7 +30,8 @@ pub struct Outcome {
 pub fn run(alloc: Global, statements: &[Result<Statement, Cause>]) -> Result<Outcome, NoMemory>
     ensures run { IfOk result
         (λ done. ScriptRun calm statements.now done.history.items 0 done.out.items) }
-    ensures legal { IfOk result (λ done. All IsWritten statements.now → IsLegal done.history.items) }
+    ensures legal { IfOk result (λ done. All IsWritten statements.now
+        → IsLegal done.history.items) }
 {
     let mut history = Vec::new(alloc);
     let mut out = Vec::new(alloc);

@@ -48,6 +48,8 @@ pub fn check_part<R: Arm>(
         → OnOk result ((rows : List Row) × PartHolds R.Dir.files schema.now part.now rows) }
     ensures sound { (rows : List Row) → PartHolds R.Dir.files schema.now part.now rows
         → IfErr result IsNoDamage }
+
+    // What the arm is then, and its count of faults.
     ensures tells { R.tells arm.new ≡ R.tells arm.old }
     ensures later { R.failed arm.old ≤ R.failed arm.new }
     ensures fault { IsErrOf result PartFault.Fault → Rose (R.failed arm.old) (R.failed arm.new) }

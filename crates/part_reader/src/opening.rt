@@ -35,6 +35,7 @@ pub fn open_part<R: Arm>(
     schema: &Schema,
     arm: &mut R,
 ) -> Result<Part<R::Dir>, PartFault>
+    // What is read.
     ensures dir { IfOk result (λ p. p.dir ≡ dir) }
     ensures opened { IfOk result (λ p. IsOpened (R.Dir.files dir) schema.now p.loaded.manifest) }
     ensures manifest { (files : Files) → R.Dir.files dir ≡ Some files
@@ -46,11 +47,15 @@ pub fn open_part<R: Arm>(
     ensures written { (files : Files) (rows : List Row) → R.Dir.files dir ≡ Some files
         → FolderHolds schema.now rows files
         → MatchResult result (λ p. p.loaded.manifest ≡ manifest_of schema.now rows) IsNoDamage }
+
+    // What is told of damage.
     ensures sound { (files : Files) → R.Dir.files dir ≡ Some files
         → OnOk result (damaged_file schema.now files ≢ Some file.Manifest) }
     ensures first { (files : Files) → R.Dir.files dir ≡ Some files
         → IfErr result (Tells (λ found. damaged_file schema.now files ≡ found)) }
     ensures damaged { IfErr result (ExplainsOpening (R.Dir.files dir) schema.now) }
+
+    // What the arm is then, and its count of faults.
     ensures tells { R.tells arm.new ≡ R.tells arm.old }
     ensures later { R.failed arm.old ≤ R.failed arm.new }
     ensures fault { IsErrOf result PartFault.Fault → Rose (R.failed arm.old) (R.failed arm.new) }

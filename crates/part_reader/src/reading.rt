@@ -129,6 +129,8 @@ pub fn read_columns<R: Arm>(
         (λ (c : Cells). c.col_type) columns.old) }
     ensures damaged { IfErr result (ExplainsPart (R.Dir.files part.now.dir) part.now.loaded.manifest
         places.now columns.old) }
+
+    // What the arm is then, and its count of faults.
     ensures tells { R.tells arm.new ≡ R.tells arm.old }
     ensures later { R.failed arm.old ≤ R.failed arm.new }
     ensures fault { IsErrOf result PartFault.Fault → Rose (R.failed arm.old) (R.failed arm.new) }

@@ -17,7 +17,8 @@ pub type Groups = BTreeMap<Name, Seq<PartName>>;
 // A table gets a list without parts.
 fn open(alloc: Global, groups: &mut Groups, name: &RootName) -> Result<(), NoMemory>
     ensures { OnOk result ((t : List ℕ)
-        → group_of groups.new t ≡ (if is_create t name.now then Some [] else group_of groups.old t)) }
+        → group_of groups.new t
+        ≡ (if is_create t name.now then Some [] else group_of groups.old t)) }
 {
     match name {
         RootName::Create(table) => {

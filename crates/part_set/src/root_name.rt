@@ -44,8 +44,10 @@ fn split(text: &[u8]) -> Option<(&[u8], &[u8])>
 
 // The name of a part after a table's name and a dot.
 fn part_behind(text: &[u8]) -> Option<PartName>
-    ensures spelled { IfSome result (λ p. IsPartName p × (codes "part_" ++ part_text p ≡ text.now)) }
-    ensures read { (p : PartName) → IsPartName p → codes "part_" ++ part_text p ≡ text.now → result ≡ Some p }
+    ensures spelled { IfSome result
+        (λ p. IsPartName p × (codes "part_" ++ part_text p ≡ text.now)) }
+    ensures read { (p : PartName) → IsPartName p → codes "part_" ++ part_text p ≡ text.now
+        → result ≡ Some p }
 {
     part_name::parse(text.strip_prefix(b"part_".as_slice())?)
 }

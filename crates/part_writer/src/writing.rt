@@ -44,6 +44,8 @@ pub fn write_part<R: Arm>(
     requires types { block.now.types ≡ column_types schema.now }
     requires places { All (λ place. place < length block.now.rows) order.now }
     requires few { length schema.now.columns < 2 ^ 32 }
+
+    // What is sealed.
     ensures files { IfOk result (λ s. R.tells arm.old ≡ true
         → s.sealed.files ≡ Some
         (all_synced (files_of_part schema.now (picked block.now.rows order.now)))) }
@@ -54,6 +56,8 @@ pub fn write_part<R: Arm>(
         (picked block.now.rows order.now)) }
     ensures readable { IfOk result (λ s. IsManifestOf (manifest_bytes sha256 s.loaded.manifest)
         s.loaded.manifest) }
+
+    // What the arm is then, and why it failed.
     ensures tells { R.tells arm.new ≡ R.tells arm.old }
     ensures cause { HasDiskCause (R.failed arm.old) (R.failed arm.new) result }
 {
@@ -106,6 +110,8 @@ fn fill<S: Stage>(
     requires types { block.now.types ≡ column_types schema.now }
     requires places { All (λ place. place < length block.now.rows) order.now }
     requires few { length schema.now.columns < 2 ^ 32 }
+
+    // What is written, and why it failed.
     ensures files { OnOk result (option_map settled stage.new.files ≡ option_map (λ _. all_synced
         (files_of_part schema.now (picked block.now.rows order.now))) stage.old.files) }
     ensures intact { OnOk result (IsIntact stage.new) }
@@ -151,6 +157,8 @@ fn write_content<S: Stage>(
     requires places { All (λ place. place < length block.now.rows) order.now }
     requires intact { IsIntact stage.old }
     requires new { has_file file stage.old.names ≡ false }
+
+    // What is written, and why it failed.
     ensures mark { IfOk result (λ mark. mark ≡ mark_of
         (content_bytes schema.now (picked block.now.rows order.now) file)) }
     ensures names { OnOk result (stage.new.names ≡ stage.old.names ++ file ∷ []) }

@@ -16,7 +16,8 @@ use run_streams::write_all;
 pub fn write_reply<K: Sink>(sink: &mut K, tally: Tally, reply: &Reply) -> Result<Tally, WriteFault>
     ensures tally { IfOk result (λ more. more ≡ tallied tally reply.now) }
     ensures all { OnOk result (Appends (K.written sink.old) (K.written sink.new) reply.now) }
-    ensures front { OnErr result (AppendsFront (K.written sink.old) (K.written sink.new) reply.now) }
+    ensures front { OnErr result
+        (AppendsFront (K.written sink.old) (K.written sink.new) reply.now) }
     ensures cause { HasCause (K.failed sink.old) (K.failed sink.new) result }
 {
     let bytes = reply.bytes();

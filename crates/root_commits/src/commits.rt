@@ -138,6 +138,8 @@ fn prepare_create<A: Annals>(
     ensures name { IfOk result (λ r. r.name ≡ create_name create.now.table) }
     ensures table { IfOk result (λ r. r.table ≡ create.now.table) }
     ensures length { IfOk result (λ r. r.length ≡ before + 1) }
+
+    // What the tables and the annals are then.
     ensures entries { OnOk result (tables.new.entries ≡ insert_entry (slice_cmp nat_cmp)
         tables.old.entries create.now.table (fresh_table create.now.schema)) }
     ensures updates { OnOk result (Updates (slice_cmp nat_cmp) tables.old tables.new
@@ -348,6 +350,8 @@ fn enter_part<F: Drop>(
     ensures ordered { IsInBlockOrder (parts_of store.new.set table.now) }
     ensures others { (t : List ℕ) → t ≢ table.now
         → parts_of store.new.set t ≡ parts_of store.old.set t }
+
+    // What the tables and the counts are then.
     ensures updates { (t : Made) → table_at store.old table.now ≡ Some t
         → Updates (slice_cmp nat_cmp) store.old.tables store.new.tables table.now
         (Some (record { schema = t.schema; drawn = name.max_block })) }

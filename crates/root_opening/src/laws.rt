@@ -18,14 +18,16 @@ use mt_outside::Dir;
 /// The names of a root are read in one way. Where the root stands for a history, no name is bad and none is an orphan, no two
 /// parts overlap, there are not too many tables and no file is damaged.
 pub fn sound_roots_are_not_damaged()
-    ensures one { (names : Names) (a b : List RootName) → AreNamesRead names a → AreNamesRead names b
+    ensures one { (names : Names) (a b : List RootName) → AreNamesRead names a
+        → AreNamesRead names b
         → a ≡ b }
     ensures no_orphan { (names : Names) (h : History) (read : List RootName) → Stands names h
         → AreNamesRead names read → HasNoOrphan read }
     ensures no_overlap { (names : Names) (h : History) (read : List RootName) → Stands names h
         → AreNamesRead names read → HasNoOverlap read }
     ensures few { (names : Names) (h : History) (read : List RootName) → AreInByteOrder names
-        → Stands names h → AreNamesRead names read → length (filter is_entry_name read) ≤ most_tables }
+        → Stands names h → AreNamesRead names read
+        → length (filter is_entry_name read) ≤ most_tables }
     ensures no_damage { (names : Names) (h : History) (read : List RootName) (place : ℕ)
         (f : FileId) → Stands names h → AreNamesRead names read → DamagedAt names read place f → ⊥ }
     ensures no_bad_name { (names : Names) (h : History) (place : ℕ) (name : List ℕ)

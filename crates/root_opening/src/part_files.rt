@@ -27,6 +27,8 @@ pub fn check_files<R: Arm>(
         → OnOk result (damaged_file schema.now files ≡ None) }
     ensures damaged { (files : Files) → R.Dir.files dir ≡ Some files
         → IfErr result (Tells (λ found. damaged_file schema.now files ≡ found)) }
+
+    // What the arm is then, and its count of faults.
     ensures tells { R.tells arm.new ≡ R.tells arm.old }
     ensures later { R.failed arm.old ≤ R.failed arm.new }
     ensures fault { IsErrOf result PartFault.Fault → Rose (R.failed arm.old) (R.failed arm.new) }

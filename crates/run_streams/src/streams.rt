@@ -77,7 +77,8 @@ pub fn read_all<S: Source>(alloc: Global, source: &mut S) -> Result<Vec<u8>, Sou
 #[tactic(auto, using(crate::proofs::Known::appends_more, crate::proofs::Known::appends_none))]
 pub fn write_all<K: Sink>(sink: &mut K, bytes: &[u8]) -> Result<(), WriteFault>
     ensures all { OnOk result (Appends (K.written sink.old) (K.written sink.new) bytes.now) }
-    ensures front { OnErr result (AppendsFront (K.written sink.old) (K.written sink.new) bytes.now) }
+    ensures front { OnErr result
+        (AppendsFront (K.written sink.old) (K.written sink.new) bytes.now) }
     ensures cause { HasCause (K.failed sink.old) (K.failed sink.new) result }
 {
     let mut at = 0;

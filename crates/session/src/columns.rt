@@ -74,6 +74,8 @@ pub fn read_parts<R: Arm>(
         → HaveTypes schema places.now columns.old → IfErr result (λ e. IsNoDamage e.1) }
     ensures damaged { IfErr result (λ e. ExplainsParts R.Dir.files parts.now places.now
         (map (λ (c : Cells). c.col_type) columns.old) e.0 e.1) }
+
+    // What the arm is then, and its count of faults.
     ensures tells { R.tells arm.new ≡ R.tells arm.old }
     ensures later { R.failed arm.old ≤ R.failed arm.new }
     ensures fault { IfErr result

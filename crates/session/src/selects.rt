@@ -42,6 +42,8 @@ fn read_places<R: Arm>(
     requires places { selected_places snap.now.schema.columns text.now.columns ≡ Ok places.now }
     requires rows { rows ≡ rows_kept snap.now.parts.items }
     requires few { rows < 2 ^ 32 }
+
+    // What is answered, and why.
     ensures answers { (kept : Told) (store : CoreStore R.Dir)
         → CoreStands R.Dir.files (history kept) store → IsSnapOf store text.now.table snap.now
         → IfOk result (λ reply. Selected kept text.now (R.failed arm.new) store.opened reply) }
@@ -51,6 +53,8 @@ fn read_places<R: Arm>(
         → TellsOfDamage R.Dir.files snap.now text.now reply) }
     ensures causes { (opened disk : ℕ) → IfOk result
         (HasCauses opened disk disk (R.failed arm.old) (R.failed arm.new)) }
+
+    // What the arm is then, and its count of faults.
     ensures tells { R.tells arm.new ≡ R.tells arm.old }
     ensures later { R.failed arm.old ≤ R.failed arm.new }
     ensures memory { OnErr result (R.failed arm.new ≡ R.failed arm.old) }
@@ -77,6 +81,8 @@ pub fn scan<R: Arm>(
     text: &SelectText,
 ) -> Result<Reply, NoMemory>
     requires { IsTableSchema snap.now.schema }
+
+    // What is answered, and why.
     ensures answers { (kept : Told) (store : CoreStore R.Dir)
         → CoreStands R.Dir.files (history kept) store → IsSnapOf store text.now.table snap.now
         → IfOk result (λ reply. Selected kept text.now (R.failed arm.new) store.opened reply) }
@@ -86,6 +92,8 @@ pub fn scan<R: Arm>(
         → TellsOfDamage R.Dir.files snap.now text.now reply) }
     ensures causes { (opened disk : ℕ) → IfOk result
         (HasCauses opened disk disk (R.failed arm.old) (R.failed arm.new)) }
+
+    // What the arm is then, and its count of faults.
     ensures tells { R.tells arm.new ≡ R.tells arm.old }
     ensures later { R.failed arm.old ≤ R.failed arm.new }
     ensures memory { OnErr result (R.failed arm.new ≡ R.failed arm.old) }

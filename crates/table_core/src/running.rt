@@ -20,10 +20,13 @@ pub struct Done {
 /// `NoMemory` where an allocation failed.
 pub fn run(alloc: Global, events: Vec<Event>) -> Result<Done, NoMemory>
     requires { MayRun empty_core events.items }
-    ensures run { IfOk result (λ done. Runs empty_core events.items done.outcomes.items done.state) }
+    ensures run { IfOk result
+        (λ done. Runs empty_core events.items done.outcomes.items done.state) }
     ensures core { IfOk result (λ done. IsCore done.state) }
     ensures read { IfOk result
         (λ done. TellsLeft empty_core events.items done.outcomes.items done.state) }
+
+    // What snapshots and histories are.
     ensures taken { IfOk result (λ done. TellsSnapshots empty_core events.items done.outcomes.items
         done.state) }
     ensures known { IfOk result (λ done. KnowsSnapshots empty_core events.items done.outcomes.items

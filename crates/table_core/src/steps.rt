@@ -22,7 +22,8 @@ use std::alloc::Global;
 pub fn happen(alloc: Global, store: &mut Store, event: Event) -> Result<Outcome, NoMemory>
     requires store { IsStore store.old }
     requires may { MayCome store.old.entries.items event }
-    ensures gives { IfOk result (λ given. GivesOutcome (core_of store.old) event given (core_of store.new)) }
+    ensures gives { IfOk result (λ given. GivesOutcome (core_of store.old) event given
+        (core_of store.new)) }
     ensures err { OnErr result (core_of store.new ≡ core_of store.old) }
     ensures store { IsStore store.new }
 {
@@ -192,7 +193,8 @@ fn take_snapshot(alloc: Global, store: &mut Store, table: Name) -> Result<Outcom
 
 /// The rows of a snapshot, unless there is no such snapshot.
 fn read_snapshot(alloc: Global, store: &Store, number: usize) -> Result<Outcome, NoMemory>
-    ensures { IfOk result (λ given. ReadGives (core_of store.now) number given (core_of store.now)) }
+    ensures { IfOk result (λ given. ReadGives (core_of store.now) number given
+        (core_of store.now)) }
 {
     let Some(snapshot) = store.snapshots.get(number) else {
         return Ok(Outcome::Refused(Guard::NoSnapshot));

@@ -40,7 +40,8 @@ pub fn read_row(
     text: &[u8],
     line: usize,
 ) -> Result<Row, Stop<RowFault>>
-    ensures row { IfOk result (λ row. row_of_line (column_types schema.now) line text.now ≡ Ok row) }
+    ensures row { IfOk result
+        (λ row. row_of_line (column_types schema.now) line text.now ≡ Ok row) }
     ensures refused { IfErr result (Refuses (row_of_line (column_types schema.now) line text.now)) }
     ensures values { IfOk result (All IsValue) }
 {
