@@ -1,4 +1,4 @@
--- What the answer to a statement does to what the annals list and to the open root (docs/definitions.md, "Statements taken").
+-- What the answer to a statement does to what the annals list and to the open root (docs/definitions-of-runs.md, "Statements taken").
 use Rattle.std.specs.Prelude.{◌≡◌, ◌⊎◌, ◌<◌, ℕ, true, false, List, [], ◌∷◌, ◌++◌, length, All, Option, None, Some, Result, Ok, MatchResult}
 use Rattle.mt_values.specs.declared.annals.Noted.{Noted}
 use Rattle.mt_values.specs.declared.command.Command.{Command}
