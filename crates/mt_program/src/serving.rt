@@ -44,7 +44,8 @@ fn read_next(
 ) -> Result<Option<(Result<Statement, Cause>, usize)>, NoMemory>
     ensures found { IfOk result (λ found. next_statement script.now ≡ option_map
         (λ f. (f.0, drop f.1 script.now)) found) }
-    ensures used { IfOk result (λ found. IfSome found (λ f. (0 < f.1) × (f.1 ≤ length script.now))) }
+    ensures used { IfOk result (λ found. IfSome found
+        (λ f. (0 < f.1) × (f.1 ≤ length script.now))) }
 {
     match next_statement(alloc, script, true) {
         Next::Found(statement, used) => Ok(Some((Ok(statement), used))),

@@ -283,6 +283,7 @@ fn run_root<D: Disk, A: Annals, S: Source, K: Sink, G: Gate>(
 /// `DiskFault` where a call failed, or where the disk's count of faults stood at its type's end before; `NoMemory` where an
 /// allocation failed. What the disk tells is as it was.
 fn started_arm<D: Disk>(alloc: Global, path: &str, disk: &mut D) -> Result<D::Arm, Status>
+    // What is answered, and what the disk tells then.
     ensures tells { IfOk result (λ arm. D.Arm.tells arm ≡ is_some (D.told disk.old)) }
     ensures status { IfErr result
         (λ status. (status ≡ Status.DiskFault) ⊎ (status ≡ Status.NoMemory)) }

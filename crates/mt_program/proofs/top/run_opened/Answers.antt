@@ -15,7 +15,7 @@ use Rattle.mt_program.specs.declared.status.Status.{Status}
 use Rattle.mt_program.specs.declared.status.Status.TheVariants as status
 use Rattle.replies.proofs.Counting.{risen_back, some_rose}
 use Rattle.root_store.specs.Crashes.{AllStand}
-use Rattle.root_store.proofs.CrashMarks.{safe_at_start, safe_opened}
+use Rattle.root_store.proofs.CrashMarks.{safe_opened}
 use Rattle.mt_program.specs.Crashes.{LeavesOfScript}
 use Rattle.mt_program.proofs.Crashing.{left_moved, nothing_of_script}
 use Rattle.mt_program.proofs.Heading.{answered_calm, answered_served, by_status, disk_fault, early_not_told, early_same, ended_early, failed_is, leaves_all, none_answered, none_ran, not_damaged, not_words, output_of, read_fault, root_told, told_fault, too_long, unopened_early, unopened_undamaged, write_fault}

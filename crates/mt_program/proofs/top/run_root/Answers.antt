@@ -1,4 +1,4 @@
-use Rattle.std.proofs.Common.{◌∙◌, ◌+◌, ◌≤◌, ℕ, ap, arith, subst, refl, sym, inl, inr}
+use Rattle.std.proofs.Common.{◌∙◌, ◌+◌, ℕ, ap, arith, subst, refl, sym, inl, inr}
 use Rattle.mt_outside.specs.Disk.{names_of}
 use Rattle.replies.specs.Foreseen.{history}
 use Rattle.root_commits.specs.Turns.{storage}
