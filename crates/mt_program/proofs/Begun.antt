@@ -1,5 +1,5 @@
 -- What is begun after one statement more, by the replies of those before it.
-use Rattle.std.proofs.Common.{◌≡◌, ◌⊎◌, inl, inr, ◌+◌, ◌<◌, ◌≤◌, ◌++◌, ◌∷◌, ℕ, List, [], length, map, take, get_or, Some, None, true, ap, sym, refl, subst, ◌∙◌, suc, append-nil, append_assoc, length-append, arith}
+use Rattle.std.proofs.Common.{◌≡◌, inl, inr, ◌+◌, ◌<◌, ◌≤◌, ◌++◌, ◌∷◌, ℕ, List, [], length, map, take, get_or, Some, None, true, ap, sym, refl, subst, ◌∙◌, suc, append-nil, append_assoc, length-append, arith}
 use Rattle.std.specs.List.{slice_get}
 use Rattle.std.proofs.lemmas.List.{get_or_append_left, take-append-le}
 use Rattle.std.proofs.lemmas.Option.{get_or_from_slice_get, slice_get-get_or, slice_get_within}
@@ -12,7 +12,7 @@ use Rattle.mt_model.specs.Outside.{Outside}
 use Rattle.mt_model.specs.Session.{IsNextCommand, SessionReplies}
 use Rattle.replies.specs.Foreseen.{history, is_unsettled}
 use Rattle.replies.proofs.Ends.{length_history}
-use Rattle.session.specs.Answers.{BeginsNext, IsBegun}
+use Rattle.session.specs.Answers.{IsBegun}
 use Rattle.mt_program.specs.Courses.{Course, IsBegunBy, IsNextOf, Item, course_of, started}
 use Rattle.mt_program.proofs.Gaining.{next_of}
 
@@ -88,7 +88,7 @@ module _ (n : Outside) (first old now : Told) (ran : List Item) (replies : List 
     begun_still same size grown (inr (inr (c, is, of))) = inr (inr (c, same ∙ is, next_still grown c of))
 
   -- it had a reply
-  pub begun_answered : (more : List Noted) → now.list ≡ old.list ++ more → length first.list ≤ length old.list → (reply : List ℕ) → IsBegun old now s reply → IsBegunBy n first old (course_of ran replies None)
+  pub begun_answered : (more : List Noted) → now.list ≡ old.list ++ more → length first.list ≤ length old.list → (reply : List ℕ) → IsBegun old now s (is_unsettled reply ≡ true) → IsBegunBy n first old (course_of ran replies None)
       → IsBegunBy n first now (course_of (ran ++ s ∷ []) (replies ++ reply ∷ []) None)
   begun_answered more is low reply (inl same) was =
       begun_still (course_of (ran ++ s ∷ []) (replies ++ reply ∷ []) None) (reply ∷ []) refl refl same.0 same.1 (same_history old now more is same.1) was
@@ -101,12 +101,14 @@ module _ (n : Outside) (first old now : Told) (ran : List Item) (replies : List 
   ))
 
   -- it had none
-  pub begun_unanswered : now.list ≡ old.list → (now.begun ≡ old.begun) ⊎ BeginsNext old now s [] → IsBegunBy n first old (course_of ran replies None) → IsBegunBy n first now (course_of ran replies (Some s))
-  begun_unanswered is (inl same) was =
-      begun_still (course_of ran replies (Some s)) [] refl (sym (append-nil replies)) same (ap length is) (ap (map (λ (n : Noted). n.entry)) is) was
-  begun_unanswered is (inr b) was = inr (inr (
+  pub begun_unanswered : (more : List Noted) → now.list ≡ old.list ++ more → length first.list ≤ length old.list → IsBegun old now s (Unit {0}) → IsBegunBy n first old (course_of ran replies None)
+      → IsBegunBy n first now (course_of ran replies (Some s))
+  begun_unanswered more is low (inl same) was =
+      begun_still (course_of ran replies (Some s)) [] refl (sym (append-nil replies)) same.0 same.1 (same_history old now more is same.1) was
+  begun_unanswered more is low (inr (inl none)) was = let high = none.1 in inr (inl (none.0, omega (arith, low, high)))
+  begun_unanswered more is low (inr (inr (any, done, b))) was = inr (inr (
     b.next,
     b.begun,
-    next_here (course_of ran replies (Some s)) [] refl (sym (append-nil replies)) b.next (next_of old now s [] b)
+    next_here (course_of ran replies (Some s)) [] refl (sym (append-nil replies)) b.next (next_of old now s done b)
         (λ r there. let within = slice_get_within replies (length ran) r there in absurd (omega (arith, within, count))),
   ))

@@ -1,5 +1,5 @@
 -- What is left for a crash, from opening to the end of a run.
-use Rattle.std.proofs.Common.{◌≡◌, ◌++◌, ◌∷◌, ℕ, List, [], Option, Some, None, refl, sym, ◌∙◌, subst, ap, append_assoc}
+use Rattle.std.proofs.Common.{◌≡◌, ◌++◌, ◌∷◌, ℕ, List, [], Option, Some, None, refl, sym, ◌∙◌, subst, ap, append_assoc, arith}
 use Rattle.mt_values.specs.Annals.{Told}
 use Rattle.mt_values.specs.Script.{statements_of}
 use Rattle.mt_outside.specs.Disk as root
@@ -12,6 +12,7 @@ use Rattle.root_store.proofs.CrashMarks.{safe_begun, some_one}
 use Rattle.mt_program.specs.Crashes.{IsGainedBy, LeavesForCrashes, LeavesOfScript}
 use Rattle.mt_program.specs.Courses.{Item}
 use Rattle.mt_program.proofs.Gaining.{gained_more, gained_nothing}
+use Rattle.shared_store.specs.Engines.{GoesOn, IsOpen, Opened}
 
 -- the bytes that are told
 abbrev told_or_none : Option (List ℕ) → List ℕ
@@ -87,3 +88,16 @@ left_moved {first = first} {start = start} was now disk mark list back left = re
     gained = subst (λ (a : Option Told). IsGainedBy (statements_of left.text) a first) (sym list) left.leaves.gained;
   };
 }
+
+-- ---- a root that goes on
+
+-- nothing was done
+pub stays_open : {F : Type 0} (root : Opened F) → IsOpen root → GoesOn root root
+stays_open root ready = record { found = ready; left = ready; opened = refl; started = refl; later = omega arith }
+
+-- a turn after turns
+pub goes_further : {F : Type 0} (was now later : Opened F) → GoesOn was now → GoesOn now later → GoesOn was later
+goes_further was now later first next =
+    let low = first.later in
+    let high = next.later in
+    record { found = first.found; left = next.left; opened = next.opened ∙ first.opened; started = next.started ∙ first.started; later = omega (arith, low, high) }

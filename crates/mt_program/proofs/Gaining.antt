@@ -1,5 +1,5 @@
 -- What annals gained by statements, and gain by one more.
-use Rattle.std.proofs.Common.{◌≡◌, ◌⊎◌, inl, inr, ◌+◌, ◌-◌, ◌<◌, ◌≤◌, ◌^◌, ◌++◌, ◌∷◌, ℕ, List, [], length, Option, Some, None, Ok, Err, ap, sym, refl, subst, ◌∙◌, append-nil, append_assoc, arith, map}
+use Rattle.std.proofs.Common.{◌≡◌, ◌⊎◌, inl, inr, ◌+◌, ◌-◌, ◌<◌, ◌≤◌, ◌^◌, ◌++◌, ◌∷◌, ℕ, List, [], length, Option, Some, None, Ok, Err, true, ap, sym, refl, subst, ◌∙◌, append-nil, append_assoc, arith, map}
 use Rattle.std.proofs.lemmas.List.{map-append}
 use Rattle.std.proofs.lemmas.List.Elements.{All-append, All-nil}
 use Rattle.std.proofs.lemmas.Bool.{cases_lt}
@@ -7,7 +7,6 @@ use Rattle.std.specs.List.{All}
 use Rattle.mt_values.specs.declared.annals.Noted.{Noted}
 use Rattle.mt_values.specs.declared.command.Command.{Command}
 use Rattle.mt_values.specs.Annals.{Told}
-use Rattle.mt_outside.specs.Disk as root
 use Rattle.mt_outside.specs.Files.{Files}
 use Rattle.mt_model.specs.History.{History}
 use Rattle.mt_model.specs.Outside.{Outside}
@@ -15,12 +14,11 @@ use Rattle.mt_model.specs.Session.{IsNextCommand, SessionGives, Unanswered}
 use Rattle.mt_model.proofs.Gained.{gives_append, gives_more, next_more, takes_give}
 use Rattle.mt_model.proofs.Growing.{stays}
 use Rattle.durable_commit.specs.Commits.{entry_of}
-use Rattle.replies.specs.Foreseen.{Foresees, history}
+use Rattle.replies.specs.Foreseen.{Foresees, history, is_unsettled}
 use Rattle.replies.proofs.Ends.{length_history}
-use Rattle.root_store.specs.declared.store.CoreStore.{CoreStore}
 use Rattle.root_store.specs.Crashes.{StandsForKept}
-use Rattle.root_store.specs.Stores.{CoreStands}
-use Rattle.session.specs.Answers.{Answered, BeginsNext, IsBegun, EndsUnanswered}
+use Rattle.session.specs.Answers.{Answered, BeginsNext, EndsUnanswered, IsBegun, Knows, Turned}
+use Rattle.shared_store.specs.Engines.{Opened}
 use Rattle.mt_program.specs.Crashes.{IsGainedBy, MayBeBegunBy, MayBeNextOf}
 use Rattle.mt_program.specs.Courses.{Item}
 
@@ -29,7 +27,7 @@ entries list = map (λ (n : Noted). n.entry) list
 
 -- ---- statements that did not run
 
-pub idle : (h : History) (s : Item) (to : ℕ) → to ≤ length h → Unanswered h 0 s to to
+idle : (h : History) (s : Item) (to : ℕ) → to ≤ length h → Unanswered h 0 s to to
 idle h (Ok said) to le = inl (stays h 0 to le)
 idle h (Err why) to le = stays h 0 to le
 
@@ -75,39 +73,28 @@ foreseen : (opened disk arm : ℕ) → Foresees opened disk arm (far opened disk
 unfolding far
 foreseen opened disk arm = record { opened_is = refl; later = omega arith; risen = λ some. omega arith }
 
+-- what is begun by a statement, whether it was answered or not
+begun_by : (old now : Told) (s : Item) (only : Type 0) → IsBegun old now s only
+    → ((now.begun ≡ old.begun) × (length now.list ≡ length old.list)) ⊎ (now.begun ≡ None) ⊎ ((c : Command) × (now.begun ≡ Some (entry_of 0 c)) × IsNextCommand (history now) 0 s (length old.list) (length now.list) c)
+begun_by old now s only (inl same) = inl same
+begun_by old now s only (inr (inl none)) = inr (inl none.0)
+begun_by old now s only (inr (inr (holds, done, b))) = inr (inr (b.next, b.begun, next_of old now s done b))
+
 -- a statement that was answered
-pub stepped_answered : {F : Type 0} (files_of : F → Option Files) (old : Told) (s : Item) (opened disk arm : ℕ) (reply : List ℕ) (store : CoreStore F) (told : Option Told) (root_before now_root : Option root.Told)
-    → (a : Answered files_of old s opened disk arm reply store told root_before now_root) → Stepped old a.now s
-stepped_answered files_of old s opened disk arm reply store told root_before now_root a = record {
-  more = a.more;
-  list_is = a.list_is;
-  sessions = a.sessions;
-  gives = takes_give (far opened disk) (history a.now) 0 s (length old.list) (length a.now.list) reply (a.takes (far opened disk) (foreseen opened disk arm));
-  begun = by a.begun;
-}
-  where
-    by : IsBegun old a.now s reply
-        → ((a.now.begun ≡ old.begun) × (length a.now.list ≡ length old.list)) ⊎ (a.now.begun ≡ None) ⊎ ((c : Command) × (a.now.begun ≡ Some (entry_of 0 c)) × IsNextCommand (history a.now) 0 s (length old.list) (length a.now.list) c)
-    by (inl same) = inl same
-    by (inr (inl none)) = inr (inl none.0)
-    by (inr (inr (failed, done, b))) = inr (inr (b.next, b.begun, next_of old a.now s done b))
+pub stepped_answered : {F : Type 0} (files_of : F → Option Files) (old : Told) (s : Item) (t : Turned F) (reply : List ℕ) (a : Answered files_of old s t reply) → Stepped old a.now s
+stepped_answered files_of old s t reply a =
+    let outside = far t.was.store.opened t.now.storage.failed in
+    record {
+      more = a.more;
+      list_is = a.list_is;
+      sessions = a.sessions;
+      gives = takes_give outside (history a.now) 0 s (length old.list) (length a.now.list) reply (a.takes outside (foreseen t.was.store.opened t.now.storage.failed t.arm));
+      begun = begun_by old a.now s (is_unsettled reply ≡ true) a.begun;
+    }
 
 -- and one that has no reply
-pub stepped_keeps : (old : Told) (s : Item) (told : Option Told) (root_before now_root : Option root.Told) (k : EndsUnanswered old s told root_before now_root) → Stepped old k.now s
-stepped_keeps old s told root_before now_root k =
-    let size : length k.now.list ≡ length old.list = ap length k.list_is in
-    record {
-      more = [];
-      list_is = k.list_is ∙ sym (append-nil old.list);
-      sessions = All-nil (λ (n : Noted). n.entry.session ≡ 0);
-      gives = subst (λ (m : ℕ). Unanswered (history k.now) 0 s m (length k.now.list)) size (idle (history k.now) s (length k.now.list) (omega (arith, length_history k.now)));
-      begun = by k.begun;
-    }
-  where
-    by : (k.now.begun ≡ old.begun) ⊎ BeginsNext old k.now s []
-        → ((k.now.begun ≡ old.begun) × (length k.now.list ≡ length old.list)) ⊎ (k.now.begun ≡ None) ⊎ ((c : Command) × (k.now.begun ≡ Some (entry_of 0 c)) × IsNextCommand (history k.now) 0 s (length old.list) (length k.now.list) c)
-    by (inl same) = inl (same, ap length k.list_is)
-    by (inr b) = inr (inr (b.next, b.begun, next_of old k.now s [] b))
+pub stepped_unanswered : {F : Type 0} (files_of : F → Option Files) (old : Told) (s : Item) (t : Turned F) (k : EndsUnanswered files_of old s t) → Stepped old k.now s
+stepped_unanswered files_of old s t k = record { more = k.more; list_is = k.list_is; sessions = k.sessions; gives = k.gives; begun = begun_by old k.now s (Unit {0}) k.begun }
 
 -- and one after which the annals are as they were
 stepped_same : (old : Told) (s : Item) → Stepped old old s
@@ -187,8 +174,8 @@ gained_more first ran rest annals was = record {
   begun = may_begin_more first was.now ran rest was.begun;
 }
 
-module _ (ran : List Item) (s : Item) (old new : Option Told) (first : Told) (was : IsGainedBy ran old first) where
-  gained_step : (now : Told) → new ≡ Some now → Stepped was.now now s → IsGainedBy (ran ++ s ∷ []) new first
+module _ {F : Type 0} (files_of : F → Option Files) (before after : Opened F) (ran : List Item) (s : Item) (first : Told) (was : IsGainedBy ran before.storage.annals first) where
+  gained_step : (now : Told) → after.storage.annals ≡ Some now → Stepped was.now now s → IsGainedBy (ran ++ s ∷ []) after.storage.annals first
   gained_step now is step = record {
     now = now;
     annals_is = is;
@@ -199,14 +186,14 @@ module _ (ran : List Item) (s : Item) (old new : Option Told) (first : Told) (wa
     begun = may_begin_step first was.now now ran s step was.gives was.begun;
   }
 
-  -- One statement more ran over a store, which stands for the list as long as the disk's count is the one at opening; above it nothing is accepted.
-  pub gained_one : {F : Type 0} (files_of : F → Option Files) (opened failed : ℕ) (store : CoreStore F) → opened ≤ failed → (failed ≡ opened → StandsForKept files_of old store)
-      → ((kept : Told) → old ≡ Some kept → CoreStands files_of (history kept) store → (now : Told) × (new ≡ Some now) × Stepped kept now s)
-      → (opened < failed → new ≡ old) → IsGainedBy (ran ++ s ∷ []) new first
-  gained_one files_of opened failed store low stands steps still = elim (cases_lt opened failed) [
+  -- One statement more ran over an open root, whose store stands for the list as long as the disk's count is the one at opening; above it nothing is accepted.
+  pub gained_one : before.store.opened ≤ before.storage.failed → (before.storage.failed ≡ before.store.opened → StandsForKept files_of before.storage.annals before.store)
+      → ((kept : Told) → Knows files_of kept before → (now : Told) × (after.storage.annals ≡ Some now) × Stepped kept now s)
+      → (before.store.opened < before.storage.failed → after.storage.annals ≡ before.storage.annals) → IsGainedBy (ran ++ s ∷ []) after.storage.annals first
+  gained_one low stands steps still = elim (cases_lt before.store.opened before.storage.failed) [
     | inl risen ↦ gained_step was.now (still risen ∙ was.annals_is) (stepped_same was.now s)
     | inr calm ↦ (
-        let same : failed ≡ opened = omega (arith, low, calm) in
-        let step = steps was.now was.annals_is (stands same was.now was.annals_is) in
+        let same : before.storage.failed ≡ before.store.opened = omega (arith, low, calm) in
+        let step = steps was.now (record { told_is = was.annals_is; stands = stands same was.now was.annals_is }) in
         gained_step step.0 step.1 step.2)
   ]

@@ -11,8 +11,6 @@ use Rattle.mt_values.specs.declared.command.Entry.{Entry}
 use Rattle.mt_values.specs.Annals.{Told}
 use Rattle.mt_values.specs.Script.{statements_of}
 use Rattle.mt_outside.specs.Disk as root
-use Rattle.mt_outside.specs.declared.disk.DiskError.{DiskError}
-use Rattle.mt_outside.specs.declared.disk.DiskError.TheVariants as failure
 use Rattle.mt_model.specs.History.{History, IsLegal}
 use Rattle.mt_model.specs.Outside.{Outside}
 use Rattle.mt_model.specs.Script.{OwnEntries}
@@ -24,13 +22,13 @@ use Rattle.mt_program.specs.declared.serving.Ending.TheVariants as ending
 use Rattle.replies.specs.declared.tally.Tally.{Tally}
 use Rattle.mt_program.specs.declared.status.Status.{Status}
 use Rattle.mt_program.specs.declared.status.Status.TheVariants as status
-use Rattle.replies.specs.Foreseen.{Foresees, history}
-use Rattle.mt_program.specs.Endings.{IsAnswered, IsEarly, LeftBy, MetNoDamage, settled, status_of, status_of_error, status_of_stop}
+use Rattle.replies.specs.Foreseen.{history}
+use Rattle.mt_program.specs.Endings.{IsAnswered, IsEarly, LeftBy, MetNoDamage, settled, status_of, status_of_stop}
 use Rattle.mt_program.specs.Headline.{AnsweredAll, AnsweredRead, EndsBy, Headline, NothingRan}
 use Rattle.mt_program.specs.Worlds.{Starts, World, counts_of}
 use Rattle.mt_program.specs.Statuses.{status_number}
-use Rattle.mt_program.specs.Courses.{Course, GoesUnanswered, Item, RunOf, course_of}
-use Rattle.mt_program.specs.Serving.{Ran, ServedBy}
+use Rattle.mt_program.specs.Courses.{Course, RunOf, course_of}
+use Rattle.mt_program.specs.Serving.{MayComeTo, Output, Ran, ServedBy, Stretch}
 use Rattle.root_opening.specs.declared.opening.Damage.{Damage}
 use Rattle.root_opening.specs.declared.opening.OpenFault.{OpenFault}
 use Rattle.root_opening.specs.declared.opening.OpenFault.TheVariants as fault
@@ -40,7 +38,6 @@ use Rattle.root_store.specs.Roots.{Stands}
 use Rattle.root_store.specs.Soundness.{RootStands}
 use Rattle.mt_program.specs.Damage.{WritesDamage, WritesFault, damage_line}
 use Rattle.replies.proofs.Ends.{added_nothing, length_history}
-use Rattle.mt_program.proofs.Gaining.{idle}
 use Rattle.mt_program.proofs.ServedScripts.{none_stopped}
 
 known_after : (b xs : List ℕ) (before after : Option (List ℕ)) → before ≡ Some b → Appends before after xs → after ≡ Some (b ++ xs)
@@ -59,32 +56,26 @@ abbrev of_flags : Bool → Bool → Bool → Status
 of_flags damaged risen refused = if damaged then status.Damaged else if risen then status.DiskFault else if refused then status.Refused else status.Done
 
 -- the entries after what was told are session 0's
-own_entries : (kept : Told) (opened disk arm : ℕ) (done : List Item) (replies : List (List ℕ)) (told : Option Told) → (r : Ran kept opened disk arm done replies told) → OwnEntries (history r.now) (length kept.list)
-own_entries kept opened disk arm done replies told r =
+own_entries : (kept : Told) (s : Stretch) (course : Course) (r : Ran kept s course) → OwnEntries (history r.now) (length kept.list)
+own_entries kept s course r =
     let entries = λ (n : Noted). n.entry in
     let all : history r.now ≡ history kept ++ map entries r.more = ap (map entries) r.list_is ∙ map-append entries kept.list r.more in
-    let behind : drop (length kept.list) (history r.now) ≡ map entries r.more =
+    let after : drop (length kept.list) (history r.now) ≡ map entries r.more =
     ap (drop (length kept.list)) all ∙ (ap (λ n. drop n (history kept ++ map entries r.more)) (sym (length_history kept)) ∙ drop-append_seam (history kept) (map entries r.more)) in
-    subst (All (λ (e : Entry). e.session ≡ 0)) (sym behind) (All-map (λ (e : Entry). e.session ≡ 0) entries r.more r.sessions)
+    subst (All (λ (e : Entry). e.session ≡ 0)) (sym after) (All-map (λ (e : Entry). e.session ≡ 0) entries r.more r.sessions)
 
 abbrev pub none_answered : Course
 none_answered = course_of [] [] None
 
--- a statement that added nothing, or none
-goes_nowhere : (h : History) (last : Option Item) (to : ℕ) → to ≤ length h → GoesUnanswered h last to to
-goes_nowhere h None to le = refl
-goes_nowhere h (Some st) to le = idle h st to le
-
 -- what ran, at counts that were foreseen
-run_of : (n : Outside) (kept : Told) (opened disk arm : ℕ) (done : List Item) (replies : List (List ℕ)) (last : Option Item) (told : Option Told) → Foresees opened disk arm n → (r : Ran kept opened disk arm done replies told)
-    → RunOf n (history r.now) (length kept.list) (course_of done replies last)
-run_of n kept opened disk arm done replies last told f r = record {
-  place = length r.now.list;
+run_of : (n : Outside) (kept : Told) (s : Stretch) (course : Course) → MayComeTo s n → (r : Ran kept s course) → RunOf n (history r.now) (length kept.list) course
+run_of n kept s course f r = record {
+  place = r.place;
   each = r.run n f;
   stop = length r.now.list;
-  last = goes_nowhere (history r.now) last (length r.now.list) (omega (arith, length_history r.now));
+  last = r.last;
   nothing_else = subst (λ (m : ℕ). AddsNothing (history r.now) 0 (length r.now.list) m) (sym (length_history r.now)) (added_nothing r.now);
-  sessions = own_entries kept opened disk arm done replies told r;
+  sessions = own_entries kept s course r;
   stopped = r.stopped n f;
 }
 
@@ -160,66 +151,69 @@ early_same before after kept script written starts same ended is sound =
     early_leaves before after kept script written starts.stands.legal (same.2 ∙ starts.annals_is) (same.4 ∙ starts.sink_is) (root_told after.storage.disk starts.told (history kept) (same.0 ∙ starts.disk_is) starts.stands)
     ended is sound (λ fault. none_ran before after same)
 
+-- what was written to the sink
+abbrev pub output_of : World → World → Output
+output_of before after = record { before = before.sink; after = after.sink }
+
 -- the script was served
-module _ (before after : World) (kept : Told) (script written : List ℕ) (opened disk arm : ℕ) (f : Foresees opened disk arm (counts_of before after)) (is : before.sink ≡ Some written) where
+module _ (before after : World) (kept : Told) (script written : List ℕ) (s : Stretch) (f : MayComeTo s (counts_of before after))
+    (annals_is : after.storage.annals ≡ s.now.annals) (disk_is : after.storage.disk ≡ s.now.disk) (is : before.sink ≡ Some written) where
   -- what ran is left, and what was written
-  left : (how : Ending) (ended : Status) (s : ServedBy how kept script opened disk arm after.storage.annals after.storage.disk before.sink after.sink)
-      → EndsBy ended before after script (course_of s.done s.replies s.unanswered) s.rest s.out → Headline ended before after kept script written
-  left how ended s ends = record {
-    now = s.ran.now;
-    annals_is = s.ran.told_is;
-    more = s.ran.more;
-    begins = s.ran.list_is;
-    legal = s.ran.legal;
-    course = course_of s.done s.replies s.unanswered;
-    rest = s.rest;
-    split = s.split;
-    ran = run_of (counts_of before after) kept opened disk arm s.done s.replies s.unanswered after.storage.annals f s.ran;
-    begun = s.begun (counts_of before after) f;
-    out = s.out;
-    sink_is = known_after written s.out before.sink after.sink is s.wrote;
+  left : (how : Ending) (ended : Status) (by : ServedBy how kept script s (output_of before after)) → EndsBy ended before after script by.course by.rest by.out → Headline ended before after kept script written
+  left how ended by ends = record {
+    now = by.ran.now;
+    annals_is = annals_is ∙ by.ran.told_is;
+    more = by.ran.more;
+    begins = by.ran.list_is;
+    legal = by.ran.legal;
+    course = by.course;
+    rest = by.rest;
+    split = by.split;
+    ran = run_of (counts_of before after) kept s by.course f by.ran;
+    begun = by.ran.begun (counts_of before after) f;
+    out = by.out;
+    sink_is = known_after written by.out before.sink after.sink is by.wrote;
     ends = ends;
-    settled = s.settled;
+    settled = λ none. subst (λ (o : Option root.Told). RootStands o (history by.ran.now)) (sym disk_is) (by.ran.settled none);
   }
 
   all_answered : (tally : Tally) (refused : Bool) → tally.refused ≡ refused → tally.damaged ≡ false → (length script < 2 ^ 40) × (after.source ≡ Some [])
-      → (s : ServedBy (ending.Done tally) kept script opened disk arm after.storage.annals after.storage.disk before.sink after.sink) → AnsweredAll refused after.source script (course_of s.done s.replies s.unanswered) s.rest s.out
-  all_answered tally refused which sound whole s = record {
-    all = s.stops.1;
-    answered = s.stops.0;
-    out_is = s.stops.3;
-    says = record { refusals = sym which ∙ s.stops.2.refusals; damages = sym sound ∙ s.stops.2.damages };
+      → (by : ServedBy (ending.Done tally) kept script s (output_of before after)) → AnsweredAll refused after.source script by.course by.rest by.out
+  all_answered tally refused which sound whole by = record {
+    all = by.stops.1;
+    answered = by.stops.0;
+    out_is = by.stops.3;
+    says = record { refusals = sym which ∙ by.stops.2.refusals; damages = sym sound ∙ by.stops.2.damages };
     short = whole.0;
     read = whole.1;
   }
 
-  leaves_done : (tally : Tally) (risen : Bool) → tally.damaged ≡ false → (length script < 2 ^ 40) × (after.source ≡ Some [])
-      → ServedBy (ending.Done tally) kept script opened disk arm after.storage.annals after.storage.disk before.sink after.sink → Headline (settled tally risen) before after kept script written
-  leaves_done tally risen sound whole s = subst (λ (d : Bool). Headline (of_flags d risen tally.refused) before after kept script written) (sym sound) (by risen tally.refused refl)
+  leaves_done : (tally : Tally) (risen : Bool) → tally.damaged ≡ false → (length script < 2 ^ 40) × (after.source ≡ Some []) → ServedBy (ending.Done tally) kept script s (output_of before after)
+      → Headline (settled tally risen) before after kept script written
+  leaves_done tally risen sound whole by = subst (λ (d : Bool). Headline (of_flags d risen tally.refused) before after kept script written) (sym sound) (by_flags risen tally.refused refl)
     where
-      by : (risen refused : Bool) → tally.refused ≡ refused → Headline (of_flags false risen refused) before after kept script written
-      by true refused which = left (ending.Done tally) status.DiskFault s (inl (refused, all_answered tally refused which sound whole s))
-      by false true which = left (ending.Done tally) status.Refused s (all_answered tally true which sound whole s)
-      by false false which = left (ending.Done tally) status.Done s (all_answered tally false which sound whole s)
+      by_flags : (risen refused : Bool) → tally.refused ≡ refused → Headline (of_flags false risen refused) before after kept script written
+      by_flags true refused which = left (ending.Done tally) status.DiskFault by (inl (refused, all_answered tally refused which sound whole by))
+      by_flags false true which = left (ending.Done tally) status.Refused by (all_answered tally true which sound whole by)
+      by_flags false false which = left (ending.Done tally) status.Done by (all_answered tally false which sound whole by)
 
-  pub leaves_all : (was_root : Option root.Told) (risen : Bool) (ended : Result Ending Status) → IsLegal (history kept) → RootStands was_root (history kept) → MetNoDamage ended → IfErr ended IsEarly
-      → OnOk ended ((length script < 2 ^ 40) × (after.source ≡ Some [])) → (ended ≡ Err status.DiskFault → NothingRan before after none_answered)
-      → LeftBy ended kept script opened disk arm after.storage.annals was_root after.storage.disk before.sink after.sink → Headline (status_of risen ended) before after kept script written
-  leaves_all was_root risen (Ok (ending.Done tally)) legal stands sound first whole same s = leaves_done tally risen sound whole s
-  leaves_all was_root risen (Ok ending.NoMemory) legal stands sound first whole same s = left ending.NoMemory status.NoMemory s s.stops
-  leaves_all was_root risen (Ok ending.WriteFault) legal stands sound first whole same s = left ending.WriteFault status.WriteFault s s.stops
-  leaves_all was_root risen (Err ended) legal stands sound first whole same s =
-      early_leaves before after kept script written legal s.0 (s.1 ∙ is) (subst (λ (o : Option root.Told). RootStands o (history kept)) (sym s.2) stands) ended first sound (λ fault. same (ap Err fault))
+  pub leaves_all : (risen : Bool) (ended : Result Ending Status) → IsLegal (history kept) → RootStands s.root (history kept) → MetNoDamage ended → IfErr ended IsEarly → OnOk ended ((length script < 2 ^ 40) × (after.source ≡ Some []))
+      → (ended ≡ Err status.DiskFault → NothingRan before after none_answered) → LeftBy ended kept script s (output_of before after) → Headline (status_of risen ended) before after kept script written
+  leaves_all risen (Ok (ending.Done tally)) legal stands sound first whole same by = leaves_done tally risen sound whole by
+  leaves_all risen (Ok ending.NoMemory) legal stands sound first whole same by = left ending.NoMemory status.NoMemory by by.stops
+  leaves_all risen (Ok ending.WriteFault) legal stands sound first whole same by = left ending.WriteFault status.WriteFault by by.stops
+  leaves_all risen (Err ended) legal stands sound first whole same by =
+      early_leaves before after kept script written legal (annals_is ∙ by.0) (by.1 ∙ is) (subst (λ (o : Option root.Told). RootStands o (history kept)) (sym (disk_is ∙ by.2)) stands) ended first sound (λ fault. same (ap Err fault))
 
 -- what is left by the same status
 pub by_status : {before after : World} {kept : Told} {script written : List ℕ} {s t : Status} → s ≡ t → Headline t before after kept script written → Headline s before after kept script written
 by_status {before} {after} {kept} {script} {written} same left = subst (λ (e : Status). Headline e before after kept script written) (sym same) left
 
 -- nothing was told or written where the root was not opened
-pub early_not_told : (ended : Result Ending Status) (kept : Told) (script : List ℕ) (opened disk arm : ℕ) (told : Option Told) (was_root now_root : Option root.Told) (before after : Option (List ℕ)) → ended ≡ Err status.DiskFault
-    → LeftBy ended kept script opened disk arm told was_root now_root before after → (told ≡ Some kept) × (after ≡ before) × (now_root ≡ was_root)
-early_not_told (Ok e) kept script opened disk arm told was_root now_root before after is left = cc
-early_not_told (Err e) kept script opened disk arm told was_root now_root before after is left = left
+pub early_not_told : (ended : Result Ending Status) (kept : Told) (script : List ℕ) (s : Stretch) (output : Output) → ended ≡ Err status.DiskFault → LeftBy ended kept script s output
+    → (s.now.annals ≡ Some kept) × (output.after ≡ output.before) × (s.now.disk ≡ s.root)
+early_not_told (Ok e) kept script s output is left = cc
+early_not_told (Err e) kept script s output is left = left
 
 pub failed_is : (ended : Result Ending Status) → ended ≡ Err status.DiskFault → IsErrOf ended status.DiskFault
 failed_is (Ok e) is = cc
@@ -379,13 +373,13 @@ stop_undamaged unread.NoMemory h = cc
 stop_undamaged unread.Fault h = cc
 stop_undamaged unread.TooLong h = cc
 
-pub error_early : (error : DiskError) → IsEarly (status_of_error error)
-error_early failure.Fault = tt
-error_early failure.NoMemory = tt
+pub unopened_early : (s : Status) → (s ≡ status.DiskFault) ⊎ (s ≡ status.NoMemory) → IsEarly s
+unopened_early s (inl is) = subst IsEarly (sym is) tt
+unopened_early s (inr is) = subst IsEarly (sym is) tt
 
-pub error_undamaged : (error : DiskError) → status_of_error error ≡ status.Damaged → ⊥
-error_undamaged failure.Fault h = cc
-error_undamaged failure.NoMemory h = cc
+pub unopened_undamaged : (s : Status) → (s ≡ status.DiskFault) ⊎ (s ≡ status.NoMemory) → s ≡ status.Damaged → ⊥
+unopened_undamaged s (inl is) bad = cc
+unopened_undamaged s (inr is) bad = cc
 
 -- a source that was read to its end has nothing left
 pub nothing_left : (script text : List ℕ) (before after : Option (List ℕ)) → before ≡ Some script → Consumes before after text → IsAtEnd after → after ≡ Some []

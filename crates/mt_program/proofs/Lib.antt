@@ -5,6 +5,7 @@ pub mod Crashing
 pub mod Folder
 pub mod Gaining
 pub mod Heading
+pub mod Promising
 pub mod Reopened
 pub mod ServedScripts
 pub mod Undamaged

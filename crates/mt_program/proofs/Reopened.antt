@@ -1,12 +1,22 @@
 -- A store whose count of faults at opening is the one before the disk was started.
-use Rattle.std.proofs.Common.{ℕ, Option}
+use Rattle.std.proofs.Common.{◌≡◌, ℕ, List, [], Option, Some, Result, ap, sym, subst, ◌∙◌}
 use Rattle.std.proofs.lemmas.List.Elements.{All-weaker}
 use Rattle.std.specs.Map.{keys_of}
 use Rattle.mt_outside.specs.Disk.{Told, names_of}
 use Rattle.mt_outside.specs.Files.{Files}
 use Rattle.mt_model.specs.History.{History}
 use Rattle.root_store.specs.declared.store.CoreStore.{CoreStore}
-use Rattle.root_store.specs.Soundness.{IsNameUnder, IsSoundStore, NamesFit}
+use Rattle.mt_values.specs.Annals as keeper
+use Rattle.replies.specs.Foreseen.{history}
+use Rattle.session.specs.Answers.{Knows}
+use Rattle.shared_store.specs.Engines.{Opened}
+use Rattle.root_store.specs.Crashes.{KeepsThroughCrashes, Storage}
+use Rattle.root_store.specs.Soundness.{HasSoundParts, IsNameUnder, IsSoundStore, NamesFit, RootStands}
+use Rattle.mt_program.specs.Crashes.{IsGainedBy, LeavesOfScript}
+use Rattle.mt_program.specs.Endings.{LeftBy}
+use Rattle.mt_program.specs.Serving.{Output, Stretch}
+use Rattle.mt_program.specs.declared.serving.Ending.{Ending}
+use Rattle.mt_program.specs.declared.status.Status.{Status}
 use Rattle.root_store.specs.Stores.{CoreStands}
 
 abbrev pub reopened : {F : Type 0} → CoreStore F → ℕ → CoreStore F
@@ -33,3 +43,46 @@ module _ {F : Type 0} (store : CoreStore F) (opened : ℕ) where
     parts = λ table t at. let one = s.parts table t at in record { rows = one.rows; hold = one.hold; stand = one.stand; order = one.order };
     no_other = s.no_other;
   }
+
+-- ---- the root as one value
+
+module _ {F : Type 0} (files_of : F → Option Files) (root : Opened F) (store : CoreStore F) (s : Storage) (store_is : root.store ≡ store) (storage_is : root.storage ≡ s) where
+  -- the annals are known, and the store that was opened stands for them
+  pub knows_root : (kept : keeper.Told) → s.annals ≡ Some kept → CoreStands files_of (history kept) store → Knows files_of kept root
+  knows_root kept is stands = record {
+    told_is = ap (λ (x : Storage). x.annals) storage_is ∙ is;
+    stands = subst (CoreStands files_of (history kept)) (sym store_is) stands;
+  }
+
+  -- so its disk does
+  pub stands_root : (kept : keeper.Told) → RootStands s.disk (history kept) → RootStands root.storage.disk (history kept)
+  stands_root kept stands = subst (λ (x : Storage). RootStands x.disk (history kept)) (sym storage_is) stands
+
+  -- none of its files is damaged
+  pub sound_root : HasSoundParts files_of store → HasSoundParts files_of root.store
+  sound_root held = subst (HasSoundParts files_of) (sym store_is) held
+
+  -- a crash leaves what it would over what was opened
+  pub keeps_root : (first : keeper.Told) (start : ℕ) → KeepsThroughCrashes files_of store s first start → KeepsThroughCrashes files_of root.store root.storage first start
+  keeps_root first start keeps =
+      subst (λ (c : CoreStore F). KeepsThroughCrashes files_of c root.storage first start) (sym store_is)
+      (subst (λ (x : Storage). KeepsThroughCrashes files_of store x first start) (sym storage_is) keeps)
+
+  pub gained_root : (first : keeper.Told) → IsGainedBy [] s.annals first → IsGainedBy [] root.storage.annals first
+  gained_root first gained = subst (λ (x : Storage). IsGainedBy [] x.annals first) (sym storage_is) gained
+
+-- a stretch by what it met and left
+abbrev pub stretch : ℕ → Option Told → Storage → ℕ → Stretch
+stretch opened root now arm = record { opened = opened; root = root; now = now; arm = arm }
+
+-- what is left, by what is handed out at the end
+pub left_as : (ended : Result Ending Status) (kept : keeper.Told) (script : List ℕ) (output : Output) (arm : ℕ) (had opened : ℕ) (root disk : Option Told) (now after : Storage) → had ≡ opened → root ≡ disk → now ≡ after
+    → LeftBy ended kept script (stretch had root now arm) output → LeftBy ended kept script (stretch opened disk after arm) output
+left_as ended kept script output arm had opened root disk now after first second third left =
+    subst (λ (m : ℕ). LeftBy ended kept script (stretch m disk after arm) output) first
+    (subst (λ (o : Option Told). LeftBy ended kept script (stretch had o after arm) output) second
+    (subst (λ (x : Storage). LeftBy ended kept script (stretch had root x arm) output) third left))
+
+pub script_as : (source : Option (List ℕ)) (had opened : ℕ) (now after : Storage) (first : keeper.Told) (start : ℕ) → had ≡ opened → now ≡ after → LeavesOfScript source had now first start → LeavesOfScript source opened after first start
+script_as source had opened now after first start same is left =
+    subst (λ (m : ℕ). LeavesOfScript source m after first start) same (subst (λ (x : Storage). LeavesOfScript source had x first start) is left)

@@ -8,24 +8,23 @@ use Rattle.std.proofs.lemmas.List.Elements.{All-append, All-head, All-nil}
 use Rattle.mt_values.specs.declared.annals.Noted.{Noted}
 use Rattle.mt_values.specs.Annals.{Told}
 use Rattle.mt_values.specs.Script.{statements_of, next_statement, statement_and}
-use Rattle.mt_outside.specs.Disk as root
 use Rattle.mt_outside.specs.Files.{Files}
-use Rattle.mt_model.specs.History.{History, IsLegal}
+use Rattle.mt_model.specs.History.{History}
 use Rattle.mt_model.specs.Refusals.{code_of, is_damage, is_refusal}
 use Rattle.mt_model.specs.Session.{SessionReplies}
 use Rattle.mt_model.specs.Written.{IsWritten}
 use Rattle.mt_model.proofs.Keys.{statements_are}
 use Rattle.mt_model.proofs.Replies.{replies_more, replies_append}
 use Rattle.replies.specs.declared.tally.Tally.{Tally}
-use Rattle.root_store.specs.declared.store.CoreStore.{CoreStore}
 use Rattle.root_store.specs.Soundness.{RootStands}
-use Rattle.root_store.specs.Stores.{CoreStands}
-use Rattle.session.specs.Answers.{Answered, EndsUnanswered}
+use Rattle.session.specs.Answers.{AcceptsNothing, Answered, EndsUnanswered, Knows, Turned}
+use Rattle.shared_store.specs.Engines.{GoesOn, Opened}
+use Rattle.root_store.specs.Crashes.{Storage}
 use Rattle.std.proofs.lemmas.Bool.Decides.{nat_tests}
 use Rattle.replies.specs.Causes.{HasCauses}
 use Rattle.replies.specs.Foreseen.{Foresees, history, is_unsettled}
-use Rattle.mt_program.specs.Courses.{AreSettled, AreStopped, IsBegunBy, Item, TalliesReplies, course_of}
-use Rattle.mt_program.specs.Serving.{Ran, Served, ServedBy}
+use Rattle.mt_program.specs.Courses.{AreStopped, Item, TalliesReplies, course_of}
+use Rattle.mt_program.specs.Serving.{MayComeTo, Output, Progress, Ran, Served, ServedBy, stretch_of}
 use Rattle.mt_program.proofs.Begun.{begun_answered, begun_unanswered, replies_length}
 use Rattle.mt_model.specs.Outside.{Outside}
 use Rattle.replies.proofs.Ends.{length_history}
@@ -89,21 +88,6 @@ any_push p (x ∷ xs) y = ap (λ b. p x || b) (any_push p xs y) ∙ or_assoc (p 
     or_assoc true b c = refl
     or_assoc false b c = refl
 
--- what was foreseen of a later state
-pub ran_before : (kept : Told) (opened disk arm later more : ℕ) (done : List Item) (replies : List (List ℕ)) (told : Option Told) → disk ≤ later → arm ≤ more
-    → Ran kept opened disk arm done replies told → Ran kept opened later more done replies told
-ran_before kept opened disk arm later more done replies told le less r = record {
-  now = r.now;
-  more = r.more;
-  told_is = r.told_is;
-  list_is = r.list_is;
-  legal = r.legal;
-  sessions = r.sessions;
-  run = λ n f. r.run n (foresees_before opened disk later arm more n le less f);
-  stopped = λ n f. r.stopped n (foresees_before opened disk later arm more n le less f);
-  risen = λ some. let was = r.risen some in omega (arith, was, le);
-}
-
 -- ---- replies that say that a commit failed
 
 -- a reply of a list with one more at its end is that one, or one before it
@@ -146,126 +130,86 @@ says_so replies front more reply is failed = ap (list_any is_unsettled) is ∙ a
         or_true true = refl
         or_true false = refl
 
--- one more statement that was answered
-module _ {F : Type 0} (files_of : F → Option Files) (kept : Told) (opened disk arm later higher : ℕ) (done : List Item) (replies : List (List ℕ)) (st : Item) (reply : List ℕ) (new : CoreStore F) (told after : Option Told) (was_root now_root : Option root.Told)
-    (le : disk ≤ later) (less : arm ≤ higher) (failed : is_unsettled reply ≡ true → (disk ≡ opened) × (opened < later)) (still : opened < disk → after ≡ told)
-    (r : Ran kept opened disk arm done replies told) (a : Answered files_of r.now st opened later higher reply new after was_root now_root) where
-  grown : history a.now ≡ history r.now ++ map (λ (n : Noted). n.entry) a.more
-  grown = ap (map (λ (n : Noted). n.entry)) a.list_is ∙ map-append (λ (n : Noted). n.entry) r.now.list a.more
+-- ---- a statement after others
 
-  -- those before it, over the history as it is now
-  before : (n : Outside) → Foresees opened later higher n → SessionReplies n (history a.now) 0 done (length kept.list) (length r.now.list) replies
-  before n f =
-      let ran = r.run n (foresees_before opened disk later arm higher n le less f) in
-      subst (λ (h : History). SessionReplies n h 0 done (length kept.list) (length r.now.list) replies) (sym grown)
-      (replies_more n (history r.now) (map (λ (n : Noted). n.entry) a.more) 0 done (length kept.list) (length r.now.list) replies ran)
+-- what was met and left from a start to some moment
+abbrev pub turned : {F : Type 0} → Opened F → Opened F → ℕ → Turned F
+turned was now arm = record { was = was; now = now; arm = arm }
 
-  all : (n : Outside) → Foresees opened later higher n → SessionReplies n (history a.now) 0 (done ++ st ∷ []) (length kept.list) (length a.now.list) (replies ++ reply ∷ [])
-  all n f = replies_append n (history a.now) 0 done st (length kept.list) (length r.now.list) (length a.now.list) replies reply (before n f) (a.takes n f)
+-- A statement of a script ran over a root as those before it left it: the counts do not fall, and where the disk's was above the one at opening
+-- nothing was accepted.
+pub record Follows {F : Type 0} (start before after : Opened F) (arm arm_after : ℕ) : Type 0 where
+  pub opened : before.store.opened ≡ start.store.opened
+  pub low : start.store.opened ≤ before.storage.failed
+  pub below : start.store.opened < 2 ^ 64 - 1
+  pub later : before.storage.failed ≤ after.storage.failed
+  pub arm_later : arm ≤ arm_after
+  pub still : start.store.opened < before.storage.failed → after.storage.annals ≡ before.storage.annals
 
-  -- where a commit had failed before, the annals are as they were
-  as_before : list_any is_unsettled replies ≡ true → history r.now ≡ history a.now
-  as_before some =
-      let both : Some r.now ≡ Some a.now = sym r.told_is ∙ (sym (still (r.risen some)) ∙ a.told_is) in
-      let same : r.now ≡ a.now = cc in
-      ap history same
-
-  -- and the next reply does not say that one failed
-  not_again : list_any is_unsettled replies ≡ true → is_unsettled reply ≡ false
-  not_again some = by (is_unsettled reply) refl
-    where
-      by : (b : Bool) → is_unsettled reply ≡ b → b ≡ false
-      by true is = let same = (failed is).0 in let risen = r.risen some in absurd (omega (arith, same, risen))
-      by false is = refl
-
-  stopped_more : (n : Outside) → Foresees opened later higher n → AreStopped n (history a.now) (length kept.list) (done ++ st ∷ []) (replies ++ reply ∷ [])
-  stopped_more n f = λ front more x is unsettled. elim (last_or_before replies reply front x more is) [
-    | inl last ↦ (
-        let count : length replies ≡ length done = replies_length n (history a.now) done (length kept.list) (length r.now.list) replies (before n f) in
-        let size : length front + 1 ≡ length (done ++ st ∷ []) = ap (λ (xs : List (List ℕ)). length xs + 1) (sym last.0) ∙ (ap (λ (m : ℕ). m + 1) count ∙ sym (length-append done (st ∷ []))) in
-        let whole : take (length front + 1) (done ++ st ∷ []) ≡ done ++ st ∷ [] = take_all (length front + 1) (done ++ st ∷ []) (omega (arith, size)) in
-        let replies_are : replies ++ reply ∷ [] ≡ front ++ x ∷ [] = ap (λ (xs : List (List ℕ)). xs ++ reply ∷ []) last.0 ∙ ap (λ (y : List ℕ). front ++ y ∷ []) last.1 in (
-          subst (λ (m : ℕ). SessionReplies n (history a.now) 0 (take (length front + 1) (done ++ st ∷ [])) (length kept.list) m (front ++ x ∷ [])) (sym (length_history a.now))
-              (subst (λ (xs : List (List ℕ)). SessionReplies n (history a.now) 0 (take (length front + 1) (done ++ st ∷ [])) (length kept.list) (length a.now.list) xs) replies_are
-              (subst (λ (ss : List Item). SessionReplies n (history a.now) 0 ss (length kept.list) (length a.now.list) (replies ++ reply ∷ [])) (sym whole) (all n f))),
-          ap (list_any is_unsettled) last.2,
-        ))
-    | inr earlier ↦ (
-        let was = foresees_before opened disk later arm higher n le less f in
-        let stop = r.stopped n was front earlier.0 x earlier.1 unsettled in
-        let some = says_so replies front earlier.0 x earlier.1 unsettled in
-        let same = as_before some in
-        let count : length replies ≡ length done = replies_length n (history a.now) done (length kept.list) (length r.now.list) replies (before n f) in
-        let size : length replies ≡ length front + suc (length earlier.0) = ap length earlier.1 ∙ length-append front (x ∷ earlier.0) in
-        let front_is : take (length front + 1) (done ++ st ∷ []) ≡ take (length front + 1) done = take-append-le (length front + 1) done (st ∷ []) (omega (arith, count, size)) in (
-          subst (λ (ss : List Item). SessionReplies n (history a.now) 0 ss (length kept.list) (length (history a.now)) (front ++ x ∷ [])) (sym front_is)
-              (subst (λ (h : History). SessionReplies n h 0 (take (length front + 1) done) (length kept.list) (length h) (front ++ x ∷ [])) same stop.0),
-          ap (list_any is_unsettled) earlier.2 ∙ (any_push is_unsettled earlier.0 reply ∙ (ap (λ (b : Bool). b || is_unsettled reply) stop.1 ∙ not_again some)),
-        ))
-  ]
-
-  risen_more : list_any is_unsettled (replies ++ reply ∷ []) ≡ true → opened < later
-  risen_more some = by (list_any is_unsettled replies) refl (is_unsettled reply) refl (sym (any_push is_unsettled replies reply) ∙ some)
-    where
-      by : (b : Bool) → list_any is_unsettled replies ≡ b → (c : Bool) → is_unsettled reply ≡ c → (b || c) ≡ true → opened < later
-      by true was c is h = let low = r.risen was in omega (arith, low, le)
-      by false was true is h = (failed is).1
-      by false was false is h = cc
-
-  -- what is begun then
-  pub begins_more : ((n : Outside) → Foresees opened disk arm n → IsBegunBy n kept r.now (course_of done replies None)) → (n : Outside) → Foresees opened later higher n
-      → IsBegunBy n kept a.now (course_of (done ++ st ∷ []) (replies ++ reply ∷ []) None)
-  begins_more was n f =
-      let size = ap length r.list_is ∙ length-append kept.list r.more in
-      begun_answered n kept r.now a.now done replies st (before n f) a.more a.list_is (omega (arith, size)) reply a.begun (was n (foresees_before opened disk later arm higher n le less f))
-
-  pub ran_more : Ran kept opened later higher (done ++ st ∷ []) (replies ++ reply ∷ []) after
-  ran_more = record {
-    now = a.now;
-    more = r.more ++ a.more;
-    told_is = a.told_is;
-    legal = a.stands.legal;
-    list_is = a.list_is ∙ (ap (λ ns. ns ++ a.more) r.list_is ∙ append_assoc kept.list r.more a.more);
-    sessions = All-append (λ (n : Noted). n.entry.session ≡ 0) r.more a.more r.sessions a.sessions;
-    run = all;
-    stopped = stopped_more;
-    risen = risen_more;
-  }
-
--- a statement that had no reply
-pub ran_still : (kept : Told) (opened disk arm later more : ℕ) (done : List Item) (replies : List (List ℕ)) (st : Item) (told after : Option Told) (was_root now_root : Option root.Told) → disk ≤ later → arm ≤ more
-    → (r : Ran kept opened disk arm done replies told) → EndsUnanswered r.now st after was_root now_root → Ran kept opened later more done replies after
-ran_still kept opened disk arm later more done replies st told after was_root now_root le less r k =
-    let h : history k.now ≡ history r.now = ap (map (λ (n : Noted). n.entry)) k.list_is in
+-- the counts of roots that go on
+pub follows : {F : Type 0} (start before after : Opened F) (arm arm_after : ℕ) → GoesOn start before → GoesOn before after → arm ≤ arm_after → (before.store.opened < before.storage.failed → AcceptsNothing before after)
+    → Follows start before after arm arm_after
+follows start before after arm arm_after first next less stops =
+    let low = first.found.opened in
+    let later = first.later in
     record {
-      now = k.now;
-      more = r.more;
-      told_is = k.told_is;
-      list_is = k.list_is ∙ r.list_is;
-      legal = subst IsLegal (sym h) r.legal;
-      sessions = r.sessions;
-      run = λ n f. subst (λ (m : ℕ). SessionReplies n (history k.now) 0 done (length kept.list) m replies) (sym (ap length k.list_is))
-          (subst (λ (x : History). SessionReplies n x 0 done (length kept.list) (length r.now.list) replies) (sym h) (r.run n (foresees_before opened disk later arm more n le less f)));
-      stopped = λ n f. subst (λ (x : History). AreStopped n x (length kept.list) done replies) (sym h) (r.stopped n (foresees_before opened disk later arm more n le less f));
-      risen = λ some. let was = r.risen some in omega (arith, was, le);
+      opened = first.opened;
+      low = omega (arith, low, later);
+      below = first.found.below;
+      later = next.later;
+      arm_later = less;
+      still = λ risen. ap (λ (s : Storage). s.annals) (stops (subst (λ (m : ℕ). m < before.storage.failed) (sym first.opened) risen)).storage_is;
     }
 
--- what is begun by it
-pub begins_still : (kept : Told) (opened disk arm later more : ℕ) (done : List Item) (replies : List (List ℕ)) (st : Item) (told after : Option Told) (was_root now_root : Option root.Told) → disk ≤ later → arm ≤ more
-    → (r : Ran kept opened disk arm done replies told) (k : EndsUnanswered r.now st after was_root now_root) → ((n : Outside) → Foresees opened disk arm n → IsBegunBy n kept r.now (course_of done replies None))
-    → (n : Outside) → Foresees opened later more n → IsBegunBy n kept k.now (course_of done replies (Some st))
-begins_still kept opened disk arm later more done replies st told after was_root now_root le less r k was n f =
-    let h : history k.now ≡ history r.now = ap (map (λ (n : Noted). n.entry)) k.list_is in
-    let early = foresees_before opened disk later arm more n le less f in
-    let each = subst (λ (x : History). SessionReplies n x 0 done (length kept.list) (length r.now.list) replies) (sym h) (r.run n early) in
-    begun_unanswered n kept r.now k.now done replies st each k.list_is k.begun (was n early)
+module _ {F : Type 0} (kept : Told) (start before after : Opened F) (arm arm_after : ℕ) (fits : Follows start before after arm arm_after) (done : List Item) (replies : List (List ℕ))
+    (r : Ran kept (stretch_of (turned start before arm)) (course_of done replies None)) where
+  -- what the counts may come to later, they may come to now
+  earlier : (n : Outside) → MayComeTo (stretch_of (turned start after arm_after)) n → MayComeTo (stretch_of (turned start before arm)) n
+  earlier n f = foresees_before start.store.opened before.storage.failed after.storage.failed arm arm_after n fits.later fits.arm_later f
 
--- what is told of the replies, with one more
-pub tells_more : (t : Tally) (replies : List (List ℕ)) (reply : List ℕ) → TalliesReplies t replies → TalliesReplies (tallied t reply) (replies ++ reply ∷ [])
-tells_more t replies reply tells = record {
-  refusals = ap (λ b. b || is_refusal reply) tells.refusals ∙ sym (any_push is_refusal replies reply);
-  damages = ap (λ b. b || is_damage reply) tells.damages ∙ sym (any_push is_damage replies reply);
-}
+  -- and of the statement alone
+  of_statement : (n : Outside) → MayComeTo (stretch_of (turned start after arm_after)) n → Foresees before.store.opened after.storage.failed arm_after n
+  of_statement n f = subst (λ (m : ℕ). Foresees m after.storage.failed arm_after n) (sym fits.opened) f
+
+  grown_to : length kept.list ≤ length r.now.list
+  grown_to = let size = ap length r.list_is ∙ length-append kept.list r.more in omega (arith, size)
+
+  -- those before it ran to the end of the list
+  to_end : (n : Outside) → MayComeTo (stretch_of (turned start before arm)) n → SessionReplies n (history r.now) 0 done (length kept.list) (length r.now.list) replies
+  to_end n f = subst (λ (m : ℕ). SessionReplies n (history r.now) 0 done (length kept.list) m replies) r.last (r.run n f)
+
+  -- the list is as it is after the statement
+  module _ (now : Told) (more : List Noted) (list_is : now.list ≡ r.now.list ++ more) (told_is : after.storage.annals ≡ Some now) where
+    all_listed : now.list ≡ kept.list ++ (r.more ++ more)
+    all_listed = list_is ∙ (ap (λ ns. ns ++ more) r.list_is ∙ append_assoc kept.list r.more more)
+
+    -- those before it, over the history as it is now
+    before_it : (n : Outside) → MayComeTo (stretch_of (turned start after arm_after)) n → SessionReplies n (history now) 0 done (length kept.list) (length r.now.list) replies
+    before_it n f =
+        let entries = λ (n : Noted). n.entry in
+        let grown : history now ≡ history r.now ++ map entries more = ap (map entries) list_is ∙ map-append entries r.now.list more in
+        subst (λ (h : History). SessionReplies n h 0 done (length kept.list) (length r.now.list) replies) (sym grown)
+        (replies_more n (history r.now) (map entries more) 0 done (length kept.list) (length r.now.list) replies (to_end n (earlier n f)))
+
+    -- where a commit had failed before, the annals are as they were
+    as_before : list_any is_unsettled replies ≡ true → history r.now ≡ history now
+    as_before some =
+        let both : Some r.now ≡ Some now = sym r.told_is ∙ (sym (fits.still (r.risen some)) ∙ told_is) in
+        let same : r.now ≡ now = cc in
+        ap history same
+
+    -- what was stopped before is stopped still
+    stops_still : (n : Outside) → MayComeTo (stretch_of (turned start after arm_after)) n → (front more : List (List ℕ)) (x : List ℕ) → replies ≡ front ++ x ∷ more → is_unsettled x ≡ true
+        → SessionReplies n (history now) 0 (take (length front + 1) done) (length kept.list) (length (history now)) (front ++ x ∷ []) × (list_any is_unsettled more ≡ false)
+    stops_still n f front more x is unsettled =
+        let stop = r.stopped n (earlier n f) front more x is unsettled in
+        let same = as_before (says_so replies front more x is unsettled) in (
+          subst (λ (h : History). SessionReplies n h 0 (take (length front + 1) done) (length kept.list) (length h) (front ++ x ∷ [])) same stop.0,
+          stop.1,
+        )
+
+  risen_still : list_any is_unsettled replies ≡ true → start.store.opened < after.storage.failed
+  risen_still some = let was = r.risen some in let le = fits.later in omega (arith, was, le)
 
 -- some reply or the next says that a commit failed, or neither does
 either_unsettled : (replies : List (List ℕ)) (reply : List ℕ) → list_any is_unsettled (replies ++ reply ∷ []) ≡ false → (list_any is_unsettled replies ≡ false) × (is_unsettled reply ≡ false)
@@ -275,100 +219,186 @@ either_unsettled replies reply none = neither (list_any is_unsettled replies) (i
     neither true b h = cc
     neither false b h = (refl, h)
 
-module _ {F : Type 0} (files_of : F → Option Files) (kept : Told) (script : List ℕ) (opened disk arm at : ℕ) (tally : Tally) (old : CoreStore F) (told : Option Told) (was_root : Option root.Told) (before now : Option (List ℕ))
-    (s : Served files_of kept script opened disk arm at tally old told was_root before now) where
+-- ---- one more statement that was answered
+
+module _ {F : Type 0} (files_of : F → Option Files) (kept : Told) (start before after : Opened F) (arm arm_after : ℕ) (fits : Follows start before after arm arm_after) (done : List Item) (replies : List (List ℕ)) (st : Item) (reply : List ℕ)
+    (r : Ran kept (stretch_of (turned start before arm)) (course_of done replies None)) (a : Answered files_of r.now st (turned before after arm_after) reply)
+    (failed : is_unsettled reply ≡ true → (before.storage.failed ≡ start.store.opened) × (start.store.opened < after.storage.failed)) where
+  before_this : (n : Outside) → MayComeTo (stretch_of (turned start after arm_after)) n → SessionReplies n (history a.now) 0 done (length kept.list) (length r.now.list) replies
+  before_this = before_it kept start before after arm arm_after fits done replies r a.now a.more a.list_is a.told_is
+
+  all : (n : Outside) → MayComeTo (stretch_of (turned start after arm_after)) n → SessionReplies n (history a.now) 0 (done ++ st ∷ []) (length kept.list) (length a.now.list) (replies ++ reply ∷ [])
+  all n f =
+      replies_append n (history a.now) 0 done st (length kept.list) (length r.now.list) (length a.now.list) replies reply (before_this n f)
+      (a.takes n (of_statement kept start before after arm arm_after fits done replies r n f))
+
+  -- where a commit had failed before, the next reply does not say that one failed
+  not_again : list_any is_unsettled replies ≡ true → is_unsettled reply ≡ false
+  not_again some = by (is_unsettled reply) refl
+    where
+      by : (b : Bool) → is_unsettled reply ≡ b → b ≡ false
+      by true is = let same = (failed is).0 in let risen = r.risen some in absurd (omega (arith, same, risen))
+      by false is = refl
+
+  stopped_more : (n : Outside) → MayComeTo (stretch_of (turned start after arm_after)) n → AreStopped n (history a.now) (length kept.list) (done ++ st ∷ []) (replies ++ reply ∷ [])
+  stopped_more n f = λ front more x is unsettled. elim (last_or_before replies reply front x more is) [
+    | inl last ↦ (
+        let count : length replies ≡ length done = replies_length n (history a.now) done (length kept.list) (length r.now.list) replies (before_this n f) in
+        let size : length front + 1 ≡ length (done ++ st ∷ []) = ap (λ (xs : List (List ℕ)). length xs + 1) (sym last.0) ∙ (ap (λ (m : ℕ). m + 1) count ∙ sym (length-append done (st ∷ []))) in
+        let whole : take (length front + 1) (done ++ st ∷ []) ≡ done ++ st ∷ [] = take_all (length front + 1) (done ++ st ∷ []) (omega (arith, size)) in
+        let replies_are : replies ++ reply ∷ [] ≡ front ++ x ∷ [] = ap (λ (xs : List (List ℕ)). xs ++ reply ∷ []) last.0 ∙ ap (λ (y : List ℕ). front ++ y ∷ []) last.1 in (
+          subst (λ (m : ℕ). SessionReplies n (history a.now) 0 (take (length front + 1) (done ++ st ∷ [])) (length kept.list) m (front ++ x ∷ [])) (sym (length_history a.now))
+              (subst (λ (xs : List (List ℕ)). SessionReplies n (history a.now) 0 (take (length front + 1) (done ++ st ∷ [])) (length kept.list) (length a.now.list) xs) replies_are
+              (subst (λ (ss : List Item). SessionReplies n (history a.now) 0 ss (length kept.list) (length a.now.list) (replies ++ reply ∷ [])) (sym whole) (all n f))),
+          ap (list_any is_unsettled) last.2,
+        ))
+    | inr first ↦ (
+        let stop = stops_still kept start before after arm arm_after fits done replies r a.now a.more a.list_is a.told_is n f front first.0 x first.1 unsettled in
+        let some = says_so replies front first.0 x first.1 unsettled in
+        let count : length replies ≡ length done = replies_length n (history a.now) done (length kept.list) (length r.now.list) replies (before_this n f) in
+        let size : length replies ≡ length front + suc (length first.0) = ap length first.1 ∙ length-append front (x ∷ first.0) in
+        let front_is : take (length front + 1) (done ++ st ∷ []) ≡ take (length front + 1) done = take-append-le (length front + 1) done (st ∷ []) (omega (arith, count, size)) in (
+          subst (λ (ss : List Item). SessionReplies n (history a.now) 0 ss (length kept.list) (length (history a.now)) (front ++ x ∷ [])) (sym front_is) stop.0,
+          ap (list_any is_unsettled) first.2 ∙ (any_push is_unsettled first.0 reply ∙ (ap (λ (b : Bool). b || is_unsettled reply) stop.1 ∙ not_again some)),
+        ))
+  ]
+
+  risen_more : list_any is_unsettled (replies ++ reply ∷ []) ≡ true → start.store.opened < after.storage.failed
+  risen_more some = by (list_any is_unsettled replies) refl (is_unsettled reply) refl (sym (any_push is_unsettled replies reply) ∙ some)
+    where
+      by : (b : Bool) → list_any is_unsettled replies ≡ b → (c : Bool) → is_unsettled reply ≡ c → (b || c) ≡ true → start.store.opened < after.storage.failed
+      by true was c is h = risen_still kept start before after arm arm_after fits done replies r was
+      by false was true is h = (failed is).1
+      by false was false is h = cc
+
+  pub ran_more : Ran kept (stretch_of (turned start after arm_after)) (course_of (done ++ st ∷ []) (replies ++ reply ∷ []) None)
+  ran_more = record {
+    now = a.now;
+    more = r.more ++ a.more;
+    told_is = a.told_is;
+    list_is = all_listed kept start before after arm arm_after fits done replies r a.now a.more a.list_is a.told_is;
+    legal = a.stands.legal;
+    sessions = All-append (λ (n : Noted). n.entry.session ≡ 0) r.more a.more r.sessions a.sessions;
+    place = length a.now.list;
+    run = all;
+    last = refl;
+    stopped = stopped_more;
+    risen = risen_more;
+    begun = λ n f.
+        begun_answered n kept r.now a.now done replies st (before_this n f) a.more a.list_is (grown_to kept start before after arm arm_after fits done replies r) reply a.begun
+        (r.begun n (earlier kept start before after arm arm_after fits done replies r n f));
+    settled = λ none. let both = either_unsettled replies reply none in a.settled both.1 (r.settled both.0);
+  }
+
+-- a statement that had no reply
+pub ran_unanswered : {F : Type 0} (files_of : F → Option Files) (kept : Told) (start before after : Opened F) (arm arm_after : ℕ) → Follows start before after arm arm_after → (done : List Item) (replies : List (List ℕ)) (st : Item)
+    → (r : Ran kept (stretch_of (turned start before arm)) (course_of done replies None)) → EndsUnanswered files_of r.now st (turned before after arm_after) → Ran kept (stretch_of (turned start after arm_after)) (course_of done replies (Some st))
+ran_unanswered files_of kept start before after arm arm_after fits done replies st r k =
+    let before_this = before_it kept start before after arm arm_after fits done replies r k.now k.more k.list_is k.told_is in
+    record {
+      now = k.now;
+      more = r.more ++ k.more;
+      told_is = k.told_is;
+      list_is = all_listed kept start before after arm arm_after fits done replies r k.now k.more k.list_is k.told_is;
+      legal = k.stands.legal;
+      sessions = All-append (λ (n : Noted). n.entry.session ≡ 0) r.more k.more r.sessions k.sessions;
+      place = length r.now.list;
+      run = before_this;
+      last = k.gives;
+      stopped = λ n f front more x is unsettled. stops_still kept start before after arm arm_after fits done replies r k.now k.more k.list_is k.told_is n f front more x is unsettled;
+      risen = risen_still kept start before after arm arm_after fits done replies r;
+      begun = λ n f.
+          begun_unanswered n kept r.now k.now done replies st (before_this n f) k.more k.list_is (grown_to kept start before after arm arm_after fits done replies r) k.begun
+          (r.begun n (earlier kept start before after arm arm_after fits done replies r n f));
+      settled = λ none. k.settled (r.settled none);
+    }
+
+-- ---- what was served
+
+-- what is told of the replies, with one more
+pub tells_more : (t : Tally) (replies : List (List ℕ)) (reply : List ℕ) → TalliesReplies t replies → TalliesReplies (tallied t reply) (replies ++ reply ∷ [])
+tells_more t replies reply tells = record {
+  refusals = ap (λ b. b || is_refusal reply) tells.refusals ∙ sym (any_push is_refusal replies reply);
+  damages = ap (λ b. b || is_damage reply) tells.damages ∙ sym (any_push is_damage replies reply);
+}
+
+module _ {F : Type 0} (files_of : F → Option Files) (kept : Told) (p : Progress) (t : Turned F) (output : Output) (s : Served files_of kept p t output) where
   -- nothing is left
-  pub served_all : statements_of (drop at script) ≡ [] → ServedBy (ending.Done tally) kept script opened disk arm told was_root before now
+  pub served_all : statements_of (drop p.at p.script) ≡ [] → ServedBy (ending.Done p.tally) kept p.script (stretch_of t) output
   served_all none = record {
-    done = s.done;
-    rest = statements_of (drop at script);
-    replies = s.replies;
-    unanswered = None;
+    course = course_of s.done s.replies None;
+    rest = statements_of (drop p.at p.script);
     out = concat s.replies;
     split = s.split;
     ran = s.ran;
-    begun = s.begun;
     wrote = s.wrote;
     stops = (refl, none, s.tells, refl);
-    settled = s.settled;
   }
 
   -- no reply was begun after the last
-  pub served_so_far : ServedBy ending.NoMemory kept script opened disk arm told was_root before now
+  pub served_so_far : ServedBy ending.NoMemory kept p.script (stretch_of t) output
   served_so_far = record {
-    done = s.done;
-    rest = statements_of (drop at script);
-    replies = s.replies;
-    unanswered = None;
+    course = course_of s.done s.replies None;
+    rest = statements_of (drop p.at p.script);
     out = concat s.replies;
     split = s.split;
     ran = s.ran;
-    begun = s.begun;
     wrote = s.wrote;
     stops = refl;
-    settled = s.settled;
   }
 
-  module _ (later more : ℕ) (le : disk ≤ later) (less : arm ≤ more) where
-    -- the next statement had no reply
-    pub served_unanswered : (used : ℕ) (st : Item) → statements_of (drop at script) ≡ st ∷ statements_of (drop (at + used) script) → (after : Option Told) (now_root : Option root.Told) → EndsUnanswered s.ran.now st after was_root now_root
-        → ServedBy ending.NoMemory kept script opened later more after now_root before now
-    unfolding ran_still
-    served_unanswered used st left after now_root k = record {
-      done = s.done;
-      rest = statements_of (drop (at + used) script);
-      replies = s.replies;
-      unanswered = Some st;
-      out = concat s.replies;
-      split = s.split ∙ (ap (λ ss. s.done ++ ss) left ∙ sym (append_assoc s.done (st ∷ []) (statements_of (drop (at + used) script))));
-      ran = ran_still kept opened disk arm later more s.done s.replies st told after was_root now_root le less s.ran k;
-      begun = begins_still kept opened disk arm later more s.done s.replies st told after was_root now_root le less s.ran k s.begun;
-      wrote = s.wrote;
-      stops = refl;
-      settled = λ none.
-          let stands : RootStands now_root (history s.ran.now) = subst (λ (o : Option root.Told). RootStands o (history s.ran.now)) (sym k.root_is) (s.settled none) in
-          subst (RootStands now_root) (sym (ap (map (λ (n : Noted). n.entry)) k.list_is)) stands;
+-- the place after a statement, and what the replies said with its own
+abbrev pub further : Progress → ℕ → List ℕ → Progress
+further p used reply = record { script = p.script; at = p.at + used; tally = tallied p.tally reply }
+
+module _ {F : Type 0} (files_of : F → Option Files) (kept : Told) (p : Progress) (start before after : Opened F) (arm arm_after : ℕ) (output : Output) (s : Served files_of kept p (turned start before arm) output)
+    (fits : Follows start before after arm arm_after) (used : ℕ) (st : Item) (left : statements_of (drop p.at p.script) ≡ st ∷ statements_of (drop (p.at + used) p.script)) where
+  split_more : statements_of p.script ≡ (s.done ++ st ∷ []) ++ statements_of (drop (p.at + used) p.script)
+  split_more = s.split ∙ (ap (λ ss. s.done ++ ss) left ∙ sym (append_assoc s.done (st ∷ []) (statements_of (drop (p.at + used) p.script))))
+
+  -- the next statement had no reply
+  pub served_unanswered : EndsUnanswered files_of s.ran.now st (turned before after arm_after) → ServedBy ending.NoMemory kept p.script (stretch_of (turned start after arm_after)) output
+  served_unanswered k = record {
+    course = course_of s.done s.replies (Some st);
+    rest = statements_of (drop (p.at + used) p.script);
+    out = concat s.replies;
+    split = split_more;
+    ran = ran_unanswered files_of kept start before after arm arm_after fits s.done s.replies st s.ran k;
+    wrote = s.wrote;
+    stops = refl;
+  }
+
+  module _ (reply : List ℕ) (a : Answered files_of s.ran.now st (turned before after arm_after) reply) (causes : HasCauses before.store.opened before.storage.failed after.storage.failed arm arm_after reply) where
+    failed : is_unsettled reply ≡ true → (before.storage.failed ≡ start.store.opened) × (start.store.opened < after.storage.failed)
+    failed = unsettled_rose before.store.opened start.store.opened before.storage.failed after.storage.failed arm arm_after reply fits.opened fits.low fits.below causes
+
+    ran_answered : Ran kept (stretch_of (turned start after arm_after)) (course_of (s.done ++ st ∷ []) (s.replies ++ reply ∷ []) None)
+    ran_answered = ran_more files_of kept start before after arm arm_after fits s.done s.replies st reply s.ran a failed
+
+    -- its reply was written whole
+    pub served_more : (written : Option (List ℕ)) → Appends output.after written reply → Served files_of kept (further p used reply) (turned start after arm_after) (record { before = output.before; after = written })
+    unfolding ran_more ran_answered
+    served_more written wrote = record {
+      done = s.done ++ st ∷ [];
+      replies = s.replies ++ reply ∷ [];
+      split = split_more;
+      ran = ran_answered;
+      stands = a.stands;
+      wrote = subst (Appends output.before written) (sym (concat_push s.replies reply)) (appends_more output.before output.after written (concat s.replies) reply s.wrote wrote);
+      tells = tells_more p.tally s.replies reply s.tells;
     }
 
-    module _ (used : ℕ) (st : Item) (left : statements_of (drop at script) ≡ st ∷ statements_of (drop (at + used) script)) (new : CoreStore F) (after : Option Told) (now_root : Option root.Told) (reply : List ℕ) (written : Option (List ℕ))
-        (failed : is_unsettled reply ≡ true → (disk ≡ opened) × (opened < later)) (still : opened < disk → after ≡ told) (a : Answered files_of s.ran.now st opened later more reply new after was_root now_root) where
-      split_more : statements_of script ≡ (s.done ++ st ∷ []) ++ statements_of (drop (at + used) script)
-      split_more = s.split ∙ (ap (λ ss. s.done ++ ss) left ∙ sym (append_assoc s.done (st ∷ []) (statements_of (drop (at + used) script))))
-
-      settled_more : AreSettled (s.replies ++ reply ∷ []) now_root (history a.now)
-      settled_more = λ none. let both = either_unsettled s.replies reply none in a.settled both.1 (s.settled both.0)
-
-      -- its reply was written whole
-      pub served_more : Appends now written reply → Served files_of kept script opened later more (at + used) (tallied tally reply) new after now_root before written
-      unfolding ran_more
-      served_more wrote = record {
-        done = s.done ++ st ∷ [];
-        replies = s.replies ++ reply ∷ [];
-        split = split_more;
-        ran = ran_more files_of kept opened disk arm later more s.done s.replies st reply new told after was_root now_root le less failed still s.ran a;
-        begun = begins_more files_of kept opened disk arm later more s.done s.replies st reply new told after was_root now_root le less failed still s.ran a s.begun;
-        stands = a.stands;
-        wrote = subst (Appends before written) (sym (concat_push s.replies reply)) (appends_more before now written (concat s.replies) reply s.wrote wrote);
-        tells = tells_more tally s.replies reply s.tells;
-        settled = settled_more;
-      }
-
-      -- a front of its reply was written
-      pub served_cut : AppendsFront now written reply → ServedBy ending.WriteFault kept script opened later more after now_root before written
-      unfolding ran_more
-      served_cut w = record {
-        done = s.done ++ st ∷ [];
-        rest = statements_of (drop (at + used) script);
-        replies = s.replies ++ reply ∷ [];
-        unanswered = None;
-        out = concat s.replies ++ w.0;
-        split = split_more;
-        ran = ran_more files_of kept opened disk arm later more s.done s.replies st reply new told after was_root now_root le less failed still s.ran a;
-        begun = begins_more files_of kept opened disk arm later more s.done s.replies st reply new told after was_root now_root le less failed still s.ran a s.begun;
-        wrote = appends_more before now written (concat s.replies) w.0 s.wrote w.3;
-        stops = (refl, record { whole = s.replies; last = reply; part = w.0; replies_are = refl; front = (w.1, sym w.2); out_is = refl });
-        settled = settled_more;
-      }
+    -- a front of its reply was written
+    pub served_cut : (written : Option (List ℕ)) → AppendsFront output.after written reply → ServedBy ending.WriteFault kept p.script (stretch_of (turned start after arm_after)) (record { before = output.before; after = written })
+    served_cut written w = record {
+      course = course_of (s.done ++ st ∷ []) (s.replies ++ reply ∷ []) None;
+      rest = statements_of (drop (p.at + used) p.script);
+      out = concat s.replies ++ w.0;
+      split = split_more;
+      ran = ran_answered;
+      wrote = appends_more output.before output.after written (concat s.replies) w.0 s.wrote w.3;
+      stops = (refl, record { whole = s.replies; last = reply; part = w.0; replies_are = refl; front = (w.1, sym w.2); out_is = refl });
+    }
 
 -- no reply is among none
 pub none_stopped : (n : Outside) (h : History) (base : ℕ) → AreStopped n h base [] []
@@ -376,16 +406,29 @@ none_stopped n h base [] more x is unsettled = cc
 none_stopped n h base (y ∷ front) more x is unsettled = cc
 
 -- nothing was answered yet
-pub served_none : {F : Type 0} (files_of : F → Option Files) (kept : Told) (script : List ℕ) (opened disk arm : ℕ) (tally : Tally) (store : CoreStore F) (told : Option Told) (now_root : Option root.Told) (before : Option (List ℕ))
-    → told ≡ Some kept → tally.refused ≡ false → tally.damaged ≡ false → CoreStands files_of (history kept) store → RootStands now_root (history kept) → Served files_of kept script opened disk arm 0 tally store told now_root before before
-served_none files_of kept script opened disk arm tally store told now_root before is refused damaged stands settled = record {
+pub served_none : {F : Type 0} (files_of : F → Option Files) (kept : Told) (script : List ℕ) (tally : Tally) (start : Opened F) (arm : ℕ) (before : Option (List ℕ))
+    → Knows files_of kept start → RootStands start.storage.disk (history kept) → tally.refused ≡ false → tally.damaged ≡ false
+    → Served files_of kept (record { script = script; at = 0; tally = tally }) (turned start start arm) (record { before = before; after = before })
+served_none files_of kept script tally start arm before knows settled refused damaged = record {
   done = [];
   replies = [];
   split = refl;
-  ran = record { now = kept; more = []; told_is = is; list_is = sym (append-nil kept.list); legal = stands.legal; sessions = All-nil (λ (n : Noted). n.entry.session ≡ 0); run = λ n f. refl; stopped = λ n f. none_stopped n (history kept) (length kept.list); risen = λ some. cc };
-  begun = λ n f. inl (refl, refl);
-  stands = stands;
+  ran = record {
+    now = kept;
+    more = [];
+    told_is = knows.told_is;
+    list_is = sym (append-nil kept.list);
+    legal = knows.stands.legal;
+    sessions = All-nil (λ (n : Noted). n.entry.session ≡ 0);
+    place = length kept.list;
+    run = λ n f. refl;
+    last = refl;
+    stopped = λ n f. none_stopped n (history kept) (length kept.list);
+    risen = λ some. cc;
+    begun = λ n f. inl (refl, refl);
+    settled = λ none. settled;
+  };
+  stands = knows.stands;
   wrote = appends_none before;
   tells = record { refusals = refused; damages = damaged };
-  settled = λ none. settled;
 }

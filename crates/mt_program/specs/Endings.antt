@@ -1,7 +1,6 @@
--- The status of a run, by what ended it.
-use Rattle.std.specs.Prelude.{◌≡◌, ◌⊎◌, ℕ, Bool, false, List, Option, Some, Result, Ok, Err, if◌then◌else◌}
+-- The status of a run, by what ended it (docs/replies.md, "Statuses").
+use Rattle.std.specs.Prelude.{◌≡◌, ◌⊎◌, ℕ, Bool, false, List, Some, Result, Ok, Err, if◌then◌else◌}
 use Rattle.mt_values.specs.Annals.{Told}
-use Rattle.mt_outside.specs.Disk as root
 use Rattle.mt_outside.specs.declared.disk.DiskError.{DiskError}
 use Rattle.mt_outside.specs.declared.disk.DiskError.TheVariants as failure
 use Rattle.mt_program.specs.declared.serving.Ending.{Ending}
@@ -9,7 +8,7 @@ use Rattle.mt_program.specs.declared.serving.Ending.TheVariants as ending
 use Rattle.replies.specs.declared.tally.Tally.{Tally}
 use Rattle.run_streams.specs.declared.streams.SourceStop.{SourceStop}
 use Rattle.run_streams.specs.declared.streams.SourceStop.TheVariants as unread
-use Rattle.mt_program.specs.Serving.{ServedBy}
+use Rattle.mt_program.specs.Serving.{Output, ServedBy, Stretch}
 use Rattle.mt_program.specs.declared.status.Status.{Status}
 use Rattle.mt_program.specs.declared.status.Status.TheVariants as status
 
@@ -62,6 +61,6 @@ MetNoDamage (Ok ending.WriteFault) = Unit {0}
 MetNoDamage (Err early) = early ≡ status.Damaged → ⊥
 
 -- What is left of a script that was served. Where the run ended before, no more was told or written, and the root is as it was.
-abbrev pub LeftBy : Result Ending Status → Told → List ℕ → ℕ → ℕ → ℕ → Option Told → Option root.Told → Option root.Told → Option (List ℕ) → Option (List ℕ) → Type 0
-LeftBy (Ok ending) kept script opened disk arm told root_before root before after = ServedBy ending kept script opened disk arm told root before after
-LeftBy (Err early) kept script opened disk arm told root_before root before after = (told ≡ Some kept) × (after ≡ before) × (root ≡ root_before)
+abbrev pub LeftBy : Result Ending Status → Told → List ℕ → Stretch → Output → Type 0
+LeftBy (Ok ending) kept script s output = ServedBy ending kept script s output
+LeftBy (Err early) kept script s output = (s.now.annals ≡ Some kept) × (output.after ≡ output.before) × (s.now.disk ≡ s.root)

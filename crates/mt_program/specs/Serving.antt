@@ -1,5 +1,5 @@
--- What a script that was served leaves.
-use Rattle.std.specs.Prelude.{◌≡◌, ◌<◌, ℕ, true, List, [], ◌++◌, length, drop, All, Option, Some, None}
+-- What a script that was served leaves (docs/definitions.md, "Runs").
+use Rattle.std.specs.Prelude.{◌≡◌, ◌<◌, ℕ, true, List, [], ◌++◌, length, drop, All, Option, None, Some}
 use Rattle.std.specs.List.{concat, list_any}
 use Rattle.std.specs.Io.KnownBytes.{Appends}
 use Rattle.mt_values.specs.declared.annals.Noted.{Noted}
@@ -10,54 +10,81 @@ use Rattle.mt_outside.specs.Files.{Files}
 use Rattle.mt_model.specs.History.{IsLegal}
 use Rattle.mt_model.specs.Outside.{Outside}
 use Rattle.mt_model.specs.Session.{SessionReplies}
-use Rattle.root_store.specs.declared.store.CoreStore.{CoreStore}
+use Rattle.root_store.specs.Crashes.{Storage}
 use Rattle.root_store.specs.Stores.{CoreStands}
 use Rattle.replies.specs.Foreseen.{Foresees, history, is_unsettled}
-use Rattle.mt_program.specs.Courses.{AreSettled, AreStopped, IsBegunBy, IsCut, Item, TalliesReplies, course_of, with_unanswered}
+use Rattle.session.specs.Answers.{Turned}
+use Rattle.mt_program.specs.Courses.{AreSettled, AreStopped, Course, GoesUnanswered, IsBegunBy, IsCut, Item, TalliesReplies, course_of, started}
 use Rattle.mt_program.specs.declared.serving.Ending.{Ending}
 use Rattle.mt_program.specs.declared.serving.Ending.TheVariants as ending
 use Rattle.replies.specs.declared.tally.Tally.{Tally}
 
--- The annals list what it told and entries of session 0. The statements had these replies, whatever the counts come to.
-pub record Ran (kept : Told) (opened disk arm : ℕ) (done : List Item) (replies : List (List ℕ)) (told : Option Told) : Type 0 where
+-- What statements met and left: the disk's count of faults at opening, what the disk told before them, what is known of the disk and the annals
+-- after them, and the arm's count of faults after them.
+pub record Stretch : Type 0 where
+  pub opened : ℕ
+  pub root : Option root.Told
+  pub now : Storage
+  pub arm : ℕ
+
+-- what was met and left over an open root
+abbrev pub stretch_of : {F : Type 0} → Turned F → Stretch
+stretch_of t = record { opened = t.was.store.opened; root = t.was.storage.disk; now = t.now.storage; arm = t.arm }
+
+-- the counts that a run may come to agree with those at its end
+abbrev pub MayComeTo : Stretch → Outside → Type 0
+MayComeTo s n = Foresees s.opened s.now.failed s.arm n
+
+-- what is known of the bytes of a sink before statements and after them
+pub record Output : Type 0 where
+  pub before : Option (List ℕ)
+  pub after : Option (List ℕ)
+
+-- The annals list what they told and entries of session 0. The statements of the course ran, with its replies, whatever the counts come to, and
+-- what is begun is theirs or was begun before. Where none of the replies says that a commit failed, the root stands for the list.
+pub record Ran (kept : Told) (s : Stretch) (course : Course) : Type 0 where
   pub now : Told
   pub more : List Noted
-  pub told_is : told ≡ Some now
+  pub told_is : s.now.annals ≡ Some now
   pub list_is : now.list ≡ kept.list ++ more
   pub legal : IsLegal (history now)
   pub sessions : All (λ (n : Noted). n.entry.session ≡ 0) more
-  pub run : (n : Outside) → Foresees opened disk arm n → SessionReplies n (history now) 0 done (length kept.list) (length now.list) replies
-  pub stopped : (n : Outside) → Foresees opened disk arm n → AreStopped n (history now) (length kept.list) done replies
-  pub risen : list_any is_unsettled replies ≡ true → opened < disk
+  pub place : ℕ
+  pub run : (n : Outside) → MayComeTo s n → SessionReplies n (history now) 0 course.ran (length kept.list) place course.replies
+  pub last : GoesUnanswered (history now) course.unanswered place (length now.list)
+  pub stopped : (n : Outside) → MayComeTo s n → AreStopped n (history now) (length kept.list) course.ran course.replies
+  pub risen : list_any is_unsettled course.replies ≡ true → s.opened < s.now.failed
+  pub begun : (n : Outside) → MayComeTo s n → IsBegunBy n kept now course
+  pub settled : AreSettled course.replies s.now.disk (history now)
+
+-- how far a script was served: its bytes, the place in them, and what the replies so far said
+pub record Progress : Type 0 where
+  pub script : List ℕ
+  pub at : ℕ
+  pub tally : Tally
 
 -- The statements of the script up to a place ran, and their replies were written. The store stands for what the annals list.
-pub record Served {F : Type 0} (files_of : F → Option Files) (kept : Told) (script : List ℕ) (opened disk arm at : ℕ) (tally : Tally) (store : CoreStore F) (told : Option Told) (root : Option root.Told) (before after : Option (List ℕ)) : Type 0 where
+pub record Served {F : Type 0} (files_of : F → Option Files) (kept : Told) (p : Progress) (t : Turned F) (output : Output) : Type 0 where
   pub done : List Item
   pub replies : List (List ℕ)
-  pub split : statements_of script ≡ done ++ statements_of (drop at script)
-  pub ran : Ran kept opened disk arm done replies told
-  pub begun : (n : Outside) → Foresees opened disk arm n → IsBegunBy n kept ran.now (course_of done replies None)
-  pub stands : CoreStands files_of (history ran.now) store
-  pub wrote : Appends before after (concat replies)
-  pub tells : TalliesReplies tally replies
-  pub settled : AreSettled replies root (history ran.now)
+  pub split : statements_of p.script ≡ done ++ statements_of (drop p.at p.script)
+  pub ran : Ran kept (stretch_of t) (course_of done replies None)
+  pub stands : CoreStands files_of (history ran.now) t.now.store
+  pub wrote : Appends output.before output.after (concat replies)
+  pub tells : TalliesReplies p.tally replies
 
 -- which statements are left, and what was written of the replies: all of them whole, but where the sink failed
-abbrev pub StopsBy : Ending → Option Item → List Item → List (List ℕ) → List ℕ → Type 0
-StopsBy (ending.Done tally) unanswered rest replies out = (unanswered ≡ None) × (rest ≡ []) × TalliesReplies tally replies × (out ≡ concat replies)
-StopsBy ending.NoMemory unanswered rest replies out = out ≡ concat replies
-StopsBy ending.WriteFault unanswered rest replies out = (unanswered ≡ None) × IsCut replies out
+abbrev pub StopsBy : Ending → Course → List Item → List ℕ → Type 0
+StopsBy (ending.Done tally) course rest out = (course.unanswered ≡ None) × (rest ≡ []) × TalliesReplies tally course.replies × (out ≡ concat course.replies)
+StopsBy ending.NoMemory course rest out = out ≡ concat course.replies
+StopsBy ending.WriteFault course rest out = (course.unanswered ≡ None) × IsCut course.replies out
 
--- What a script that was served leaves, by how it ended: the first statements ran. One more may have run that has no reply, and added nothing.
-pub record ServedBy (ended : Ending) (kept : Told) (script : List ℕ) (opened disk arm : ℕ) (told : Option Told) (root : Option root.Told) (before after : Option (List ℕ)) : Type 0 where
-  pub done : List Item
+-- What a script that was served leaves, by how it ended: the first statements ran. One more may have run that has no reply.
+pub record ServedBy (ended : Ending) (kept : Told) (script : List ℕ) (s : Stretch) (output : Output) : Type 0 where
+  pub course : Course
   pub rest : List Item
-  pub replies : List (List ℕ)
-  pub unanswered : Option Item
   pub out : List ℕ
-  pub split : statements_of script ≡ with_unanswered done unanswered ++ rest
-  pub ran : Ran kept opened disk arm done replies told
-  pub begun : (n : Outside) → Foresees opened disk arm n → IsBegunBy n kept ran.now (course_of done replies unanswered)
-  pub wrote : Appends before after out
-  pub stops : StopsBy ended unanswered rest replies out
-  pub settled : AreSettled replies root (history ran.now)
+  pub split : statements_of script ≡ started course ++ rest
+  pub ran : Ran kept s course
+  pub wrote : Appends output.before output.after out
+  pub stops : StopsBy ended course rest out

@@ -17,6 +17,11 @@ pub record World : Type 0 where
   pub sink : Option (List ℕ)
   pub sink_failed : ℕ
 
+-- what is known at a moment, by each
+abbrev pub world : Storage → Option (List ℕ) → Option (List ℕ) → ℕ → Option (List ℕ) → ℕ → World
+world storage started source source_failed sink sink_failed =
+    record { storage = storage; started = started; source = source; source_failed = source_failed; sink = sink; sink_failed = sink_failed }
+
 -- the disk's counts of faults from one moment to another
 abbrev pub counts_of : World → World → Outside
 counts_of before after = record { opened = before.storage.failed; ended = after.storage.failed }

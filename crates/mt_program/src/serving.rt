@@ -6,22 +6,22 @@ ghost use Rattle.mt_values.specs.Script.{next_statement, statements_of};
 ghost use Rattle.mt_outside.specs.Causes.{Rose};
 ghost use Rattle.mt_model.specs.Refusals.{is_damage};
 ghost use Rattle.mt_model.specs.Written.{IsWritten};
-ghost use Rattle.root_store.specs.Crashes.{KeepsThroughCrashes, Storage};
-ghost use Rattle.root_store.specs.Soundness.{HasSoundParts, IsReady, RootStands};
-ghost use Rattle.root_store.specs.Stores.{CoreStands};
-ghost use Rattle.session.specs.Answers.{AcceptsNothing, Answers};
+ghost use Rattle.root_store.specs.Crashes.{KeepsThroughCrashes};
+ghost use Rattle.root_store.specs.Soundness.{HasSoundParts, RootStands};
+ghost use Rattle.session.specs.Answers.{AcceptsNothing, Answers, Knows, Turned};
+ghost use Rattle.shared_store.specs.Engines.{GoesOn, GoesThroughCrashes};
 ghost use Rattle.replies.specs.Causes.{HasCauses};
 ghost use Rattle.replies.specs.Foreseen.{history};
 ghost use Rattle.mt_program.specs.Crashes.{IsGainedBy, LeavesForCrashes};
 ghost use Rattle.mt_program.specs.Endings.{MetNoDamage};
-ghost use Rattle.mt_program.specs.Serving.{ServedBy};
+ghost use Rattle.mt_program.specs.Serving.{Output, ServedBy, stretch_of};
 
 use mt_base::NoMemory;
-use mt_outside::{Arm, Disk, Gate, Point, Sink, Who};
+use mt_outside::{Arm, Dir, Disk, Gate, Point, Sink, Who};
 use mt_values::{Annals, Cause, Statement};
 use replies::{Tally, write_reply};
-use root_log::CoreStore;
 use session::run_statement;
+use shared_store::Engine;
 use sql_read::{Next, next_statement};
 use std::alloc::Global;
 
@@ -57,48 +57,40 @@ fn read_next(
 }
 
 /// Answers the statements of a script in order, each reply written whole before the next statement runs.
-pub fn serve<D: Disk, A: Annals, K: Sink, G: Gate>(
+pub fn serve<F: Dir, R: Arm<Dir = F>, D: Disk<Arm = R>, A: Annals, K: Sink, G: Gate>(
     alloc: Global,
-    store: &mut CoreStore<<D::Arm as Arm>::Dir>,
-    disk: &mut D,
-    arm: &mut D::Arm,
-    annals: &mut A,
+    engine: &mut Engine<F, R, D, A>,
+    arm: &mut R,
     sink: &mut K,
     gate: &mut G,
     script: &[u8],
 ) -> Ending
-    requires ready { IsReady (D.failed disk.old) (D.told disk.old) store.old }
-    ensures run { (kept : Told) → A.told annals.old ≡ Some kept → D.Arm.tells arm.old ≡ true
-        → CoreStands D.Arm.Dir.files (history kept) store.old
-        → RootStands (D.told disk.old) (history kept)
-        → ServedBy result kept script.now store.old.opened (D.failed disk.new)
-        (D.Arm.failed arm.new) (A.told annals.new) (D.told disk.new) (K.written sink.old)
-        (K.written sink.new) }
-    ensures through_crashes { let was : Storage = record {
-      disk = D.told disk.old;
-      clock = D.clock disk.old;
-      failed = D.failed disk.old;
-      annals = A.told annals.old;
+    // What is answered and written, and what a crash leaves.
+    ensures run { let turned : Turned F = record {
+      was = engine.old;
+      now = engine.new;
+      arm = R.failed arm.new;
     } in
-        let now : Storage = record {
-          disk = D.told disk.new;
-          clock = D.clock disk.new;
-          failed = D.failed disk.new;
-          annals = A.told annals.new;
-        } in
-        (first : Told) (start : ℕ) → D.Arm.tells arm.old ≡ true
-        → KeepsThroughCrashes D.Arm.Dir.files store.old was first start
-        → IsGainedBy [] (A.told annals.old) first
-        → LeavesForCrashes (statements_of script.now) store.old.opened now first start }
-    ensures undamaged { D.Arm.tells arm.old ≡ true → HasSoundParts D.Arm.Dir.files store.old
+        let output : Output = record { before = K.written sink.old; after = K.written sink.new } in
+        (kept : Told) → R.tells arm.old ≡ true → Knows F.files kept engine.old
+        → RootStands engine.old.storage.disk (history kept)
+        → ServedBy result kept script.now (stretch_of turned) output }
+    ensures undamaged { R.tells arm.old ≡ true → HasSoundParts F.files engine.old.store
         → MetNoDamage (Ok result) }
-    ensures started { D.started disk.new ≡ D.started disk.old }
-    ensures disk_later { D.failed disk.old ≤ D.failed disk.new }
-    ensures arm_later { D.Arm.failed arm.old ≤ D.Arm.failed arm.new }
+    ensures through_crashes { (first : Told) (start : ℕ) → R.tells arm.old ≡ true
+        → KeepsThroughCrashes F.files engine.old.store engine.old.storage first start
+        → IsGainedBy [] engine.old.storage.annals first
+        → LeavesForCrashes (statements_of script.now) engine.old.store.opened
+        engine.new.storage first start }
+
+    // What the root is then, and what the counts of faults are.
+    ensures goes_on { GoesOn engine.old engine.new }
+    ensures arm_later { R.failed arm.old ≤ R.failed arm.new }
     ensures sink_later { K.failed sink.old ≤ K.failed sink.new }
     ensures write_fault { result ≡ Ending.WriteFault
         → Rose (K.failed sink.old) (K.failed sink.new) }
 {
+    engine.is_open();
     let mut at = 0;
     let mut tally = Tally::none();
     'statements: while at < script.len() {
@@ -108,7 +100,7 @@ pub fn serve<D: Disk, A: Annals, K: Sink, G: Gate>(
             Err(_) => return Ending::NoMemory,
         };
         gate.pass(Who::Session(0), Point::StatementStart);
-        let reply = match run_statement(alloc, store, disk, arm, annals, gate, statement) {
+        let reply = match run_statement(alloc, engine, arm, gate, statement) {
             Ok(reply) => reply,
             Err(_) => return Ending::NoMemory,
         };

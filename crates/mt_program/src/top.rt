@@ -1,31 +1,36 @@
 // All that the program does.
-ghost use Rattle.std.specs.Prelude.{◌≡◌, ◌≢◌, ◌+◌, ◌⊎◌, ◌↔◌, ◌≤◌, ◌<◌, ◌^◌, ◌-◌, List, ℕ, [], Err, Ok, Some, true, false, IfErr, IsErrAnd, IsErrOf, OnOk, length};
+ghost use Rattle.std.specs.Prelude.{◌≡◌, ◌≢◌, ◌+◌, ◌⊎◌, ◌↔◌, ◌≤◌, ◌<◌, ◌^◌, ◌-◌, List, ℕ, [], Err, Ok, Some, true, false, IfErr, IfOk, IsErrAnd, IsErrOf, OnOk, is_some, length};
 ghost use Rattle.mt_values.specs.Annals.{Told};
 ghost use Rattle.mt_outside.specs.Causes.{Rose};
 ghost use Rattle.mt_outside.specs.Disk as root;
 ghost use Rattle.root_opening.specs.declared.opening.Damage.{Damage as Damaged};
-ghost use Rattle.root_store.specs.Crashes.{AllStand, KeepsThroughCrashes, Storage};
+ghost use Rattle.root_store.specs.Crashes.{AllStand, KeepsThroughCrashes};
 ghost use Rattle.root_opening.specs.Opening.{IsNotDamaged, IsRootDamage};
 ghost use Rattle.root_store.specs.Roots.{Stands};
 ghost use Rattle.root_store.specs.Soundness.{HasSoundParts, IsReady, RootStands};
 ghost use Rattle.root_store.specs.Stores.{CoreStands};
+ghost use Rattle.root_commits.specs.Turns.{storage};
 ghost use Rattle.replies.specs.Foreseen.{history};
+ghost use Rattle.session.specs.Answers.{Knows, Turned};
+ghost use Rattle.shared_store.specs.Engines.{GoesOn};
 ghost use Rattle.mt_program.specs.Crashes.{IsAsBefore, IsGainedBy, LeavesOfScript};
 ghost use Rattle.mt_program.specs.Damage.{IsDamagedRoot, WritesDamage, WritesFault, damage_line};
 ghost use Rattle.mt_program.specs.Endings.{IsAnswered, IsEarly, LeftBy, MetNoDamage, status_of, status_of_error, status_of_stop};
-ghost use Rattle.mt_program.specs.Headline.{Headline, HeadlineBy};
-ghost use Rattle.mt_program.specs.Promises.{IsComplete, IsUntouched, OfCrashes, OfDamage, OfFolder, Promises};
-ghost use Rattle.mt_program.specs.Worlds.{Starts, World};
+ghost use Rattle.mt_program.specs.Headline.{Headline};
+ghost use Rattle.mt_program.specs.Promises.{IsUntouched, OfCrashes, Promises};
+ghost use Rattle.mt_program.specs.Serving.{Output, Stretch, stretch_of};
+ghost use Rattle.mt_program.specs.Worlds.{Starts, world};
 ghost use Rattle.run_streams.specs.Streams.{ConsumesMost};
 ghost use Rattle.run_streams.specs.Words.{is_command, path_of};
 
 use crate::Status;
 use crate::refusals::damage_line;
 use crate::serving::{Ending, serve};
-use mt_outside::{Arm, Disk, DiskError, Gate, Sink, Source};
+use mt_outside::{Arm, Dir, Disk, DiskError, Gate, Sink, Source};
 use mt_values::Annals;
-use root_log::{CoreStore, Damage, OpenFault, open};
+use root_log::{Damage, OpenFault, open};
 use run_streams::{SourceStop, is_command_line, read_all, write_all};
+use shared_store::Engine;
 use std::alloc::Global;
 use std::sync::Wait;
 use std::thread::Threads;
@@ -36,6 +41,14 @@ pub struct Done<D, A> {
     pub status: u8,
     pub disk: D,
     pub annals: A,
+}
+
+// How a part of a run ended, with the disk and the annals.
+#[derive(Drop)]
+struct Ended<E, D, A> {
+    ended: E,
+    disk: D,
+    annals: A,
 }
 
 /// The status of a call on the disk that failed at opening.
@@ -75,47 +88,33 @@ fn status_at_end(ended: Result<Ending, Status>, risen: bool) -> Status
     }
 }
 
-/// Reads the script and answers its statements, over a store that was opened.
+/// Reads the script and answers its statements, over a root that is open.
 ///
 /// The status of a script that was not read.
-fn run_script<D: Disk, A: Annals, S: Source, K: Sink, G: Gate>(
+fn run_script<F: Dir, R: Arm<Dir = F>, D: Disk<Arm = R>, A: Annals, S: Source, K: Sink, G: Gate>(
     alloc: Global,
-    store: &mut CoreStore<<D::Arm as Arm>::Dir>,
+    engine: &mut Engine<F, R, D, A>,
     source: &mut S,
     sink: &mut K,
-    disk: &mut D,
-    arm: &mut D::Arm,
-    annals: &mut A,
+    arm: &mut R,
     gate: &mut G,
 ) -> Result<Ending, Status>
-    requires ready { IsReady (D.failed disk.old) (D.told disk.old) store.old }
-
     // What is answered, and what a crash leaves.
-    ensures leaves { (kept : Told) (script : List ℕ) → A.told annals.old ≡ Some kept
-        → D.Arm.tells arm.old ≡ true → S.left source.old ≡ Some script
-        → CoreStands D.Arm.Dir.files (history kept) store.old
-        → RootStands (D.told disk.old) (history kept)
-        → LeftBy result kept script store.old.opened (D.failed disk.new) (D.Arm.failed arm.new)
-        (A.told annals.new) (D.told disk.old) (D.told disk.new) (K.written sink.old)
-        (K.written sink.new) }
-    ensures undamaged { D.Arm.tells arm.old ≡ true → HasSoundParts D.Arm.Dir.files store.old
-        → MetNoDamage result }
-    ensures through_crashes { let was : Storage = record {
-      disk = D.told disk.old;
-      clock = D.clock disk.old;
-      failed = D.failed disk.old;
-      annals = A.told annals.old;
+    ensures leaves { let turned : Turned F = record {
+      was = engine.old;
+      now = engine.new;
+      arm = R.failed arm.new;
     } in
-        let now : Storage = record {
-          disk = D.told disk.new;
-          clock = D.clock disk.new;
-          failed = D.failed disk.new;
-          annals = A.told annals.new;
-        } in
-        (first : Told) (start : ℕ) → D.Arm.tells arm.old ≡ true
-        → KeepsThroughCrashes D.Arm.Dir.files store.old was first start
-        → IsGainedBy [] (A.told annals.old) first
-        → LeavesOfScript (S.left source.old) store.old.opened now first start }
+        let output : Output = record { before = K.written sink.old; after = K.written sink.new } in
+        (kept : Told) (script : List ℕ) → R.tells arm.old ≡ true → Knows F.files kept engine.old
+        → RootStands engine.old.storage.disk (history kept) → S.left source.old ≡ Some script
+        → LeftBy result kept script (stretch_of turned) output }
+    ensures undamaged { R.tells arm.old ≡ true → HasSoundParts F.files engine.old.store
+        → MetNoDamage result }
+    ensures through_crashes { (first : Told) (start : ℕ) → R.tells arm.old ≡ true
+        → KeepsThroughCrashes F.files engine.old.store engine.old.storage first start
+        → IsGainedBy [] engine.old.storage.annals first → LeavesOfScript (S.left source.old)
+        engine.old.store.opened engine.new.storage first start }
 
     // What was read, and why it ended early.
     ensures whole { (script : List ℕ) → S.left source.old ≡ Some script
@@ -130,16 +129,16 @@ fn run_script<D: Disk, A: Annals, S: Source, K: Sink, G: Gate>(
         → ConsumesMost (S.left source.old) (S.left source.new) }
     ensures write { result ≡ Ok Ending.WriteFault → Rose (K.failed sink.old) (K.failed sink.new) }
 
-    // What stays, and what the counts of faults are.
-    ensures started { D.started disk.new ≡ D.started disk.old }
-    ensures disk_later { D.failed disk.old ≤ D.failed disk.new }
-    ensures arm_later { D.Arm.failed arm.old ≤ D.Arm.failed arm.new }
+    // What the root is then, and what the arm's count of faults is.
+    ensures goes_on { GoesOn engine.old engine.new }
+    ensures arm_later { R.failed arm.old ≤ R.failed arm.new }
 {
+    engine.is_open();
     let text = match read_all(alloc, source) {
         Ok(text) => text,
         Err(stop) => return Err(failed_reading(stop)),
     };
-    let ending = serve(alloc, store, disk, arm, annals, sink, gate, &text);
+    let ending = serve(alloc, engine, arm, sink, gate, &text);
     Ok(ending)
 }
 
@@ -184,90 +183,134 @@ fn run_root<D: Disk, A: Annals, S: Source, K: Sink, G: Gate>(
     opened: u64,
     source: &mut S,
     sink: &mut K,
-    disk: &mut D,
+    disk: D,
     arm: &mut D::Arm,
-    annals: &mut A,
+    annals: A,
     gate: &mut G,
-) -> Result<Ending, Status>
-    requires opened { opened ≤ D.failed disk.old }
+) -> Ended<Result<Ending, Status>, D, A>
+    requires opened { opened ≤ D.failed disk }
     requires below { opened < 2 ^ 64 - 1 }
 
     // What is answered, and what is told of damage.
-    ensures leaves { (kept : Told) (told : root.Told) (script : List ℕ)
-        → A.told annals.old ≡ Some kept → D.told disk.old ≡ Some told
-        → Stands (root.names_of told) (history kept) → D.Arm.tells arm.old ≡ true
-        → S.left source.old ≡ Some script
-        → LeftBy result kept script opened (D.failed disk.new) (D.Arm.failed arm.new)
-        (A.told annals.new) (D.told disk.old) (D.told disk.new) (K.written sink.old)
-        (K.written sink.new) }
-    ensures opening { (told : root.Told) (damage : Damaged) → D.told disk.old ≡ Some told
-        → IsRootDamage (root.names_of told) damage
-        → IsErrAnd result (λ ended. WritesDamage ended (damage_line damage) (K.failed sink.old)
-        (K.failed sink.new) (K.written sink.old) (K.written sink.new))
-        × (D.told disk.new ≡ D.told disk.old) × (D.clock disk.new ≡ D.clock disk.old)
-        × (A.told annals.new ≡ A.told annals.old) }
-    ensures sound { (kept : Told) (told : root.Told) → A.told annals.old ≡ Some kept
-        → D.told disk.old ≡ Some told → Stands (root.names_of told) (history kept)
-        → D.Arm.tells arm.old ≡ true → MetNoDamage result }
-    ensures damaged { (told : root.Told) → D.told disk.old ≡ Some told → D.Arm.tells arm.old ≡ true
-        → MetNoDamage result ⊎ IsDamagedRoot (root.names_of told) }
+    ensures leaves { let stretch : Stretch = record {
+      opened = opened;
+      root = D.told disk;
+      now = storage (D.told result.disk) (D.clock result.disk) (D.failed result.disk)
+          (A.told result.annals);
+      arm = D.Arm.failed arm.new;
+    } in
+        let output : Output = record { before = K.written sink.old; after = K.written sink.new } in
+        (kept : Told) (told : root.Told) (script : List ℕ) → A.told annals ≡ Some kept
+        → D.told disk ≡ Some told → Stands (root.names_of told) (history kept)
+        → D.Arm.tells arm.old ≡ true → S.left source.old ≡ Some script
+        → LeftBy result.ended kept script stretch output }
+    ensures opening { (told : root.Told) (damage : Damaged) → D.told disk ≡ Some told
+        → IsRootDamage (root.names_of told) damage → IsErrAnd result.ended (λ ended.
+        WritesDamage ended (damage_line damage) (K.failed sink.old) (K.failed sink.new)
+        (K.written sink.old) (K.written sink.new)) × (D.told result.disk ≡ D.told disk)
+        × (D.clock result.disk ≡ D.clock disk) × (A.told result.annals ≡ A.told annals) }
+    ensures sound { (kept : Told) (told : root.Told) → A.told annals ≡ Some kept
+        → D.told disk ≡ Some told → Stands (root.names_of told) (history kept)
+        → D.Arm.tells arm.old ≡ true → MetNoDamage result.ended }
+    ensures damaged { (told : root.Told) → D.told disk ≡ Some told → D.Arm.tells arm.old ≡ true
+        → MetNoDamage result.ended ⊎ IsDamagedRoot (root.names_of told) }
 
     // What a crash leaves.
-    ensures crashes { let now : Storage = record {
-      disk = D.told disk.new;
-      clock = D.clock disk.new;
-      failed = D.failed disk.new;
-      annals = A.told annals.new;
-    } in
-        (kept : Told) (told : root.Told) → A.told annals.old ≡ Some kept
-        → D.told disk.old ≡ Some told → D.Arm.tells arm.old ≡ true
-        → AllStand told (D.clock disk.old) (history kept)
-        → LeavesOfScript (S.left source.old) opened now kept (D.clock disk.old) }
-    ensures settles { let was : Storage = record {
-      disk = D.told disk.old;
-      clock = D.clock disk.old;
-      failed = D.failed disk.old;
-      annals = A.told annals.old;
-    } in
-        let now : Storage = record {
-          disk = D.told disk.new;
-          clock = D.clock disk.new;
-          failed = D.failed disk.new;
-          annals = A.told annals.new;
-        } in
-        (kept : Told) (told : root.Told) → A.told annals.old ≡ Some kept
-        → D.told disk.old ≡ Some told → D.Arm.tells arm.old ≡ true → root.names_of told ≢ []
-        → AllStand told (D.clock disk.old + 1) (history kept)
+    ensures crashes { let now = storage (D.told result.disk) (D.clock result.disk)
+        (D.failed result.disk) (A.told result.annals) in
+        (kept : Told) (told : root.Told) → A.told annals ≡ Some kept → D.told disk ≡ Some told
+        → D.Arm.tells arm.old ≡ true → AllStand told (D.clock disk) (history kept)
+        → LeavesOfScript (S.left source.old) opened now kept (D.clock disk) }
+    ensures settles { let was = storage (D.told disk) (D.clock disk) (D.failed disk)
+        (A.told annals) in
+        let now = storage (D.told result.disk) (D.clock result.disk) (D.failed result.disk)
+        (A.told result.annals) in
+        (kept : Told) (told : root.Told) → A.told annals ≡ Some kept → D.told disk ≡ Some told
+        → D.Arm.tells arm.old ≡ true → root.names_of told ≢ []
+        → AllStand told (D.clock disk + 1) (history kept)
         → IsAsBefore was now (K.written sink.old) (K.written sink.new)
-        ⊎ LeavesOfScript (S.left source.old) opened now kept (D.clock disk.old + 1) }
+        ⊎ LeavesOfScript (S.left source.old) opened now kept (D.clock disk + 1) }
 
     // What was read, and why it ended early.
     ensures whole { (script : List ℕ) → S.left source.old ≡ Some script
-        → OnOk result ((length script < 2 ^ 40) × (S.left source.new ≡ Some [])) }
-    ensures early { IfErr result IsEarly }
-    ensures unread { IsErrOf result Status.DiskFault → source.new ≡ source.old }
-    ensures mark { IsErrOf result Status.DiskFault → D.clock disk.new ≡ D.clock disk.old }
-    ensures read { IsErrOf result Status.ReadFault
+        → OnOk result.ended ((length script < 2 ^ 40) × (S.left source.new ≡ Some [])) }
+    ensures early { IfErr result.ended IsEarly }
+    ensures unread { IsErrOf result.ended Status.DiskFault → source.new ≡ source.old }
+    ensures mark { IsErrOf result.ended Status.DiskFault
+        → D.clock result.disk ≡ D.clock disk }
+    ensures read { IsErrOf result.ended Status.ReadFault
         → Rose (S.failed source.old) (S.failed source.new) }
-    ensures unfailed { (IsErrOf result Status.ReadFault → ⊥)
+    ensures unfailed { (IsErrOf result.ended Status.ReadFault → ⊥)
         → S.failed source.new ≡ S.failed source.old }
-    ensures disk { IsErrOf result Status.DiskFault → Rose (D.failed disk.old) (D.failed disk.new)
+    ensures disk { IsErrOf result.ended Status.DiskFault
+        → Rose (D.failed disk) (D.failed result.disk)
         ⊎ Rose (D.Arm.failed arm.old) (D.Arm.failed arm.new) }
-    ensures long { IsErrOf result Status.TooLong
+    ensures long { IsErrOf result.ended Status.TooLong
         → ConsumesMost (S.left source.old) (S.left source.new) }
-    ensures write { result ≡ Ok Ending.WriteFault → Rose (K.failed sink.old) (K.failed sink.new) }
+    ensures write { result.ended ≡ Ok Ending.WriteFault
+        → Rose (K.failed sink.old) (K.failed sink.new) }
 
     // What stays, and what the counts of faults are.
-    ensures started { D.started disk.new ≡ D.started disk.old }
-    ensures disk_later { D.failed disk.old ≤ D.failed disk.new }
+    ensures started { D.started result.disk ≡ D.started disk }
+    ensures disk_later { D.failed disk ≤ D.failed result.disk }
     ensures arm_later { D.Arm.failed arm.old ≤ D.Arm.failed arm.new }
 {
-    let mut store = match open(alloc, disk, arm) {
+    let mut disk = disk;
+    let mut store = match open(alloc, &mut disk, arm) {
         Ok(store) => store,
-        Err(fault) => return Err(failed_root(alloc, sink, &fault)),
+        Err(fault) => {
+            let ended = Err(failed_root(alloc, sink, &fault));
+            return Ended {
+                ended,
+                disk,
+                annals,
+            };
+        }
     };
     store.opened = opened;
-    run_script(alloc, &mut store, source, sink, disk, arm, annals, gate)
+    let mut engine = Engine::new(store, disk, annals);
+    let ended = run_script(alloc, &mut engine, source, sink, arm, gate);
+    let (disk, annals) = engine.into_outside();
+    Ended {
+        ended,
+        disk,
+        annals,
+    }
+}
+
+/// Starts the disk at a path, and makes an arm of it.
+///
+/// `DiskFault` where a call failed, or where the disk's count of faults stood at its type's end before; `NoMemory` where an
+/// allocation failed. What the disk tells is as it was.
+fn started_arm<D: Disk>(alloc: Global, path: &str, disk: &mut D) -> Result<D::Arm, Status>
+    // What is answered, and what the disk tells then.
+    ensures tells { IfOk result (λ arm. D.Arm.tells arm ≡ is_some (D.told disk.old)) }
+    ensures status { IfErr result
+        (λ status. (status ≡ Status.DiskFault) ⊎ (status ≡ Status.NoMemory)) }
+    ensures told { D.told disk.new ≡ D.told disk.old }
+    ensures clock { D.clock disk.new ≡ D.clock disk.old }
+    ensures started { OnOk result (D.started disk.new ≡ Some path.now) }
+    ensures folder { (D.started disk.new ≡ Some path.now)
+        ⊎ (D.started disk.new ≡ D.started disk.old) }
+
+    // What its count of faults is.
+    ensures full { D.failed disk.old ≡ 2 ^ 64 - 1 → (disk.new ≡ disk.old)
+        × IsErrOf result Status.DiskFault }
+    ensures below { OnOk result (D.failed disk.old < 2 ^ 64 - 1) }
+    ensures fault { IsErrOf result Status.DiskFault
+        → Rose (D.failed disk.old) (D.failed disk.new) }
+    ensures later { D.failed disk.old ≤ D.failed disk.new }
+{
+    if disk.faults() == u64::MAX {
+        return Err(Status::DiskFault);
+    }
+    if let Err(error) = disk.start(path) {
+        return Err(failed_opening(error));
+    }
+    match disk.arm(alloc) {
+        Ok(arm) => Ok(arm),
+        Err(error) => Err(failed_opening(error)),
+    }
 }
 
 /// Starts the disk, opens the root and runs the script. The arm is given back in each case.
@@ -276,137 +319,89 @@ fn run_opened<D: Disk, A: Annals, S: Source, K: Sink, G: Gate>(
     path: &str,
     source: &mut S,
     sink: &mut K,
-    disk: &mut D,
-    annals: &mut A,
+    disk: D,
+    annals: A,
     gate: &mut G,
-) -> Status
+) -> Ended<Status, D, A>
     // What is answered, and what is told of damage.
-    ensures headline { let before : World = record {
-      storage = record {
-        disk = D.told disk.old;
-        clock = D.clock disk.old;
-        failed = D.failed disk.old;
-        annals = A.told annals.old;
-      };
-      started = D.started disk.old;
-      source = S.left source.old;
-      source_failed = S.failed source.old;
-      sink = K.written sink.old;
-      sink_failed = K.failed sink.old;
-    } in
-        let after : World = record {
-          storage = record {
-            disk = D.told disk.new;
-            clock = D.clock disk.new;
-            failed = D.failed disk.new;
-            annals = A.told annals.new;
-          };
-          started = D.started disk.new;
-          source = S.left source.new;
-          source_failed = S.failed source.new;
-          sink = K.written sink.new;
-          sink_failed = K.failed sink.new;
-        } in
+    ensures headline { let before = world (storage (D.told disk) (D.clock disk) (D.failed disk)
+        (A.told annals)) (D.started disk) (S.left source.old) (S.failed source.old)
+        (K.written sink.old) (K.failed sink.old) in
+        let after = world (storage (D.told result.disk) (D.clock result.disk)
+        (D.failed result.disk) (A.told result.annals)) (D.started result.disk)
+        (S.left source.new) (S.failed source.new) (K.written sink.new) (K.failed sink.new) in
         (kept : Told) (script written : List ℕ) → Starts before kept script written
-        → Headline result before after kept script written }
-    ensures opening { (told : root.Told) (damage : Damaged) → D.told disk.old ≡ Some told
+        → Headline result.ended before after kept script written }
+    ensures opening { (told : root.Told) (damage : Damaged) → D.told disk ≡ Some told
         → IsRootDamage (root.names_of told) damage
-        → WritesDamage result (damage_line damage) (K.failed sink.old) (K.failed sink.new)
-        (K.written sink.old) (K.written sink.new) × (D.told disk.new ≡ D.told disk.old)
-        × (D.clock disk.new ≡ D.clock disk.old) × (A.told annals.new ≡ A.told annals.old) }
-    ensures sound { (kept : Told) (told : root.Told) → A.told annals.old ≡ Some kept
-        → D.told disk.old ≡ Some told → Stands (root.names_of told) (history kept)
-        → result ≡ Status.Damaged → ⊥ }
-    ensures damaged { (told : root.Told) → D.told disk.old ≡ Some told → result ≡ Status.Damaged
-        → IsDamagedRoot (root.names_of told) }
+        → WritesDamage result.ended (damage_line damage) (K.failed sink.old) (K.failed sink.new)
+        (K.written sink.old) (K.written sink.new) × (D.told result.disk ≡ D.told disk)
+        × (D.clock result.disk ≡ D.clock disk) × (A.told result.annals ≡ A.told annals) }
+    ensures sound { (kept : Told) (told : root.Told) → A.told annals ≡ Some kept
+        → D.told disk ≡ Some told → Stands (root.names_of told) (history kept)
+        → result.ended ≡ Status.Damaged → ⊥ }
+    ensures damaged { (told : root.Told) → D.told disk ≡ Some told
+        → result.ended ≡ Status.Damaged → IsDamagedRoot (root.names_of told) }
 
-    // What a crash leaves.
-    ensures crashes { let now : Storage = record {
-      disk = D.told disk.new;
-      clock = D.clock disk.new;
-      failed = D.failed disk.new;
-      annals = A.told annals.new;
-    } in
-        (kept : Told) (told : root.Told) → A.told annals.old ≡ Some kept
-        → D.told disk.old ≡ Some told → AllStand told (D.clock disk.old) (history kept)
-        → LeavesOfScript (S.left source.old) (D.failed disk.old) now kept (D.clock disk.old) }
-    ensures settles { let was : Storage = record {
-      disk = D.told disk.old;
-      clock = D.clock disk.old;
-      failed = D.failed disk.old;
-      annals = A.told annals.old;
-    } in
-        let now : Storage = record {
-          disk = D.told disk.new;
-          clock = D.clock disk.new;
-          failed = D.failed disk.new;
-          annals = A.told annals.new;
-        } in
-        (kept : Told) (told : root.Told) → A.told annals.old ≡ Some kept
-        → D.told disk.old ≡ Some told → root.names_of told ≢ []
-        → AllStand told (D.clock disk.old + 1) (history kept)
-        → IsAsBefore was now (K.written sink.old) (K.written sink.new)
-        ⊎ LeavesOfScript (S.left source.old) (D.failed disk.old) now kept (D.clock disk.old + 1) }
-
-    // Which folder was opened.
-    ensures folder { let before : World = record {
-      storage = record {
-        disk = D.told disk.old;
-        clock = D.clock disk.old;
-        failed = D.failed disk.old;
-        annals = A.told annals.old;
-      };
-      started = D.started disk.old;
-      source = S.left source.old;
-      source_failed = S.failed source.old;
-      sink = K.written sink.old;
-      sink_failed = K.failed sink.old;
-    } in
-        let after : World = record {
-          storage = record {
-            disk = D.told disk.new;
-            clock = D.clock disk.new;
-            failed = D.failed disk.new;
-            annals = A.told annals.new;
-          };
-          started = D.started disk.new;
-          source = S.left source.new;
-          source_failed = S.failed source.new;
-          sink = K.written sink.new;
-          sink_failed = K.failed sink.new;
-        } in
-        (D.started disk.new ≡ Some path.now) ⊎ IsUntouched before after }
+    // What a crash leaves, and which folder was opened.
+    ensures crashes { let before = world (storage (D.told disk) (D.clock disk) (D.failed disk)
+        (A.told annals)) (D.started disk) (S.left source.old) (S.failed source.old)
+        (K.written sink.old) (K.failed sink.old) in
+        let after = world (storage (D.told result.disk) (D.clock result.disk)
+        (D.failed result.disk) (A.told result.annals)) (D.started result.disk)
+        (S.left source.new) (S.failed source.new) (K.written sink.new) (K.failed sink.new) in
+        OfCrashes before after }
+    ensures folder { let before = world (storage (D.told disk) (D.clock disk) (D.failed disk)
+        (A.told annals)) (D.started disk) (S.left source.old) (S.failed source.old)
+        (K.written sink.old) (K.failed sink.old) in
+        let after = world (storage (D.told result.disk) (D.clock result.disk)
+        (D.failed result.disk) (A.told result.annals)) (D.started result.disk)
+        (S.left source.new) (S.failed source.new) (K.written sink.new) (K.failed sink.new) in
+        (D.started result.disk ≡ Some path.now) ⊎ IsUntouched before after }
 
     // What was read, and why it ended so.
-    ensures full { D.failed disk.old ≡ 2 ^ 64 - 1 → (result ≡ Status.DiskFault)
-        × (disk.new ≡ disk.old) × (annals.new ≡ annals.old) × (source.new ≡ source.old)
-        × (sink.new ≡ sink.old) }
-    ensures whole { (script : List ℕ) → S.left source.old ≡ Some script → IsAnswered result
-        → (length script < 2 ^ 40) × (S.left source.new ≡ Some []) }
-    ensures words { result ≡ Status.NotWords → ⊥ }
-    ensures read { result ≡ Status.ReadFault → Rose (S.failed source.old) (S.failed source.new) }
-    ensures unfailed { (result ≡ Status.ReadFault → ⊥)
+    ensures full { D.failed disk ≡ 2 ^ 64 - 1 → (result.ended ≡ Status.DiskFault)
+        × (source.new ≡ source.old) × (sink.new ≡ sink.old) × (result.disk ≡ disk)
+        × (result.annals ≡ annals) }
+    ensures whole { (script : List ℕ) → S.left source.old ≡ Some script
+        → IsAnswered result.ended → (length script < 2 ^ 40) × (S.left source.new ≡ Some []) }
+    ensures words { result.ended ≡ Status.NotWords → ⊥ }
+    ensures read { result.ended ≡ Status.ReadFault
+        → Rose (S.failed source.old) (S.failed source.new) }
+    ensures unfailed { (result.ended ≡ Status.ReadFault → ⊥)
         → S.failed source.new ≡ S.failed source.old }
-    ensures write { result ≡ Status.WriteFault → Rose (K.failed sink.old) (K.failed sink.new) }
-    ensures disk { result ≡ Status.DiskFault → Rose (D.failed disk.old) (D.failed disk.new) }
-    ensures long { result ≡ Status.TooLong → ConsumesMost (S.left source.old) (S.left source.new) }
-    ensures calm { IsAnswered result → D.failed disk.new ≡ D.failed disk.old }
-    ensures later { D.failed disk.old ≤ D.failed disk.new }
+    ensures write { result.ended ≡ Status.WriteFault
+        → Rose (K.failed sink.old) (K.failed sink.new) }
+    ensures disk { result.ended ≡ Status.DiskFault → Rose (D.failed disk) (D.failed result.disk) }
+    ensures long { result.ended ≡ Status.TooLong
+        → ConsumesMost (S.left source.old) (S.left source.new) }
+    ensures calm { IsAnswered result.ended → D.failed result.disk ≡ D.failed disk }
+    ensures later { D.failed disk ≤ D.failed result.disk }
 {
+    let mut disk = disk;
     let opened = disk.faults();
-    if opened == u64::MAX {
-        return Status::DiskFault;
-    }
-    if let Err(error) = disk.start(path) {
-        return failed_opening(error);
-    }
-    let mut arm = match disk.arm(alloc) {
+    let mut arm = match started_arm(alloc, path, &mut disk) {
         Ok(arm) => arm,
-        Err(error) => return failed_opening(error),
+        Err(ended) => {
+            return Ended {
+                ended,
+                disk,
+                annals,
+            };
+        }
     };
-    let ended = run_root(alloc, opened, source, sink, disk, &mut arm, annals, gate);
+    let Ended {
+        ended,
+        mut disk,
+        annals,
+    } = run_root(alloc, opened, source, sink, disk, &mut arm, annals, gate);
     disk.take_back(arm);
-    status_at_end(ended, opened < disk.faults())
+    let ended = status_at_end(ended, opened < disk.faults());
+    Ended {
+        ended,
+        disk,
+        annals,
+    }
 }
 
 /// The folder that a command line names.
@@ -416,190 +411,6 @@ fn folder_of(words: &[String]) -> &str
     ensures { result.now ≡ path_of words.now }
 {
     &words[2]
-}
-
-/// Looks at the words, and runs the script where they are a command line.
-fn run_words<D: Disk, A: Annals, S: Source, K: Sink, G: Gate>(
-    alloc: Global,
-    words: &[String],
-    source: &mut S,
-    sink: &mut K,
-    disk: D,
-    annals: A,
-    gate: &mut G,
-) -> Done<D, A>
-    // What is answered.
-    ensures headline { let before : World = record {
-      storage = record {
-        disk = D.told disk;
-        clock = D.clock disk;
-        failed = D.failed disk;
-        annals = A.told annals;
-      };
-      started = D.started disk;
-      source = S.left source.old;
-      source_failed = S.failed source.old;
-      sink = K.written sink.old;
-      sink_failed = K.failed sink.old;
-    } in
-        let after : World = record {
-          storage = record {
-            disk = D.told result.disk;
-            clock = D.clock result.disk;
-            failed = D.failed result.disk;
-            annals = A.told result.annals;
-          };
-          started = D.started result.disk;
-          source = S.left source.new;
-          source_failed = S.failed source.new;
-          sink = K.written sink.new;
-          sink_failed = K.failed sink.new;
-        } in
-        HeadlineBy result.status before after }
-    ensures complete { let before : World = record {
-      storage = record {
-        disk = D.told disk;
-        clock = D.clock disk;
-        failed = D.failed disk;
-        annals = A.told annals;
-      };
-      started = D.started disk;
-      source = S.left source.old;
-      source_failed = S.failed source.old;
-      sink = K.written sink.old;
-      sink_failed = K.failed sink.old;
-    } in
-        let after : World = record {
-          storage = record {
-            disk = D.told result.disk;
-            clock = D.clock result.disk;
-            failed = D.failed result.disk;
-            annals = A.told result.annals;
-          };
-          started = D.started result.disk;
-          source = S.left source.new;
-          source_failed = S.failed source.new;
-          sink = K.written sink.new;
-          sink_failed = K.failed sink.new;
-        } in
-        IsComplete words.now before result.status after }
-    // What a crash leaves, and what is told of damage.
-    ensures crashes { let before : World = record {
-      storage = record {
-        disk = D.told disk;
-        clock = D.clock disk;
-        failed = D.failed disk;
-        annals = A.told annals;
-      };
-      started = D.started disk;
-      source = S.left source.old;
-      source_failed = S.failed source.old;
-      sink = K.written sink.old;
-      sink_failed = K.failed sink.old;
-    } in
-        let after : World = record {
-          storage = record {
-            disk = D.told result.disk;
-            clock = D.clock result.disk;
-            failed = D.failed result.disk;
-            annals = A.told result.annals;
-          };
-          started = D.started result.disk;
-          source = S.left source.new;
-          source_failed = S.failed source.new;
-          sink = K.written sink.new;
-          sink_failed = K.failed sink.new;
-        } in
-        OfCrashes before after }
-    ensures damage { let before : World = record {
-      storage = record {
-        disk = D.told disk;
-        clock = D.clock disk;
-        failed = D.failed disk;
-        annals = A.told annals;
-      };
-      started = D.started disk;
-      source = S.left source.old;
-      source_failed = S.failed source.old;
-      sink = K.written sink.old;
-      sink_failed = K.failed sink.old;
-    } in
-        let after : World = record {
-          storage = record {
-            disk = D.told result.disk;
-            clock = D.clock result.disk;
-            failed = D.failed result.disk;
-            annals = A.told result.annals;
-          };
-          started = D.started result.disk;
-          source = S.left source.new;
-          source_failed = S.failed source.new;
-          sink = K.written sink.new;
-          sink_failed = K.failed sink.new;
-        } in
-        OfDamage before result.status after }
-    // Which folder was opened.
-    ensures folder { let before : World = record {
-      storage = record {
-        disk = D.told disk;
-        clock = D.clock disk;
-        failed = D.failed disk;
-        annals = A.told annals;
-      };
-      started = D.started disk;
-      source = S.left source.old;
-      source_failed = S.failed source.old;
-      sink = K.written sink.old;
-      sink_failed = K.failed sink.old;
-    } in
-        let after : World = record {
-          storage = record {
-            disk = D.told result.disk;
-            clock = D.clock result.disk;
-            failed = D.failed result.disk;
-            annals = A.told result.annals;
-          };
-          started = D.started result.disk;
-          source = S.left source.new;
-          source_failed = S.failed source.new;
-          sink = K.written sink.new;
-          sink_failed = K.failed sink.new;
-        } in
-        OfFolder words.now before after }
-    // Why it ended so.
-    ensures number { result.status ≤ 8 }
-    ensures full { D.failed disk ≡ 2 ^ 64 - 1 → (result.status ≡ 2) ⊎ (result.status ≡ 5) }
-    ensures words { (result.status ≡ 2) ↔ (is_command words.now ≡ false) }
-    ensures read { result.status ≡ 3 → Rose (S.failed source.old) (S.failed source.new) }
-    ensures unfailed { (result.status ≡ 3 → ⊥) → S.failed source.new ≡ S.failed source.old }
-    ensures write { result.status ≡ 4 → Rose (K.failed sink.old) (K.failed sink.new) }
-    ensures disk { result.status ≡ 5 → Rose (D.failed disk) (D.failed result.disk) }
-    ensures long { result.status ≡ 8 → ConsumesMost (S.left source.old) (S.left source.new) }
-    ensures whole { (script : List ℕ) → S.left source.old ≡ Some script → result.status ≤ 1
-        → (length script < 2 ^ 40) × (S.left source.new ≡ Some []) }
-    ensures calm { result.status ≤ 1 → D.failed result.disk ≡ D.failed disk }
-    ensures untouched { (result.status ≡ 2) ⊎ (D.failed disk ≡ 2 ^ 64 - 1)
-        → (source.new ≡ source.old) × (sink.new ≡ sink.old) × (result.disk ≡ disk)
-        × (result.annals ≡ annals) }
-{
-    if !is_command_line(words) {
-        let status = Status::NotWords.number();
-        return Done {
-            status,
-            disk,
-            annals,
-        };
-    }
-    let mut disk = disk;
-    let mut annals = annals;
-    let path = folder_of(words);
-    let ended = run_opened(alloc, path, source, sink, &mut disk, &mut annals, gate);
-    let status = ended.number();
-    Done {
-        status,
-        disk,
-        annals,
-    }
 }
 
 /// Runs a script over the root of a folder, as `run` does, and waits for nobody: so it returns.
@@ -612,38 +423,37 @@ pub fn run_alone<D: Disk, A: Annals, S: Source, K: Sink, G: Gate>(
     annals: A,
     gate: &mut G,
 ) -> Done<D, A>
-    ensures promises { let before : World = record {
-      storage = record {
-        disk = D.told disk;
-        clock = D.clock disk;
-        failed = D.failed disk;
-        annals = A.told annals;
-      };
-      started = D.started disk;
-      source = S.left source.old;
-      source_failed = S.failed source.old;
-      sink = K.written sink.old;
-      sink_failed = K.failed sink.old;
-    } in
-        let after : World = record {
-          storage = record {
-            disk = D.told result.disk;
-            clock = D.clock result.disk;
-            failed = D.failed result.disk;
-            annals = A.told result.annals;
-          };
-          started = D.started result.disk;
-          source = S.left source.new;
-          source_failed = S.failed source.new;
-          sink = K.written sink.new;
-          sink_failed = K.failed sink.new;
-        } in
+    ensures promises { let before = world (storage (D.told disk) (D.clock disk) (D.failed disk)
+        (A.told annals)) (D.started disk) (S.left source.old) (S.failed source.old)
+        (K.written sink.old) (K.failed sink.old) in
+        let after = world (storage (D.told result.disk) (D.clock result.disk)
+        (D.failed result.disk) (A.told result.annals)) (D.started result.disk)
+        (S.left source.new) (S.failed source.new) (K.written sink.new) (K.failed sink.new) in
         Promises words.now before result.status after }
     ensures untouched { (result.status ≡ 2) ⊎ (D.failed disk ≡ 2 ^ 64 - 1)
         → (source.new ≡ source.old) × (sink.new ≡ sink.old) × (result.disk ≡ disk)
         × (result.annals ≡ annals) }
 {
-    run_words(alloc, words, source, sink, disk, annals, gate)
+    if !is_command_line(words) {
+        let status = Status::NotWords.number();
+        return Done {
+            status,
+            disk,
+            annals,
+        };
+    }
+    let path = folder_of(words);
+    let Ended {
+        ended,
+        disk,
+        annals,
+    } = run_opened(alloc, path, source, sink, disk, annals, gate);
+    let status = ended.number();
+    Done {
+        status,
+        disk,
+        annals,
+    }
 }
 
 /// Runs a script over the root of a folder, as an earlier run left it, and refuses a root that is damaged.
@@ -661,32 +471,12 @@ pub fn run<R: Threads + Wait + Sync, D: Disk, A: Annals, S: Source, K: Sink, G: 
     annals: A,
     gate: &mut G,
 ) -> Done<D, A>
-    ensures promises { let before : World = record {
-      storage = record {
-        disk = D.told disk;
-        clock = D.clock disk;
-        failed = D.failed disk;
-        annals = A.told annals;
-      };
-      started = D.started disk;
-      source = S.left source.old;
-      source_failed = S.failed source.old;
-      sink = K.written sink.old;
-      sink_failed = K.failed sink.old;
-    } in
-        let after : World = record {
-          storage = record {
-            disk = D.told result.disk;
-            clock = D.clock result.disk;
-            failed = D.failed result.disk;
-            annals = A.told result.annals;
-          };
-          started = D.started result.disk;
-          source = S.left source.new;
-          source_failed = S.failed source.new;
-          sink = K.written sink.new;
-          sink_failed = K.failed sink.new;
-        } in
+    ensures promises { let before = world (storage (D.told disk) (D.clock disk) (D.failed disk)
+        (A.told annals)) (D.started disk) (S.left source.old) (S.failed source.old)
+        (K.written sink.old) (K.failed sink.old) in
+        let after = world (storage (D.told result.disk) (D.clock result.disk)
+        (D.failed result.disk) (A.told result.annals)) (D.started result.disk)
+        (S.left source.new) (S.failed source.new) (K.written sink.new) (K.failed sink.new) in
         Promises words.now before result.status after }
     ensures untouched { (result.status ≡ 2) ⊎ (D.failed disk ≡ 2 ^ 64 - 1)
         → (source.new ≡ source.old) × (sink.new ≡ sink.old) × (result.disk ≡ disk)

@@ -1,178 +1,176 @@
-use Rattle.std.proofs.Common.{◌≡◌, ◌<◌, ◌∙◌, ◌∷◌, ◌++◌, [], refl, sym, subst, arith, ◌+◌, drop}
+use Rattle.std.proofs.Common.{◌∙◌, ◌∷◌, ◌++◌, [], refl, sym, subst, ap, arith, ◌+◌, drop}
 use Rattle.mt_values.specs.Script.{statements_of}
-use Rattle.mt_program.proofs.ServedScripts.{served_none, served_all, served_so_far, served_unanswered, served_more, served_cut, unsettled_rose, no_statement, nothing_left, one_statement, is_written, Found, Used, used_within}
-use Rattle.mt_program.proofs.Gaining.{gained_one, stepped_answered, stepped_keeps}
-use Rattle.mt_program.proofs.Crashing.{left_behind, one_more}
-use Rattle.session.specs.Answers.{Answered}
-use Rattle.mt_program.specs.Serving.{Served}
+use Rattle.root_store.specs.Crashes.{Storage}
+use Rattle.mt_program.proofs.ServedScripts.{follows, served_none, served_all, served_so_far, served_unanswered, served_more, served_cut, turned, no_statement, nothing_left, one_statement, is_written, Found, Used, used_within}
+use Rattle.mt_program.proofs.Gaining.{gained_one, stepped_answered, stepped_unanswered}
+use Rattle.mt_program.proofs.Crashing.{goes_further, left_behind, one_more, stays_open}
+use Rattle.mt_program.specs.Serving.{Output, Progress, Served}
 use Rattle.mt_program.proofs.Undamaged.{tallied_undamaged}
 use Rattle.mt_program.proofs.serving.serve.Goals as goal
 
 pub statements-init : goal.statements-init
 statements-init g c = record {
-  ready = c.requires.ready;
-  opened = refl;
-  started = refl;
+  goes_on = stays_open c.args.engine.now c.is_open.ensures;
   tells = refl;
-  served = λ kept is tells stands settled. served_none g.D.Arm.Dir.Dir.files kept c.args.script.now c.args.store.now.opened (g.D.Disk.failed c.args.disk.now) (g.D.Arm.Arm.failed c.args.arm.now) c.none-tally.result c.args.store.now
-      (g.A.Annals.told c.args.annals.now) (g.D.Disk.told c.args.disk.now) (g.K.Sink.written c.args.sink.now) is c.none-tally.ensures.refused c.none-tally.ensures.damaged stands settled;
+  served = λ kept tells knows settled. served_none g.F.Dir.files kept c.args.script.now c.none-tally.result c.args.engine.now (g.R.Arm.failed c.args.arm.now) (g.K.Sink.written c.args.sink.now) knows settled c.none-tally.ensures.refused c.none-tally.ensures.damaged;
   held = λ tells held. held;
   undamaged = λ tells held. c.none-tally.ensures.damaged;
   keeps = λ first start tells keeps gained. ([], refl, keeps, gained);
   within = omega arith;
-  disk_later = omega arith;
   arm_later = omega arith;
   sink_later = omega arith;
 }
 
 -- the statement is what the grammar gives
-pub run_statement-requires-clause-written : goal.run_statement-requires-clause-written
-run_statement-requires-clause-written g c κs within =
+pub run_statement-requires-after_bounds : goal.run_statement-requires-after_bounds
+run_statement-requires-after_bounds g c κs within =
     let found = subst (λ o. Found c.args.script.now c.statements.at o) c.in-Ok-Some.field-0-is c.in-Ok-Some.ensures.found in
     let left = one_statement c.args.script.now c.statements.at c.in-Ok-Some.found.1 c.in-Ok-Some.found.0 found in
     is_written (drop c.statements.at c.args.script.now) c.in-Ok-Some.found.0 (statements_of (drop (c.statements.at + c.in-Ok-Some.found.1) c.args.script.now)) left
 
-pub run_statement-requires-clause-ready : goal.run_statement-requires-clause-ready
-run_statement-requires-clause-ready g c κs within = c.statements.invariant.ready
-
 pub returns-in-Ok-None-clause-run : goal.returns-in-Ok-None-clause-run
-returns-in-Ok-None-clause-run g c = λ kept is tells stands settled.
-    let s = c.statements.invariant.served kept is tells stands settled in
+returns-in-Ok-None-clause-run g c = λ kept tells knows settled.
     let none = subst (λ o. Found c.args.script.now c.statements.at o) c.in-Ok-None.field-0-is c.in-Ok-None.ensures.found in
-    served_all g.D.Arm.Dir.Dir.files kept c.args.script.now c.args.store.now.opened (g.D.Disk.failed c.statements.disk) (g.D.Arm.Arm.failed c.statements.arm) c.statements.at c.statements.tally c.statements.store (g.A.Annals.told c.statements.annals) (g.D.Disk.told c.statements.disk)
-    (g.K.Sink.written c.args.sink.now) (g.K.Sink.written c.statements.sink) s (no_statement c.args.script.now c.statements.at none)
+    served_all g.F.Dir.files kept _ _ _ (c.statements.invariant.served kept tells knows settled) (no_statement c.args.script.now c.statements.at none)
 
 pub returns-in-Err-clause-run : goal.returns-in-Err-clause-run
-returns-in-Err-clause-run g c = λ kept is tells stands settled.
-    let s = c.statements.invariant.served kept is tells stands settled in
-    served_so_far g.D.Arm.Dir.Dir.files kept c.args.script.now c.args.store.now.opened (g.D.Disk.failed c.statements.disk) (g.D.Arm.Arm.failed c.statements.arm) c.statements.at c.statements.tally c.statements.store (g.A.Annals.told c.statements.annals) (g.D.Disk.told c.statements.disk)
-    (g.K.Sink.written c.args.sink.now) (g.K.Sink.written c.statements.sink) s
+returns-in-Err-clause-run g c = λ kept tells knows settled. served_so_far g.F.Dir.files kept _ _ _ (c.statements.invariant.served kept tells knows settled)
 
 pub returns-in-Err-run_statement-clause-run : goal.returns-in-Err-run_statement-clause-run
-returns-in-Err-run_statement-clause-run g c = λ kept is tells stands settled.
-    let s = c.statements.invariant.served kept is tells stands settled in
+returns-in-Err-run_statement-clause-run g c = λ kept tells knows settled.
+    let arm = g.R.Arm.failed c.statements.arm in
+    let arm_after = g.R.Arm.failed c.run_statement.new.arm in
+    let start = c.args.engine.now in
+    let before = c.statements.engine in
+    let after = c.run_statement.new.engine in
+    let done = c.in-Err-run_statement.ensures in
+    let progress : Progress = record { script = c.args.script.now; at = c.statements.at; tally = c.statements.tally } in
+    let output : Output = record { before = g.K.Sink.written c.args.sink.now; after = g.K.Sink.written c.statements.sink } in
+    let s = c.statements.invariant.served kept tells knows settled in
     let found = subst (λ o. Found c.args.script.now c.statements.at o) c.in-Ok-Some.field-0-is c.in-Ok-Some.ensures.found in
     let left = one_statement c.args.script.now c.statements.at c.in-Ok-Some.found.1 c.in-Ok-Some.found.0 found in
-    let keeps = c.in-Err-run_statement.ensures.answers s.ran.now s.ran.told_is (c.statements.invariant.tells ∙ tells) s.stands in
-    served_unanswered g.D.Arm.Dir.Dir.files kept c.args.script.now c.args.store.now.opened (g.D.Disk.failed c.statements.disk) (g.D.Arm.Arm.failed c.statements.arm) c.statements.at c.statements.tally c.statements.store (g.A.Annals.told c.statements.annals) (g.D.Disk.told c.statements.disk)
-    (g.K.Sink.written c.args.sink.now) (g.K.Sink.written c.statements.sink) s (g.D.Disk.failed c.run_statement.new.disk) (g.D.Arm.Arm.failed c.run_statement.new.arm) c.in-Err-run_statement.ensures.disk_later c.in-Err-run_statement.ensures.arm_later
-    c.in-Ok-Some.found.1 c.in-Ok-Some.found.0 left (g.A.Annals.told c.run_statement.new.annals) (g.D.Disk.told c.run_statement.new.disk) keeps
+    let fits = follows start before after arm arm_after c.statements.invariant.goes_on done.goes_on done.later done.stopped in
+    served_unanswered g.F.Dir.files kept progress start before after arm arm_after output s fits c.in-Ok-Some.found.1 c.in-Ok-Some.found.0 left
+    (done.answers s.ran.now (c.statements.invariant.tells ∙ tells) (record { told_is = s.ran.told_is; stands = s.stands }))
 
 pub returns-in-Err-write_reply-clause-run : goal.returns-in-Err-write_reply-clause-run
-returns-in-Err-write_reply-clause-run g c = λ kept is tells stands settled.
-    let files = g.D.Arm.Dir.Dir.files in
-    let s = c.statements.invariant.served kept is tells stands settled in
+returns-in-Err-write_reply-clause-run g c = λ kept tells knows settled.
+    let arm = g.R.Arm.failed c.statements.arm in
+    let arm_after = g.R.Arm.failed c.run_statement.new.arm in
+    let start = c.args.engine.now in
+    let before = c.statements.engine in
+    let after = c.run_statement.new.engine in
+    let done = c.in-Ok.ensures in
+    let progress : Progress = record { script = c.args.script.now; at = c.statements.at; tally = c.statements.tally } in
+    let output : Output = record { before = g.K.Sink.written c.args.sink.now; after = g.K.Sink.written c.statements.sink } in
+    let s = c.statements.invariant.served kept tells knows settled in
     let found = subst (λ o. Found c.args.script.now c.statements.at o) c.in-Ok-Some.field-0-is c.in-Ok-Some.ensures.found in
     let left = one_statement c.args.script.now c.statements.at c.in-Ok-Some.found.1 c.in-Ok-Some.found.0 found in
-    let disk = g.D.Disk.failed c.run_statement.new.disk in
-    let arm = g.D.Arm.Arm.failed c.run_statement.new.arm in
-    let a = subst (λ o. Answered files s.ran.now c.in-Ok-Some.found.0 o disk arm c.in-Ok.reply c.run_statement.new.store (g.A.Annals.told c.run_statement.new.annals) (g.D.Disk.told c.statements.disk) (g.D.Disk.told c.run_statement.new.disk)) c.statements.invariant.opened
-    (c.in-Ok.ensures.answers s.ran.now s.ran.told_is (c.statements.invariant.tells ∙ tells) s.stands) in
-    let low = c.requires.ready.opened in
-    let later = c.statements.invariant.disk_later in
-    let failed = unsettled_rose c.statements.store.opened c.args.store.now.opened (g.D.Disk.failed c.statements.disk) disk (g.D.Arm.Arm.failed c.statements.arm) arm c.in-Ok.reply c.statements.invariant.opened (omega arith) c.requires.ready.below c.in-Ok.ensures.causes in
-    let still : c.args.store.now.opened < g.D.Disk.failed c.statements.disk → g.A.Annals.told c.run_statement.new.annals ≡ g.A.Annals.told c.statements.annals = λ risen. (c.in-Ok.ensures.stopped (omega (arith, c.statements.invariant.opened, risen))).annals_is in
-    served_cut files kept c.args.script.now c.args.store.now.opened (g.D.Disk.failed c.statements.disk) (g.D.Arm.Arm.failed c.statements.arm) c.statements.at c.statements.tally c.statements.store (g.A.Annals.told c.statements.annals) (g.D.Disk.told c.statements.disk)
-    (g.K.Sink.written c.args.sink.now) (g.K.Sink.written c.statements.sink) s disk arm c.in-Ok.ensures.disk_later c.in-Ok.ensures.arm_later
-    c.in-Ok-Some.found.1 c.in-Ok-Some.found.0 left c.run_statement.new.store (g.A.Annals.told c.run_statement.new.annals) (g.D.Disk.told c.run_statement.new.disk) c.in-Ok.reply (g.K.Sink.written c.write_reply.new.sink) failed still a c.in-Err-write_reply.ensures.front
+    let fits = follows start before after arm arm_after c.statements.invariant.goes_on done.goes_on done.later done.stopped in
+    served_cut g.F.Dir.files kept progress start before after arm arm_after output s fits c.in-Ok-Some.found.1 c.in-Ok-Some.found.0 left c.in-Ok.reply
+    (done.answers s.ran.now (c.statements.invariant.tells ∙ tells) (record { told_is = s.ran.told_is; stands = s.stands })) done.causes (g.K.Sink.written c.write_reply.new.sink) c.in-Err-write_reply.ensures.front
 
 pub statements-preserved : goal.statements-preserved
-statements-preserved g c = record {
-  ready = c.in-Ok.ensures.ready;
-  opened = c.in-Ok.ensures.opened ∙ c.statements.invariant.opened;
-  started = c.in-Ok.ensures.started ∙ c.statements.invariant.started;
-  tells = c.in-Ok.ensures.tells ∙ c.statements.invariant.tells;
-  served = λ kept is tells stands settled.
-      let files = g.D.Arm.Dir.Dir.files in
-      let s = c.statements.invariant.served kept is tells stands settled in
-      let found = subst (λ o. Found c.args.script.now c.statements.at o) c.in-Ok-Some.field-0-is c.in-Ok-Some.ensures.found in
-      let left = one_statement c.args.script.now c.statements.at c.in-Ok-Some.found.1 c.in-Ok-Some.found.0 found in
-      let disk = g.D.Disk.failed c.run_statement.new.disk in
-      let arm = g.D.Arm.Arm.failed c.run_statement.new.arm in
-      let a = subst (λ o. Answered files s.ran.now c.in-Ok-Some.found.0 o disk arm c.in-Ok.reply c.run_statement.new.store (g.A.Annals.told c.run_statement.new.annals) (g.D.Disk.told c.statements.disk) (g.D.Disk.told c.run_statement.new.disk)) c.statements.invariant.opened
-      (c.in-Ok.ensures.answers s.ran.now s.ran.told_is (c.statements.invariant.tells ∙ tells) s.stands) in
-      let low = c.requires.ready.opened in
-      let later = c.statements.invariant.disk_later in
-      let failed = unsettled_rose c.statements.store.opened c.args.store.now.opened (g.D.Disk.failed c.statements.disk) disk (g.D.Arm.Arm.failed c.statements.arm) arm c.in-Ok.reply c.statements.invariant.opened (omega arith) c.requires.ready.below c.in-Ok.ensures.causes in
-      let still : c.args.store.now.opened < g.D.Disk.failed c.statements.disk → g.A.Annals.told c.run_statement.new.annals ≡ g.A.Annals.told c.statements.annals = λ risen. (c.in-Ok.ensures.stopped (omega (arith, c.statements.invariant.opened, risen))).annals_is in
-      let more = served_more files kept c.args.script.now c.args.store.now.opened (g.D.Disk.failed c.statements.disk) (g.D.Arm.Arm.failed c.statements.arm) c.statements.at c.statements.tally c.statements.store (g.A.Annals.told c.statements.annals) (g.D.Disk.told c.statements.disk)
-      (g.K.Sink.written c.args.sink.now) (g.K.Sink.written c.statements.sink) s disk arm c.in-Ok.ensures.disk_later c.in-Ok.ensures.arm_later
-      c.in-Ok-Some.found.1 c.in-Ok-Some.found.0 left c.run_statement.new.store (g.A.Annals.told c.run_statement.new.annals) (g.D.Disk.told c.run_statement.new.disk) c.in-Ok.reply (g.K.Sink.written c.write_reply.new.sink) failed still a c.in-Ok-write_reply.ensures.all in
-      subst (λ t. Served files kept c.args.script.now c.args.store.now.opened disk arm (c.statements.at + c.in-Ok-Some.found.1) t c.run_statement.new.store (g.A.Annals.told c.run_statement.new.annals) (g.D.Disk.told c.run_statement.new.disk) (g.K.Sink.written c.args.sink.now) (g.K.Sink.written c.write_reply.new.sink))
-      (sym c.in-Ok-write_reply.ensures.tally) more;
-  held = λ tells held. c.in-Ok.ensures.held (c.statements.invariant.tells ∙ tells) (c.statements.invariant.held tells held);
-  undamaged = λ tells held.
-      let reply = c.in-Ok.ensures.undamaged (c.statements.invariant.held tells held) in
-      tallied_undamaged c.statements.tally c.in-Ok.reply c.in-Ok-write_reply.told c.in-Ok-write_reply.ensures.tally (c.statements.invariant.undamaged tells held) reply;
-  keeps = λ first start tells keeps gained.
-      let found = subst (λ o. Found c.args.script.now c.statements.at o) c.in-Ok-Some.field-0-is c.in-Ok-Some.ensures.found in
-      let left = one_statement c.args.script.now c.statements.at c.in-Ok-Some.found.1 c.in-Ok-Some.found.0 found in
-      let was = c.statements.invariant.keeps first start tells keeps gained in (
-        was.0 ++ c.in-Ok-Some.found.0 ∷ [],
-        one_more c.args.script.now was.0 _ c.in-Ok-Some.found.0 _ was.1 left,
-        c.in-Ok.ensures.through_crashes first start (c.statements.invariant.tells ∙ tells) was.2,
-        gained_one was.0 c.in-Ok-Some.found.0 (g.A.Annals.told c.statements.annals) (g.A.Annals.told c.run_statement.new.annals) first was.3 g.D.Arm.Dir.Dir.files c.statements.store.opened (g.D.Disk.failed c.statements.disk) c.statements.store (omega (arith, c.requires.ready.opened, c.statements.invariant.opened, c.statements.invariant.disk_later))
-            (λ still. (was.2.calm still).1)
-            (λ kept is stands.
-            let a = c.in-Ok.ensures.answers kept is (c.statements.invariant.tells ∙ tells) stands in
-            (a.now, a.told_is, stepped_answered g.D.Arm.Dir.Dir.files kept c.in-Ok-Some.found.0 c.statements.store.opened (g.D.Disk.failed c.run_statement.new.disk) (g.D.Arm.Arm.failed c.run_statement.new.arm) c.in-Ok.reply c.run_statement.new.store (g.A.Annals.told c.run_statement.new.annals) (g.D.Disk.told c.statements.disk) (g.D.Disk.told c.run_statement.new.disk) a))
-            (λ risen. (c.in-Ok.ensures.stopped risen).annals_is),
-      );
-  within = used_within c.args.script.now c.statements.at c.in-Ok-Some.found.1 c.statements.invariant.within (subst (λ o. Used c.args.script.now c.statements.at o) c.in-Ok-Some.field-0-is c.in-Ok-Some.ensures.used).1;
-  disk_later = omega arith;
-  arm_later = omega arith;
-  sink_later = omega arith;
-}
+statements-preserved g c =
+    let files = g.F.Dir.files in
+    let arm = g.R.Arm.failed c.statements.arm in
+    let arm_after = g.R.Arm.failed c.run_statement.new.arm in
+    let start = c.args.engine.now in
+    let before = c.statements.engine in
+    let after = c.run_statement.new.engine in
+    let done = c.in-Ok.ensures in
+    let at = c.statements.at in
+    let st = c.in-Ok-Some.found.0 in
+    let used = c.in-Ok-Some.found.1 in
+    let found = subst (λ o. Found c.args.script.now at o) c.in-Ok-Some.field-0-is c.in-Ok-Some.ensures.found in
+    let left = one_statement c.args.script.now at used st found in
+    record {
+      goes_on = goes_further start before after c.statements.invariant.goes_on done.goes_on;
+      tells = done.tells ∙ c.statements.invariant.tells;
+      served = λ kept tells knows settled.
+          let progress : Progress = record { script = c.args.script.now; at = at; tally = c.statements.tally } in
+          let output : Output = record { before = g.K.Sink.written c.args.sink.now; after = g.K.Sink.written c.statements.sink } in
+          let written : Output = record { before = g.K.Sink.written c.args.sink.now; after = g.K.Sink.written c.write_reply.new.sink } in
+          let s = c.statements.invariant.served kept tells knows settled in
+          let fits = follows start before after arm arm_after c.statements.invariant.goes_on done.goes_on done.later done.stopped in
+          let more = served_more files kept progress start before after arm arm_after output s fits used st left c.in-Ok.reply
+          (done.answers s.ran.now (c.statements.invariant.tells ∙ tells) (record { told_is = s.ran.told_is; stands = s.stands })) done.causes written.after c.in-Ok-write_reply.ensures.all in
+          subst (λ t. Served files kept (record { script = c.args.script.now; at = at + used; tally = t }) (turned start after arm_after) written) (sym c.in-Ok-write_reply.ensures.tally) more;
+      held = λ tells held. done.held (c.statements.invariant.tells ∙ tells) (c.statements.invariant.held tells held);
+      undamaged = λ tells held.
+          tallied_undamaged c.statements.tally c.in-Ok.reply c.in-Ok-write_reply.told c.in-Ok-write_reply.ensures.tally (c.statements.invariant.undamaged tells held) (done.undamaged (c.statements.invariant.held tells held));
+      keeps = λ first start_mark tells keeps gained.
+          let was = c.statements.invariant.keeps first start_mark tells keeps gained in (
+            was.0 ++ st ∷ [],
+            one_more c.args.script.now was.0 _ st _ was.1 left,
+            done.through_crashes (c.statements.invariant.tells ∙ tells) first start_mark was.2,
+            gained_one files before after was.0 st first was.3 c.statements.invariant.goes_on.left.opened (λ still. (was.2.calm still).1)
+                (λ kept knows. let a = done.answers kept (c.statements.invariant.tells ∙ tells) knows in (a.now, a.told_is, stepped_answered files kept st (turned before after arm_after) c.in-Ok.reply a))
+                (λ risen. ap (λ (s : Storage). s.annals) (done.stopped risen).storage_is),
+          );
+      within = used_within c.args.script.now at used c.statements.invariant.within (subst (λ o. Used c.args.script.now at o) c.in-Ok-Some.field-0-is c.in-Ok-Some.ensures.used).1;
+      arm_later = omega arith;
+      sink_later = omega arith;
+    }
 
 pub returns-clause-run : goal.returns-clause-run
-returns-clause-run g c = λ kept is tells stands settled.
-    let s = c.statements.invariant.served kept is tells stands settled in
-    served_all g.D.Arm.Dir.Dir.files kept c.args.script.now c.args.store.now.opened (g.D.Disk.failed c.statements.disk) (g.D.Arm.Arm.failed c.statements.arm) c.statements.at c.statements.tally c.statements.store (g.A.Annals.told c.statements.annals) (g.D.Disk.told c.statements.disk)
-    (g.K.Sink.written c.args.sink.now) (g.K.Sink.written c.statements.sink) s (nothing_left c.args.script.now c.statements.at (omega arith))
+returns-clause-run g c = λ kept tells knows settled.
+    served_all g.F.Dir.files kept _ _ _ (c.statements.invariant.served kept tells knows settled) (nothing_left c.args.script.now c.statements.at (omega arith))
 
 -- what a crash leaves
 pub returns-in-Ok-None-clause-through_crashes : goal.returns-in-Ok-None-clause-through_crashes
 returns-in-Ok-None-clause-through_crashes g c = λ first start tells keeps gained.
     let was = c.statements.invariant.keeps first start tells keeps gained in
-    left_behind c.args.store.now.opened (statements_of c.args.script.now) was.0 (statements_of (drop c.statements.at c.args.script.now)) was.1 c.statements.invariant.opened was.2 was.3
+    left_behind c.args.engine.now.store.opened (statements_of c.args.script.now) was.0 (statements_of (drop c.statements.at c.args.script.now)) was.1 c.statements.invariant.goes_on.opened was.2 was.3
 
 pub returns-in-Err-clause-through_crashes : goal.returns-in-Err-clause-through_crashes
 returns-in-Err-clause-through_crashes g c = λ first start tells keeps gained.
     let was = c.statements.invariant.keeps first start tells keeps gained in
-    left_behind c.args.store.now.opened (statements_of c.args.script.now) was.0 (statements_of (drop c.statements.at c.args.script.now)) was.1 c.statements.invariant.opened was.2 was.3
+    left_behind c.args.engine.now.store.opened (statements_of c.args.script.now) was.0 (statements_of (drop c.statements.at c.args.script.now)) was.1 c.statements.invariant.goes_on.opened was.2 was.3
 
 pub returns-in-Err-run_statement-clause-through_crashes : goal.returns-in-Err-run_statement-clause-through_crashes
 returns-in-Err-run_statement-clause-through_crashes g c = λ first start tells keeps gained.
+    let files = g.F.Dir.files in
+    let before = c.statements.engine in
+    let after = c.run_statement.new.engine in
+    let done = c.in-Err-run_statement.ensures in
+    let st = c.in-Ok-Some.found.0 in
     let found = subst (λ o. Found c.args.script.now c.statements.at o) c.in-Ok-Some.field-0-is c.in-Ok-Some.ensures.found in
-    let left = one_statement c.args.script.now c.statements.at c.in-Ok-Some.found.1 c.in-Ok-Some.found.0 found in
+    let left = one_statement c.args.script.now c.statements.at c.in-Ok-Some.found.1 st found in
     let was = c.statements.invariant.keeps first start tells keeps gained in
-    left_behind c.args.store.now.opened (statements_of c.args.script.now) (was.0 ++ c.in-Ok-Some.found.0 ∷ []) (statements_of (drop (c.statements.at + c.in-Ok-Some.found.1) c.args.script.now))
-    (one_more c.args.script.now was.0 _ c.in-Ok-Some.found.0 _ was.1 left) (c.in-Err-run_statement.ensures.opened ∙ c.statements.invariant.opened) (c.in-Err-run_statement.ensures.through_crashes first start (c.statements.invariant.tells ∙ tells) was.2)
-    (gained_one was.0 c.in-Ok-Some.found.0 (g.A.Annals.told c.statements.annals) (g.A.Annals.told c.run_statement.new.annals) first was.3 g.D.Arm.Dir.Dir.files c.statements.store.opened (g.D.Disk.failed c.statements.disk) c.statements.store (omega (arith, c.requires.ready.opened, c.statements.invariant.opened, c.statements.invariant.disk_later))
-    (λ still. (was.2.calm still).1)
-    (λ kept is stands.
-    let k = c.in-Err-run_statement.ensures.answers kept is (c.statements.invariant.tells ∙ tells) stands in
-    (k.now, k.told_is, stepped_keeps kept c.in-Ok-Some.found.0 (g.A.Annals.told c.run_statement.new.annals) (g.D.Disk.told c.statements.disk) (g.D.Disk.told c.run_statement.new.disk) k))
-    (λ risen. (c.in-Err-run_statement.ensures.stopped risen).annals_is))
+    left_behind c.args.engine.now.store.opened (statements_of c.args.script.now) (was.0 ++ st ∷ []) (statements_of (drop (c.statements.at + c.in-Ok-Some.found.1) c.args.script.now)) (one_more c.args.script.now was.0 _ st _ was.1 left)
+    (done.goes_on.opened ∙ c.statements.invariant.goes_on.opened) (done.through_crashes (c.statements.invariant.tells ∙ tells) first start was.2)
+    (gained_one files before after was.0 st first was.3 c.statements.invariant.goes_on.left.opened (λ still. (was.2.calm still).1)
+    (λ kept knows. let k = done.answers kept (c.statements.invariant.tells ∙ tells) knows in (k.now, k.told_is, stepped_unanswered files kept st (turned before after (g.R.Arm.failed c.run_statement.new.arm)) k))
+    (λ risen. ap (λ (s : Storage). s.annals) (done.stopped risen).storage_is))
 
 pub returns-in-Err-write_reply-clause-through_crashes : goal.returns-in-Err-write_reply-clause-through_crashes
 returns-in-Err-write_reply-clause-through_crashes g c = λ first start tells keeps gained.
+    let files = g.F.Dir.files in
+    let before = c.statements.engine in
+    let after = c.run_statement.new.engine in
+    let done = c.in-Ok.ensures in
+    let st = c.in-Ok-Some.found.0 in
     let found = subst (λ o. Found c.args.script.now c.statements.at o) c.in-Ok-Some.field-0-is c.in-Ok-Some.ensures.found in
-    let left = one_statement c.args.script.now c.statements.at c.in-Ok-Some.found.1 c.in-Ok-Some.found.0 found in
+    let left = one_statement c.args.script.now c.statements.at c.in-Ok-Some.found.1 st found in
     let was = c.statements.invariant.keeps first start tells keeps gained in
-    left_behind c.args.store.now.opened (statements_of c.args.script.now) (was.0 ++ c.in-Ok-Some.found.0 ∷ []) (statements_of (drop (c.statements.at + c.in-Ok-Some.found.1) c.args.script.now))
-    (one_more c.args.script.now was.0 _ c.in-Ok-Some.found.0 _ was.1 left) (c.in-Ok.ensures.opened ∙ c.statements.invariant.opened) (c.in-Ok.ensures.through_crashes first start (c.statements.invariant.tells ∙ tells) was.2)
-    (gained_one was.0 c.in-Ok-Some.found.0 (g.A.Annals.told c.statements.annals) (g.A.Annals.told c.run_statement.new.annals) first was.3 g.D.Arm.Dir.Dir.files c.statements.store.opened (g.D.Disk.failed c.statements.disk) c.statements.store (omega (arith, c.requires.ready.opened, c.statements.invariant.opened, c.statements.invariant.disk_later))
-    (λ still. (was.2.calm still).1)
-    (λ kept is stands.
-    let a = c.in-Ok.ensures.answers kept is (c.statements.invariant.tells ∙ tells) stands in
-    (a.now, a.told_is, stepped_answered g.D.Arm.Dir.Dir.files kept c.in-Ok-Some.found.0 c.statements.store.opened (g.D.Disk.failed c.run_statement.new.disk) (g.D.Arm.Arm.failed c.run_statement.new.arm) c.in-Ok.reply c.run_statement.new.store (g.A.Annals.told c.run_statement.new.annals) (g.D.Disk.told c.statements.disk) (g.D.Disk.told c.run_statement.new.disk) a))
-    (λ risen. (c.in-Ok.ensures.stopped risen).annals_is))
+    left_behind c.args.engine.now.store.opened (statements_of c.args.script.now) (was.0 ++ st ∷ []) (statements_of (drop (c.statements.at + c.in-Ok-Some.found.1) c.args.script.now)) (one_more c.args.script.now was.0 _ st _ was.1 left)
+    (done.goes_on.opened ∙ c.statements.invariant.goes_on.opened) (done.through_crashes (c.statements.invariant.tells ∙ tells) first start was.2)
+    (gained_one files before after was.0 st first was.3 c.statements.invariant.goes_on.left.opened (λ still. (was.2.calm still).1)
+    (λ kept knows. let a = done.answers kept (c.statements.invariant.tells ∙ tells) knows in (a.now, a.told_is, stepped_answered files kept st (turned before after (g.R.Arm.failed c.run_statement.new.arm)) c.in-Ok.reply a))
+    (λ risen. ap (λ (s : Storage). s.annals) (done.stopped risen).storage_is))
 
 pub returns-clause-through_crashes : goal.returns-clause-through_crashes
 returns-clause-through_crashes g c = λ first start tells keeps gained.
     let was = c.statements.invariant.keeps first start tells keeps gained in
-    left_behind c.args.store.now.opened (statements_of c.args.script.now) was.0 (statements_of (drop c.statements.at c.args.script.now)) was.1 c.statements.invariant.opened was.2 was.3
+    left_behind c.args.engine.now.store.opened (statements_of c.args.script.now) was.0 (statements_of (drop c.statements.at c.args.script.now)) was.1 c.statements.invariant.goes_on.opened was.2 was.3
+
+-- what the root is then
+pub returns-in-Err-run_statement-clause-goes_on : goal.returns-in-Err-run_statement-clause-goes_on
+returns-in-Err-run_statement-clause-goes_on g c = goes_further c.args.engine.now c.statements.engine c.run_statement.new.engine c.statements.invariant.goes_on c.in-Err-run_statement.ensures.goes_on
+
+pub returns-in-Err-write_reply-clause-goes_on : goal.returns-in-Err-write_reply-clause-goes_on
+returns-in-Err-write_reply-clause-goes_on g c = goes_further c.args.engine.now c.statements.engine c.run_statement.new.engine c.statements.invariant.goes_on c.in-Ok.ensures.goes_on
 
 -- no reply told of damage
 pub returns-in-Ok-None-clause-undamaged : goal.returns-in-Ok-None-clause-undamaged

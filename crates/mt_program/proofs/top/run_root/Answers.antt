@@ -1,13 +1,14 @@
-use Rattle.std.proofs.Common.{◌∙◌, ◌+◌, ℕ, arith, subst, refl, sym, inl, inr}
+use Rattle.std.proofs.Common.{◌∙◌, ◌+◌, ℕ, ap, arith, subst, refl, sym, inl, inr}
 use Rattle.mt_outside.specs.Disk.{names_of}
 use Rattle.replies.specs.Foreseen.{history}
-use Rattle.mt_program.specs.Endings.{LeftBy}
+use Rattle.root_commits.specs.Turns.{storage}
 use Rattle.root_store.specs.Crashes.{IsCrashSafe, Storage, none_begun}
 use Rattle.root_store.proofs.CrashMarks.{safe_at_start, stands_as_read}
+use Rattle.mt_program.specs.Serving.{Output}
 use Rattle.mt_program.proofs.Crashing.{keeps_opened, nothing_of_script}
 use Rattle.mt_program.proofs.Gaining.{gained_nothing}
 use Rattle.mt_program.proofs.Heading.{root_told, writes_damage, writes_nothing}
-use Rattle.mt_program.proofs.Reopened.{names_reopened, reopened, sound_reopened, stands_reopened}
+use Rattle.mt_program.proofs.Reopened.{gained_root, keeps_root, knows_root, left_as, names_reopened, reopened, script_as, sound_reopened, sound_root, stands_reopened, stands_root}
 use Rattle.mt_program.proofs.Undamaged.{not_opened}
 use Rattle.mt_program.proofs.top.run_root.Goals as goal
 
@@ -32,8 +33,9 @@ returns-in-Err-clause-opening g c = λ names damage is damaged. (
 pub returns-in-Err-clause-sound : goal.returns-in-Err-clause-sound
 returns-in-Err-clause-sound g c = λ kept names told is stands tells. c.failed_root.ensures.damaged (c.in-Err.ensures.stands names (history kept) is stands)
 
-pub run_script-requires-clause-ready : goal.run_script-requires-clause-ready
-run_script-requires-clause-ready g c κs within =
+-- the root is ready
+pub new-engine-requires-after_bounds : goal.new-engine-requires-after_bounds
+new-engine-requires-after_bounds g c κs within =
     let low = c.requires.opened in
     let later = c.in-Ok.ensures.later in
     record {
@@ -47,40 +49,55 @@ run_script-requires-clause-ready g c κs within =
 pub returns-clause-leaves : goal.returns-clause-leaves
 returns-clause-leaves g c = λ kept names script told is stands tells left.
     let files = g.D.Arm.Dir.Dir.files in
-    let root_stands = root_told (g.D.Disk.told c.open.new.disk) names (history kept) (c.in-Ok.ensures.told ∙ is) stands in
+    let root = c.new-engine.result in
+    let was = c.new-engine.ensures in
+    let store = reopened c.in-Ok.store c.args.opened in
+    let here = storage (g.D.Disk.told c.open.new.disk) (g.D.Disk.clock c.open.new.disk) (g.D.Disk.failed c.open.new.disk) (g.A.Annals.told c.args.annals) in
+    let output : Output = record { before = g.K.Sink.written c.args.sink.now; after = g.K.Sink.written c.run_script-ended.new.sink } in
+    let settled = root_told (g.D.Disk.told c.open.new.disk) names (history kept) (c.in-Ok.ensures.told ∙ is) stands in
     let core = stands_reopened c.in-Ok.store c.args.opened files (history kept) (c.in-Ok.ensures.stands names (history kept) is stands) in
-    subst (λ was. LeftBy c.run_script.result kept script c.args.opened (g.D.Disk.failed c.run_script.new.disk) (g.D.Arm.Arm.failed c.run_script.new.arm) (g.A.Annals.told c.run_script.new.annals) was (g.D.Disk.told c.run_script.new.disk)
-    (g.K.Sink.written c.args.sink.now) (g.K.Sink.written c.run_script.new.sink)) c.in-Ok.ensures.told (c.run_script.ensures.leaves kept script told (c.in-Ok.ensures.tells ∙ tells) left core root_stands)
+    left_as c.run_script-ended.result kept script output (g.D.Arm.Arm.failed c.run_script-ended.new.arm) root.store.opened c.args.opened root.storage.disk (g.D.Disk.told c.args.disk) c.run_script-ended.new.engine.storage _
+    (ap (λ x. x.opened) was.store) (ap (λ (x : Storage). x.disk) was.storage ∙ c.in-Ok.ensures.told) c.into_outside-disk.ensures.storage
+    (c.run_script-ended.ensures.leaves kept script (c.in-Ok.ensures.tells ∙ tells) (knows_root files root store here was.store was.storage kept told core) (stands_root files root store here was.store was.storage kept settled) left)
 
 pub returns-clause-sound : goal.returns-clause-sound
-returns-clause-sound g c = λ kept names told is stands tells. c.run_script.ensures.undamaged (c.in-Ok.ensures.tells ∙ tells) (c.in-Ok.ensures.held names is)
+returns-clause-sound g c = λ kept names told is stands tells.
+    c.run_script-ended.ensures.undamaged (c.in-Ok.ensures.tells ∙ tells)
+    (sound_root g.D.Arm.Dir.Dir.files c.new-engine.result (reopened c.in-Ok.store c.args.opened) _ c.new-engine.ensures.store c.new-engine.ensures.storage (c.in-Ok.ensures.held names is))
 
 -- damage was met only where the root is damaged
 pub returns-in-Err-clause-damaged : goal.returns-in-Err-clause-damaged
 returns-in-Err-clause-damaged g c = λ names is tells. not_opened (names_of names) c.in-Err.fault c.failed_root.result (c.in-Err.ensures.damaged names is) c.failed_root.ensures.damaged
 
 pub returns-clause-damaged : goal.returns-clause-damaged
-returns-clause-damaged g c = λ names is tells. inl (c.run_script.ensures.undamaged (c.in-Ok.ensures.tells ∙ tells) (c.in-Ok.ensures.held names is))
+returns-clause-damaged g c = λ names is tells.
+    inl (c.run_script-ended.ensures.undamaged (c.in-Ok.ensures.tells ∙ tells)
+    (sound_root g.D.Arm.Dir.Dir.files c.new-engine.result (reopened c.in-Ok.store c.args.opened) _ c.new-engine.ensures.store c.new-engine.ensures.storage (c.in-Ok.ensures.held names is)))
 
 -- what a crash leaves
 pub returns-in-Err-clause-crashes : goal.returns-in-Err-clause-crashes
 returns-in-Err-clause-crashes g c = λ kept told is known tells all.
-    let now : Storage = record { disk = g.D.Disk.told c.open.new.disk; clock = g.D.Disk.clock c.open.new.disk; failed = g.D.Disk.failed c.open.new.disk; annals = g.A.Annals.told c.args.annals.now } in
-    nothing_of_script told kept now (g.D.Disk.clock c.args.disk.now) (c.in-Err.ensures.told ∙ known) is (c.in-Err.ensures.crashes told kept.list known all) (g.S.Source.left c.args.source.now) c.args.opened
+    let now = storage (g.D.Disk.told c.open.new.disk) (g.D.Disk.clock c.open.new.disk) (g.D.Disk.failed c.open.new.disk) (g.A.Annals.told c.args.annals) in
+    nothing_of_script told kept now (g.D.Disk.clock c.args.disk) (c.in-Err.ensures.told ∙ known) is (c.in-Err.ensures.crashes told kept.list known all) (g.S.Source.left c.args.source.now) c.args.opened
 
 pub returns-clause-crashes : goal.returns-clause-crashes
 returns-clause-crashes g c = λ kept told is known tells all.
     let files = g.D.Arm.Dir.Dir.files in
-    let start = g.D.Disk.clock c.args.disk.now in
+    let root = c.new-engine.result in
+    let was = c.new-engine.ensures in
+    let start = g.D.Disk.clock c.args.disk in
+    let store = reopened c.in-Ok.store c.args.opened in
     let core = stands_reopened c.in-Ok.store c.args.opened files (history kept) (c.in-Ok.ensures.stands told (history kept) known (stands_as_read told start (history kept) all)) in
-    let now : Storage = record { disk = g.D.Disk.told c.open.new.disk; clock = g.D.Disk.clock c.open.new.disk; failed = g.D.Disk.failed c.open.new.disk; annals = g.A.Annals.told c.args.annals.now } in
-    let keeps = keeps_opened told kept now start (c.in-Ok.ensures.told ∙ known) is (c.in-Ok.ensures.crashes told kept.list known all) files (reopened c.in-Ok.store c.args.opened) core in
-    c.run_script.ensures.through_crashes kept start (c.in-Ok.ensures.tells ∙ tells) keeps (gained_nothing (g.A.Annals.told c.args.annals.now) kept is)
+    let here = storage (g.D.Disk.told c.open.new.disk) (g.D.Disk.clock c.open.new.disk) (g.D.Disk.failed c.open.new.disk) (g.A.Annals.told c.args.annals) in
+    let keeps = keeps_opened told kept here start (c.in-Ok.ensures.told ∙ known) is (c.in-Ok.ensures.crashes told kept.list known all) files store core in
+    script_as (g.S.Source.left c.args.source.now) root.store.opened c.args.opened c.run_script-ended.new.engine.storage _ kept start (ap (λ x. x.opened) was.store) c.into_outside-disk.ensures.storage
+    (c.run_script-ended.ensures.through_crashes kept start (c.in-Ok.ensures.tells ∙ tells) (keeps_root files root store here was.store was.storage kept start keeps)
+    (gained_root files root store here was.store was.storage kept (gained_nothing (g.A.Annals.told c.args.annals) kept is)))
 
 -- what a crash leaves once the names that were read are settled
 pub returns-in-Err-clause-settles : goal.returns-in-Err-clause-settles
 returns-in-Err-clause-settles g c = λ kept told is known tells some all.
-    let stands = stands_as_read told (g.D.Disk.clock c.args.disk.now + 1) (history kept) all in
+    let stands = stands_as_read told (g.D.Disk.clock c.args.disk + 1) (history kept) all in
     inl (record {
       names = c.in-Err.ensures.told;
       mark = c.in-Err.ensures.mark_err;
@@ -92,9 +109,14 @@ returns-in-Err-clause-settles g c = λ kept told is known tells some all.
 pub returns-clause-settles : goal.returns-clause-settles
 returns-clause-settles g c = λ kept told is known tells some all.
     let files = g.D.Arm.Dir.Dir.files in
-    let start = g.D.Disk.clock c.args.disk.now + 1 in
+    let root = c.new-engine.result in
+    let was = c.new-engine.ensures in
+    let start = g.D.Disk.clock c.args.disk + 1 in
+    let store = reopened c.in-Ok.store c.args.opened in
     let core = stands_reopened c.in-Ok.store c.args.opened files (history kept) (c.in-Ok.ensures.stands told (history kept) known (stands_as_read told start (history kept) all)) in
     let safe = subst (λ (m : ℕ). IsCrashSafe told m (none_begun kept.list) kept.list start) (sym (c.in-Ok.ensures.settled told known some)) (safe_at_start told start kept.list all) in
-    let now : Storage = record { disk = g.D.Disk.told c.open.new.disk; clock = g.D.Disk.clock c.open.new.disk; failed = g.D.Disk.failed c.open.new.disk; annals = g.A.Annals.told c.args.annals.now } in
-    let keeps = keeps_opened told kept now start (c.in-Ok.ensures.told ∙ known) is safe files (reopened c.in-Ok.store c.args.opened) core in
-    inr (c.run_script.ensures.through_crashes kept start (c.in-Ok.ensures.tells ∙ tells) keeps (gained_nothing (g.A.Annals.told c.args.annals.now) kept is))
+    let here = storage (g.D.Disk.told c.open.new.disk) (g.D.Disk.clock c.open.new.disk) (g.D.Disk.failed c.open.new.disk) (g.A.Annals.told c.args.annals) in
+    let keeps = keeps_opened told kept here start (c.in-Ok.ensures.told ∙ known) is safe files store core in
+    inr (script_as (g.S.Source.left c.args.source.now) root.store.opened c.args.opened c.run_script-ended.new.engine.storage _ kept start (ap (λ x. x.opened) was.store) c.into_outside-disk.ensures.storage
+    (c.run_script-ended.ensures.through_crashes kept start (c.in-Ok.ensures.tells ∙ tells) (keeps_root files root store here was.store was.storage kept start keeps)
+    (gained_root files root store here was.store was.storage kept (gained_nothing (g.A.Annals.told c.args.annals) kept is))))

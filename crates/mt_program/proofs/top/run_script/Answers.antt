@@ -1,8 +1,9 @@
 use Rattle.std.proofs.Common.{◌∙◌, ◌<◌, ◌^◌, sym, subst, List, ℕ, length}
 use Rattle.mt_program.specs.Endings.{IsEarly}
-use Rattle.mt_program.specs.Serving.{ServedBy}
-use Rattle.mt_program.proofs.Crashing.{unread}
+use Rattle.mt_program.specs.Serving.{Output, ServedBy, stretch_of}
+use Rattle.mt_program.proofs.Crashing.{stays_open, unread}
 use Rattle.mt_program.proofs.Heading.{all_read, nothing_left, stop_early, stop_undamaged, told_stop}
+use Rattle.mt_program.proofs.ServedScripts.{turned}
 use Rattle.mt_program.proofs.top.run_script.Goals as goal
 
 -- the script was not read
@@ -12,18 +13,17 @@ returns-in-Err-clause-early g c = subst IsEarly (sym c.failed_reading.ensures) (
 pub returns-in-Err-clause-undamaged : goal.returns-in-Err-clause-undamaged
 returns-in-Err-clause-undamaged g c = λ tells held bad. stop_undamaged c.in-Err.stop (sym c.failed_reading.ensures ∙ bad)
 
+pub returns-in-Err-clause-goes_on : goal.returns-in-Err-clause-goes_on
+returns-in-Err-clause-goes_on g c = stays_open c.args.engine.now c.is_open.ensures
+
 -- it was served
 pub returns-clause-leaves : goal.returns-clause-leaves
-returns-clause-leaves g c = λ kept script told tells left stands settled.
-    let text = all_read script c.in-Ok.text.items (g.S.Source.left c.args.source.now) (g.S.Source.left c.read_all.new.source) left c.in-Ok.ensures.all.0 c.in-Ok.ensures.all.1 in
-    let served = c.serve-ending.ensures.run kept told tells stands settled in
-    let disk = g.D.Disk.failed c.serve-ending.new.disk in
-    let arm = g.D.Arm.Arm.failed c.serve-ending.new.arm in
-    let now = g.A.Annals.told c.serve-ending.new.annals in
-    let root = g.D.Disk.told c.serve-ending.new.disk in
-    let before = g.K.Sink.written c.args.sink.now in
-    let after = g.K.Sink.written c.serve-ending.new.sink in
-    subst (λ (ys : List ℕ). ServedBy c.serve-ending.result kept ys c.args.store.now.opened disk arm now root before after) (c.deref.ensures.value ∙ text) served
+returns-clause-leaves g c = λ kept script tells knows settled left.
+    let all = c.in-Ok.ensures.all in
+    let text = all_read script c.in-Ok.text.items (g.S.Source.left c.args.source.now) (g.S.Source.left c.read_all.new.source) left all.0 all.1 in
+    let output : Output = record { before = g.K.Sink.written c.args.sink.now; after = g.K.Sink.written c.serve-ending.new.sink } in
+    let s = stretch_of (turned c.args.engine.now c.serve-ending.new.engine (g.R.Arm.failed c.serve-ending.new.arm)) in
+    subst (λ (ys : List ℕ). ServedBy c.serve-ending.result kept ys s output) (c.deref.ensures.value ∙ text) (c.serve-ending.ensures.run kept tells knows settled)
 
 pub returns-clause-whole : goal.returns-clause-whole
 returns-clause-whole g c = λ script left.

@@ -1,0 +1,137 @@
+-- From what a run over a folder left, by its status, to all that is promised by its number.
+use Rattle.std.proofs.Common.{◌≡◌, ◌<◌, ◌≤◌, ◌-◌, ◌^◌, ℕ, List, [], length, Some, true, false, inl, inr, refl, sym, ◌∙◌, subst, arith}
+use Rattle.std.specs.Prelude.{String}
+use Rattle.std.specs.declared.alloc.Global.{Global}
+use Rattle.std.proofs.lemmas.Bool.{false≢true}
+use Rattle.mt_values.specs.Annals.{Told}
+use Rattle.mt_outside.specs.Causes.{Rose}
+use Rattle.mt_outside.specs.Disk as root
+use Rattle.root_opening.specs.declared.opening.Damage.{Damage}
+use Rattle.root_opening.specs.Opening.{IsRootDamage}
+use Rattle.root_store.specs.Roots.{Stands}
+use Rattle.root_store.proofs.CrashMarks.{safe_at_start}
+use Rattle.replies.specs.Foreseen.{history}
+use Rattle.run_streams.specs.Streams.{ConsumesMost}
+use Rattle.run_streams.specs.Words.{is_command}
+use Rattle.mt_program.specs.declared.status.Status.{Status}
+use Rattle.mt_program.specs.declared.status.Status.TheVariants as status
+use Rattle.mt_program.specs.Damage.{IsDamagedRoot, WritesDamage, damage_line}
+use Rattle.mt_program.specs.Endings.{IsAnswered}
+use Rattle.mt_program.specs.Headline.{Headline}
+use Rattle.mt_program.specs.Promises.{IsComplete, OfCauses, OfCrashes, OfDamage, OfFolder, Promises}
+use Rattle.mt_program.specs.Statuses.{status_number}
+use Rattle.mt_program.specs.Worlds.{Starts, World}
+use Rattle.mt_program.proofs.Completing.{none_refused, not_too_long, zero_or_six}
+use Rattle.mt_program.proofs.Crashing.{nothing_of_script}
+use Rattle.mt_program.proofs.Heading.{at_most_one_is, by_status, nothing_leaves, same_number}
+
+-- What a run over a folder left, by its status.
+pub record Leaves (before : World) (ended : Status) (after : World) : Type 0 where
+  pub headline : (kept : Told) (script written : List ℕ) → Starts before kept script written → Headline ended before after kept script written
+  pub crashes : OfCrashes before after
+  pub opening : (told : root.Told) (damage : Damage) → before.storage.disk ≡ Some told → IsRootDamage (root.names_of told) damage
+      → WritesDamage ended (damage_line damage) before.sink_failed after.sink_failed before.sink after.sink × (after.storage.disk ≡ before.storage.disk) × (after.storage.clock ≡ before.storage.clock) × (after.storage.annals ≡ before.storage.annals)
+  pub sound : (kept : Told) (told : root.Told) → before.storage.annals ≡ Some kept → before.storage.disk ≡ Some told → Stands (root.names_of told) (history kept) → ended ≡ status.Damaged → ⊥
+  pub damaged : (told : root.Told) → before.storage.disk ≡ Some told → ended ≡ status.Damaged → IsDamagedRoot (root.names_of told)
+  pub full : before.storage.failed ≡ 2 ^ 64 - 1 → ended ≡ status.DiskFault
+  pub whole : (script : List ℕ) → before.source ≡ Some script → IsAnswered ended → (length script < 2 ^ 40) × (after.source ≡ Some [])
+  pub words : ended ≡ status.NotWords → ⊥
+  pub read : ended ≡ status.ReadFault → Rose before.source_failed after.source_failed
+  pub unfailed : (ended ≡ status.ReadFault → ⊥) → after.source_failed ≡ before.source_failed
+  pub write : ended ≡ status.WriteFault → Rose before.sink_failed after.sink_failed
+  pub disk : ended ≡ status.DiskFault → Rose before.storage.failed after.storage.failed
+  pub long : ended ≡ status.TooLong → ConsumesMost before.source after.source
+  pub calm : IsAnswered ended → after.storage.failed ≡ before.storage.failed
+  pub later : before.storage.failed ≤ after.storage.failed
+
+at_most_eight : (ended : Status) → status_number ended ≤ 8
+at_most_eight status.Done = omega arith
+at_most_eight status.Refused = omega arith
+at_most_eight status.NotWords = omega arith
+at_most_eight status.ReadFault = omega arith
+at_most_eight status.WriteFault = omega arith
+at_most_eight status.DiskFault = omega arith
+at_most_eight status.NoMemory = omega arith
+at_most_eight status.Damaged = omega arith
+at_most_eight status.TooLong = omega arith
+
+-- the words are a command line
+module _ (words : List (String Global)) (command : is_command words ≡ true) (before after : World) (ended : Status) (left : Leaves before ended after) where
+  of_causes : OfCauses words before (status_number ended) after
+  of_causes = record {
+    number = at_most_eight ended;
+    words_only = (λ is. absurd (left.words (same_number ended status.NotWords is)), λ none. absurd (false≢true (sym none ∙ command)));
+    read = λ is. left.read (same_number ended status.ReadFault is);
+    unfailed = λ other. left.unfailed (λ is. other (subst (λ (e : Status). status_number e ≡ 3) (sym is) refl));
+    write = λ is. left.write (same_number ended status.WriteFault is);
+    disk = λ is. left.disk (same_number ended status.DiskFault is);
+    long = λ is. left.long (same_number ended status.TooLong is);
+    whole = λ script is low. left.whole script is (at_most_one_is ended low);
+    calm = λ low. left.calm (at_most_one_is ended low);
+    full = λ full. inr (subst (λ (e : Status). status_number e ≡ 5) (sym (left.full full)) refl);
+  }
+
+  -- nothing stands against the run
+  is_complete : IsComplete words before (status_number ended) after
+  is_complete kept script written starts nothing calm =
+      zero_or_six ended left.words (λ is. calm.source (left.read is)) (λ is. calm.sink (left.write is)) (λ is. calm.disk (left.disk is)) (λ is. left.sound kept starts.told starts.annals_is starts.disk_is starts.stands is)
+      (λ is. not_too_long script before.source after.source starts.source_is nothing.short (left.long is))
+      (λ is. none_refused before after kept script written left.later calm.disk nothing.causes (by_status {before = before} {after = after} (sym is) (left.headline kept script written starts)))
+
+  of_damage : OfDamage before (status_number ended) after
+  of_damage = record {
+    opening = λ told damage known damaged.
+        let opened = left.opening told damage known damaged in
+        record { ended = ended; number_is = refl; writes = opened.0; disk = opened.1; clock = opened.2; annals = opened.3 };
+    damaged = λ told known bad. left.damaged told known (same_number ended status.Damaged bad);
+    sound = λ kept told listed known stands bad. left.sound kept told listed known stands (same_number ended status.Damaged bad);
+  }
+
+  pub promised : (number : ℕ) → number ≡ status_number ended → OfFolder words before after → Promises words before number after
+  promised number is folder = subst (λ (n : ℕ). Promises words before n after) (sym is) (record {
+    headline = λ kept script written starts. (ended, refl, left.headline kept script written starts);
+    complete = is_complete;
+    crashes = left.crashes;
+    damage = of_damage;
+    folder = folder;
+    causes = of_causes;
+  })
+
+-- The words are none, and all is as it was.
+module _ (words : List (String Global)) (none : is_command words ≡ false) (w : World) where
+  other_causes : OfCauses words w 2 w
+  other_causes = record {
+    number = omega arith;
+    words_only = (λ is. none, λ is. refl);
+    read = λ is. cc;
+    unfailed = λ other. refl;
+    write = λ is. cc;
+    disk = λ is. cc;
+    long = λ is. cc;
+    whole = λ script is low. absurd (omega (arith, low));
+    calm = λ low. refl;
+    full = λ full. inl refl;
+  }
+
+  other_crashes : OfCrashes w w
+  other_crashes = record {
+    kept = λ kept told is known all. nothing_of_script told kept w.storage _ known is (safe_at_start told w.storage.clock kept.list all) w.source _;
+    settles = λ kept told is known some all. inl (record { names = refl; mark = refl; list = refl; output = refl });
+  }
+
+  other_damage : OfDamage w 2 w
+  other_damage = record {
+    opening = λ told damage known damaged. record { ended = status.NotWords; number_is = refl; writes = refl; disk = refl; clock = refl; annals = refl };
+    damaged = λ told known bad. cc;
+    sound = λ kept told listed known stands bad. cc;
+  }
+
+  pub other_words : (number : ℕ) → number ≡ 2 → Promises words w number w
+  other_words number is = subst (λ (n : ℕ). Promises words w n w) (sym is) (record {
+    headline = λ kept script written starts. (status.NotWords, refl, nothing_leaves w w kept script written starts (refl, refl, refl, refl, refl) status.NotWords (λ ran. ran));
+    complete = λ kept script written starts nothing calm. absurd (false≢true (sym none ∙ nothing.words));
+    crashes = other_crashes;
+    damage = other_damage;
+    folder = inr (record { started = refl; disk = refl; clock = refl; annals = refl; source = refl; sink = refl });
+    causes = other_causes;
+  })
