@@ -1,5 +1,5 @@
 // Names of files and folders, and their paths.
-ghost use Rattle.std.specs.Prelude.{◌≡◌, ◌++◌, IfOk, IfSome, IsTrue, codes, decimal, string_bytes};
+ghost use Rattle.std.specs.Prelude.{◌≡◌, ◌++◌, IfOk, MatchOption, IsTrue, false, codes, decimal, string_bytes};
 ghost use Rattle.std.specs.List.{list_all};
 ghost use Rattle.file_names.specs.Names.{is_name_byte, is_root_name};
 
@@ -37,9 +37,10 @@ pub fn is_root_name(name: &[u8]) -> bool
     }
 }
 
-/// The text of a name that a folder of the root may have.
+/// The text of a name that a folder of the root may have, and nothing of any other name.
 pub fn root_name(name: &Name) -> Option<&str>
-    ensures { IfSome result (λ text. (text.now ≡ name.now) × IsTrue (is_root_name name.now)) }
+    ensures { MatchOption result (is_root_name name.now ≡ false) (λ text. (text.now ≡ name.now)
+        × IsTrue (is_root_name name.now)) }
 {
     let bytes = name.as_slice();
     if !is_root_name(bytes) {
@@ -47,7 +48,8 @@ pub fn root_name(name: &Name) -> Option<&str>
     }
     match str::from_utf8(bytes) {
         Ok(text) => Some(text),
-        Err(_) => None,
+        // The bytes of such a name are ASCII.
+        Err(_) => unreachable!(),
     }
 }
 
