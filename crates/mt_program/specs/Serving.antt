@@ -1,4 +1,4 @@
--- What a script that was served leaves (docs/definitions.md, "Runs").
+-- What a script that was served leaves (docs/definitions-of-runs.md, "Runs").
 use Rattle.std.specs.Prelude.{◌≡◌, ◌<◌, ℕ, true, List, [], ◌++◌, length, drop, All, Option, None, Some}
 use Rattle.std.specs.List.{concat, list_any}
 use Rattle.std.specs.Io.KnownBytes.{Appends}

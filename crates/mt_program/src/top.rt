@@ -366,6 +366,8 @@ fn run_opened<D: Disk, A: Annals, S: Source, K: Sink, G: Gate>(
     ensures whole { (script : List ℕ) → S.left source.old ≡ Some script
         → IsAnswered result.ended → (length script < 2 ^ 40) × (S.left source.new ≡ Some []) }
     ensures words { result.ended ≡ Status.NotWords → ⊥ }
+
+    // Which counts of faults rose.
     ensures read { result.ended ≡ Status.ReadFault
         → Rose (S.failed source.old) (S.failed source.new) }
     ensures unfailed { (result.ended ≡ Status.ReadFault → ⊥)
