@@ -3,16 +3,18 @@
 # prints with what is wanted. The one word is the number of rounds, 20 if it is left out. It prints a line for each round, and ends with
 # 1 where one differs.
 #
-# A round is in a new folder of its own, outside the repository. A first run makes two tables. A second one, of many INSERTs into the
-# first of them, is killed after a random part of the time that all of them take; the whole script is its input from the start, since it
-# is read before its first statement is run. Beside it another program is started over the same folder, after another random part of the
-# time until the kill, with one INSERT into the second table. A last run reads both tables. Wanted are
+# A round is in a new folder of its own, outside the repository. A first run makes two tables, of which the first has partitions. A second
+# run, of many INSERTs into that table, is killed after a random part of the time that all of them take; the whole script is its input from
+# the start, since it is read before its first statement is run. Each of its INSERTs has two rows of the partition 2, one of 1 and one of 3,
+# so it is three commands, in this order. Beside it another program is started over the same folder, after another random part of the time
+# until the kill, with one INSERT into the second table. A last run reads both tables. Wanted are
 #   of the other one    status 5 and no reply, where the folder was held; or, where it had the folder to itself, as before the killed run
 #                       opened it or after it was killed, status 0 and one OK
 #   of the killed run   a front of the replies to the whole script; none where it found the folder held and ended with 5
-#   of the last run     status 0, the rows of the first n INSERTs into the first table, and of the second table the row of the other
-#                       program, if that was answered; n is the number of whole replies that the killed run wrote, or one more
-# So nothing that was acknowledged is lost, the places of all commands are as many as there are rows, and no place is given twice.
+#   of the last run     status 0, the rows of the first n commands of the first table, and of the second table the row of the other program,
+#                       if that was answered; n is three for each whole reply that the killed run wrote, and up to three more
+# So nothing that was acknowledged is lost, of the INSERT under way there are the first partitions, each whole, the places of all commands
+# are as many as there are commands, and no place is given twice.
 #
 # Only the process is killed, and the system goes on: what it was given is there, synced or not. What a loss of power leaves is not
 # looked at.
@@ -23,7 +25,8 @@
 set -euo pipefail
 here=$(cd "$(dirname "$0")" && pwd -P)
 rounds=${1:-20}
-inserts=300
+inserts=100
+parts=3 # the commands of each INSERT
 program=${MERGETREE:-$here/../../bin/mergetree}
 seed=${SEED:-$RANDOM}
 work=$(mktemp -d)
@@ -84,47 +87,64 @@ other_differences() {
     fi
 }
 
+# The replies to the whole script, where so many commands were accepted before.
+replies_after() {
+    seq -f 'OK %.0f' $(($1 + parts)) "$parts" $(($1 + parts * inserts))
+}
+
 # Prints how the replies of the killed program differ: they are a front of those of the script, after the two tables and perhaps the
 # other program's row.
 reply_differences() {
     local size
     size=$(stat -c %s "$work/out")
-    if ! cmp -s -n "$size" "$work/out" <(seq -f 'OK %.0f' 3 $((inserts + 2))) &&
-        ! { [ "$others" = 0 ] && cmp -s -n "$size" "$work/out" <(seq -f 'OK %.0f' 4 $((inserts + 3))); }; then
+    if ! cmp -s -n "$size" "$work/out" <(replies_after 2) &&
+        ! { [ "$others" = 0 ] && cmp -s -n "$size" "$work/out" <(replies_after 3); }; then
         printf 'other replies; '
     fi
 }
 
-# Prints how a table differs that is to have the rows 1 to n, where the folder has so many commands.
+# The rows of the table t after so many of its commands: of each partition those of each INSERT whose turn for it came.
+rows_after() {
+    local whole=$(($1 / parts)) begun=$(($1 % parts)) row
+    seq -f $'1\t%.0f' $((whole + (begun > 1)))
+    for row in $(seq $((whole + (begun > 0)))); do
+        printf '2\t%s\n2\t%s\n' "$row" "$row"
+    done
+    seq -f $'3\t%.0f' "$whole"
+}
+
+# Prints how a table differs that is to have these rows, which are read here, where the folder has so many commands.
 table_differences() {
-    local table=$1 n=$2 commands=$3 ended=0
+    local table=$1 commands=$2 ended=0
+    cat >"$work/wanted"
     run_in_room <<<"SELECT * FROM $table;" >"$work/rows" || ended=$?
     if [ "$ended" != 0 ]; then
         printf 'status %s of the last run; ' "$ended"
     fi
-    if ! { echo "ROWS $n PREFIX $commands" && seq "$n"; } | cmp -s - "$work/rows"; then
+    if ! { echo "ROWS $(wc -l <"$work/wanted") PREFIX $commands" && cat "$work/wanted"; } | cmp -s - "$work/rows"; then
         printf 'other rows of %s: %s; ' "$table" "$(head -c 200 "$work/rows" | tr '\n' '|')"
     fi
 }
 
-# How many rows a table has.
-rows_of() {
-    run_in_room <<<"SELECT * FROM $1;" | sed -n '1s/^ROWS \([0-9]*\) PREFIX .*/\1/p'
+# How many commands the table t has, beside those of the two tables and of the other program, which has so many.
+commands_of_t() {
+    local length
+    length=$(run_in_room <<<'SELECT * FROM t;' | sed -n '1s/^ROWS [0-9]* PREFIX \([0-9]*\)$/\1/p')
+    printf '%s\n' $((${length:-0} - 2 - $1))
 }
 
 # Prints how the replies of what was started, of which so many are whole, and what the last run reads differ: nothing where they do not.
 differences() {
-    local answered=$1 rows others_row commands
+    local answered=$1 others_row commands
     others_row=$(wc -l <"$work/other")
-    rows=$(rows_of t || true)
-    commands=$((2 + ${rows:-0} + others_row))
+    commands=$(commands_of_t "$others_row" || true)
     other_differences
     reply_differences
-    if [ "$rows" != "$answered" ] && [ "$rows" != $((answered + 1)) ]; then
-        printf 'rows of %s INSERTs; ' "${rows:-no}"
+    if [ "$commands" -lt $((parts * answered)) ] || [ "$commands" -gt $((parts * (answered + 1))) ]; then
+        printf '%s commands of INSERTs; ' "$commands"
     fi
-    table_differences t "${rows:-0}" "$commands"
-    table_differences u "$others_row" "$commands"
+    table_differences t $((2 + commands + others_row)) < <(rows_after "$commands")
+    table_differences u $((2 + commands + others_row)) < <(seq "$others_row")
 }
 
 # So many microseconds, in seconds.
@@ -158,16 +178,19 @@ try_round() {
     answered=$(wc -l <"$work/out")
     found=$(differences "$answered" || true)
     count_round "$answered"
-    printf '%s: %s s, %s answered, %s rows; another after %s s, status %s: %s\n' \
-        "$1" "$delay" "$answered" "$(rows_of t || true)" "$beside" "$others" "${found:-ok}"
+    printf '%s: %s s, %s answered, %s commands; another after %s s, status %s: %s\n' \
+        "$1" "$delay" "$answered" "$(commands_of_t "$(wc -l <"$work/other")" || true)" "$beside" "$others" "${found:-ok}"
     [ -z "$found" ]
 }
 
 for row in $(seq "$inserts"); do
-    printf 'INSERT INTO t;\n%s\n\\.\n' "$row"
+    printf 'INSERT INTO t;\n2\t%s\n1\t%s\n2\t%s\n3\t%s\n\\.\n' "$row" "$row" "$row" "$row"
 done >"$work/script"
 printf 'INSERT INTO u;\n1\n\\.\n' >"$work/row"
-printf 'CREATE TABLE %s (a UInt16) ENGINE = MergeTree ORDER BY a;\n' t u >"$work/tables"
+{
+    echo 'CREATE TABLE t (p UInt8, a UInt16) ENGINE = MergeTree PARTITION BY p ORDER BY a;'
+    echo 'CREATE TABLE u (a UInt16) ENGINE = MergeTree ORDER BY a;'
+} >"$work/tables"
 
 "$program" --path "$work/built" </dev/null >/dev/null # builds the program, where needed
 killed=0

@@ -44,7 +44,7 @@ four_apart m n r s p q e =
     let t = fronts_apart (to_le_bytes w32 m) (to_le_bytes w32 n) r s refl e in
     (sym (from_le_bytes-to_le_bytes_4 m p) ∙ ap (from_le_bytes w32) t.0 ∙ from_le_bytes-to_le_bytes_4 n q, t.1)
 
-eight_apart : (m n : ℕ) (r s : List ℕ) → m < 2 ^ 64 → n < 2 ^ 64 → to_le_bytes w64 m ++ r ≡ to_le_bytes w64 n ++ s → (m ≡ n) × (r ≡ s)
+pub eight_apart : (m n : ℕ) (r s : List ℕ) → m < 2 ^ 64 → n < 2 ^ 64 → to_le_bytes w64 m ++ r ≡ to_le_bytes w64 n ++ s → (m ≡ n) × (r ≡ s)
 eight_apart m n r s p q e =
     let t = fronts_apart (to_le_bytes w64 m) (to_le_bytes w64 n) r s refl e in
     (sym (from_le_bytes-to_le_bytes_8 m p) ∙ ap (from_le_bytes w64) t.0 ∙ from_le_bytes-to_le_bytes_8 n q, t.1)

@@ -1,4 +1,5 @@
 pub mod Faults
 pub mod Granules
+pub mod Marks
 pub mod Spellings
 pub mod Tests

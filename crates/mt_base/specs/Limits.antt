@@ -36,3 +36,11 @@ statement_limit = 1048576
 -- a name has no more bytes than this
 abbrev pub name_limit : ℕ
 name_limit = 64
+
+-- a granule has no more rows than this (ClickHouse, MergeTree: index_granularity; docs/definitions.md, "Schemas")
+abbrev pub granularity_limit : ℕ
+granularity_limit = 65536
+
+-- how many rows a granule has where a table's statement does not say it (ClickHouse, MergeTree: index_granularity)
+abbrev pub default_granularity : ℕ
+default_granularity = 8192

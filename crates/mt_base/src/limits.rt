@@ -26,3 +26,9 @@ pub const STATEMENT_LIMIT: usize = 1_048_576;
 
 /// A name has no more bytes than this.
 pub const NAME_LIMIT: usize = 64;
+
+/// A granule has no more rows than this.
+pub const GRANULARITY_LIMIT: u32 = 65_536;
+
+/// How many rows a granule has where a table's statement does not say it.
+pub const DEFAULT_GRANULARITY: u32 = 8192;

@@ -1,5 +1,6 @@
 // A list on the heap, which contracts see as a list.
 ghost use Rattle.std.specs.Prelude.{◌≡◌, ◌<◌, ◌≤◌, ◌++◌, ◌∷◌, [], length, IfOk, OnErr, OnOk, take, slice_get, ◌↔◌, IsTrue, option_copied};
+ghost use Rattle.std.specs.List.{insert};
 
 use crate::NoMemory;
 use std::alloc::Global;
@@ -92,6 +93,18 @@ impl<T: Drop> Seq<T> {
         ensures err { OnErr result (self.new ≡ self.old) }
     {
         self.inner.push(item)?;
+        Ok(())
+    }
+
+    /// Adds an item at a place, counted from 0, before those that stand from there on.
+    ///
+    /// `NoMemory` where the allocation failed; the list stays as it was.
+    pub fn insert(&mut self, place: usize, item: T) -> Result<(), NoMemory>
+        requires { place ≤ length self.old }
+        ensures ok { OnOk result (self.new ≡ insert self.old place item) }
+        ensures err { OnErr result (self.new ≡ self.old) }
+    {
+        self.inner.insert(place, item)?;
         Ok(())
     }
 

@@ -10,6 +10,7 @@ use Rattle.mt_values.specs.declared.row_fault.DataFault.TheVariants as data_faul
 use Rattle.mt_values.specs.declared.row_fault.RowFault.{RowFault}
 use Rattle.mt_values.specs.declared.row_fault.RowFault.TheVariants as row_fault
 use Rattle.mt_values.specs.declared.schema.Column.{Column}
+use Rattle.mt_values.specs.declared.schema.KeyOrder.{KeyOrder}
 use Rattle.mt_values.specs.declared.schema.Schema.{Schema}
 use Rattle.mt_values.specs.declared.schema.SchemaFault.{SchemaFault}
 use Rattle.mt_values.specs.declared.schema.SchemaFault.TheVariants as schema_fault
@@ -18,13 +19,14 @@ use Rattle.mt_values.specs.declared.statement.Cause.TheVariants as cause
 use Rattle.mt_values.specs.declared.statement.Selected.{Selected}
 use Rattle.mt_values.specs.declared.statement.Selected.TheVariants as selected
 use Rattle.mt_values.specs.Rows.{inserted_rows}
-use Rattle.mt_values.specs.Schemas.{schema_fault as rule_of}
+use Rattle.mt_values.specs.Schemas.{schema_fault_as as rule_of}
 use Rattle.mt_values.specs.Values.{Row}
 use Rattle.mt_model.specs.declared.refusal.Bound.TheVariants as bound
 use Rattle.mt_model.specs.declared.refusal.Refusal.{Refusal}
 use Rattle.mt_model.specs.declared.refusal.Refusal.TheVariants as refusal
 use Rattle.mt_model.specs.declared.refusal.Room.TheVariants as room
-use Rattle.mt_model.specs.Reply.{column_place, found_or, place_onto, places_of, first_refusal, refusal_of_rules, refusal_of_schema, refusal_of_table, too_many_columns, unless_refused, schema_with_key, schema_of_text, create_turn, rows_or_refused, rows_for, insert_turn, selected_places, columns_for, columns_of_select}
+use Rattle.mt_model.specs.Clauses.{column_place, first_key, first_unknown, mentioned, schema_written}
+use Rattle.mt_model.specs.Reply.{found_or, place_onto, places_of, first_refusal, refusal_of_rules, refusal_of_schema, refusal_of_table, refusal_of_text, too_many_columns, unknown_column, unless_refused, schema_of_text, create_turn, rows_or_refused, rows_for, insert_turn, selected_places, columns_for, columns_of_select}
 use Rattle.mt_values.specs.declared.statement.Statement.{Statement}
 use Rattle.mt_values.specs.declared.statement.Statement.TheVariants as statement
 use Rattle.mt_values.specs.declared.statement.CreateText.{CreateText}
@@ -94,22 +96,28 @@ rules_tell columns None = tt
 rules_tell columns (Some schema_fault.NoColumns) = (omega arith, refl)
 rules_tell columns (Some (schema_fault.DoubleColumn place)) = (omega arith, refl)
 rules_tell columns (Some (schema_fault.DoubleKey place)) = (omega arith, refl)
+rules_tell columns (Some (schema_fault.NotPrefix place)) = (omega arith, refl)
+rules_tell columns (Some (schema_fault.PartitionType place)) = (omega arith, refl)
+rules_tell columns (Some schema_fault.Granularity) = (omega arith, refl)
 
-table_tells : (schema : Schema) → Tells (refusal_of_table schema)
-table_tells schema =
-    tells_first (refusal_of_rules schema) (too_many_columns schema.columns) (rules_tell schema.columns (rule_of schema))
+table_tells : (first : KeyOrder) (schema : Schema) → Tells (refusal_of_table first schema)
+table_tells first schema =
+    tells_first (refusal_of_rules first schema) (too_many_columns schema.columns) (rules_tell schema.columns (rule_of first schema))
     (tells_if (nat_le (length schema.columns) 64) None (Some (refusal.Past bound.Columns)) tt (omega arith, refl))
 
 unless_tells : {X : Type 0} (o : Option Refusal) (x : X) → Tells o → Scripted (unless_refused o x)
 unless_tells None x h = tt
 unless_tells (Some why) x h = h
 
+unknown_tells : (o : Option (List ℕ)) → Tells (option_map refusal.NoColumn o)
+unknown_tells None = tt
+unknown_tells (Some name) = (omega arith, refl)
+
 text_tells : (c : CreateText) → Scripted (schema_of_text c)
-text_tells c = by (places_of c.columns c.key) (places_tell c.columns c.key)
-  where
-    by : (r : Result (List ℕ) Refusal) → Scripted r → Scripted (schema_with_key c r)
-    by (Err why) h = h
-    by (Ok key) h = unless_tells (refusal_of_table (record { columns = c.columns; key = key })) (record { columns = c.columns; key = key }) (table_tells (record { columns = c.columns; key = key }))
+text_tells c =
+    let schema = schema_written c.columns c.clauses in
+    unless_tells (refusal_of_text c) schema
+    (tells_first (unknown_column c) (refusal_of_table (first_key c.clauses) schema) (unknown_tells (first_unknown c.columns (mentioned c.clauses))) (table_tells (first_key c.clauses) schema))
 
 create_turn_tells : (table : List ℕ) (h : History) → Tells (create_turn table h)
 create_turn_tells table h =

@@ -1,7 +1,8 @@
--- The commands that statements give: they stay as the history grows, and today each statement gives one at most.
-use Rattle.std.proofs.Common.{◌≡◌, ◌⊎◌, ℕ, ◌≤◌, Bool, true, false, cond, List, [], ◌∷◌, ◌++◌, Option, Some, None, Result, Ok, Err, is_some, length, map, nat_le, nat_lt, refl, sym, ap, ◌∙◌, subst, arith, append-nil, inl, inr}
+-- The commands that statements give: they stay as the history grows, an INSERT gives one for each partition of its rows, and no other statement more than one.
+use Rattle.std.proofs.Common.{◌≡◌, ◌⊎◌, ℕ, ◌<◌, ◌≤◌, Bool, true, false, cond, not, List, [], ◌∷◌, ◌++◌, All, Option, Some, None, Result, Ok, Err, is_some, length, map, nat_le, nat_lt, get_or, refl, sym, ap, ◌∙◌, subst, arith, append-nil, inl, inr}
 use Rattle.std.specs.List.{AllByRecursion}
 use Rattle.std.proofs.lemmas.Bool.Decides.{Decides-eqb, nat_tests}
+use Rattle.std.proofs.lemmas.List.Elements.{All-nil, All-cons, All-filter, All-weaker}
 use Rattle.mt_base.specs.declared.partition.Partition.{Partition}
 use Rattle.mt_base.specs.declared.partition.Partition.TheVariants.{Whole, Number}
 use Rattle.mt_values.specs.declared.command.Command.{Command}
@@ -10,14 +11,15 @@ use Rattle.mt_values.specs.declared.command.Insert.{Insert}
 use Rattle.mt_values.specs.declared.schema.Schema.{Schema}
 use Rattle.mt_values.specs.declared.statement.Statement.{Statement}
 use Rattle.mt_values.specs.declared.statement.Statement.TheVariants as statement
-use Rattle.mt_values.specs.Tables.{MayHavePartition, same_partition}
+use Rattle.mt_values.specs.Tables.{MayHavePartition, partition_of, same_partition}
 use Rattle.mt_values.specs.Values.{Row}
-use Rattle.mt_model.specs.Commands.{commands_for, commands_of, commands_of_rows, create_commands, insert_command, insert_commands, no_commands, partitions_of, rows_in, other_partitions}
+use Rattle.mt_values.proofs.RowPartitions.{row_has_partition, values_fit}
+use Rattle.mt_model.specs.Commands.{commands_for, commands_of, commands_of_rows, create_commands, insert_command, no_commands, partitions_of, rows_in, other_partitions}
 use Rattle.mt_model.specs.declared.refusal.Bound.TheVariants as bound
 use Rattle.mt_model.specs.declared.refusal.Refusal.{Refusal}
 use Rattle.mt_model.specs.declared.refusal.Refusal.TheVariants as refusal
 use Rattle.mt_model.specs.declared.refusal.Room.TheVariants as room
-use Rattle.mt_model.specs.History.{History, IsInsertInto, column_types, creates, entered, schema_of}
+use Rattle.mt_model.specs.History.{History, IsInsertInto, IsTableSchema, creates, entered, schema_of}
 use Rattle.mt_model.specs.Numbers.{last_number}
 use Rattle.mt_model.specs.Refusals.{accepted_by}
 use Rattle.mt_model.specs.Reply.{columns_for, create_turn, insert_turn, rows_for, schema_of_text}
@@ -37,70 +39,60 @@ partition_is Whole (Number n) is = cc
 partition_is (Number m) Whole is = cc
 
 -- rows that may come are of a partition that their table may have
-pub own_partition : (schema : Schema) (i : Insert) → IsInsertInto schema i → MayHavePartition schema i.partition
-own_partition schema i into = sym (into.own 0 [] into.some)
+pub own_partition : (schema : Schema) (i : Insert) → IsTableSchema schema → IsInsertInto schema i → MayHavePartition schema i.partition
+own_partition schema i table into =
+    let row = get_or i.block.rows 0 [] in
+    subst (MayHavePartition schema) (into.own 0 [] into.some)
+    (row_has_partition schema row table.sound (into.rows 0 [] into.some) (values_fit row (into.values 0 [] into.some)))
 
--- ---- the one partition of today's tables
+-- ---- each partition of rows has rows
 
-pub all_rows_in : (schema : Schema) (rows : List Row) → rows_in schema Whole rows ≡ rows
-all_rows_in schema [] = refl
-all_rows_in schema (row ∷ rows) = ap (λ (zs : List Row). row ∷ zs) (all_rows_in schema rows)
+more_in : (schema : Schema) (partition : Partition) (row : Row) (rows : List Row) → 0 < length (rows_in schema partition rows) → 0 < length (rows_in schema partition (row ∷ rows))
+more_in schema partition row rows some = by (same_partition (partition_of schema row) partition)
+  where
+    by : (b : Bool) → 0 < length (cond b (row ∷ rows_in schema partition rows) (rows_in schema partition rows))
+    by true = omega arith
+    by false = some
 
-none_without : (schema : Schema) (rows : List Row) → other_partitions Whole (partitions_of schema rows) ≡ []
-none_without schema [] = refl
-none_without schema (row ∷ rows) = ap (other_partitions Whole) (none_without schema rows)
+own_in : (schema : Schema) (row : Row) (rows : List Row) → 0 < length (rows_in schema (partition_of schema row) (row ∷ rows))
+own_in schema row rows = by (same_partition (partition_of schema row) (partition_of schema row)) (same_itself (partition_of schema row))
+  where
+    by : (b : Bool) → b ≡ true → 0 < length (cond b (row ∷ rows_in schema (partition_of schema row) rows) (rows_in schema (partition_of schema row) rows))
+    by true is = omega arith
+    by false is = cc
 
--- rows are of the whole
-pub one_partition : (schema : Schema) (row : Row) (rows : List Row) → partitions_of schema (row ∷ rows) ≡ Whole ∷ []
-one_partition schema row rows = ap (λ (ps : List Partition). Whole ∷ ps) (none_without schema rows)
+pub have_rows : (schema : Schema) (rows : List Row) → All (λ (p : Partition). 0 < length (rows_in schema p rows)) (partitions_of schema rows)
+have_rows schema [] = All-nil (λ (p : Partition). 0 < length (rows_in schema p []))
+have_rows schema (row ∷ rows) =
+    let own = partition_of schema row in
+    let before = λ (p : Partition). 0 < length (rows_in schema p rows) in
+    let now = λ (p : Partition). 0 < length (rows_in schema p (row ∷ rows)) in
+    let others = other_partitions own (partitions_of schema rows) in
+    All-cons now own others (own_in schema row rows)
+    (All-weaker before now (λ p some. more_in schema p row rows some) others (All-filter (λ (p : Partition). not (same_partition p own)) before (partitions_of schema rows) (have_rows schema rows)))
 
--- so one command adds them
-pub one_command : (schema : Schema) (table : List ℕ) (row : Row) (rows : List Row)
-    → insert_commands schema table (row ∷ rows) ≡ command.Insert (record { table = table; partition = Whole; block = record { types = column_types schema; rows = row ∷ rows } }) ∷ []
-one_command schema table row rows =
-    ap (map (insert_command schema table (row ∷ rows))) (one_partition schema row rows)
-    ∙ ap (λ (rs : List Row). command.Insert (record { table = table; partition = Whole; block = record { types = column_types schema; rows = rs } }) ∷ []) (all_rows_in schema (row ∷ rows))
+-- ---- statements that give one command at most
 
--- at most one command
 abbrev Few : Result (List Command) Refusal → Type 0
 Few (Ok cs) = length cs ≤ 1
 Few (Err why) = Unit {0}
 
-few_inserts : (schema : Schema) (table : List ℕ) (rows : List Row) → length (insert_commands schema table rows) ≤ 1
-few_inserts schema table [] = omega arith
-few_inserts schema table (row ∷ rows) = let one = ap length (one_command schema table row rows) in omega (arith, one)
+few_created : (table : List ℕ) (r : Result Schema Refusal) → Few (create_commands table r)
+few_created table (Err why) = tt
+few_created table (Ok schema) = omega arith
 
-few_of_rows : (schema : Schema) (table : List ℕ) (r : Result (List Row) Refusal) → Few (commands_of_rows schema table r)
-few_of_rows schema table (Err why) = tt
-few_of_rows schema table (Ok rows) = few_inserts schema table rows
+few_selected : (r : Result (List ℕ) Refusal) → Few (no_commands r)
+few_selected (Err why) = tt
+few_selected (Ok columns) = omega arith
 
-few_given : (h : History) (s : Statement) → Few (commands_of h s)
-few_given h (statement.Create c) = by (schema_of_text c)
-  where
-    by : (r : Result Schema Refusal) → Few (create_commands c.table r)
-    by (Err why) = tt
-    by (Ok schema) = omega arith
-few_given h (statement.Insert i) = by (schema_of i.table h)
-  where
-    by : (o : Option Schema) → Few (commands_for i o)
-    by None = tt
-    by (Some schema) = few_of_rows schema i.table (rows_for i (Some schema))
-few_given h (statement.Select t) = by (columns_for t (schema_of t.table h))
-  where
-    by : (r : Result (List ℕ) Refusal) → Few (no_commands r)
-    by (Err why) = tt
-    by (Ok columns) = omega arith
+none_before : (done rest : List Command) (next : Command) → length (done ++ next ∷ rest) ≤ 1 → done ≡ []
+none_before [] rest next few = refl
+none_before (c ∷ []) rest next few = absurd (omega arith)
+none_before (c ∷ d ∷ done) rest next few = absurd (omega arith)
 
--- today each statement gives one command at most
-pub one_at_most : (h : History) (s : Statement) (cs : List Command) → commands_of h s ≡ Ok cs → length cs ≤ 1
-one_at_most h s cs is = subst (λ (r : Result (List Command) Refusal). Few r) is (few_given h s)
-
--- so none comes before another, and none after it
-pub none_beside : (done rest : List Command) (next : Command) → length (done ++ next ∷ rest) ≤ 1 → (done ≡ []) × (rest ≡ [])
-none_beside [] [] next few = (refl, refl)
-none_beside [] (c ∷ rest) next few = absurd (omega arith)
-none_beside (c ∷ []) rest next few = absurd (omega arith)
-none_beside (c ∷ d ∷ done) rest next few = absurd (omega arith)
+-- so none comes before another
+first_of_few : (r : Result (List Command) Refusal) (done rest : List Command) (next : Command) → Few r → r ≡ Ok (done ++ next ∷ rest) → done ≡ []
+first_of_few r done rest next few is = none_before done rest next (subst (λ (x : Result (List Command) Refusal). Few x) is few)
 
 -- ---- commands as the history grows
 
@@ -142,14 +134,14 @@ at_seam (c ∷ done) rest next all = at_seam done rest next all.1
 -- the next command is an INSERT, or the first
 pub insert_or_first : (h : History) (s : Statement) (done rest : List Command) (next : Command) → commands_of h s ≡ Ok (done ++ next ∷ rest) → IsInsert next ⊎ (done ≡ [])
 insert_or_first h (statement.Create c) done rest next is =
-    inr ((none_beside done rest next (one_at_most h (statement.Create c) (done ++ next ∷ rest) is)).0)
+    inr (first_of_few (commands_of h (statement.Create c)) done rest next (few_created c.table (schema_of_text c)) is)
 insert_or_first h (statement.Insert i) done rest next is = inl (at_seam done rest next (subst (λ (r : Result (List Command) Refusal). Inserts r) is (by (schema_of i.table h))))
   where
     by : (o : Option Schema) → Inserts (commands_for i o)
     by None = tt
     by (Some schema) = inserts_of_rows schema i.table (rows_for i (Some schema))
 insert_or_first h (statement.Select t) done rest next is =
-    inr ((none_beside done rest next (one_at_most h (statement.Select t) (done ++ next ∷ rest) is)).0)
+    inr (first_of_few (commands_of h (statement.Select t)) done rest next (few_selected (columns_for t (schema_of t.table h))) is)
 
 -- ---- turns
 

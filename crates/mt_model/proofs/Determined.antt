@@ -1,23 +1,25 @@
 -- A SELECT has one answer at a place of the history.
-use Rattle.std.proofs.Common.{◌≡◌, ℕ, List, map, sym, ap, ◌∙◌, subst, Ok}
+use Rattle.std.proofs.Common.{◌≡◌, ℕ, Bool, true, ◌&&◌, List, map, filter, sym, ap, ◌∙◌, subst, Ok}
+use Rattle.std.specs.Ordering.{is_eq}
 use Rattle.std.specs.List.Sorted.{IsPermutation}
 use Rattle.std.specs.Cmp.{IsTotalOrder}
 use Rattle.std.specs.FinMap.{slice_cmp-IsAntisymmetric}
-use Rattle.std.proofs.lemmas.Cmp.{on_total, lists_total}
+use Rattle.std.proofs.lemmas.Cmp.{on_total, lists_total, tied_itself}
 use Rattle.std.proofs.lemmas.List.Sorted.{IsPermutation-trans, IsPermutation-sym, IsPermutation-map}
-use Rattle.mt_base.specs.declared.partition.Partition.TheVariants.{Whole}
 use Rattle.mt_values.specs.declared.schema.Schema.{Schema}
 use Rattle.mt_values.specs.declared.statement.SelectText.{SelectText}
 use Rattle.mt_values.specs.Values.{Row}
 use Rattle.mt_values.specs.Order.{key_of, key_cmp, row_cmp, IsExact}
-use Rattle.mt_values.specs.Tables.{IsPlain, sorting_cmp}
+use Rattle.mt_values.specs.Tables.{IsPlain, partition_of, same_partition, sorting_cmp}
 use Rattle.mt_values.specs.Printing.{line}
 use Rattle.mt_values.proofs.Orders.{value_total, value_exact}
 use Rattle.mt_model.specs.History.{History}
 use Rattle.mt_model.specs.Live.{live}
 use Rattle.mt_model.specs.Partial.{Partly}
 use Rattle.mt_model.specs.Answer.{Answer, Prints}
-use Rattle.mt_model.proofs.SameKeys.{permutes, exact_sorted}
+use Rattle.mt_model.proofs.Commands.{same_itself}
+use Rattle.mt_model.proofs.SameKeys.{permutes, exact_sorted, filter_after}
+use Rattle.mt_model.proofs.Sorting.{equal_is}
 
 pub key_total : (places : List ℕ) → IsTotalOrder (key_cmp places)
 key_total places = on_total (key_of places) (lists_total value_total)
@@ -31,9 +33,23 @@ row_total = lists_total value_total
 pub row_exact : IsExact row_cmp
 row_exact = slice_cmp-IsAntisymmetric value_exact
 
+-- a row that is another one is of its partition and of its key
+alike_in : (schema : Schema) (a r : Row) → is_eq (row_cmp a r) ≡ true → (same_partition (partition_of schema r) (partition_of schema a) && is_eq (sorting_cmp schema a r)) ≡ true
+alike_in schema a r is =
+    let same : a ≡ r = row_exact a r (equal_is (row_cmp a r) is) in
+    rw (sym same) (rw (same_itself (partition_of schema a)) (ap is_eq (tied_itself (sorting_total schema) a)))
+
 -- merges of a plain table only move rows
 pub partly_permutes : (schema : Schema) (rows x : List Row) → IsPlain schema → Partly schema rows x → IsPermutation rows x
-partly_permutes schema rows x plain partly = permutes (sorting_cmp schema) (sorting_total schema) rows x (λ a. sym (partly Whole a))
+partly_permutes schema rows x plain partly = permutes row_cmp row_total rows x each
+  where
+    each : (a : Row) → filter (λ r. is_eq (row_cmp a r)) rows ≡ filter (λ r. is_eq (row_cmp a r)) x
+    each a =
+        let own : Row → Bool = λ r. same_partition (partition_of schema r) (partition_of schema a) && is_eq (sorting_cmp schema a r) in
+        let found : List Row → List Row = filter (λ r. is_eq (row_cmp a r)) in
+        filter_after (λ r. is_eq (row_cmp a r)) own (alike_in schema a) rows
+        ∙ (ap found (sym (partly (partition_of schema a) a))
+        ∙ sym (filter_after (λ r. is_eq (row_cmp a r)) own (alike_in schema a) x))
 
 -- the lines of rows do not depend on the order of the rows
 pub prints_once : (rows other : List Row) (a b : List (List ℕ)) → IsPermutation rows other → Prints rows a → Prints other b → a ≡ b

@@ -1,5 +1,5 @@
--- A CREATE of a script names at least one column in its key, its table's name is a name, and its text is read again as it alone.
-use Rattle.std.proofs.Common.{◌≡◌, ℕ, ◌+◌, ◌<◌, Bool, true, false, cond, List, [], ◌∷◌, ◌++◌, Option, Some, None, IfOk, Result, Ok, Err, length, All, zero, suc, nat_lt, refl, sym, ap, ◌∙◌, codes}
+-- A CREATE of a script names at least one column in each of its keys, its table's name is a name, and its text is read again as it alone.
+use Rattle.std.proofs.Common.{◌≡◌, ℕ, ◌+◌, Bool, true, false, cond, List, [], ◌∷◌, ◌++◌, Option, Some, None, IfOk, Result, Ok, Err, length, All, zero, suc, nat_lt, refl, sym, ap, ◌∙◌, codes}
 use Rattle.std.specs.List.{list_all}
 use Rattle.std.proofs.lemmas.List.Elements.{All-nil, All-cons}
 use Rattle.mt_values.specs.declared.script.Place.TheVariants.{Outside}
@@ -16,11 +16,13 @@ use Rattle.mt_values.specs.Tokens.{behind, is_keyword, is_space, tokens_of}
 use Rattle.mt_values.specs.Readers.{Reader, Reading, either, choose}
 use Rattle.mt_values.specs.Grammar as grammar
 use Rattle.mt_values.specs.Script.{ended_from, Data, refused_behind, with_line_rest, line_rest, behind_line, data_of, complete, complete_or_cut, is_between, next_from, next_statement, Step, statement_and, statements_within, statements_of}
+use Rattle.mt_model.specs.Clauses.{NamesKeys}
 use Rattle.mt_model.specs.Written.{IsName, IsWritten}
 use Rattle.mt_model.proofs.Again.{BeginsText, behind_begins, next_alone}
 use Rattle.mt_model.proofs.Unended.{IsOpen, open_no_ends}
 use Rattle.mt_model.proofs.Words.{IsWordToken, tokens_words, name_says}
-use Rattle.mt_model.proofs.Giving.{Gives, GivesAll, expect_says, expect_gives, choose_gives, ends_says, list_gives, column_passes, engine_gives, key_gives, insert_gives, select_gives}
+use Rattle.mt_model.proofs.ClauseKeys.{clauses_give}
+use Rattle.mt_model.proofs.Giving.{Gives, GivesAll, expect_says, expect_gives, choose_gives, ends_says, list_gives, column_passes, engine_gives, insert_gives, select_gives}
 
 -- ---- what a CREATE says
 
@@ -32,7 +34,7 @@ pub record IsTokenOf (terminated : Bool) (t : Token) : Type 0 where
 -- a CREATE that was read from a text
 pub record IsCreateOf (text : List ℕ) (terminated : Bool) (c : CreateText) : Type 0 where
   pub is : c.text ≡ text
-  pub key : 0 < length c.key
+  pub keys : NamesKeys c.clauses
   pub named : IsName c.table
   pub ended : terminated ≡ true
 
@@ -76,9 +78,9 @@ module _ (text : List ℕ) (terminated : Bool) where
   create_gives =
       expect_gives Known Read _ _ (λ _. expect_gives Known Read _ _ (λ _. expect_says Known Read grammar.name _ IsName (name_is terminated) (λ table named.
       expect_gives Known Read _ _ (λ _. list_gives Known Read grammar.column _ (column_passes Known Read) (λ columns some. expect_gives Known Read _ _ (λ _.
-      expect_gives Known Read _ _ (λ _. expect_gives Known Read _ _ (λ _. engine_gives Known Read _ (expect_gives Known Read _ _ (λ _. expect_gives Known Read _ _ (λ _. key_gives Known Read _ (λ names keyed.
-      ends_says Known Read (statement.Create (record { text = text; table = table; columns = columns; key = names })) (λ t h.
-      ok_weaker (λ _. terminated ≡ true) _ (grammar.the symbol.Semicolon t) (λ _ ended. record { is = refl; key = keyed; named = named; ended = ended }) (close_is terminated t h))))))))))))))
+      expect_gives Known Read _ _ (λ _. expect_gives Known Read _ _ (λ _. engine_gives Known Read _ (clauses_give Known Read _ (λ clauses keyed.
+      ends_says Known Read (statement.Create (record { text = text; table = table; columns = columns; clauses = clauses })) (λ t h.
+      ok_weaker (λ _. terminated ≡ true) _ (grammar.the symbol.Semicolon t) (λ _ ended. record { is = refl; keys = keyed; named = named; ended = ended }) (close_is terminated t h))))))))))))
 
   reader_gives : (lines : List ℕ) (ended : Bool) → GivesAll Known Read (grammar.statement_reader text lines ended)
   reader_gives lines ended =
@@ -178,7 +180,7 @@ complete_alone found = by (grammar.takes_data found.0) refl
 
 alone_written : (text : List ℕ) (r : Result Statement Cause) → IsAlone text r → next_statement (text ++ 59 ∷ []) ≡ Some (grammar.statement_of text true [] false, []) → IsWritten r
 alone_written text (Ok (statement.Create c)) h next = record {
-  key = h.of_text.key;
+  keys = h.of_text.keys;
   named = h.of_text.named;
   again = ap (λ t. next_statement (t ++ 59 ∷ [])) h.of_text.is ∙ (next ∙ ap (λ (s : Result Statement Cause). Some (s, [])) h.alone);
 }

@@ -1,5 +1,7 @@
 pub mod Again
 pub mod Causes
+pub mod ClauseBounds
+pub mod ClauseKeys
 pub mod Commands
 pub mod Counting
 pub mod Determined
@@ -11,6 +13,8 @@ pub mod Keys
 pub mod Lists
 pub mod Naming
 pub mod OneWay
+pub mod OwnColumns
+pub mod Parted
 pub mod Places
 pub mod Ranges
 pub mod Refused

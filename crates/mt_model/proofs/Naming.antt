@@ -1,17 +1,17 @@
--- The places of names, one name after another, and why a CREATE is refused.
-use Rattle.std.proofs.Common.{◌≡◌, ℕ, ◌+◌, ◌<◌, ◌≤◌, true, false, cond, List, [], ◌∷◌, ◌++◌, Option, Some, None, Result, Ok, Err, length, drop, get_or, refl, sym, ap, ◌∙◌, append_assoc, append-nil, arith, nat_le}
-use Rattle.std.proofs.lemmas.Bool.Decides.{nat_tests}
+-- The places of names, one name after another, and the first name that is no column's.
+use Rattle.std.proofs.Common.{◌≡◌, ℕ, ◌+◌, ◌<◌, ◌≤◌, Bool, true, false, cond, is_some, unwrap_or, List, [], ◌∷◌, ◌++◌, Option, Some, None, Result, Ok, Err, length, drop, take, get_or, refl, sym, ap, ◌∙◌, append_assoc, append-nil}
 use Rattle.std.proofs.Math.ListN.{drop_of_length-le}
-use Rattle.std.proofs.lemmas.List.{drop_more}
-use Rattle.std.specs.Option.{option_map}
+use Rattle.std.proofs.lemmas.List.{drop_more, take_more}
+use Rattle.std.proofs.lemmas.List.Elements.{filter_map-append}
+use Rattle.std.specs.List.{cons_option}
+use Rattle.std.specs.Option.{IfSome}
 use Rattle.mt_values.specs.declared.schema.Column.{Column}
-use Rattle.mt_values.specs.declared.schema.SchemaFault.{SchemaFault}
-use Rattle.mt_values.specs.Schemas.{schema_fault}
-use Rattle.mt_values.specs.declared.statement.CreateText.{CreateText}
-use Rattle.mt_model.specs.declared.refusal.Bound.TheVariants as bound
+use Rattle.mt_values.specs.declared.statement.Clause.{Clause}
+use Rattle.mt_values.specs.declared.statement.Clause.TheVariants as clause
 use Rattle.mt_model.specs.declared.refusal.Refusal.{Refusal}
 use Rattle.mt_model.specs.declared.refusal.Refusal.TheVariants as refusal
-use Rattle.mt_model.specs.Reply.{column_place, found_or, place_onto, places_of, first_refusal, refusal_of_schema, refusal_of_table, too_many_columns, unless_refused, schema_with_key, schema_of_text}
+use Rattle.mt_model.specs.Clauses.{column_place, first_unknown, given_primary, mentioned, names_of_clause, places_named, primary_names, sorting_names}
+use Rattle.mt_model.specs.Reply.{found_or, place_onto, places_of}
 
 -- ---- the places of names
 
@@ -50,39 +50,92 @@ no_place_at columns names i name places below is none =
 pub no_name_left : (columns : List Column) (names : List (List ℕ)) (i : ℕ) (places : List ℕ) → length names ≤ i → behind places (places_of columns (drop i names)) ≡ Ok places
 no_name_left columns names i places end = ap (λ ns. behind places (places_of columns ns)) (drop_of_length-le names end) ∙ ap Ok (append-nil places)
 
--- ---- the schema of a CREATE
+-- ---- names that are no column's
 
-pub refused_place : (c : CreateText) (why : Refusal) → places_of c.columns c.key ≡ Err why → schema_of_text c ≡ Err why
-refused_place c why is = ap (schema_with_key c) is
+module _ (columns : List Column) where
+  -- the first of names is that of the first ones, or else that of the others
+  unknown_apart : (names others : List (List ℕ)) → first_unknown columns names ≡ None → first_unknown columns (names ++ others) ≡ first_unknown columns others
+  unknown_apart [] others none = refl
+  unknown_apart (name ∷ names) others none = by (is_some (column_place columns name)) (unknown_apart names others) none
+    where
+      by : (b : Bool) → (first_unknown columns names ≡ None → first_unknown columns (names ++ others) ≡ first_unknown columns others) → cond b (first_unknown columns names) (Some name) ≡ None → cond b (first_unknown columns (names ++ others)) (Some name) ≡ first_unknown columns others
+      by true more none = more none
+      by false more none = cc
 
-by_key : (c : CreateText) (key : List ℕ) (o : Option Refusal) → places_of c.columns c.key ≡ Ok key → refusal_of_table (record { columns = c.columns; key = key }) ≡ o
-    → schema_of_text c ≡ unless_refused o (record { columns = c.columns; key = key })
-by_key c key o known is = ap (schema_with_key c) known ∙ ap (λ (r : Option Refusal). unless_refused r (record { columns = c.columns; key = key })) is
+  unknown_here : (names others : List (List ℕ)) (found : List ℕ) → first_unknown columns names ≡ Some found → first_unknown columns (names ++ others) ≡ Some found
+  unknown_here [] others found is = cc
+  unknown_here (name ∷ names) others found is = by (is_some (column_place columns name)) (unknown_here names others found) is
+    where
+      by : (b : Bool) → (first_unknown columns names ≡ Some found → first_unknown columns (names ++ others) ≡ Some found) → cond b (first_unknown columns names) (Some name) ≡ Some found → cond b (first_unknown columns (names ++ others)) (Some name) ≡ Some found
+      by true more is = more is
+      by false more is = is
 
-by_rules : (columns : List Column) (key : List ℕ) (o : Option SchemaFault) → schema_fault (record { columns = columns; key = key }) ≡ o
-    → refusal_of_table (record { columns = columns; key = key }) ≡ first_refusal (option_map (refusal_of_schema columns) o) (too_many_columns columns)
-by_rules columns key o is = ap (λ (f : Option SchemaFault). first_refusal (option_map (refusal_of_schema columns) f) (too_many_columns columns)) is
+  -- clauses from a place on: the first of them, and the others
+  from_clause : (clauses : List Clause) (i : ℕ) (c : Clause) → i < length clauses → c ≡ get_or clauses i c → mentioned (drop i clauses) ≡ names_of_clause c ++ mentioned (drop (i + 1) clauses)
+  from_clause clauses i c below is = ap mentioned (drop_more clauses i c below) ∙ ap (λ (d : Clause). names_of_clause d ++ mentioned (drop (i + 1) clauses)) (sym is)
 
-pub refused_rule : (c : CreateText) (key : List ℕ) (why : SchemaFault) → places_of c.columns c.key ≡ Ok key → schema_fault (record { columns = c.columns; key = key }) ≡ Some why
-    → schema_of_text c ≡ Err (refusal_of_schema c.columns why)
-refused_rule c key why known is = by_key c key (Some (refusal_of_schema c.columns why)) known (by_rules c.columns key (Some why) is)
+  -- a name of the clause at a place is no column's
+  pub unknown_at : (clauses : List Clause) (i : ℕ) (c : Clause) (found : List ℕ) → i < length clauses → c ≡ get_or clauses i c → Some found ≡ first_unknown columns (names_of_clause c)
+      → first_unknown columns (mentioned (drop i clauses)) ≡ Some found
+  unknown_at clauses i c found below is there =
+      ap (first_unknown columns) (from_clause clauses i c below is) ∙ unknown_here (names_of_clause c) (mentioned (drop (i + 1) clauses)) found (sym there)
 
-wide : (columns : List Column) → 64 < length columns → too_many_columns columns ≡ Some (refusal.Past bound.Columns)
-wide columns many = ap (λ b. cond b None (Some (refusal.Past bound.Columns))) (above (length columns) many)
-  where
-    above : (n : ℕ) → 64 < n → nat_le n 64 ≡ false
-    above n many = grind (arith, nat_tests)
+  -- each of them is a column's, and the search goes on
+  pub unknown_after : (clauses : List Clause) (i : ℕ) (c : Clause) → i < length clauses → c ≡ get_or clauses i c → None ≡ first_unknown columns (names_of_clause c)
+      → first_unknown columns (mentioned (drop (i + 1) clauses)) ≡ first_unknown columns (mentioned (drop i clauses))
+  unknown_after clauses i c below is none =
+      sym (ap (first_unknown columns) (from_clause clauses i c below is) ∙ unknown_apart (names_of_clause c) (mentioned (drop (i + 1) clauses)) (sym none))
 
-narrow : (columns : List Column) → length columns ≤ 64 → too_many_columns columns ≡ None
-narrow columns few = ap (λ b. cond b None (Some (refusal.Past bound.Columns))) (below (length columns) few)
-  where
-    below : (n : ℕ) → n ≤ 64 → nat_le n 64 ≡ true
-    below n few = grind (arith, nat_tests)
+  -- ---- the places of names, one name after another
 
-pub refused_width : (c : CreateText) (key : List ℕ) → places_of c.columns c.key ≡ Ok key → schema_fault (record { columns = c.columns; key = key }) ≡ None → 64 < length c.columns
-    → schema_of_text c ≡ Err (refusal.Past bound.Columns)
-refused_width c key known sound many = by_key c key (Some (refusal.Past bound.Columns)) known (by_rules c.columns key None sound ∙ wide c.columns many)
+  names_more : (names : List (List ℕ)) (i : ℕ) (name : List ℕ) (o : Option ℕ) → i < length names → name ≡ get_or names i name → o ≡ column_place columns name
+      → places_named columns (take (i + 1) names) ≡ places_named columns (take i names) ++ cons_option o []
+  names_more names i name o below is found =
+      ap (places_named columns) (take_more names i name below)
+      ∙ (filter_map-append (column_place columns) (take i names) (get_or names i name ∷ [])
+      ∙ ap (λ (p : Option ℕ). places_named columns (take i names) ++ cons_option p []) (ap (column_place columns) (sym is) ∙ sym found))
 
-pub resolved : (c : CreateText) (key : List ℕ) → places_of c.columns c.key ≡ Ok key → schema_fault (record { columns = c.columns; key = key }) ≡ None → length c.columns ≤ 64
-    → schema_of_text c ≡ Ok (record { columns = c.columns; key = key })
-resolved c key known sound few = by_key c key None known (by_rules c.columns key None sound ∙ narrow c.columns few)
+  -- a name at a place is a column's, or none
+  pub named_place : (names : List (List ℕ)) (i : ℕ) (name : List ℕ) (places : List ℕ) (place : ℕ) → i < length names → name ≡ get_or names i name → Some place ≡ column_place columns name → places ≡ places_named columns (take i names)
+      → places ++ place ∷ [] ≡ places_named columns (take (i + 1) names)
+  named_place names i name places place below is found so_far = ap (λ (ps : List ℕ). ps ++ place ∷ []) so_far ∙ sym (names_more names i name (Some place) below is found)
+
+  pub unnamed_place : (names : List (List ℕ)) (i : ℕ) (name : List ℕ) (places : List ℕ) → i < length names → name ≡ get_or names i name → None ≡ column_place columns name → places ≡ places_named columns (take i names)
+      → places ≡ places_named columns (take (i + 1) names)
+  unnamed_place names i name places below is none so_far = so_far ∙ sym (names_more names i name None below is none ∙ append-nil (places_named columns (take i names)))
+
+  -- ---- where each name that the clauses mention is a column's
+
+  front_known : (names others : List (List ℕ)) → first_unknown columns (names ++ others) ≡ None → first_unknown columns names ≡ None
+  front_known [] others none = refl
+  front_known (name ∷ names) others none = by (is_some (column_place columns name)) (front_known names others) none
+    where
+      by : (b : Bool) → (first_unknown columns (names ++ others) ≡ None → first_unknown columns names ≡ None) → cond b (first_unknown columns (names ++ others)) (Some name) ≡ None → cond b (first_unknown columns names) (Some name) ≡ None
+      by true more none = more none
+      by false more none = cc
+
+  rest_known : (names others : List (List ℕ)) → first_unknown columns (names ++ others) ≡ None → first_unknown columns others ≡ None
+  rest_known names others none = sym (unknown_apart names others (front_known names others none)) ∙ none
+
+  -- the names of ORDER BY are columns'
+  pub sorting_known : (clauses : List Clause) → first_unknown columns (mentioned clauses) ≡ None → first_unknown columns (sorting_names clauses) ≡ None
+  sorting_known [] none = refl
+  sorting_known (clause.OrderBy names ∷ others) none = front_known names (mentioned others) none
+  sorting_known (clause.PartitionBy name ∷ others) none = sorting_known others (rest_known (name ∷ []) (mentioned others) none)
+  sorting_known (clause.PrimaryKey names ∷ others) none = sorting_known others (rest_known names (mentioned others) none)
+  sorting_known (clause.Granularity digits ∷ others) none = sorting_known others none
+
+  -- so are those of PRIMARY KEY, where it is given
+  given_known : (clauses : List Clause) → first_unknown columns (mentioned clauses) ≡ None → IfSome (given_primary clauses) (λ names. first_unknown columns names ≡ None)
+  given_known [] none = tt
+  given_known (clause.PrimaryKey names ∷ others) none = front_known names (mentioned others) none
+  given_known (clause.OrderBy names ∷ others) none = given_known others (rest_known names (mentioned others) none)
+  given_known (clause.PartitionBy name ∷ others) none = given_known others (rest_known (name ∷ []) (mentioned others) none)
+  given_known (clause.Granularity digits ∷ others) none = given_known others none
+
+  pub primary_known : (clauses : List Clause) → first_unknown columns (mentioned clauses) ≡ None → first_unknown columns (primary_names clauses) ≡ None
+  primary_known clauses none = by (given_primary clauses) (given_known clauses none)
+    where
+      by : (o : Option (List (List ℕ))) → IfSome o (λ names. first_unknown columns names ≡ None) → first_unknown columns (unwrap_or o (sorting_names clauses)) ≡ None
+      by None known = sorting_known clauses none
+      by (Some names) known = known

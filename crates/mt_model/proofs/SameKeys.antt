@@ -46,6 +46,17 @@ filters_swap p q (x ∷ xs) =
     ∙ conds (q x) (p x) x (filter q (filter p xs))
     ∙ sym (filter_cons q (p x) x (filter p xs))
 
+-- a test that implies another one finds the same after it
+pub filter_after : {X : Type 0} (p q : X → Bool) → ((x : X) → p x ≡ true → q x ≡ true) → (xs : List X) → filter p xs ≡ filter p (filter q xs)
+filter_after p q implies [] = refl
+filter_after {X} p q implies (x ∷ xs) = by (p x) (q x) (implies x) (filter_after p q implies xs) ∙ sym (filter_cons p (q x) x (filter q xs))
+  where
+    by : (b c : Bool) → (b ≡ true → c ≡ true) → filter p xs ≡ filter p (filter q xs) → cond b (x ∷ filter p xs) (filter p xs) ≡ cond c (cond b (x ∷ filter p (filter q xs)) (filter p (filter q xs))) (filter p (filter q xs))
+    by true true h rest = ap (λ (zs : List X). x ∷ zs) rest
+    by true false h rest = let no = h refl in cc
+    by false true h rest = rest
+    by false false h rest = rest
+
 filter_shorter : {X : Type 0} (p : X → Bool) (xs : List X) → length (filter p xs) ≤ length xs
 filter_shorter p xs = rw length-filter (count_by-le-length p xs)
 

@@ -62,10 +62,12 @@ FewInserts h = (table : List ℕ) (partition : Partition) → inserts table part
 abbrev pub entered : History → ℕ → List Command → History
 entered h session commands = h ++ map (λ (c : Command). record { session = session; command = c }) commands
 
--- a schema that a table may have: it breaks no rule of schemas, its key is made of its own columns, and it has at most 64 columns
+-- A schema that a table may have: it breaks no rule of schemas, neither key is empty, the sorting key is made of its own columns, and it has at
+-- most 64 columns. So the primary key is made of its own columns too, and a partition column is one of them (docs/definitions.md, "Schemas").
 pub record IsTableSchema (schema : Schema) : Type 0 where
   pub sound : schema_fault schema ≡ None
   pub key : 0 < length schema.key
+  pub primary : 0 < length schema.primary
   pub own : All (λ place. place < length schema.columns) schema.key
   pub few : length schema.columns ≤ column_limit
 

@@ -1,5 +1,6 @@
 pub mod Answer
 pub mod Causes
+pub mod Clauses
 pub mod Commands
 pub mod History
 pub mod Live

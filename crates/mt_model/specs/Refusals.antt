@@ -29,6 +29,9 @@ abbrev pub reason_word : Reason → List ℕ
 reason_word reason.NoColumns = codes "no_columns"
 reason_word reason.DoubleColumn = codes "double_column"
 reason_word reason.DoubleKey = codes "double_key"
+reason_word reason.NotPrefix = codes "not_prefix"
+reason_word reason.PartitionType = codes "partition_type"
+reason_word reason.Granularity = codes "granularity"
 
 -- a bound by its name and its greatest number
 abbrev pub bound_text : Bound → List ℕ

@@ -1,11 +1,12 @@
 -- The lines of replies, and when a statement is refused (docs/replies.md).
 use Rattle.std.specs.Prelude.{ℕ, List, [], ◌∷◌, ◌++◌, length, Option, Some, None, Result, Ok, Err, is_some, nat_le, nat_lt, slice_get, codes, if◌then◌else◌}
 use Rattle.std.specs.Fmt.{decimal}
-use Rattle.std.specs.List.{position, concat, range_with_len}
+use Rattle.std.specs.List.{concat, range_with_len}
 use Rattle.std.specs.Option.{option_map}
 use Rattle.mt_base.specs.Limits.{column_limit, number_limit, part_limit, table_limit}
 use Rattle.mt_values.specs.declared.row_fault.DataFault.{DataFault}
 use Rattle.mt_values.specs.declared.schema.Column.{Column}
+use Rattle.mt_values.specs.declared.schema.KeyOrder.{KeyOrder}
 use Rattle.mt_values.specs.declared.schema.Schema.{Schema}
 use Rattle.mt_values.specs.declared.schema.SchemaFault.{SchemaFault}
 use Rattle.mt_values.specs.declared.schema.SchemaFault.TheVariants as fault
@@ -15,14 +16,14 @@ use Rattle.mt_values.specs.declared.statement.SelectText.{SelectText}
 use Rattle.mt_values.specs.declared.statement.Selected.{Selected}
 use Rattle.mt_values.specs.declared.statement.Selected.TheVariants as selected
 use Rattle.mt_values.specs.Values.{Row}
-use Rattle.mt_values.specs.Grammar.{same_bytes}
 use Rattle.mt_values.specs.Rows.{inserted_rows}
-use Rattle.mt_values.specs.Schemas.{schema_fault}
+use Rattle.mt_values.specs.Schemas.{schema_fault_as}
 use Rattle.mt_model.specs.declared.refusal.Bound.TheVariants as bound
 use Rattle.mt_model.specs.declared.refusal.Reason.TheVariants as reason
 use Rattle.mt_model.specs.declared.refusal.Refusal.{Refusal}
 use Rattle.mt_model.specs.declared.refusal.Refusal.TheVariants as refusal
 use Rattle.mt_model.specs.declared.refusal.Room.TheVariants as room
+use Rattle.mt_model.specs.Clauses.{column_place, first_key, first_unknown, mentioned, schema_written}
 use Rattle.mt_model.specs.History.{History, schema_of, creates, column_types}
 use Rattle.mt_model.specs.Refusals.{refusal_of_data}
 
@@ -38,10 +39,6 @@ abbrev pub rows_reply : List (List ℕ) → ℕ → List ℕ
 rows_reply lines h = rows_line (length lines) h ++ concat lines
 
 -- ---- columns by their names
-
--- the place of the column of a name
-abbrev pub column_place : List Column → List ℕ → Option ℕ
-column_place columns name = position (λ (c : Column). same_bytes c.name name) columns
 
 abbrev pub found_or : List ℕ → Option ℕ → Result ℕ Refusal
 found_or name None = Err (refusal.NoColumn name)
@@ -73,10 +70,13 @@ abbrev pub refusal_of_schema : List Column → SchemaFault → Refusal
 refusal_of_schema columns fault.NoColumns = refusal.Schema reason.NoColumns (codes "-")
 refusal_of_schema columns (fault.DoubleColumn place) = refusal.Schema reason.DoubleColumn (name_at columns place)
 refusal_of_schema columns (fault.DoubleKey place) = refusal.Schema reason.DoubleKey (name_at columns place)
+refusal_of_schema columns (fault.NotPrefix place) = refusal.Schema reason.NotPrefix (name_at columns place)
+refusal_of_schema columns (fault.PartitionType place) = refusal.Schema reason.PartitionType (name_at columns place)
+refusal_of_schema columns fault.Granularity = refusal.Schema reason.Granularity (codes "-")
 
--- the refusal of a schema for the first rule that it breaks (docs/definitions.md, "Schemas")
-abbrev pub refusal_of_rules : Schema → Option Refusal
-refusal_of_rules schema = option_map (refusal_of_schema schema.columns) (schema_fault schema)
+-- the refusal of a schema for the first rule that it breaks, by which key is written first (docs/definitions.md, "Schemas")
+abbrev pub refusal_of_rules : KeyOrder → Schema → Option Refusal
+refusal_of_rules first schema = option_map (refusal_of_schema schema.columns) (schema_fault_as first schema)
 
 -- the first refusal of two
 abbrev pub first_refusal : Option Refusal → Option Refusal → Option Refusal
@@ -88,26 +88,25 @@ abbrev pub too_many_columns : List Column → Option Refusal
 too_many_columns columns = if nat_le (length columns) column_limit then None else Some (refusal.Past bound.Columns)
 
 -- the first refusal of a schema: by its rules, then by the bound of its columns
-abbrev pub refusal_of_table : Schema → Option Refusal
-refusal_of_table schema = first_refusal (refusal_of_rules schema) (too_many_columns schema.columns)
+abbrev pub refusal_of_table : KeyOrder → Schema → Option Refusal
+refusal_of_table first schema = first_refusal (refusal_of_rules first schema) (too_many_columns schema.columns)
 
 -- what is given, unless it is refused
 abbrev pub unless_refused : {X : Type 0} → Option Refusal → X → Result X Refusal
 unless_refused (Some r) x = Err r
 unless_refused None x = Ok x
 
--- the schema, where nothing refuses it
-abbrev pub table_schema : Schema → Result Schema Refusal
-table_schema schema = unless_refused (refusal_of_table schema) schema
+-- the first name in the clauses, in the order of the text, that is no column's (docs/definitions.md, "Schemas")
+abbrev pub unknown_column : CreateText → Option Refusal
+unknown_column c = option_map refusal.NoColumn (first_unknown c.columns (mentioned c.clauses))
 
--- the schema of a CREATE with a key of these places
-abbrev pub schema_with_key : CreateText → Result (List ℕ) Refusal → Result Schema Refusal
-schema_with_key c (Err r) = Err r
-schema_with_key c (Ok key) = table_schema (record { columns = c.columns; key = key })
+-- the first refusal of a CREATE by its text: by its names, then by its schema (docs/definitions.md, "Schemas")
+abbrev pub refusal_of_text : CreateText → Option Refusal
+refusal_of_text c = first_refusal (unknown_column c) (refusal_of_table (first_key c.clauses) (schema_written c.columns c.clauses))
 
--- the schema that a CREATE writes: its key names columns of its own, no rule of schemas is broken, and there are not too many columns
+-- the schema that a CREATE writes: its names are its columns', no rule of schemas is broken, and there are not too many columns
 abbrev pub schema_of_text : CreateText → Result Schema Refusal
-schema_of_text c = schema_with_key c (places_of c.columns c.key)
+schema_of_text c = unless_refused (refusal_of_text c) (schema_written c.columns c.clauses)
 
 -- at its turn: there is no table of its name, and there is room for one more
 abbrev pub create_turn : List ℕ → History → Option Refusal

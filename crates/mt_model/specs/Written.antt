@@ -1,5 +1,5 @@
 -- What the grammar gives the statements of each script (docs/definitions.md, "Histories").
-use Rattle.std.specs.Prelude.{◌≡◌, ◌<◌, ◌++◌, ℕ, List, [], length, true, false, Some, Ok, Err, codes}
+use Rattle.std.specs.Prelude.{◌≡◌, ◌++◌, ℕ, List, [], true, false, Some, Ok, Err, codes}
 use Rattle.std.specs.List.{list_all}
 use Rattle.mt_values.specs.declared.statement.CreateText.{CreateText}
 use Rattle.mt_values.specs.declared.statement.Statement.{Statement}
@@ -7,6 +7,7 @@ use Rattle.mt_values.specs.declared.statement.Statement.TheVariants as statement
 use Rattle.mt_values.specs.Tokens.{in_word, word_begins}
 use Rattle.mt_values.specs.Grammar.{is_reserved}
 use Rattle.mt_values.specs.Script.{Item, next_statement}
+use Rattle.mt_model.specs.Clauses.{NamesKeys}
 
 -- a name as the grammar has it: a letter or an underscore, then letters, digits and underscores, and no reserved word
 pub record IsName (name : List ℕ) : Type 0 where
@@ -14,9 +15,9 @@ pub record IsName (name : List ℕ) : Type 0 where
   pub goes_on : list_all in_word name ≡ true
   pub free : is_reserved name ≡ false
 
--- what the grammar gives a CREATE: it names at least one column in its key, its table's name is a name, and its text, with a semicolon after it, is read as it alone
+-- what the grammar gives a CREATE: it names at least one column in each of its keys, its table's name is a name, and its text, with a semicolon after it, is read as it alone
 pub record IsCreateText (c : CreateText) : Type 0 where
-  pub key : 0 < length c.key
+  pub keys : NamesKeys c.clauses
   pub named : IsName c.table
   pub again : next_statement (c.text ++ codes ";") ≡ Some (Ok (statement.Create c), [])
 

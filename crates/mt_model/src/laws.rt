@@ -1,6 +1,6 @@
 // Laws of the definitions: what follows from them, whatever a program does. Each function has an empty body and the law as its contract.
 ghost use Rattle.std.specs.List.{list_any};
-ghost use Rattle.std.specs.Prelude.{◌≡◌, ◌⊎◌, ◌-◌, ◌^◌, ◌<◌, ◌≤◌, ◌++◌, ◌∷◌, [], ℕ, Bool, List, length, take, true, false, All, None, Ok};
+ghost use Rattle.std.specs.Prelude.{◌≡◌, ◌⊎◌, ◌-◌, ◌^◌, ◌<◌, ◌≤◌, ◌++◌, ◌∷◌, [], ℕ, Bool, List, length, take, true, false, All, None, Some, Ok};
 ghost use Rattle.std.specs.List.Sorted.{IsPermutation, IsSorted};
 ghost use Rattle.mt_values.specs.declared.value.ColType.{ColType};
 ghost use Rattle.mt_values.specs.declared.schema.Column.{Column};
@@ -10,22 +10,27 @@ ghost use Rattle.mt_values.specs.declared.command.Command.{Command};
 ghost use Rattle.mt_values.specs.declared.command.Command.TheVariants as command;
 ghost use Rattle.mt_values.specs.declared.command.Entry.{Entry};
 ghost use Rattle.mt_values.specs.declared.command.Insert.{Insert};
+ghost use Rattle.mt_values.specs.declared.statement.Clause.{Clause};
 ghost use Rattle.mt_values.specs.declared.statement.CreateText.{CreateText};
 ghost use Rattle.mt_values.specs.declared.statement.SelectText.{SelectText};
 ghost use Rattle.mt_values.specs.declared.statement.Statement.{Statement};
 ghost use Rattle.mt_values.specs.declared.token.Placed.{Placed};
 ghost use Rattle.mt_values.specs.declared.token.Symbol.TheVariants as symbol;
-ghost use Rattle.mt_values.specs.Values.{Row, AreValues};
+ghost use Rattle.mt_base.specs.declared.partition.Partition.TheVariants.{Number};
+ghost use Rattle.mt_values.specs.declared.value.Value.TheVariants.{UInt8};
+ghost use Rattle.mt_values.specs.Values.{AreValues, IsValue, Row, types_of};
 ghost use Rattle.mt_values.specs.Grid.{AreRowsOf};
 ghost use Rattle.mt_values.specs.Tables.{IsPlain, MayHavePartition, partition_of, sorting_cmp};
 ghost use Rattle.mt_values.specs.Tokens.{string_within, tokens_within};
 ghost use Rattle.mt_values.specs.Readers.{Reader, listed_within};
-ghost use Rattle.mt_values.specs.Grammar.{column, is_symbol, one_name, the};
+ghost use Rattle.mt_values.specs.Grammar.{clauses_within, column, is_symbol, one_name, the};
 ghost use Rattle.mt_values.specs.Script.{Item, data_ended_within, data_within, statements_of, statements_within};
 ghost use Rattle.mt_values.specs.Rows.{inserted_rows, row_limit, rows_within, unescaped_within};
 ghost use Rattle.mt_model.specs.Causes.{MeetsCause, NoneMeetsCause};
+ghost use Rattle.mt_model.specs.Clauses.{NamesKeys};
+ghost use Rattle.mt_model.specs.Commands.{partitions_of, rows_in};
 ghost use Rattle.mt_model.specs.declared.refusal.Refusal.{Refusal};
-ghost use Rattle.mt_model.specs.History.{History, ArePlain, FewInserts, IsAllowed, IsInsertInto, IsLegal, IsTableSchema};
+ghost use Rattle.mt_model.specs.History.{History, column_types, ArePlain, FewInserts, IsAllowed, IsInsertInto, IsLegal, IsTableSchema};
 ghost use Rattle.mt_model.specs.Live.{live, sorted, of_key};
 ghost use Rattle.mt_model.specs.Partial.{Partly};
 ghost use Rattle.mt_model.specs.Answer.{Answer, Prints};
@@ -43,12 +48,34 @@ pub fn legal_fronts()
         → IsLegal (h ++ e ∷ []) }
 {}
 
+/// The primary key of a table is made of its own columns, and its partition column is one of them.
+pub fn columns_of_tables_are_their_own()
+    ensures primary { (schema : Schema) → IsTableSchema schema
+        → All (λ place. place < length schema.columns) schema.primary }
+    ensures partition { (schema : Schema) (place : ℕ) → IsTableSchema schema
+        → schema.partition ≡ Some place → place < length schema.columns }
+{}
+
 /// The rows of a table are of partitions that it may have, and so is each INSERT that may come.
 pub fn partitions_are_of_their_table()
-    ensures row { (schema : Schema) (row : Row)
+    ensures row { (schema : Schema) (row : Row) → IsTableSchema schema
+        → types_of row ≡ column_types schema → All IsValue row
         → MayHavePartition schema (partition_of schema row) }
-    ensures insert { (schema : Schema) (i : Insert) → IsInsertInto schema i
+    ensures insert { (schema : Schema) (i : Insert) → IsTableSchema schema → IsInsertInto schema i
         → MayHavePartition schema i.partition }
+{}
+
+/// An INSERT gives a command for each partition of its rows, in the order in which they first occur: of rows that begin
+/// with 2, 1 and 2, in a table with its partition by the first column, one for partition 2 and then one for partition 1.
+pub fn inserts_are_parted()
+    ensures rows { (schema : Schema) (rows : List Row)
+        → All (λ p. 0 < length (rows_in schema p rows)) (partitions_of schema rows) }
+    ensures worked { (schema : Schema) (a b c : Row) → schema.partition ≡ Some 0
+        → partitions_of schema ((UInt8 2 ∷ a) ∷ (UInt8 1 ∷ b) ∷ (UInt8 2 ∷ c) ∷ [])
+        ≡ Number 2 ∷ Number 1 ∷ [] }
+    ensures worked_rows { (schema : Schema) (a b c : Row) → schema.partition ≡ Some 0
+        → rows_in schema (Number 2) ((UInt8 2 ∷ a) ∷ (UInt8 1 ∷ b) ∷ (UInt8 2 ∷ c) ∷ [])
+        ≡ (UInt8 2 ∷ a) ∷ (UInt8 2 ∷ c) ∷ [] }
 {}
 
 /// As a history grows, the live rows of a plain table stay, and others come after them.
@@ -87,14 +114,14 @@ pub fn answers_are_determined()
         → IsPlain schema → Answer h schema s a → Answer h schema s b → a ≡ b }
 {}
 
-/// Each CREATE that a script has names a key and a table by a name, and its text, with a semicolon after it, is read as it
-/// alone. The schema that it writes is one that a table may have, and where its turn refuses nothing either, its command
-/// may come next.
+/// Each CREATE that a script has names a column in each of its keys and a table by a name, and its text, with a semicolon
+/// after it, is read as it alone. The schema that it writes is one that a table may have, and where its turn refuses nothing
+/// either, its command may come next.
 pub fn creates_are_allowed()
     ensures written { (script : List ℕ) → All IsWritten (statements_of script) }
-    ensures schema { (c : CreateText) (schema : Schema) → 0 < length c.key
+    ensures schema { (c : CreateText) (schema : Schema) → NamesKeys c.clauses
         → schema_of_text c ≡ Ok schema → IsTableSchema schema }
-    ensures next { (c : CreateText) (schema : Schema) (h : History) → 0 < length c.key
+    ensures next { (c : CreateText) (schema : Schema) (h : History) → NamesKeys c.clauses
         → schema_of_text c ≡ Ok schema → create_turn c.table h ≡ None
         → IsAllowed h (command.Create (record { table = c.table; schema = schema })) }
 {}
@@ -186,7 +213,8 @@ pub fn scripts_run_in_one_way()
         → (a ≡ b) × (h ≡ g) }
 {}
 
-/// The counts that bound the grammar's readers cut nothing off: each step takes at least one byte, or one token.
+/// The counts that bound the grammar's readers cut nothing off: each step takes at least one byte, or one token, and there
+/// are four kinds of clauses.
 pub fn bounds_cut_nothing_off()
     ensures statements { (n m : ℕ) (script : List ℕ) → length script < n → length script < m
         → statements_within n script ≡ statements_within m script }
@@ -204,6 +232,8 @@ pub fn bounds_cut_nothing_off()
         → length ts < n → length ts < m
         → listed_within n (is_symbol symbol.Comma) (the symbol.Comma) column [] next ts ≡
         listed_within m (is_symbol symbol.Comma) (the symbol.Comma) column [] next ts }
+    ensures clauses { (n m : ℕ) (next : List Clause → Reader Statement) (ts : List Placed)
+        → 4 ≤ n → 4 ≤ m → clauses_within n [] next ts ≡ clauses_within m [] next ts }
     ensures lines { (n m : ℕ) (text : List ℕ) → length text < n → length text < m
         → data_within n text ≡ data_within m text }
     ensures ends { (n m : ℕ) (text : List ℕ) → length text < n → length text < m

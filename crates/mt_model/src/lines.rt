@@ -46,9 +46,7 @@ fn refusal_text(alloc: Global, refusal: &Refusal) -> Result<Vec<u8>, NoMemory>
         Refusal::NoTable(table) => named(alloc, b"E02", table),
         Refusal::TableExists(table) => named(alloc, b"E03", table),
         Refusal::NoColumn(column) => named(alloc, b"E04", column),
-        Refusal::Schema(Reason::NoColumns, column) => named(alloc, b"E05 no_columns", column),
-        Refusal::Schema(Reason::DoubleColumn, column) => named(alloc, b"E05 double_column", column),
-        Refusal::Schema(Reason::DoubleKey, column) => named(alloc, b"E05 double_key", column),
+        Refusal::Schema(reason, column) => named(alloc, reason_text(*reason), column),
         Refusal::Fields {
             line,
             found,
@@ -68,6 +66,20 @@ fn refusal_text(alloc: Global, refusal: &Refusal) -> Result<Vec<u8>, NoMemory>
             accepted,
         } => numbered_thrice(alloc, b"E17", *opened, *now, *accepted as u64),
         Refusal::Damaged { table, part, file } => damaged(alloc, table, part, file),
+    }
+}
+
+/// The front of the line of a rule of schemas that is broken, before its last name.
+fn reason_text(reason: Reason) -> &'static [u8]
+    ensures { result.now ≡ codes "E05 " ++ refusals.reason_word reason }
+{
+    match reason {
+        Reason::NoColumns => b"E05 no_columns",
+        Reason::DoubleColumn => b"E05 double_column",
+        Reason::DoubleKey => b"E05 double_key",
+        Reason::NotPrefix => b"E05 not_prefix",
+        Reason::PartitionType => b"E05 partition_type",
+        Reason::Granularity => b"E05 granularity",
     }
 }
 

@@ -8,8 +8,14 @@ pub enum Reason {
     NoColumns,
     /// Two columns have one name.
     DoubleColumn,
-    /// The key names a column twice.
+    /// A key names a column twice.
     DoubleKey,
+    /// The primary key is no prefix of the sorting key.
+    NotPrefix,
+    /// The partition column is not unsigned.
+    PartitionType,
+    /// A granule has no rows, or too many.
+    Granularity,
 }
 
 /// A quantity that has a bound.

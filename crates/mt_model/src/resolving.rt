@@ -1,30 +1,32 @@
 // The columns that a statement names: the schema that a CREATE writes, and the columns that a SELECT prints.
-ghost use Rattle.std.specs.Prelude.{◌≡◌, ◌<◌, ◌^◌, IfOk, IfSome, length};
+ghost use Rattle.std.specs.Prelude.{◌≡◌, ◌<◌, ◌^◌, IfOk, length, codes};
 ghost use Rattle.mt_base.specs.Stops.{Gives};
+ghost use Rattle.mt_model.specs.declared.refusal.Refusal.TheVariants as refusal;
 ghost use Rattle.mt_model.specs.Reply as reply;
 
+use crate::clauses::{find_column, first_key, first_unknown, schema_written};
 use crate::refusal::{Bound, Reason, Refusal};
 use mt_base::{COLUMN_LIMIT, NoMemory, Seq, Stop, Twin};
 use mt_values::{Column, CreateText, Name, Schema, SchemaFault, Selected, all_places};
 use std::alloc::Global;
 
-/// The schema that a CREATE writes, or the first thing that it is refused for: a name of its key that is no column's, a
-/// rule of schemas that is broken, too many columns.
+/// The schema that a CREATE writes, or the first thing that it is refused for: the first name in its clauses that is no
+/// column's, a rule of schemas that is broken, too many columns.
 ///
 /// `Stop::NoMemory` where an allocation failed, and where a place of the columns has no room in the 32 bits of a key's.
 pub fn resolve(alloc: Global, create: &CreateText) -> Result<Schema, Stop<Refusal>>
     ensures { Gives (reply.schema_of_text create.now) result }
 {
     let columns = create.columns.as_slice();
+    let clauses = create.clauses.as_slice();
     if columns.len() > u32::MAX as usize {
         return Err(Stop::NoMemory);
     }
-    let key = places_of(alloc, columns, create.key.as_slice())?;
-    let schema = Schema {
-        columns: create.columns.twin(alloc)?,
-        key,
-    };
-    if let Err(fault) = schema.check() {
+    if let Some(name) = first_unknown(columns, clauses) {
+        return Err(Stop::Refused(Refusal::NoColumn(name.twin(alloc)?)));
+    }
+    let schema = schema_written(alloc, create)?;
+    if let Err(fault) = schema.check_as_written(first_key(clauses)) {
         return Err(Stop::Refused(refusal_of_schema(alloc, columns, fault)?));
     }
     if columns.len() > COLUMN_LIMIT {
@@ -42,19 +44,41 @@ fn refusal_of_schema(
     ensures { IfOk result (λ refusal. refusal ≡ reply.refusal_of_schema columns.now fault) }
 {
     match fault {
-        SchemaFault::NoColumns => {
-            let name = Seq::from_slice(alloc, b"-".as_slice())?;
-            Ok(Refusal::Schema(Reason::NoColumns, name))
-        }
-        SchemaFault::DoubleColumn(place) => {
-            let name = name_at(alloc, columns, place)?;
-            Ok(Refusal::Schema(Reason::DoubleColumn, name))
-        }
+        SchemaFault::NoColumns => of_no_column(alloc, Reason::NoColumns),
+        SchemaFault::DoubleColumn(place) => of_column(alloc, columns, Reason::DoubleColumn, place),
         SchemaFault::DoubleKey(place) => {
-            let name = name_at(alloc, columns, place as usize)?;
-            Ok(Refusal::Schema(Reason::DoubleKey, name))
+            of_column(alloc, columns, Reason::DoubleKey, place as usize)
         }
+        SchemaFault::NotPrefix(place) => {
+            of_column(alloc, columns, Reason::NotPrefix, place as usize)
+        }
+        SchemaFault::PartitionType(place) => {
+            of_column(alloc, columns, Reason::PartitionType, place as usize)
+        }
+        SchemaFault::Granularity => of_no_column(alloc, Reason::Granularity),
     }
+}
+
+/// The refusal for a rule that is broken at no column.
+fn of_no_column(alloc: Global, reason: Reason) -> Result<Refusal, NoMemory>
+    ensures { IfOk result (λ found. found ≡ refusal.Schema reason (codes "-")) }
+{
+    let name = Seq::from_slice(alloc, b"-".as_slice())?;
+    Ok(Refusal::Schema(reason, name))
+}
+
+/// The refusal for a rule that is broken at the column at a place.
+fn of_column(
+    alloc: Global,
+    columns: &[Column],
+    reason: Reason,
+    place: usize,
+) -> Result<Refusal, NoMemory>
+    ensures { IfOk result
+        (λ found. found ≡ refusal.Schema reason (reply.name_at columns.now place)) }
+{
+    let name = name_at(alloc, columns, place)?;
+    Ok(Refusal::Schema(reason, name))
 }
 
 /// The name of the column at a place; an empty one where there is no such column.
@@ -100,12 +124,4 @@ fn places_of(alloc: Global, columns: &[Column], names: &[Name]) -> Result<Seq<u3
         places.push(place as u32)?;
     }
     Ok(places)
-}
-
-/// The place of the first column of this name.
-fn find_column(columns: &[Column], name: &Name) -> Option<usize>
-    ensures place { result ≡ reply.column_place columns.now name.now }
-    ensures within { IfSome result (λ place. place < length columns.now) }
-{
-    columns.iter().position(|column| column.name == *name)
 }

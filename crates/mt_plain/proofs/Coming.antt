@@ -1,5 +1,5 @@
 -- Commands that may come after a history, and histories that stay legal.
-use Rattle.std.proofs.Common.{◌≡◌, ℕ, ◌+◌, ◌<◌, ◌≤◌, Bool, true, false, cond, not, nat_lt, List, [], ◌∷◌, ◌++◌, All, Option, Some, None, Result, Ok, Err, is_some, length, refl, sym, subst, arith}
+use Rattle.std.proofs.Common.{◌≡◌, ℕ, ◌+◌, ◌<◌, ◌≤◌, Bool, true, false, cond, nat_lt, List, [], ◌∷◌, ◌++◌, All, Option, Some, None, Result, Ok, Err, is_some, length, refl, sym, subst, arith}
 use Rattle.std.proofs.lemmas.Bool.Decides.{nat_tests}
 use Rattle.std.proofs.lemmas.List.Elements.{All-nil, All-cons, All-head, All-tail, All-filter, All-map, All-weaker}
 use Rattle.mt_base.specs.declared.partition.Partition.{Partition}
@@ -11,42 +11,17 @@ use Rattle.mt_values.specs.declared.statement.CreateText.{CreateText}
 use Rattle.mt_values.specs.Grid.{AreRowsOf}
 use Rattle.mt_values.specs.Tables.{partition_of, same_partition}
 use Rattle.mt_values.specs.Values.{Row, AreValues, types_of}
-use Rattle.mt_model.specs.Commands.{create_commands, insert_command, insert_commands, partitions_of, rows_in, other_partitions}
+use Rattle.mt_model.specs.Clauses.{NamesKeys}
+use Rattle.mt_model.specs.Commands.{create_commands, insert_command, insert_commands, partitions_of, rows_in}
 use Rattle.mt_model.specs.declared.refusal.Bound.TheVariants as bound
 use Rattle.mt_model.specs.declared.refusal.Refusal.{Refusal}
 use Rattle.mt_model.specs.declared.refusal.Refusal.TheVariants as refusal
 use Rattle.mt_model.specs.History.{History, IsAllowed, IsLegal, column_types, creates, entered, schema_of}
 use Rattle.mt_model.specs.Reply.{create_turn, schema_of_text}
-use Rattle.mt_model.proofs.Commands.{same_itself}
+use Rattle.mt_model.proofs.Commands.{have_rows}
 use Rattle.mt_model.proofs.Histories.{legal_push, schema_kept}
 use Rattle.mt_model.proofs.Tables.{command_allowed, schema_is}
 use Rattle.mt_plain.specs.Plain.{MayFollow, after_turns, unless_turn_refuses, unmerged_turn}
-
--- ---- each partition of rows has rows
-
-more_in : (schema : Schema) (partition : Partition) (row : Row) (rows : List Row) → 0 < length (rows_in schema partition rows) → 0 < length (rows_in schema partition (row ∷ rows))
-more_in schema partition row rows some = by (same_partition (partition_of schema row) partition)
-  where
-    by : (b : Bool) → 0 < length (cond b (row ∷ rows_in schema partition rows) (rows_in schema partition rows))
-    by true = omega arith
-    by false = some
-
-own_in : (schema : Schema) (row : Row) (rows : List Row) → 0 < length (rows_in schema (partition_of schema row) (row ∷ rows))
-own_in schema row rows = by (same_partition (partition_of schema row) (partition_of schema row)) (same_itself (partition_of schema row))
-  where
-    by : (b : Bool) → b ≡ true → 0 < length (cond b (row ∷ rows_in schema (partition_of schema row) rows) (rows_in schema (partition_of schema row) rows))
-    by true is = omega arith
-    by false is = cc
-
-have_rows : (schema : Schema) (rows : List Row) → All (λ (p : Partition). 0 < length (rows_in schema p rows)) (partitions_of schema rows)
-have_rows schema [] = All-nil (λ (p : Partition). 0 < length (rows_in schema p []))
-have_rows schema (row ∷ rows) =
-    let own = partition_of schema row in
-    let before = λ (p : Partition). 0 < length (rows_in schema p rows) in
-    let now = λ (p : Partition). 0 < length (rows_in schema p (row ∷ rows)) in
-    let others = other_partitions own (partitions_of schema rows) in
-    All-cons now own others (own_in schema row rows)
-    (All-weaker before now (λ p some. more_in schema p row rows some) others (All-filter (λ (p : Partition). not (same_partition p own)) before (partitions_of schema rows) (have_rows schema rows)))
 
 -- ---- the commands of statements
 
@@ -69,15 +44,15 @@ inserts_come h table schema rows there typed values =
     All-map (MayFollow h) (insert_command schema table rows) (partitions_of schema rows)
     (All-weaker (λ (p : Partition). 0 < length (rows_in schema p rows)) (λ (p : Partition). MayFollow h (insert_command schema table rows p)) (λ p some. command_allowed h table schema rows p there some typed values) (partitions_of schema rows) (have_rows schema rows))
 
-pub creates_come : (h : History) (c : CreateText) (cs : List Command) → create_commands c.table (schema_of_text c) ≡ Ok cs → 0 < length c.key → All (MayFollow h) cs
-creates_come h c cs is key = by (schema_of_text c) refl is
+pub creates_come : (h : History) (c : CreateText) (cs : List Command) → create_commands c.table (schema_of_text c) ≡ Ok cs → NamesKeys c.clauses → All (MayFollow h) cs
+creates_come h c cs is keys = by (schema_of_text c) refl is
   where
     by : (r : Result Schema Refusal) → schema_of_text c ≡ r → create_commands c.table r ≡ Ok cs → All (MayFollow h) cs
     by (Err why) e is = cc
     by (Ok schema) e is =
         let create : Command = command.Create (record { table = c.table; schema = schema }) in
         let one : create ∷ [] ≡ cs = cc in
-        subst (All (MayFollow h)) one (All-cons (MayFollow h) create [] (schema_is c schema e key) (All-nil (MayFollow h)))
+        subst (All (MayFollow h)) one (All-cons (MayFollow h) create [] (schema_is c schema e keys) (All-nil (MayFollow h)))
 
 -- ---- histories
 

@@ -1,5 +1,6 @@
 -- What `==` of values, rows and schemas says.
-use Rattle.std.proofs.Common.{◌≡◌, ℕ, Bool, true, false, Decides, List, ap, ap₂, nat_eq, refl, ◌&&◌, ◌∙◌}
+use Rattle.std.proofs.Common.{◌≡◌, ℕ, Bool, true, false, Decides, List, Option, Some, None, ap, ap₂, nat_eq, refl, ◌&&◌, ◌∙◌}
+use Rattle.std.specs.Option.{option_eq}
 use Rattle.std.specs.Cmp.Lexicographic.{pointwise, pointwise_decides}
 use Rattle.std.proofs.lemmas.Bool.Decides.{Decides-eqb, Decides-int_eq, Decides-like, Decides-and, Decides-at}
 use Rattle.mt_values.specs.declared.value.ColType.{ColType}
@@ -58,9 +59,43 @@ column_same : (x y : Column) → Decides (columns.eq-value.it x y) (x ≡ y)
 column_same x y = Decides-like (pointwise nat_eq x.name y.name && types.eq-value.it x.col_type y.col_type) (λ p. ap₂ (λ (n : List ℕ) (t : ColType). record { name = n; col_type = t }) p.0 p.1) (λ e. (ap (λ (c : Column). c.name) e, ap (λ (c : Column). c.col_type) e))
     (Decides-and (pointwise nat_eq x.name y.name) (types.eq-value.it x.col_type y.col_type) (texts_same x.name y.name) (type_same x.col_type y.col_type))
 
+-- two places of a partition column, or none
+partition_same : (a b : Option ℕ) → Decides (option_eq nat_eq a b) (a ≡ b)
+partition_same None None = (λ e. refl, λ e. refl)
+partition_same None (Some n) = (λ e. cc, λ e. cc)
+partition_same (Some m) None = (λ e. cc, λ e. cc)
+partition_same (Some m) (Some n) = Decides-like (nat_eq m n) (ap Some) (λ e. cc) (Decides-eqb m n)
+
+-- schemas with the same fields
+record SameFields (x y : Schema) : Type 0 where
+  columns : x.columns ≡ y.columns
+  key : x.key ≡ y.key
+  primary : x.primary ≡ y.primary
+  partition : x.partition ≡ y.partition
+  granularity : x.granularity ≡ y.granularity
+
+one_schema : (x y : Schema) → SameFields x y → x ≡ y
+one_schema x y s =
+    let with : List Column → List ℕ → List ℕ → Option ℕ → ℕ → Schema = λ c k p o g. record { columns = c; key = k; primary = p; partition = o; granularity = g } in
+    ap (λ (c : List Column). with c x.key x.primary x.partition x.granularity) s.columns
+    ∙ (ap₂ (λ (k p : List ℕ). with y.columns k p x.partition x.granularity) s.key s.primary
+    ∙ ap₂ (λ (o : Option ℕ) (g : ℕ). with y.columns y.key y.primary o g) s.partition s.granularity)
+
+-- two schemas
 schema_same : (x y : Schema) → Decides (schemas.eq-value.it x y) (x ≡ y)
-schema_same x y = Decides-like (pointwise columns.eq-value.it x.columns y.columns && pointwise nat_eq x.key y.key) (λ p. ap₂ (λ (c : List Column) (k : List ℕ). record { columns = c; key = k }) p.0 p.1) (λ e. (ap (λ (c : Schema). c.columns) e, ap (λ (c : Schema). c.key) e))
-    (Decides-and (pointwise columns.eq-value.it x.columns y.columns) (pointwise nat_eq x.key y.key) (pointwise_decides column_same x.columns y.columns) (texts_same x.key y.key))
+schema_same x y =
+    let columns_are = pointwise columns.eq-value.it x.columns y.columns in
+    let keys_are = pointwise nat_eq x.key y.key in
+    let primaries_are = pointwise nat_eq x.primary y.primary in
+    let partitions_are = option_eq nat_eq x.partition y.partition in
+    let granules_are = nat_eq x.granularity y.granularity in
+    Decides-like (columns_are && (keys_are && (primaries_are && (partitions_are && granules_are))))
+    (λ p. one_schema x y (record { columns = p.0; key = p.1.0; primary = p.1.1.0; partition = p.1.1.1.0; granularity = p.1.1.1.1 }))
+    (λ e. (ap (λ (c : Schema). c.columns) e, (ap (λ (c : Schema). c.key) e, (ap (λ (c : Schema). c.primary) e, (ap (λ (c : Schema). c.partition) e, ap (λ (c : Schema). c.granularity) e)))))
+    (Decides-and columns_are (keys_are && (primaries_are && (partitions_are && granules_are))) (pointwise_decides column_same x.columns y.columns)
+    (Decides-and keys_are (primaries_are && (partitions_are && granules_are)) (texts_same x.key y.key)
+    (Decides-and primaries_are (partitions_are && granules_are) (texts_same x.primary y.primary)
+    (Decides-and partitions_are granules_are (partition_same x.partition y.partition) (Decides-eqb x.granularity y.granularity)))))
 
 -- two tables to be made, of one name or of two
 pub creates_alike : (x y : Create) (r : Bool) → pointwise nat_eq x.table y.table ≡ true → r ≡ schemas.eq-value.it x.schema y.schema → Decides r (x ≡ y)

@@ -1,18 +1,34 @@
 // The partitions of rows.
-ghost use Rattle.std.specs.Prelude.{◌≡◌, IfOk, OnOk};
+ghost use Rattle.std.specs.Prelude.{◌≡◌, IfOk, OnOk, slice_get};
 ghost use Rattle.mt_values.specs.Tables as tables;
 ghost use Rattle.mt_model.specs.Commands as commands;
 ghost use Rattle.mt_plain.specs.Once.{among, once_more};
 
 use mt_base::{NoMemory, Twin};
-use mt_values::{Partition, Row, Schema};
+use mt_values::{Partition, Row, Schema, Value};
 use std::alloc::Global;
 
-/// The partition of a row: each table has the one partition `all`.
-fn partition_of(_schema: &Schema, _row: &Row) -> Partition
-    ensures { result ≡ tables.partition_of _schema.now _row.now }
+/// The partition of a row: the number that it has in the partition column, where there is one.
+fn partition_of(schema: &Schema, row: &Row) -> Partition
+    ensures { result ≡ tables.partition_of schema.now row.now }
 {
-    Partition::Whole
+    match schema.partition {
+        Some(place) => Partition::Number(number_at(row.as_slice(), place as usize)),
+        None => Partition::Whole,
+    }
+}
+
+/// The number of the value at a place; 0 where it is none of an unsigned type.
+fn number_at(row: &[Value], place: usize) -> u64
+    ensures { result ≡ tables.number_at (slice_get row.now place) }
+{
+    match row.get(place) {
+        Some(Value::UInt8(n)) => u64::from(*n),
+        Some(Value::UInt16(n)) => u64::from(*n),
+        Some(Value::UInt32(n)) => u64::from(*n),
+        Some(Value::UInt64(n)) => *n,
+        _ => 0,
+    }
 }
 
 /// Whether both are one partition.

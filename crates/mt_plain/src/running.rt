@@ -1,6 +1,7 @@
 // Statements, run one after another.
 ghost use Rattle.std.specs.Prelude.{◌≡◌, ◌<◌, All, IfOk, OnOk, OnErr, length};
 ghost use Rattle.mt_values.specs.declared.statement.Statement.TheVariants as statement;
+ghost use Rattle.mt_model.specs.Clauses.{NamesKeys};
 ghost use Rattle.mt_model.specs.History.{IsLegal};
 ghost use Rattle.mt_model.specs.Refusals as refusals;
 ghost use Rattle.mt_model.specs.Session.{Takes, TakesStatement};
@@ -123,7 +124,7 @@ fn step_create(
         (statement.Create create.now) (length history.old.items) (length history.new.items)
         reply.items) }
     ensures grows { Grows history.old.items history.new.items }
-    ensures legal { OnOk result (0 < length create.now.key → IsLegal history.old.items
+    ensures legal { OnOk result (NamesKeys create.now.clauses → IsLegal history.old.items
         → IsLegal history.new.items) }
 {
     match create_commands(alloc, create) {

@@ -1,5 +1,6 @@
 -- The values of a column are all of its type.
-use Rattle.std.proofs.Common.{◌≡◌, ℕ, ◌<◌, Some, refl, sym, ap, ◌∙◌, List, All, map, slice_get, get_or, length, option_map, arith, Vec, vec_len}
+use Rattle.std.proofs.Common.{◌≡◌, ℕ, ◌<◌, Some, refl, sym, ap, ◌∙◌, List, All, map, slice_get, get_or, length, option_map, arith, Vec, vec_len, None, Option, [], ◌∷◌, filter_map, ap₂}
+use Rattle.std.specs.List.{cons_option}
 use Rattle.std.proofs.lemmas.List.{length-map}
 use Rattle.std.proofs.lemmas.Option.{get_or_from_slice_get, slice_get_within, slice_get-map, slice_get_read}
 use Rattle.mt_values.specs.declared.value.ColType.{ColType}
@@ -7,7 +8,7 @@ use Rattle.mt_values.specs.declared.value.Value.{Value}
 use Rattle.mt_values.specs.declared.value.Value.TheVariants as value
 use Rattle.mt_values.specs.declared.column.Cells.{Cells as Vectors}
 use Rattle.mt_values.specs.declared.column.Cells.TheVariants as cells
-use Rattle.std.proofs.lemmas.List.Elements.{All-map}
+use Rattle.std.proofs.lemmas.List.Elements.{All-map, All-weaker}
 use Rattle.mt_values.specs.Columns.{cells_of}
 use Rattle.mt_values.specs.Grid.{Cells, AreOfType}
 use Rattle.mt_values.specs.Values.{type_of}
@@ -44,3 +45,31 @@ value_read f t xs x cells place is h e =
     ap (λ (c : Cells). slice_get c.values place) is
     ∙ slice_get-map f xs place
     ∙ ap (option_map f) (slice_get_read xs (length xs) place x refl (within_items f t xs cells place is h) e)
+
+-- ---- values at places
+
+-- places within a column of these items are within the items
+pub all_within_items : {X : Type 0} (f : X → Value) (t : ColType) (xs ys : List X) (cells : Cells) (order : List ℕ) → ys ≡ xs → cells ≡ record { col_type = t; values = map f xs } → All (λ k. k < length cells.values) order → All (λ k. k < length ys) order
+all_within_items f t xs ys cells order same is h =
+    All-weaker (λ k. k < length cells.values) (λ k. k < length ys) (λ k below. omega (arith, ap length same, within_items f t xs cells k is below)) order h
+
+picked_step : {X : Type 0} (f : X → Value) (rest : List X) (o : Option X) → map f (cons_option o rest) ≡ cons_option (option_map f o) (map f rest)
+picked_step f rest None = refl
+picked_step f rest (Some x) = refl
+
+-- the values of picked items are the picked values
+map_picked : {X : Type 0} (f : X → Value) (xs : List X) (order : List ℕ) → map f (filter_map (slice_get xs) order) ≡ filter_map (slice_get (map f xs)) order
+map_picked f xs [] = refl
+map_picked f xs (k ∷ order) = picked_step f (filter_map (slice_get xs) order) (slice_get xs k) ∙ ap₂ cons_option (sym (slice_get-map f xs k)) (map_picked f xs order)
+
+-- a type and values as a column
+abbrev values_from : ColType → List Value → Cells
+values_from t vs = record { col_type = t; values = vs }
+
+-- so a column of picked items has the picked values
+pub picked_values : {X : Type 0} (f : X → Value) (t : ColType) (xs ys picked : List X) (cells : Cells) (order : List ℕ) → ys ≡ xs → cells ≡ record { col_type = t; values = map f xs } → picked ≡ filter_map (slice_get ys) order
+    → ◌≡◌ {A = Cells} (record { col_type = t; values = map f picked }) (record { col_type = cells.col_type; values = filter_map (slice_get cells.values) order })
+picked_values f t xs ys picked cells order same is e =
+    ap (λ zs. values_from t (map f zs)) (e ∙ ap (λ zs. filter_map (slice_get zs) order) same)
+    ∙ ap (λ vs. values_from t vs) (map_picked f xs order)
+    ∙ ap (λ (c : Cells). values_from c.col_type (filter_map (slice_get c.values) order)) (sym is)

@@ -1,5 +1,5 @@
 -- Rows and columns: a column of the rows that columns make, rows picked by an order, and their types.
-use Rattle.std.proofs.Common.{◌≡◌, ℕ, zero, suc, ◌+◌, ◌<◌, ◌≤◌, List, [], ◌∷◌, ◌++◌, Option, Some, None, refl, sym, ap, ap₂, ◌∙◌, subst, length, map, get_or, take, drop, slice_get, filter_map, All, arith, add-one, option_and_then, option_map}
+use Rattle.std.proofs.Common.{◌≡◌, ℕ, zero, suc, ◌+◌, ◌<◌, ◌≤◌, List, [], ◌∷◌, ◌++◌, Option, Some, None, refl, sym, ap, ap₂, ◌∙◌, subst, length, map, get_or, take, drop, slice_get, filter_map, All, arith, add-one, option_and_then, option_map, subst₂}
 use Rattle.std.specs.List.{range_with_len, cons_option}
 use Rattle.std.specs.List.Sorted.{IsPermutation}
 use Rattle.std.proofs.lemmas.List.{length-map, map-id, drop_all, drop_more, take_more}
@@ -10,7 +10,7 @@ use Rattle.std.proofs.lemmas.Option.{slice_get-get_or, slice_get-map, slice_get_
 use Rattle.mt_values.specs.declared.value.ColType.{ColType}
 use Rattle.mt_values.specs.declared.value.Value.{Value}
 use Rattle.mt_values.specs.declared.value.Value.TheVariants as value
-use Rattle.mt_values.specs.Grid.{Cells, row_at, rows_of, column_of, AreOfType, AreRowsOf, HaveTypeAt, picked, IsOrderBy}
+use Rattle.mt_values.specs.Grid.{Cells, grid_of, row_at, rows_of, column_of, AreOfType, AreRowsOf, HaveTypeAt, picked, IsOrderBy}
 use Rattle.mt_values.specs.Values.{Row, type_of, types_of}
 
 -- ---- lists by their places
@@ -49,6 +49,13 @@ filter_map_more f xs i x y h e v =
     ∙ filter_map-append f (take i xs) (get_or xs i x ∷ [])
     ∙ ap (λ z. filter_map f (take i xs) ++ cons_option (f z) []) (sym e)
     ∙ ap (λ o. filter_map f (take i xs) ++ cons_option o []) v
+
+-- the same at a place of an order
+pub picked_more : {Y : Type 0} (f : ℕ → Option Y) (order : List ℕ) (i : ℕ) (y : Y) → i < length order → f (get_or order i 0) ≡ Some y → filter_map f (take (i + 1) order) ≡ filter_map f (take i order) ++ y ∷ []
+picked_more f order i y h v =
+    ap (filter_map f) (take_more order i 0 h)
+    ∙ filter_map-append f (take i order) (get_or order i 0 ∷ [])
+    ∙ ap (λ o. filter_map f (take i order) ++ cons_option o []) v
 
 -- ---- the rows of columns
 
@@ -253,3 +260,30 @@ length-picked columns rows order by = length_permutation rows (picked rows order
 pub AreRowsOf-picked : (types : List ColType) (columns : List ℕ) (rows : List Row) (order : List ℕ) → IsOrderBy columns rows order → AreRowsOf types rows → AreRowsOf types (picked rows order)
 AreRowsOf-picked types columns rows order by typed =
     All-permutation (λ row. types_of row ≡ types) rows (picked rows order) (IsPermutation-picked columns rows order by) typed
+
+-- ---- rows at places
+
+pub length_picked_within : (rows : List Row) (order : List ℕ) → All (λ p. p < length rows) order → length (picked rows order) ≡ length order
+length_picked_within rows order h = ap length (picked_within rows order h) ∙ length-map order (λ p. get_or rows p [])
+
+pub AreRowsOf_picked_within : (types : List ColType) (rows : List Row) (order : List ℕ) → All (λ p. p < length rows) order → AreRowsOf types rows → AreRowsOf types (picked rows order)
+AreRowsOf_picked_within types rows order h typed =
+    let at = All-map (λ row. types_of row ≡ types) (λ p. get_or rows p []) order (All-weaker (λ p. p < length rows) (λ p. types_of (get_or rows p []) ≡ types) (λ p below. typed p [] below) order h) in
+    subst (AreRowsOf types) (sym (picked_within rows order h)) at
+
+module _ (types : List ColType) (rows : List Row) (order : List ℕ) (typed : AreRowsOf types rows) (within : All (λ p. p < length rows) order) where
+  lengths : HaveLength (length types) (picked rows order)
+  lengths = lengths_typed types (picked rows order) (AreRowsOf_picked_within types rows order within typed)
+
+  -- the columns of picked rows have a value of each
+  pub even_picked : (columns : List Cells) → columns ≡ columns_from 0 types (picked rows order) → AreEven columns (length order)
+  even_picked columns made =
+      let same : length types ≡ 0 + length types = omega arith in
+      let all = AreEven-columns_from 0 types (picked rows order) (subst (λ n. HaveLength n (picked rows order)) same lengths) in
+      subst₂ AreEven (sym made) (length_picked_within rows order within) all
+
+  -- and they stand for the picked rows
+  pub grid_picked : (columns : List Cells) → columns ≡ columns_from 0 types (picked rows order) → grid_of columns (length order) ≡ record { types = types; rows = picked rows order }
+  grid_picked columns made =
+      ap₂ grid_of made (sym (length_picked_within rows order within))
+      ∙ ap₂ (λ ts rs. record { types = ts; rows = rs }) (types-columns_from 0 types (picked rows order)) (rows_of-columns_from types (picked rows order) lengths)

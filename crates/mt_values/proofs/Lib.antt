@@ -2,11 +2,15 @@ pub mod Bounds
 pub mod Columns
 pub mod Fronts
 pub mod Grids
+pub mod KeyOrders
 pub mod Leads
+pub mod Limited
 pub mod OrderBy
 pub mod Orders
 pub mod Repeats
 pub mod RowBounds
+pub mod RowPartitions
+pub mod RowValueAt
 pub mod RowValues
 pub mod ScriptBounds
 pub mod Texts

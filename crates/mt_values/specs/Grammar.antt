@@ -1,6 +1,7 @@
 -- The statements of the grammar, production by production (docs/grammar.md, "Statements").
-use Rattle.std.specs.Prelude.{ℕ, Bool, true, false, ◌&&◌, ◌||◌, ◌==◌, nat_le, nat_lt, List, [], ◌∷◌, ◌++◌, length, Result, Ok, Err, if◌then◌else◌, codes}
+use Rattle.std.specs.Prelude.{ℕ, zero, suc, Bool, true, false, not, ◌&&◌, ◌||◌, ◌==◌, nat_le, nat_lt, List, [], ◌∷◌, ◌++◌, length, Result, Ok, Err, if◌then◌else◌, codes}
 use Rattle.std.specs.Cmp.Lexicographic.{pointwise}
+use Rattle.std.specs.List.{list_any}
 use Rattle.mt_values.specs.declared.value.ColType.{ColType}
 use Rattle.mt_values.specs.declared.value.ColType.TheVariants as type
 use Rattle.mt_values.specs.declared.schema.Column.{Column}
@@ -11,6 +12,8 @@ use Rattle.mt_values.specs.declared.token.Token.{Token}
 use Rattle.mt_values.specs.declared.token.Token.TheVariants as token
 use Rattle.mt_values.specs.declared.statement.Cause.{Cause}
 use Rattle.mt_values.specs.declared.statement.Cause.TheVariants as cause
+use Rattle.mt_values.specs.declared.statement.Clause.{Clause}
+use Rattle.mt_values.specs.declared.statement.Clause.TheVariants as clause
 use Rattle.mt_values.specs.declared.statement.Selected.{Selected}
 use Rattle.mt_values.specs.declared.statement.Selected.TheVariants as selected
 use Rattle.mt_values.specs.declared.statement.Slip.{Slip}
@@ -20,7 +23,7 @@ use Rattle.mt_values.specs.declared.statement.Statement.TheVariants as statement
 pub use Rattle.mt_base.specs.Limits.{statement_limit}
 use Rattle.mt_base.specs.Limits.{name_limit}
 use Rattle.mt_values.specs.Tokens.{is_keyword, tokens_of}
-use Rattle.mt_values.specs.Readers.{Reader, Reading, Test, Part, done, expect, choose, listed}
+use Rattle.mt_values.specs.Readers.{Reader, Reading, Test, Part, done, either, expect, choose, listed}
 
 -- equal bytes
 abbrev pub same_bytes : List ℕ → List ℕ → Bool
@@ -121,6 +124,14 @@ plain (token.Text t) = Err slip.Wrong
 plain (token.Symbol s) = Err slip.Wrong
 plain token.Stray = Err slip.Wrong
 
+-- the digits of a number
+abbrev pub number : Test (List ℕ)
+number (token.Word w) = Err slip.Wrong
+number (token.Number digits) = Ok digits
+number (token.Text t) = Err slip.Wrong
+number (token.Symbol s) = Err slip.Wrong
+number token.Stray = Err slip.Wrong
+
 -- ---- parts of statements
 
 -- x { "," x }
@@ -147,9 +158,64 @@ key next =
     (expect (the symbol.Open) (λ _. list_of one_name (λ names. expect (the symbol.Close) (λ _. next names))))
     (expect name (λ n. next (n ∷ [])))
 
--- clauses = ORDER BY key
-abbrev pub clauses : {S : Type 0} → Part S (List (List ℕ))
-clauses next = expect (keyword (codes "ORDER")) (λ _. expect (keyword (codes "BY")) (λ _. key next))
+-- order_by = ORDER BY key
+abbrev pub order_by : {S : Type 0} → Part S Clause
+order_by next = expect (keyword (codes "ORDER")) (λ _. expect (keyword (codes "BY")) (λ _. key (λ names. next (clause.OrderBy names))))
+
+-- partition_by = PARTITION BY name
+abbrev pub partition_by : {S : Type 0} → Part S Clause
+partition_by next = expect (keyword (codes "PARTITION")) (λ _. expect (keyword (codes "BY")) (λ _. expect name (λ n. next (clause.PartitionBy n))))
+
+-- primary_key = PRIMARY KEY key
+abbrev pub primary_key : {S : Type 0} → Part S Clause
+primary_key next = expect (keyword (codes "PRIMARY")) (λ _. expect (keyword (codes "KEY")) (λ _. key (λ names. next (clause.PrimaryKey names))))
+
+-- settings = SETTINGS index_granularity "=" number
+abbrev pub settings : {S : Type 0} → Part S Clause
+settings next =
+    expect (keyword (codes "SETTINGS")) (λ _. expect (exactly (codes "index_granularity")) (λ _.
+    expect (the symbol.Equal) (λ _. expect number (λ digits. next (clause.Granularity digits)))))
+
+-- whether a clause is an ORDER BY
+abbrev pub is_order_by : Clause → Bool
+is_order_by (clause.OrderBy names) = true
+is_order_by c = false
+
+-- whether a clause is a PARTITION BY
+abbrev pub is_partition_by : Clause → Bool
+is_partition_by (clause.PartitionBy n) = true
+is_partition_by c = false
+
+-- whether a clause is a PRIMARY KEY
+abbrev pub is_primary_key : Clause → Bool
+is_primary_key (clause.PrimaryKey names) = true
+is_primary_key c = false
+
+-- whether a clause says the granularity
+abbrev pub is_granularity : Clause → Bool
+is_granularity (clause.Granularity digits) = true
+is_granularity c = false
+
+-- the keyword begins a clause of a kind of which there is none yet
+abbrev pub begins : List ℕ → (Clause → Bool) → List Clause → Token → Bool
+begins k kind seen t = is_word (is_keyword k) t && not (list_any kind seen)
+
+-- one more clause, of a kind of which there is none yet; or what follows the clauses, where ORDER BY is among them
+abbrev pub clause_or_over : {S : Type 0} → List Clause → (Clause → Reader S) → Reader S → Reader S
+clause_or_over seen more over =
+    choose (begins (codes "PARTITION") is_partition_by seen) (partition_by more)
+    (choose (begins (codes "PRIMARY") is_primary_key seen) (primary_key more)
+    (choose (begins (codes "SETTINGS") is_granularity seen) (settings more)
+    (either (list_any is_order_by seen) over (order_by more))))
+
+-- at most so many clauses after those that came
+abbrev pub clauses_within : {S : Type 0} → ℕ → List Clause → Part S (List Clause)
+clauses_within zero seen next = next seen
+clauses_within (suc n) seen next = clause_or_over seen (λ c. clauses_within n (seen ++ c ∷ []) next) (next seen)
+
+-- clauses = order_by once, and partition_by, primary_key and settings each at most once, in any order
+abbrev pub clauses : {S : Type 0} → Part S (List Clause)
+clauses next = clauses_within 4 [] next
 
 -- the semicolon that ends a statement
 abbrev pub ends : {S : Type 0} → S → Reader S
@@ -176,8 +242,8 @@ abbrev pub create : List ℕ → Reader Statement
 create text =
     expect (keyword (codes "CREATE")) (λ _. expect (keyword (codes "TABLE")) (λ _. expect name (λ table.
     expect (the symbol.Open) (λ _. list_of column (λ columns. expect (the symbol.Close) (λ _.
-    expect (keyword (codes "ENGINE")) (λ _. expect (the symbol.Equal) (λ _. engine (clauses (λ names.
-    ends (statement.Create (record { text = text; table = table; columns = columns; key = names }))))))))))))
+    expect (keyword (codes "ENGINE")) (λ _. expect (the symbol.Equal) (λ _. engine (clauses (λ cs.
+    ends (statement.Create (record { text = text; table = table; columns = columns; clauses = cs }))))))))))))
 
 -- insert = INSERT INTO name [ FORMAT format ]
 abbrev pub insert : List ℕ → Bool → Reader Statement

@@ -1,5 +1,5 @@
 -- The rows of an INSERT's data (ClickHouse, formats: TabSeparated; docs/grammar.md, "Data").
-use Rattle.std.specs.Prelude.{ℕ, suc, zero, ℤ, pos, negsuc, ◌+◌, ◌-◌, ◌*◌, ◌^◌, Bool, false, not, ◌&&◌, ◌==◌, nat_le, List, [], ◌∷◌, length, fold, Option, Some, None, Result, Ok, Err, if◌then◌else◌}
+use Rattle.std.specs.Prelude.{ℕ, suc, zero, ℤ, pos, negsuc, ◌+◌, ◌-◌, ◌*◌, ◌^◌, Bool, false, not, ◌&&◌, ◌==◌, nat_le, min, List, [], ◌∷◌, length, fold, Option, Some, None, Result, Ok, Err, if◌then◌else◌}
 use Rattle.std.specs.List.{list_all}
 use Rattle.std.specs.Option.{option_map, option_and_then}
 use Rattle.std.specs.Char.{is_ascii_digit}
@@ -38,6 +38,10 @@ fields_from taken (b ∷ bs) =
 -- the number that decimal digits say
 abbrev pub number_of : List ℕ → ℕ
 number_of digits = fold (λ n b. n * 10 + (b - 48)) 0 digits
+
+-- the number that decimal digits say, or a limit where it is greater (docs/grammar.md, "Statements")
+abbrev pub number_within : ℕ → List ℕ → ℕ
+number_within limit digits = min limit (number_of digits)
 
 -- an unsigned number up to a greatest one: decimal digits, leading zeros allowed
 abbrev pub digits_up_to : ℕ → List ℕ → Option ℕ

@@ -1,12 +1,16 @@
 -- The types of a schema's columns, and which rule it breaks first.
-use Rattle.std.specs.Prelude.{ℕ, ◌+◌, List, [], ◌∷◌, ◌++◌, Option, Some, None, Bool, if◌then◌else◌, map, nat_eq}
+use Rattle.std.specs.Prelude.{ℕ, ◌+◌, List, [], ◌∷◌, ◌++◌, Option, Some, None, Bool, true, false, ◌&&◌, if◌then◌else◌, map, nat_eq, nat_le, slice_get}
 use Rattle.std.specs.List.{list_any}
 use Rattle.std.specs.Cmp.Lexicographic.{pointwise}
+use Rattle.mt_base.specs.Limits.{granularity_limit}
 use Rattle.mt_values.specs.declared.schema.Column.{Column}
+use Rattle.mt_values.specs.declared.schema.KeyOrder.{KeyOrder}
+use Rattle.mt_values.specs.declared.schema.KeyOrder.TheVariants.{SortingFirst, PrimaryFirst}
 use Rattle.mt_values.specs.declared.schema.Schema.{Schema}
 use Rattle.mt_values.specs.declared.schema.SchemaFault.{SchemaFault}
 use Rattle.mt_values.specs.declared.schema.SchemaFault.TheVariants as fault
 use Rattle.mt_values.specs.declared.value.ColType.{ColType}
+use Rattle.mt_values.specs.declared.value.ColType.TheVariants as type
 
 -- the types of a table's columns, in order
 abbrev pub column_types : Schema → List ColType
@@ -43,11 +47,55 @@ abbrev pub fault_or : Option SchemaFault → Option SchemaFault → Option Schem
 fault_or None other = other
 fault_or (Some found) other = Some found
 
--- the first rule that columns with a key of these places break
-abbrev pub fault_of : List Column → List ℕ → Option SchemaFault
-fault_of [] key = Some fault.NoColumns
-fault_of (column ∷ columns) key = fault_or (column_fault (column ∷ columns)) (key_fault key)
+-- the first mention in either key that repeats an earlier one of it, by which key is written first (docs/definitions.md, "Schemas")
+abbrev pub keys_fault : KeyOrder → List ℕ → List ℕ → Option SchemaFault
+keys_fault SortingFirst key primary = fault_or (key_fault key) (key_fault primary)
+keys_fault PrimaryFirst key primary = fault_or (key_fault primary) (key_fault key)
 
--- the first rule that the schema breaks
+-- the first column of the primary key that is not the sorting key's at its place (ClickHouse, MergeTree: "Choosing a Primary Key that Differs from the Sorting Key")
+abbrev pub prefix_fault : List ℕ → List ℕ → Option SchemaFault
+prefix_fault key [] = None
+prefix_fault [] (column ∷ columns) = Some (fault.NotPrefix column)
+prefix_fault (own ∷ key) (column ∷ columns) = if nat_eq own column then prefix_fault key columns else Some (fault.NotPrefix column)
+
+-- the type's numbers have no sign (docs/definitions.md, "Schemas")
+abbrev pub is_unsigned : ColType → Bool
+is_unsigned type.UInt8 = true
+is_unsigned type.UInt16 = true
+is_unsigned type.UInt32 = true
+is_unsigned type.UInt64 = true
+is_unsigned t = false
+
+-- a column that is there has unsigned numbers (docs/definitions.md, "Schemas")
+abbrev pub is_unsigned_column : Option Column → Bool
+is_unsigned_column None = false
+is_unsigned_column (Some column) = is_unsigned column.col_type
+
+-- the partition column is not unsigned (ClickHouse, MergeTree: PARTITION BY; docs/definitions.md, "Schemas")
+abbrev pub partition_fault : List Column → Option ℕ → Option SchemaFault
+partition_fault columns None = None
+partition_fault columns (Some place) = if is_unsigned_column (slice_get columns place) then None else Some (fault.PartitionType place)
+
+-- the rows of a granule are not from 1 to 65536 (ClickHouse, MergeTree: index_granularity; docs/definitions.md, "Schemas")
+abbrev pub granularity_fault : ℕ → Option SchemaFault
+granularity_fault rows = if nat_le 1 rows && nat_le rows granularity_limit then None else Some fault.Granularity
+
+-- a table has at least one column (docs/definitions.md, "Schemas")
+abbrev pub empty_fault : List Column → Option SchemaFault
+empty_fault [] = Some fault.NoColumns
+empty_fault (column ∷ columns) = None
+
+-- the first fault that there is (docs/definitions.md, "Schemas")
+abbrev pub first_fault : List (Option SchemaFault) → Option SchemaFault
+first_fault [] = None
+first_fault (found ∷ others) = fault_or found (first_fault others)
+
+-- the first rule that the schema breaks, by which key is written first (docs/definitions.md, "Schemas")
+abbrev pub schema_fault_as : KeyOrder → Schema → Option SchemaFault
+schema_fault_as first schema =
+    first_fault (empty_fault schema.columns ∷ column_fault schema.columns ∷ keys_fault first schema.key schema.primary
+    ∷ prefix_fault schema.key schema.primary ∷ partition_fault schema.columns schema.partition ∷ granularity_fault schema.granularity ∷ [])
+
+-- the first rule that the schema breaks, the sorting key tried first (docs/definitions.md, "Schemas")
 abbrev pub schema_fault : Schema → Option SchemaFault
-schema_fault schema = fault_of schema.columns schema.key
+schema_fault schema = schema_fault_as SortingFirst schema

@@ -1,6 +1,6 @@
 // Rows, kept by columns.
 ghost use Rattle.std.specs.Prelude.{◌≡◌, ◌<◌, ◌^◌, ◌↔◌, ◌++◌, [], Some, All, IfOk, IsTrue, OnOk, length, slice_get};
-ghost use Rattle.mt_values.specs.Grid.{AreRowsOf, Cells, HaveTypeAt, IsOrderBy, column_of, grid_of};
+ghost use Rattle.mt_values.specs.Grid.{AreRowsOf, Cells, HaveTypeAt, IsOrderBy, column_of, grid_of, picked};
 ghost use Rattle.mt_values.specs.Tables.{sorting_columns};
 
 use crate::column::ColumnData;
@@ -112,6 +112,23 @@ impl Block {
             row.push(column.at(place).to_value(alloc)?)?;
         }
         Ok(row)
+    }
+
+    /// The rows at these places, counted from 0, in this order, gathered column by column.
+    ///
+    /// `NoMemory` where an allocation failed.
+    pub fn pick(&self, alloc: Global, order: &[u32]) -> Result<Block, NoMemory>
+        requires within { All (λ place. place < length self.now.rows) order.now }
+        requires few { length order.now < 2 ^ 32 }
+        ensures { IfOk result (λ b. b ≡ record self.now { rows = picked self.now.rows order.now }) }
+    {
+        // Reading the length shows that the rows keep to the types of the columns.
+        let _rows = self.len();
+        let mut columns = Vec::with_capacity(alloc, self.width())?;
+        for place in 0..self.width() {
+            columns.push_reserved(self.column(place).pick(alloc, order)?);
+        }
+        Ok(Block::of_columns(columns, order.len()))
     }
 
     /// The places of the rows, from 0, in the order by these columns; rows that are alike in them keep their order.

@@ -1,6 +1,7 @@
 // A value that a column or a row still owns.
 ghost use Rattle.std.specs.Prelude.{◌≡◌, IfOk};
 ghost use Rattle.mt_values.specs.Cells.{value_of};
+ghost use Rattle.mt_values.specs.Tables.{number_in};
 ghost use Rattle.mt_values.specs.Values.{type_of};
 
 use crate::{ColType, Value};
@@ -53,6 +54,19 @@ impl<'a> Cell<'a> {
             Cell::Int32(_) => ColType::Int32,
             Cell::Int64(_) => ColType::Int64,
             Cell::Text(_) => ColType::Text,
+        }
+    }
+
+    /// The number of a value of an unsigned column, by which such a column parts a table; 0 for a value of another column.
+    pub fn number(self) -> u64
+        ensures { result ≡ number_in (value_of self.entry) }
+    {
+        match self {
+            Cell::UInt8(n) => u64::from(n),
+            Cell::UInt16(n) => u64::from(n),
+            Cell::UInt32(n) => u64::from(n),
+            Cell::UInt64(n) => n,
+            _ => 0,
         }
     }
 

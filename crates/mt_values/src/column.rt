@@ -1,5 +1,6 @@
 // One column of a block: a vector of numbers of one width, or texts.
-ghost use Rattle.std.specs.Prelude.{◌≡◌, ◌<◌, ◌++◌, ◌∷◌, [], Some, length, slice_get, OnOk, OnErr, IsTrue, ◌↔◌};
+ghost use Rattle.std.specs.Prelude.{◌≡◌, ◌<◌, ◌++◌, ◌∷◌, [], All, IfOk, Some, length, slice_get, OnOk, OnErr, IsTrue, ◌↔◌};
+ghost use Rattle.std.specs.List.{filter_map};
 ghost use Rattle.mt_values.specs.Cells.{value_of};
 ghost use Rattle.mt_values.specs.Grid.{AreOfType};
 ghost use Rattle.mt_values.specs.Values.{type_of};
@@ -122,6 +123,28 @@ impl Cells {
             },
         }
     }
+
+    /// The values at these places, in this order.
+    ///
+    /// `NoMemory` where an allocation failed.
+    fn pick(&self, alloc: Global, order: &[u32]) -> Result<Cells, NoMemory>
+        requires { All (λ place. place < length (cells_of self.now).values) order.now }
+        ensures { IfOk result (λ c. cells_of c ≡ record (cells_of self.now) {
+          values = filter_map (slice_get (cells_of self.now).values) order.now;
+        }) }
+    {
+        match self {
+            Cells::UInt8(v) => Ok(Cells::UInt8(picked_numbers(alloc, v, order)?)),
+            Cells::UInt16(v) => Ok(Cells::UInt16(picked_numbers(alloc, v, order)?)),
+            Cells::UInt32(v) => Ok(Cells::UInt32(picked_numbers(alloc, v, order)?)),
+            Cells::UInt64(v) => Ok(Cells::UInt64(picked_numbers(alloc, v, order)?)),
+            Cells::Int8(v) => Ok(Cells::Int8(picked_numbers(alloc, v, order)?)),
+            Cells::Int16(v) => Ok(Cells::Int16(picked_numbers(alloc, v, order)?)),
+            Cells::Int32(v) => Ok(Cells::Int32(picked_numbers(alloc, v, order)?)),
+            Cells::Int64(v) => Ok(Cells::Int64(picked_numbers(alloc, v, order)?)),
+            Cells::Text(texts) => Ok(Cells::Text(texts.pick(alloc, order)?)),
+        }
+    }
 }
 
 impl Model for ColumnData {
@@ -232,6 +255,34 @@ impl ColumnData {
     {
         self.push_cell(Cell::Text(text))
     }
+
+    /// The column of the values at these places, in this order.
+    ///
+    /// `NoMemory` where an allocation failed.
+    pub fn pick(&self, alloc: Global, order: &[u32]) -> Result<ColumnData, NoMemory>
+        requires { All (λ place. place < length self.now.values) order.now }
+        ensures { IfOk result (λ c. c ≡ record self.now {
+          values = filter_map (slice_get self.now.values) order.now;
+        }) }
+    {
+        Ok(ColumnData {
+            cells: self.cells.pick(alloc, order)?,
+        })
+    }
+}
+
+/// The numbers at these places, in this order.
+///
+/// `NoMemory` where an allocation failed.
+fn picked_numbers<T: Copy>(alloc: Global, numbers: &[T], order: &[u32]) -> Result<Vec<T>, NoMemory>
+    requires { All (λ place. place < length numbers.now) order.now }
+    ensures { IfOk result (λ v. v.items ≡ filter_map (slice_get numbers.now) order.now) }
+{
+    let mut picked = Vec::with_capacity(alloc, order.len())?;
+    for place in order {
+        picked.push_reserved(numbers[*place as usize]);
+    }
+    Ok(picked)
 }
 
 /// Adds a number at the end of a vector.

@@ -39,6 +39,9 @@ impl Twin for Schema {
         Ok(Schema {
             columns: self.columns.twin(alloc)?,
             key: self.key.twin(alloc)?,
+            primary: self.primary.twin(alloc)?,
+            partition: self.partition,
+            granularity: self.granularity,
         })
     }
 }

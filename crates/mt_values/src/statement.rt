@@ -38,8 +38,20 @@ pub struct CreateText {
     pub text: Bytes,
     pub table: Name,
     pub columns: Seq<Column>,
+    /// Its clauses, in the order of the text.
+    pub clauses: Seq<Clause>,
+}
+
+/// A clause of a CREATE TABLE. Its names are as they were written.
+#[derive(Drop)]
+pub enum Clause {
     /// The columns of ORDER BY.
-    pub key: Seq<Name>,
+    OrderBy(Seq<Name>),
+    PartitionBy(Name),
+    /// The columns of PRIMARY KEY.
+    PrimaryKey(Seq<Name>),
+    /// The digits of index_granularity.
+    Granularity(Bytes),
 }
 
 /// An INSERT with the bytes of its data.

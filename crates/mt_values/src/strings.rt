@@ -1,5 +1,6 @@
 // Texts in one buffer.
-ghost use Rattle.std.specs.Prelude.{◌≡◌, ◌<◌, ◌≤◌, ◌++◌, ◌∷◌, [], Some, length, slice_get, OnOk, OnErr};
+ghost use Rattle.std.specs.Prelude.{◌≡◌, ◌<◌, ◌≤◌, ◌++◌, ◌∷◌, [], All, IfOk, Some, length, slice_get, OnOk, OnErr};
+ghost use Rattle.std.specs.List.{filter_map};
 ghost use Rattle.mt_values.specs.Strings.{start_of};
 
 use mt_base::NoMemory;
@@ -74,5 +75,19 @@ impl Strings {
         self.bytes.extend_from_slice(text)?;
         self.ends.push_reserved(self.bytes.len());
         Ok(())
+    }
+
+    /// The texts at these places, in this order, in one new buffer.
+    ///
+    /// `NoMemory` where an allocation failed.
+    pub fn pick(&self, alloc: Global, order: &[u32]) -> Result<Strings, NoMemory>
+        requires { All (λ place. place < length self.now) order.now }
+        ensures { IfOk result (λ s. s ≡ filter_map (slice_get self.now) order.now) }
+    {
+        let mut texts = Strings::new(alloc);
+        for place in order {
+            texts.push(self.at(*place as usize))?;
+        }
+        Ok(texts)
     }
 }

@@ -5,18 +5,17 @@ use Rattle.std.proofs.lemmas.Bool.{cases_lt}
 use Rattle.std.proofs.lemmas.List.Sums.{sum_by-cons}
 use Rattle.std.proofs.lemmas.Option.{get_or_from_slice_get, slice_get_within}
 use Rattle.mt_base.specs.declared.partition.Partition.{Partition}
-use Rattle.mt_base.specs.declared.partition.Partition.TheVariants.{Whole}
 use Rattle.mt_values.specs.declared.schema.Schema.{Schema}
 use Rattle.mt_values.specs.Tables.{MayHavePartition, same_partition}
 use Rattle.mt_model.specs.History.{History, IsLegal, schema_of}
 use Rattle.mt_model.specs.Numbers.{IsNumberOfInsert, numbered}
-use Rattle.mt_model.proofs.Commands.{same_itself}
+use Rattle.mt_model.proofs.Commands.{own_partition, same_itself}
 use Rattle.part_name.specs.PartNames.{Before, IsPartName}
 use Rattle.part_history.specs.declared.part.CorePart.{CorePart}
 use Rattle.part_history.specs.Parts.{PartStands, TableStands, has_block}
 use Rattle.part_history.specs.Entered.{next_number}
 use Rattle.part_history.proofs.Growing.{number_drawn}
-use Rattle.part_history.proofs.Numbered.{all_whole, whole_at}
+use Rattle.part_history.proofs.Numbered.{all_into, into_at, legal_schema}
 use Rattle.part_history.proofs.Ranges.{lies_inside}
 
 -- one part that passes is counted
@@ -58,9 +57,11 @@ pub has_at : (w : Partition) (n : ℕ) (a : CorePart) → a.name.partition ≡ w
 has_at w n a is from upto =
     ap₂ ◌&&◌ (ap (λ v. same_partition v w) is ∙ same_itself w) (lies_inside a.name.min_block a.name.max_block n from upto)
 
--- a part of a legal history is of the whole
-pub whole_part : (h : History) (p : CorePart) → IsLegal h → PartStands h p → p.name.partition ≡ Whole
-whole_part h p legal s = sym s.least.partition_is ∙ whole_at (numbered p.table h) (p.name.min_block - 1) s.least.insert (all_whole p.table h legal) s.least.there
+-- a part that stands is of a partition that its table may have: that of the INSERT of its least block
+may_part : (h : History) (schema : Schema) (p : CorePart) → IsLegal h → schema_of p.table h ≡ Some schema → PartStands h p → MayHavePartition schema p.name.partition
+may_part h schema p legal there s =
+    let into = into_at schema (numbered p.table h) (p.name.min_block - 1) s.least.insert (all_into p.table h schema legal there) s.least.there in
+    subst (MayHavePartition schema) s.least.partition_is (own_partition schema s.least.insert (legal_schema p.table h schema legal there) into)
 
 -- the parts of a table end below its next number
 pub ends_below : (h : History) (table : List ℕ) (ps : List CorePart) → TableStands table ps h → All (λ (p : CorePart). p.name.max_block < next_number table h) ps
@@ -72,7 +73,8 @@ ends_below h table ps s k d below =
 
 -- the parts of a table are of partitions that it may have
 pub may_have : (h : History) (table : List ℕ) (schema : Schema) (ps : List CorePart) → IsLegal h → schema_of table h ≡ Some schema → TableStands table ps h → All (λ (p : CorePart). MayHavePartition schema p.name.partition) ps
-may_have h table schema ps legal there s k d below = whole_part h (get_or ps k d) legal (s.each k d below)
+may_have h table schema ps legal there s k d below =
+    may_part h schema (get_or ps k d) legal (ap (λ t. schema_of t h) (s.own k d below) ∙ there) (s.each k d below)
 
 module _ (h : History) (table : List ℕ) (ps : List CorePart) (s : TableStands table ps h) where
   pub stands_at : (i : ℕ) (a : CorePart) → slice_get ps i ≡ Some a → PartStands h a

@@ -1,9 +1,8 @@
 -- Parts that stand for a history, as it grows.
-use Rattle.std.proofs.Common.{◌≡◌, ℕ, ◌+◌, ◌-◌, ◌<◌, ◌≤◌, Bool, true, false, cond, ◌&&◌, List, [], ◌∷◌, ◌++◌, Option, Some, None, length, filter, map, slice_get, refl, sym, ap, ap₂, ◌∙◌, subst, append-nil, length-append, arith, zero, suc, inl, inr, ◌⊎◌}
+use Rattle.std.proofs.Common.{◌≡◌, ℕ, ◌+◌, ◌-◌, ◌<◌, ◌≤◌, Bool, true, false, cond, ◌&&◌, List, [], ◌∷◌, ◌++◌, Some, length, slice_get, All, refl, sym, ap, ap₂, ◌∙◌, subst, append-nil, length-append, arith, zero, suc, inl, inr, ◌⊎◌}
 use Rattle.std.specs.List.{flat_map, count_by, AllByRecursion}
 use Rattle.std.proofs.lemmas.Bool.{cases_lt}
-use Rattle.std.proofs.lemmas.List.{map-append}
-use Rattle.std.proofs.lemmas.List.Elements.{All-push, All-weaker, recursion_from_All, filter-append}
+use Rattle.std.proofs.lemmas.List.Elements.{All-from_recursion, All-push, All-weaker, recursion_from_All}
 use Rattle.std.proofs.lemmas.List.Sums.{sum_by-cons, sum_by_push}
 use Rattle.std.proofs.lemmas.Option.{slice_get_within}
 use Rattle.mt_base.specs.declared.partition.Partition.{Partition}
@@ -26,7 +25,7 @@ use Rattle.part_history.specs.declared.part.CorePart.{CorePart}
 use Rattle.part_history.specs.Parts.{PartStands, TableStands, has_block}
 use Rattle.part_history.specs.Entered.{part_of_insert}
 use Rattle.part_history.proofs.Numbered.{kept, kept_if, live_within, sorted_by}
-use Rattle.part_history.proofs.Ranges.{lies_above, lies_below, lies_inside}
+use Rattle.part_history.proofs.Ranges.{and_false, if_front, kept_above, lies_above, lies_below, lies_inside, outside}
 
 -- ---- lists
 
@@ -67,25 +66,9 @@ insert_was t p n h more is upto =
 
 -- ---- commands within some numbers
 
-and_false : (b : Bool) → b && false ≡ false
-and_false true = refl
-and_false false = refl
-
-outside : (p : Partition) (a b n : ℕ) (c : Command) → lies_within a b n ≡ false → is_within p a b n c ≡ false
-outside p a b n (command.Create c) is = refl
-outside p a b n (command.Insert i) is = ap (λ w. same_partition i.partition p && w) is ∙ and_false (same_partition i.partition p)
-
-kept_above : (p : Partition) (a b n : ℕ) (cs : List Command) → b < n → kept p a b n cs ≡ []
-kept_above p a b n [] lt = refl
-kept_above p a b n (c ∷ cs) lt = ap (λ s. kept_if s c (kept p a b (n + 1) cs)) (outside p a b n c (lies_above a b n lt)) ∙ kept_above p a b (n + 1) cs (omega arith)
-
 kept_below : (p : Partition) (a b n : ℕ) (cs : List Command) → n + length cs ≤ a → kept p a b n cs ≡ []
 kept_below p a b n [] le = refl
 kept_below p a b n (c ∷ cs) le = ap (λ s. kept_if s c (kept p a b (n + 1) cs)) (outside p a b n c (lies_below a b n (omega (arith, le)))) ∙ kept_below p a b (n + 1) cs (omega (arith, le))
-
-if_front : (s : Bool) (c : Command) (xs ys : List Command) → kept_if s c (xs ++ ys) ≡ kept_if s c xs ++ ys
-if_front true c xs ys = refl
-if_front false c xs ys = refl
 
 pub kept_more : (p : Partition) (a b n m : ℕ) (cs more : List Command) → m ≡ n + length cs → kept p a b n (cs ++ more) ≡ kept p a b n cs ++ kept p a b m more
 kept_more p a b n m [] more is = let same : n ≡ m = omega (arith, is) in ap (λ k. kept p a b k more) same
@@ -235,3 +218,38 @@ module _ (h : History) (e : Entry) (i : Insert) (schema : Schema) (is : e.comman
           let inside : lies_within (count + 1) (count + 1) n ≡ true = lies_inside (count + 1) (count + 1) n (omega (arith, n_is)) (omega (arith, n_is)) in
           let yes : has_block w n p ≡ true = ap₂ ◌&&◌ same inside in
           count_push (has_block w n) ps p ∙ ap₂ (λ (k : ℕ) (b : Bool). k + cond b 1 0) (none_above w n count ps ends lt) yes
+
+-- ---- parts stand for a table in any order
+
+all_first : {X : Type 0} (P : X → Type 0) (xs : List X) (x : X) → AllByRecursion P (xs ++ x ∷ []) → AllByRecursion P (x ∷ xs)
+all_first P [] x all = all
+all_first P (y ∷ xs) x all = let more = all_first P xs x all.1 in (more.0, (all.0, more.1))
+
+all_placed : {X : Type 0} (P : X → Type 0) (xs ys : List X) (x : X) → AllByRecursion P ((xs ++ ys) ++ x ∷ []) → AllByRecursion P (xs ++ x ∷ ys)
+all_placed P [] ys x all = all_first P ys x all
+all_placed P (y ∷ xs) ys x all = (all.0, all_placed P xs ys x all.1)
+
+-- what holds of each, with one after the others, holds of each wherever that one stands
+pub placed_all : {X : Type 0} (P : X → Type 0) (xs ys : List X) (x : X) → All P ((xs ++ ys) ++ x ∷ []) → All P (xs ++ x ∷ ys)
+placed_all P xs ys x all = All-from_recursion P (xs ++ x ∷ ys) (all_placed P xs ys x (recursion_from_All P ((xs ++ ys) ++ x ∷ []) all))
+
+count_placed : (f : CorePart → Bool) (ps qs : List CorePart) (p : CorePart) → count_by f (ps ++ p ∷ qs) ≡ count_by f (ps ++ qs) + cond (f p) 1 0
+count_placed f [] qs p = let one = sum_by-cons (λ (q : CorePart). cond (f q) 1 0) p qs in omega (arith, one)
+count_placed f (x ∷ ps) qs p =
+    let now = sum_by-cons (λ (q : CorePart). cond (f q) 1 0) x (ps ++ p ∷ qs) in
+    let was = sum_by-cons (λ (q : CorePart). cond (f q) 1 0) x (ps ++ qs) in
+    let more = count_placed f ps qs p in
+    omega (arith, now, was, more)
+
+pub table_placed : (table : List ℕ) (ps qs : List CorePart) (p : CorePart) (h : History) → TableStands table ((ps ++ qs) ++ p ∷ []) h → TableStands table (ps ++ p ∷ qs) h
+table_placed table ps qs p h s = record {
+  own = placed_all (λ (q : CorePart). q.table ≡ table) ps qs p s.own;
+  each = placed_all (PartStands h) ps qs p s.each;
+  once = λ w n is. count_placed (has_block w n) ps qs p ∙ (sym (count_push (has_block w n) (ps ++ qs) p) ∙ s.once w n is);
+}
+
+-- the part of an INSERT, wherever it stands among those of its table
+pub table_entered : (h : History) (e : Entry) (i : Insert) (schema : Schema) → e.command ≡ command.Insert i → schema_of i.table h ≡ Some schema → (ps qs : List CorePart) → TableStands i.table (ps ++ qs) h
+    → TableStands i.table (ps ++ part_of_insert schema (length (numbered i.table h) + 1) i ∷ qs) (h ++ e ∷ [])
+table_entered h e i schema is there ps qs s =
+    table_placed i.table ps qs (part_of_insert schema (length (numbered i.table h) + 1) i) (h ++ e ∷ []) (table_grown h e i schema is there (ps ++ qs) s)

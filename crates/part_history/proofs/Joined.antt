@@ -1,15 +1,13 @@
 -- The rows of parts that stand for a table, part after part in block order.
-use Rattle.std.proofs.Common.{◌≡◌, ℕ, ◌+◌, ◌-◌, ◌<◌, ◌≤◌, Bool, false, cond, ◌&&◌, List, [], ◌∷◌, ◌++◌, length, map, Some, refl, sym, ap, ap₂, ◌∙◌, subst, arith}
+use Rattle.std.proofs.Common.{◌≡◌, ℕ, ◌+◌, ◌-◌, ◌<◌, ◌≤◌, Bool, true, false, cond, ◌&&◌, List, [], ◌∷◌, ◌++◌, length, map, Some, refl, sym, ap, ap₂, ◌∙◌, subst, arith}
 use Rattle.std.specs.List.{flat_map, count_by, AllByRecursion}
 use Rattle.std.specs.List.Sorted.{IsSorted}
-use Rattle.std.specs.Ordering.{is_eq, is_lt, nat_cmp, ordering_then}
+use Rattle.std.specs.Ordering.{is_eq}
 use Rattle.std.proofs.lemmas.List.Concat.{flat_map-append}
-use Rattle.std.proofs.lemmas.List.Elements.{recursion_from_All, filter-append}
+use Rattle.std.proofs.lemmas.List.Elements.{All-weaker, filter-append, filter_passes, recursion_from_All}
 use Rattle.std.proofs.lemmas.List.Sums.{sum_by-cons}
-use Rattle.std.proofs.lemmas.Map.Keys.{ge_from_not_lt}
 use Rattle.std.proofs.lemmas.Option.{slice_get_within}
 use Rattle.mt_base.specs.declared.partition.Partition.{Partition}
-use Rattle.mt_base.specs.declared.partition.Partition.TheVariants.{Whole}
 use Rattle.mt_values.specs.declared.command.Command.{Command}
 use Rattle.mt_values.specs.declared.command.Command.TheVariants as command
 use Rattle.mt_values.specs.declared.schema.Schema.{Schema}
@@ -19,47 +17,53 @@ use Rattle.mt_model.specs.History.{History, IsLegal, schema_of}
 use Rattle.mt_model.specs.Live.{live, of_key}
 use Rattle.mt_model.specs.Numbers.{IsNumberOfInsert, lies_within, numbered, within}
 use Rattle.mt_model.specs.Partial.{Partly}
+use Rattle.mt_model.proofs.Commands.{partition_is}
 use Rattle.mt_model.proofs.Sorting.{sorted_tail}
 use Rattle.part_history.specs.declared.part.CorePart.{CorePart}
-use Rattle.part_history.specs.Parts.{AreInBlockOrder, PartStands, TableStands, block_cmp, has_block, partition_cmp, rows_of_parts}
-use Rattle.part_history.proofs.Numbered.{all_whole, insert_at, kept, live_numbered, live_within, segment, sorted_by, whole_at, whole_kept}
-use Rattle.part_history.proofs.Ranges.{Climbs, Range, Stays, holds, ranges_joined, segment_all}
+use Rattle.part_history.specs.Parts.{AreInBlockOrder, PartStands, TableStands, block_cmp, has_block, parts_in, rows_of_parts}
+use Rattle.part_history.proofs.Numbered.{all_into, kept, kept_all, kept_apart, live_numbered, live_within, sorted_by}
+use Rattle.part_history.proofs.Orders.{blocks_rise, order_filtered}
+use Rattle.part_history.proofs.Ranges.{Begins, Climbs, IsOf, Range, Stays, count_cons, holds, ranges_joined}
 
 -- the blocks of a part
 abbrev range_of : CorePart → Range
 range_of p = (p.name.min_block, p.name.max_block)
 
-abbrev OfWhole : CorePart → Type 0
-OfWhole p = p.name.partition ≡ Whole
+-- the blocks of each part of a partition
+abbrev ranges_in : Partition → List CorePart → List Range
+ranges_in w ps = map range_of (parts_in w ps)
 
-count_ranges : (n : ℕ) (ps : List CorePart) → AllByRecursion OfWhole ps → count_by (has_block Whole n) ps ≡ count_by (holds n) (map range_of ps)
-count_ranges n [] all = refl
-count_ranges n (p ∷ ps) all =
-    sum_by-cons (λ (q : CorePart). cond (has_block Whole n q) 1 0) p ps
-    ∙ (ap₂ (λ (b : Bool) (k : ℕ). cond b 1 0 + k) (ap (λ w. same_partition w Whole && lies_within p.name.min_block p.name.max_block n) all.0) (count_ranges n ps all.1)
-    ∙ sym (sum_by-cons (λ (r : Range). cond (holds n r) 1 0) (range_of p) (map range_of ps)))
+count_ranges : (w : Partition) (n : ℕ) (ps : List CorePart) → count_by (has_block w n) ps ≡ count_by (holds n) (ranges_in w ps)
+count_ranges w n [] = refl
+count_ranges w n (p ∷ ps) = sum_by-cons (λ (q : CorePart). cond (has_block w n q) 1 0) p ps ∙ by (same_partition p.name.partition w) (count_ranges w n ps)
+  where
+    by : (b : Bool) → count_by (has_block w n) ps ≡ count_by (holds n) (ranges_in w ps)
+        → cond (b && lies_within p.name.min_block p.name.max_block n) 1 0 + count_by (has_block w n) ps ≡ count_by (holds n) (map range_of (cond b (p ∷ parts_in w ps) (parts_in w ps)))
+    by true rest = ap (λ (k : ℕ). cond (holds n (range_of p)) 1 0 + k) rest ∙ sym (count_cons n (range_of p) (ranges_in w ps))
+    by false rest = omega (arith, rest)
 
-next_low : (p q : CorePart) → OfWhole p → OfWhole q → is_lt (block_cmp q p) ≡ false → p.name.min_block ≤ q.name.min_block
-next_low p q one two up =
-    let cmp : block_cmp q p ≡ nat_cmp q.name.min_block p.name.min_block =
-    ap₂ (λ a b. ordering_then (partition_cmp a b) (nat_cmp q.name.min_block p.name.min_block)) two one in
-    ge_from_not_lt q.name.min_block p.name.min_block (sym (ap is_lt cmp) ∙ up)
+-- ---- the parts of a partition, in block order
 
-climbs_behind : (p : CorePart) (ps : List CorePart) → OfWhole p → AllByRecursion OfWhole ps → IsSorted block_cmp (p ∷ ps) → Climbs p.name.min_block (map range_of ps)
-climbs_behind p [] one all up = tt
-climbs_behind p (q ∷ ps) one all up = (next_low p q one all.0 (up 0 p (omega arith) (omega arith)), climbs_behind q ps all.0 all.1 (sorted_tail block_cmp p (q ∷ ps) up))
+abbrev OfPartition : Partition → CorePart → Type 0
+OfPartition w p = p.name.partition ≡ w
 
-climbs_all : (ps : List CorePart) → AllByRecursion OfWhole ps → IsSorted block_cmp ps → Climbs 0 (map range_of ps)
-climbs_all [] all up = tt
-climbs_all (p ∷ ps) all up = (omega arith, climbs_behind p ps all.0 all.1 up)
+all_of : (w : Partition) (ps : List CorePart) → AllByRecursion (OfPartition w) (parts_in w ps)
+all_of w ps =
+    let mine : CorePart → Bool = λ p. same_partition p.name.partition w in
+    recursion_from_All (OfPartition w) (parts_in w ps)
+    (All-weaker (λ (p : CorePart). mine p ≡ true) (OfPartition w) (λ p is. partition_is p.name.partition w is) (parts_in w ps) (filter_passes mine ps))
+
+climbs_after : (w : Partition) (p : CorePart) (ps : List CorePart) → OfPartition w p → AllByRecursion (OfPartition w) ps → IsSorted block_cmp (p ∷ ps) → Climbs p.name.min_block (map range_of ps)
+climbs_after w p [] one all up = tt
+climbs_after w p (q ∷ ps) one all up = (blocks_rise w p q one all.0 (up 0 p (omega arith) (omega arith)), climbs_after w q ps all.0 all.1 (sorted_tail block_cmp p (q ∷ ps) up))
+
+climbs_all : (w : Partition) (ps : List CorePart) → AllByRecursion (OfPartition w) ps → IsSorted block_cmp ps → Climbs 0 (map range_of ps)
+climbs_all w [] all up = tt
+climbs_all w (p ∷ ps) all up = (omega arith, climbs_after w p ps all.0 all.1 up)
 
 flat_maps : {X Y Z : Type 0} (f : Y → List Z) (g : X → List Y) (xs : List X) → flat_map (λ x. flat_map f (g x)) xs ≡ flat_map f (flat_map g xs)
 flat_maps f g [] = refl
 flat_maps f g (x ∷ xs) = ap (λ zs. flat_map f (g x) ++ zs) (flat_maps f g xs) ∙ sym (flat_map-append f (g x) (flat_map g xs))
-
-flat_map-map : {X Y Z : Type 0} (f : Y → List Z) (g : X → Y) (xs : List X) → flat_map f (map g xs) ≡ flat_map (λ x. f (g x)) xs
-flat_map-map f g [] = refl
-flat_map-map f g (x ∷ xs) = ap (λ zs. f (g x) ++ zs) (flat_map-map f g xs)
 
 module _ (h : History) (table : List ℕ) (schema : Schema) (legal : IsLegal h) (there : schema_of table h ≡ Some schema) where
   cs : List Command
@@ -70,27 +74,24 @@ module _ (h : History) (table : List ℕ) (schema : Schema) (legal : IsLegal h) 
 
   -- what is needed of a part
   record Fits (p : CorePart) : Type 0 where
-    whole : p.name.partition ≡ Whole
-    from : 1 ≤ p.name.min_block
+    order : p.name.min_block ≤ p.name.max_block
+    least : IsOf p.name.partition 1 cs p.name.min_block
     upto : p.name.max_block ≤ length cs
-    partly : Partly schema (flat_map (sorted_by schema) (segment p.name.min_block p.name.max_block 1 cs)) p.rows
+    partly : Partly schema (flat_map (sorted_by schema) (kept p.name.partition p.name.min_block p.name.max_block 1 cs)) p.rows
 
   fits_here : (p : CorePart) → p.table ≡ table → PartStands h p → Fits p
   unfolding cs
   fits_here p own s =
-      let all = all_whole p.table h legal in
-      let whole : p.name.partition ≡ Whole = sym s.least.partition_is ∙ whole_at (numbered p.table h) (p.name.min_block - 1) s.least.insert all s.least.there in
+      let least : IsOf p.name.partition 1 (numbered p.table h) p.name.min_block = record { from = s.least.from_one; insert = s.least.insert; there = s.least.there; own = s.least.partition_is } in
       let below : p.name.max_block - 1 < length (numbered p.table h) = slice_get_within (numbered p.table h) (p.name.max_block - 1) (command.Insert s.greatest.insert) s.greatest.there in
       let most : p.name.max_block ≤ length (numbered p.table h) = omega (arith, below, s.greatest.from_one) in
       let same : s.schema ≡ schema = same_schema s.schema schema (sym s.there ∙ (ap (λ t. schema_of t h) own ∙ there)) in
-      let rows : live p.table s.schema (within p.table p.name.partition p.name.min_block p.name.max_block h) ≡ flat_map (sorted_by schema) (segment p.name.min_block p.name.max_block 1 (numbered table h)) =
+      let rows : live p.table s.schema (within p.table p.name.partition p.name.min_block p.name.max_block h) ≡ flat_map (sorted_by schema) (kept p.name.partition p.name.min_block p.name.max_block 1 (numbered table h)) =
       live_within p.table s.schema p.name.partition p.name.min_block p.name.max_block h
-      ∙ (ap₂ (λ (x : Schema) (w : Partition). flat_map (sorted_by x) (kept w p.name.min_block p.name.max_block 1 (numbered p.table h))) same whole
-      ∙ (ap (flat_map (sorted_by schema)) (whole_kept p.name.min_block p.name.max_block 1 (numbered p.table h) all)
-      ∙ ap (λ t. flat_map (sorted_by schema) (segment p.name.min_block p.name.max_block 1 (numbered t h))) own)) in
+      ∙ ap₂ (λ (x : Schema) (t : List ℕ). flat_map (sorted_by x) (kept p.name.partition p.name.min_block p.name.max_block 1 (numbered t h))) same own in
       record {
-        whole = whole;
-        from = s.least.from_one;
+        order = s.order;
+        least = subst (λ t. IsOf p.name.partition 1 (numbered t h) p.name.min_block) own least;
         upto = subst (λ t. p.name.max_block ≤ length (numbered t h)) own most;
         partly = λ w row. sym (ap (λ (x : Schema). of_key x w row p.rows) same) ∙ (s.partly w row ∙ (ap (λ (x : Schema). of_key x w row (live p.table s.schema (within p.table p.name.partition p.name.min_block p.name.max_block h))) same ∙ ap (of_key schema w row) rows));
       }
@@ -99,38 +100,58 @@ module _ (h : History) (table : List ℕ) (schema : Schema) (legal : IsLegal h) 
   fits_all [] own each = tt
   fits_all (p ∷ ps) own each = (fits_here p own.0 each.0, fits_all ps own.1 each.1)
 
-  wholes : (ps : List CorePart) → AllByRecursion Fits ps → AllByRecursion OfWhole ps
-  wholes [] fits = tt
-  wholes (p ∷ ps) fits = (fits.0.whole, wholes ps fits.1)
+  module _ (w : Partition) where
+    begin_all : (ps : List CorePart) → AllByRecursion Fits ps → AllByRecursion (Begins w cs) (ranges_in w ps)
+    begin_all [] fits = tt
+    begin_all (p ∷ ps) fits = by (same_partition p.name.partition w) refl (begin_all ps fits.1)
+      where
+        by : (b : Bool) → same_partition p.name.partition w ≡ b → AllByRecursion (Begins w cs) (ranges_in w ps) → AllByRecursion (Begins w cs) (map range_of (cond b (p ∷ parts_in w ps) (parts_in w ps)))
+        by true is rest = ((fits.0.order, subst (λ v. IsOf v 1 cs p.name.min_block) (partition_is p.name.partition w is) fits.0.least), rest)
+        by false is rest = rest
 
-  stays_all : (ps : List CorePart) → AllByRecursion Fits ps → AllByRecursion (Stays 1 (length cs)) (map range_of ps)
-  stays_all [] fits = tt
-  stays_all (p ∷ ps) fits = ((λ some. fits.0.from, fits.0.upto), stays_all ps fits.1)
+    stays_all : (ps : List CorePart) → AllByRecursion Fits ps → AllByRecursion (Stays 1 (length cs)) (ranges_in w ps)
+    stays_all [] fits = tt
+    stays_all (p ∷ ps) fits = by (same_partition p.name.partition w) (stays_all ps fits.1)
+      where
+        by : (b : Bool) → AllByRecursion (Stays 1 (length cs)) (ranges_in w ps) → AllByRecursion (Stays 1 (length cs)) (map range_of (cond b (p ∷ parts_in w ps) (parts_in w ps)))
+        by true rest = ((fits.0.least.from, fits.0.upto), rest)
+        by false rest = rest
 
-  -- the rows of each key, part after part
-  keys_joined : (w : Partition) (row : Row) (ps : List CorePart) → AllByRecursion Fits ps
-      → of_key schema w row (rows_of_parts ps) ≡ of_key schema w row (flat_map (λ (p : CorePart). flat_map (sorted_by schema) (segment p.name.min_block p.name.max_block 1 cs)) ps)
-  keys_joined w row [] fits = refl
-  keys_joined w row (p ∷ ps) fits =
-      let f : Row → Bool = λ r. same_partition (partition_of schema r) w && is_eq (sorting_cmp schema row r) in
-      let mine = flat_map (sorted_by schema) (segment p.name.min_block p.name.max_block 1 cs) in
-      let others = flat_map (λ (q : CorePart). flat_map (sorted_by schema) (segment q.name.min_block q.name.max_block 1 cs)) ps in
-      filter-append f p.rows (rows_of_parts ps)
-      ∙ (ap₂ (λ (xs ys : List Row). xs ++ ys) (fits.0.partly w row) (keys_joined w row ps fits.1) ∙ sym (filter-append f mine others))
+    -- the rows of each key, part after part of the partition: the others have none
+    keys_joined : (row : Row) (ps : List CorePart) → AllByRecursion Fits ps
+        → of_key schema w row (rows_of_parts ps) ≡ of_key schema w row (flat_map (λ (r : Range). flat_map (sorted_by schema) (kept w r.0 r.1 1 cs)) (ranges_in w ps))
+    unfolding cs
+    keys_joined row [] fits = refl
+    keys_joined row (p ∷ ps) fits = filter-append key p.rows (rows_of_parts ps) ∙ by (same_partition p.name.partition w) refl (keys_joined row ps fits.1)
+      where
+        key : Row → Bool
+        key r = same_partition (partition_of schema r) w && is_eq (sorting_cmp schema row r)
+
+        added : Range → List Row
+        added r = flat_map (sorted_by schema) (kept w r.0 r.1 1 cs)
+
+        by : (b : Bool) → same_partition p.name.partition w ≡ b → of_key schema w row (rows_of_parts ps) ≡ of_key schema w row (flat_map added (ranges_in w ps))
+            → of_key schema w row p.rows ++ of_key schema w row (rows_of_parts ps) ≡ of_key schema w row (flat_map added (map range_of (cond b (p ∷ parts_in w ps) (parts_in w ps))))
+        by true is rest =
+            let mine : of_key schema w row p.rows ≡ of_key schema w row (added (range_of p)) =
+            fits.0.partly w row ∙ ap (λ (v : Partition). of_key schema w row (flat_map (sorted_by schema) (kept v p.name.min_block p.name.max_block 1 cs))) (partition_is p.name.partition w is) in
+            ap₂ (λ (xs ys : List Row). xs ++ ys) mine rest ∙ sym (filter-append key (added (range_of p)) (flat_map added (ranges_in w ps)))
+        by false is rest =
+            let none : of_key schema w row p.rows ≡ [] =
+            fits.0.partly w row ∙ kept_apart schema w row p.name.partition p.name.min_block p.name.max_block 1 cs (all_into table h schema legal there) is in
+            ap₂ (λ (xs ys : List Row). xs ++ ys) none rest
 
   pub parts_joined : (ps : List CorePart) → TableStands table ps h → AreInBlockOrder ps → Partly schema (live table schema h) (rows_of_parts ps)
   unfolding cs
   parts_joined ps stands order w row =
       let fits = fits_all ps (recursion_from_All (λ (p : CorePart). p.table ≡ table) ps stands.own) (recursion_from_All (PartStands h) ps stands.each) in
-      let whole = wholes ps fits in
-      let once : (n : ℕ) → 1 ≤ n → n ≤ length cs → count_by (holds n) (map range_of ps) ≡ 1 =
-      λ n from upto.
-      let at = insert_at cs (n - 1) (all_whole table h legal) (omega (arith, from, upto)) in
-      let is : IsNumberOfInsert table Whole n h = record { from_one = from; insert = at.insert; there = at.there; partition_is = at.whole } in
-      sym (count_ranges n ps whole) ∙ stands.once Whole n is in
-      let all : flat_map (λ (p : CorePart). segment p.name.min_block p.name.max_block 1 cs) ps ≡ cs =
-      sym (flat_map-map (λ (r : Range). segment r.0 r.1 1 cs) range_of ps)
-      ∙ (ranges_joined cs (map range_of ps) 0 1 (length cs) (climbs_all ps whole order) (stays_all ps fits) once ∙ segment_all 1 (length cs) 1 cs (omega arith) (omega arith)) in
+      let rs = ranges_in w ps in
+      let climbs = climbs_all w (parts_in w ps) (all_of w ps) (order_filtered (λ (p : CorePart). same_partition p.name.partition w) ps order) in
+      let once : (n : ℕ) → 1 ≤ n → n ≤ length cs → IsOf w 1 cs n → count_by (holds n) rs ≡ 1 =
+      λ n from upto one.
+      let is : IsNumberOfInsert table w n h = record { from_one = one.from; insert = one.insert; there = one.there; partition_is = one.own } in
+      sym (count_ranges w n ps) ∙ stands.once w n is in
+      let joined : flat_map (λ (r : Range). kept w r.0 r.1 1 cs) rs ≡ kept w 1 (length cs) 1 cs = ranges_joined w cs rs 0 1 (length cs) climbs (begin_all w ps fits) (stays_all w ps fits) once in
       keys_joined w row ps fits
-      ∙ ap (of_key schema w row)
-      (flat_maps (sorted_by schema) (λ (p : CorePart). segment p.name.min_block p.name.max_block 1 cs) ps ∙ (ap (flat_map (sorted_by schema)) all ∙ sym (live_numbered table schema h)))
+      ∙ (ap (of_key schema w row) (flat_maps (sorted_by schema) (λ (r : Range). kept w r.0 r.1 1 cs) rs ∙ ap (flat_map (sorted_by schema)) joined)
+      ∙ (kept_all schema w row 1 (length cs) 1 cs (all_into table h schema legal there) (omega arith) (omega arith) ∙ ap (of_key schema w row) (sym (live_numbered table schema h))))

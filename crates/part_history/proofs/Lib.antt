@@ -4,4 +4,5 @@ pub mod Growing
 pub mod Joined
 pub mod Numbered
 pub mod Ordered
+pub mod Orders
 pub mod Ranges

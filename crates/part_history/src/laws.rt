@@ -11,7 +11,7 @@ ghost use Rattle.mt_model.specs.Numbers.{numbered};
 ghost use Rattle.mt_model.specs.Partial.{Partly};
 ghost use Rattle.part_name.specs.PartNames.{Before, IsPartName};
 ghost use Rattle.part_history.specs.declared.part.CorePart.{CorePart};
-ghost use Rattle.part_history.specs.Entered.{next_number, part_of_insert};
+ghost use Rattle.part_history.specs.Entered.{next_number, part_of_insert, parts_after, parts_upto, with_part};
 ghost use Rattle.part_history.specs.Parts.{AreInBlockOrder, TableStands, parts_in, rows_of_parts};
 
 /// The rows of the parts that stand for a table, part after part in block order, are what merges may have left of its live rows.
@@ -22,18 +22,22 @@ pub fn parts_stand_for_live_rows()
 {}
 
 /// The parts that stand for a table stand for it as the history grows: where nothing drew a number of it they stay, and an
-/// INSERT into it adds the part that it makes, after the others in block order.
+/// INSERT into it adds the part that it makes, wherever that stands among them. In block order it is the last part of its
+/// partition, and the others stay in their order.
 pub fn parts_stand_as_histories_grow()
     ensures other { (h more : History) (table : List ℕ) (parts : List CorePart)
         → numbered table more ≡ [] → TableStands table parts h
         → TableStands table parts (h ++ more) }
     ensures insert { (h : History) (session : ℕ) (i : Insert) (schema : Schema)
-        (parts : List CorePart) → schema_of i.table h ≡ Some schema → TableStands i.table parts h
-        → TableStands i.table (parts ++ part_of_insert schema (next_number i.table h) i ∷ [])
+        (front back : List CorePart) → schema_of i.table h ≡ Some schema
+        → TableStands i.table (front ++ back) h
+        → TableStands i.table (front ++ part_of_insert schema (next_number i.table h) i ∷ back)
         (entered h session (command.Insert i ∷ [])) }
     ensures order { (h : History) (i : Insert) (schema : Schema) (parts : List CorePart) → IsLegal h
         → MayHavePartition schema i.partition → TableStands i.table parts h → AreInBlockOrder parts
-        → AreInBlockOrder (parts ++ part_of_insert schema (next_number i.table h) i ∷ []) }
+        → AreInBlockOrder (with_part (part_of_insert schema (next_number i.table h) i) parts) }
+    ensures others { (partition : Partition) (parts : List CorePart) → AreInBlockOrder parts
+        → parts_upto partition parts ++ parts_after partition parts ≡ parts }
 {}
 
 /// The parts that stand for a table are of partitions that it may have and end below its next number, and of two of one

@@ -26,13 +26,14 @@ use Rattle.part_history.specs.Entered.{next_number}
 use Rattle.root_store.specs.declared.store.CoreStore.{CoreStore}
 use Rattle.root_store.specs.declared.store.Table.{Table}
 use Rattle.root_store.specs.ByteOrder.{AreInByteOrder}
+use Rattle.part_history.proofs.Numbered.{legal_schema}
 use Rattle.root_commits.specs.Commits.{fresh_part, insert_into, insert_of_block, part_rows, partition_of_block}
 use Rattle.root_store.specs.Entries.{EntryHolds}
 use Rattle.root_store.specs.Roots.{FolderHolds, Stands}
 use Rattle.root_store.specs.Stores.{CoreStands, table_at}
 use Rattle.root_commits.proofs.CrashNames.{entry_free_in, part_free_in}
 use Rattle.root_commits.proofs.Growing.{stands_with_part, stands_with_table}
-use Rattle.root_commits.proofs.Partitions.{block_may, may_spell}
+use Rattle.root_commits.proofs.Partitions.{block_spells}
 
 -- ---- sealed files
 
@@ -74,4 +75,4 @@ module _ {F : Type 0} (files_of : F → Option Files) (store : CoreStore F) (h :
       let few : next_number table h ≤ 4294967295 = omega (arith, number, small) in
       subst (λ (n : ℕ). Stands (insert_entry (slice_cmp nat_cmp) old (part_name table (part_text (fresh_part (partition_of_block t.schema block) n))) left) (entered h session (insert_of_block table (partition_of_block t.schema block) block ∷ []))) (sym number)
       (stands_with_part old h session (insert_into table (partition_of_block t.schema block) block) t.schema left rise stands known rows few (folder_left files left sealed become t.schema (part_rows t.schema block) holds)
-      (part_free_in old h stands table (partition_of_block t.schema block) (may_spell t.schema (partition_of_block t.schema block) (block_may t.schema block)) few))
+      (part_free_in old h stands table (partition_of_block t.schema block) (block_spells table t.schema block (legal_schema table h t.schema s.legal known) rows) few))

@@ -33,6 +33,7 @@ use Rattle.part_history.specs.Entered.{next_number, part_of_insert}
 use Rattle.part_history.proofs.Apart.{ends_below}
 use Rattle.part_history.proofs.Growing.{drawn_apart, table_grown, table_kept}
 use Rattle.root_store.specs.ByteOrder.{AreInByteOrder}
+use Rattle.part_history.proofs.Numbered.{legal_schema}
 use Rattle.root_commits.specs.Commits.{fresh_part}
 use Rattle.root_store.specs.Entries.{EntryHolds, HoldsEntry, entry_name}
 use Rattle.root_store.specs.Roots.{FolderHolds, HasFolder, IsOfEntry, PartIsThere, Stands, named}
@@ -196,7 +197,7 @@ module _ (names : Names) (h : History) (session : ℕ) (i : Insert) (schema : Sc
   new_named : IsRootName (root.Part new)
   new_named = (
     All-contains IsRootName s.read (root.Create i.table) s.are.sound (table_here names h s i.table (ap is_some known)),
-    record { partition = may_spell schema i.partition (own_partition schema i is); min_block = (omega arith, few); max_block = (omega arith, few); order = omega arith; level = omega arith; mutation = tt },
+    record { partition = may_spell schema i.partition (own_partition schema i (legal_schema i.table h schema s.legal known) is); min_block = (omega arith, few); max_block = (omega arith, few); order = omega arith; level = omega arith; mutation = tt },
   )
 
   covers_none : (part : TablePart) → HasPart s.read part → Covers new part → ⊥

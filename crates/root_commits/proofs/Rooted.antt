@@ -18,6 +18,7 @@ use Rattle.part_set.specs.RootNames.{is_table}
 use Rattle.part_history.specs.Entered.{next_number}
 use Rattle.root_store.specs.declared.store.CoreStore.{CoreStore}
 use Rattle.root_store.specs.declared.store.Table.{Table}
+use Rattle.part_history.proofs.Numbered.{legal_schema}
 use Rattle.root_commits.specs.Commits.{IsSealedOf, fresh_part, insert_into, insert_of_block, part_rows, partition_of_block}
 use Rattle.root_store.specs.Entries.{EntryHolds}
 use Rattle.root_store.specs.Roots.{FolderHolds, Stands}
@@ -25,7 +26,7 @@ use Rattle.root_store.specs.Soundness.{NamesFit, RootStands}
 use Rattle.root_store.specs.Stores.{CoreStands, table_at}
 use Rattle.root_commits.proofs.FreeNames.{entry_free, fresh_named, part_free, put_told}
 use Rattle.root_commits.proofs.Growing.{stands_with_part, stands_with_table}
-use Rattle.root_commits.proofs.Partitions.{block_may, may_spell}
+use Rattle.root_commits.proofs.Partitions.{block_spells}
 use Rattle.root_store.proofs.Rising.{told_rise}
 use Rattle.root_commits.proofs.Updated.{one_some}
 
@@ -62,7 +63,8 @@ module _ {F : Type 0} (files_of : F → Option Files) (store : CoreStore F) (h :
       let known : schema_of table h ≡ Some t.schema = sym (s.tables table) ∙ ap (option_map (λ (u : Table). u.schema)) here in
       let number : t.drawn + 1 ≡ next_number table h = ap (λ n. n + 1) (s.drawn table t here) in
       let files_are : is.files ≡ from.1 = one_some sealed is.files from.1 is.sealed_are from.3 in
-      let free = part_free store from.0 (fit from.0 from.2) table t (fresh_part (partition_of_block t.schema block) (t.drawn + 1)) here (fresh_named (partition_of_block t.schema block) t.drawn (may_spell t.schema (partition_of_block t.schema block) (block_may t.schema block)) small) (omega arith) in (
+      let fits = legal_schema table h t.schema s.legal known in
+      let free = part_free store from.0 (fit from.0 from.2) table t (fresh_part (partition_of_block t.schema block) (t.drawn + 1)) here (fresh_named (partition_of_block t.schema block) t.drawn (block_spells table t.schema block fits rows) small) (omega arith) in (
         x,
         told,
         subst (λ (names : Names). Stands names (entered h session (insert_of_block table (partition_of_block t.schema block) block ∷ [])))

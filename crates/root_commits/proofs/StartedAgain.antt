@@ -1,5 +1,5 @@
 -- A store that is started again after a crash goes on with one list, whatever that crash left of its files.
-use Rattle.std.proofs.Common.{◌≡◌, inl, inr, ℕ, ◌+◌, ◌-◌, ◌<◌, ◌≤◌, List, [], ◌∷◌, ◌++◌, length, map, take, Option, Some, refl, sym, ap, ◌∙◌, subst, arith, append-nil, length-append}
+use Rattle.std.proofs.Common.{◌≡◌, inl, inr, ℕ, ◌+◌, ◌<◌, ◌≤◌, List, [], ◌∷◌, ◌++◌, length, map, take, Option, Some, refl, sym, ap, ◌∙◌, subst, arith, append-nil, length-append}
 use Rattle.std.proofs.lemmas.Bool.{cases_lt}
 use Rattle.std.proofs.lemmas.List.{length-map, length-take}
 use Rattle.mt_values.specs.declared.annals.Noted.{Noted}
@@ -10,14 +10,14 @@ use Rattle.mt_outside.specs.Files.{Files}
 use Rattle.mt_outside.proofs.Changes.{survive_same}
 use Rattle.mt_outside.proofs.Crashes.{image_as_read}
 use Rattle.mt_model.specs.History.{History}
-use Rattle.mt_model.specs.Numbers.{IsNumberOfInsert, numbered}
+use Rattle.mt_model.specs.Numbers.{numbered}
 use Rattle.mt_model.proofs.Tables.{same_is}
 use Rattle.part_set.specs.declared.root_name.RootName.{RootName}
 use Rattle.part_set.specs.declared.root_name.TablePart.{TablePart}
 use Rattle.part_set.specs.Visible.{HasPart}
 use Rattle.part_history.specs.declared.part.CorePart.{CorePart}
 use Rattle.part_history.specs.Parts.{has_block, core_parts_of}
-use Rattle.part_history.proofs.Numbered.{all_whole, insert_at}
+use Rattle.part_history.proofs.Numbered.{insert_drawn}
 use Rattle.root_store.specs.ByteOrder.{AreInByteOrder}
 use Rattle.root_store.specs.Crashes.{AllStand, IsCrashSafe, IsFirstOf, IsMarkAfter, entries_of}
 use Rattle.root_store.specs.Roots.{AreNamesRead, Stands, named}
@@ -35,10 +35,9 @@ use Rattle.root_store.proofs.Tabled.{are_tables, tables_in}
 last_there : (names : Names) (h : History) (s : Stands names h) (table : List ℕ) → 0 < length (numbered table h) → (part : TablePart) × HasPart s.read part × (part.table ≡ table) × (length (numbered table h) ≤ part.name.max_block)
 last_there names h s table some =
     let n = length (numbered table h) in
-    let last = insert_at (numbered table h) (n - 1) (all_whole table h s.legal) (omega (arith, some)) in
-    let partition = last.insert.partition in
-    let insert : IsNumberOfInsert table partition n h = record { from_one = omega (arith, some); insert = last.insert; there = last.there; partition_is = refl } in
-    let once = (s.stand table).once partition n insert in
+    let last = insert_drawn table h n (omega (arith, some)) (omega arith) in
+    let partition = last.0 in
+    let once = (s.stand table).once partition n last.1 in
     let found = counted_one (has_block partition n) (core_parts_of table s.parts) (omega (arith, once)) in
     let from = unfiltered (λ (x : CorePart). same_bytes x.table table) s.parts found.0 found.1 in
     (named found.0, ((s.visible (named found.0)).1 (map_item named s.parts found.0 from.0)).here, same_is found.0.table table from.1, (blocks partition n found.0 found.2).high)

@@ -11,7 +11,6 @@ ghost use Rattle.part_set.specs.RootNames.{is_table};
 ghost use Rattle.part_set.specs.Parts.{IsAdded, IsInBlockOrder, NoneMeets};
 ghost use Rattle.part_set.specs.Sets.{HasRoom, parts_of};
 ghost use Rattle.mt_model.specs.History.{History, IsInsertInto, IsTableSchema};
-ghost use Rattle.mt_values.specs.Tables.{same_partition};
 ghost use Rattle.root_commits.specs.Events.{IsAccepted, accept_of_block};
 ghost use Rattle.root_store.specs.Cores.{ShowsCore};
 ghost use Rattle.table_core.specs.declared.event.Accept.TheVariants as accept;
@@ -29,7 +28,7 @@ use crate::turns::turn;
 use durable_commit::{Limit, Refused, refuse_stopped, take_out};
 use mt_base::{NUMBER_LIMIT, NoMemory, PART_LIMIT, Partition, TABLE_LIMIT, Twin};
 use mt_outside::{Arm, Disk, DiskError};
-use mt_values::{Annals, Block, Command, Create, Entry, Insert, Name, Schema};
+use mt_values::{Annals, Block, Command, Create, Entry, Insert, Name};
 use part_name::PartName;
 use part_reader::Part;
 use part_set::{Kept, PartSet, RootName, TablePart, spell_name};
@@ -58,32 +57,13 @@ fn refuse_create<F>(store: &CoreStore<F>, table: &Name, now: u64) -> Option<Refu
     refuse_stopped(store.opened, now)
 }
 
-// The partition of a block's rows: a table has one alone.
-fn block_partition(_schema: &Schema, _block: &Block) -> Partition
-    ensures { result ≡ partition_of_block _schema.now _block.now }
-{
-    Partition::Whole
-}
-
-// Whether both are one partition.
-fn is_one(a: Partition, b: Partition) -> bool
-    ensures { result ≡ same_partition a b }
-{
-    match (a, b) {
-        (Partition::Whole, Partition::Whole) => true,
-        (Partition::Number(m), Partition::Number(n)) => m == n,
-        (Partition::Whole, Partition::Number(_)) | (Partition::Number(_), Partition::Whole) =>
-            false,
-    }
-}
-
 // How many of these parts are of the partition.
 fn count_in<P>(partition: Partition, parts: &[Kept<P>]) -> usize
     ensures { result ≡ length (kept_in partition parts.now) }
 {
     parts
         .iter()
-        .filter(|kept| is_one(kept.name.partition, partition))
+        .filter(|kept| kept.name.partition == partition)
         .count()
 }
 
@@ -446,7 +426,7 @@ pub fn commit_part<D: Disk, A: Annals>(
 {
     let found = &store.tables[table];
     let drawn = found.drawn;
-    let partition = block_partition(&found.schema, &block);
+    let partition = block.partition_at(&found.schema, 0);
     if let Some(cause) = refuse_part(store, table, partition, drawn, disk.faults()) {
         let back = Some(part);
         return Err(Returned { cause, back });

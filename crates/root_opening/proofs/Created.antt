@@ -1,9 +1,8 @@
 -- The schema that an entry gives a table is one that a table may have.
-use Rattle.std.proofs.Common.{◌≡◌, ◌&&◌, ℕ, ◌<◌, ◌++◌, Bool, true, false, cond, List, [], ◌∷◌, length, arith, codes, Option, Some, None, IfSome, Ok, Err, Result, IfOk, All}
+use Rattle.std.proofs.Common.{◌≡◌, ◌&&◌, ℕ, ◌++◌, Bool, true, false, cond, List, [], ◌∷◌, arith, codes, Option, Some, None, IfSome, Ok, Err, Result, IfOk, All}
 use Rattle.std.specs.Result.{result_ok}
 use Rattle.mt_values.specs.declared.schema.Schema.{Schema}
 use Rattle.mt_values.specs.declared.statement.Cause.{Cause}
-use Rattle.mt_values.specs.declared.statement.CreateText.{CreateText}
 use Rattle.mt_values.specs.declared.statement.Statement.{Statement}
 use Rattle.mt_values.specs.declared.statement.Statement.TheVariants as statement
 use Rattle.mt_values.specs.Grammar.{same_bytes}
@@ -16,10 +15,6 @@ use Rattle.mt_model.proofs.Keys.{statements_are}
 use Rattle.mt_model.proofs.Tables.{schema_is}
 use Rattle.root_store.specs.Entries.{schema_of_statement, schema_of_items, schema_of_entry}
 
--- a CREATE that is written names a key
-key_named : (c : CreateText) → IsWritten (Ok (statement.Create c)) → 0 < length c.key
-key_named c written = written.key
-
 ok_is : (r : Result Schema Refusal) (schema : Schema) → result_ok r ≡ Some schema → r ≡ Ok schema
 ok_is (Ok x) schema is = cc
 ok_is (Err why) schema is = absurd cc
@@ -30,7 +25,7 @@ by_statement table text schema (statement.Select i) is written = absurd cc
 by_statement table text schema (statement.Create c) is written = by (same_bytes c.table table && same_bytes c.text text) is
   where
     by : (b : Bool) → cond b (result_ok (schema_of_text c)) None ≡ Some schema → IsTableSchema schema
-    by true found = schema_is c schema (ok_is (schema_of_text c) schema found) (key_named c written)
+    by true found = schema_is c schema (ok_is (schema_of_text c) schema found) written.keys
     by false none = absurd cc
 
 by_items : (table text : List ℕ) (schema : Schema) (items : List (Result Statement Cause)) → schema_of_items table text items ≡ Some schema → All IsWritten items → IsTableSchema schema

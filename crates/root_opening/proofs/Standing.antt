@@ -1,5 +1,5 @@
 -- The store that a root is opened as stands for the history of the root.
-use Rattle.std.proofs.Common.{◌≡◌, ℕ, ◌+◌, ◌-◌, ◌<◌, ◌≤◌, Bool, true, false, cond, ◌&&◌, ◌||◌, List, [], ◌∷◌, Option, Some, None, length, map, get_or, is_some, refl, sym, ap, ap₂, ◌∙◌, subst, inl, inr, ◌⊎◌, arith}
+use Rattle.std.proofs.Common.{◌≡◌, ℕ, ◌+◌, ◌<◌, ◌≤◌, Bool, true, false, cond, ◌&&◌, ◌||◌, List, [], ◌∷◌, Option, Some, None, length, map, get_or, is_some, refl, sym, ap, ap₂, ◌∙◌, subst, inl, inr, ◌⊎◌, arith}
 use Rattle.std.proofs.lemmas.Bool.{cases_lt, false≢true}
 use Rattle.std.proofs.lemmas.Cmp.{nat_list_cmp_total}
 use Rattle.std.proofs.lemmas.List.Elements.{All-from_recursion, All-weaker, Contains-get_or, recursion_from_All}
@@ -48,7 +48,7 @@ use Rattle.part_set.proofs.Orphans.{item_more}
 use Rattle.part_history.specs.declared.part.CorePart.{CorePart}
 use Rattle.part_history.specs.Parts.{PartStands, has_block, core_parts_of}
 use Rattle.part_history.proofs.Growing.{number_drawn}
-use Rattle.part_history.proofs.Numbered.{all_whole, insert_at}
+use Rattle.part_history.proofs.Numbered.{insert_drawn}
 use Rattle.root_store.specs.declared.store.CoreStore.{CoreStore}
 use Rattle.root_store.specs.declared.store.Table.{Table}
 use Rattle.root_store.specs.Roots.{FolderHolds, Stands, named}
@@ -284,10 +284,9 @@ module _ {F : Type 0} (files_of : F → Option Files) (names : Names) (h : Histo
       reached (inr none) = omega (arith, none)
       reached (inl some) =
           let n = length (numbered table h) in
-          let last = insert_at (numbered table h) (n - 1) (all_whole table h s.legal) (omega (arith, some)) in
-          let partition = last.insert.partition in
-          let insert : IsNumberOfInsert table partition n h = record { from_one = omega (arith, some); insert = last.insert; there = last.there; partition_is = refl } in
-          let once = (s.stand table).once partition n insert in
+          let last = insert_drawn table h n (omega (arith, some)) (omega arith) in
+          let partition = last.0 in
+          let once = (s.stand table).once partition n last.1 in
           let found = counted_one (has_block partition n) (core_parts_of table s.parts) (omega (arith, once)) in
           let from = unfiltered (λ (x : CorePart). same_bytes x.table table) s.parts found.0 found.1 in
           let visible = subst (λ (r : List RootName). IsVisible r (named found.0)) (sym same_read) ((s.visible (named found.0)).1 (map_item named s.parts found.0 from.0)) in

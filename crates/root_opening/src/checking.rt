@@ -12,7 +12,7 @@ ghost use Rattle.root_opening.specs.Keeping.{IsDamageOf, IsPartRead, TellsFile};
 ghost use Rattle.root_store.specs.Roots.{HasFolder};
 
 use crate::{Damage, OpenFault, check_files, open_entry};
-use mt_base::{Partition, Twin};
+use mt_base::Twin;
 use mt_outside::{Arm, Disk};
 use mt_values::{FileId, Name, Schema};
 use part_reader::{Part, PartFault};
@@ -106,7 +106,7 @@ pub fn check_table_part<D: Disk>(
     ensures arm_calm { (IsErrOf result OpenFault.Disk → ⊥)
         → D.Arm.failed arm.new ≡ D.Arm.failed arm.old }
 {
-    if part.name.partition != Partition::Whole {
+    if !schema.may_have(part.name.partition) {
         return Err(damaged(alloc, text, FileId::Manifest));
     }
     let dir = disk.open(alloc, text)?;

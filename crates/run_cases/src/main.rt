@@ -61,7 +61,9 @@
 //! - `block NUMBER`: how many rows a block without rows has, and one of a row with this number;
 //! - `core EVENT;EVENT ..`: what the core gives at each event, one after another, from the state before any event: `create TABLE`,
 //!   `insert TABLE NUMBER NUMBER`, `take TABLE`, `read SNAPSHOT`, `crash`, or `crash done` or `crash lost` with a create or an insert within
-//!   which the crash comes, and which is done or not. Tables have one column `a` of type UInt8, which is their key;
+//!   which the crash comes, and which is done or not. A table whose name begins with `p` has columns `p` and `a` of type UInt8, its partition
+//!   column and its key, and an insert adds one row of both numbers; each other table has one column `a` of type UInt8, its key, and an
+//!   insert adds a row of each number;
 //! - `pin LENGTH NUMBER NUMBER`: what is pinned of a table with one part of two rows, at a length of the history: the schema, the part and
 //!   the length;
 //! - `twin KIND ..`: a value and its twins: `number NUMBER` (of 8, of 32 and of 64 bits), `name BYTES`, `type TYPE`, `schema`,

@@ -18,38 +18,64 @@ use Rattle.table_core.specs.Core.{Core, empty_core}
 use Rattle.table_core.specs.Runs.{AddAll, AddsEntries, HasEntries, MayRun, entry_of_accept}
 use Rattle.table_core.specs.Steps.{GivesOutcome, MayAccept, MayCome}
 use Rattle.table_core.proofs.Telling.{run_entries}
-use Rattle.run_memory.specs.Events.{Fits, FitsAccept, of_numbers}
+use Rattle.mt_model.proofs.Tables.{same_is}
+use Rattle.run_memory.specs.Events.{Fits, FitsAccept, event_schema, is_parted, of_numbers, parted}
 
--- a CREATE makes a table of numbers
+-- a CREATE makes a table of the events
 IsOfNumbers : Command → Type 0
-IsOfNumbers (command.Create c) = c.schema ≡ of_numbers
+IsOfNumbers (command.Create c) = c.schema ≡ event_schema c.table
 IsOfNumbers (command.Insert i) = Unit {0}
 
--- each table of a history is one of numbers
+-- each table of a history is one of the events
 OfNumbers : History → Type 0
 OfNumbers [] = Unit {0}
 OfNumbers (e ∷ h) = IsOfNumbers e.command × OfNumbers h
 
 found_by : (table : List ℕ) (h : History) (schema : Schema) (c : Command) → IsOfNumbers c → first_of (schema_by table c) (schema_of table h) ≡ Some schema
-    → (schema_of table h ≡ Some schema → schema ≡ of_numbers) → schema ≡ of_numbers
+    → (schema_of table h ≡ Some schema → schema ≡ event_schema table) → schema ≡ event_schema table
 unfolding IsOfNumbers
-found_by table h schema (command.Create c) is first rest = named (same_bytes c.table table) first
+found_by table h schema (command.Create c) is first rest = named (same_bytes c.table table) refl first
   where
-    named : (b : Bool) → first_of (cond b (Some c.schema) None) (schema_of table h) ≡ Some schema → schema ≡ of_numbers
-    named true same = let one : schema ≡ c.schema = cc in subst (λ s. s ≡ of_numbers) (sym one) is
-    named false same = rest same
+    named : (b : Bool) → same_bytes c.table table ≡ b → first_of (cond b (Some c.schema) None) (schema_of table h) ≡ Some schema → schema ≡ event_schema table
+    named true yes same =
+        let one : schema ≡ c.schema = cc in
+        subst (λ t. schema ≡ event_schema t) (same_is c.table table yes) (subst (λ s. s ≡ event_schema c.table) (sym one) is)
+    named false no same = rest same
 found_by table h schema (command.Insert i) is first rest = rest first
 
-found : (table : List ℕ) (h : History) (schema : Schema) → OfNumbers h → schema_of table h ≡ Some schema → schema ≡ of_numbers
+found : (table : List ℕ) (h : History) (schema : Schema) → OfNumbers h → schema_of table h ≡ Some schema → schema ≡ event_schema table
 unfolding OfNumbers
 found table [] schema of is = cc
 found table (e ∷ h) schema of is = found_by table h schema e.command of.0 is (λ later. found table h schema of.1 later)
 
 of_numbers_is_table : IsTableSchema of_numbers
-of_numbers_is_table = record { sound = refl; key = omega arith; own = All-from_recursion (λ (place : ℕ). place < length of_numbers.columns) (0 ∷ []) (omega arith, tt); few = omega arith }
+of_numbers_is_table = record {
+  sound = refl;
+  key = omega arith;
+  primary = omega arith;
+  own = All-from_recursion (λ (place : ℕ). place < length of_numbers.columns) (0 ∷ []) (omega arith, tt);
+  few = omega arith;
+}
+
+parted_is_table : IsTableSchema parted
+parted_is_table = record {
+  sound = refl;
+  key = omega arith;
+  primary = omega arith;
+  own = All-from_recursion (λ (place : ℕ). place < length parted.columns) (1 ∷ []) (omega arith, tt);
+  few = omega arith;
+}
+
+-- each table of the events has a schema that a table may have
+is_table : (table : List ℕ) → IsTableSchema (event_schema table)
+is_table table = by (is_parted table)
+  where
+    by : (b : Bool) → IsTableSchema (cond b parted of_numbers)
+    by true = parted_is_table
+    by false = of_numbers_is_table
 
 may_accept : (h : History) (a : Accept) → OfNumbers h → FitsAccept a → MayAccept h a
-may_accept h (accept.Create session c) of fits = subst IsTableSchema (sym fits) of_numbers_is_table
+may_accept h (accept.Create session c) of fits = subst IsTableSchema (sym fits) (is_table c.table)
 may_accept h (accept.Insert session i) of fits = λ schema is. subst (λ s. IsInsertInto s i) (sym (found i.table h schema of is)) fits
 
 may_come : (h : History) (e : Event) → OfNumbers h → Fits e → MayCome h e

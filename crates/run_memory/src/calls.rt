@@ -2,7 +2,7 @@
 use crate::answer::Answer;
 use crate::text::first_word;
 use column_file::{FormatFault, decode_column, decode_granule};
-use mt_base::{NoMemory, Seq};
+use mt_base::{DEFAULT_GRANULARITY, NoMemory, Seq};
 use mt_values::{Block, ColType, Column, Row, Schema, Value};
 use std::alloc::Global;
 use tsv_rows::{read_row, write_row};
@@ -47,12 +47,14 @@ impl Answer {
     // A schema of one column.
     fn schema_of(&mut self, col_type: ColType) -> Schema {
         let name = Seq::new(self.alloc);
-        let key = Seq::new(self.alloc);
         let mut columns = Vec::new(self.alloc);
         self.push(&mut columns, Column { name, col_type });
         Schema {
             columns: Seq::of(columns),
-            key,
+            key: Seq::new(self.alloc),
+            primary: Seq::new(self.alloc),
+            partition: None,
+            granularity: DEFAULT_GRANULARITY,
         }
     }
 

@@ -44,7 +44,7 @@ fn kept_part(alloc: Global, first: u8, second: u8) -> Result<Kept<CorePart>, NoM
     Ok(Kept { name, part })
 }
 
-// The schema of a number `a` and a text `s`, with the key `s, a`.
+// The schema of a number `a` and a text `s`, with the sorting key `s, a`, the primary key `s`, the partition column `a` and granules of three rows.
 fn two_columns(alloc: Global) -> Result<Schema, NoMemory> {
     let mut columns = Seq::new(alloc);
     let name = Seq::from_slice(alloc, b"a")?;
@@ -53,8 +53,13 @@ fn two_columns(alloc: Global) -> Result<Schema, NoMemory> {
     let name = Seq::from_slice(alloc, b"s")?;
     let col_type = ColType::Text;
     columns.push(Column { name, col_type })?;
-    let key = Seq::from_slice(alloc, &[1, 0])?;
-    Ok(Schema { columns, key })
+    Ok(Schema {
+        columns,
+        key: Seq::from_slice(alloc, &[1, 0])?,
+        primary: Seq::from_slice(alloc, &[1])?,
+        partition: Some(0),
+        granularity: 3,
+    })
 }
 
 // The pin of a table with one part, at a length of the history.
@@ -94,14 +99,25 @@ impl Answer {
         }
     }
 
-    // Prints the columns of a schema, and the places of its key in them.
-    fn schema(&mut self, schema: &Schema) {
-        self.columns(schema.columns.as_slice());
-        self.put("key");
-        for place in schema.key.as_slice() {
+    // Prints a word, and places of columns after it.
+    fn places(&mut self, word: &str, places: &[u32]) {
+        self.put(word);
+        for place in places {
             self.put(" ");
             self.number(u64::from(*place));
         }
+    }
+
+    // Prints the columns of a schema, the places in them of its keys and of its partition column, where it has one, and the rows of a granule.
+    fn schema(&mut self, schema: &Schema) {
+        self.columns(schema.columns.as_slice());
+        self.places("key", schema.key.as_slice());
+        self.places(", primary", schema.primary.as_slice());
+        if let Some(place) = schema.partition {
+            self.places(", partition", &[place]);
+        }
+        self.put(", granularity ");
+        self.number(u64::from(schema.granularity));
     }
 
     // Prints the name of a part.

@@ -1,28 +1,84 @@
 // The core of the store as a machine: a list of events, and what each of them gives.
 ghost use Rattle.std.specs.Prelude.{◌≡◌, ◌∷◌, [], All, IfOk, IfSome};
+ghost use Rattle.mt_values.specs.declared.value.ColType.TheVariants as types;
 ghost use Rattle.mt_values.specs.declared.value.Value.TheVariants as value;
 ghost use Rattle.mt_model.specs.History.{IsInsertInto};
-ghost use Rattle.run_memory.specs.Events.{Fits, FitsAccept, FitsCrash, of_numbers};
+ghost use Rattle.run_memory.specs.Events.{Fits, FitsAccept, FitsCrash, event_schema, is_parted, of_numbers, parted};
 
 use crate::answer::Answer;
 use crate::text::first_word;
-use mt_base::{NoMemory, Partition, Seq};
+use mt_base::{DEFAULT_GRANULARITY, NoMemory, Partition, Seq};
 use mt_values::{Block, ColType, Column, Create, Insert, Name, Row, Schema, Value};
 use std::alloc::Global;
 use table_core::{Accept, Crash, Event, Guard, Outcome, run};
 
-/// The schema of each table of the events: one column `a` of type UInt8, which is the key.
+// A column of type UInt8, whose name is one letter.
+fn number_column(alloc: Global, letter: u8) -> Result<Column, NoMemory>
+    ensures { IfOk result (λ column. column
+        ≡ record { name = letter ∷ []; col_type = types.UInt8 }) }
+{
+    let mut name = Seq::new(alloc);
+    name.push(letter)?;
+    let col_type = ColType::UInt8;
+    Ok(Column { name, col_type })
+}
+
+// The key of the column at a place alone.
+fn key_of(alloc: Global, place: u32) -> Result<Seq<u32>, NoMemory>
+    ensures { IfOk result (λ key. key ≡ place ∷ []) }
+{
+    let mut key = Seq::new(alloc);
+    key.push(place)?;
+    Ok(key)
+}
+
+/// The schema of a table of the events that has one partition: a column `a` of type UInt8, which is the key.
 pub fn numbers_schema(alloc: Global) -> Result<Schema, NoMemory>
     ensures { IfOk result (λ schema. schema ≡ of_numbers) }
 {
-    let mut name = Seq::new(alloc);
-    name.push(b'a')?;
-    let col_type = ColType::UInt8;
     let mut columns = Seq::new(alloc);
-    columns.push(Column { name, col_type })?;
-    let mut key = Seq::new(alloc);
-    key.push(0)?;
-    Ok(Schema { columns, key })
+    columns.push(number_column(alloc, b'a')?)?;
+    Ok(Schema {
+        columns,
+        key: key_of(alloc, 0)?,
+        primary: key_of(alloc, 0)?,
+        partition: None,
+        granularity: DEFAULT_GRANULARITY,
+    })
+}
+
+// The schema of a table of the events that has several: columns `p` and `a` of type UInt8, which are the partition column and the key.
+fn parted_schema(alloc: Global) -> Result<Schema, NoMemory>
+    ensures { IfOk result (λ schema. schema ≡ parted) }
+{
+    let mut columns = Seq::new(alloc);
+    columns.push(number_column(alloc, b'p')?)?;
+    columns.push(number_column(alloc, b'a')?)?;
+    Ok(Schema {
+        columns,
+        key: key_of(alloc, 1)?,
+        primary: key_of(alloc, 1)?,
+        partition: Some(0),
+        granularity: DEFAULT_GRANULARITY,
+    })
+}
+
+// Whether a table of the events has several partitions: whether its name begins with a `p`.
+fn is_parted(table: &Name) -> bool
+    ensures { result ≡ is_parted table.now }
+{
+    table.as_slice().first() == Some(&b'p')
+}
+
+// The schema of a table of the events.
+fn event_schema(alloc: Global, table: &Name) -> Result<Schema, NoMemory>
+    ensures { IfOk result (λ schema. schema ≡ event_schema table.now) }
+{
+    if is_parted(table) {
+        parted_schema(alloc)
+    } else {
+        numbers_schema(alloc)
+    }
 }
 
 /// The row of a number.
@@ -34,9 +90,18 @@ pub fn number_row(alloc: Global, number: u8) -> Result<Row, NoMemory>
     Ok(row)
 }
 
-// Two rows of numbers, to be added to a table of the events.
-fn insert_of(alloc: Global, table: Name, first: u8, second: u8) -> Result<Insert, NoMemory>
-    ensures { IfOk result (IsInsertInto of_numbers) }
+// The row of two numbers.
+fn pair_row(alloc: Global, first: u8, second: u8) -> Result<Row, NoMemory>
+    ensures { IfOk result (λ row. row ≡ value.UInt8 first ∷ value.UInt8 second ∷ []) }
+{
+    let mut row = number_row(alloc, first)?;
+    row.push(Value::UInt8(second))?;
+    Ok(row)
+}
+
+// Two rows of numbers, to be added to a table of the events that has one partition.
+fn whole_insert(alloc: Global, table: Name, first: u8, second: u8) -> Result<Insert, NoMemory>
+    ensures { IfOk result (λ insert. IsInsertInto of_numbers insert × (insert.table ≡ table)) }
 {
     let rows = [number_row(alloc, first)?, number_row(alloc, second)?];
     let partition = Partition::Whole;
@@ -46,6 +111,31 @@ fn insert_of(alloc: Global, table: Name, first: u8, second: u8) -> Result<Insert
         partition,
         block,
     })
+}
+
+// A row of two numbers, to be added to a table of the events that has several partitions; the first number is that of its partition.
+fn parted_insert(alloc: Global, table: Name, first: u8, second: u8) -> Result<Insert, NoMemory>
+    ensures { IfOk result (λ insert. IsInsertInto parted insert × (insert.table ≡ table)) }
+{
+    let rows = [pair_row(alloc, first, second)?];
+    let partition = Partition::Number(u64::from(first));
+    let block = Block::from_rows(alloc, &[ColType::UInt8, ColType::UInt8], &rows)?;
+    Ok(Insert {
+        table,
+        partition,
+        block,
+    })
+}
+
+// The rows that two numbers give a table of the events.
+fn insert_of(alloc: Global, table: Name, first: u8, second: u8) -> Result<Insert, NoMemory>
+    ensures { IfOk result (λ insert. IsInsertInto (event_schema insert.table) insert) }
+{
+    if is_parted(&table) {
+        parted_insert(alloc, table, first, second)
+    } else {
+        whole_insert(alloc, table, first, second)
+    }
 }
 
 // What a refusal is called.
@@ -70,7 +160,7 @@ impl Answer {
         u8::try_from(self.number_of(word)).unwrap_or(u8::MAX)
     }
 
-    // A CREATE, as `create t`, or an INSERT of two rows, as `insert t 3 1`.
+    // A CREATE, as `create t`, or an INSERT of two numbers, as `insert t 3 1`: two rows, or a row of a table with several partitions.
     fn accept(&mut self, text: &str) -> Option<Accept>
         ensures { IfSome result FitsAccept }
     {
@@ -79,7 +169,7 @@ impl Answer {
         let (table, numbers) = first_word(rest);
         let table = self.table_of(table);
         if word == "create" {
-            let schema = numbers_schema(self.alloc).ok()?;
+            let schema = event_schema(self.alloc, &table).ok()?;
             let create = Create { table, schema };
             return Some(Accept::Create { session, create });
         }

@@ -158,10 +158,10 @@ module _ (mark : ℕ) (c : Command) (kept : Told) where
   pub length_after : length (after_note mark c kept).list ≡ length kept.list + 1
   length_after = length-append kept.list (record { entry = entry_of 0 c; mark = mark } ∷ [])
 
-  front_after : take (length kept.list) (history (after_note mark c kept)) ≡ history kept
+  pub front_after : take (length kept.list) (history (after_note mark c kept)) ≡ history kept
   front_after = ap (take (length kept.list)) history_after ∙ take_at (history kept) (entry_of 0 c ∷ []) (length kept.list) (length_history kept)
 
-  adds_after : Adds (history (after_note mark c kept)) 0 c (length kept.list) (length kept.list + 1)
+  pub adds_after : Adds (history (after_note mark c kept)) 0 c (length kept.list) (length kept.list + 1)
   adds_after =
       let at : Adds (history kept ++ entry_of 0 c ∷ []) 0 c (length (history kept)) (length (history kept) + 1) = adds_last (history kept) (entry_of 0 c) 0 refl in
       let here : Adds (history kept ++ entry_of 0 c ∷ []) 0 c (length kept.list) (length kept.list + 1) = subst (λ (n : ℕ). Adds (history kept ++ entry_of 0 c ∷ []) 0 c n (n + 1)) (length_history kept) at in

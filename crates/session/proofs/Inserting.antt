@@ -1,6 +1,8 @@
 -- One more part of a table.
-use Rattle.std.proofs.Common.{◌≡◌, ℕ, ◌+◌, ◌<◌, ◌≤◌, Bool, true, false, cond, List, [], ◌∷◌, ◌++◌, length, refl, sym, ap, ap₂, ◌∙◌, arith, Option, Some, None, Ok, Err, nat_le}
+use Rattle.std.proofs.Common.{◌≡◌, ℕ, ◌<◌, ◌≤◌, Bool, true, false, cond, List, [], ◌∷◌, All, length, map, refl, sym, ap, ap₂, ◌∙◌, subst, arith, Option, Some, None, Ok, Err, nat_le}
 use Rattle.std.proofs.lemmas.Bool.Decides.{nat_tests}
+use Rattle.std.proofs.lemmas.List.Elements.{All-cons, All-head, All-map, All-nil, All-tail, All-weaker}
+use Rattle.mt_base.specs.declared.partition.Partition.{Partition}
 use Rattle.mt_values.specs.declared.command.Command.{Command}
 use Rattle.mt_values.specs.declared.command.Command.TheVariants as command
 use Rattle.mt_values.specs.declared.command.Entry.{Entry}
@@ -9,32 +11,22 @@ use Rattle.mt_values.specs.declared.schema.Schema.{Schema}
 use Rattle.mt_values.specs.declared.statement.InsertText.{InsertText}
 use Rattle.mt_values.specs.declared.statement.Statement.TheVariants as statement
 use Rattle.mt_values.specs.declared.value.ColType.{ColType}
-use Rattle.mt_values.specs.Annals.{Told}
 use Rattle.mt_values.specs.Grid.{Grid}
 use Rattle.mt_values.specs.Rows.{inserted_rows}
-use Rattle.mt_values.specs.Tables.{partition_of}
 use Rattle.mt_values.specs.Values.{Row}
-use Rattle.mt_outside.specs.Disk as root
-use Rattle.mt_outside.specs.Files.{Files}
 use Rattle.mt_model.specs.declared.refusal.Refusal.TheVariants as refusal
 use Rattle.mt_model.specs.declared.refusal.Room.TheVariants as room
-use Rattle.mt_model.specs.Commands.{commands_for, commands_of, commands_of_rows, insert_commands}
-use Rattle.mt_model.specs.History.{History, first_of, schema_of, column_types, inserts}
-use Rattle.mt_model.specs.Numbers.{last_number}
+use Rattle.mt_model.specs.Commands.{commands_for, commands_of, commands_of_rows, insert_command, insert_commands, partitions_of, rows_in}
+use Rattle.mt_model.specs.History.{History, IsInsertInto, first_of, schema_of, column_types}
 use Rattle.mt_model.specs.Refusals.{code, refusal_of_data}
-use Rattle.mt_model.specs.Reply.{rows_or_refused, insert_turn, ok_line}
+use Rattle.mt_model.specs.Reply.{rows_or_refused, insert_turn}
 use Rattle.mt_model.proofs.Causes.{commands_are_cause}
 use Rattle.mt_model.proofs.Tables.{itself_same}
-use Rattle.mt_model.proofs.Commands.{one_command}
-use Rattle.root_store.specs.declared.store.CoreStore.{CoreStore}
-use Rattle.durable_commit.specs.Commits.{Notes, entry_of}
-use Rattle.root_commits.specs.Commits.{insert_of_block, partition_of_block}
-use Rattle.root_store.specs.Soundness.{RootStands}
-use Rattle.root_store.specs.Stores.{CoreStands}
-use Rattle.session.specs.Answers.{Answered, Knows, Turned}
-use Rattle.replies.specs.Foreseen.{history}
-use Rattle.session.proofs.Accepting.{accepted_one, accepts_command}
-use Rattle.replies.proofs.Ends.{length_history}
+use Rattle.root_commits.specs.Commits.{insert_into, insert_of_block, partition_of_block}
+use Rattle.block_split.specs.declared.blocks.PartitionBlock.{PartitionBlock}
+use Rattle.block_split.specs.Split.{insert_of, partition_rows, split_rows}
+use Rattle.session.specs.declared.sealing.SealedBlock.{SealedBlock}
+use Rattle.session.specs.Turns.{IsRowsFor, commands_in_turn, in_turn, part_command}
 
 -- what isn't empty has an element
 pub not_empty : {X : Type 0} (xs : List X) → (xs ≡ [] → ⊥) → 0 < length xs
@@ -45,16 +37,80 @@ not_empty (x ∷ xs) h = omega arith
 abbrev pub inserted : Schema → List ℕ → Grid → Command
 inserted schema table block = insert_of_block table (partition_of_block schema block) block
 
--- it is the one that rows give
-pub one_insert : (schema : Schema) (table : List ℕ) (block : Grid) → 0 < length block.rows → block.types ≡ column_types schema → insert_commands schema table block.rows ≡ inserted schema table block ∷ []
-one_insert schema table block some types = by block.rows refl some
-  where
-    by : (rows : List Row) → block.rows ≡ rows → 0 < length rows → insert_commands schema table block.rows ≡ inserted schema table block ∷ []
-    by [] is none = absurd (omega arith)
-    by (row ∷ rows) is more =
-        ap (insert_commands schema table) is
-        ∙ (one_command schema table row rows
-        ∙ ap₂ (λ (ts : List ColType) (rs : List Row). insert_of_block table (partition_of schema row) (record { types = ts; rows = rs }) ∷ []) (sym types) (sym is))
+-- ---- the blocks of rows, one for each partition
+
+first_same : {X : Type 0} (x y : X) (xs ys : List X) → x ∷ xs ≡ y ∷ ys → x ≡ y
+first_same x y xs ys is = cc
+
+rest_same : {X : Type 0} (x y : X) (xs ys : List X) → x ∷ xs ≡ y ∷ ys → xs ≡ ys
+rest_same x y xs ys is = cc
+
+-- the rows of one partition
+abbrev Comes : Schema → List ℕ → Grid → Type 0
+Comes schema table block = IsInsertInto schema (insert_into table (partition_of_block schema block) block)
+
+module _ (schema : Schema) (table : List ℕ) where
+  abbrev IsOwn : PartitionBlock → Type 0
+  IsOwn b = IsInsertInto schema (insert_of table b)
+
+  abbrev HasTypes : PartitionBlock → Type 0
+  HasTypes b = b.block.types ≡ column_types schema
+
+  -- its first row is of its partition
+  own_first : (b : PartitionBlock) → IsOwn b → partition_of_block schema b.block ≡ b.partition
+  own_first b is = is.own 0 [] is.some
+
+  comes : (b : PartitionBlock) → IsOwn b → Comes schema table b.block
+  comes b is = subst (λ (p : Partition). IsInsertInto schema (insert_into table p b.block)) (sym (own_first b is)) is
+
+  -- the blocks give the commands of the rows
+  commands_by : (rows : List Row) (blocks : List PartitionBlock) (ps : List Partition) → map partition_rows blocks ≡ map (λ (p : Partition). (p, rows_in schema p rows)) ps → All HasTypes blocks → All IsOwn blocks
+      → map (λ (b : PartitionBlock). inserted schema table b.block) blocks ≡ map (insert_command schema table rows) ps
+  commands_by rows [] [] is types own = refl
+  commands_by rows [] (p ∷ ps) is types own = cc
+  commands_by rows (b ∷ blocks) [] is types own = cc
+  commands_by rows (b ∷ blocks) (p ∷ ps) is types own =
+      let others = map (λ (q : Partition). (q, rows_in schema q rows)) ps in
+      let first = first_same (partition_rows b) (p, rows_in schema p rows) (map partition_rows blocks) others is in
+      let later = rest_same (partition_rows b) (p, rows_in schema p rows) (map partition_rows blocks) others is in
+      let mine = All-head IsOwn b blocks own in
+      let has = All-head HasTypes b blocks types in
+      let same : inserted schema table b.block ≡ insert_command schema table rows p =
+      ap (λ (q : Partition). insert_of_block table q b.block) (own_first b mine ∙ ap (λ (x : Partition × List Row). x.0) first)
+      ∙ ap₂ (λ (ts : List ColType) (rs : List Row). insert_of_block table p (record { types = ts; rows = rs })) has (ap (λ (x : Partition × List Row). x.1) first) in
+      ap₂ (λ (c : Command) (cs : List Command). c ∷ cs) same (commands_by rows blocks ps later (All-tail HasTypes b blocks types) (All-tail IsOwn b blocks own))
+
+  commands_of_blocks : (blocks : List PartitionBlock) → map (λ (b : PartitionBlock). inserted schema table b.block) blocks ≡ map (inserted schema table) (map (λ (b : PartitionBlock). b.block) blocks)
+  commands_of_blocks [] = refl
+  commands_of_blocks (b ∷ blocks) = ap (λ (cs : List Command). inserted schema table b.block ∷ cs) (commands_of_blocks blocks)
+
+-- ---- the parts that were sealed of blocks
+
+module _ {S : Type 0} (schema : Schema) (table : List ℕ) where
+  commands_by_block : (parts : List (SealedBlock S)) → map (part_command schema table) parts ≡ map (inserted schema table) (map (λ (s : SealedBlock S). s.block) parts)
+  commands_by_block [] = refl
+  commands_by_block (s ∷ parts) = ap (λ (cs : List Command). part_command schema table s ∷ cs) (commands_by_block parts)
+
+  rows_by_block : (parts : List (SealedBlock S)) → All (Comes schema table) (map (λ (s : SealedBlock S). s.block) parts) → All (IsRowsFor schema table) parts
+  rows_by_block [] all = All-nil (IsRowsFor schema table)
+  rows_by_block (s ∷ parts) all =
+      let blocks = map (λ (x : SealedBlock S). x.block) parts in
+      All-cons (IsRowsFor schema table) s parts (All-head (Comes schema table) s.block blocks all) (rows_by_block parts (All-tail (Comes schema table) s.block blocks all))
+
+  module _ (rows : List Row) (blocks : List PartitionBlock) (parts : List (SealedBlock S)) (sealed : map (λ (s : SealedBlock S). s.block) (in_turn parts) ≡ map (λ (b : PartitionBlock). b.block) blocks) where
+    -- they have the commands of the rows, in the order of their turns
+    pub parts_give : map partition_rows blocks ≡ split_rows schema rows → All (λ (b : PartitionBlock). b.block.types ≡ column_types schema) blocks → All (λ (b : PartitionBlock). IsInsertInto schema (insert_of table b)) blocks
+        → commands_in_turn schema table parts ≡ insert_commands schema table rows
+    parts_give split types own =
+        commands_by_block (in_turn parts)
+        ∙ (ap (map (inserted schema table)) sealed ∙ (sym (commands_of_blocks schema table blocks) ∙ commands_by schema table rows blocks (partitions_of schema rows) split types own))
+
+    -- and each has rows of one partition
+    pub parts_come : All (λ (b : PartitionBlock). IsInsertInto schema (insert_of table b)) blocks → All (IsRowsFor schema table) (in_turn parts)
+    parts_come own =
+        rows_by_block (in_turn parts)
+        (subst (All (Comes schema table)) (sym sealed)
+        (All-map (Comes schema table) (λ (b : PartitionBlock). b.block) blocks (All-weaker (λ (b : PartitionBlock). IsInsertInto schema (insert_of table b)) (λ (b : PartitionBlock). Comes schema table b.block) (comes schema table) blocks own)))
 
 -- the commands of an INSERT into a table
 module _ (i : InsertText) where
@@ -68,9 +124,13 @@ module _ (i : InsertText) where
     pub no_rows : inserted_rows (column_types schema) i.lines i.ended ≡ Ok [] → commands_for i (Some schema) ≡ Ok []
     no_rows is = ap (λ r. commands_of_rows schema i.table (rows_or_refused r)) is
 
-    pub rows_give : (block : Grid) → inserted_rows (column_types schema) i.lines i.ended ≡ Ok block.rows → 0 < length block.rows → block.types ≡ column_types schema
-        → commands_for i (Some schema) ≡ Ok (inserted schema i.table block ∷ [])
-    rows_give block is some types = ap (λ r. commands_of_rows schema i.table (rows_or_refused r)) is ∙ ap Ok (one_insert schema i.table block some types)
+    pub rows_give : (rows : List Row) → inserted_rows (column_types schema) i.lines i.ended ≡ Ok rows → commands_for i (Some schema) ≡ Ok (insert_commands schema i.table rows)
+    rows_give rows is = ap (λ r. commands_of_rows schema i.table (rows_or_refused r)) is
+
+-- rows have a command
+pub some_commands : (schema : Schema) (table : List ℕ) (rows : List Row) → 0 < length rows → 0 < length (insert_commands schema table rows)
+some_commands schema table [] none = absurd (omega arith)
+some_commands schema table (row ∷ rows) some = omega arith
 
 -- data that is refused is refused for what it says
 pub data_is_cause : (i : InsertText) (schema : Schema) (fault : DataFault) → inserted_rows (column_types schema) i.lines i.ended ≡ Err fault → code (refusal_of_data fault) ≤ 14
@@ -99,19 +159,3 @@ module _ (parts last drawn accepted : ℕ) (made : last ≡ drawn) where
       let neither : nat_le 4294967295 last ≡ false = grind (arith, nat_tests) in
       ap (λ b. cond b (Some (refusal.Full room.Parts accepted)) (cond (nat_le 4294967295 last) (Some (refusal.Full room.Numbers accepted)) None)) no
       ∙ ap (λ b. cond b (Some (refusal.Full room.Numbers accepted)) None) neither
-
--- an INSERT whose one command is accepted
-module _ (text : InsertText) (schema : Schema) (block : Grid) (kept : Told) (gives : commands_of (history kept) (statement.Insert text) ≡ Ok (inserted schema text.table block ∷ [])) where
-  pub inserted_accepts : {F : Type 0} (files_of : F → Option Files) (t : Turned F) (mark parts : ℕ) (reply : List ℕ) → Knows files_of kept t.was
-      → parts ≤ inserts text.table (partition_of_block schema block) (history kept) → insert_turn parts (last_number text.table (history kept)) 0 ≡ None
-      → Notes mark (entry_of 0 (inserted schema text.table block)) t.was.storage.annals t.now.storage.annals → CoreStands files_of (history kept ++ entry_of 0 (inserted schema text.table block) ∷ []) t.now.store
-      → reply ≡ ok_line (t.was.store.length + 1)
-      → (RootStands t.was.storage.disk (history kept) → RootStands t.now.storage.disk (history kept ++ entry_of 0 (inserted schema text.table block) ∷ []))
-      → Answered files_of kept (Ok (statement.Insert text)) t reply
-  inserted_accepts files_of t mark parts reply knows merged turn notes stands ok settled =
-      let c = inserted schema text.table block in
-      let length_kept : t.was.store.length ≡ length kept.list = knows.stands.length_is ∙ length_history kept in
-      accepts_command mark c kept files_of (Ok (statement.Insert text)) t reply knows.told_is notes stands
-      (λ n now m front added at_m.
-      accepted_one n now (history kept) (statement.Insert text) c m reply front gives (parts, merged, turn) added (ok ∙ ap (λ k. ok_line (k + 1)) (length_kept ∙ sym at_m)))
-      settled

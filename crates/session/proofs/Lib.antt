@@ -4,9 +4,13 @@ pub mod Damaged
 pub mod Gaining
 pub mod Kept
 pub mod Inserting
-pub mod Sealing
+pub mod Progressing
+pub mod Running
+pub mod SealedParts
 pub mod SelectAnswers
 pub mod SelectStanding
 pub mod Selecting
+pub mod Stacking
 pub mod Standing
 pub mod Stopping
+pub mod Turning

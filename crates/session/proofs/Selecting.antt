@@ -30,7 +30,8 @@ use Rattle.mt_model.specs.History.{History, schema_of, column_types}
 use Rattle.mt_model.specs.Live.{sorted, live}
 use Rattle.mt_model.specs.Partial.{Partly}
 use Rattle.mt_model.specs.Answer.{Prints, Answer}
-use Rattle.mt_model.specs.Reply.{rows_line, column_place, place_onto, found_or, places_of, selected_places, columns_for, columns_of_select}
+use Rattle.mt_model.specs.Clauses.{column_place}
+use Rattle.mt_model.specs.Reply.{rows_line, place_onto, found_or, places_of, selected_places, columns_for, columns_of_select}
 use Rattle.mt_model.specs.Session.{Selects}
 use Rattle.mt_model.proofs.SameKeys.{stable_is_sorted}
 use Rattle.mt_model.proofs.Determined.{key_total}

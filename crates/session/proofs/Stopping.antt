@@ -1,10 +1,9 @@
 -- Why a command was not committed, and what is replied.
-use Rattle.std.proofs.Common.{◌≡◌, ℕ, ◌<◌, ◌≤◌, Bool, true, false, cond, List, [], ◌∷◌, length, refl, sym, ap, ◌∙◌, subst, arith, Option, Some, None, Ok, is_some, nat_le, nat_lt}
+use Rattle.std.proofs.Common.{◌≡◌, ℕ, ◌<◌, ◌≤◌, Bool, true, false, cond, List, [], ◌∷◌, length, refl, sym, ap, ◌∙◌, subst, arith, Option, Some, None, Ok, is_some, nat_le, nat_lt, inl, inr}
 use Rattle.std.proofs.lemmas.Bool.Decides.{nat_tests}
 use Rattle.mt_base.specs.declared.partition.Partition.{Partition}
 use Rattle.mt_values.specs.declared.schema.Schema.{Schema}
 use Rattle.mt_values.specs.declared.statement.CreateText.{CreateText}
-use Rattle.mt_values.specs.declared.statement.InsertText.{InsertText}
 use Rattle.mt_values.specs.declared.statement.Statement.TheVariants as statement
 use Rattle.mt_values.specs.Annals.{Told}
 use Rattle.mt_values.specs.Grid.{Grid}
@@ -17,11 +16,10 @@ use Rattle.mt_model.specs.declared.refusal.Refusal.TheVariants as refusal
 use Rattle.mt_model.specs.declared.refusal.Room.TheVariants as room
 use Rattle.mt_model.specs.History.{History, inserts}
 use Rattle.mt_model.specs.Refusals.{is_damage, refusal_line}
-use Rattle.mt_model.specs.Commands.{commands_of}
 use Rattle.mt_model.specs.Numbers.{last_number}
 use Rattle.mt_model.specs.Outside.{Outside, TurnFailed}
 use Rattle.mt_model.specs.Reply.{schema_of_text, create_turn, insert_turn}
-use Rattle.mt_model.specs.Session.{Takes}
+use Rattle.mt_model.specs.Session.{RefusedInTurn, Takes}
 use Rattle.part_set.specs.Sets.{parts_of}
 use Rattle.durable_commit.specs.declared.causes.Limit.TheVariants as limit
 use Rattle.durable_commit.specs.declared.causes.Refused.{Refused}
@@ -43,34 +41,34 @@ use Rattle.replies.proofs.Refusing.{command_full, command_unsettled}
 use Rattle.session.proofs.Standing.{drawn_is, no_table, parts_made, table_schema, tables_made}
 
 -- a command whose reply does not say that its commit failed was not refused by the disk
-pub not_by_disk : (table : List ℕ) (cause : Refused) (reply : List ℕ) → IsLineOf 0 table cause reply → is_unsettled reply ≡ false → cause ≡ refused.Disk → ⊥
-not_by_disk table refused.Disk reply line calm same = let bad : true ≡ false = ap is_unsettled (sym line) ∙ calm in cc
-not_by_disk table refused.NoMemory reply line calm same = cc
-not_by_disk table (refused.Stopped opened now) reply line calm same = cc
-not_by_disk table refused.Exists reply line calm same = cc
-not_by_disk table (refused.Limit l) reply line calm same = cc
+pub not_by_disk : (accepted : ℕ) (table : List ℕ) (cause : Refused) (reply : List ℕ) → IsLineOf accepted table cause reply → is_unsettled reply ≡ false → cause ≡ refused.Disk → ⊥
+not_by_disk accepted table refused.Disk reply line calm same = let bad : true ≡ false = ap is_unsettled (sym line) ∙ calm in cc
+not_by_disk accepted table refused.NoMemory reply line calm same = cc
+not_by_disk accepted table (refused.Stopped opened now) reply line calm same = cc
+not_by_disk accepted table refused.Exists reply line calm same = cc
+not_by_disk accepted table (refused.Limit l) reply line calm same = cc
 
 -- so its root is as it was
-pub root_unless_disk : (table : List ℕ) (cause : Refused) (reply : List ℕ) (h : History) (old new : Option root.Told) → IsLineOf 0 table cause reply → ((cause ≡ refused.Disk → ⊥) → new ≡ old)
+pub root_unless_disk : (accepted : ℕ) (table : List ℕ) (cause : Refused) (reply : List ℕ) (h : History) (old new : Option root.Told) → IsLineOf accepted table cause reply → ((cause ≡ refused.Disk → ⊥) → new ≡ old)
     → is_unsettled reply ≡ false → RootStands old h → RootStands new h
-root_unless_disk table cause reply h old new line same calm stands = subst (λ (o : Option root.Told). RootStands o h) (sym (same (not_by_disk table cause reply line calm))) stands
+root_unless_disk accepted table cause reply h old new line same calm stands = subst (λ (o : Option root.Told). RootStands o h) (sym (same (not_by_disk accepted table cause reply line calm))) stands
 
 -- the disk's is the only cause of the outside that has a reply
-pub by_disk : (table : List ℕ) (cause : Refused) (reply : List ℕ) → IsLineOf 0 table cause reply → IsOutside (Some cause) → is_unsettled reply ≡ true
-by_disk table refused.NoMemory reply line outside = absurd line
-by_disk table refused.Disk reply line outside = ap is_unsettled line
-by_disk table (refused.Stopped opened now) reply line outside = absurd outside
-by_disk table refused.Exists reply line outside = absurd outside
-by_disk table (refused.Limit l) reply line outside = absurd outside
+pub by_disk : (accepted : ℕ) (table : List ℕ) (cause : Refused) (reply : List ℕ) → IsLineOf accepted table cause reply → IsOutside (Some cause) → is_unsettled reply ≡ true
+by_disk accepted table refused.NoMemory reply line outside = absurd line
+by_disk accepted table refused.Disk reply line outside = ap is_unsettled line
+by_disk accepted table (refused.Stopped opened now) reply line outside = absurd outside
+by_disk accepted table refused.Exists reply line outside = absurd outside
+by_disk accepted table (refused.Limit l) reply line outside = absurd outside
 
 -- the reply to a command that was not committed
 module _ {F : Type 0} (files_of : F → Option Files) (store : CoreStore F) (kept : Told) (s : CoreStands files_of (history kept) store) (before disk arm : ℕ) (cause : Refused) (reply : List ℕ) (n : Outside)
     (f : Foresees store.opened disk arm n) (low : store.opened ≤ before) (later : before ≤ disk) (rose : cause ≡ refused.Disk → Rose before disk) where
-  stopped_now : (table : List ℕ) → nat_lt store.opened before ≡ true → IsLineOf 0 table (refused.Stopped store.opened before) reply → TurnFailed n 0 reply
-  stopped_now table risen line = let high : store.opened < before = grind (arith, nat_tests) in was_stopped store.opened disk arm before 0 reply n high later line f
+  stopped_now : (accepted : ℕ) (table : List ℕ) → nat_lt store.opened before ≡ true → IsLineOf accepted table (refused.Stopped store.opened before) reply → TurnFailed n accepted reply
+  stopped_now accepted table risen line = let high : store.opened < before = grind (arith, nat_tests) in was_stopped store.opened disk arm before accepted reply n high later line f
 
-  failed_now : (table : List ℕ) → cause ≡ refused.Disk → IsLineOf 0 table cause reply → TurnFailed n 0 reply
-  failed_now table is line = commit_failed store.opened disk arm before 0 reply n low (rose is) (subst (λ (r : Refused). IsLineOf 0 table r reply) is line) f
+  failed_now : (accepted : ℕ) (table : List ℕ) → cause ≡ refused.Disk → IsLineOf accepted table cause reply → TurnFailed n accepted reply
+  failed_now accepted table is line = commit_failed store.opened disk arm before accepted reply n low (rose is) (subst (λ (r : Refused). IsLineOf accepted table r reply) is line) f
 
   module _ (c : CreateText) (schema : Schema) (text : schema_of_text c ≡ Ok schema) (line : IsLineOf 0 c.table cause reply) where
     abbrev CreateAnswer : Type 0
@@ -84,7 +82,7 @@ module _ {F : Type 0} (files_of : F → Option Files) (store : CoreStore F) (kep
 
     by_outside : create_turn c.table (history kept) ≡ None → (r : Refused) → cause ≡ r → IsCause None (Some r) → CreateAnswer
     by_outside turn refused.NoMemory is outside = absurd (subst (λ (x : Refused). IsLineOf 0 c.table x reply) is line)
-    by_outside turn refused.Disk is outside = create_unsettled turn (failed_now c.table is line)
+    by_outside turn refused.Disk is outside = create_unsettled turn (failed_now 0 c.table is line)
     by_outside turn (refused.Stopped o w) is outside = absurd outside
     by_outside turn refused.Exists is outside = absurd outside
     by_outside turn (refused.Limit l) is outside = absurd outside
@@ -104,7 +102,7 @@ module _ {F : Type 0} (files_of : F → Option Files) (store : CoreStore F) (kep
         let count : 64 ≤ length store.tables.entries = grind (arith, nat_tests) in
         create_full (refusal.Past bound.Tables) (turn_full c.table (history kept) (no_table files_of (history kept) store s c.table there) (omega (arith, made, count))) (line_for (refused.Limit limit.Tables) is)
     by_store None there false many true risen is =
-        create_unsettled (free there many) (stopped_now c.table risen (line_for (refused.Stopped store.opened before) is))
+        create_unsettled (free there many) (stopped_now 0 c.table risen (line_for (refused.Stopped store.opened before) is))
       where
         free : table_at store c.table ≡ None → nat_le 64 (length store.tables.entries) ≡ false → create_turn c.table (history kept) ≡ None
         free none few =
@@ -119,34 +117,35 @@ module _ {F : Type 0} (files_of : F → Option Files) (store : CoreStore F) (kep
     pub create_not_committed : IsCause (refuses_create store c.table before) (Some cause) → CreateAnswer
     create_not_committed is = by_store (table_at store c.table) refl (nat_le 64 (length store.tables.entries)) refl (nat_lt store.opened before) refl is
 
-  module _ (i : InsertText) (t : Table) (there : table_at store i.table ≡ Some t) (block : Grid) (gives : commands_of (history kept) (statement.Insert i) ≡ Ok (inserted t.schema i.table block ∷ [])) (line : IsLineOf 0 i.table cause reply) where
-    abbrev InsertAnswer : Type 0
-    InsertAnswer = Takes n (history kept) 0 (Ok (statement.Insert i)) (length kept.list) (length kept.list) reply
+  -- a block of a table, after some commands of its statement were accepted
+  module _ (name : List ℕ) (t : Table) (there : table_at store name ≡ Some t) (block : Grid) (accepted : ℕ) (line : IsLineOf accepted name cause reply) where
+    abbrev pub InsertAnswer : Type 0
+    InsertAnswer = RefusedInTurn n (history kept) accepted (inserted t.schema name block) reply
 
     abbrev partition : Partition
     partition = partition_of_block t.schema block
 
     abbrev count : ℕ
-    count = length (kept_in partition (parts_of store.set i.table))
+    count = length (kept_in partition (parts_of store.set name))
 
     abbrev last : ℕ
-    last = last_number i.table (history kept)
+    last = last_number name (history kept)
 
-    merged : count ≤ inserts i.table partition (history kept)
-    merged = parts_made files_of (history kept) store s i.table t there partition
+    merged : count ≤ inserts name partition (history kept)
+    merged = parts_made files_of (history kept) store s name t there partition
 
     drawn : last ≡ t.drawn
-    drawn = drawn_is files_of (history kept) store s i.table t there
+    drawn = drawn_is files_of (history kept) store s name t there
 
-    insert_full : (why : Refusal) → insert_turn count last 0 ≡ Some why → reply ≡ refusal_line why → InsertAnswer
-    insert_full why turn is = command_full n kept reply (statement.Insert i) (inserted t.schema i.table block) [] gives why (count, merged, turn) is
+    insert_full : (why : Refusal) → insert_turn count last accepted ≡ Some why → reply ≡ refusal_line why → InsertAnswer
+    insert_full why turn is = inl (why, (count, merged, turn), is)
 
-    insert_unsettled : insert_turn count last 0 ≡ None → TurnFailed n 0 reply → InsertAnswer
-    insert_unsettled turn failed = command_unsettled n kept reply (statement.Insert i) (inserted t.schema i.table block) [] gives (count, merged, turn) failed
+    insert_unsettled : insert_turn count last 0 ≡ None → TurnFailed n accepted reply → InsertAnswer
+    insert_unsettled turn failed = inr ((count, merged, turn), failed)
 
     room_by_outside : insert_turn count last 0 ≡ None → (r : Refused) → cause ≡ r → IsCause None (Some r) → InsertAnswer
-    room_by_outside turn refused.NoMemory is outside = absurd (subst (λ (x : Refused). IsLineOf 0 i.table x reply) is line)
-    room_by_outside turn refused.Disk is outside = insert_unsettled turn (failed_now i.table is line)
+    room_by_outside turn refused.NoMemory is outside = absurd (subst (λ (x : Refused). IsLineOf accepted name x reply) is line)
+    room_by_outside turn refused.Disk is outside = insert_unsettled turn (failed_now accepted name is line)
     room_by_outside turn (refused.Stopped o w) is outside = absurd outside
     room_by_outside turn refused.Exists is outside = absurd outside
     room_by_outside turn (refused.Limit l) is outside = absurd outside
@@ -154,28 +153,28 @@ module _ {F : Type 0} (files_of : F → Option Files) (store : CoreStore F) (kep
     abbrev room_shown : Bool → Bool → Bool → Option Refused
     room_shown full spent stopped = cond full (Some (refused.Limit limit.Parts)) (cond spent (Some (refused.Limit limit.Numbers)) (cond stopped (Some (refused.Stopped store.opened before)) None))
 
-    room_line : (r : Refused) → Some cause ≡ Some r → IsLineOf 0 i.table r reply
-    room_line r is = let same : cause ≡ r = cc in subst (λ (x : Refused). IsLineOf 0 i.table x reply) same line
+    room_line : (r : Refused) → Some cause ≡ Some r → IsLineOf accepted name r reply
+    room_line r is = let same : cause ≡ r = cc in subst (λ (x : Refused). IsLineOf accepted name x reply) same line
 
     room_by_store : (full : Bool) → nat_le 3000 count ≡ full → (spent : Bool) → nat_le 4294967295 t.drawn ≡ spent → (stopped : Bool) → nat_lt store.opened before ≡ stopped
         → IsCause (room_shown full spent stopped) (Some cause) → InsertAnswer
     room_by_store true many spent most stopped risen is =
         let full : 3000 ≤ count = grind (arith, nat_tests) in
-        insert_full (refusal.Full room.Parts 0) (room_full count last t.drawn 0 drawn full) (room_line (refused.Limit limit.Parts) is)
+        insert_full (refusal.Full room.Parts accepted) (room_full count last t.drawn accepted drawn full) (room_line (refused.Limit limit.Parts) is)
     room_by_store false many true most stopped risen is =
         let few : count < 3000 = grind (arith, nat_tests) in
         let high : 4294967295 ≤ t.drawn = grind (arith, nat_tests) in
-        insert_full (refusal.Full room.Numbers 0) (turn_spent count last t.drawn 0 drawn few high) (room_line (refused.Limit limit.Numbers) is)
+        insert_full (refusal.Full room.Numbers accepted) (turn_spent count last t.drawn accepted drawn few high) (room_line (refused.Limit limit.Numbers) is)
     room_by_store false many false most true risen is =
         let few : count < 3000 = grind (arith, nat_tests) in
         let left : t.drawn < 4294967295 = grind (arith, nat_tests) in
-        insert_unsettled (room_free count last t.drawn 0 drawn few left) (stopped_now i.table risen (room_line (refused.Stopped store.opened before) is))
+        insert_unsettled (room_free count last t.drawn 0 drawn few left) (stopped_now accepted name risen (room_line (refused.Stopped store.opened before) is))
     room_by_store false many false most false risen is =
         let few : count < 3000 = grind (arith, nat_tests) in
         let left : t.drawn < 4294967295 = grind (arith, nat_tests) in
         room_by_outside (room_free count last t.drawn 0 drawn few left) cause refl is
 
-    pub insert_not_committed : IsCause (refuses_part store i.table partition t.drawn before) (Some cause) → InsertAnswer
+    pub insert_not_committed : IsCause (refuses_part store name partition t.drawn before) (Some cause) → InsertAnswer
     insert_not_committed is = room_by_store (nat_le 3000 count) refl (nat_le 4294967295 t.drawn) refl (nat_lt store.opened before) refl is
 
 -- what the store showed nothing against has room
@@ -202,14 +201,14 @@ nothing_shown_to_create store table before is = by (table_at store table) refl (
     by None there false many stopped h = (there, grind (arith, nat_tests, many))
 
 -- a command that was refused or whose commit failed tells of no damage
-pub commit_line : (table : List ℕ) (why : Refused) (reply : List ℕ) → IsLineOf 0 table why reply → is_damage reply ≡ false
-commit_line table refused.NoMemory reply line = absurd line
-commit_line table refused.Disk reply line = ap is_damage line
-commit_line table (refused.Stopped opened now) reply line = ap is_damage line
-commit_line table refused.Exists reply line = ap is_damage line
-commit_line table (refused.Limit limit.Tables) reply line = ap is_damage line
-commit_line table (refused.Limit limit.Parts) reply line = ap is_damage line
-commit_line table (refused.Limit limit.Numbers) reply line = ap is_damage line
+pub commit_line : (accepted : ℕ) (table : List ℕ) (why : Refused) (reply : List ℕ) → IsLineOf accepted table why reply → is_damage reply ≡ false
+commit_line accepted table refused.NoMemory reply line = absurd line
+commit_line accepted table refused.Disk reply line = ap is_damage line
+commit_line accepted table (refused.Stopped opened now) reply line = ap is_damage line
+commit_line accepted table refused.Exists reply line = ap is_damage line
+commit_line accepted table (refused.Limit limit.Tables) reply line = ap is_damage line
+commit_line accepted table (refused.Limit limit.Parts) reply line = ap is_damage line
+commit_line accepted table (refused.Limit limit.Numbers) reply line = ap is_damage line
 
 -- ---- the causes of such a reply
 
@@ -251,15 +250,15 @@ module _ {F : Type 0} (store : CoreStore F) (table : List ℕ) (now : ℕ) (caus
       (risen_if store.opened now (nat_le 3000 (length (kept_in partition (parts_of store.set table)))) (refused.Limit limit.Parts) _ tt
       (risen_if store.opened now (nat_le 4294967295 drawn) (refused.Limit limit.Numbers) _ tt (risen_shown store.opened now (nat_lt store.opened now) refl))) is
 
-pub refused_says : (opened before disk arm_old arm_new : ℕ) (table : List ℕ) (cause : Refused) (reply : List ℕ) → IsLineOf 0 table cause reply → SaysRisen opened before (Some cause)
+pub refused_says : (opened before disk arm_old arm_new accepted : ℕ) (table : List ℕ) (cause : Refused) (reply : List ℕ) → IsLineOf accepted table cause reply → SaysRisen opened before (Some cause)
     → (cause ≡ refused.Disk → (before ≡ opened) × Rose before disk)
     → HasCauses opened before disk arm_old arm_new reply
-refused_says opened before disk arm_old arm_new table refused.NoMemory reply line risen rose = absurd line
-refused_says opened before disk arm_old arm_new table refused.Disk reply line risen rose = says_unsettled opened before disk arm_old arm_new reply 0 line (rose refl)
-refused_says opened before disk arm_old arm_new table (refused.Stopped o n) reply line risen rose =
-    says_stopped opened before disk arm_old arm_new reply 0
-    (line ∙ (ap (λ k. refusal_line (refusal.Stopped k n 0)) risen.0 ∙ ap (λ k. refusal_line (refusal.Stopped opened k 0)) risen.1)) risen.2
-refused_says opened before disk arm_old arm_new table refused.Exists reply line risen rose = says_script opened before disk arm_old arm_new reply (refusal.TableExists table) line (omega arith)
-refused_says opened before disk arm_old arm_new table (refused.Limit limit.Tables) reply line risen rose = says_script opened before disk arm_old arm_new reply (refusal.Past bound.Tables) line (omega arith)
-refused_says opened before disk arm_old arm_new table (refused.Limit limit.Parts) reply line risen rose = says_script opened before disk arm_old arm_new reply (refusal.Full room.Parts 0) line (omega arith)
-refused_says opened before disk arm_old arm_new table (refused.Limit limit.Numbers) reply line risen rose = says_script opened before disk arm_old arm_new reply (refusal.Full room.Numbers 0) line (omega arith)
+refused_says opened before disk arm_old arm_new accepted table refused.NoMemory reply line risen rose = absurd line
+refused_says opened before disk arm_old arm_new accepted table refused.Disk reply line risen rose = says_unsettled opened before disk arm_old arm_new reply accepted line (rose refl)
+refused_says opened before disk arm_old arm_new accepted table (refused.Stopped o n) reply line risen rose =
+    says_stopped opened before disk arm_old arm_new reply accepted
+    (line ∙ (ap (λ k. refusal_line (refusal.Stopped k n accepted)) risen.0 ∙ ap (λ k. refusal_line (refusal.Stopped opened k accepted)) risen.1)) risen.2
+refused_says opened before disk arm_old arm_new accepted table refused.Exists reply line risen rose = says_script opened before disk arm_old arm_new reply (refusal.TableExists table) line (omega arith)
+refused_says opened before disk arm_old arm_new accepted table (refused.Limit limit.Tables) reply line risen rose = says_script opened before disk arm_old arm_new reply (refusal.Past bound.Tables) line (omega arith)
+refused_says opened before disk arm_old arm_new accepted table (refused.Limit limit.Parts) reply line risen rose = says_script opened before disk arm_old arm_new reply (refusal.Full room.Parts accepted) line (omega arith)
+refused_says opened before disk arm_old arm_new accepted table (refused.Limit limit.Numbers) reply line risen rose = says_script opened before disk arm_old arm_new reply (refusal.Full room.Numbers accepted) line (omega arith)

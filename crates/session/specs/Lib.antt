@@ -3,3 +3,4 @@ pub mod Scans
 pub mod Selects
 pub mod Staged
 pub mod Stops
+pub mod Turns

@@ -9,7 +9,7 @@ ghost use Rattle.replies.specs.Causes.{HasCauses};
 ghost use Rattle.session.specs.Answers.{AcceptsNothing, Answers, Knows, Turned};
 ghost use Rattle.shared_store.specs.Engines.{GoesOn, GoesThroughCrashes};
 
-use crate::stopped::{ACCEPTED_BEFORE, refused_line};
+use crate::stopped::refused_line;
 use crate::{give_back, seal_entry};
 use mt_base::{NoMemory, Stop, Twin};
 use mt_model::resolve;
@@ -19,6 +19,9 @@ use replies::{Reply, replies_after, stage_line};
 use root_commits::Returned;
 use shared_store::Engine;
 use std::alloc::Global;
+
+/// How many of its commands are accepted before the one that it runs: a CREATE has one.
+const ACCEPTED_BEFORE: usize = 0;
 
 /// Makes a table, unless the CREATE is refused. All memory is taken before the commit.
 ///

@@ -1,71 +1,28 @@
 // Running an INSERT.
-ghost use Rattle.std.specs.Prelude.{◌≡◌, ◌<◌, ◌≤◌, Ok, true, false, IfOk, IfSome, OnErr, OnOk};
+ghost use Rattle.std.specs.Prelude.{◌≡◌, ◌<◌, ◌≤◌, Ok, true, false, IfOk, OnErr};
 ghost use Rattle.mt_values.specs.declared.statement.Statement.TheVariants as statement;
 ghost use Rattle.mt_values.specs.Annals.{Told};
-ghost use Rattle.mt_values.specs.Grid.{AreRowsOf};
-ghost use Rattle.mt_outside.specs.Causes.{Rose};
-ghost use Rattle.mt_outside.specs.DiskCauses.{HasDiskCause};
-ghost use Rattle.mt_model.specs.History.{IsTableSchema, column_types};
 ghost use Rattle.mt_model.specs.Refusals.{is_damage};
-ghost use Rattle.root_commits.specs.Commits.{IsSealedOf};
 ghost use Rattle.root_store.specs.Soundness.{HasSoundParts};
 ghost use Rattle.replies.specs.Causes.{HasCauses};
 ghost use Rattle.session.specs.Answers.{AcceptsNothing, Answers, Knows, Turned};
 ghost use Rattle.shared_store.specs.Engines.{GoesOn, GoesThroughCrashes};
 
-use crate::stopped::{ACCEPTED_BEFORE, refused_line};
-use crate::{give_back, read_block};
+use crate::read_block;
+use crate::sealing::seal_blocks;
+use crate::turns::commit_parts;
+use block_split::split_block;
 use mt_base::{NoMemory, Stop};
-use mt_outside::{Arm, Dir, Disk, DiskError};
-use mt_values::{Annals, Block, InsertText, Schema};
-use part_writer::{SealedPart, write_part};
-use replies::{Reply, data_line, no_table_line, replies_after, stage_line};
-use root_commits::Returned;
+use mt_outside::{Arm, Dir, Disk};
+use mt_values::{Annals, InsertText};
+use replies::{Reply, data_line, failed_line, no_table_line, stage_line};
 use shared_store::Engine;
 use std::alloc::Global;
 
-/// The files of a block as a part of a table, sealed: its rows in the order of the key, those of equal keys as they came.
+/// Adds the rows of an INSERT to its table, partition by partition, unless it is refused. All parts are sealed before the first of
+/// them has its turn. What was accepted before a turn that is refused stands.
 ///
-/// `Fault` only where the arm's count rose in this call, `NoMemory` where an allocation failed. After an error the stage was given
-/// back to the arm.
-fn seal_block<R: Arm>(
-    alloc: Global,
-    arm: &mut R,
-    schema: &Schema,
-    block: &Block,
-) -> Result<SealedPart<R::Stage>, DiskError>
-    requires types { block.now.types ≡ column_types schema.now }
-    requires schema { IsTableSchema schema.now }
-    ensures sealed { R.tells arm.old ≡ true
-        → IfOk result (λ s. IsSealedOf schema.now block.now s.sealed.files s.loaded) }
-    ensures none_failed { IfOk result (λ s. s.sealed.failed ≡ 0) }
-    ensures typed { OnOk result (AreRowsOf block.now.types block.now.rows) }
-    ensures tells { R.tells arm.new ≡ R.tells arm.old }
-    ensures cause { HasDiskCause (R.failed arm.old) (R.failed arm.new) result }
-{
-    // Reading the number of rows shows that each row has a value of each column.
-    prove!(block.len() <= u32::MAX as usize);
-    let order = block.key_order(alloc, schema)?;
-    Ok(write_part(alloc, arm, schema, block, &order)?)
-}
-
-/// Gives the arm back the part that it sealed, where that was not given to the disk.
-fn give_back_part<R: Arm>(arm: &mut R, back: Option<SealedPart<R::Stage>>)
-    ensures tells { R.tells arm.new ≡ R.tells arm.old }
-    ensures taken { IfSome back
-        (λ p. 0 < p.sealed.failed → Rose (R.failed arm.old) (R.failed arm.new)) }
-    ensures none_failed { IfSome back (λ p. p.sealed.failed ≡ 0)
-        → R.failed arm.new ≡ R.failed arm.old }
-    ensures later { R.failed arm.old ≤ R.failed arm.new }
-{
-    if let Some(SealedPart { sealed, loaded: _ }) = back {
-        give_back(arm, Some(sealed));
-    }
-}
-
-/// Adds the rows of an INSERT to its table, unless it is refused. All memory is taken before the commit.
-///
-/// `NoMemory` where an allocation failed; the annals list the same entries, the root is as it was, and no count of faults rose.
+/// `NoMemory` where an allocation failed; the annals list the commands that were accepted before, and no count of faults rose.
 #[tactic(auto, using(crate::proofs::Accepting::keeps_nothing))]
 pub fn insert<F: Dir, R: Arm<Dir = F>, D: Disk<Arm = R>, A: Annals>(
     alloc: Global,
@@ -110,20 +67,15 @@ pub fn insert<F: Dir, R: Arm<Dir = F>, D: Disk<Arm = R>, A: Annals>(
         Err(Stop::NoMemory) => return Err(NoMemory),
         Err(Stop::Refused(fault)) => return data_line(alloc, fault),
     };
+    let unchanged = Reply::accepted(alloc, engine.look())?;
     if block.is_empty() {
-        return Reply::accepted(alloc, engine.look());
+        return Ok(unchanged);
     }
-    let replies = replies_after(alloc, engine.look(), ACCEPTED_BEFORE)?;
-    let part = match seal_block(alloc, arm, &schema, &block) {
-        Ok(part) => part,
-        Err(error) => return stage_line(error, replies.failed),
+    let failed = failed_line(alloc)?;
+    let blocks = split_block(alloc, &schema, block)?;
+    let parts = match seal_blocks(alloc, arm, &schema, blocks) {
+        Ok(parts) => parts,
+        Err(error) => return stage_line(error, failed),
     };
-    match engine.insert(alloc, 0, &text.table, part, block) {
-        Ok(_) => Ok(replies.accepted),
-        Err(Returned { cause, back }) => {
-            give_back_part(arm, back);
-            let unsettled = replies.unsettled;
-            refused_line(alloc, ACCEPTED_BEFORE, &text.table, cause, unsettled)
-        }
-    }
+    commit_parts(alloc, engine, arm, &text.table, parts, unchanged)
 }

@@ -21,7 +21,7 @@ use std::alloc::Global;
 
 /// Runs one statement, or answers the text that is none.
 ///
-/// `NoMemory` where an allocation failed; the annals list the same entries, the root is as it was, and no count of faults rose.
+/// `NoMemory` where an allocation failed; the annals list the commands that were accepted before, and no count of faults rose.
 pub fn run_statement<F: Dir, R: Arm<Dir = F>, D: Disk<Arm = R>, A: Annals, G: Gate>(
     alloc: Global,
     engine: &mut Engine<F, R, D, A>,

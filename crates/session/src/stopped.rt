@@ -11,9 +11,6 @@ use mt_values::Name;
 use replies::Reply;
 use std::alloc::Global;
 
-/// How many of a statement's commands are accepted before the one that it runs: a statement has one at most.
-pub const ACCEPTED_BEFORE: usize = 0;
-
 /// Why a command on a table was not committed after so many others of its statement were, as a refusal. None where memory ran out.
 ///
 /// `NoMemory` where an allocation failed.

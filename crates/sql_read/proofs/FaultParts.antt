@@ -27,12 +27,20 @@ pub record Sound {S : Type 0} (n : ℕ) (read : Reader S) (t : Token) : Type 0 w
   pub starts : Starts read t
   pub needs : (s : S) → read [] ≡ Ok s → ⊥
 
+-- a reader that tells its first faults in fewer tokens than this, and with which some statement goes on
+pub record Live {S : Type 0} (n : ℕ) (read : Reader S) : Type 0 where
+  pub good : Good n read
+  pub goes_on : GoesOn read []
+
 longer : (p : Placed) (front ps : List Placed) → ps ≡ front ++ p ∷ ps → ⊥
 longer p front ps e = omega (arith, length-append front (p ∷ ps), ap (length {A = Placed}) e)
 
 module _ {S : Type 0} where
   pub goes : (n : ℕ) (read : Reader S) (t : Token) → Sound n read t → GoesOn read []
   goes n read t sound = (at_start t ∷ sound.starts.0, sound.starts.1, sound.starts.2)
+
+  pub live_of : (n : ℕ) (read : Reader S) (t : Token) → Sound n read t → Live n read
+  live_of n read t sound = record { good = sound.good; goes_on = goes n read t sound }
 
   pub fewer : (n : ℕ) (read : Reader S) → Good (suc n) read → Good n read
   fewer n read good tokens r less e = good tokens r (omega arith) e

@@ -1,8 +1,11 @@
 -- The productions of the grammar tell their first faults, one by one.
-use Rattle.std.proofs.Common.{◌≡◌, ℕ, suc, ◌+◌, Bool, true, false, ◌&&◌, cond, nat_lt, List, [], ◌∷◌, ◌++◌, length, Result, Ok, Err, refl, arith, ◌∙◌, ap, codes}
+use Rattle.std.proofs.Common.{◌≡◌, ℕ, zero, suc, ◌+◌, Bool, true, false, ◌&&◌, cond, nat_lt, List, [], ◌∷◌, ◌++◌, length, Result, Ok, Err, refl, arith, ◌∙◌, ap, codes}
+use Rattle.std.specs.List.{list_any}
 use Rattle.mt_values.specs.declared.schema.Column.{Column}
 use Rattle.mt_values.specs.declared.statement.Cause.{Cause}
 use Rattle.mt_values.specs.declared.statement.Cause.TheVariants as cause
+use Rattle.mt_values.specs.declared.statement.Clause.{Clause}
+use Rattle.mt_values.specs.declared.statement.Clause.TheVariants as clause
 use Rattle.mt_values.specs.declared.statement.Selected.{Selected}
 use Rattle.mt_values.specs.declared.statement.Selected.TheVariants as selected
 use Rattle.mt_values.specs.declared.statement.Slip.{Slip}
@@ -15,13 +18,14 @@ use Rattle.mt_values.specs.declared.token.Token.{Token}
 use Rattle.mt_values.specs.declared.token.Token.TheVariants as token
 use Rattle.mt_values.specs.declared.value.ColType.{ColType}
 use Rattle.mt_values.specs.declared.value.ColType.TheVariants as type
-use Rattle.mt_values.specs.Grammar.{cause_at, is_behind_limit, place_of_first, statement_limit, statement_of, statement_read, tokens_and_end, clauses, column, create, ends, engine, format, insert, is_format, is_symbol, is_word, key, keyword, list_of, name, one_name, passing, plain, same_bytes, select, selection, statement_reader, the, type_named}
-use Rattle.mt_values.specs.Readers.{Reader, Reading, choose, done, expect}
+use Rattle.mt_values.specs.Grammar.{cause_at, is_behind_limit, place_of_first, statement_limit, statement_of, statement_read, tokens_and_end, clause_or_over, clauses, clauses_within, column, create, ends, engine, exactly, format, insert, is_format, is_order_by, is_symbol, is_word, key, keyword, list_of, name, number, one_name, order_by, partition_by, passing, plain, primary_key, same_bytes, select, selection, settings, statement_reader, the, type_named}
+use Rattle.mt_values.specs.Readers.{Reader, Reading, choose, done, either, expect}
 use Rattle.mt_values.specs.Tokens.{is_keyword}
 use Rattle.sql_read.proofs.Listed.{column_takes, one_name_takes}
 use Rattle.sql_read.specs.Places.{GoesOn, FirstFault, LongFault}
+use Rattle.sql_read.proofs.NextClauses.{by_partition, by_primary, by_settings, last_way, no_partition_way, no_primary_way}
 use Rattle.sql_read.proofs.Faults.{Told, Good, NamesTold, done_good, name_names, passing_names}
-use Rattle.sql_read.proofs.FaultParts.{Apart, Sound, SoundItem, Unnamed, choose_other_sound, choose_this_sound, choose_unnamed, ends_sound, expect_live_sound, expect_sound, list_sound, passing_unnamed, sound_fewer, symbol_apart, unnamed_apart}
+use Rattle.sql_read.proofs.FaultParts.{Apart, Live, Sound, SoundItem, Unnamed, choose_other_sound, choose_this_sound, choose_unnamed, ends_sound, expect_live_sound, expect_sound, list_sound, live_of, passing_unnamed, sound_fewer, symbol_apart, unnamed_apart}
 
 type_or : (c : Bool) (t : ColType) (r : Result ColType Slip) → (r ≡ Err slip.LongName → ⊥) → cond c (Ok t) r ≡ Err slip.LongName → ⊥
 type_or true t r not_r e = cc
@@ -49,18 +53,37 @@ plain_names (token.Text t) e = cc
 plain_names (token.Symbol s) e = cc
 plain_names token.Stray e = cc
 
--- a name and a type that begin statements below
+number_names : NamesTold number
+number_names (token.Word w) e = cc
+number_names (token.Number d) e = cc
+number_names (token.Text t) e = cc
+number_names (token.Symbol s) e = cc
+number_names token.Stray e = cc
+
+-- a name, a number and a type that begin statements below
 abbrev a_name : Token
 a_name = token.Word (codes "t")
+
+abbrev a_number : Token
+a_number = token.Number (codes "1")
 
 abbrev a_type : Token
 a_type = token.Word (codes "UInt8")
 
 module _ {S : Type 0} (n : ℕ) where
   -- a token that a test passes, and then what follows it
+  passes_live : (test : Token → Bool) (t : Token) → test t ≡ true → (next : Unit {0} → Reader S) → Live n (next tt) → Sound n (expect (λ t. passing (test t)) next) t
+  passes_live test t is next live =
+      sound_fewer n (expect (λ t. passing (test t)) next) t (expect_live_sound n (λ t. passing (test t)) t tt (ap passing is) (passing_names test) next (λ y. live.good) (λ y. live.goes_on))
+
   passes : (test : Token → Bool) (t : Token) → test t ≡ true → (next : Unit {0} → Reader S) (u : Token) → Sound n (next tt) u → Sound n (expect (λ t. passing (test t)) next) t
-  passes test t is next u sound =
-      sound_fewer n (expect (λ t. passing (test t)) next) t (expect_sound n (λ t. passing (test t)) t tt (ap passing is) (passing_names test) next u (λ y. sound))
+  passes test t is next u sound = passes_live test t is next (live_of n (next tt) u sound)
+
+  names_live : (next : List ℕ → Reader S) → ((w : List ℕ) → Live n (next w)) → Sound n (expect name next) a_name
+  names_live next live = sound_fewer n (expect name next) a_name (expect_live_sound n name a_name (codes "t") refl name_names next (λ w. (live w).good) (λ w. (live w).goes_on))
+
+  digits_live : (next : List ℕ → Reader S) → ((digits : List ℕ) → Live n (next digits)) → Sound n (expect number next) a_number
+  digits_live next live = sound_fewer n (expect number next) a_number (expect_live_sound n number a_number (codes "1") refl number_names next (λ d. (live d).good) (λ d. (live d).goes_on))
 
   names_then : (next : List ℕ → Reader S) (u : Token) → ((w : List ℕ) → Sound n (next w) u) → Sound n (expect name next) a_name
   names_then next u sound = sound_fewer n (expect name next) a_name (expect_sound n name a_name (codes "t") refl name_names next u sound)
@@ -88,12 +111,12 @@ module _ {S : Type 0} (n : ℕ) where
       (choose_other_sound n (is_symbol symbol.Open) (expect (the symbol.Open) (λ v. expect (the symbol.Close) (λ v. next))) next u no_open open_.good sound
       (symbol_apart n symbol.Open (expect (the symbol.Open) (λ v. expect (the symbol.Close) (λ v. next)))) (symbol_apart n symbol.Open next))
 
-  key_sound : (next : List (List ℕ) → Reader S) (u : Token) → ((names : List (List ℕ)) → Sound n (next names) u) → Sound n (key next) (token.Symbol symbol.Open)
-  key_sound next u sound =
-      let close = λ (names : List (List ℕ)). passes n (is_symbol symbol.Close) (token.Symbol symbol.Close) refl (λ v. next names) u (sound names) in
+  key_sound : (next : List (List ℕ) → Reader S) → ((names : List (List ℕ)) → Live n (next names)) → Sound n (key next) (token.Symbol symbol.Open)
+  key_sound next live =
+      let close = λ (names : List (List ℕ)). passes_live n (is_symbol symbol.Close) (token.Symbol symbol.Close) refl (λ v. next names) (live names) in
       let names = list_sound one_name a_name one_name_takes one_name_sound (λ names. expect (the symbol.Close) (λ v. next names)) (token.Symbol symbol.Close) refl n close in
       let open_ = passes n (is_symbol symbol.Open) (token.Symbol symbol.Open) refl (λ v. list_of one_name (λ names. expect (the symbol.Close) (λ v. next names))) a_name names in
-      let one = names_then n (λ w. next (w ∷ [])) u (λ w. sound (w ∷ [])) in
+      let one = names_live n (λ w. next (w ∷ [])) (λ w. live (w ∷ [])) in
       choose_this_sound n (is_symbol symbol.Open) (expect (the symbol.Open) (λ v. list_of one_name (λ names. expect (the symbol.Close) (λ v. next names)))) (expect name (λ w. next (w ∷ []))) (token.Symbol symbol.Open) a_name refl open_ one
       (symbol_apart n symbol.Open (expect (the symbol.Open) (λ v. list_of one_name (λ names. expect (the symbol.Close) (λ v. next names))))) (symbol_apart n symbol.Open (expect name (λ w. next (w ∷ []))))
 
@@ -103,11 +126,6 @@ module _ {S : Type 0} (n : ℕ) where
 
   keyword_unnamed : (k : List ℕ) (next : Reader S) → Good n next → Unnamed n (expect (keyword k) (λ v. next))
   keyword_unnamed k next good p ps less e = passing_unnamed n (is_word (is_keyword k)) (λ v. next) good p ps (omega arith) e
-
-  clauses_sound : (next : List (List ℕ) → Reader S) (u : Token) → ((names : List (List ℕ)) → Sound n (next names) u) → Sound n (clauses next) (token.Word (codes "ORDER"))
-  clauses_sound next u sound =
-      keyword_then (codes "ORDER") refl (expect (keyword (codes "BY")) (λ v. key next)) (token.Word (codes "BY"))
-      (keyword_then (codes "BY") refl (key next) (token.Symbol symbol.Open) (key_sound next u sound))
 
   selection_sound : (next : Selected → Reader S) (u : Token) → is_symbol symbol.Comma u ≡ false → ((c : Selected) → Sound n (next c) u) → Sound n (selection next) (token.Symbol symbol.Star)
   selection_sound next u no_comma sound =
@@ -124,6 +142,95 @@ module _ {S : Type 0} (n : ℕ) where
       (passing_apart n (is_word (is_keyword (codes "FORMAT"))) (is_word (is_keyword (codes "FORMAT"))) (λ v. expect format (λ v. ends s)) named.good)
       (passing_apart n (is_word (is_keyword (codes "FORMAT"))) (is_symbol symbol.Semicolon) (λ v. done s) (done_good n s))
 
+-- ---- the clauses of a CREATE
+
+-- a reader that begins with this token, and says of no first token that it is too long a name
+record Begun {S : Type 0} (n : ℕ) (read : Reader S) (t : Token) : Type 0 where
+  sound : Sound n read t
+  unnamed : Unnamed n read
+
+-- what begins the last of the ways, where an ORDER BY came and where none did
+start : Bool → Token
+start true = token.Symbol symbol.Semicolon
+start false = token.Word (codes "ORDER")
+
+no_partition : (seen : List Clause) (has : Bool) → by_partition seen (start has) ≡ false
+unfolding start
+no_partition seen true = refl
+no_partition seen false = refl
+
+no_primary : (seen : List Clause) (has : Bool) → by_primary seen (start has) ≡ false
+unfolding start
+no_primary seen true = refl
+no_primary seen false = refl
+
+no_settings : (seen : List Clause) (has : Bool) → by_settings seen (start has) ≡ false
+unfolding start
+no_settings seen true = refl
+no_settings seen false = refl
+
+module _ {S : Type 0} (n : ℕ) where
+  begun : (k : List ℕ) → is_keyword k k ≡ true → (next : Reader S) (u : Token) → Sound n next u → Begun n (expect (keyword k) (λ v. next)) (token.Word k)
+  begun k is next u sound = record { sound = keyword_then n k is next u sound; unnamed = keyword_unnamed n k next sound.good }
+
+  ends_begun : (s : S) → Begun n (ends s) (token.Symbol symbol.Semicolon)
+  ends_begun s = record { sound = ends_sound n s; unnamed = λ p ps less e. passing_unnamed n (is_symbol symbol.Semicolon) (λ v. done s) (done_good n s) p ps (omega arith) e }
+
+  choose_begun : (test : Token → Bool) (this other : Reader S) (t u : Token) → test u ≡ false → Begun n this t → Begun n other u → Begun n (choose test this other) u
+  choose_begun test this other t u fails first second = record {
+    sound = choose_other_sound n test this other u fails first.sound.good second.sound (unnamed_apart n test this first.unnamed) (unnamed_apart n test other second.unnamed);
+    unnamed = choose_unnamed n test this other first.unnamed second.unnamed;
+  }
+
+  -- one clause more, whichever it is
+  module _ (more : Clause → Reader S) (live : (c : Clause) → Live n (more c)) where
+    order_by_begun : Begun n (order_by more) (token.Word (codes "ORDER"))
+    order_by_begun =
+        begun (codes "ORDER") refl (expect (keyword (codes "BY")) (λ v. key (λ names. more (clause.OrderBy names)))) (token.Word (codes "BY"))
+        (keyword_then n (codes "BY") refl (key (λ names. more (clause.OrderBy names))) (token.Symbol symbol.Open) (key_sound n (λ names. more (clause.OrderBy names)) (λ names. live (clause.OrderBy names))))
+
+    partition_by_begun : Begun n (partition_by more) (token.Word (codes "PARTITION"))
+    partition_by_begun =
+        begun (codes "PARTITION") refl (expect (keyword (codes "BY")) (λ v. expect name (λ w. more (clause.PartitionBy w)))) (token.Word (codes "BY"))
+        (keyword_then n (codes "BY") refl (expect name (λ w. more (clause.PartitionBy w))) a_name (names_live n (λ w. more (clause.PartitionBy w)) (λ w. live (clause.PartitionBy w))))
+
+    primary_key_begun : Begun n (primary_key more) (token.Word (codes "PRIMARY"))
+    primary_key_begun =
+        begun (codes "PRIMARY") refl (expect (keyword (codes "KEY")) (λ v. key (λ names. more (clause.PrimaryKey names)))) (token.Word (codes "KEY"))
+        (keyword_then n (codes "KEY") refl (key (λ names. more (clause.PrimaryKey names))) (token.Symbol symbol.Open) (key_sound n (λ names. more (clause.PrimaryKey names)) (λ names. live (clause.PrimaryKey names))))
+
+    settings_begun : Begun n (settings more) (token.Word (codes "SETTINGS"))
+    settings_begun =
+        let digits = digits_live n (λ d. more (clause.Granularity d)) (λ d. live (clause.Granularity d)) in
+        let equal = passes n (is_symbol symbol.Equal) (token.Symbol symbol.Equal) refl (λ v. expect number (λ d. more (clause.Granularity d))) a_number digits in
+        let named = passes n (is_word (same_bytes (codes "index_granularity"))) (token.Word (codes "index_granularity")) refl (λ v. expect (the symbol.Equal) (λ v. expect number (λ d. more (clause.Granularity d)))) (token.Symbol symbol.Equal) equal in
+        begun (codes "SETTINGS") refl (expect (exactly (codes "index_granularity")) (λ v. expect (the symbol.Equal) (λ v. expect number (λ d. more (clause.Granularity d))))) (token.Word (codes "index_granularity")) named
+
+    last_begun : (has : Bool) (over : Reader S) → Begun n over (token.Symbol symbol.Semicolon) → Begun n (either has over (order_by more)) (start has)
+    unfolding start
+    last_begun true over ending = ending
+    last_begun false over ending = order_by_begun
+
+    clause_begun : (seen : List Clause) (over : Reader S) → Begun n over (token.Symbol symbol.Semicolon) → Begun n (clause_or_over seen more over) (start (list_any is_order_by seen))
+    clause_begun seen over ending =
+        let has = list_any is_order_by seen in
+        choose_begun (by_partition seen) (partition_by more) (no_partition_way seen more over) (token.Word (codes "PARTITION")) (start has) (no_partition seen has) partition_by_begun
+        (choose_begun (by_primary seen) (primary_key more) (no_primary_way seen more over) (token.Word (codes "PRIMARY")) (start has) (no_primary seen has) primary_key_begun
+        (choose_begun (by_settings seen) (settings more) (last_way seen more over) (token.Word (codes "SETTINGS")) (start has) (no_settings seen has) settings_begun (last_begun has over ending)))
+
+  -- all clauses, and then the statement's end
+  module _ (next : List Clause → Reader S) (ending : (cs : List Clause) → Begun n (next cs) (token.Symbol symbol.Semicolon)) where
+    clauses_live : (count : ℕ) (seen : List Clause) → Live n (clauses_within count seen next)
+    clauses_live zero seen = live_of n (next seen) (token.Symbol symbol.Semicolon) (ending seen).sound
+    clauses_live (suc count) seen =
+        let more = λ (c : Clause). clauses_within count (seen ++ c ∷ []) next in
+        let live = λ (c : Clause). clauses_live count (seen ++ c ∷ []) in
+        live_of n (clause_or_over seen more (next seen)) (start (list_any is_order_by seen)) (clause_begun more live seen (next seen) (ending seen)).sound
+
+    clauses_sound : Sound n (clauses next) (token.Word (codes "ORDER"))
+    unfolding start
+    clauses_sound = (clause_begun (λ c. clauses_within 3 (c ∷ []) next) (λ c. clauses_live 3 (c ∷ [])) [] (next []) (ending [])).sound
+
 -- ---- statements, each after its first keyword
 
 module _ (n : ℕ) where
@@ -134,28 +241,28 @@ module _ (n : ℕ) where
       (λ columns. passes n (is_symbol symbol.Close) (token.Symbol symbol.Close) refl (λ v. next columns) u (sound columns)))
 
   -- what follows the columns of a CREATE
-  key_read : (List (List ℕ) → Statement) → Reader Statement
-  key_read made = expect (keyword (codes "ENGINE")) (λ v. expect (the symbol.Equal) (λ v. engine (clauses (λ names. ends (made names)))))
+  clauses_read : (List Clause → Statement) → Reader Statement
+  clauses_read made = expect (keyword (codes "ENGINE")) (λ v. expect (the symbol.Equal) (λ v. engine (clauses (λ cs. ends (made cs)))))
 
-  key_read_sound : (made : List (List ℕ) → Statement) → Sound n (key_read made) (token.Word (codes "ENGINE"))
-  unfolding key_read
-  key_read_sound made =
-      let order = clauses_sound n (λ names. ends (made names)) (token.Symbol symbol.Semicolon) (λ names. ends_sound n (made names)) in
-      let merge_tree = engine_sound n (clauses (λ names. ends (made names))) (token.Word (codes "ORDER")) refl order in
-      keyword_then n (codes "ENGINE") refl (expect (the symbol.Equal) (λ v. engine (clauses (λ names. ends (made names))))) (token.Symbol symbol.Equal)
-      (passes n (is_symbol symbol.Equal) (token.Symbol symbol.Equal) refl (λ v. engine (clauses (λ names. ends (made names)))) (token.Word (codes "MergeTree")) merge_tree)
+  clauses_read_sound : (made : List Clause → Statement) → Sound n (clauses_read made) (token.Word (codes "ENGINE"))
+  unfolding clauses_read
+  clauses_read_sound made =
+      let all = clauses_sound n (λ cs. ends (made cs)) (λ cs. ends_begun n (made cs)) in
+      let merge_tree = engine_sound n (clauses (λ cs. ends (made cs))) (token.Word (codes "ORDER")) refl all in
+      keyword_then n (codes "ENGINE") refl (expect (the symbol.Equal) (λ v. engine (clauses (λ cs. ends (made cs))))) (token.Symbol symbol.Equal)
+      (passes n (is_symbol symbol.Equal) (token.Symbol symbol.Equal) refl (λ v. engine (clauses (λ cs. ends (made cs)))) (token.Word (codes "MergeTree")) merge_tree)
 
   -- what follows CREATE
   create_read : List ℕ → Reader Statement
   create_read text =
       expect (keyword (codes "TABLE")) (λ v. expect name (λ table. expect (the symbol.Open) (λ v. list_of column (λ columns. expect (the symbol.Close) (λ v.
-      key_read (λ names. statement.Create (record { text = text; table = table; columns = columns; key = names })))))))
+      clauses_read (λ cs. statement.Create (record { text = text; table = table; columns = columns; clauses = cs })))))))
 
   create_read_sound : (text : List ℕ) → Sound n (create_read text) (token.Word (codes "TABLE"))
   unfolding create_read
   create_read_sound text =
-      let columns_then = λ (table : List ℕ) (columns : List Column). key_read (λ names. statement.Create (record { text = text; table = table; columns = columns; key = names })) in
-      let sound = λ (table : List ℕ). columns_sound (columns_then table) (token.Word (codes "ENGINE")) (λ columns. key_read_sound (λ names. statement.Create (record { text = text; table = table; columns = columns; key = names }))) in
+      let columns_then = λ (table : List ℕ) (columns : List Column). clauses_read (λ cs. statement.Create (record { text = text; table = table; columns = columns; clauses = cs })) in
+      let sound = λ (table : List ℕ). columns_sound (columns_then table) (token.Word (codes "ENGINE")) (λ columns. clauses_read_sound (λ cs. statement.Create (record { text = text; table = table; columns = columns; clauses = cs }))) in
       keyword_then n (codes "TABLE") refl (expect name (λ table. expect (the symbol.Open) (λ v. list_of column (λ columns. expect (the symbol.Close) (λ v. columns_then table columns))))) a_name
       (names_then n (λ table. expect (the symbol.Open) (λ v. list_of column (λ columns. expect (the symbol.Close) (λ v. columns_then table columns)))) (token.Symbol symbol.Open) sound)
 
@@ -190,7 +297,7 @@ module _ (n : ℕ) where
       (names_then n (λ table. ends (statement.Select (record { columns = columns; table = table }))) (token.Symbol symbol.Semicolon) (λ table. ends_sound n (statement.Select (record { columns = columns; table = table })))))
 
   statement_sound : (text lines : List ℕ) (ended : Bool) → Sound n (statement_reader text lines ended) (token.Word (codes "CREATE"))
-  unfolding create_read insert_read select_read key_read
+  unfolding create_read insert_read select_read clauses_read
   statement_sound text lines ended =
       let create_ = keyword_then n (codes "CREATE") refl (create_read text) (token.Word (codes "TABLE")) (create_read_sound text) in
       let insert_ = keyword_then n (codes "INSERT") refl (insert_read lines ended) (token.Word (codes "INTO")) (insert_read_sound lines ended) in

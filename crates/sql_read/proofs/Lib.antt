@@ -7,6 +7,7 @@ pub mod FirstWords
 pub mod Growth
 pub mod Keywords
 pub mod Listed
+pub mod NextClauses
 pub mod Nexts
 pub mod Pieces
 pub mod Sections

@@ -1,13 +1,13 @@
 // What is left of a statement's tokens, read from the left.
 ghost use Rattle.std.specs.Prelude.{◌≡◌, ◌<◌, ◌≤◌, Bool, length, OnOk, codes};
 ghost use Rattle.mt_values.specs.declared.token.Token.{Token};
-ghost use Rattle.mt_values.specs.Grammar.{exactly, fits_name, format, is_format, is_reserved, is_symbol, is_word, keyword, name, passing, plain, same_bytes, the, type_named};
+ghost use Rattle.mt_values.specs.Grammar.{exactly, fits_name, format, is_format, is_reserved, is_symbol, is_word, keyword, name, number, passing, plain, same_bytes, the, type_named};
 ghost use Rattle.mt_values.specs.Readers.{expect};
 ghost use Rattle.mt_values.specs.Tokens.{is_keyword};
 ghost use Rattle.sql_read.specs.Reads.{Reads, Skips, first_is};
 
 use mt_base::{NAME_LIMIT, Stop, Twin};
-use mt_values::{ColType, Name, Placed, Slip, Symbol, Token};
+use mt_values::{Bytes, ColType, Name, Placed, Slip, Symbol, Token};
 use std::alloc::Global;
 use std::marker::Model;
 
@@ -286,5 +286,20 @@ impl<'a> Cursor<'a> {
             }
             Err(slip) => Err(Stop::Refused(slip)),
         }
+    }
+    /// Takes a number, and gives its digits.
+    pub fn number(&mut self, alloc: Global) -> Result<Bytes, Stop<Slip>>
+        ensures read { Reads (expect number) self.old result self.new }
+        ensures less { OnOk result (length self.new < length self.old) }
+    {
+        let [first, more @ ..] = self.rest else {
+            return Err(Stop::Refused(Slip::Wrong));
+        };
+        let Token::Number(digits) = &first.token else {
+            return Err(Stop::Refused(Slip::Wrong));
+        };
+        let digits = digits.twin(alloc)?;
+        self.rest = more;
+        Ok(digits)
     }
 }

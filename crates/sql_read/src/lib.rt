@@ -2,6 +2,7 @@
 #![tactic(auto)]
 
 mod blanks;
+mod clauses;
 mod cursor;
 mod escapes;
 mod grammar;

@@ -1,14 +1,14 @@
 // The productions of the grammar, each of which takes its tokens from the left.
 ghost use Rattle.std.specs.Prelude.{◌<◌, ◌∷◌, [], Bool, List, OnOk, length};
 ghost use Rattle.mt_values.specs.declared.token.Placed.{Placed};
-ghost use Rattle.mt_values.specs.Grammar.{clauses, column, create, insert, key, list_of, one_name, select, selection};
-ghost use Rattle.sql_read.specs.Parts.{created_columns, created_key, engine_part, inserted_format, selected_table, table_behind};
+ghost use Rattle.mt_values.specs.Grammar.{column, create, insert, key, list_of, one_name, select, selection};
+ghost use Rattle.sql_read.specs.Parts.{created_clauses, created_columns, engine_part, inserted_format, key_after, name_after, selected_table};
 ghost use Rattle.sql_read.specs.Reads.{Ends, IsRead, Reads, ReadsEnd};
 
 use crate::cursor::Cursor;
 use mt_base::{Seq, Stop};
 use mt_values::{
-    Column, CreateText, InsertText, Name, SelectText, Selected, Slip, Statement, Symbol,
+    Clause, Column, CreateText, InsertText, Name, SelectText, Selected, Slip, Statement, Symbol,
 };
 use std::alloc::Global;
 
@@ -73,15 +73,6 @@ impl Cursor<'_> {
         only(alloc, name)
     }
 
-    // clauses = ORDER BY key
-    fn clauses(&mut self, alloc: Global) -> Result<Seq<Name>, Stop<Slip>>
-        ensures { Reads clauses self.old result self.new }
-    {
-        self.keyword(b"ORDER")?;
-        self.keyword(b"BY")?;
-        self.key(alloc)
-    }
-
     // engine = MergeTree [ "(" ")" ]
     fn engine(&mut self) -> Result<(), Stop<Slip>>
         ensures { Reads engine_part self.old result self.new }
@@ -115,18 +106,32 @@ impl Cursor<'_> {
         Ok(())
     }
 
-    // Two keywords and a name, as CREATE TABLE name.
-    fn table_behind(
+    /// Two keywords and a name, as CREATE TABLE name.
+    pub fn name_after(
         &mut self,
         alloc: Global,
         first: &[u8],
         second: &[u8],
     ) -> Result<Name, Stop<Slip>>
-        ensures { Reads (table_behind first.now second.now) self.old result self.new }
+        ensures { Reads (name_after first.now second.now) self.old result self.new }
     {
         self.keyword(first)?;
         self.keyword(second)?;
         self.name(alloc)
+    }
+
+    /// Two keywords and a key, as ORDER BY key.
+    pub fn key_after(
+        &mut self,
+        alloc: Global,
+        first: &[u8],
+        second: &[u8],
+    ) -> Result<Seq<Name>, Stop<Slip>>
+        ensures { Reads (key_after first.now second.now) self.old result self.new }
+    {
+        self.keyword(first)?;
+        self.keyword(second)?;
+        self.key(alloc)
     }
 
     // "(" element { "," element } ")"
@@ -140,8 +145,8 @@ impl Cursor<'_> {
     }
 
     // ENGINE "=" engine clauses
-    fn created_key(&mut self, alloc: Global) -> Result<Seq<Name>, Stop<Slip>>
-        ensures { Reads created_key self.old result self.new }
+    fn created_clauses(&mut self, alloc: Global) -> Result<Seq<Clause>, Stop<Slip>>
+        ensures { Reads created_clauses self.old result self.new }
     {
         self.keyword(b"ENGINE")?;
         self.symbol(Symbol::Equal)?;
@@ -174,16 +179,16 @@ impl Cursor<'_> {
     pub fn create(&mut self, alloc: Global, text: &[u8]) -> Result<Statement, Stop<Slip>>
         ensures { IsRead (create text.now) self.old result self.new }
     {
-        let table = self.table_behind(alloc, b"CREATE", b"TABLE")?;
+        let table = self.name_after(alloc, b"CREATE", b"TABLE")?;
         let columns = self.created_columns(alloc)?;
-        let key = self.created_key(alloc)?;
+        let clauses = self.created_clauses(alloc)?;
         self.end()?;
         let text = Seq::from_slice(alloc, text)?;
         Ok(Statement::Create(CreateText {
             text,
             table,
             columns,
-            key,
+            clauses,
         }))
     }
 
@@ -196,7 +201,7 @@ impl Cursor<'_> {
     ) -> Result<Statement, Stop<Slip>>
         ensures { IsRead (insert lines.now ended) self.old result self.new }
     {
-        let table = self.table_behind(alloc, b"INSERT", b"INTO")?;
+        let table = self.name_after(alloc, b"INSERT", b"INTO")?;
         self.inserted_format()?;
         let lines = Seq::from_slice(alloc, lines)?;
         Ok(Statement::Insert(InsertText {

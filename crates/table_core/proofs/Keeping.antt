@@ -24,7 +24,6 @@ use Rattle.mt_values.specs.Values.{Row}
 use Rattle.mt_values.proofs.Grids.{filter_map_more}
 use Rattle.mt_model.specs.History.{History, IsAllowed, IsInsertInto, IsLegal, IsLegalAfter, IsTableSchema, creates, entered, first_of, is_create, schema_by, schema_of}
 use Rattle.mt_model.specs.Live.{sorted}
-use Rattle.mt_model.proofs.Commands.{own_partition}
 use Rattle.mt_model.proofs.Determined.{key_total}
 use Rattle.mt_model.proofs.Histories.{numbered_more, schema_kept, schema_more}
 use Rattle.mt_model.proofs.SameKeys.{stable_is_sorted}
@@ -35,13 +34,14 @@ use Rattle.table_core.specs.declared.store.Store.{Store}
 use Rattle.table_core.specs.declared.store.Table.{Table}
 use Rattle.table_core.specs.Core.{Core, IsCore}
 use Rattle.mt_model.specs.Numbers.{draws, numbered}
-use Rattle.part_history.specs.Parts.{AreInBlockOrder, core_parts_of}
-use Rattle.part_history.specs.Entered.{part_of_insert}
+use Rattle.part_history.specs.Parts.{AreInBlockOrder, TableStands, core_parts_of}
+use Rattle.part_history.specs.Entered.{part_of_insert, parts_after, parts_upto, with_part}
 use Rattle.table_core.specs.Steps.{AcceptsInsert, AddsPart, snapshot_of}
-use Rattle.table_core.specs.Store.{AddsTable, IsNotNamed, IsStore, Named, SameTables, StandsAt, TableKept, core_of, empty_table, name_by, parts_of_tables, table_names, with_part}
-use Rattle.part_history.proofs.Growing.{drawn_apart, drawn_here}
-use Rattle.part_history.proofs.Ordered.{order_grown}
-use Rattle.table_core.proofs.Stepping.{create_core, insert_core, parts_last, take_core}
+use Rattle.table_core.specs.Store.{AddsTable, IsNotNamed, IsStore, Named, SameTables, StandsAt, TableKept, core_of, empty_table, grown_table, name_by, parts_of_tables, table_names}
+use Rattle.part_history.proofs.Growing.{drawn_apart, drawn_here, placed_all}
+use Rattle.part_history.proofs.Numbered.{legal_schema}
+use Rattle.part_history.proofs.Ordered.{order_grown, parts_parted}
+use Rattle.table_core.proofs.Stepping.{create_core, insert_core, take_core}
 use Rattle.table_core.proofs.Stored.{one_value, same_turned, set_here, slice_here}
 
 -- ---- histories
@@ -74,22 +74,6 @@ there t (e ∷ h) = there_by t e.command (schema_of t h) (table_names h) (there 
 none_from : {X : Type 0} (o : Option X) → is_some o ≡ false → o ≡ None
 none_from None h = refl
 none_from (Some x) h = cc
-
-schema_after : (t : List ℕ) (before h : History) (schema : Schema) → IsLegalAfter before h → schema_of t h ≡ Some schema → IsTableSchema schema
-schema_after t before [] schema legal is = cc
-schema_after t before (e ∷ h) schema legal is = by e.command legal.0 is (λ later. schema_after t (before ++ e ∷ []) h schema legal.1 later)
-  where
-    by : (c : Command) → IsAllowed before c → first_of (schema_by t c) (schema_of t h) ≡ Some schema → (schema_of t h ≡ Some schema → IsTableSchema schema) → IsTableSchema schema
-    by (command.Create c) allowed first rest = named (same_bytes c.table t) first
-      where
-        named : (b : Bool) → first_of (cond b (Some c.schema) None) (schema_of t h) ≡ Some schema → IsTableSchema schema
-        named true same = let one : c.schema ≡ schema = cc in subst IsTableSchema one allowed.2
-        named false same = rest same
-    by (command.Insert i) allowed first rest = rest first
-
--- the schema of a table of a legal history is one that a table may have
-pub legal_schema : (t : List ℕ) (h : History) (schema : Schema) → IsLegal h → schema_of t h ≡ Some schema → IsTableSchema schema
-legal_schema t h schema legal is = schema_after t [] h schema legal is
 
 none_after : (t : List ℕ) (before h : History) → IsLegalAfter before h → schema_of t (before ++ h) ≡ None → numbered t h ≡ []
 none_after t before [] legal none = refl
@@ -204,6 +188,18 @@ all_both : {X : Type 0} (P : X → Type 0) (xs ys : List X) → AllByRecursion P
 all_both P [] ys one two = two
 all_both P (x ∷ xs) ys one two = (one.0, all_both P xs ys one.1 two)
 
+-- the parts of a table among tables of other names
+parts_between : (t : List ℕ) (h : History) (front back : List Named) (here : Named) → AllByRecursion (IsNotNamed t) front → AllByRecursion (IsNotNamed t) back
+    → AllByRecursion (TableKept h) front → AllByRecursion (TableKept h) back → All (λ (p : CorePart). p.table ≡ t) here.1.parts → core_parts_of t (parts_of_tables (front ++ here ∷ back)) ≡ here.1.parts
+parts_between t h front back here before behind first last own =
+    let f : CorePart → Bool = λ p. same_bytes p.table t in
+    ap (core_parts_of t) (flat_map-append (λ (x : Named). x.1.parts) front (here ∷ back))
+    ∙ (filter-append f (parts_of_tables front) (here.1.parts ++ parts_of_tables back)
+    ∙ (ap₂ (λ (xs ys : List CorePart). xs ++ ys) (parts_apart t h front before first)
+    (filter-append f here.1.parts (parts_of_tables back)
+    ∙ ap₂ (λ (xs ys : List CorePart). xs ++ ys) (own_all t here.1.parts (recursion_from_All (λ (p : CorePart). p.table ≡ t) here.1.parts own)) (parts_apart t h back behind last))
+    ∙ append-nil here.1.parts))
+
 module _ (store : Store) (is : IsStore store) (t : List ℕ) (place : ℕ) (s : StandsAt store.tables.entries t place) where
   pub kept_all : AllByRecursion (TableKept store.entries.items) (s.front ++ s.here ∷ s.back)
   kept_all = recursion_from_All (TableKept store.entries.items) (s.front ++ s.here ∷ s.back) (subst (All (TableKept store.entries.items)) s.tables_are is.each)
@@ -217,15 +213,11 @@ module _ (store : Store) (is : IsStore store) (t : List ℕ) (place : ℕ) (s : 
   -- a table's parts are those that it has
   pub parts_here : core_parts_of t (parts_of_tables store.tables.entries) ≡ s.here.1.parts
   parts_here =
-      let f : CorePart → Bool = λ p. same_bytes p.table t in
       let own : All (λ (p : CorePart). p.table ≡ t) s.here.1.parts = subst (λ (n : List ℕ). All (λ (p : CorePart). p.table ≡ n) s.here.1.parts) s.name_is (kept_here store is t place s).own in
-      ap (λ ts. core_parts_of t (parts_of_tables ts)) s.tables_are
-      ∙ (ap (core_parts_of t) (flat_map-append (λ (x : Named). x.1.parts) s.front (s.here ∷ s.back))
-      ∙ (filter-append f (parts_of_tables s.front) (s.here.1.parts ++ parts_of_tables s.back)
-      ∙ (ap₂ (λ (xs ys : List CorePart). xs ++ ys) (parts_apart t store.entries.items s.front s.before kept_front)
-      (filter-append f s.here.1.parts (parts_of_tables s.back)
-      ∙ ap₂ (λ (xs ys : List CorePart). xs ++ ys) (own_all t s.here.1.parts (recursion_from_All (λ (p : CorePart). p.table ≡ t) s.here.1.parts own)) (parts_apart t store.entries.items s.back s.behind kept_back))
-      ∙ append-nil s.here.1.parts)))
+      ap (λ ts. core_parts_of t (parts_of_tables ts)) s.tables_are ∙ parts_between t store.entries.items s.front s.back s.here s.before s.behind kept_front kept_back own
+
+  pub order_here : AreInBlockOrder s.here.1.parts
+  order_here = subst AreInBlockOrder parts_here (is.core.order t)
 
 -- ---- a CREATE
 
@@ -273,51 +265,71 @@ module _ (old new : Store) (session : ℕ) (c : Create) (is : IsStore old) (adds
 
 module _ (old new : Store) (session : ℕ) (i : Insert) (place number : ℕ) (is : IsStore old) (s : StandsAt old.tables.entries i.table place)
     (drawn : number ≡ length (numbered i.table old.entries.items) + 1) (fits : number ≤ 4294967295)
-    (tables : new.tables.entries ≡ set_value_at old.tables.entries place (with_part s.here.1 (part_of_insert s.here.1.schema number i) number))
+    (tables : new.tables.entries ≡ set_value_at old.tables.entries place (grown_table s.here.1 (part_of_insert s.here.1.schema number i) number))
     (entries : new.entries.items ≡ entered old.entries.items session (command.Insert i ∷ [])) (snapshots : new.snapshots.items ≡ old.snapshots.items) where
   abbrev part : CorePart
   part = part_of_insert s.here.1.schema number i
 
   abbrev grown : Named
-  grown = (s.here.0, with_part s.here.1 part number)
+  grown = (s.here.0, grown_table s.here.1 part number)
+
+  abbrev upto : List CorePart
+  upto = parts_upto i.partition s.here.1.parts
+
+  abbrev later : List CorePart
+  later = parts_after i.partition s.here.1.parts
 
   tables_now : new.tables.entries ≡ s.front ++ grown ∷ s.back
   tables_now =
       tables
-      ∙ (ap₂ (λ (ts : List Named) (k : ℕ). set_value_at ts k (with_part s.here.1 part number)) s.tables_are s.place_is ∙ set_here s.front s.back s.here (with_part s.here.1 part number))
+      ∙ (ap₂ (λ (ts : List Named) (k : ℕ). set_value_at ts k (grown_table s.here.1 part number)) s.tables_are s.place_is ∙ set_here s.front s.back s.here (grown_table s.here.1 part number))
 
-  abbrev before : List CorePart
-  before = parts_of_tables s.front ++ s.here.1.parts
+  -- its place is after the parts of its partition
+  parted : upto ++ later ≡ s.here.1.parts
+  parted = parts_parted i.partition s.here.1.parts (order_here old is i.table place s)
 
-  old_are : parts_of_tables old.tables.entries ≡ before ++ parts_of_tables s.back
-  old_are = ap parts_of_tables s.tables_are ∙ (flat_map-append (λ (t : Named). t.1.parts) s.front (s.here ∷ s.back) ∙ sym (append_assoc (parts_of_tables s.front) s.here.1.parts (parts_of_tables s.back)))
+  old_are : parts_of_tables old.tables.entries ≡ (parts_of_tables s.front ++ upto) ++ (later ++ parts_of_tables s.back)
+  old_are =
+      ap parts_of_tables s.tables_are
+      ∙ (flat_map-append (λ (t : Named). t.1.parts) s.front (s.here ∷ s.back)
+      ∙ (ap (λ (ps : List CorePart). parts_of_tables s.front ++ (ps ++ parts_of_tables s.back)) (sym parted)
+      ∙ (ap (λ (ps : List CorePart). parts_of_tables s.front ++ ps) (append_assoc upto later (parts_of_tables s.back))
+      ∙ sym (append_assoc (parts_of_tables s.front) upto (later ++ parts_of_tables s.back)))))
 
-  new_are : parts_of_tables new.tables.entries ≡ before ++ part ∷ parts_of_tables s.back
+  new_are : parts_of_tables new.tables.entries ≡ (parts_of_tables s.front ++ upto) ++ part ∷ (later ++ parts_of_tables s.back)
   new_are =
       ap parts_of_tables tables_now
       ∙ (flat_map-append (λ (t : Named). t.1.parts) s.front (grown ∷ s.back)
-      ∙ (ap (λ (ps : List CorePart). parts_of_tables s.front ++ ps) (append_assoc s.here.1.parts (part ∷ []) (parts_of_tables s.back)) ∙ sym (append_assoc (parts_of_tables s.front) s.here.1.parts (part ∷ parts_of_tables s.back))))
+      ∙ (ap (λ (ps : List CorePart). parts_of_tables s.front ++ ps) (append_assoc upto (part ∷ later) (parts_of_tables s.back))
+      ∙ sym (append_assoc (parts_of_tables s.front) upto (part ∷ (later ++ parts_of_tables s.back)))))
 
-  -- the part is the last of its table, and that is its place
-  ordered : IsInsertInto s.here.1.schema i → AreInBlockOrder (core_parts_of i.table (parts_of_tables new.tables.entries))
-  ordered into =
+  own_grown : All (λ (p : CorePart). p.table ≡ s.here.0.items) (with_part part s.here.1.parts)
+  own_grown =
+      let mine : CorePart → Type 0 = λ p. p.table ≡ s.here.0.items in
+      placed_all mine upto later part
+      (subst (λ (ps : List CorePart). All mine (ps ++ part ∷ [])) (sym parted) (All-push mine s.here.1.parts part (kept_here old is i.table place s).own (sym s.name_is)))
+
+  ordered : AreInBlockOrder (core_parts_of i.table (parts_of_tables new.tables.entries))
+  ordered =
       let h = old.entries.items in
-      let mine = core_parts_of i.table (parts_of_tables old.tables.entries) in
-      let last = parts_apart i.table h s.back s.behind (kept_back old is i.table place s) in
-      subst AreInBlockOrder (sym (parts_last part before (parts_of_tables s.back) (parts_of_tables old.tables.entries) (parts_of_tables new.tables.entries) old_are new_are last))
-      (subst (λ n. AreInBlockOrder (mine ++ part_of_insert s.here.1.schema n i ∷ [])) (sym drawn)
-      (order_grown h i s.here.1.schema mine is.core.legal (own_partition s.here.1.schema i into) (is.core.parts i.table) (is.core.order i.table)))
+      let now : core_parts_of i.table (parts_of_tables new.tables.entries) ≡ with_part part s.here.1.parts =
+      ap (λ ts. core_parts_of i.table (parts_of_tables ts)) tables_now
+      ∙ parts_between i.table h s.front s.back grown s.before s.behind (kept_front old is i.table place s) (kept_back old is i.table place s) (subst (λ (n : List ℕ). All (λ (p : CorePart). p.table ≡ n) (with_part part s.here.1.parts)) s.name_is own_grown) in
+      let stand = subst (λ (ps : List CorePart). TableStands i.table ps h) (parts_here old is i.table place s) (is.core.parts i.table) in
+      subst AreInBlockOrder (sym now)
+      (subst (λ n. AreInBlockOrder (with_part (part_of_insert s.here.1.schema n i) s.here.1.parts)) (sym drawn)
+      (order_grown h i s.here.1.schema s.here.1.parts stand (order_here old is i.table place s)))
 
-  adds_part : IsInsertInto s.here.1.schema i → AddsPart part (parts_of_tables old.tables.entries) (parts_of_tables new.tables.entries)
-  adds_part into = record { front = before; behind = parts_of_tables s.back; old_is = old_are; new_is = new_are; order = ordered into }
+  adds_part : AddsPart part (parts_of_tables old.tables.entries) (parts_of_tables new.tables.entries)
+  adds_part = record { front = parts_of_tables s.front ++ upto; behind = later ++ parts_of_tables s.back; old_is = old_are; new_is = new_are; order = ordered }
 
-  pub insert_accepted : IsInsertInto s.here.1.schema i → AcceptsInsert (core_of old) session i (length old.entries.items + 1) (core_of new)
-  insert_accepted into = record {
+  pub insert_accepted : AcceptsInsert (core_of old) session i (length old.entries.items + 1) (core_of new)
+  insert_accepted = record {
     schema = s.here.1.schema;
     there = schema_here old is i.table place s;
     room = omega (arith, drawn, fits);
     place_is = refl;
-    parts = subst (λ n. AddsPart (part_of_insert s.here.1.schema n i) (parts_of_tables old.tables.entries) (parts_of_tables new.tables.entries)) drawn (adds_part into);
+    parts = subst (λ n. AddsPart (part_of_insert s.here.1.schema n i) (parts_of_tables old.tables.entries) (parts_of_tables new.tables.entries)) drawn adds_part;
     history = entries;
     snapshots = snapshots;
   }
@@ -341,7 +353,7 @@ module _ (old new : Store) (session : ℕ) (i : Insert) (place number : ℕ) (is
       record {
         schema_is = schema_kept s.here.0.items h (e ∷ []) s.here.1.schema here.schema_is;
         last_is = drawn ∙ (sym count ∙ (ap length (sym (drawn_here h e i s.here.1.schema refl (schema_here old is i.table place s))) ∙ ap (λ u. length (numbered u (h ++ e ∷ []))) (sym s.name_is)));
-        own = All-push (λ (p : CorePart). p.table ≡ s.here.0.items) s.here.1.parts part here.own (sym s.name_is);
+        own = own_grown;
       }
 
   pub insert_store : IsInsertInto s.here.1.schema i → IsStore new
@@ -352,7 +364,7 @@ module _ (old new : Store) (session : ℕ) (i : Insert) (place number : ℕ) (is
       let all : AllByRecursion (TableKept (h ++ e ∷ [])) (s.front ++ grown ∷ s.back) =
       all_both (TableKept (h ++ e ∷ [])) s.front (grown ∷ s.back) (others_still s.front s.before (kept_front old is i.table place s)) (grown_kept, others_still s.back s.behind (kept_back old is i.table place s)) in
       record {
-        core = insert_core (core_of old) (core_of new) session i (length h + 1) is.core (insert_accepted into) into;
+        core = insert_core (core_of old) (core_of new) session i (length h + 1) is.core insert_accepted into;
         names = ap (map name) tables_now
             ∙ (map-append name s.front (grown ∷ s.back)
             ∙ (sym (map-append name s.front (s.here ∷ s.back))

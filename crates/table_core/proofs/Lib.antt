@@ -1,3 +1,4 @@
+pub mod Ends
 pub mod Keeping
 pub mod Stepping
 pub mod Stored

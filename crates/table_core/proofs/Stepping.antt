@@ -1,10 +1,8 @@
 -- What always holds of the core, after one more event.
-use Rattle.std.proofs.Common.{◌≡◌, ℕ, ◌+◌, ◌<◌, Bool, true, false, cond, List, [], ◌∷◌, ◌++◌, Some, None, length, take, drop, slice_get, All, refl, sym, ap, ap₂, ◌∙◌, subst, append-nil, length-append, arith}
+use Rattle.std.proofs.Common.{◌≡◌, ℕ, ◌<◌, Bool, true, false, cond, List, [], ◌∷◌, ◌++◌, Some, None, length, take, drop, slice_get, All, refl, sym, ap, ◌∙◌, subst, length-append, arith}
 use Rattle.std.specs.Prelude.{IsSome}
-use Rattle.std.specs.List.{AllByRecursion, count_by}
 use Rattle.std.proofs.lemmas.List.{take_all, take-append-drop, take-append-le}
-use Rattle.std.proofs.lemmas.List.Elements.{All-from_recursion, All-nil, All-push, All-weaker, filter-append, recursion_from_All}
-use Rattle.std.proofs.lemmas.List.Sums.{sum_by-cons}
+use Rattle.std.proofs.lemmas.List.Elements.{All-nil, All-push, All-weaker, filter-append}
 use Rattle.std.proofs.lemmas.Option.{get_or_from_slice_get, slice_get_within}
 use Rattle.mt_values.specs.declared.command.Command.TheVariants as command
 use Rattle.mt_values.specs.declared.command.Create.{Create}
@@ -26,10 +24,10 @@ use Rattle.table_core.specs.declared.event.Outcome.TheVariants as outcome
 use Rattle.part_history.specs.declared.part.CorePart.{CorePart}
 use Rattle.table_core.specs.declared.snapshot.Snapshot.{Snapshot}
 use Rattle.table_core.specs.Core.{Core, IsCore, IsSnapshot}
-use Rattle.part_history.specs.Parts.{AreInBlockOrder, PartStands, PartsStand, TableStands, has_block, core_parts_of, rows_of_parts}
+use Rattle.part_history.specs.Parts.{AreInBlockOrder, PartsStand, TableStands, core_parts_of, rows_of_parts}
 use Rattle.part_history.specs.Entered.{next_number, part_of_insert}
 use Rattle.table_core.specs.Steps.{AcceptGives, AcceptsInsert, AddsPart, AreLeftOf, CrashMeets, GivesOutcome, MayAccept, MayCome, MayCrash, snapshot_of, without_snapshots}
-use Rattle.part_history.proofs.Growing.{count_push, drawn_apart, table_grown, table_kept}
+use Rattle.part_history.proofs.Growing.{drawn_apart, table_entered, table_kept}
 use Rattle.part_history.proofs.Joined.{parts_joined}
 
 -- ---- one part more
@@ -51,53 +49,12 @@ parts_before t part old new a =
     let f : CorePart → Bool = λ p. same_bytes p.table t in
     ap (core_parts_of t) a.old_is ∙ filter-append f a.front a.behind
 
--- a part after which none of its table stands is the last of its table
-pub parts_last : (part : CorePart) (front behind old new : List CorePart) → old ≡ front ++ behind → new ≡ front ++ part ∷ behind → core_parts_of part.table behind ≡ []
-    → core_parts_of part.table new ≡ core_parts_of part.table old ++ part ∷ []
-parts_last part front behind old new old_is new_is last =
-    let t = part.table in
-    let f : CorePart → Bool = λ p. same_bytes p.table t in
-    let was : core_parts_of t old ≡ core_parts_of t front =
-    ap (core_parts_of t) old_is ∙ (filter-append f front behind ∙ (ap (λ (xs : List CorePart). core_parts_of t front ++ xs) last ∙ append-nil (core_parts_of t front))) in
-    let mine : core_parts_of t (part ∷ behind) ≡ part ∷ [] =
-    ap (λ b. cond b (part ∷ core_parts_of t behind) (core_parts_of t behind)) (itself_same t) ∙ ap (λ (xs : List CorePart). part ∷ xs) last in
-    ap (core_parts_of t) new_is ∙ (filter-append f front (part ∷ behind) ∙ ap₂ (λ (xs ys : List CorePart). xs ++ ys) (sym was) mine)
-
 pub parts_added_apart : (t : List ℕ) (part : CorePart) (old new : List CorePart) → AddsPart part old new → same_bytes part.table t ≡ false → core_parts_of t new ≡ core_parts_of t old
 parts_added_apart t part old new a apart =
     let f : CorePart → Bool = λ p. same_bytes p.table t in
     let rest : core_parts_of t (part ∷ a.behind) ≡ core_parts_of t a.behind = ap (λ b. cond b (part ∷ core_parts_of t a.behind) (core_parts_of t a.behind)) apart in
     ap (core_parts_of t) a.new_is
     ∙ (filter-append f a.front (part ∷ a.behind) ∙ (ap (λ (xs : List CorePart). core_parts_of t a.front ++ xs) rest ∙ sym (ap (core_parts_of t) a.old_is ∙ filter-append f a.front a.behind)))
-
--- ---- parts stand for a table in any order
-
-all_first : {X : Type 0} (P : X → Type 0) (xs : List X) (x : X) → AllByRecursion P (xs ++ x ∷ []) → AllByRecursion P (x ∷ xs)
-all_first P [] x all = all
-all_first P (y ∷ xs) x all = let more = all_first P xs x all.1 in (more.0, (all.0, more.1))
-
-all_placed : {X : Type 0} (P : X → Type 0) (xs ys : List X) (x : X) → AllByRecursion P ((xs ++ ys) ++ x ∷ []) → AllByRecursion P (xs ++ x ∷ ys)
-all_placed P [] ys x all = all_first P ys x all
-all_placed P (y ∷ xs) ys x all = (all.0, all_placed P xs ys x all.1)
-
--- what holds of each, with one after the others, holds of each wherever that one stands
-placed_all : {X : Type 0} (P : X → Type 0) (xs ys : List X) (x : X) → All P ((xs ++ ys) ++ x ∷ []) → All P (xs ++ x ∷ ys)
-placed_all P xs ys x all = All-from_recursion P (xs ++ x ∷ ys) (all_placed P xs ys x (recursion_from_All P ((xs ++ ys) ++ x ∷ []) all))
-
-count_placed : (f : CorePart → Bool) (ps qs : List CorePart) (p : CorePart) → count_by f (ps ++ p ∷ qs) ≡ count_by f (ps ++ qs) + cond (f p) 1 0
-count_placed f [] qs p = let one = sum_by-cons (λ (q : CorePart). cond (f q) 1 0) p qs in omega (arith, one)
-count_placed f (x ∷ ps) qs p =
-    let now = sum_by-cons (λ (q : CorePart). cond (f q) 1 0) x (ps ++ p ∷ qs) in
-    let was = sum_by-cons (λ (q : CorePart). cond (f q) 1 0) x (ps ++ qs) in
-    let more = count_placed f ps qs p in
-    omega (arith, now, was, more)
-
-table_placed : (table : List ℕ) (ps qs : List CorePart) (p : CorePart) (h : History) → TableStands table ((ps ++ qs) ++ p ∷ []) h → TableStands table (ps ++ p ∷ qs) h
-table_placed table ps qs p h s = record {
-  own = placed_all (λ (q : CorePart). q.table ≡ table) ps qs p s.own;
-  each = placed_all (PartStands h) ps qs p s.each;
-  once = λ w n is. count_placed (has_block w n) ps qs p ∙ (sym (count_push (has_block w n) (ps ++ qs) p) ∙ s.once w n is);
-}
 
 -- ---- snapshots
 
@@ -231,7 +188,7 @@ module _ (old new : Core) (session : ℕ) (i : Insert) (place : ℕ) (is : IsCor
       let was : TableStands i.table (before ++ after) h = subst (λ (ps : List CorePart). TableStands i.table ps h) (parts_before i.table part old.parts new.parts a.parts) (is.parts i.table) in
       subst (λ (ps : List CorePart). TableStands i.table ps (h ++ e ∷ []))
       (sym (parts_added_here part old.parts new.parts a.parts))
-      (table_placed i.table before after part (h ++ e ∷ []) (table_grown h e i a.schema refl a.there (before ++ after) was))
+      (table_entered h e i a.schema refl a.there before after was)
 
   stands_apart : (t : List ℕ) → same_bytes i.table t ≡ false → TableStands t (core_parts_of t new.parts) (h ++ e ∷ [])
   stands_apart t apart =

@@ -115,6 +115,12 @@ value_at [] i t is = cc
 value_at (u ∷ ts) zero t is = let one : u ≡ t = cc in ap (λ (v : Named). Some v.1) one
 value_at (u ∷ ts) (suc i) t is = value_at ts i t is
 
+-- the name of what stands there
+pub named_at : (ts : List Named) (i : ℕ) (w : Table) → slice_get (values_of ts) i ≡ Some w → (key : Vec ℕ Global) × (slice_get ts i ≡ Some (key, w))
+named_at [] i w is = cc
+named_at (t ∷ ts) zero w is = let one : t.1 ≡ w = cc in (t.0, ap (λ (v : Table). Some (t.0, v)) one)
+named_at (t ∷ ts) (suc i) w is = named_at ts i w is
+
 -- one value is read at one place
 pub one_value : {X : Type 0} (a : Option X) (x y : X) → a ≡ Some x → a ≡ Some y → x ≡ y
 one_value a x y first second = let both : Some x ≡ Some y = sym first ∙ second in cc

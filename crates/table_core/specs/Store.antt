@@ -9,6 +9,7 @@ use Rattle.mt_values.specs.declared.schema.Schema.{Schema}
 use Rattle.mt_values.specs.Grammar.{same_bytes}
 use Rattle.mt_model.specs.History.{History, schema_of}
 use Rattle.part_history.specs.declared.part.CorePart.{CorePart}
+use Rattle.part_history.specs.Entered.{with_part}
 use Rattle.table_core.specs.declared.store.Store.{Store}
 use Rattle.table_core.specs.declared.store.Table.{Table}
 use Rattle.table_core.specs.Core.{Core, IsCore}
@@ -66,9 +67,9 @@ pub record StandsAt (tables : List Named) (table : List ℕ) (place : ℕ) : Typ
 abbrev pub empty_table : Schema → Table
 empty_table schema = record { schema = schema; parts = []; last = 0 }
 
--- a table with one part more, whose number is the last that was drawn
-abbrev pub with_part : Table → CorePart → ℕ → Table
-with_part table part number = record { schema = table.schema; parts = table.parts ++ part ∷ []; last = number }
+-- a table with one part more, the last of its partition, whose number is the last that was drawn
+abbrev pub grown_table : Table → CorePart → ℕ → Table
+grown_table table part number = record { schema = table.schema; parts = with_part part table.parts; last = number }
 
 -- one table more, after the others
 pub record AddsTable (c : Create) (old new : List Named) : Type 0 where

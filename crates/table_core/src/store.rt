@@ -1,14 +1,17 @@
 // What the state keeps: the tables by their names, the accepted commands and the snapshots.
-ghost use Rattle.std.specs.Prelude.{◌≡◌, ◌<◌, ◌++◌, ◌∷◌, [], All, IfNone, IfSome, OnErr, OnOk, Some, length, option_copied, slice_get};
+ghost use Rattle.std.specs.Prelude.{◌≡◌, ◌<◌, ◌≤◌, ◌++◌, ◌∷◌, [], All, IfNone, IfSome, OnErr, OnOk, Some, drop, length, option_copied, slice_get, take};
+ghost use Rattle.std.specs.Ordering.{is_gt};
 ghost use Rattle.indexmap.specs.IndexMap.{set_value_at};
 ghost use Rattle.mt_values.specs.declared.command.Command.TheVariants as command;
 ghost use Rattle.mt_model.specs.History.{entered, schema_of};
 ghost use Rattle.table_core.specs.Core.{empty_core};
-ghost use Rattle.table_core.specs.Store.{AddsTable, IsNotNamed, IsStore, Named, SameTables, StandsAt, core_of, with_part};
+ghost use Rattle.part_history.specs.Entered.{parts_after, parts_upto};
+ghost use Rattle.part_history.specs.Parts.{AreInBlockOrder, partition_cmp};
+ghost use Rattle.table_core.specs.Store.{AddsTable, IsNotNamed, IsStore, Named, SameTables, StandsAt, core_of, grown_table};
 
 use crate::{CorePart, Snapshot};
 use indexmap::IndexMap;
-use mt_base::{NoMemory, Seq, Twin};
+use mt_base::{NoMemory, Partition, Seq, Twin};
 use mt_values::{Command, Create, Entry, Insert, Name, Schema};
 use std::alloc::Global;
 
@@ -82,7 +85,7 @@ impl Store {
         Ok(())
     }
 
-    /// Enters an INSERT after the last command, and its part after those of the table at this place.
+    /// Enters an INSERT after the last command, and its part as the last of its partition in the table at this place.
     ///
     /// `NoMemory` where an allocation failed; the store stays as it was.
     pub fn enter_part(
@@ -93,10 +96,12 @@ impl Store {
         part: CorePart,
         number: u32,
     ) -> Result<(), NoMemory>
-        requires { place < length self.old.tables.entries }
+        requires within { place < length self.old.tables.entries }
+        requires order { (t : Named) → slice_get self.old.tables.entries place ≡ Some t
+            → AreInBlockOrder t.1.parts }
         ensures tables { (t : Named) → slice_get self.old.tables.entries place ≡ Some t
             → OnOk result (self.new.tables.entries ≡ set_value_at self.old.tables.entries place
-            (with_part t.1 part number)) }
+            (grown_table t.1 part number)) }
         ensures entries { OnOk result (self.new.entries.items ≡ entered self.old.entries.items
             session (command.Insert insert ∷ [])) }
         ensures snapshots { OnOk result (self.new.snapshots.items ≡ self.old.snapshots.items) }
@@ -137,14 +142,37 @@ fn add_table(
     Ok(())
 }
 
-/// Adds a part to a table, whose number is the last that was drawn.
+/// Adds a part to a table, as the last of its partition in block order. Its number is the last that was drawn.
 ///
 /// `NoMemory` where an allocation failed; the table stays as it was.
 fn add_part(table: &mut Table, part: CorePart, number: u32) -> Result<(), NoMemory>
-    ensures ok { OnOk result (table.new ≡ with_part table.old part number) }
+    requires { AreInBlockOrder table.old.parts }
+    ensures ok { OnOk result (table.new ≡ grown_table table.old part number) }
     ensures err { OnErr result (table.new ≡ table.old) }
 {
-    table.parts.push(part)?;
+    let place = end_of(table.parts.as_slice(), part.name.partition);
+    table.parts.insert(place, part)?;
     table.last = number;
     Ok(())
+}
+
+/// The place after the parts of a partition and of those before it.
+fn end_of(parts: &[CorePart], partition: Partition) -> usize
+    requires { AreInBlockOrder parts.now }
+    ensures within { result ≤ length parts.now }
+    ensures front { take result parts.now ≡ parts_upto partition parts.now }
+    ensures back { drop result parts.now ≡ parts_after partition parts.now }
+{
+    parts.partition_point(|part| !comes_after(part.name.partition, partition))
+}
+
+/// Whether a partition comes after another in block order.
+fn comes_after(partition: Partition, other: Partition) -> bool
+    ensures { result ≡ is_gt (partition_cmp partition other) }
+{
+    match (partition, other) {
+        (Partition::Whole, _) => false,
+        (Partition::Number(_), Partition::Whole) => true,
+        (Partition::Number(number), Partition::Number(another)) => number > another,
+    }
 }

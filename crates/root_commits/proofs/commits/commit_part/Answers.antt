@@ -1,4 +1,4 @@
-use Rattle.std.proofs.Common.{◌≡◌, ◌+◌, ◌<◌, ℕ, List, Option, Some, None, refl, sym, ap, ap₂, ◌∙◌, subst, arith}
+use Rattle.std.proofs.Common.{◌≡◌, ◌+◌, ◌<◌, ℕ, List, Option, Some, None, Result, refl, sym, ap, ap₂, ◌∙◌, subst, arith}
 use Rattle.std.specs.BTreeMap.{Updates}
 use Rattle.std.specs.Cmp.Lexicographic.{slice_cmp}
 use Rattle.std.specs.Option.{ForSome}
@@ -8,8 +8,9 @@ use Rattle.mt_values.specs.declared.command.Entry.{Entry}
 use Rattle.mt_values.specs.declared.manifest.Loaded.{Loaded}
 use Rattle.mt_values.specs.Grid.{Grid}
 use Rattle.mt_values.specs.RootNames.{part_name}
-use Rattle.mt_outside.specs.Disk.{files_at, names_of}
+use Rattle.mt_outside.specs.Disk.{Told, files_at, names_of}
 use Rattle.mt_outside.specs.Files.{Files}
+use Rattle.mt_model.specs.History.{History}
 use Rattle.part_name.specs.declared.part.PartName.{PartName}
 use Rattle.part_name.specs.PartNames.{part_text}
 use Rattle.part_reader.specs.declared.reading.Part.{Part}
@@ -22,8 +23,11 @@ use Rattle.durable_commit.specs.declared.causes.Refused.TheVariants as refused
 use Rattle.root_store.specs.declared.store.CoreStore.{CoreStore}
 use Rattle.root_store.specs.declared.store.Table.{Table}
 use Rattle.durable_commit.specs.Commits.{entry_of}
-use Rattle.root_commits.specs.Commits.{EntersPart, EntersSealed, IsCause, IsSealedOf, fresh_part, insert_of_block, partition_of_block, refuses_part}
-use Rattle.root_commits.specs.Turns.{IsDone, IsInDoubt, storage, turn_of_part}
+use Rattle.root_commits.specs.declared.commits.Returned.{Returned}
+use Rattle.root_commits.specs.Commits.{EntersPart, EntersSealed, IsCause, IsSealedOf, StandsWhere, fresh_part, insert_of_block, partition_of_block, refuses_part}
+use Rattle.root_commits.specs.Images.{LeavesAfter}
+use Rattle.root_commits.specs.Turns.{IsDone, IsInDoubt, storage, turn_of_part, with_entry}
+use Rattle.root_store.specs.Crashes.{Storage}
 use Rattle.root_store.specs.Soundness.{NamesFit}
 use Rattle.root_store.specs.Stores.{table_at}
 use Rattle.root_commits.specs.Events.{IsAccepted, accept_of_block}
@@ -35,7 +39,7 @@ use Rattle.root_commits.proofs.Holding.{held_added, held_same}
 use Rattle.root_commits.proofs.Inserted.{stands_inserted}
 use Rattle.durable_commit.proofs.WhyRefused.{outside_disk}
 use Rattle.root_commits.proofs.Leaving.{cause_shown, none_shown, shown_number, shown_part_calm, shown_part_other}
-use Rattle.root_commits.proofs.Partitions.{block_may, may_spell}
+use Rattle.root_commits.proofs.Partitions.{block_may, block_spells}
 use Rattle.root_commits.proofs.Placed.{none_meets}
 use Rattle.root_commits.proofs.Rooted.{root_added}
 use Rattle.root_commits.proofs.Sounding.{ready_same, sound_added}
@@ -69,19 +73,35 @@ turn_is session table t block sealed name entry named begun = ap₂ (λ (n : Lis
 sealed_for : (t u : Table) (block : Grid) (files : Option Files) (loaded : Loaded) → t ≡ u → IsSealedOf u.schema block files loaded → IsSealedOf t.schema block files loaded
 sealed_for t u block files loaded same is = subst (λ (x : Table). IsSealedOf x.schema block files loaded) (sym same) is
 
+-- a turn into the table that was read leaves what one into the table that is there does
+leaves_for : {T S : Type 0} (session : ℕ) (table : List ℕ) (t u : Table) (block : Grid) (sealed : Filled) (now : Storage) (since : ℕ) (h : History) (result : Result T (Returned S)) → t ≡ u
+    → LeavesAfter {T = T} {S = S} now since h (with_entry (turn_of_part session table t block sealed) h) result → LeavesAfter {T = T} {S = S} now since h (with_entry (turn_of_part session table u block sealed) h) result
+leaves_for {T} {S} session table t u block sealed now since h result same leaves =
+    subst (λ (x : Table). LeavesAfter {T = T} {S = S} now since h (with_entry (turn_of_part session table x block sealed) h) result) same leaves
+
+-- and the store stands for the history after it
+stands_for : {F : Type 0} (files_of : F → Option Files) (session : ℕ) (table : List ℕ) (t u : Table) (block : Grid) (sealed : Filled) (h : History) (store : CoreStore F) (root : Option Told) (holds : Type 0) → t ≡ u
+    → StandsWhere files_of (with_entry (turn_of_part session table t block sealed) h) store root holds → StandsWhere files_of (with_entry (turn_of_part session table u block sealed) h) store root holds
+stands_for files_of session table t u block sealed h store root holds same stands =
+    subst (λ (x : Table). StandsWhere files_of (with_entry (turn_of_part session table x block sealed) h) store root holds) same stands
+
+-- the block has a row
+pub partition_at-partition-requires : goal.partition_at-partition-requires
+partition_at-partition-requires g c = (c.requires.rows c.index-found.result.now c.index-found.ensures).some
+
 pub turn-requires-clause-free : goal.turn-requires-clause-free
 turn-requires-clause-free g c κs within = λ root is.
     let t : Table = c.index-found.result.now in
-    let none = none_shown (λ n. refuses_part c.args.store.now c.args.table.now (partition_of_block t.schema c.args.block) t.drawn n) _ _ _ (shown_part c.args.store.now c.args.table.now _ _ c.index-found.result.now.drawn c.faults.result _ c.block_partition-partition.ensures c.refuse_part.ensures) c.faults.ensures c.in_default.is in
+    let none = none_shown (λ n. refuses_part c.args.store.now c.args.table.now (partition_of_block t.schema c.args.block) t.drawn n) _ _ _ (shown_part c.args.store.now c.args.table.now _ _ c.index-found.result.now.drawn c.faults.result _ c.partition_at-partition.ensures c.refuse_part.ensures) c.faults.ensures c.in_default.is in
     let still = shown_part_calm c.args.store.now c.args.table.now _ (partition_of_block t.schema c.args.block) t.drawn none c.requires.ready.opened in
     let small = shown_number c.args.store.now c.args.table.now _ (partition_of_block t.schema c.args.block) t.drawn none in
-    ap (λ n. files_at n (names_of root)) (named_is c.args.table.now _ _ _ _ _ c.block_partition-partition.ensures c.name_of_part-fresh.ensures c.in-Ok.ensures.name)
-    ∙ part_free c.args.store.now root (c.requires.ready.names still root is) c.args.table.now t (fresh_part (partition_of_block t.schema c.args.block) (t.drawn + 1)) c.index-found.ensures (fresh_named (partition_of_block t.schema c.args.block) t.drawn (may_spell t.schema (partition_of_block t.schema c.args.block) (block_may t.schema c.args.block)) small) (omega arith)
+    ap (λ n. files_at n (names_of root)) (named_is c.args.table.now _ _ _ _ _ c.partition_at-partition.ensures c.name_of_part-fresh.ensures c.in-Ok.ensures.name)
+    ∙ part_free c.args.store.now root (c.requires.ready.names still root is) c.args.table.now t (fresh_part (partition_of_block t.schema c.args.block) (t.drawn + 1)) c.index-found.ensures (fresh_named (partition_of_block t.schema c.args.block) t.drawn (block_spells c.args.table.now t.schema c.args.block (c.requires.ready.sound.tables c.args.table.now t c.index-found.ensures).schema (c.requires.rows t c.index-found.ensures)) small) (omega arith)
 
 pub enter_part-requires-clause-fresh : goal.enter_part-requires-clause-fresh
 enter_part-requires-clause-fresh g c =
     let t : Table = c.index-found.result.now in
-    subst (λ (n : PartName). NoneMeets (parts_of c.prepare_part.new.set c.args.table.now) n) (sym (fresh_is _ _ _ _ c.block_partition-partition.ensures c.name_of_part-fresh.ensures)) (subst (λ (ks : List (Kept (Part g.row.D-Arm-Dir.Denot))). NoneMeets ks (fresh_part (partition_of_block t.schema c.args.block) (t.drawn + 1))) (sym (c.in-Ok.ensures.parts c.args.table.now))
+    subst (λ (n : PartName). NoneMeets (parts_of c.prepare_part.new.set c.args.table.now) n) (sym (fresh_is _ _ _ _ c.partition_at-partition.ensures c.name_of_part-fresh.ensures)) (subst (λ (ks : List (Kept (Part g.row.D-Arm-Dir.Denot))). NoneMeets ks (fresh_part (partition_of_block t.schema c.args.block) (t.drawn + 1))) (sym (c.in-Ok.ensures.parts c.args.table.now))
     (none_meets (parts_of c.args.store.now.set c.args.table.now) (partition_of_block t.schema c.args.block) t.drawn (c.requires.ready.sound.tables c.args.table.now t c.index-found.ensures).ends))
 
 -- the store shows why
@@ -96,14 +116,14 @@ pub returns-in-Some-clause-cause : goal.returns-in-Some-clause-cause
 returns-in-Some-clause-cause g c = λ u at.
     let t : Table = c.index-found.result.now in
     shown_of c.args.store.now c.args.table.now c.args.block (g.D.Disk.failed c.args.disk.now) t u (Some c.in-Some.cause) c.index-found.ensures at
-    (cause_shown (λ n. refuses_part c.args.store.now c.args.table.now (partition_of_block t.schema c.args.block) t.drawn n) _ _ _ (shown_part c.args.store.now c.args.table.now _ _ c.index-found.result.now.drawn c.faults.result _ c.block_partition-partition.ensures c.refuse_part.ensures) c.faults.ensures (Some c.in-Some.cause) _ c.in-Some.is refl)
+    (cause_shown (λ n. refuses_part c.args.store.now c.args.table.now (partition_of_block t.schema c.args.block) t.drawn n) _ _ _ (shown_part c.args.store.now c.args.table.now _ _ c.index-found.result.now.drawn c.faults.result _ c.partition_at-partition.ensures c.refuse_part.ensures) c.faults.ensures (Some c.in-Some.cause) _ c.in-Some.is refl)
 
 pub returns-in-Some-clause-turn : goal.returns-in-Some-clause-turn
 returns-in-Some-clause-turn g c = λ u at. record {
   returned = refl;
   stays = refl;
   other = shown_part_other c.args.store.now c.args.table.now c.faults.result (partition_of_block c.index-found.result.now.schema c.args.block) c.index-found.result.now.drawn c.in-Some.cause
-      (sym (shown_part c.args.store.now c.args.table.now _ _ c.index-found.result.now.drawn c.faults.result _ c.block_partition-partition.ensures c.refuse_part.ensures) ∙ c.in-Some.is);
+      (sym (shown_part c.args.store.now c.args.table.now _ _ c.index-found.result.now.drawn c.faults.result _ c.partition_at-partition.ensures c.refuse_part.ensures) ∙ c.in-Some.is);
 }
 
 pub returns-in-Some-clause-untouched : goal.returns-in-Some-clause-untouched
@@ -138,7 +158,7 @@ pub returns-in-Err-clause-cause : goal.returns-in-Err-clause-cause
 returns-in-Err-clause-cause g c = λ u at.
     let t : Table = c.index-found.result.now in
     shown_of c.args.store.now c.args.table.now c.args.block (g.D.Disk.failed c.args.disk.now) t u (Some refused.NoMemory) c.index-found.ensures at
-    (cause_shown (λ n. refuses_part c.args.store.now c.args.table.now (partition_of_block t.schema c.args.block) t.drawn n) _ _ _ (shown_part c.args.store.now c.args.table.now _ _ c.index-found.result.now.drawn c.faults.result _ c.block_partition-partition.ensures c.refuse_part.ensures) c.faults.ensures None _ c.in_default.is tt)
+    (cause_shown (λ n. refuses_part c.args.store.now c.args.table.now (partition_of_block t.schema c.args.block) t.drawn n) _ _ _ (shown_part c.args.store.now c.args.table.now _ _ c.index-found.result.now.drawn c.faults.result _ c.partition_at-partition.ensures c.refuse_part.ensures) c.faults.ensures None _ c.in_default.is tt)
 
 pub returns-in-Err-clause-turn : goal.returns-in-Err-clause-turn
 returns-in-Err-clause-turn g c = λ u at. record {
@@ -183,7 +203,7 @@ pub returns-in-Err-turn-clause-cause : goal.returns-in-Err-turn-clause-cause
 returns-in-Err-turn-clause-cause g c = λ u at.
     let t : Table = c.index-found.result.now in
     shown_of c.args.store.now c.args.table.now c.args.block (g.D.Disk.failed c.args.disk.now) t u (Some c.of_disk-cause.result) c.index-found.ensures at
-    (cause_shown (λ n. refuses_part c.args.store.now c.args.table.now (partition_of_block t.schema c.args.block) t.drawn n) _ _ _ (shown_part c.args.store.now c.args.table.now _ _ c.index-found.result.now.drawn c.faults.result _ c.block_partition-partition.ensures c.refuse_part.ensures) c.faults.ensures None _ c.in_default.is
+    (cause_shown (λ n. refuses_part c.args.store.now c.args.table.now (partition_of_block t.schema c.args.block) t.drawn n) _ _ _ (shown_part c.args.store.now c.args.table.now _ _ c.index-found.result.now.drawn c.faults.result _ c.partition_at-partition.ensures c.refuse_part.ensures) c.faults.ensures None _ c.in_default.is
     (outside_disk c.in-Err-turn.error c.of_disk-cause.result c.of_disk-cause.ensures))
 
 in_doubt : (g : _) (c : goal.After-drop-name-inside g) → IsInDoubt (turn_of_part c.args.session c.args.table.now c.index-found.result.now c.args.block c.args.part.sealed) c.of_disk-cause.result
@@ -195,8 +215,8 @@ in_doubt g c =
     let now = storage (g.D.Disk.told c.turn.new.disk) (g.D.Disk.clock c.turn.new.disk) (g.D.Disk.failed c.turn.new.disk) (g.A.Annals.told c.turn.new.annals) in
     doubt_as _ (turn_of_part c.args.session c.args.table.now c.index-found.result.now c.args.block c.args.part.sealed)
     (turn_is c.args.session c.args.table.now c.index-found.result.now c.args.block c.args.part.sealed _ _
-    (named_is c.args.table.now _ _ _ _ _ c.block_partition-partition.ensures c.name_of_part-fresh.ensures c.in-Ok.ensures.name)
-    (begun_is c.args.table.now _ _ _ c.args.block c.args.session c.in-Ok.ensures.table c.block_partition-partition.ensures))
+    (named_is c.args.table.now _ _ _ _ _ c.partition_at-partition.ensures c.name_of_part-fresh.ensures c.in-Ok.ensures.name)
+    (begun_is c.args.table.now _ _ _ c.args.block c.args.session c.in-Ok.ensures.table c.partition_at-partition.ensures))
     had was now (ap (storage (g.D.Disk.told c.args.disk.now) (g.D.Disk.clock c.args.disk.now) (g.D.Disk.failed c.args.disk.now)) c.in-Ok.ensures.told)
     _ c.of_disk-cause.result c.of_disk-cause.ensures c.in-Err-turn.ensures.turn
 
@@ -236,11 +256,12 @@ returns-in-Err-turn-clause-images g c = λ h u at is stands one.
     let store = c.args.store.now in
     let table = c.args.table.now in
     let t : Table = c.index-found.result.now in
-    let none = none_shown (λ n. refuses_part store table (partition_of_block t.schema c.args.block) t.drawn n) _ _ _ (shown_part c.args.store.now c.args.table.now _ _ c.index-found.result.now.drawn c.faults.result _ c.block_partition-partition.ensures c.refuse_part.ensures) c.faults.ensures c.in_default.is in
+    let none = none_shown (λ n. refuses_part store table (partition_of_block t.schema c.args.block) t.drawn n) _ _ _ (shown_part c.args.store.now c.args.table.now _ _ c.index-found.result.now.drawn c.faults.result _ c.partition_at-partition.ensures c.refuse_part.ensures) c.faults.ensures c.in_default.is in
     let here = sealed_for t u c.args.block c.args.part.sealed.files c.args.part.loaded (one_some (table_at store table) t u c.index-found.ensures at) is in
     let grows = grows_by_part files store h c.args.session stands here.files (c.in-Err-turn.ensures.sealed here.files here.sealed_are) table t c.args.block c.index-found.ensures
     (shown_number store table _ (partition_of_block t.schema c.args.block) t.drawn none) (c.requires.rows t c.index-found.ensures) here.holds in
-    leaves_in_doubt was now h one (turn_of_part c.args.session c.args.table.now c.index-found.result.now c.args.block c.args.part.sealed) here.files here.sealed_are grows c.of_disk-cause.result (in_doubt g c)
+    leaves_for c.args.session table t u c.args.block c.args.part.sealed now _ h _ (one_some (table_at store table) t u c.index-found.ensures at)
+    (leaves_in_doubt was now h one (turn_of_part c.args.session c.args.table.now c.index-found.result.now c.args.block c.args.part.sealed) here.files here.sealed_are grows c.of_disk-cause.result (in_doubt g c))
 
 pub returns-in-Err-turn-clause-through_crashes : goal.returns-in-Err-turn-clause-through_crashes
 returns-in-Err-turn-clause-through_crashes g c = λ u first start at is keeps.
@@ -250,7 +271,7 @@ returns-in-Err-turn-clause-through_crashes g c = λ u first start at is keeps.
     let store = c.args.store.now in
     let table = c.args.table.now in
     let t : Table = c.index-found.result.now in
-    let none = none_shown (λ n. refuses_part store table (partition_of_block t.schema c.args.block) t.drawn n) _ _ _ (shown_part c.args.store.now c.args.table.now _ _ c.index-found.result.now.drawn c.faults.result _ c.block_partition-partition.ensures c.refuse_part.ensures) c.faults.ensures c.in_default.is in
+    let none = none_shown (λ n. refuses_part store table (partition_of_block t.schema c.args.block) t.drawn n) _ _ _ (shown_part c.args.store.now c.args.table.now _ _ c.index-found.result.now.drawn c.faults.result _ c.partition_at-partition.ensures c.refuse_part.ensures) c.faults.ensures c.in_default.is in
     let here = sealed_for t u c.args.block c.args.part.sealed.files c.args.part.loaded (one_some (table_at store table) t u c.index-found.ensures at) is in
     keeps_in_doubt files store _ first start (turn_of_part c.args.session c.args.table.now c.index-found.result.now c.args.block c.args.part.sealed) was now keeps (shown_part_calm store table _ (partition_of_block t.schema c.args.block) t.drawn none c.requires.ready.opened) here.files here.sealed_are
     (λ h stands. grows_by_part files store h c.args.session stands here.files (c.in-Err-turn.ensures.sealed here.files here.sealed_are) table t c.args.block c.index-found.ensures
@@ -263,7 +284,7 @@ module _ (g : _) (c : goal.After-drop-name-inside-2 g) where
   t = c.index-found.result.now
 
   none : refuses_part c.args.store.now c.args.table.now (partition_of_block t.schema c.args.block) t.drawn (g.D.Disk.failed c.args.disk.now) ≡ None
-  none = none_shown (λ n. refuses_part c.args.store.now c.args.table.now (partition_of_block t.schema c.args.block) t.drawn n) _ _ _ (shown_part c.args.store.now c.args.table.now _ _ c.index-found.result.now.drawn c.faults.result _ c.block_partition-partition.ensures c.refuse_part.ensures) c.faults.ensures c.in_default.is
+  none = none_shown (λ n. refuses_part c.args.store.now c.args.table.now (partition_of_block t.schema c.args.block) t.drawn n) _ _ _ (shown_part c.args.store.now c.args.table.now _ _ c.index-found.result.now.drawn c.faults.result _ c.partition_at-partition.ensures c.refuse_part.ensures) c.faults.ensures c.in_default.is
 
   small : t.drawn < 4294967295
   small = shown_number c.args.store.now c.args.table.now _ (partition_of_block t.schema c.args.block) t.drawn none
@@ -275,12 +296,12 @@ module _ (g : _) (c : goal.After-drop-name-inside-2 g) where
   added : EntersPart c.args.table.now (partition_of_block t.schema c.args.block) c.of-part.result t c.args.store.now c.enter_part.new.store
   added = record {
     there = c.index-found.ensures;
-    updates = subst (λ (n : PartName). Updates (slice_cmp nat_cmp) c.args.store.now.tables c.enter_part.new.store.tables c.args.table.now (Some (record { schema = t.schema; drawn = n.max_block }))) (fresh_is _ _ _ _ c.block_partition-partition.ensures c.name_of_part-fresh.ensures)
+    updates = subst (λ (n : PartName). Updates (slice_cmp nat_cmp) c.args.store.now.tables c.enter_part.new.store.tables c.args.table.now (Some (record { schema = t.schema; drawn = n.max_block }))) (fresh_is _ _ _ _ c.partition_at-partition.ensures c.name_of_part-fresh.ensures)
         (c.enter_part.ensures.updates t c.index-found.ensures);
     count = c.enter_part.ensures.count;
     added = subst (λ (ks : List (Kept (Part g.row.D-Arm-Dir.Denot))). IsAdded ks (record { name = fresh_part (partition_of_block t.schema c.args.block) (t.drawn + 1); part = c.of-part.result }) (parts_of c.enter_part.new.store.set c.args.table.now))
         (c.in-Ok.ensures.parts c.args.table.now)
-        (subst (λ (n : PartName). IsAdded (parts_of c.prepare_part.new.set c.args.table.now) (record { name = n; part = c.of-part.result }) (parts_of c.enter_part.new.store.set c.args.table.now)) (fresh_is _ _ _ _ c.block_partition-partition.ensures c.name_of_part-fresh.ensures) c.enter_part.ensures.added);
+        (subst (λ (n : PartName). IsAdded (parts_of c.prepare_part.new.set c.args.table.now) (record { name = n; part = c.of-part.result }) (parts_of c.enter_part.new.store.set c.args.table.now)) (fresh_is _ _ _ _ c.partition_at-partition.ensures c.name_of_part-fresh.ensures) c.enter_part.ensures.added);
     ordered = c.enter_part.ensures.ordered;
     others = λ u apart. c.enter_part.ensures.others u apart ∙ c.in-Ok.ensures.parts u;
     length_is = c.enter_part.ensures.length ∙ c.in-Ok.ensures.length;
@@ -309,8 +330,8 @@ module _ (g : _) (c : goal.After-drop-name-inside-2 g) where
       let now = storage (g.D.Disk.told c.turn.new.disk) (g.D.Disk.clock c.turn.new.disk) (g.D.Disk.failed c.turn.new.disk) (g.A.Annals.told c.turn.new.annals) in
       done_as _ (turn_of_part c.args.session c.args.table.now c.index-found.result.now c.args.block c.args.part.sealed)
       (turn_is c.args.session c.args.table.now c.index-found.result.now c.args.block c.args.part.sealed _ _
-      (named_is c.args.table.now _ _ _ _ _ c.block_partition-partition.ensures c.name_of_part-fresh.ensures c.in-Ok.ensures.name)
-      (begun_is c.args.table.now _ _ _ c.args.block c.args.session c.in-Ok.ensures.table c.block_partition-partition.ensures))
+      (named_is c.args.table.now _ _ _ _ _ c.partition_at-partition.ensures c.name_of_part-fresh.ensures c.in-Ok.ensures.name)
+      (begun_is c.args.table.now _ _ _ c.args.block c.args.session c.in-Ok.ensures.table c.partition_at-partition.ensures))
       had was now (ap (storage (g.D.Disk.told c.args.disk.now) (g.D.Disk.clock c.args.disk.now) (g.D.Disk.failed c.args.disk.now)) c.in-Ok.ensures.told)
       c.in-Ok-turn.ensures.turn
 
@@ -318,7 +339,7 @@ pub returns-clause-cause : goal.returns-clause-cause
 returns-clause-cause g c = λ u at.
     let t : Table = c.index-found.result.now in
     shown_of c.args.store.now c.args.table.now c.args.block (g.D.Disk.failed c.args.disk.now) t u None c.index-found.ensures at
-    (cause_shown (λ n. refuses_part c.args.store.now c.args.table.now (partition_of_block t.schema c.args.block) t.drawn n) _ _ _ (shown_part c.args.store.now c.args.table.now _ _ c.index-found.result.now.drawn c.faults.result _ c.block_partition-partition.ensures c.refuse_part.ensures) c.faults.ensures None _ c.in_default.is tt)
+    (cause_shown (λ n. refuses_part c.args.store.now c.args.table.now (partition_of_block t.schema c.args.block) t.drawn n) _ _ _ (shown_part c.args.store.now c.args.table.now _ _ c.index-found.result.now.drawn c.faults.result _ c.partition_at-partition.ensures c.refuse_part.ensures) c.faults.ensures None _ c.in_default.is tt)
 
 pub returns-clause-turn : goal.returns-clause-turn
 returns-clause-turn g c = λ u at.
@@ -340,12 +361,12 @@ returns-clause-stands g c = λ h u at is s.
     let table = c.args.table.now in
     let t : Table = c.index-found.result.now in
     let here = sealed_for t u c.args.block c.args.part.sealed.files c.args.part.loaded (same g c u at) is in
-    record {
+    stands_for files c.args.session table t u c.args.block c.args.part.sealed h _ _ _ (same g c u at) (record {
       store_stands = stands_inserted files h store c.enter_part.new.store c.args.session table t c.args.block c.args.part.sealed.files c.args.part.loaded s (c.requires.rows t c.index-found.ensures) here (sealed g c);
       root_stands = λ root.
           root_added files store h c.args.session (g.D.Disk.clock c.args.disk.now) (g.D.Disk.told c.args.disk.now) (g.D.Disk.told c.turn.new.disk) s root (fit g c)
           table t c.args.block c.args.part.sealed.files c.args.part.loaded c.index-found.ensures (small g c) (c.requires.rows t c.index-found.ensures) here (done g c).root;
-    }
+    })
 
 pub returns-clause-held : goal.returns-clause-held
 returns-clause-held g c = λ u at is held.
@@ -363,8 +384,8 @@ returns-clause-ready g c =
     let same = c.enter_part.ensures.opened in
     let below = c.requires.ready.below in
     record {
-      names = λ _. added_fits _ _ _ _ _ _ (added g c) _ _ _ _ (may_spell (t g c).schema _ (block_may (t g c).schema c.args.block)) (small g c) (fit g c) (done g c).root;
-      sound = sound_added _ _ _ _ _ _ (added g c) (block_may (t g c).schema c.args.block) c.requires.ready.sound;
+      names = λ _. added_fits _ _ _ _ _ _ (added g c) _ _ _ _ (block_spells c.args.table.now (t g c).schema c.args.block (c.requires.ready.sound.tables c.args.table.now (t g c) c.index-found.ensures).schema (c.requires.rows (t g c) c.index-found.ensures)) (small g c) (fit g c) (done g c).root;
+      sound = sound_added _ _ _ _ _ _ (added g c) (block_may c.args.table.now (t g c).schema c.args.block (c.requires.ready.sound.tables c.args.table.now (t g c) c.index-found.ensures).schema (c.requires.rows (t g c) c.index-found.ensures)) c.requires.ready.sound;
       opened = omega (arith, low, later, same);
       below = omega (arith, below, same);
     }
@@ -383,7 +404,8 @@ returns-clause-images g c = λ h u at is stands one.
     let here = sealed_for t u c.args.block c.args.part.sealed.files c.args.part.loaded (same g c u at) is in
     let grows = grows_by_part files store h c.args.session stands here.files (c.in-Ok-turn.ensures.sealed here.files here.sealed_are) table t c.args.block c.index-found.ensures
     (small g c) (c.requires.rows t c.index-found.ensures) here.holds in
-    leaves_done was now h one (turn_of_part c.args.session c.args.table.now c.index-found.result.now c.args.block c.args.part.sealed) here.files here.sealed_are grows _ (done g c)
+    leaves_for c.args.session table t u c.args.block c.args.part.sealed now _ h _ (same g c u at)
+    (leaves_done was now h one (turn_of_part c.args.session c.args.table.now c.index-found.result.now c.args.block c.args.part.sealed) here.files here.sealed_are grows _ (done g c))
 
 pub returns-clause-through_crashes : goal.returns-clause-through_crashes
 returns-clause-through_crashes g c = λ u first start at is keeps.

@@ -60,7 +60,7 @@ returns-in-Err-clause-answers g c = λ kept tells knows.
     (line_of_stage here.store.opened here.storage.failed arm (g.R.Arm.failed c.args.arm.now) error reply n line (λ e. c.in-Err.ensures.cause.failed (ap Err e)) f))
 
 pub create-requires-clause-schema : goal.create-requires-clause-schema
-create-requires-clause-schema g c κs within = schema_is c.args.text.now c.in-Ok.schema c.in-Ok.ensures c.requires.key
+create-requires-clause-schema g c κs within = schema_is c.args.text.now c.in-Ok.schema c.in-Ok.ensures c.requires.keys
 
 -- the table was made
 pub returns-in-Ok-create-clause-answers : goal.returns-in-Ok-create-clause-answers
@@ -122,11 +122,11 @@ returns-in-Err-create-clause-answers g c = λ kept tells knows.
     answers_line files kept (Ok said) t result (IsLineOf 0 text.table cause) c.refused_line.ensures.line
     (IfErr-weaker result _ _ (λ e no. keeps_refused said next kept gives (IsOutside (Some cause)) told left files t refl (after.unchanged no) stands) c.refused_line.ensures.disk)
     (λ reply line. answered_nothing files kept left.now (Ok said) t reply left.told_is left.list_is
-    (begun_refused said next kept gives (IsOutside (Some cause)) told left reply (by_disk text.table cause reply line))
+    (begun_refused said next kept gives (IsOutside (Some cause)) told left reply (by_disk 0 text.table cause reply line))
     stands
     (λ n f. create_not_committed files was.store kept knows.stands was.storage.failed now.storage.failed t.arm cause reply n f c.is_open.ensures.opened after.later after.rose text schema says line
     (subst (λ (t : List ℕ). IsCause (refuses_create was.store t was.storage.failed) (Some cause)) name ended.cause))
-    (λ calm bef. root_unless_disk text.table cause reply h was.storage.disk now.storage.disk line after.unchanged calm bef))
+    (λ calm bef. root_unless_disk 0 text.table cause reply h was.storage.disk now.storage.disk line after.unchanged calm bef))
 
 -- what a crash leaves
 pub returns-in-Ok-create-clause-through_crashes : goal.returns-in-Ok-create-clause-through_crashes
@@ -175,7 +175,7 @@ returns-in-Err-create-clause-causes g c =
     let cause = c.in-Err-create.field-0.cause in
     let before = c.args.engine.now.storage.failed in
     let shown = subst (λ (t : List ℕ). IsCause (refuses_create store t before) (Some cause)) c.in_ok-table.ensures ended.cause in
-    IfOk-weaker c.refused_line.result _ _ (λ line is. refused_says store.opened before c.create.new.self.storage.failed (g.R.Arm.failed c.args.arm.now) (g.R.Arm.failed c.give_back.new.arm) table cause line is
+    IfOk-weaker c.refused_line.result _ _ (λ line is. refused_says store.opened before c.create.new.self.storage.failed (g.R.Arm.failed c.args.arm.now) (g.R.Arm.failed c.give_back.new.arm) 0 table cause line is
     (create_risen store table before cause shown) (create_failed store table before c.is_open.ensures.opened c.create.new.self.storage.failed cause shown after.rose)) c.refused_line.ensures.line
 
 -- where the store was stopped before
@@ -215,7 +215,7 @@ pub returns-in-Ok-create-clause-undamaged : goal.returns-in-Ok-create-clause-und
 returns-in-Ok-create-clause-undamaged g c = ap is_damage c.in_ok-replies.ensures.accepted
 
 pub returns-in-Err-create-clause-undamaged : goal.returns-in-Err-create-clause-undamaged
-returns-in-Err-create-clause-undamaged g c = IfOk-weaker c.refused_line.result _ _ (λ line is. commit_line c.args.text.now.table c.in-Err-create.field-0.cause line is) c.refused_line.ensures.line
+returns-in-Err-create-clause-undamaged g c = IfOk-weaker c.refused_line.result _ _ (λ line is. commit_line 0 c.args.text.now.table c.in-Err-create.field-0.cause line is) c.refused_line.ensures.line
 
 -- without a fault no count rose
 pub returns-in-Err-Refused-clause-memory : goal.returns-in-Err-Refused-clause-memory

@@ -3,9 +3,11 @@ use Rattle.indexmap.specs.IndexMap.{set_value_at}
 use Rattle.table_core.specs.declared.store.Table.{Table}
 use Rattle.mt_model.specs.Numbers.{numbered}
 use Rattle.part_history.specs.Entered.{part_of_insert}
+use Rattle.part_history.specs.Parts.{AreInBlockOrder}
 use Rattle.table_core.specs.Steps.{AcceptsInsert}
-use Rattle.table_core.specs.Store.{core_of, with_part}
-use Rattle.table_core.proofs.Keeping.{at_least, insert_accepted, insert_store, key_fits, last_here, no_table, place_here, read_here, schema_here}
+use Rattle.table_core.specs.Store.{Named, core_of, grown_table}
+use Rattle.table_core.proofs.Keeping.{at_least, insert_accepted, insert_store, key_fits, last_here, no_table, order_here, place_here, read_here, schema_here}
+use Rattle.table_core.proofs.Stored.{one_value}
 use Rattle.table_core.proofs.steps.add_rows.Goals as goal
 
 pub returns-in_default-clause-gives : goal.returns-in_default-clause-gives
@@ -30,6 +32,13 @@ part_of_insert-requires c =
     subst (λ (t : Table). All (λ place. place < length insert.block.types) t.schema.key) (sym (read_here store c.requires.store insert.table c.in-Some.place here c.index-table.result.now c.index-table.ensures))
     (key_fits store.entries.items insert.table here.here.1.schema insert c.requires.store.core.legal there (c.requires.rows here.here.1.schema there))
 
+pub enter_part-requires-clause-order : goal.enter_part-requires-clause-order
+enter_part-requires-clause-order c = λ t at.
+    let store = c.args.store.now in
+    let table = c.args.insert.table in
+    let here = c.in-Some.ensures.there in
+    subst (λ (x : Named). AreInBlockOrder x.1.parts) (one_value _ here.here t (place_here store c.requires.store table c.in-Some.place here) at) (order_here store c.requires.store table c.in-Some.place here)
+
 pub returns-clause-gives : goal.returns-clause-gives
 returns-clause-gives c =
     let store = c.args.store.now in
@@ -44,12 +53,11 @@ returns-clause-gives c =
     let fits : number ≤ 4294967295 = omega (arith, some.0, some.1) in
     let part = c.in_ok-part.ensures ∙ ap (λ (t : Table). part_of_insert t.schema number insert) is in
     let tables = c.in_ok-enter_part.ensures.tables here.here (place_here store c.requires.store insert.table c.in-Some.place here)
-    ∙ ap (λ p. set_value_at store.tables.entries c.in-Some.place (with_part here.here.1 p number)) part in
+    ∙ ap (λ p. set_value_at store.tables.entries c.in-Some.place (grown_table here.here.1 p number)) part in
     let entries = store.entries.ok.0 in
     let place : length store.entries.items + 1 ≡ c.len-length.result + 1 = omega (arith, c.len-length.ensures, entries) in
-    let into = c.requires.rows here.here.1.schema (schema_here store c.requires.store insert.table c.in-Some.place here) in
     subst (λ n. AcceptsInsert (core_of store) c.args.session insert n (core_of c.enter_part.new.self)) place
-    (insert_accepted store c.enter_part.new.self c.args.session insert c.in-Some.place number c.requires.store here drawn fits tables c.in_ok-enter_part.ensures.entries c.in_ok-enter_part.ensures.snapshots into)
+    (insert_accepted store c.enter_part.new.self c.args.session insert c.in-Some.place number c.requires.store here drawn fits tables c.in_ok-enter_part.ensures.entries c.in_ok-enter_part.ensures.snapshots)
 
 pub returns-clause-store : goal.returns-clause-store
 returns-clause-store c =
@@ -65,6 +73,6 @@ returns-clause-store c =
     let fits : number ≤ 4294967295 = omega (arith, some.0, some.1) in
     let part = c.in_ok-part.ensures ∙ ap (λ (t : Table). part_of_insert t.schema number insert) is in
     let tables = c.in_ok-enter_part.ensures.tables here.here (place_here store c.requires.store insert.table c.in-Some.place here)
-    ∙ ap (λ p. set_value_at store.tables.entries c.in-Some.place (with_part here.here.1 p number)) part in
+    ∙ ap (λ p. set_value_at store.tables.entries c.in-Some.place (grown_table here.here.1 p number)) part in
     let into = c.requires.rows here.here.1.schema (schema_here store c.requires.store insert.table c.in-Some.place here) in
     insert_store store c.enter_part.new.self c.args.session insert c.in-Some.place number c.requires.store here drawn fits tables c.in_ok-enter_part.ensures.entries c.in_ok-enter_part.ensures.snapshots into

@@ -1,0 +1,93 @@
+-- What the clauses of a CREATE say (docs/definitions.md, "Schemas"; ClickHouse, MergeTree: ORDER BY, PARTITION BY, PRIMARY KEY, index_granularity).
+use Rattle.std.specs.Prelude.{ℕ, ◌+◌, ◌<◌, List, [], ◌∷◌, length, Option, Some, None, if◌then◌else◌, is_some, unwrap_or}
+use Rattle.std.specs.List.{filter_map, flat_map, position}
+use Rattle.std.specs.Option.{option_and_then}
+use Rattle.mt_base.specs.Limits.{default_granularity, granularity_limit}
+use Rattle.mt_values.specs.declared.schema.Column.{Column}
+use Rattle.mt_values.specs.declared.schema.KeyOrder.{KeyOrder}
+use Rattle.mt_values.specs.declared.schema.KeyOrder.TheVariants.{SortingFirst, PrimaryFirst}
+use Rattle.mt_values.specs.declared.schema.Schema.{Schema}
+use Rattle.mt_values.specs.declared.statement.Clause.{Clause}
+use Rattle.mt_values.specs.declared.statement.Clause.TheVariants as clause
+use Rattle.mt_values.specs.Grammar.{same_bytes}
+use Rattle.mt_values.specs.Rows.{number_within}
+
+-- ---- columns by their names
+
+-- the place of the column of a name
+abbrev pub column_place : List Column → List ℕ → Option ℕ
+column_place columns name = position (λ (c : Column). same_bytes c.name name) columns
+
+-- the first of the names that is no column's (docs/definitions.md, "Schemas")
+abbrev pub first_unknown : List Column → List (List ℕ) → Option (List ℕ)
+first_unknown columns [] = None
+first_unknown columns (name ∷ names) = if is_some (column_place columns name) then first_unknown columns names else Some name
+
+-- the places of those of the names that are columns' (docs/definitions.md, "Schemas")
+abbrev pub places_named : List Column → List (List ℕ) → List ℕ
+places_named columns names = filter_map (column_place columns) names
+
+-- ---- what is named, and where
+
+-- the names that a clause mentions (docs/definitions.md, "Schemas")
+abbrev pub names_of_clause : Clause → List (List ℕ)
+names_of_clause (clause.OrderBy names) = names
+names_of_clause (clause.PartitionBy name) = name ∷ []
+names_of_clause (clause.PrimaryKey names) = names
+names_of_clause (clause.Granularity digits) = []
+
+-- the names that the clauses mention, in the order of the text (docs/definitions.md, "Schemas")
+abbrev pub mentioned : List Clause → List (List ℕ)
+mentioned clauses = flat_map names_of_clause clauses
+
+-- the key that is written first (docs/definitions.md, "Schemas")
+abbrev pub first_key : List Clause → KeyOrder
+first_key [] = SortingFirst
+first_key (clause.OrderBy names ∷ others) = SortingFirst
+first_key (clause.PrimaryKey names ∷ others) = PrimaryFirst
+first_key (c ∷ others) = first_key others
+
+-- ---- what each kind of clause says
+
+-- the names of ORDER BY (ClickHouse, MergeTree: ORDER BY)
+abbrev pub sorting_names : List Clause → List (List ℕ)
+sorting_names [] = []
+sorting_names (clause.OrderBy names ∷ others) = names
+sorting_names (c ∷ others) = sorting_names others
+
+-- the names of PRIMARY KEY, where it is given (ClickHouse, MergeTree: PRIMARY KEY)
+abbrev pub given_primary : List Clause → Option (List (List ℕ))
+given_primary [] = None
+given_primary (clause.PrimaryKey names ∷ others) = Some names
+given_primary (c ∷ others) = given_primary others
+
+-- the names of the primary key: where it is not given, those of ORDER BY (ClickHouse, MergeTree: PRIMARY KEY)
+abbrev pub primary_names : List Clause → List (List ℕ)
+primary_names clauses = unwrap_or (given_primary clauses) (sorting_names clauses)
+
+-- the name of PARTITION BY, where it is given (ClickHouse, MergeTree: PARTITION BY)
+abbrev pub partition_name : List Clause → Option (List ℕ)
+partition_name [] = None
+partition_name (clause.PartitionBy name ∷ others) = Some name
+partition_name (c ∷ others) = partition_name others
+
+-- the rows of a granule: where they are not given, 8192; each number past the bound stands for all of them (ClickHouse, MergeTree: index_granularity)
+abbrev pub granularity_of : List Clause → ℕ
+granularity_of [] = default_granularity
+granularity_of (clause.Granularity digits ∷ others) = number_within (granularity_limit + 1) digits
+granularity_of (c ∷ others) = granularity_of others
+
+-- the schema that the clauses write with these columns, each name a column's (docs/definitions.md, "Schemas")
+abbrev pub schema_written : List Column → List Clause → Schema
+schema_written columns clauses = record {
+  columns = columns;
+  key = places_named columns (sorting_names clauses);
+  primary = places_named columns (primary_names clauses);
+  partition = option_and_then (column_place columns) (partition_name clauses);
+  granularity = granularity_of clauses;
+}
+
+-- each of the two keys names at least one column (docs/definitions.md, "Schemas")
+pub record NamesKeys (clauses : List Clause) : Type 0 where
+  pub sorting : 0 < length (sorting_names clauses)
+  pub primary : 0 < length (primary_names clauses)

@@ -1,0 +1,156 @@
+// What the clauses of a CREATE say: the columns that they name, and the schema that they write.
+ghost use Rattle.std.specs.Prelude.{◌≡◌, ◌<◌, ◌^◌, IfOk, IfSome, length, option_copied};
+ghost use Rattle.std.specs.Option.{option_and_then};
+ghost use Rattle.mt_model.specs.Clauses as said;
+
+use mt_base::{DEFAULT_GRANULARITY, GRANULARITY_LIMIT, NoMemory, Seq, Twin};
+use mt_values::{Clause, Column, CreateText, KeyOrder, Name, Schema, number_within};
+use std::alloc::Global;
+use std::slice;
+
+/// The schema that a CREATE writes, where each of its names is a column's: its primary key is its sorting key where none is
+/// given, and its granules have 8192 rows where their number isn't.
+///
+/// `NoMemory` where an allocation failed.
+pub fn schema_written(alloc: Global, create: &CreateText) -> Result<Schema, NoMemory>
+    requires { length create.now.columns < 2 ^ 32 }
+    ensures { IfOk result
+        (λ schema. schema ≡ said.schema_written create.now.columns create.now.clauses) }
+{
+    let columns = create.columns.as_slice();
+    let clauses = create.clauses.as_slice();
+    Ok(Schema {
+        columns: create.columns.twin(alloc)?,
+        key: places_named(alloc, columns, sorting_names(clauses))?,
+        primary: places_named(alloc, columns, primary_names(clauses))?,
+        partition: partition_place(columns, clauses),
+        granularity: granularity_of(clauses),
+    })
+}
+
+/// The first name in the clauses, in the order of the text, that is no column's. Takes no memory.
+#[tactic(auto, using(crate::proofs::Naming::unknown_at, crate::proofs::Naming::unknown_after))]
+pub fn first_unknown<'a>(columns: &[Column], clauses: &'a [Clause]) -> Option<&'a Name>
+    ensures { option_copied result ≡
+        said.first_unknown columns.now (said.mentioned clauses.now) }
+{
+    for clause in clauses {
+        if let Some(name) = unknown_in(columns, clause) {
+            return Some(name);
+        }
+    }
+    None
+}
+
+/// The first name in a clause that is no column's.
+fn unknown_in<'a>(columns: &[Column], clause: &'a Clause) -> Option<&'a Name>
+    ensures { option_copied result ≡
+        said.first_unknown columns.now (said.names_of_clause clause.now) }
+{
+    match clause {
+        Clause::OrderBy(names) => unknown_among(columns, names.as_slice()),
+        Clause::PartitionBy(name) => unknown_among(columns, slice::from_ref(name)),
+        Clause::PrimaryKey(names) => unknown_among(columns, names.as_slice()),
+        Clause::Granularity(_) => None,
+    }
+}
+
+/// The first of the names that is no column's.
+fn unknown_among<'a>(columns: &[Column], names: &'a [Name]) -> Option<&'a Name>
+    ensures { option_copied result ≡ said.first_unknown columns.now names.now }
+{
+    for name in names {
+        if find_column(columns, name).is_none() {
+            return Some(name);
+        }
+    }
+    None
+}
+
+/// The key that is written first. Takes no memory.
+pub fn first_key(clauses: &[Clause]) -> KeyOrder
+    ensures { result ≡ said.first_key clauses.now }
+{
+    for clause in clauses {
+        match clause {
+            Clause::OrderBy(_) => return KeyOrder::SortingFirst,
+            Clause::PrimaryKey(_) => return KeyOrder::PrimaryFirst,
+            _ => {}
+        }
+    }
+    KeyOrder::SortingFirst
+}
+
+/// The names of ORDER BY.
+fn sorting_names(clauses: &[Clause]) -> &[Name]
+    ensures { result.now ≡ said.sorting_names clauses.now }
+{
+    for clause in clauses {
+        if let Clause::OrderBy(names) = clause {
+            return names.as_slice();
+        }
+    }
+    &[]
+}
+
+/// The names of PRIMARY KEY, or those of ORDER BY where it is not given.
+fn primary_names(clauses: &[Clause]) -> &[Name]
+    ensures { result.now ≡ said.primary_names clauses.now }
+{
+    for clause in clauses {
+        if let Clause::PrimaryKey(names) = clause {
+            return names.as_slice();
+        }
+    }
+    sorting_names(clauses)
+}
+
+/// The place of the column of PARTITION BY, where it is given and there is the column.
+fn partition_place(columns: &[Column], clauses: &[Clause]) -> Option<u32>
+    requires { length columns.now < 2 ^ 32 }
+    ensures { result ≡ option_and_then (said.column_place columns.now)
+        (said.partition_name clauses.now) }
+{
+    for clause in clauses {
+        if let Clause::PartitionBy(name) = clause {
+            return find_column(columns, name).map(|place| place as u32);
+        }
+    }
+    None
+}
+
+/// The rows of a granule; each number past their bound gives one more than it.
+fn granularity_of(clauses: &[Clause]) -> u32
+    ensures { result ≡ said.granularity_of clauses.now }
+{
+    for clause in clauses {
+        if let Clause::Granularity(digits) = clause {
+            return number_within(GRANULARITY_LIMIT + 1, digits.as_slice());
+        }
+    }
+    DEFAULT_GRANULARITY
+}
+
+/// The places of those of the names that are columns'.
+#[tactic(auto, using(crate::proofs::Naming::named_place, crate::proofs::Naming::unnamed_place))]
+fn places_named(alloc: Global, columns: &[Column], names: &[Name]) -> Result<Seq<u32>, NoMemory>
+    requires { length columns.now < 2 ^ 32 }
+    ensures { IfOk result (λ places. places ≡ said.places_named columns.now names.now) }
+{
+    let mut places = Seq::new(alloc);
+    for name in names {
+        let Some(place) = find_column(columns, name) else {
+            continue;
+        };
+        places.push(place as u32)?;
+    }
+    Ok(places)
+}
+
+/// The place of the first column of this name.
+pub fn find_column(columns: &[Column], name: &Name) -> Option<usize>
+    ensures place { result ≡ said.column_place columns.now name.now }
+    ensures within { IfSome result (λ place. place < length columns.now) }
+{
+    columns.iter().position(|column| column.name == *name)
+}

@@ -1,0 +1,10 @@
+pub mod ColumnStarts
+pub mod Fronts
+pub mod KeyReading
+pub mod KeyRows
+pub mod KeyRowsOf
+pub mod KeysOneWay
+pub mod KeysRead
+pub mod MarkedRows
+pub mod Starts
+pub mod Wanted

@@ -1,0 +1,52 @@
+// What the definitions say of bytes, whichever function reads them. The functions have empty bodies and the laws as their contracts.
+ghost use Rattle.std.specs.Prelude.{◌≡◌, ◌^◌, ◌<◌, ◌≤◌, ℕ, All, List, None, length};
+ghost use Rattle.mt_values.specs.ColumnBytes.{column_bytes};
+ghost use Rattle.mt_values.specs.Grid.{AreRowsOf, column_of};
+ghost use Rattle.mt_values.specs.Schemas.{column_types, key_fault};
+ghost use Rattle.mt_values.specs.Values.{Row};
+ghost use Rattle.mt_values.specs.declared.schema.Schema.{Schema};
+ghost use Rattle.column_file.specs.Marks.{granule_places, granules, mark_keys, marks_bytes, primary_bytes};
+ghost use Rattle.primary_marks.specs.KeyFaults.{IsPrimaryFault};
+ghost use Rattle.primary_marks.specs.Keys.{ArePartRows, HasMarks, IsPrimaryOf, KeyShape, shape_of};
+ghost use Rattle.primary_marks.specs.Places.{AreMarksOf, IsMarksFault};
+
+/// Bytes are the marks.bin of at most one list of numbers. Where they have a first fault they are none.
+pub fn places_are_read_in_one_way()
+    ensures places { (columns granules : ℕ) (bytes : List ℕ) (xs ys : List (List ℕ))
+        → AreMarksOf columns granules bytes xs → AreMarksOf columns granules bytes ys → xs ≡ ys }
+    ensures fault { (columns granules : ℕ) (bytes : List ℕ) (place : ℕ) (xs : List (List ℕ))
+        → IsMarksFault columns granules bytes place → AreMarksOf columns granules bytes xs → ⊥ }
+{}
+
+/// Bytes are the primary.bin of at most one list of keys. Where they have a first fault they are none.
+pub fn keys_are_read_in_one_way()
+    ensures keys { (shape : KeyShape) (bytes : List ℕ) (xs ys : List Row)
+        → IsPrimaryOf shape bytes xs → IsPrimaryOf shape bytes ys → xs ≡ ys }
+    ensures fault { (shape : KeyShape) (bytes : List ℕ) (place : ℕ) (keys : List Row)
+        → 0 < shape.granularity → IsPrimaryFault shape bytes place → IsPrimaryOf shape bytes keys
+        → ⊥ }
+{}
+
+/// What marks.bin has of rows is read as the places of their column files, each of fewer than 2^64 bytes.
+pub fn places_of_rows_are_read()
+    ensures { (granularity columns : ℕ) (schema : Schema) (rows : List Row) → 0 < granularity
+        → AreRowsOf (column_types schema) rows → columns ≤ length (column_types schema)
+        → ((c : ℕ) → c < columns → length (column_bytes (column_of c rows)) < 2 ^ 64)
+        → AreMarksOf columns (granules granularity (length rows))
+        (marks_bytes granularity columns rows) (granule_places granularity columns rows) }
+{}
+
+/// What primary.bin has of rows is read as their keys, and bytes that are read as keys are what it has of some rows of
+/// that number: of a table whose primary key names no column twice.
+pub fn keys_are_those_of_rows()
+    ensures written { (schema : Schema) (rows : List Row) → HasMarks schema
+        → ArePartRows schema (length rows) rows → IsPrimaryOf (shape_of schema (length rows))
+        (primary_bytes schema.primary schema.granularity rows)
+        (mark_keys schema.primary schema.granularity rows) }
+    ensures read { (schema : Schema) (count : ℕ) (bytes : List ℕ) (keys : List Row)
+        → HasMarks schema → key_fault schema.primary ≡ None
+        → IsPrimaryOf (shape_of schema count) bytes keys → (rows : List Row)
+        × ArePartRows schema count rows
+        × (bytes ≡ primary_bytes schema.primary schema.granularity rows)
+        × (keys ≡ mark_keys schema.primary schema.granularity rows) }
+{}

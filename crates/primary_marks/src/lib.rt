@@ -1,0 +1,21 @@
+//! The files of a part that say where its granules begin: their places in the column files, and their primary keys.
+#![tactic(auto)]
+
+mod building;
+mod laws;
+mod marks;
+mod places;
+mod reading;
+
+pub use building::{build, spell};
+pub use byte_numbers::FormatFault;
+pub use laws::{
+    keys_are_read_in_one_way, keys_are_those_of_rows, places_are_read_in_one_way,
+    places_of_rows_are_read,
+};
+pub use marks::Marks;
+pub use places::{Places, read_places, spell_places};
+pub use reading::read;
+
+#[cfg(test)]
+mod tests;

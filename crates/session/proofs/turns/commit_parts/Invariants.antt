@@ -1,0 +1,16 @@
+-- the turns that were taken, the last reply, and the arm
+use Rattle.std.proofs.Common.{◌≡◌, length}
+use Rattle.mt_model.specs.Reply.{ok_line}
+use Rattle.session.proofs.Running.{Runs, Taken}
+use Rattle.session.proofs.turns.commit_parts.Given as goal
+
+abbrev pub invariant-turns : goal.invariant-turns
+invariant-turns g l = record {
+  run : Runs g.F.Dir.files (record { table = l.table; all = l.initial.parts.items; left = l.parts.items; was = l.initial.engine; here = l.engine; accepted = l.accepted });
+  reply : l.reply ≡ ok_line l.engine.store.length;
+  tells : g.R.Arm.tells l.arm ≡ g.R.Arm.tells l.initial.arm;
+  count : g.R.Arm.failed l.arm ≡ g.R.Arm.failed l.initial.arm;
+}
+
+abbrev pub decreases-turns : goal.decreases-turns
+decreases-turns g l = length l.parts.items

@@ -1,0 +1,6 @@
+CREATE TABLE t (p UInt8, a UInt8) ENGINE = MergeTree PARTITION BY p ORDER BY a;
+INSERT INTO t;
+2	1
+1	5
+2	0
+\.
