@@ -9,3 +9,6 @@ mod split;
 pub use blocks::PartitionBlock;
 pub use laws::{commands_are_of_the_split_rows, rows_are_split_in_order};
 pub use split::split_block;
+
+#[cfg(test)]
+mod tests;

@@ -10,6 +10,7 @@ use Rattle.mt_values.specs.ColumnBytes.{column_bytes, value_bytes}
 use Rattle.mt_values.specs.Grid.{Cells, row_at}
 use Rattle.mt_values.specs.Values.{Row}
 use Rattle.column_file.specs.Spellings.{IsOfType, with_values}
+use Rattle.primary_marks.specs.KeyFaults.{ExplainsKey}
 use Rattle.primary_marks.specs.Keys.{IsKeyOf}
 
 -- the types of columns (docs/formats.md, "Primary keys")
@@ -50,6 +51,10 @@ with_key columns key = []
 -- the key that is wanted (docs/formats.md, "Primary keys")
 abbrev pub wanted_key : List Cells → Option ℕ → Option Row
 wanted_key columns wanted = option_map (row_at columns) wanted
+
+-- the error is out of memory, or the place at which the next key of the columns goes wrong (docs/formats.md, "Primary keys")
+abbrev pub ExplainsNextKey : List Cells → Option ℕ → ℕ → List ℕ → FormatFault → Type 0
+ExplainsNextKey columns wanted at bytes error = ExplainsKey (key_types columns) (wanted_key columns wanted) at bytes error
 
 -- columns got the values of a key, the wanted one, that the bytes begin with (docs/formats.md, "Primary keys")
 pub record GainKey (wanted : Option ℕ) (bytes : List ℕ) (size : ℕ) (olds news : List Cells) : Type 0 where

@@ -5,8 +5,8 @@ ghost use Rattle.mt_values.specs.Cells.{value_of};
 ghost use Rattle.mt_values.specs.Grid.{rows_of};
 ghost use Rattle.mt_values.specs.Values.{Row};
 ghost use Rattle.mt_values.specs.declared.value.ColType.{ColType};
-ghost use Rattle.primary_marks.specs.Columns.{ExplainsValue, GainKey, GainsValue, HaveKeys, HaveWanted, IsWantedIn, key_types, wanted_key};
-ghost use Rattle.primary_marks.specs.KeyFaults.{ExplainsKey, ExplainsPrimary};
+ghost use Rattle.primary_marks.specs.Columns.{ExplainsNextKey, ExplainsValue, GainKey, GainsValue, HaveKeys, HaveWanted, IsWantedIn, key_types};
+ghost use Rattle.primary_marks.specs.KeyFaults.{ExplainsPrimary};
 ghost use Rattle.primary_marks.specs.Keys.{HasMarks, IsPrimaryOf, key_shape, primary_types, shape_of};
 
 use crate::marks::Marks;
@@ -125,8 +125,7 @@ fn read_key(
     requires wanted { HaveWanted wanted columns.old }
     ensures read { IfOk result
         (λ size. GainKey wanted (drop at bytes.now) size columns.old columns.new) }
-    ensures fault { IfErr result (ExplainsKey (key_types columns.old) (wanted_key columns.old wanted)
-        at (drop at bytes.now)) }
+    ensures fault { IfErr result (ExplainsNextKey columns.old wanted at (drop at bytes.now)) }
 {
     let mut size = 0;
     for column in columns.iter_mut() {

@@ -126,25 +126,34 @@ fn keys_go_wrong_at_their_first_fault(rt: HostRuntime) -> Result<(), Fail> {
     Ok(())
 }
 
-#[test]
-fn changed_places_are_refused_or_spelled(rt: HostRuntime) -> Result<(), Fail> {
-    let alloc = rt.alloc();
-    let first = Seq::from_slice(alloc, &[0, 2])?;
-    let second = Seq::from_slice(alloc, &[0, 4])?;
+/// The bytes of marks.bin of two columns with one granule: it begins at 0 in both, and ends at 2 and at 4.
+fn places_of_two_columns(alloc: Global) -> Result<Seq<u8>, NoMemory> {
     let mut places = Seq::new(alloc);
-    places.push(first)?;
-    places.push(second)?;
-    let spelled = spell_places(alloc, places.as_slice())?;
-    let bytes = spelled.as_slice();
+    places.push(Seq::from_slice(alloc, &[0, 2])?)?;
+    places.push(Seq::from_slice(alloc, &[0, 4])?)?;
+    spell_places(alloc, places.as_slice())
+}
+
+#[test]
+fn places_are_spelled_by_column(rt: HostRuntime) -> Result<(), Fail> {
+    let spelled = places_of_two_columns(rt.alloc())?;
     assert_eq!(rt;
-        bytes,
+        spelled.as_slice(),
         [
             0, 0, 0, 0, 0, 0, 0, 0, 2, 0, 0, 0, 0, 0, 0, 0, 0, 0, 0, 0, 0, 0, 0, 0, 4, 0, 0, 0, 0,
             0, 0, 0
         ]
         .as_slice()
     );
-    assert_eq!(rt; fault_of_places(alloc, bytes, 1), None);
+    assert_eq!(rt; fault_of_places(rt.alloc(), spelled.as_slice(), 1), None);
+    Ok(())
+}
+
+#[test]
+fn changed_places_are_refused_or_spelled(rt: HostRuntime) -> Result<(), Fail> {
+    let alloc = rt.alloc();
+    let spelled = places_of_two_columns(alloc)?;
+    let bytes = spelled.as_slice();
     for place in 0..bytes.len() {
         let mut changed = Vec::from_slice(alloc, bytes)?;
         for byte in 0..=255 {
@@ -161,12 +170,21 @@ fn changed_places_are_refused_or_spelled(rt: HostRuntime) -> Result<(), Fail> {
             "cut at {place}"
         );
     }
-    // A number that repeats, one that falls, a first one that is not 0, and numbers for more granules than there are bytes.
+    Ok(())
+}
+
+#[test]
+fn places_go_wrong_at_their_first_fault(rt: HostRuntime) -> Result<(), Fail> {
+    let alloc = rt.alloc();
+    let spelled = places_of_two_columns(alloc)?;
+    let bytes = spelled.as_slice();
     let mut wrong = Vec::from_slice(alloc, bytes)?;
+    // A number that repeats, one that falls, and a first one that is not 0.
     wrong[24] = 0;
     assert_eq!(rt; fault_of_places(alloc, &wrong, 1), Some(24));
     wrong[16] = 1;
     assert_eq!(rt; fault_of_places(alloc, &wrong, 1), Some(16));
+    // Numbers for more granules than there are bytes.
     assert_eq!(rt; fault_of_places(alloc, bytes, u64::MAX), Some(16));
     Ok(())
 }
