@@ -51,6 +51,7 @@ run_in_room() {
 start() {
     rm -rf "$work/room"
     run_in_room <"$work/tables" >/dev/null
+    : >"$work/out" # here, since the program may be killed before its shell has opened the file
     "$program" --path "$work/room" <"$work/script" >"$work/out" &
     running=$!
 }
