@@ -1,5 +1,5 @@
 // Runs that meet the premises of what is promised. Each function has an empty body and the law as its contract.
-ghost use Rattle.std.specs.Prelude.{◌≡◌, ◌+◌, ℕ, List, [], None, Some, false, length};
+ghost use Rattle.std.specs.Prelude.{◌≡◌, ◌+◌, ℕ, List, [], Some, false, length};
 ghost use Rattle.std.specs.List.{list_any};
 ghost use Rattle.mt_values.specs.Annals.{Told};
 ghost use Rattle.mt_outside.specs.Disk as root;

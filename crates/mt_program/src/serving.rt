@@ -1,16 +1,13 @@
 // Answering the statements of a script, one after another.
-ghost use Rattle.std.specs.Prelude.{◌≡◌, [], ◌<◌, ◌≤◌, Ok, Some, true, false, IfOk, IfSome, OnErr, drop, length, ℕ};
+ghost use Rattle.std.specs.Prelude.{◌≡◌, [], ◌<◌, ◌≤◌, Ok, Some, true, IfOk, IfSome, drop, length, ℕ};
 ghost use Rattle.std.specs.Option.{option_map};
 ghost use Rattle.mt_values.specs.Annals.{Told};
 ghost use Rattle.mt_values.specs.Script.{next_statement, statements_of};
 ghost use Rattle.mt_outside.specs.Causes.{Rose};
-ghost use Rattle.mt_model.specs.Refusals.{is_damage};
-ghost use Rattle.mt_model.specs.Written.{IsWritten};
 ghost use Rattle.root_store.specs.Crashes.{KeepsThroughCrashes};
 ghost use Rattle.root_store.specs.Soundness.{HasSoundParts, RootStands};
-ghost use Rattle.session.specs.Answers.{AcceptsNothing, Answers, Knows, Turned};
-ghost use Rattle.shared_store.specs.Engines.{GoesOn, GoesThroughCrashes};
-ghost use Rattle.replies.specs.Causes.{HasCauses};
+ghost use Rattle.session.specs.Answers.{Knows, Turned};
+ghost use Rattle.shared_store.specs.Engines.{GoesOn};
 ghost use Rattle.replies.specs.Foreseen.{history};
 ghost use Rattle.mt_program.specs.Crashes.{IsGainedBy, LeavesForCrashes};
 ghost use Rattle.mt_program.specs.Endings.{MetNoDamage};

@@ -1,5 +1,5 @@
 // How a run ends.
-ghost use Rattle.std.specs.Prelude.{◌≡◌, Bool};
+ghost use Rattle.std.specs.Prelude.{◌≡◌};
 ghost use Rattle.mt_program.specs.Statuses.{status_number};
 
 /// How a run ends: by what ends it early, or else, at the script's end, by damage before a disk's fault before a refusal.

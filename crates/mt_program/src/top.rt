@@ -1,5 +1,5 @@
 // All that the program does.
-ghost use Rattle.std.specs.Prelude.{◌≡◌, ◌≢◌, ◌+◌, ◌⊎◌, ◌↔◌, ◌≤◌, ◌<◌, ◌^◌, ◌-◌, List, ℕ, [], Err, Ok, Some, true, false, IfErr, IfOk, IsErrAnd, IsErrOf, OnOk, is_some, length};
+ghost use Rattle.std.specs.Prelude.{◌≡◌, ◌≢◌, ◌+◌, ◌⊎◌, ◌≤◌, ◌<◌, ◌^◌, ◌-◌, List, ℕ, [], Err, Ok, Some, true, IfErr, IfOk, IsErrAnd, IsErrOf, OnOk, is_some, length};
 ghost use Rattle.mt_values.specs.Annals.{Told};
 ghost use Rattle.mt_outside.specs.Causes.{Rose};
 ghost use Rattle.mt_outside.specs.Disk as root;
@@ -7,8 +7,7 @@ ghost use Rattle.root_opening.specs.declared.opening.Damage.{Damage as Damaged};
 ghost use Rattle.root_store.specs.Crashes.{AllStand, KeepsThroughCrashes};
 ghost use Rattle.root_opening.specs.Opening.{IsNotDamaged, IsRootDamage};
 ghost use Rattle.root_store.specs.Roots.{Stands};
-ghost use Rattle.root_store.specs.Soundness.{HasSoundParts, IsReady, RootStands};
-ghost use Rattle.root_store.specs.Stores.{CoreStands};
+ghost use Rattle.root_store.specs.Soundness.{HasSoundParts, RootStands};
 ghost use Rattle.root_commits.specs.Turns.{storage};
 ghost use Rattle.replies.specs.Foreseen.{history};
 ghost use Rattle.session.specs.Answers.{Knows, Turned};

@@ -37,10 +37,10 @@ unfolding IsOfNumbers
 found_by table h schema (command.Create c) is first rest = named (same_bytes c.table table) refl first
   where
     named : (b : Bool) → same_bytes c.table table ≡ b → first_of (cond b (Some c.schema) None) (schema_of table h) ≡ Some schema → schema ≡ event_schema table
-    named true yes same =
+    named true equal same =
         let one : schema ≡ c.schema = cc in
-        subst (λ t. schema ≡ event_schema t) (same_is c.table table yes) (subst (λ s. s ≡ event_schema c.table) (sym one) is)
-    named false no same = rest same
+        subst (λ t. schema ≡ event_schema t) (same_is c.table table equal) (subst (λ s. s ≡ event_schema c.table) (sym one) is)
+    named false apart same = rest same
 found_by table h schema (command.Insert i) is first rest = rest first
 
 found : (table : List ℕ) (h : History) (schema : Schema) → OfNumbers h → schema_of table h ≡ Some schema → schema ≡ event_schema table
