@@ -180,6 +180,7 @@ fn places_go_wrong_at_their_first_fault(rt: HostRuntime) -> Result<(), Fail> {
     let bytes = spelled.as_slice();
     let mut wrong = Vec::from_slice(alloc, bytes)?;
     // A number that repeats, one that falls, and a first one that is not 0.
+    assert_eq!(rt; wrong.len(), 32);
     wrong[24] = 0;
     assert_eq!(rt; fault_of_places(alloc, &wrong, 1), Some(24));
     wrong[16] = 1;
