@@ -1,7 +1,7 @@
 pub mod Columns
+pub mod Compared
 pub mod Damage
 pub mod DamagedFile
 pub mod Faults
-pub mod Marks
 pub mod Parts
 pub mod Sound

@@ -1,29 +1,34 @@
-// A part checked: its files are compared with its manifest, and no value of them is kept.
-ghost use Rattle.std.specs.Prelude.{◌≡◌, ◌≤◌, List, IfErr, IsErrOf, MatchResult, OnOk, None, Some, length};
+// A part checked: its files are compared with its manifest and with each other, and no value of them is kept.
+ghost use Rattle.std.specs.Prelude.{◌≡◌, ◌≤◌, List, IfErr, IfOk, IsErrOf, MatchResult, OnOk, None, Some};
 ghost use Rattle.mt_outside.specs.Causes.{Rose};
-ghost use Rattle.mt_outside.specs.Files.{Files, bytes_of};
-ghost use Rattle.mt_base.specs.declared.name.FileId.TheVariants as file;
+ghost use Rattle.mt_outside.specs.Files.{Files};
 ghost use Rattle.mt_values.specs.Values.{Row};
-ghost use Rattle.part_writer.specs.PartFiles.{IsContent, content_ids};
-ghost use Rattle.part_reader.specs.Damage.{ExplainsCheck, GoesWrongAt, LocatesFault, Tells};
-ghost use Rattle.part_reader.specs.DamagedFile.{damaged_file, first_unsound};
+ghost use Rattle.mt_values.specs.declared.manifest.FileMark.{FileMark};
+ghost use Rattle.part_writer.specs.PartFiles.{IsContent, loaded_of};
+ghost use Rattle.primary_marks.specs.Keys.{HasMarks};
+ghost use Rattle.part_reader.specs.Compared.{IsCompared};
+ghost use Rattle.part_reader.specs.Damage.{ExplainsCheck, GoesWrongAlone, Tells};
+ghost use Rattle.part_reader.specs.DamagedFile.{damaged_file};
 ghost use Rattle.part_reader.specs.Faults.{ExplainsBytes, ExplainsFile, IsNoDamage};
 ghost use Rattle.part_reader.specs.Parts.{PartHolds};
-ghost use Rattle.part_reader.specs.Sound.{AreChecked, IsChecked, IsManifestFor, IsSound, SpellsFile};
+ghost use Rattle.part_damage.specs.Sound.{AreRowsRead, IsLoadedOf, IsReadAs};
+ghost use Rattle.part_damage.specs.Marks.{mark_for};
 
+use crate::comparing::{Agreement, compare_column};
 use crate::files::read_file;
-use crate::marked::mark_found;
-use crate::reading::{Part, PartFault};
-use column_file::{FormatFault, check_column};
+use crate::marked::{mark_at, mark_found, misspelled};
+use crate::reading::{NO_MARK, Part, PartFault};
 use mt_outside::Arm;
-use mt_values::{FileId, Manifest, Schema};
-use part_writer::{content_count, content_file};
+use mt_values::{FileId, FileMark, Manifest, Schema};
+use part_writer::{Loaded, content_count, content_file};
 use std::alloc::Global;
 
-/// Nothing, where each file of which the part's manifest has a mark has it and spells what belongs in it. The files are read whole, one
-/// after another in the order of the format, and none is kept.
+/// Nothing, where each file of which the part's manifest has a mark has it, the files of the columns spell as many rows as the manifest
+/// says, and what is kept of `marks.bin` and `primary.bin` is that of these rows. The files are read whole, one after another in the
+/// order of the format, and none is kept. Whether the rows are sorted is not asked.
 ///
-/// `Damaged` at the first file that is not so: never where the folder and the manifest hold rows. `Fault` only where the arm's
+/// `Damaged` at the first file that has another mark or, of a column, spells no values; where there is none, at `marks.bin` or else
+/// `primary.bin` that is not that of the rows. It is never so where the folder and what is kept hold rows. `Fault` only where the arm's
 /// count rose in this call; `NoMemory` where an allocation failed, or a file's place does not fit 32 bits.
 pub fn check_part<R: Arm>(
     alloc: Global,
@@ -31,20 +36,21 @@ pub fn check_part<R: Arm>(
     schema: &Schema,
     arm: &mut R,
 ) -> Result<(), PartFault>
-    ensures checked { OnOk result (AreChecked (R.Dir.files part.now.dir) schema.now
-        part.now.loaded.manifest (content_ids schema.now)) }
-    ensures damaged { IfErr result (ExplainsCheck (R.Dir.files part.now.dir) schema.now
-        part.now.loaded.manifest) }
-    ensures first { (files : Files) → R.Dir.files part.now.dir ≡ Some files
-        → MatchResult result (λ _. first_unsound schema.now part.now.loaded.manifest files
-        (content_ids schema.now) ≡ None) (Tells (λ found. first_unsound schema.now
-        part.now.loaded.manifest files (content_ids schema.now) ≡ found)) }
+    requires { HasMarks schema.now }
+
+    // What was read, and what is told of damage.
+    ensures checked { OnOk result ((rows : List Row)
+        × AreRowsRead (R.Dir.files part.now.dir) schema.now part.now.loaded.manifest rows
+        × (part.now.loaded.places ≡ (loaded_of schema.now rows).places)
+        × (part.now.loaded.marks ≡ (loaded_of schema.now rows).marks)) }
+    ensures damaged { IfErr result
+        (ExplainsCheck (R.Dir.files part.now.dir) schema.now part.now.loaded) }
     ensures file { (files : Files) → R.Dir.files part.now.dir ≡ Some files
-        → IsManifestFor schema.now (bytes_of file.Manifest files) part.now.loaded.manifest
+        → IsLoadedOf schema.now files part.now.loaded
         → MatchResult result (λ _. damaged_file schema.now files ≡ None)
         (Tells (λ found. damaged_file schema.now files ≡ found)) }
     ensures held { (files : Files) → R.Dir.files part.now.dir ≡ Some files
-        → length part.now.loaded.manifest.files ≡ length (content_ids schema.now)
+        → IsLoadedOf schema.now files part.now.loaded
         → OnOk result ((rows : List Row) × PartHolds R.Dir.files schema.now part.now rows) }
     ensures sound { (rows : List Row) → PartHolds R.Dir.files schema.now part.now rows
         → IfErr result IsNoDamage }
@@ -55,6 +61,7 @@ pub fn check_part<R: Arm>(
     ensures fault { IsErrOf result PartFault.Fault → Rose (R.failed arm.old) (R.failed arm.new) }
     ensures calm { (IsErrOf result PartFault.Fault → ⊥) → R.failed arm.new ≡ R.failed arm.old }
 {
+    let mut agreed = Agreement::whole();
     for place in 0..content_count(schema) {
         // No file has a place past these.
         if place > u32::MAX as usize {
@@ -63,75 +70,76 @@ pub fn check_part<R: Arm>(
         let Some(file) = content_file(schema, place as u32) else {
             unreachable!()
         };
-        check_file(alloc, part, schema, file, arm)?;
+        agreed = agreed.and(check_file(alloc, part, schema, file, arm)?);
     }
-    Ok(())
+    match agreed.unlike() {
+        None => Ok(()),
+        Some(file) => Err(unlike_rows(&part.loaded.manifest, file)),
+    }
 }
 
-/// Nothing, where the file has its mark and spells what belongs in it.
+/// Whether what is kept of the part is that of a file, which has its mark and of a column spells as many values as the part has rows.
 ///
-/// The errors are those of `check_part`.
+/// `Damaged` where it has not, or spells no such values; else as `check_part`.
 fn check_file<R: Arm>(
     alloc: Global,
     part: &Part<R::Dir>,
     schema: &Schema,
     file: FileId,
     arm: &mut R,
-) -> Result<(), PartFault>
+) -> Result<Agreement, PartFault>
+    requires marks { HasMarks schema.now }
     requires content { IsContent schema.now file }
-    ensures checked { OnOk result (IsChecked (R.Dir.files part.now.dir) schema.now
-        part.now.loaded.manifest file) }
+    ensures compared { IfOk result (λ agreed. IsReadAs (R.Dir.files part.now.dir) file
+        (λ bytes. IsCompared schema.now part.now.loaded file bytes agreed)) }
     ensures damaged { IfErr result (ExplainsFile (R.Dir.files part.now.dir) part.now.loaded.manifest
-        file (GoesWrongAt schema.now part.now.loaded.manifest.rows file)) }
+        file (GoesWrongAlone schema.now part.now.loaded.manifest.rows file)) }
     ensures tells { R.tells arm.new ≡ R.tells arm.old }
     ensures later { R.failed arm.old ≤ R.failed arm.new }
     ensures fault { IsErrOf result PartFault.Fault → Rose (R.failed arm.old) (R.failed arm.new) }
     ensures calm { (IsErrOf result PartFault.Fault → ⊥) → R.failed arm.new ≡ R.failed arm.old }
 {
     let bytes = read_file(alloc, arm, &part.dir, file)?;
-    check_bytes(schema, &part.loaded.manifest, file, &bytes)
+    check_bytes(alloc, &part.loaded, schema, file, &bytes)
 }
 
-/// Nothing, where the bytes have the mark of the file and spell what belongs in it.
+/// Whether what is kept of a part is that of the bytes of a file, which have its mark and of a column spell as many values as the part
+/// has rows.
 ///
-/// `Damaged` where they do not. It is never `Fault`.
+/// `Damaged` where they have not, or spell no such values; `NoMemory` where an allocation failed. It is never `Fault`.
 fn check_bytes(
+    alloc: Global,
+    loaded: &Loaded,
     schema: &Schema,
-    manifest: &Manifest,
     file: FileId,
     bytes: &[u8],
-) -> Result<(), PartFault>
+) -> Result<Agreement, PartFault>
+    requires marks { HasMarks schema.now }
     requires content { IsContent schema.now file }
-    ensures { MatchResult result (λ _. IsSound schema.now manifest.now file bytes.now)
-        (ExplainsBytes manifest.now file (GoesWrongAt schema.now manifest.now.rows file bytes.now)
-        bytes.now) }
+    ensures { MatchResult result (IsCompared schema.now loaded.now file bytes.now)
+        (ExplainsBytes loaded.now.manifest file
+        (GoesWrongAlone schema.now loaded.now.manifest.rows file bytes.now) bytes.now) }
 {
-    let mark = mark_found(manifest, file, bytes)?;
-    match check_content(schema, file, bytes, manifest.rows) {
-        Ok(()) => Ok(()),
-        Err(FormatFault::NoMemory) => Err(PartFault::NoMemory),
-        Err(FormatFault::Malformed { place }) => Err(PartFault::Damaged {
-            file,
-            place,
-            wanted: mark,
-            found: mark,
-        }),
+    let mark = mark_found(&loaded.manifest, file, bytes)?;
+    let FileId::Column(number) = file else {
+        return Ok(Agreement::whole());
+    };
+    match compare_column(alloc, loaded, schema, number, bytes) {
+        Ok(agreed) => Ok(agreed),
+        Err(error) => Err(misspelled(file, mark, error)),
     }
 }
 
-/// Nothing, where the bytes spell what belongs in the file, by its kind, of a part with so many rows.
-///
-/// `Malformed` at their first fault. It is never `NoMemory`.
-fn check_content(schema: &Schema, file: FileId, bytes: &[u8], rows: u64) -> Result<(), FormatFault>
-    requires content { IsContent schema.now file }
-    ensures { MatchResult result (λ _. SpellsFile schema.now rows file bytes.now)
-        (LocatesFault schema.now rows file bytes.now) }
+/// The damage of a file of granules that is not that of the rows which the files of the columns spell.
+fn unlike_rows(manifest: &Manifest, file: FileId) -> PartFault
+    ensures { (mark : FileMark) → mark_for manifest.now file ≡ Some mark
+        → result ≡ PartFault.Damaged file 0 mark mark }
 {
-    match file {
-        FileId::Column(number) => {
-            let column = &schema.columns.as_slice()[number as usize];
-            check_column(column.col_type, bytes, rows as usize)
-        }
-        _ => unreachable!(),
+    let mark = mark_at(manifest, file).unwrap_or(NO_MARK);
+    PartFault::Damaged {
+        file,
+        place: 0,
+        wanted: mark,
+        found: mark,
     }
 }

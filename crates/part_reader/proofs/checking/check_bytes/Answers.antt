@@ -7,8 +7,8 @@ use Rattle.part_writer.specs.PartFiles.{mark_of}
 use Rattle.part_reader.specs.declared.reading.PartFault.TheVariants.{Damaged}
 use Rattle.part_reader.specs.Damage.{GoesWrongAt, LocatesFault}
 use Rattle.part_reader.specs.Faults.{ExplainsBytes, IsRefused}
-use Rattle.part_reader.specs.Marks.{mark_for}
-use Rattle.part_reader.specs.Sound.{IsSound}
+use Rattle.part_damage.specs.Marks.{mark_for}
+use Rattle.part_damage.specs.Sound.{IsSound}
 use Rattle.part_reader.proofs.Damages.{error_handed_on, unmarked}
 use Rattle.part_reader.proofs.checking.check_bytes.Goals as goal
 

@@ -7,9 +7,9 @@ use Rattle.part_writer.proofs.Contents.{content_at, content_known, content_lengt
 use Rattle.part_reader.specs.Damage.{ExplainsCheck, Tells}
 use Rattle.part_reader.specs.DamagedFile.{damaged_file, first_unsound}
 use Rattle.part_reader.specs.Faults.{IsNoDamage}
-use Rattle.part_reader.specs.Sound.{AreChecked, FirstUnsound}
+use Rattle.part_damage.specs.Sound.{AreChecked, FirstUnsound}
 use Rattle.part_reader.proofs.Damages.{all_sound, checked_more, damaged_content, error_handed_on, first_told, none_told}
-use Rattle.part_reader.proofs.Deciding.{file_is, told_more, unsound_file}
+use Rattle.part_damage.proofs.Deciding.{file_is, told_more, unsound_file}
 use Rattle.part_reader.proofs.Gaining.{handed_on}
 use Rattle.part_reader.proofs.SoundRows.{held_sound, sound_rows}
 use Rattle.part_reader.proofs.checking.check_part.Goals as goal

@@ -1,7 +1,7 @@
 -- the files gone over are checked
 use Rattle.std.proofs.Common.{◌≡◌, take}
 use Rattle.part_writer.specs.PartFiles.{content_ids}
-use Rattle.part_reader.specs.Sound.{AreChecked}
+use Rattle.part_damage.specs.Sound.{AreChecked}
 use Rattle.part_reader.proofs.checking.check_part.Given as goal
 
 abbrev pub invariant-loop-place : goal.invariant-loop-place
