@@ -1,5 +1,4 @@
 pub mod Columns
-pub mod Compared
 pub mod Damage
 pub mod DamagedFile
 pub mod Faults
