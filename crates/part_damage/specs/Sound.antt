@@ -112,14 +112,16 @@ pub record IsReadAs (told : Option Files) (f : FileId) (Are : List ℕ → Type 
   pub read : ForSome told (λ files. bytes ≡ bytes_of f files)
   pub are : Are bytes
 
--- manifest.bin and the files of granules were read, and this is kept of them
+-- manifest.bin and the files of granules were read, and this is kept of them and of the schema
 pub record IsOpened (told : Option Files) (schema : Schema) (loaded : Loaded) : Type 0 where
+  pub schema_is : loaded.schema ≡ schema
   pub manifest : IsReadAs told file.Manifest (λ bytes. IsManifestFor schema bytes loaded.manifest)
   pub places : IsReadAs told file.Marks (λ bytes. AreMarksUnder schema loaded.manifest bytes loaded.places)
   pub keys : IsReadAs told file.Primary (λ bytes. AreKeysUnder schema loaded.manifest bytes loaded.marks)
 
--- what is kept of a part is what these files say
+-- what is kept of a part of a table with this schema is what these files say
 pub record IsLoadedOf (schema : Schema) (files : Files) (loaded : Loaded) : Type 0 where
+  pub schema_is : loaded.schema ≡ schema
   pub manifest : IsManifestFor schema (bytes_of file.Manifest files) loaded.manifest
   pub places : AreMarksUnder schema loaded.manifest (bytes_of file.Marks files) loaded.places
   pub keys : AreKeysUnder schema loaded.manifest (bytes_of file.Primary files) loaded.marks

@@ -70,11 +70,11 @@ contents_done schema rows columns old new keys starts are second first keys_are 
     (second ∙ ap₂ (λ (l : List ℕ) (ls : List (List ℕ)). l ∷ ls) keys_are (are ∙ sym (map-map (content_bytes schema rows) file.Column (range_with_len 0 (length schema.columns)))))
 
 -- what is kept of the part
-pub loaded_done : (schema : Schema) (rows : List Row) (manifest : Manifest) (marks : List Row) (places : List (List ℕ)) → manifest ≡ manifest_of schema rows → marks ≡ mark_keys schema.primary schema.granularity rows
-    → places ≡ granule_places schema.granularity (length schema.columns) rows → record { manifest = manifest; marks = marks; places = places } ≡ loaded_of schema rows
-loaded_done schema rows manifest marks places is keys starts =
-    ap (λ (m : Manifest). record { manifest = m; marks = marks; places = places }) is
-    ∙ ap₂ (λ (ks : List Row) (ps : List (List ℕ)). record { manifest = manifest_of schema rows; marks = ks; places = ps }) keys starts
+pub loaded_done : (schema twin : Schema) (rows : List Row) (manifest : Manifest) (marks : List Row) (places : List (List ℕ)) → twin ≡ schema → manifest ≡ manifest_of schema rows → marks ≡ mark_keys schema.primary schema.granularity rows
+    → places ≡ granule_places schema.granularity (length schema.columns) rows → record { schema = twin; manifest = manifest; marks = marks; places = places } ≡ loaded_of schema rows
+loaded_done schema twin rows manifest marks places own is keys starts =
+    ap₂ (λ (s : Schema) (m : Manifest). record { schema = s; manifest = m; marks = marks; places = places }) own is
+    ∙ ap₂ (λ (ks : List Row) (ps : List (List ℕ)). record { schema = schema; manifest = manifest_of schema rows; marks = ks; places = ps }) keys starts
 
 -- the encoded bytes at a place are those of the file there
 pub bytes_there : (schema : Schema) (rows : List Row) (contents : List (List ℕ)) (i : ℕ) (f : FileId) (bytes : List ℕ) → contents ≡ map (content_bytes schema rows) (content_ids schema) → slice_get (content_ids schema) i ≡ Some f → slice_get contents i ≡ Some bytes → bytes ≡ content_bytes schema rows f

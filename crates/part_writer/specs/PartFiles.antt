@@ -64,6 +64,7 @@ manifest_of schema rows = record { rows = length rows; files = marks_of (content
 abbrev pub loaded_of : Schema → List Row → Loaded
 loaded_of schema rows =
     record {
+      schema = schema;
       manifest = manifest_of schema rows;
       marks = mark_keys schema.primary schema.granularity rows;
       places = granule_places schema.granularity (length schema.columns) rows;

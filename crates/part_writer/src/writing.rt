@@ -16,7 +16,7 @@ use crate::content::{content_count, content_file};
 use crate::encoding::{Contents, encode_contents};
 use crate::loaded::Loaded;
 use digest_file::{manifest_bytes, mark_of};
-use mt_base::Seq;
+use mt_base::{Seq, Twin};
 use mt_outside::{Arm, DiskError, Stage};
 use mt_values::{Block, FileId, FileMark, Manifest, Schema};
 use stage_dir::{Open, Sealed, Unsealed, seal, write_file};
@@ -142,7 +142,9 @@ fn fill<S: Stage>(
     let bytes = manifest_bytes(alloc, &manifest)?;
     write_file(stage, FileId::Manifest, &bytes)?;
     let Contents { marks, places, .. } = contents;
+    let schema = schema.twin(alloc)?;
     Ok(Loaded {
+        schema,
         manifest,
         marks,
         places,

@@ -91,7 +91,8 @@ returns-clause-files g c =
 
 pub returns-clause-loaded : goal.returns-clause-loaded
 returns-clause-loaded g c =
-    loaded_done c.args.schema.now (picked c.args.block.now.rows c.args.order.now) (record { rows = length c.args.order.now; files = c.loop-place.files }) c.in_ok-contents.contents.marks c.in_ok-contents.contents.places
+    loaded_done c.args.schema.now c.in_ok-schema.schema (picked c.args.block.now.rows c.args.order.now) (record { rows = length c.args.order.now; files = c.loop-place.files }) c.in_ok-contents.contents.marks c.in_ok-contents.contents.places
+    c.in_ok-schema.ensures
     (manifest_is g (goal.at.returns-clause-loaded g c).After-write_file (all_over g (goal.at.returns-clause-loaded g c).After-loop-place)) c.in_ok-contents.ensures.marks c.in_ok-contents.ensures.places
 
 pub returns-clause-readable : goal.returns-clause-readable
