@@ -108,7 +108,6 @@ manifest_sound schema files manifest is (inr p) = p.0 manifest is
 pub same_bytes : (schema : Schema) (bytes bs : List ℕ) (manifest : Manifest) → bs ≡ bytes → IsManifestFor schema bytes manifest → IsManifestFor schema bs manifest
 same_bytes schema bytes bs manifest same is = record { of = subst (λ l. IsManifestOf l manifest) (sym same) is.of; count_is = is.count_is }
 
-
 -- ---- files of granules that are read
 
 -- bytes that go wrong are none

@@ -89,6 +89,7 @@ module _ {F : Type 0} (files_of : F → Option Files) (schema : Schema) (part : 
     -- what the files say is that of the rows
     rows_loaded : IsLoadedOf schema files (loaded_of schema rows)
     rows_loaded = record {
+      schema_is = refl;
       manifest = subst (IsManifestFor schema (bytes_of file.Manifest files)) same is.manifest;
       places = record {
         marked = ap (λ (m : Manifest). mark_for m file.Marks) (sym same) ∙ marked 0 file.Marks refl;
@@ -114,9 +115,11 @@ module _ {F : Type 0} (files_of : F → Option Files) (schema : Schema) (part : 
   pub unsound_rows : FirstUnsound schema manifest files None → (rows : List Row) × PartHolds files_of schema part rows
   unsound_rows (inl p) = absurd (let e = p.2 in cc)
   unsound_rows (inr p) =
-      let rows = p.1.0 in
-      (rows, rows_held rows p.1.1 (bytes_of_rows schema manifest.rows files rows p.1.1 p.1.2)
-      (λ i f here. (all_have (λ g. IsSound schema manifest g (bytes_of g files)) (content_ids schema) p.0 i f here).marked))
+      let rows = p.1.0 in (
+        rows,
+        rows_held rows p.1.1 (bytes_of_rows schema manifest.rows files rows p.1.1 p.1.2)
+            (λ i f here. (all_have (λ g. IsSound schema manifest g (bytes_of g files)) (content_ids schema) p.0 i f here).marked),
+      )
 
   pub undamaged_rows : FirstDamaged schema files None → (rows : List Row) × PartHolds files_of schema part rows
   undamaged_rows (inr p) = absurd (let e = p.1 in cc)
@@ -158,8 +161,14 @@ module _ {F : Type 0} (files_of : F → Option Files) (schema : Schema) (part : 
 
 pub held_unsound : {F : Type 0} (files_of : F → Option Files) (schema : Schema) (part : Part F) (files : Files) (rows : List Row) → files_of part.dir ≡ Some files → PartHolds files_of schema part rows → FirstUnsound schema part.loaded.manifest files None
 held_unsound files_of schema part files rows known h =
-    inr (all_without (λ g. IsSound schema part.loaded.manifest g (bytes_of g files)) (content_ids schema) each, (rows, subst (λ (fs : Files). SpellRows schema part.loaded.manifest.rows fs rows) same (spell_held files_of schema part rows h),
-    all_without (λ f. bytes_of f files ≡ content_bytes schema rows f) granule_ids alike))
+    inr (
+      all_without (λ g. IsSound schema part.loaded.manifest g (bytes_of g files)) (content_ids schema) each,
+      (
+        rows,
+        subst (λ (fs : Files). SpellRows schema part.loaded.manifest.rows fs rows) same (spell_held files_of schema part rows h),
+        all_without (λ f. bytes_of f files ≡ content_bytes schema rows f) granule_ids alike,
+      ),
+    )
   where
     same : h.files ≡ files
     same = same_Some h.files files (sym h.files_are ∙ known)
@@ -184,9 +193,14 @@ held_unsound files_of schema part files rows known h =
 
 pub written_undamaged : (schema : Schema) (files : Files) (rows : List Row) → HasMarks schema → FolderHolds schema rows files → FirstDamaged schema files None
 written_undamaged schema files rows has w =
-    inl (manifest_of schema rows, written_manifest schema files rows w,
-    inr (all_without (λ g. IsReadable schema (manifest_of schema rows) g (bytes_of g files)) granule_ids each,
-    held_unsound (λ (told : Option Files). told) schema part files rows refl (written_holds (λ (told : Option Files). told) schema part rows files refl refl w)))
+    inl (
+      manifest_of schema rows,
+      written_manifest schema files rows w,
+      inr (
+        all_without (λ g. IsReadable schema (manifest_of schema rows) g (bytes_of g files)) granule_ids each,
+        held_unsound (λ (told : Option Files). told) schema part files rows refl (written_holds (λ (told : Option Files). told) schema part rows files refl refl w),
+      ),
+    )
   where
     part : Part (Option Files)
     part = record { dir = Some files; loaded = loaded_of schema rows }

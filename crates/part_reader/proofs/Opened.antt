@@ -35,8 +35,8 @@ one_loaded schema files x y p q =
     one_marks (length schema.columns) (granules schema.granularity rows) (bytes_of file.Marks files) x.places y.places (subst (λ (m : Manifest). AreMarksUnder schema m (bytes_of file.Marks files) x.places) same p.places).are q.places.are in
     let keys : x.marks ≡ y.marks =
     one_primary (shape_of schema rows) (bytes_of file.Primary files) x.marks y.marks (subst (λ (m : Manifest). AreKeysUnder schema m (bytes_of file.Primary files) x.marks) same p.keys).are q.keys.are in
-    ap (λ (m : Manifest). record { manifest = m; marks = x.marks; places = x.places }) same
-    ∙ ap₂ (λ (ks : List Row) (ps : List (List ℕ)). record { manifest = y.manifest; marks = ks; places = ps }) keys places
+    ap₂ (λ (s : Schema) (m : Manifest). record { schema = s; manifest = m; marks = x.marks; places = x.places }) (p.schema_is ∙ sym q.schema_is) same
+    ∙ ap₂ (λ (ks : List Row) (ps : List (List ℕ)). record { schema = y.schema; manifest = y.manifest; marks = ks; places = ps }) keys places
 
 -- ---- what a fault says
 

@@ -70,6 +70,7 @@ module _ (schema : Schema) (files : Files) (rows : List Row) (w : FolderHolds sc
   -- what its files say is that of the rows
   pub written_loaded : HasMarks schema → IsLoadedOf schema files (loaded_of schema rows)
   written_loaded has = record {
+    schema_is = refl;
     manifest = written_manifest;
     places = record {
       marked = mark_held schema rows file.Marks tt ∙ ap (λ bs. Some (mark_of bs)) (sym (folder_bytes 0 file.Marks refl));

@@ -24,6 +24,7 @@ fn loaded_twin(alloc: Global, loaded: &Loaded) -> Result<Loaded, NoMemory>
     ensures { IfOk result (λ l. l ≡ loaded.now) }
 {
     Ok(Loaded {
+        schema: loaded.schema.twin(alloc)?,
         manifest: manifest_twin(alloc, &loaded.manifest)?,
         marks: loaded.marks.twin(alloc)?,
         places: loaded.places.twin(alloc)?,

@@ -20,6 +20,7 @@ use crate::marked::{mark_found, misspelled};
 use crate::reading::{NO_MARK, Part, PartFault};
 use column_file::FormatFault;
 use digest_file::{mark_of, read_manifest};
+use mt_base::Twin;
 use mt_outside::Arm;
 use mt_values::{FileId, Manifest, Schema};
 use part_writer::{Loaded, content_count};
@@ -29,8 +30,8 @@ use std::alloc::Global;
 /// Where the number of files stands in the bytes of a manifest: after `MTP1`, two bytes of the version and eight of the number of rows.
 const COUNT_PLACE: u64 = 14;
 
-/// The part of a table with this folder, and what is kept of it: its manifest, and what its `marks.bin` and `primary.bin` say. Each
-/// of the three files is read whole, in this order.
+/// The part of a table with this folder, and what is kept of it: the schema of the table, its manifest, and what its `marks.bin` and
+/// `primary.bin` say. Each of the three files is read whole, in this order.
 ///
 /// `Damaged` at the first of them that is not as it has to be: where `manifest.bin` is no manifest, at its first fault, or one that has
 /// not as many marks as the part has other files, at the place of that number; where another does not have its mark, at 0, or is none,
@@ -72,7 +73,11 @@ pub fn open_part<R: Arm>(
     let manifest = open_manifest(alloc, &dir, schema, arm)?;
     let places = open_marks(alloc, &dir, schema, &manifest, arm)?;
     let marks = open_keys(alloc, &dir, schema, &manifest, arm)?;
+    let Ok(schema) = schema.twin(alloc) else {
+        return Err(PartFault::NoMemory);
+    };
     let loaded = Loaded {
+        schema,
         manifest,
         marks,
         places,

@@ -105,12 +105,13 @@ returns-in_err-marks-clause-damaged g c =
 pub returns-clause-opened : goal.returns-clause-opened
 returns-clause-opened g c =
     subst (IsOpened (g.R.Dir.Dir.files c.args.dir) c.args.schema.now) (sym c.of.ensures.loaded)
-    (record { manifest = c.in_ok-manifest.ensures.read; places = c.in_ok-places.ensures.read; keys = c.in_ok-marks.ensures.read })
+    (record { schema_is = c.in-Ok.ensures; manifest = c.in_ok-manifest.ensures.read; places = c.in_ok-places.ensures.read; keys = c.in_ok-marks.ensures.read })
 
 -- what was read is what the files say
 module _ (schema : Schema) (told : Option Files) (files : Files) (loaded : Loaded) (known : told ≡ Some files) (opened : IsOpened told schema loaded) where
   loaded_there : IsLoadedOf schema files loaded
   loaded_there = record {
+    schema_is = opened.schema_is;
     manifest = there told files file.Manifest (λ bytes. IsManifestFor schema bytes loaded.manifest) known opened.manifest;
     places = there told files file.Marks (λ bytes. AreMarksUnder schema loaded.manifest bytes loaded.places) known opened.places;
     keys = there told files file.Primary (λ bytes. AreKeysUnder schema loaded.manifest bytes loaded.marks) known opened.keys;
