@@ -42,16 +42,25 @@ impl Digests {
         Ok(bytes)
     }
 
-    /// Checks the manifest of a part, and its columns by the marks of the manifest.
+    /// Checks the manifest of a part, and its other files by the marks of the manifest.
     fn check_part(&mut self, folder: &Path) -> io::Result<()> {
         let manifest = self.check_sealed(&folder.join("manifest.bin"))?;
         let marks = &manifest[HEADER..manifest.len() - DIGEST];
         for (number, mark) in marks.chunks_exact(MARK).enumerate() {
-            let bytes = fs::read(folder.join(format!("c{number}.bin")))?;
+            let bytes = fs::read(folder.join(file_name(number)))?;
             self.compare(&bytes, &mark[MARK - DIGEST..])?;
             self.files += 1;
         }
         Ok(())
+    }
+}
+
+/// The name of the file whose mark stands at this place of a manifest.
+fn file_name(place: usize) -> String {
+    match place {
+        0 => "marks.bin".to_string(),
+        1 => "primary.bin".to_string(),
+        _ => format!("c{}.bin", place - 2),
     }
 }
 

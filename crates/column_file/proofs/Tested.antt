@@ -51,7 +51,7 @@ none_below p k n e below =
 -- ---- a value at the front
 
 -- what the size of a first value tells
-abbrev FirstIs : ColType → List ℕ → Option ℕ → Type 0
+abbrev pub FirstIs : ColType → List ℕ → Option ℕ → Type 0
 FirstIs t bytes size = MatchOption size (NoneBegins t bytes) (λ n. (v : Value) × IsOfType t v × Begins (value_bytes v) n bytes)
 
 all_bytes : (bs : List ℕ) → Decides (list_all (λ b. ltb b 256) bs) (AreBytes bs)
@@ -108,7 +108,7 @@ text_first bytes = by (find (has_text bytes) (range_with_len 0 (length bytes + 1
             both_ways (has_text bytes (length x)) (none_below (has_text bytes) (length bytes + 1) (length x) e passes.1) passes.0
         none v rest typed h = absurd cc
 
-first_is : (t : ColType) (bytes : List ℕ) → FirstIs t bytes (first_size t bytes)
+pub first_is : (t : ColType) (bytes : List ℕ) → FirstIs t bytes (first_size t bytes)
 first_is type.UInt8 bytes = number_first type.UInt8 bytes (λ e. cc)
 first_is type.UInt16 bytes = number_first type.UInt16 bytes (λ e. cc)
 first_is type.UInt32 bytes = number_first type.UInt32 bytes (λ e. cc)

@@ -18,7 +18,9 @@ use Rattle.part_writer.specs.PartFiles.{manifest_of}
 use Rattle.part_reader.specs.declared.reading.Part.{Part}
 use Rattle.part_reader.specs.Columns.{AreRead, IsRead}
 use Rattle.part_reader.specs.Parts.{HoldsAt, with_columns}
-use Rattle.part_reader.proofs.Holding.{AreTyped, column_spelled, columns_held, columns_within, each_typed}
+use Rattle.part_writer.specs.declared.loaded.Loaded.{Loaded}
+use Rattle.part_reader.proofs.Holding.{AreTyped, columns_held, columns_within, each_typed}
+use Rattle.part_damage.proofs.SpelledRows.{column_spelled}
 
 -- ---- one column more
 
@@ -113,7 +115,7 @@ rows_gained told files manifest schema rows (p ∷ places) (o ∷ olds) (n ∷ n
 pub rows_read : {F : Type 0} (files_of : F → Option Files) (schema : Schema) (part : Part F) (places : List ℕ) (rows : List Row) (olds news : List Cells) → HoldsAt files_of schema part (map file.Column places) rows
     → map (λ (c : Cells). c.col_type) olds ≡ filter_map (slice_get (column_types schema)) places → AreRead (files_of part.dir) part.loaded.manifest places olds news → news ≡ with_columns rows places olds
 rows_read files_of schema part places rows olds news h typed read =
-    rows_gained (files_of part.dir) h.files part.loaded.manifest schema rows places olds news h.files_are h.loaded_is h.typed h.encodable (columns_held files_of schema part places rows h)
+    rows_gained (files_of part.dir) h.files part.loaded.manifest schema rows places olds news h.files_are (ap (λ (l : Loaded). l.manifest) h.loaded_is) h.typed h.encodable (columns_held files_of schema part places rows h)
     (each_typed (column_types schema) places olds (columns_within files_of schema part places rows h) typed) read
 
 -- what holds of an error that was handed on holds of the answer

@@ -1,10 +1,10 @@
 -- Parts that hold rows: the files that were written are theirs, and nothing of them is damaged.
-use Rattle.std.proofs.Common.{◌≡◌, ℕ, ◌<◌, inl, inr, List, [], ◌∷◌, Option, Some, None, refl, sym, ap, ◌∙◌, subst, length, map, get_or, slice_get, filter_map, All, arith, IsSomeAnd, MatchOption}
+use Rattle.std.proofs.Common.{◌≡◌, ℕ, zero, suc, ◌+◌, ◌<◌, inl, inr, List, [], ◌∷◌, Option, Some, None, refl, sym, ap, ◌∙◌, subst, length, map, get_or, slice_get, filter_map, All, arith, IsSomeAnd, MatchOption}
 use Rattle.std.specs.List.{AllZip, cons_option}
 use Rattle.std.specs.Option.{option_map}
 use Rattle.std.proofs.lemmas.List.{length-map, get_or-map}
 use Rattle.std.proofs.lemmas.List.Elements.{All-nil, All-cons, All-head, All-map, All-tail}
-use Rattle.std.proofs.lemmas.Option.{get_or_from_slice_get, slice_get-get_or, slice_get-map, slice_get_within}
+use Rattle.std.proofs.lemmas.Option.{get_or_from_slice_get, same_Some, slice_get-get_or, slice_get-map, slice_get_within}
 use Rattle.std.proofs.lemmas.Slice.Zip.{AllZip-right}
 use Rattle.sha2.specs.Sha256.{sha256}
 use Rattle.mt_values.specs.declared.manifest.FileMark.{FileMark}
@@ -28,21 +28,27 @@ use Rattle.column_file.specs.Faults.{IsFirstFault}
 use Rattle.column_file.specs.Spellings.{IsOfType, IsSpelling}
 use Rattle.column_file.proofs.OneWay.{no_spelling}
 use Rattle.digest_file.specs.Spellings.{IsManifestOf}
-use Rattle.part_writer.specs.PartFiles.{IsContent, all_synced, content_bytes, content_ids, files_of_part, manifest_of, mark_of, with_bytes}
-use Rattle.part_writer.proofs.Contents.{all_content, content_all, content_is, mark_at}
+use Rattle.part_writer.specs.PartFiles.{IsContent, all_synced, content_bytes, content_ids, files_of_part, loaded_of, manifest_of, mark_of, with_bytes}
+use Rattle.part_writer.specs.declared.loaded.Loaded.{Loaded}
+use Rattle.part_writer.proofs.Contents.{all_content, column_is, content_all, mark_at}
 use Rattle.part_writer.proofs.Folders.{bytes_at, content_held, manifest_held, sealed_bytes}
 use Rattle.part_reader.specs.declared.reading.PartFault.{PartFault}
 use Rattle.part_reader.specs.declared.reading.PartFault.TheVariants.{Fault, NoMemory, Damaged}
 use Rattle.part_reader.specs.declared.reading.Part.{Part}
 use Rattle.part_reader.specs.Faults.{ExplainsPart, IsDamage, IsNoDamage, IsRefused}
-use Rattle.part_reader.specs.Marks.{mark_for}
+use Rattle.part_damage.specs.Marks.{mark_for}
 use Rattle.part_reader.specs.Parts.{FolderHolds, HoldsAt, PartHolds}
+use Rattle.part_damage.proofs.SpelledRows.{column_spelled}
 
 -- ---- the marks of a manifest
 
 -- the mark of a file stands at its place
 pub mark_placed : (schema : Schema) (manifest : Manifest) (i : ℕ) (f : FileId) → slice_get (content_ids schema) i ≡ Some f → mark_for manifest f ≡ slice_get manifest.files i
-mark_placed schema manifest i f here = ap (mark_for manifest) (content_is schema i f here)
+mark_placed schema manifest zero f here = ap (mark_for manifest) (sym (same_Some file.Marks f here))
+mark_placed schema manifest (suc zero) f here = ap (mark_for manifest) (sym (same_Some file.Primary f here))
+mark_placed schema manifest (suc (suc i)) f here =
+    let up : i + 2 ≡ suc (suc i) = omega arith in
+    ap (mark_for manifest) (column_is schema i f here).0 ∙ ap (slice_get manifest.files) up
 
 pub mark_held : (schema : Schema) (rows : List Row) (f : FileId) → IsContent schema f → mark_for (manifest_of schema rows) f ≡ Some (mark_of (content_bytes schema rows f))
 mark_held schema rows f is =
@@ -62,7 +68,7 @@ sealed_folder schema rows typed encodable readable = record {
 }
 
 module _ {F : Type 0} (files_of : F → Option Files) (schema : Schema) (part : Part F) (rows : List Row) where
-  pub written_holds : (files : Files) → files_of part.dir ≡ Some files → part.loaded.manifest ≡ manifest_of schema rows → FolderHolds schema rows files → PartHolds files_of schema part rows
+  pub written_holds : (files : Files) → files_of part.dir ≡ Some files → part.loaded ≡ loaded_of schema rows → FolderHolds schema rows files → PartHolds files_of schema part rows
   written_holds files told loaded folder = record {
     files = files;
     files_are = told;
@@ -102,28 +108,6 @@ module _ {F : Type 0} (files_of : F → Option Files) (schema : Schema) (part : 
   columns_held k d lt =
       bytes_at schema rows h.files (map file.Column places) k (file.Column (get_or places k d)) h.held
       (slice_get-map file.Column places k ∙ ap (option_map file.Column) (slice_get-get_or places k d lt))
-
--- ---- what the file of a column spells
-
-typed_column : (i : ℕ) (t : ColType) (rows : List Row) → HaveTypeAt i t rows → All (λ (row : Row). All FitsType row) rows → All (IsOfType t) (column_of i rows)
-typed_column i t [] typed fit = All-nil (IsOfType t)
-typed_column i t (row ∷ rows) typed fit =
-    of_first (slice_get row i) refl (All-head (λ r. slice_get (types_of r) i ≡ Some t) row rows typed) (All-head (λ (r : Row). All FitsType r) row rows fit)
-    (typed_column i t rows (All-tail (λ r. slice_get (types_of r) i ≡ Some t) row rows typed) (All-tail (λ (r : Row). All FitsType r) row rows fit))
-  where
-    of_first : (o : Option Value) → slice_get row i ≡ o → slice_get (types_of row) i ≡ Some t → All FitsType row → All (IsOfType t) (column_of i rows) → All (IsOfType t) (cons_option o (column_of i rows))
-    of_first None e here fits rest = rest
-    of_first (Some v) e here fits rest =
-        All-cons (IsOfType t) v (column_of i rows) (type_at i t row v here e, subst FitsType (get_or_from_slice_get row i v v e) (fits i v (slice_get_within row i v e))) rest
-
--- the bytes of a column's file spell the column's values
-pub column_spelled : (types : List ColType) (rows : List Row) (i : ℕ) (t : ColType) (count : ℕ) (bytes : List ℕ) → slice_get types i ≡ Some t → AreRowsOf types rows → All (λ (row : Row). All FitsType row) rows → count ≡ length rows → bytes ≡ column_bytes (column_of i rows)
-    → IsSpelling t count bytes (column_of i rows)
-column_spelled types rows i t count bytes here typed fit counted e = record {
-  typed = typed_column i t rows (HaveTypeAt-typed types rows i t typed here) fit;
-  count_is = length_column types rows i typed (slice_get_within types i t here) ∙ sym counted;
-  spelled = e;
-}
 
 -- ---- columns of the types at their places
 
@@ -167,8 +151,8 @@ no_damage told files manifest schema rows number t f place wanted found known he
     let bytes = column_bytes (column_of number rows) in
     let same : damage.bytes ≡ bytes = damage.read files known ∙ held in
     let below : number < length (column_types schema) = slice_get_within (column_types schema) number t here in
-    let mark : slice_get manifest.files number ≡ Some (mark_of bytes) =
-    ap (λ (m : Manifest). slice_get m.files number) is ∙ mark_held schema rows (file.Column number) (omega (arith, length-map schema.columns (λ (c : Column). c.col_type))) in
+    let mark : mark_for manifest (file.Column number) ≡ Some (mark_of bytes) =
+    ap (λ (m : Manifest). mark_for m (file.Column number)) is ∙ mark_held schema rows (file.Column number) (omega (arith, length-map schema.columns (λ (c : Column). c.col_type))) in
     let refused : IsRefused (Some (mark_of bytes)) (IsFirstFault t manifest.rows damage.bytes) damage.bytes place wanted =
     subst (λ (o : Option FileMark). IsRefused o (IsFirstFault t manifest.rows damage.bytes) damage.bytes place wanted) mark damage.explained.2 in
     elim refused.1 [
@@ -185,5 +169,5 @@ sound_part files_of schema part places rows columns (Damaged f place wanted foun
     let held : bytes_of (file.Column why.number) h.files ≡ column_bytes (column_of why.number rows) =
     subst (λ p. bytes_of (file.Column p) h.files ≡ column_bytes (column_of p rows)) (get_or_from_slice_get places why.at why.number 0 why.number_is)
     (columns_held files_of schema part places rows h why.at 0 (slice_get_within places why.at why.number why.number_is)) in
-    no_damage (files_of part.dir) h.files part.loaded.manifest schema rows why.number why.column.col_type f place wanted found h.files_are held h.loaded_is h.typed h.encodable
+    no_damage (files_of part.dir) h.files part.loaded.manifest schema rows why.number why.column.col_type f place wanted found h.files_are held (ap (λ (l : Loaded). l.manifest) h.loaded_is) h.typed h.encodable
     (type_there (column_types schema) places columns why.at why.number why.column (each_typed (column_types schema) places columns (columns_within files_of schema part places rows h) typed) why.number_is why.column_is) why.explained

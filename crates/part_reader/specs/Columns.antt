@@ -7,7 +7,7 @@ use Rattle.mt_values.specs.Grid.{Cells}
 use Rattle.mt_outside.specs.Files.{Files, bytes_of}
 use Rattle.column_file.specs.Spellings.{GainsAll}
 use Rattle.part_writer.specs.PartFiles.{mark_of}
-use Rattle.part_reader.specs.Marks.{mark_for}
+use Rattle.part_damage.specs.Marks.{mark_for}
 
 -- bytes were read that have the mark of the part's column with this number, and a column got the values that they spell;
 -- they are those of the column's file, where the folder tells

@@ -7,17 +7,22 @@ use Rattle.mt_base.specs.declared.name.FileId.TheVariants as file
 use Rattle.mt_values.specs.declared.schema.Schema.{Schema}
 use Rattle.mt_values.specs.Schemas.{column_types}
 use Rattle.mt_outside.specs.Files.{Files, bytes_of}
-use Rattle.byte_numbers.specs.declared.faults.FormatFault.{FormatFault}
-use Rattle.byte_numbers.specs.declared.faults.FormatFault.TheVariants as format
 use Rattle.column_file.specs.Faults.{IsFirstFault as IsWrongAt}
 use Rattle.digest_file.specs.Faults.{IsFirstFault}
 use Rattle.digest_file.specs.Spellings.{IsManifest, IsManifestOf}
-use Rattle.part_writer.specs.PartFiles.{content_ids, mark_of}
+use Rattle.mt_values.specs.Values.{Row}
+use Rattle.column_file.specs.Marks.{granules}
+use Rattle.primary_marks.specs.KeyFaults.{IsPrimaryFault}
+use Rattle.primary_marks.specs.Keys.{shape_of}
+use Rattle.primary_marks.specs.Places.{IsMarksFault}
+use Rattle.part_writer.specs.PartFiles.{content_ids, loaded_of, mark_of}
+use Rattle.part_writer.specs.declared.loaded.Loaded.{Loaded}
 use Rattle.part_reader.specs.declared.reading.PartFault.{PartFault}
 use Rattle.part_reader.specs.declared.reading.PartFault.TheVariants.{Fault, NoMemory, Damaged}
 use Rattle.part_reader.specs.declared.reading.TheConstants.{NO_MARK}
 use Rattle.part_reader.specs.Faults.{ExplainsFile}
-use Rattle.part_reader.specs.Sound.{AreChecked}
+use Rattle.part_damage.specs.Marks.{mark_for}
+use Rattle.part_damage.specs.Sound.{AreChecked, AreRowsRead, IsManifestFor, IsReadAs, IsReadable}
 
 -- where the number of files stands in a manifest: after 4 first bytes, 2 of the version and 8 of the number of rows
 abbrev pub count_place : ℕ
@@ -41,29 +46,74 @@ pub record IsManifestDamage (told : Option Files) (schema : Schema) (damage : Pa
   pub read : ForSome told (λ files. bytes ≡ bytes_of file.Manifest files)
   pub explained : ExplainsManifest schema bytes damage
 
--- what a fault says of a part whose manifest was read
-abbrev pub ExplainsOpening : Option Files → Schema → PartFault → Type 0
-ExplainsOpening told schema Fault = ⊤
-ExplainsOpening told schema NoMemory = ⊤
-ExplainsOpening told schema (Damaged f place wanted found) = IsManifestDamage told schema (Damaged f place wanted found)
+-- what a fault says of manifest.bin, which was read
+abbrev pub ExplainsManifestFile : Option Files → Schema → PartFault → Type 0
+ExplainsManifestFile told schema Fault = ⊤
+ExplainsManifestFile told schema NoMemory = ⊤
+ExplainsManifestFile told schema (Damaged f place wanted found) = IsManifestDamage told schema (Damaged f place wanted found)
 
--- the bytes go wrong at the place as what such a file of so many rows has in it, by its kind
+-- the bytes go wrong at the place as such a file of a part with so many rows, by its kind
 abbrev pub GoesWrongAt : Schema → ℕ → FileId → List ℕ → ℕ → Type 0
+GoesWrongAt schema rows file.Marks bytes place = IsMarksFault (length schema.columns) (granules schema.granularity rows) bytes place
+GoesWrongAt schema rows file.Primary bytes place = IsPrimaryFault (shape_of schema rows) bytes place
 GoesWrongAt schema rows (file.Column n) bytes place = IsSomeAnd (slice_get (column_types schema) n) (λ t. IsWrongAt t rows bytes place)
 GoesWrongAt schema rows f bytes place = ⊥
 
--- what an error says of the bytes: malformed ones go wrong at its place
-abbrev pub LocatesFault : Schema → ℕ → FileId → List ℕ → FormatFault → Type 0
-LocatesFault schema rows f bytes format.NoMemory = ⊥
-LocatesFault schema rows f bytes (format.Malformed place) = GoesWrongAt schema rows f bytes place
+-- the files of granules that come before this one were read, under this manifest
+abbrev pub AreReadBefore : Option Files → Schema → Manifest → FileId → Type 0
+AreReadBefore told schema manifest file.Primary = IsReadAs told file.Marks (λ bytes. IsReadable schema manifest file.Marks bytes)
+AreReadBefore told schema manifest f = f ≡ file.Marks
 
--- what a fault says of a part whose files were checked in the order of the format: it is of one of them, and those before it are sound
-pub record ExplainsCheck (told : Option Files) (schema : Schema) (manifest : Manifest) (fault : PartFault) : Type 0 where
+-- damage of a file of granules is told under a manifest that was read, and those before it were read
+pub record IsGranuleDamage (told : Option Files) (schema : Schema) (damage : PartFault) : Type 0 where
+  pub manifest : Manifest
+  pub opened : IsReadAs told file.Manifest (λ bytes. IsManifestFor schema bytes manifest)
+  pub damaged : FileId
+  pub before : AreReadBefore told schema manifest damaged
+  pub explained : ExplainsFile told manifest damaged (GoesWrongAt schema manifest.rows damaged) damage
+
+-- what a fault says of a part that was opened
+abbrev pub ExplainsOpening : Option Files → Schema → PartFault → Type 0
+ExplainsOpening told schema Fault = ⊤
+ExplainsOpening told schema NoMemory = ⊤
+ExplainsOpening told schema (Damaged f place wanted found) =
+    IsManifestDamage told schema (Damaged f place wanted found) ⊎ IsGranuleDamage told schema (Damaged f place wanted found)
+
+-- The bytes go wrong at the place by themselves. What a file of granules has in it is compared with all columns.
+abbrev pub GoesWrongAlone : Schema → ℕ → FileId → List ℕ → ℕ → Type 0
+GoesWrongAlone schema rows (file.Column n) bytes place = GoesWrongAt schema rows (file.Column n) bytes place
+GoesWrongAlone schema rows f bytes place = ⊥
+
+-- a file is damaged by itself, and those before it are sound
+pub record IsUnsoundFault (told : Option Files) (schema : Schema) (manifest : Manifest) (fault : PartFault) : Type 0 where
   pub place : ℕ
   pub file : FileId
   pub file_is : slice_get (content_ids schema) place ≡ Some file
   pub before : AreChecked told schema manifest (take place (content_ids schema))
-  pub explained : ExplainsFile told manifest file (GoesWrongAt schema manifest.rows file) fault
+  pub explained : ExplainsFile told manifest file (GoesWrongAlone schema manifest.rows file) fault
+
+-- what is kept of a part is not that of rows: the places, or else the keys
+abbrev pub IsKeptUnlike : Schema → List Row → Loaded → FileId → Type 0
+IsKeptUnlike schema rows loaded file.Marks = loaded.places ≢ (loaded_of schema rows).places
+IsKeptUnlike schema rows loaded file.Primary = (loaded.places ≡ (loaded_of schema rows).places) × (loaded.marks ≢ (loaded_of schema rows).marks)
+IsKeptUnlike schema rows loaded f = ⊥
+
+-- damage of a file of granules, which is not that of the rows that the files of the columns spell
+abbrev pub IsUnlikeDamage : Schema → List Row → Loaded → PartFault → Type 0
+IsUnlikeDamage schema rows loaded Fault = ⊥
+IsUnlikeDamage schema rows loaded NoMemory = ⊥
+IsUnlikeDamage schema rows loaded (Damaged f place wanted found) =
+    IsKeptUnlike schema rows loaded f × (place ≡ 0) × (mark_for loaded.manifest f ≡ Some wanted) × (found ≡ wanted)
+
+-- no file is damaged by itself, and what is kept of the part is not that of the rows
+pub record IsUnlikeFault (told : Option Files) (schema : Schema) (loaded : Loaded) (fault : PartFault) : Type 0 where
+  pub rows : List Row
+  pub read : AreRowsRead told schema loaded.manifest rows
+  pub unlike : IsUnlikeDamage schema rows loaded fault
+
+-- what a fault says of a part that was checked
+abbrev pub ExplainsCheck : Option Files → Schema → Loaded → PartFault → Type 0
+ExplainsCheck told schema loaded fault = IsUnsoundFault told schema loaded.manifest fault ⊎ IsUnlikeFault told schema loaded fault
 
 -- where the fault tells a damaged file, it is this one
 abbrev pub Tells : (Option FileId → Type 0) → PartFault → Type 0

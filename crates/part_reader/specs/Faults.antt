@@ -10,9 +10,11 @@ use Rattle.mt_values.specs.Grid.{Cells}
 use Rattle.mt_outside.specs.declared.disk.DiskError.{DiskError}
 use Rattle.mt_outside.specs.declared.disk.DiskError.TheVariants as disk
 use Rattle.mt_outside.specs.Files.{Files, bytes_of}
+use Rattle.byte_numbers.specs.declared.faults.FormatFault.{FormatFault}
+use Rattle.byte_numbers.specs.declared.faults.FormatFault.TheVariants as format
 use Rattle.column_file.specs.Faults.{IsFirstFault}
 use Rattle.part_writer.specs.PartFiles.{mark_of}
-use Rattle.part_reader.specs.Marks.{mark_for}
+use Rattle.part_damage.specs.Marks.{mark_for}
 use Rattle.part_reader.specs.declared.reading.PartFault.{PartFault}
 use Rattle.part_reader.specs.declared.reading.PartFault.TheVariants.{Fault, NoMemory, Damaged}
 use Rattle.part_reader.specs.declared.reading.TheConstants.{NO_MARK}
@@ -21,6 +23,11 @@ use Rattle.part_reader.specs.declared.reading.TheConstants.{NO_MARK}
 abbrev pub FaultOf : DiskError → PartFault → Type 0
 FaultOf disk.Fault e = e ≡ Fault
 FaultOf disk.NoMemory e = e ≡ NoMemory
+
+-- what an error says of a file whose bytes have the mark of the manifest
+abbrev pub fault_of : FileId → FileMark → FormatFault → PartFault
+fault_of f mark format.NoMemory = NoMemory
+fault_of f mark (format.Malformed place) = Damaged f place mark mark
 
 -- a fault that says nothing of the part's files
 abbrev pub IsNoDamage : PartFault → Type 0

@@ -2,6 +2,5 @@ pub mod Columns
 pub mod Damage
 pub mod DamagedFile
 pub mod Faults
-pub mod Marks
 pub mod Parts
 pub mod Sound

@@ -1,4 +1,4 @@
--- Which rows the folder and the manifest of a part hold (docs/formats.md, "Parts").
+-- Which rows the folder of a part and what is kept of it hold (docs/formats.md, "Parts").
 use Rattle.std.specs.Prelude.{◌≡◌, ℕ, List, [], ◌∷◌, map, All, Option, Some}
 use Rattle.mt_base.specs.declared.name.FileId.{FileId}
 use Rattle.mt_base.specs.declared.name.FileId.TheVariants as file
@@ -9,7 +9,7 @@ use Rattle.mt_values.specs.Values.{FitsType, Row}
 use Rattle.mt_outside.specs.Files.{Files, bytes_of}
 use Rattle.column_file.specs.Spellings.{with_values}
 use Rattle.digest_file.specs.Spellings.{IsManifestOf}
-use Rattle.part_writer.specs.PartFiles.{HasBytes, IsContent, content_ids, files_of_part, manifest_of, with_bytes}
+use Rattle.part_writer.specs.PartFiles.{HasBytes, IsContent, content_ids, files_of_part, loaded_of, manifest_of, with_bytes}
 use Rattle.part_reader.specs.declared.reading.Part.{Part}
 
 -- a folder holds rows of a table: each of its files has the bytes that are written of them, and the manifest can be read back
@@ -19,13 +19,13 @@ pub record FolderHolds (schema : Schema) (rows : List Row) (files : Files) : Typ
   pub typed : AreRowsOf (column_types schema) rows
   pub encodable : All (λ (row : Row). All FitsType row) rows
 
--- rows of a table: the folder tells that these of its files are theirs, and so is the manifest that is kept
+-- rows of a table: the folder tells that these of its files are theirs, and so is what is kept in memory
 pub record HoldsAt {F : Type 0} (files_of : F → Option Files) (schema : Schema) (part : Part F) (ids : List FileId) (rows : List Row) : Type 0 where
   pub files : Files
   pub files_are : files_of part.dir ≡ Some files
   pub within : All (IsContent schema) ids
   pub held : HasBytes files (map (with_bytes schema rows) ids)
-  pub loaded_is : part.loaded.manifest ≡ manifest_of schema rows
+  pub loaded_is : part.loaded ≡ loaded_of schema rows
   pub typed : AreRowsOf (column_types schema) rows
   pub encodable : All (λ (row : Row). All FitsType row) rows
 

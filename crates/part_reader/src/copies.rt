@@ -4,17 +4,31 @@ ghost use Rattle.std.specs.Prelude.{◌≡◌, IfOk};
 use crate::reading::Part;
 use mt_base::{NoMemory, Seq, Twin};
 use mt_outside::Dir;
-use mt_values::{Loaded, Manifest};
+use mt_values::Manifest;
+use part_writer::Loaded;
 use std::alloc::Global;
 
 impl<D: Dir> Twin for Part<D> {
     fn twin(&self, alloc: Global) -> Result<Self, NoMemory> {
-        let manifest = manifest_twin(alloc, &self.loaded.manifest)?;
         Ok(Part {
             dir: self.dir.share(alloc)?,
-            loaded: Loaded { manifest },
+            loaded: loaded_twin(alloc, &self.loaded)?,
         })
     }
+}
+
+/// An equal copy of what is kept of a part.
+///
+/// `NoMemory` where an allocation failed.
+fn loaded_twin(alloc: Global, loaded: &Loaded) -> Result<Loaded, NoMemory>
+    ensures { IfOk result (λ l. l ≡ loaded.now) }
+{
+    Ok(Loaded {
+        schema: loaded.schema.twin(alloc)?,
+        manifest: manifest_twin(alloc, &loaded.manifest)?,
+        marks: loaded.marks.twin(alloc)?,
+        places: loaded.places.twin(alloc)?,
+    })
 }
 
 /// An equal manifest.

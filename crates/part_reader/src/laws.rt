@@ -11,12 +11,13 @@ ghost use Rattle.mt_values.specs.Values.{FitsType, Row};
 ghost use Rattle.mt_outside.specs.Files.{Files, bytes_of};
 ghost use Rattle.sha2.specs.Sha256.{sha256};
 ghost use Rattle.digest_file.specs.Spellings.{IsManifestOf};
-ghost use Rattle.part_writer.specs.PartFiles.{all_synced, content_ids, files_of_part, manifest_of};
+ghost use Rattle.part_writer.specs.PartFiles.{all_synced, content_ids, files_of_part, loaded_of, manifest_of};
+ghost use Rattle.primary_marks.specs.Keys.{HasMarks};
 ghost use Rattle.part_reader.specs.declared.reading.Part.{Part};
-ghost use Rattle.part_reader.specs.DamagedFile.{damaged_file, first_unsound};
-ghost use Rattle.part_reader.specs.Marks.{mark_for};
+ghost use Rattle.part_reader.specs.DamagedFile.{damaged_file};
+ghost use Rattle.part_damage.specs.Marks.{mark_for};
 ghost use Rattle.part_reader.specs.Parts.{FolderHolds, HoldsAt, PartHolds};
-ghost use Rattle.part_reader.specs.Sound.{FirstDamaged, FirstUnsound, IsManifestFor};
+ghost use Rattle.part_damage.specs.Sound.{FirstDamaged, FirstUnder, FirstUnsound, IsLoadedOf, IsManifestFor};
 
 use mt_outside::Dir;
 
@@ -28,8 +29,10 @@ pub fn parts_hold_what_was_written<D: Dir>()
         → IsManifestOf (manifest_bytes sha256 (manifest_of schema rows)) (manifest_of schema rows)
         → FolderHolds schema rows (all_synced (files_of_part schema rows)) }
     ensures written { (schema : Schema) (part : Part D) (rows : List Row) (files : Files)
-        → D.files part.dir ≡ Some files → part.loaded.manifest ≡ manifest_of schema rows
+        → D.files part.dir ≡ Some files → part.loaded ≡ loaded_of schema rows
         → FolderHolds schema rows files → PartHolds D.files schema part rows }
+    ensures loaded { (schema : Schema) (rows : List Row) (files : Files) → HasMarks schema
+        → FolderHolds schema rows files → IsLoadedOf schema files (loaded_of schema rows) }
     ensures columns { (schema : Schema) (part : Part D) (places : List ℕ) (rows : List Row)
         → PartHolds D.files schema part rows → All (λ place. place < length schema.columns) places
         → HoldsAt D.files schema part (map file.Column places) rows }
@@ -45,24 +48,22 @@ pub fn damage_is_one_file()
     ensures one { (schema : Schema) (files : Files) (found : Option FileId)
         → FirstDamaged schema files found → damaged_file schema files ≡ found }
     ensures opened { (schema : Schema) (files : Files) (manifest : Manifest)
-        → IsManifestFor schema (bytes_of file.Manifest files) manifest
-        → damaged_file schema files ≡ first_unsound schema manifest files (content_ids schema) }
-    ensures content { (schema : Schema) (manifest : Manifest) (files : Files) (ids : List FileId)
-        → FirstUnsound schema manifest files ids (first_unsound schema manifest files ids) }
-    ensures written { (schema : Schema) (files : Files) (rows : List Row)
+        (found : Option FileId) → IsManifestFor schema (bytes_of file.Manifest files) manifest
+        → FirstUnder schema manifest files found → damaged_file schema files ≡ found }
+    ensures written { (schema : Schema) (files : Files) (rows : List Row) → HasMarks schema
         → FolderHolds schema rows files → damaged_file schema files ≡ None }
 {}
 
 /// A part of which no file is damaged holds rows. A part holds one list of rows at most, and then no file of which its manifest has a mark
 /// is damaged.
 pub fn sound_parts_hold_rows<D: Dir>()
-    ensures some { (schema : Schema) (part : Part D) (files : Files) → D.files part.dir ≡ Some files
-        → IsManifestOf (bytes_of file.Manifest files) part.loaded.manifest
+    ensures some { (schema : Schema) (part : Part D) (files : Files) → HasMarks schema
+        → D.files part.dir ≡ Some files → IsLoadedOf schema files part.loaded
         → damaged_file schema files ≡ None → (rows : List Row)
         × PartHolds D.files schema part rows }
     ensures one { (schema : Schema) (part : Part D) (x y : List Row)
         → PartHolds D.files schema part x → PartHolds D.files schema part y → x ≡ y }
     ensures sound { (schema : Schema) (part : Part D) (files : Files) (rows : List Row)
         → D.files part.dir ≡ Some files → PartHolds D.files schema part rows
-        → first_unsound schema part.loaded.manifest files (content_ids schema) ≡ None }
+        → FirstUnsound schema part.loaded.manifest files None }
 {}

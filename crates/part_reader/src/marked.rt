@@ -4,8 +4,8 @@ ghost use Rattle.mt_base.specs.declared.name.FileId.TheVariants as file;
 ghost use Rattle.column_file.specs.Faults.{IsFirstFault};
 ghost use Rattle.column_file.specs.Spellings.{GainsAll};
 ghost use Rattle.part_writer.specs.PartFiles.{mark_of};
-ghost use Rattle.part_reader.specs.Faults.{ExplainsBytes};
-ghost use Rattle.part_reader.specs.Marks.{mark_for};
+ghost use Rattle.part_reader.specs.Faults.{ExplainsBytes, fault_of};
+ghost use Rattle.part_damage.specs.Marks.{mark_for};
 
 use crate::reading::{NO_MARK, PartFault};
 use column_file::{FormatFault, decode_onto};
@@ -32,13 +32,22 @@ pub fn add_values(
     let mark = mark_found(manifest, file, bytes)?;
     match decode_onto(column, bytes, manifest.rows as usize) {
         Ok(()) => Ok(()),
-        Err(FormatFault::NoMemory) => Err(PartFault::NoMemory),
-        Err(FormatFault::Malformed { place }) => Err(PartFault::Damaged {
+        Err(error) => Err(misspelled(file, mark, error)),
+    }
+}
+
+/// What an error says of a file whose bytes have the mark of the manifest, which is this one.
+pub fn misspelled(file: FileId, mark: FileMark, error: FormatFault) -> PartFault
+    ensures { result ≡ fault_of file mark error }
+{
+    match error {
+        FormatFault::NoMemory => PartFault::NoMemory,
+        FormatFault::Malformed { place } => PartFault::Damaged {
             file,
             place,
             wanted: mark,
             found: mark,
-        }),
+        },
     }
 }
 
@@ -71,11 +80,14 @@ pub fn mark_found(manifest: &Manifest, file: FileId, bytes: &[u8]) -> Result<Fil
 }
 
 /// The mark that the manifest has of a file.
-fn mark_at(manifest: &Manifest, file: FileId) -> Option<FileMark>
+pub fn mark_at(manifest: &Manifest, file: FileId) -> Option<FileMark>
     ensures { result ≡ mark_for manifest.now file }
 {
+    let marks = manifest.files.as_slice();
     match file {
-        FileId::Column(number) => manifest.files.as_slice().get(number as usize).copied(),
+        FileId::Marks => marks.get(0).copied(),
+        FileId::Primary => marks.get(1).copied(),
+        FileId::Column(number) => marks.get(number as usize + 2).copied(),
         _ => None,
     }
 }

@@ -1,52 +1,61 @@
-// A part opened: the manifest that lies in its folder.
-ghost use Rattle.std.specs.Prelude.{◌≡◌, ◌≢◌, ◌≤◌, List, IfErr, IfOk, IsErrOf, MatchResult, OnOk, Some};
+// A part opened: the manifest that lies in its folder, and where its granules begin.
+ghost use Rattle.std.specs.Prelude.{◌≡◌, ◌≢◌, ◌≤◌, ℕ, List, IfErr, IfOk, IsErrOf, MatchResult, OnOk, Some};
 ghost use Rattle.mt_outside.specs.Causes.{Rose};
 ghost use Rattle.mt_outside.specs.Files.{Files, bytes_of};
 ghost use Rattle.mt_values.specs.declared.manifest.Manifest.{Manifest};
 ghost use Rattle.mt_base.specs.declared.name.FileId.TheVariants as file;
 ghost use Rattle.mt_values.specs.Values.{Row};
-ghost use Rattle.part_writer.specs.PartFiles.{manifest_of, mark_of};
-ghost use Rattle.part_reader.specs.Damage.{ExplainsManifest, ExplainsOpening, Tells};
+ghost use Rattle.part_writer.specs.PartFiles.{loaded_of, mark_of};
+ghost use Rattle.part_writer.specs.declared.loaded.Loaded.{Loaded};
+ghost use Rattle.primary_marks.specs.Keys.{HasMarks};
+ghost use Rattle.part_reader.specs.Damage.{ExplainsManifest, ExplainsManifestFile, ExplainsOpening, GoesWrongAt, Tells};
 ghost use Rattle.part_reader.specs.DamagedFile.{damaged_file};
-ghost use Rattle.part_reader.specs.Faults.{IsNoDamage};
+ghost use Rattle.part_reader.specs.Faults.{ExplainsBytes, ExplainsFile, IsNoDamage};
 ghost use Rattle.part_reader.specs.Parts.{FolderHolds};
-ghost use Rattle.part_reader.specs.Sound.{IsManifestFor, IsOpened};
+ghost use Rattle.part_damage.specs.Sound.{AreKeysUnder, AreMarksUnder, IsLoadedOf, IsManifestFor, IsOpened, IsReadAs};
 ghost use Rattle.part_reader.specs.declared.reading.TheConstants.{NO_MARK};
 
 use crate::files::read_file;
+use crate::marked::{mark_found, misspelled};
 use crate::reading::{NO_MARK, Part, PartFault};
 use column_file::FormatFault;
 use digest_file::{mark_of, read_manifest};
+use mt_base::Twin;
 use mt_outside::Arm;
-use mt_values::{FileId, Loaded, Manifest, Schema};
-use part_writer::content_count;
+use mt_values::{FileId, Manifest, Schema};
+use part_writer::{Loaded, content_count};
+use primary_marks::{Marks, Places, read, read_places};
 use std::alloc::Global;
 
 /// Where the number of files stands in the bytes of a manifest: after `MTP1`, two bytes of the version and eight of the number of rows.
 const COUNT_PLACE: u64 = 14;
 
-/// The part of a table with this folder, and the manifest of its `manifest.bin`, which is read whole.
+/// The part of a table with this folder, and what is kept of it: the schema of the table, its manifest, and what its `marks.bin` and
+/// `primary.bin` say. Each of the three files is read whole, in this order.
 ///
-/// `Damaged` where the bytes are no manifest, at their first fault, and where they are one that has not as many marks as the part
-/// has other files, at the place of that number: never where the folder holds rows. `Fault` only where the arm's count rose in this call; `NoMemory` where an allocation failed.
+/// `Damaged` at the first of them that is not as it has to be: where `manifest.bin` is no manifest, at its first fault, or one that has
+/// not as many marks as the part has other files, at the place of that number; where another does not have its mark, at 0, or is none,
+/// at its first fault. It is never so where the folder holds rows. `Fault` only where the arm's count rose in this call; `NoMemory`
+/// where an allocation failed.
 pub fn open_part<R: Arm>(
     alloc: Global,
     dir: R::Dir,
     schema: &Schema,
     arm: &mut R,
 ) -> Result<Part<R::Dir>, PartFault>
+    requires { HasMarks schema.now }
+
     // What is read.
     ensures dir { IfOk result (λ p. p.dir ≡ dir) }
-    ensures opened { IfOk result (λ p. IsOpened (R.Dir.files dir) schema.now p.loaded.manifest) }
-    ensures manifest { (files : Files) → R.Dir.files dir ≡ Some files
-        → IfOk result (λ p. IsManifestFor schema.now (bytes_of file.Manifest files)
-        p.loaded.manifest) }
-    ensures spelled { (files : Files) (manifest : Manifest) → R.Dir.files dir ≡ Some files
-        → IsManifestFor schema.now (bytes_of file.Manifest files) manifest
-        → MatchResult result (λ p. p.loaded.manifest ≡ manifest) IsNoDamage }
+    ensures opened { IfOk result (λ p. IsOpened (R.Dir.files dir) schema.now p.loaded) }
+    ensures loaded { (files : Files) → R.Dir.files dir ≡ Some files
+        → IfOk result (λ p. IsLoadedOf schema.now files p.loaded) }
+    ensures spelled { (files : Files) (loaded : Loaded) → R.Dir.files dir ≡ Some files
+        → IsLoadedOf schema.now files loaded
+        → MatchResult result (λ p. p.loaded ≡ loaded) IsNoDamage }
     ensures written { (files : Files) (rows : List Row) → R.Dir.files dir ≡ Some files
         → FolderHolds schema.now rows files
-        → MatchResult result (λ p. p.loaded.manifest ≡ manifest_of schema.now rows) IsNoDamage }
+        → MatchResult result (λ p. p.loaded ≡ loaded_of schema.now rows) IsNoDamage }
 
     // What is told of damage.
     ensures sound { (files : Files) → R.Dir.files dir ≡ Some files
@@ -61,9 +70,146 @@ pub fn open_part<R: Arm>(
     ensures fault { IsErrOf result PartFault.Fault → Rose (R.failed arm.old) (R.failed arm.new) }
     ensures calm { (IsErrOf result PartFault.Fault → ⊥) → R.failed arm.new ≡ R.failed arm.old }
 {
-    let bytes = read_file(alloc, arm, &dir, FileId::Manifest)?;
-    let manifest = manifest_in(alloc, &bytes, schema)?;
-    Ok(Part::of(dir, Loaded { manifest }))
+    let manifest = open_manifest(alloc, &dir, schema, arm)?;
+    let places = open_marks(alloc, &dir, schema, &manifest, arm)?;
+    let marks = open_keys(alloc, &dir, schema, &manifest, arm)?;
+    let Ok(schema) = schema.twin(alloc) else {
+        return Err(PartFault::NoMemory);
+    };
+    let loaded = Loaded {
+        schema,
+        manifest,
+        marks,
+        places,
+    };
+    Ok(Part::of(dir, loaded))
+}
+
+/// The manifest of a folder's `manifest.bin`, with a mark of each other file of the part.
+///
+/// The errors are those of `open_part`.
+fn open_manifest<R: Arm>(
+    alloc: Global,
+    dir: &R::Dir,
+    schema: &Schema,
+    arm: &mut R,
+) -> Result<Manifest, PartFault>
+    ensures read { IfOk result (λ manifest. IsReadAs (R.Dir.files dir.now) file.Manifest
+        (λ bytes. IsManifestFor schema.now bytes manifest)) }
+    ensures spelled { (files : Files) (manifest : Manifest) → R.Dir.files dir.now ≡ Some files
+        → IsManifestFor schema.now (bytes_of file.Manifest files) manifest
+        → MatchResult result (λ found. found ≡ manifest) IsNoDamage }
+    ensures damaged { IfErr result (ExplainsManifestFile (R.Dir.files dir.now) schema.now) }
+    ensures tells { R.tells arm.new ≡ R.tells arm.old }
+    ensures later { R.failed arm.old ≤ R.failed arm.new }
+    ensures fault { IsErrOf result PartFault.Fault → Rose (R.failed arm.old) (R.failed arm.new) }
+    ensures calm { (IsErrOf result PartFault.Fault → ⊥) → R.failed arm.new ≡ R.failed arm.old }
+{
+    let bytes = read_file(alloc, arm, dir, FileId::Manifest)?;
+    manifest_in(alloc, &bytes, schema)
+}
+
+/// What a folder's `marks.bin` says: where granules begin in the files of the columns.
+///
+/// The errors are those of `open_part`.
+fn open_marks<R: Arm>(
+    alloc: Global,
+    dir: &R::Dir,
+    schema: &Schema,
+    manifest: &Manifest,
+    arm: &mut R,
+) -> Result<Places, PartFault>
+    requires { HasMarks schema.now }
+    ensures read { IfOk result (λ places. IsReadAs (R.Dir.files dir.now) file.Marks
+        (λ bytes. AreMarksUnder schema.now manifest.now bytes places)) }
+    ensures spelled { (files : Files) (places : List (List ℕ)) → R.Dir.files dir.now ≡ Some files
+        → AreMarksUnder schema.now manifest.now (bytes_of file.Marks files) places
+        → MatchResult result (λ found. found ≡ places) IsNoDamage }
+    ensures damaged { IfErr result (ExplainsFile (R.Dir.files dir.now) manifest.now file.Marks
+        (GoesWrongAt schema.now manifest.now.rows file.Marks)) }
+    ensures tells { R.tells arm.new ≡ R.tells arm.old }
+    ensures later { R.failed arm.old ≤ R.failed arm.new }
+    ensures fault { IsErrOf result PartFault.Fault → Rose (R.failed arm.old) (R.failed arm.new) }
+    ensures calm { (IsErrOf result PartFault.Fault → ⊥) → R.failed arm.new ≡ R.failed arm.old }
+{
+    let bytes = read_file(alloc, arm, dir, FileId::Marks)?;
+    places_in(alloc, schema, manifest, &bytes)
+}
+
+/// What the bytes of `marks.bin` say.
+///
+/// `Damaged` where they do not have the mark of the manifest, or are no `marks.bin` of a part with as many rows; `NoMemory` where an
+/// allocation failed. It is never `Fault`.
+fn places_in(
+    alloc: Global,
+    schema: &Schema,
+    manifest: &Manifest,
+    bytes: &[u8],
+) -> Result<Places, PartFault>
+    requires { HasMarks schema.now }
+    ensures read { IfOk result (AreMarksUnder schema.now manifest.now bytes.now) }
+    ensures spelled { (places : List (List ℕ))
+        → AreMarksUnder schema.now manifest.now bytes.now places
+        → MatchResult result (λ found. found ≡ places) IsNoDamage }
+    ensures damaged { IfErr result (ExplainsBytes manifest.now file.Marks
+        (GoesWrongAt schema.now manifest.now.rows file.Marks bytes.now) bytes.now) }
+{
+    let mark = mark_found(manifest, FileId::Marks, bytes)?;
+    let granules = manifest.rows.div_ceil(u64::from(schema.granularity));
+    match read_places(alloc, schema.columns.len(), granules, bytes) {
+        Ok(places) => Ok(places),
+        Err(error) => Err(misspelled(FileId::Marks, mark, error)),
+    }
+}
+
+/// What a folder's `primary.bin` says: the primary keys of the rows with which granules begin, and of the last row.
+///
+/// The errors are those of `open_part`.
+fn open_keys<R: Arm>(
+    alloc: Global,
+    dir: &R::Dir,
+    schema: &Schema,
+    manifest: &Manifest,
+    arm: &mut R,
+) -> Result<Marks, PartFault>
+    requires { HasMarks schema.now }
+    ensures read { IfOk result (λ keys. IsReadAs (R.Dir.files dir.now) file.Primary
+        (λ bytes. AreKeysUnder schema.now manifest.now bytes keys)) }
+    ensures spelled { (files : Files) (keys : List Row) → R.Dir.files dir.now ≡ Some files
+        → AreKeysUnder schema.now manifest.now (bytes_of file.Primary files) keys
+        → MatchResult result (λ found. found ≡ keys) IsNoDamage }
+    ensures damaged { IfErr result (ExplainsFile (R.Dir.files dir.now) manifest.now file.Primary
+        (GoesWrongAt schema.now manifest.now.rows file.Primary)) }
+    ensures tells { R.tells arm.new ≡ R.tells arm.old }
+    ensures later { R.failed arm.old ≤ R.failed arm.new }
+    ensures fault { IsErrOf result PartFault.Fault → Rose (R.failed arm.old) (R.failed arm.new) }
+    ensures calm { (IsErrOf result PartFault.Fault → ⊥) → R.failed arm.new ≡ R.failed arm.old }
+{
+    let bytes = read_file(alloc, arm, dir, FileId::Primary)?;
+    keys_in(alloc, schema, manifest, &bytes)
+}
+
+/// What the bytes of `primary.bin` say.
+///
+/// The errors are as those of `places_in`.
+fn keys_in(
+    alloc: Global,
+    schema: &Schema,
+    manifest: &Manifest,
+    bytes: &[u8],
+) -> Result<Marks, PartFault>
+    requires { HasMarks schema.now }
+    ensures read { IfOk result (AreKeysUnder schema.now manifest.now bytes.now) }
+    ensures spelled { (keys : List Row) → AreKeysUnder schema.now manifest.now bytes.now keys
+        → MatchResult result (λ found. found ≡ keys) IsNoDamage }
+    ensures damaged { IfErr result (ExplainsBytes manifest.now file.Primary
+        (GoesWrongAt schema.now manifest.now.rows file.Primary bytes.now) bytes.now) }
+{
+    let mark = mark_found(manifest, FileId::Primary, bytes)?;
+    match read(alloc, schema, bytes, manifest.rows) {
+        Ok(marks) => Ok(marks),
+        Err(error) => Err(misspelled(FileId::Primary, mark, error)),
+    }
 }
 
 /// The manifest that the bytes are, with a mark of each other file of the part.

@@ -14,7 +14,8 @@ ghost use Rattle.part_reader.specs.Parts.{HoldsAt, with_columns};
 use crate::files::read_file;
 use crate::marked::add_values;
 use mt_outside::{Arm, DiskError};
-use mt_values::{ColumnData, FileId, FileMark, Loaded, Rows};
+use mt_values::{ColumnData, FileId, FileMark, Rows};
+use part_writer::Loaded;
 use std::alloc::{AllocError, Global};
 use thiserror::Error;
 
@@ -60,7 +61,8 @@ pub enum PartFault {
     #[error("out of memory")]
     NoMemory,
     /// A file does not have the mark that the manifest has of it, or the manifest has none of it. The place is 0 then.
-    /// Or it has its mark, and its bytes are no spelling of the part's rows: from this place on, counted from 0, they go wrong.
+    /// Or it has its mark, and its bytes are no spelling of what such a file has in it: from this place on, counted from 0, they go wrong.
+    /// Or it is `marks.bin` or `primary.bin`, and not that of the rows which the files of the columns spell. The place is 0 then.
     /// Or it is `manifest.bin`, and its bytes are no manifest with a mark of each other file: at this place they go wrong,
     /// or the number of files stands.
     #[error("a file of the part is damaged at byte {place}")]

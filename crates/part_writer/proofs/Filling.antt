@@ -1,9 +1,11 @@
 -- The files of a part, written one after another.
-use Rattle.std.proofs.Common.{◌≡◌, ℕ, ◌<◌, ◌≤◌, Bool, cond, true, List, [], ◌∷◌, ◌++◌, Option, Some, None, refl, sym, ap, ap₂, ◌∙◌, subst, length, map, get_or, slice_get, take, All, arith, option_and_then}
+use Rattle.std.proofs.Common.{◌≡◌, ℕ, ◌+◌, ◌<◌, ◌≤◌, inl, inr, Bool, cond, true, List, [], ◌∷◌, ◌++◌, Option, Some, None, refl, sym, ap, ap₂, ◌∙◌, subst, length, map, get_or, slice_get, take, All, arith, option_and_then}
+use Rattle.std.specs.List.{insert, range_with_len}
 use Rattle.std.specs.Option.{option_map, ForSome}
+use Rattle.std.proofs.lemmas.Bool.{cases_lt}
 use Rattle.std.proofs.lemmas.List.{length-map, map_push, take_all}
 use Rattle.std.proofs.lemmas.List.Elements.{All-map}
-use Rattle.std.proofs.lemmas.Option.{get_or_from_slice_get, slice_get-get_or, slice_get_within}
+use Rattle.std.proofs.lemmas.Option.{get_or_from_slice_get, same_Some, slice_get-get_or, slice_get-map, slice_get_within}
 use Rattle.sha2.specs.Sha256.{sha256}
 use Rattle.mt_values.specs.declared.manifest.FileMark.{FileMark}
 use Rattle.mt_values.specs.declared.manifest.Manifest.{Manifest}
@@ -12,6 +14,7 @@ use Rattle.mt_base.specs.declared.name.FileId.TheVariants as file
 use Rattle.mt_values.specs.declared.schema.Schema.{Schema}
 use Rattle.mt_values.specs.declared.value.ColType.{ColType}
 use Rattle.mt_values.specs.Grid.{AreRowsOf, column_of, picked}
+use Rattle.mt_values.specs.ColumnBytes.{column_bytes}
 use Rattle.mt_values.specs.Manifests.{manifest_bytes}
 use Rattle.mt_values.specs.Values.{FitsType, Row, types_of}
 use Rattle.mt_values.proofs.Grids.{lengths_typed, picked_within, slice_get-column_of}
@@ -19,9 +22,11 @@ use Rattle.mt_values.proofs.OrderBy.{all_reach}
 use Rattle.mt_outside.specs.declared.disk.Written.{Written}
 use Rattle.mt_outside.specs.Files.{Files}
 use Rattle.stage_dir.specs.Stages.{names_in, settled, written}
-use Rattle.part_writer.specs.Encodable.{IsEncodable}
-use Rattle.part_writer.specs.PartFiles.{all_synced, content_bytes, content_ids, files_of_part, manifest_of, marks_of, with_bytes}
-use Rattle.part_writer.proofs.Contents.{bytes_more, content_at, content_length}
+use Rattle.part_writer.specs.PartFiles.{all_synced, content_bytes, content_ids, files_of_part, loaded_of, manifest_of, marks_of, with_bytes}
+use Rattle.column_file.specs.Marks.{granule_places, mark_keys, marks_bytes, primary_bytes}
+use Rattle.primary_marks.proofs.MarkedRows.{map-map}
+use Rattle.part_writer.specs.declared.loaded.Loaded.{Loaded}
+use Rattle.part_writer.proofs.Contents.{bytes_more}
 
 -- ---- files
 
@@ -55,6 +60,27 @@ filled_more (Some first) (Some fs) new so_far f bytes before e =
 pub synced_more : (schema : Schema) (rows : List Row) (fs : List FileId) (f : FileId)
     → all_synced (map (with_bytes schema rows) (fs ++ f ∷ [])) ≡ all_synced (map (with_bytes schema rows) fs) ++ record { file = f; bytes = content_bytes schema rows f; synced = true } ∷ []
 synced_more schema rows fs f = ap all_synced (bytes_more schema rows fs f) ∙ synced_push (map (with_bytes schema rows) fs) f (content_bytes schema rows f)
+
+-- the files of the columns with the two of the granules before them
+pub contents_done : (schema : Schema) (rows : List Row) (columns old new : List (List ℕ)) (keys starts : List ℕ) → columns ≡ map (λ n. column_bytes (column_of n rows)) (range_with_len 0 (length schema.columns)) → old ≡ insert columns 0 keys → new ≡ insert old 0 starts
+    → keys ≡ primary_bytes schema.primary schema.granularity rows → starts ≡ marks_bytes schema.granularity (length schema.columns) rows → new ≡ map (content_bytes schema rows) (content_ids schema)
+contents_done schema rows columns old new keys starts are second first keys_are starts_are =
+    first
+    ∙ ap₂ (λ (l : List ℕ) (ls : List (List ℕ)). l ∷ ls) starts_are
+    (second ∙ ap₂ (λ (l : List ℕ) (ls : List (List ℕ)). l ∷ ls) keys_are (are ∙ sym (map-map (content_bytes schema rows) file.Column (range_with_len 0 (length schema.columns)))))
+
+-- what is kept of the part
+pub loaded_done : (schema twin : Schema) (rows : List Row) (manifest : Manifest) (marks : List Row) (places : List (List ℕ)) → twin ≡ schema → manifest ≡ manifest_of schema rows → marks ≡ mark_keys schema.primary schema.granularity rows
+    → places ≡ granule_places schema.granularity (length schema.columns) rows → record { schema = twin; manifest = manifest; marks = marks; places = places } ≡ loaded_of schema rows
+loaded_done schema twin rows manifest marks places own is keys starts =
+    ap₂ (λ (s : Schema) (m : Manifest). record { schema = s; manifest = m; marks = marks; places = places }) own is
+    ∙ ap₂ (λ (ks : List Row) (ps : List (List ℕ)). record { schema = schema; manifest = manifest_of schema rows; marks = ks; places = ps }) keys starts
+
+-- the encoded bytes at a place are those of the file there
+pub bytes_there : (schema : Schema) (rows : List Row) (contents : List (List ℕ)) (i : ℕ) (f : FileId) (bytes : List ℕ) → contents ≡ map (content_bytes schema rows) (content_ids schema) → slice_get (content_ids schema) i ≡ Some f → slice_get contents i ≡ Some bytes → bytes ≡ content_bytes schema rows f
+bytes_there schema rows contents i f bytes are here there =
+    same_Some bytes (content_bytes schema rows f)
+    (sym there ∙ ap (λ (cs : List (List ℕ)). slice_get cs i) are ∙ slice_get-map (content_bytes schema rows) (content_ids schema) i ∙ ap (option_map (content_bytes schema rows)) here)
 
 -- the manifest is that of the part
 pub manifest_done : (schema : Schema) (rows : List Row) (count n : ℕ) (files : List FileMark) → length (content_ids schema) ≤ n → count ≡ length rows → files ≡ marks_of (map (with_bytes schema rows) (take n (content_ids schema)))
@@ -97,9 +123,9 @@ rows_fit types rows typed columns k d below c v inside =
     ∙ ap (option_and_then (λ (r : Row). slice_get r c)) (slice_get-get_or rows k d below) ∙ slice_get-get_or row c v inside in
     subst FitsType (get_or_from_slice_get (column_of c rows) k (get_or row c v) v here) (columns c within k v (slice_get_within (column_of c rows) k (get_or row c v) here))
 
--- all columns are among the files
-pub columns_fit : (schema : Schema) (rows : List Row) (n : ℕ) → length (content_ids schema) ≤ n → All (IsEncodable rows) (take n (content_ids schema)) → (c : ℕ) → c < length schema.columns → All FitsType (column_of c rows)
-columns_fit schema rows n past fit c below =
-    let all : All (IsEncodable rows) (content_ids schema) = subst (All (IsEncodable rows)) (take_all n (content_ids schema) past) fit in
-    subst (IsEncodable rows) (get_or_from_slice_get (content_ids schema) c (file.Column c) (file.Column c) (content_at schema c below))
-    (all c (file.Column c) (omega (arith, content_length schema)))
+-- one column more whose values fit
+pub fits_below : (rows : List Row) (n : ℕ) → ((c : ℕ) → c < n → All FitsType (column_of c rows)) → All FitsType (column_of n rows) → (c : ℕ) → c < n + 1 → All FitsType (column_of c rows)
+fits_below rows n before this c below = elim (cases_lt c n) [
+  | inl less ↦ before c less
+  | inr more ↦ subst (λ k. All FitsType (column_of k rows)) (omega (arith, more)) this
+]

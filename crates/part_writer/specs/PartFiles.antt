@@ -1,5 +1,5 @@
 -- The files of a part (docs/formats.md, "Parts").
-use Rattle.std.specs.Prelude.{◌≡◌, ℕ, ◌<◌, true, List, [], ◌∷◌, ◌++◌, length, map, All}
+use Rattle.std.specs.Prelude.{◌≡◌, ℕ, ◌<◌, true, List, [], ◌∷◌, ◌++◌, length, map, All, ⊤}
 use Rattle.std.specs.List.{range_with_len}
 use Rattle.sha2.specs.Sha256.{sha256}
 use Rattle.mt_values.specs.declared.manifest.FileMark.{FileMark}
@@ -12,22 +12,33 @@ use Rattle.mt_values.specs.Grid.{column_of}
 use Rattle.mt_values.specs.ColumnBytes.{column_bytes}
 use Rattle.mt_values.specs.Manifests.{manifest_bytes}
 use Rattle.mt_outside.specs.Files.{Files, bytes_of}
+use Rattle.column_file.specs.Marks.{granule_places, mark_keys, marks_bytes, primary_bytes}
+use Rattle.part_writer.specs.declared.loaded.Loaded.{Loaded}
 
 -- ---- which files
 
--- the files of which a part's manifest has marks, in the order of the format: those of the columns
+-- the files of the columns, in order
+abbrev pub column_ids : Schema → List FileId
+column_ids schema = map file.Column (range_with_len 0 (length schema.columns))
+
+-- the files of which a part's manifest has marks, in the order of the format: the two of its granules, and those of the columns
 abbrev pub content_ids : Schema → List FileId
-content_ids schema = map file.Column (range_with_len 0 (length schema.columns))
+content_ids schema = file.Marks ∷ file.Primary ∷ column_ids schema
 
 -- the file is one of these
 abbrev pub IsContent : Schema → FileId → Type 0
+IsContent schema file.Marks = ⊤
+IsContent schema file.Primary = ⊤
 IsContent schema (file.Column n) = n < length schema.columns
 IsContent schema f = ⊥
 
 -- ---- what they have in them
 
--- the bytes of such a file, by its kind: of a column its values, row by row
+-- The bytes of such a file, by its kind: where granules begin in the files of columns, the primary keys of granules, and of a column its
+-- values, row by row.
 abbrev pub content_bytes : Schema → List Row → FileId → List ℕ
+content_bytes schema rows file.Marks = marks_bytes schema.granularity (length schema.columns) rows
+content_bytes schema rows file.Primary = primary_bytes schema.primary schema.granularity rows
 content_bytes schema rows (file.Column n) = column_bytes (column_of n rows)
 content_bytes schema rows f = []
 
@@ -48,6 +59,16 @@ marks_of files = map (λ (f : FileId × List ℕ). mark_of f.1) files
 -- what the manifest of a part with these rows says
 abbrev pub manifest_of : Schema → List Row → Manifest
 manifest_of schema rows = record { rows = length rows; files = marks_of (content_of_part schema rows) }
+
+-- what is kept in memory of a part with these rows
+abbrev pub loaded_of : Schema → List Row → Loaded
+loaded_of schema rows =
+    record {
+      schema = schema;
+      manifest = manifest_of schema rows;
+      marks = mark_keys schema.primary schema.granularity rows;
+      places = granule_places schema.granularity (length schema.columns) rows;
+    }
 
 -- the files of a part with these rows, with their bytes: those of which the manifest has marks, and the manifest
 abbrev pub files_of_part : Schema → List Row → List (FileId × List ℕ)

@@ -2,9 +2,12 @@
 #![tactic(auto)]
 
 mod content;
+mod encoding;
 mod laws;
+mod loaded;
 mod writing;
 
 pub use content::{content_count, content_file};
 pub use laws::content_is_one_list;
+pub use loaded::Loaded;
 pub use writing::{SealedPart, write_part};

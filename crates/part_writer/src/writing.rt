@@ -9,20 +9,18 @@ ghost use Rattle.mt_values.specs.Schemas.{column_types};
 ghost use Rattle.mt_values.specs.Values.{FitsType, Row};
 ghost use Rattle.digest_file.specs.Spellings.{IsManifestOf};
 ghost use Rattle.stage_dir.specs.Stages.{IsIntact, has_file, settled, written};
-ghost use Rattle.part_writer.specs.PartFiles.{IsContent, all_synced, content_bytes, files_of_part, manifest_of, mark_of};
-ghost use Rattle.part_writer.specs.Encodable.{IsEncodable};
+ghost use Rattle.part_writer.specs.PartFiles.{all_synced, content_ids, files_of_part, loaded_of, mark_of};
+ghost use Rattle.primary_marks.specs.Keys.{HasMarks};
 
 use crate::content::{content_count, content_file};
-use column_file::encode_column;
+use crate::encoding::{Contents, encode_contents};
+use crate::loaded::Loaded;
 use digest_file::{manifest_bytes, mark_of};
-use mt_base::{NoMemory, Seq};
+use mt_base::{Seq, Twin};
 use mt_outside::{Arm, DiskError, Stage};
-use mt_values::{Block, Bytes, FileId, FileMark, Loaded, Manifest, Schema};
+use mt_values::{Block, FileId, FileMark, Manifest, Schema};
 use stage_dir::{Open, Sealed, Unsealed, seal, write_file};
 use std::alloc::Global;
-
-/// How many rows a granule has. No file says yet where one begins.
-const GRANULARITY: u32 = 8192;
 
 /// The sealed files of a part, and what is kept of them in memory. It can't be let go, as its stage can't.
 pub struct SealedPart<S: Stage> {
@@ -30,7 +28,10 @@ pub struct SealedPart<S: Stage> {
     pub loaded: Loaded,
 }
 
-/// The files of the block's rows in this order, sealed, and their manifest.
+/// The files of the block's rows in this order, sealed, and what is kept of them in memory.
+///
+/// `marks.bin` comes first and says where granules begin in the files of the columns. So these are encoded before anything is
+/// written, and the bytes of all files are in memory beside the block until the last is written.
 ///
 /// `Fault` only where the arm's count rose in this call, `NoMemory` where an allocation failed; without a fault the count stays.
 /// After an error the stage was given back to the arm.
@@ -41,16 +42,17 @@ pub fn write_part<R: Arm>(
     block: &Block,
     order: &[u32],
 ) -> Result<SealedPart<R::Stage>, DiskError>
+    requires marks { HasMarks schema.now }
     requires types { block.now.types ≡ column_types schema.now }
     requires places { All (λ place. place < length block.now.rows) order.now }
-    requires few { length schema.now.columns < 2 ^ 32 }
+    requires few { length (content_ids schema.now) < 2 ^ 32 }
 
     // What is sealed.
     ensures files { IfOk result (λ s. R.tells arm.old ≡ true
         → s.sealed.files ≡ Some
         (all_synced (files_of_part schema.now (picked block.now.rows order.now)))) }
-    ensures loaded { IfOk result (λ s. s.loaded.manifest ≡ manifest_of schema.now
-        (picked block.now.rows order.now)) }
+    ensures loaded { IfOk result
+        (λ s. s.loaded ≡ loaded_of schema.now (picked block.now.rows order.now)) }
     ensures none_failed { IfOk result (λ s. s.sealed.failed ≡ 0) }
     ensures encodable { IfOk result (λ _. All (λ (row : Row). All FitsType row)
         (picked block.now.rows order.now)) }
@@ -63,7 +65,7 @@ pub fn write_part<R: Arm>(
 {
     let mut stage = Open::of(alloc, arm.stage(alloc)?);
     match fill(alloc, &mut stage, schema, block, order) {
-        Ok(manifest) => seal_part(arm, stage, Loaded { manifest }),
+        Ok(loaded) => seal_part(arm, stage, loaded),
         Err(error) => {
             arm.abandon(stage.into_stage());
             Err(error)
@@ -95,7 +97,7 @@ fn seal_part<R: Arm>(
     }
 }
 
-/// Writes the files of a part in the order of the format, and last the manifest, which is handed back.
+/// Encodes the files of a part and writes them in the order of the format, last the manifest; what is kept of them is handed back.
 ///
 /// After an error the stage can only be given up.
 fn fill<S: Stage>(
@@ -104,98 +106,71 @@ fn fill<S: Stage>(
     schema: &Schema,
     block: &Block,
     order: &[u32],
-) -> Result<Manifest, DiskError>
+) -> Result<Loaded, DiskError>
     requires intact { IsIntact stage.old }
     requires empty { stage.old.names ≡ [] }
+    requires marks { HasMarks schema.now }
     requires types { block.now.types ≡ column_types schema.now }
     requires places { All (λ place. place < length block.now.rows) order.now }
-    requires few { length schema.now.columns < 2 ^ 32 }
+    requires few { length (content_ids schema.now) < 2 ^ 32 }
 
     // What is written, and why it failed.
     ensures files { OnOk result (option_map settled stage.new.files ≡ option_map (λ _. all_synced
         (files_of_part schema.now (picked block.now.rows order.now))) stage.old.files) }
     ensures intact { OnOk result (IsIntact stage.new) }
-    ensures manifest { IfOk result (λ manifest. manifest ≡ manifest_of schema.now
+    ensures loaded { IfOk result (λ loaded. loaded ≡ loaded_of schema.now
         (picked block.now.rows order.now)) }
     ensures encodable { OnOk result
         (All (λ (row : Row). All FitsType row) (picked block.now.rows order.now)) }
     ensures readable { IfOk result
-        (λ manifest. IsManifestOf (manifest_bytes sha256 manifest) manifest) }
+        (λ loaded. IsManifestOf (manifest_bytes sha256 loaded.manifest) loaded.manifest) }
     ensures cause { HasDiskCause stage.old.failed stage.new.failed result }
 {
-    // Reading the number of rows shows that each row has a value of each column.
-    prove!(block.len() <= u32::MAX as usize);
+    let contents = encode_contents(alloc, schema, block, order)?;
     let count = content_count(schema) as u32;
     let mut files = Seq::with_capacity(alloc, count as usize)?;
     for place in 0..count {
         let Some(file) = content_file(schema, place) else {
             unreachable!()
         };
-        let mark = write_content(alloc, stage, schema, block, file, order)?;
+        let bytes = contents.files.at(place as usize).as_slice();
+        let mark = write_content(stage, file, bytes)?;
         files.push(mark)?;
     }
     let rows = order.len() as u64;
     let manifest = Manifest { rows, files };
     let bytes = manifest_bytes(alloc, &manifest)?;
     write_file(stage, FileId::Manifest, &bytes)?;
-    Ok(manifest)
+    let Contents { marks, places, .. } = contents;
+    let schema = schema.twin(alloc)?;
+    Ok(Loaded {
+        schema,
+        manifest,
+        marks,
+        places,
+    })
 }
 
 /// Writes a file of which the manifest has a mark: that of the bytes that are handed to the stage.
 ///
 /// After an error the stage can only be given up.
 fn write_content<S: Stage>(
-    alloc: Global,
     stage: &mut Open<S>,
-    schema: &Schema,
-    block: &Block,
     file: FileId,
-    order: &[u32],
+    bytes: &[u8],
 ) -> Result<FileMark, DiskError>
-    requires content { IsContent schema.now file }
-    requires types { block.now.types ≡ column_types schema.now }
-    requires places { All (λ place. place < length block.now.rows) order.now }
     requires intact { IsIntact stage.old }
     requires new { has_file file stage.old.names ≡ false }
 
     // What is written, and why it failed.
-    ensures mark { IfOk result (λ mark. mark ≡ mark_of
-        (content_bytes schema.now (picked block.now.rows order.now) file)) }
+    ensures mark { IfOk result (λ mark. mark ≡ mark_of bytes.now) }
     ensures names { OnOk result (stage.new.names ≡ stage.old.names ++ file ∷ []) }
-    ensures files { OnOk result (stage.new.files ≡ option_map (λ files. files ++ written file
-        (content_bytes schema.now (picked block.now.rows order.now) file) ∷ []) stage.old.files) }
+    ensures files { OnOk result (stage.new.files ≡ option_map
+        (λ files. files ++ written file bytes.now ∷ []) stage.old.files) }
     ensures intact { OnOk result (IsIntact stage.new) }
-    ensures encodable { OnOk result (IsEncodable (picked block.now.rows order.now) file) }
     ensures cause { HasDiskCause stage.old.failed stage.new.failed result }
 {
-    let encoded = encode_content(alloc, schema, block, file, order)?;
-    let bytes = encoded.as_slice();
     let mark = mark_of(bytes);
     write_file(stage, file, bytes)?;
     Ok(mark)
-}
-
-/// The bytes of a file of which the manifest has a mark.
-///
-/// `NoMemory` where an allocation failed.
-fn encode_content(
-    alloc: Global,
-    schema: &Schema,
-    block: &Block,
-    file: FileId,
-    order: &[u32],
-) -> Result<Bytes, NoMemory>
-    requires content { IsContent schema.now file }
-    requires types { block.now.types ≡ column_types schema.now }
-    requires places { All (λ place. place < length block.now.rows) order.now }
-    ensures bytes { IfOk result (λ bytes. bytes ≡ content_bytes schema.now
-        (picked block.now.rows order.now) file) }
-    ensures encodable { IfOk result (λ _. IsEncodable (picked block.now.rows order.now) file) }
-{
-    match file {
-        FileId::Column(column) => {
-            Ok(encode_column(alloc, block, column as usize, order, GRANULARITY)?.bytes)
-        }
-        _ => unreachable!(),
-    }
 }

@@ -1,11 +1,13 @@
 // The primary keys that are kept of a part's rows.
-ghost use Rattle.std.specs.Prelude.{All, ◌≡◌, ◌-◌, ◌<◌, ◌↔◌, [], Some, IsTrue, length, slice_get};
+ghost use Rattle.std.specs.Prelude.{All, ◌≡◌, ◌-◌, ◌<◌, ◌↔◌, [], IfOk, Some, IsTrue, length, slice_get};
 ghost use Rattle.std.specs.Option.{IfSome, option_and_then};
 ghost use Rattle.mt_values.specs.Cells.{value_of};
 ghost use Rattle.mt_values.specs.Grid.{rows_of};
 ghost use Rattle.primary_marks.specs.Columns.{HaveKeys};
 
+use mt_base::{NoMemory, Twin};
 use mt_values::{Cell, ColumnData};
+use std::alloc::Global;
 use std::marker::Model;
 
 /// The primary keys of the rows with which a part's granules begin, and of its last row, in typed columns. Contracts see the list of keys.
@@ -74,4 +76,28 @@ impl Marks {
     {
         self.columns[column].at(key)
     }
+}
+
+impl Twin for Marks {
+    fn twin(&self, alloc: Global) -> Result<Self, NoMemory> {
+        let mut columns = Vec::new(alloc);
+        for column in &self.columns {
+            columns.push(column_twin(alloc, column)?)?;
+        }
+        let keys = self.keys;
+        Ok(Marks { columns, keys })
+    }
+}
+
+/// An equal column.
+///
+/// `NoMemory` where an allocation failed.
+fn column_twin(alloc: Global, column: &ColumnData) -> Result<ColumnData, NoMemory>
+    ensures { IfOk result (λ c. c ≡ column.now) }
+{
+    let mut copy = ColumnData::new(alloc, column.col_type());
+    for place in 0..column.len() {
+        copy.push_cell(column.at(place))?;
+    }
+    Ok(copy)
 }

@@ -22,7 +22,7 @@ use Rattle.mt_model.proofs.Lists.{get_past}
 use Rattle.mt_model.proofs.Tables.{same_is}
 use Rattle.part_reader.specs.declared.reading.Part.{Part}
 use Rattle.part_reader.specs.Parts.{PartHolds}
-use Rattle.part_reader.proofs.SoundRows.{one_rows}
+use Rattle.part_reader.proofs.HeldRows.{one_held}
 use Rattle.part_set.specs.declared.kept.Kept.{Kept}
 use Rattle.part_set.specs.Sets as sets
 use Rattle.part_set.proofs.Maps.{found_is}
@@ -70,7 +70,7 @@ module _ {F : Type 0} (files_of : F → Option Files) where
   one_list schema (k ∷ ks) [] ys first second = absurd first
   one_list schema (k ∷ ks) (x ∷ xs) [] first second = absurd second
   one_list schema (k ∷ ks) (x ∷ xs) (y ∷ ys) first second =
-      ap₂ (λ (r : List Row) (rs : List (List Row)). r ∷ rs) (one_rows files_of schema k.part x y first.0 second.0) (one_list schema ks xs ys first.1 second.1)
+      ap₂ (λ (r : List Row) (rs : List (List Row)). r ∷ rs) (one_held files_of schema k.part x y first.0 second.0) (one_list schema ks xs ys first.1 second.1)
 
 -- ---- what a store shows
 

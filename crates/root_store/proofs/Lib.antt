@@ -12,5 +12,6 @@ pub mod Items
 pub mod Orphaned
 pub mod Readings
 pub mod Rising
+pub mod TableMarks
 pub mod Tabled
 pub mod Undamaged

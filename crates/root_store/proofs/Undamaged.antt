@@ -15,8 +15,8 @@ use Rattle.mt_outside.specs.Files.{Files}
 use Rattle.mt_model.specs.History.{History, schema_of}
 use Rattle.digest_file.proofs.Pieces.{fronts_apart}
 use Rattle.part_reader.specs.DamagedFile.{damaged_file}
-use Rattle.part_reader.proofs.Deciding.{file_is}
-use Rattle.part_reader.proofs.SoundRows.{written_sound}
+use Rattle.part_reader.proofs.DamagedFiles.{file_is}
+use Rattle.part_reader.proofs.HeldRows.{written_undamaged}
 use Rattle.part_set.specs.declared.root_name.RootName.{RootName}
 use Rattle.part_set.specs.declared.root_name.RootName.TheVariants as root
 use Rattle.part_set.specs.declared.root_name.TablePart.{TablePart}
@@ -25,6 +25,7 @@ use Rattle.part_set.specs.Visible.{IsVisible}
 use Rattle.part_history.specs.declared.part.CorePart.{CorePart}
 use Rattle.part_history.specs.Parts.{core_parts_of}
 use Rattle.part_history.proofs.Apart.{may_have}
+use Rattle.part_history.proofs.Numbered.{legal_schema}
 use Rattle.root_store.specs.Damage.{DamagedAt, IsDamaged, PartDamaged}
 use Rattle.root_store.specs.Entries.{EntryHolds, ReadsAs, create_of}
 use Rattle.root_store.specs.Roots.{FolderHolds, HasFolder, Stands}
@@ -33,6 +34,7 @@ use Rattle.root_store.proofs.EntriesOf.{entry_known, table_entry}
 use Rattle.root_store.proofs.EntryReads.{one_schema}
 use Rattle.root_store.proofs.Orphaned.{of_core}
 use Rattle.root_store.proofs.Readings.{item_at}
+use Rattle.root_store.proofs.TableMarks.{has_marks}
 
 -- ---- entries
 
@@ -99,9 +101,10 @@ module _ (names : Names) (h : History) (s : Stands names h) where
       let here : files_at (root_text (root.Part part)) names ≡ Some folder.files = subst (λ (p : TablePart). files_at (root_text (root.Part p)) names ≡ Some folder.files) c.name_is folder.there in
       let files_are : folder.files ≡ files = same_some folder.files files (sym here ∙ at) in
       let holds = subst (λ (x : Schema). FolderHolds x c.core.rows files) same (subst (FolderHolds c.there.schema c.core.rows) files_are folder.holds) in
+      let has = has_marks schema (legal_schema part.table h schema s.legal (known ∙ ap Some same)) in
       elim bad [
         | inl other ↦ other.0 (may part schema visible (known ∙ ap Some same))
-        | inr file ↦ none_some (damaged_file schema files) f (file_is schema files None (written_sound schema files c.core.rows holds)) file.1
+        | inr file ↦ none_some (damaged_file schema files) f (file_is schema files None (written_undamaged schema files c.core.rows has holds)) file.1
       ]
 
   sound : (n : RootName) (files : Files) (f : FileId) → HasItem s.read n → files_at (root_text n) names ≡ Some files → IsDamaged names s.read n files f → ⊥

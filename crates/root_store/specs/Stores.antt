@@ -5,18 +5,17 @@ use Rattle.std.specs.Cmp.Lexicographic.{slice_cmp}
 use Rattle.std.specs.List.{AllZip, Contains as HasItem, sum_by}
 use Rattle.std.specs.Option.{option_map}
 use Rattle.std.specs.Ordering.{nat_cmp}
-use Rattle.mt_base.specs.declared.name.FileId.TheVariants as file
 use Rattle.mt_values.specs.declared.schema.Schema.{Schema}
 use Rattle.mt_values.specs.RootNames.{create_name}
 use Rattle.mt_values.specs.Values.{Row}
 use Rattle.mt_outside.specs.Disk.{Names, files_at}
-use Rattle.mt_outside.specs.Files.{Files, bytes_of}
+use Rattle.mt_outside.specs.Files.{Files}
 use Rattle.mt_model.specs.History.{History, IsLegal, creates, schema_of}
 use Rattle.mt_model.specs.Numbers.{last_number}
 use Rattle.part_reader.specs.declared.reading.Part.{Part}
 use Rattle.part_name.specs.declared.part.PartName.{PartName}
 use Rattle.part_reader.specs.Parts.{PartHolds}
-use Rattle.part_reader.specs.Sound.{IsManifestFor}
+use Rattle.part_reader.specs.Sound.{IsLoadedOf}
 use Rattle.part_set.specs.declared.kept.Kept.{Kept}
 use Rattle.part_set.specs.declared.root_name.RootName.{RootName}
 use Rattle.part_set.specs.declared.root_name.RootName.TheVariants as root
@@ -85,12 +84,12 @@ pub record IsTableOf (names : Names) (read : List RootName) (table : List ℕ) (
   pub entry : HasFolder names (create_name table) (EntryHolds table t.schema)
   pub drawn : IsGreatestBlock read table t.drawn
 
--- a kept part has the folder of its name, as it is told, and the manifest that `manifest.bin` spells
+-- a kept part has the folder of its name, as it is told, and what is kept of it is what the files there say
 pub record IsKeptOf {F : Type 0} (files_of : F → Option Files) (names : Names) (table : List ℕ) (schema : Schema) (kept : Kept (Part F)) : Type 0 where
   pub files : Files
   pub there : files_at (root_text (root.Part (part_of table kept))) names ≡ Some files
   pub told : files_of kept.part.dir ≡ Some files
-  pub manifest : IsManifestFor schema (bytes_of file.Manifest files) kept.part.loaded.manifest
+  pub loaded : IsLoadedOf schema files kept.part.loaded
 
 -- The store is what opening makes of a root: its tables are those among the names, and of each table it has exactly the visible parts, in
 -- block order, of which no two meet.

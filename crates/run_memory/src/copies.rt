@@ -6,11 +6,13 @@ use crate::text::first_word;
 use digest_file::mark_of;
 use disk_mem::MemDir;
 use mt_base::{NoMemory, Partition, Rows, Seq, Twin};
-use mt_values::{ColType, Column, Loaded, Manifest, Name, Schema};
+use mt_values::{Cell, ColType, Column, ColumnData, Manifest, Name, Schema};
 use part_history::CorePart;
 use part_name::{PartName, text};
 use part_reader::Part;
 use part_set::{Kept, PartSet, Snap};
+use part_writer::Loaded;
+use primary_marks::Marks;
 use std::alloc::Global;
 
 // The name of the part that the first INSERT into a table makes.
@@ -72,14 +74,33 @@ fn pinned(alloc: Global, length: u64, first: u8, second: u8) -> Result<Snap<Core
     set.pin(alloc, &table, &schema, length)
 }
 
-// The part of a folder with this many rows, whose manifest has the marks of all its files.
+// The primary keys of two rows, each of one number.
+fn two_keys(alloc: Global) -> Result<Marks, NoMemory> {
+    let mut column = ColumnData::new(alloc, ColType::UInt8);
+    column.push_cell(Cell::UInt8(1))?;
+    column.push_cell(Cell::UInt8(2))?;
+    let mut columns = Vec::new(alloc);
+    columns.push(column)?;
+    Ok(Marks::of_columns(columns, 2))
+}
+
+// The part of a folder with this many rows, whose manifest has the marks of all its files. Two keys are kept of it, and of each file that
+// it is one granule.
 fn stored_part(alloc: Global, rows: u64, dir: MemDir) -> Result<Part<MemDir>, NoMemory> {
     let mut files = Seq::new(alloc);
+    let mut places = Seq::new(alloc);
     for written in dir.files() {
-        files.push(mark_of(written.bytes.as_slice()))?;
+        let mark = mark_of(written.bytes.as_slice());
+        files.push(mark)?;
+        places.push(Seq::from_slice(alloc, &[0, mark.size])?)?;
     }
-    let manifest = Manifest { rows, files };
-    Ok(Part::of(dir, Loaded { manifest }))
+    let loaded = Loaded {
+        schema: two_columns(alloc)?,
+        manifest: Manifest { rows, files },
+        marks: two_keys(alloc)?,
+        places,
+    };
+    Ok(Part::of(dir, loaded))
 }
 
 impl Answer {
@@ -139,8 +160,24 @@ impl Answer {
         self.lines_of(kept.part.rows.as_slice());
     }
 
-    // Prints a part of a disk: its number of rows, the marks of its manifest, and the bytes of the files of its folder.
+    // Prints the schema that is kept of a part, the places of its granules in each file, and the number of its keys.
+    fn loaded(&mut self, loaded: &Loaded) {
+        self.schema(&loaded.schema);
+        for starts in loaded.places.as_slice() {
+            self.put(", granules at");
+            for start in starts.as_slice() {
+                self.put(" ");
+                self.number(*start);
+            }
+        }
+        self.put(", keys ");
+        self.number(loaded.marks.len() as u64);
+    }
+
+    // Prints a part of a disk: what is kept of it, its number of rows, the marks of its manifest, and the bytes of the files of its folder.
     fn stored(&mut self, part: &Part<MemDir>) {
+        self.loaded(&part.loaded);
+        self.put(", ");
         self.number(part.rows());
         self.put(" rows");
         for mark in part.loaded.manifest.files.as_slice() {

@@ -137,11 +137,26 @@ impl Answer {
     fn add_columns(&mut self, files: &mut Vec<File>, columns: &str) {
         let mut number = 0u32;
         for column in columns.split(' ') {
-            let bytes = self.bytes_of(column);
-            let id = FileId::Column(number);
-            self.push(files, File { id, bytes });
+            self.push_file(files, FileId::Column(number), column);
             number = number.saturating_add(1);
         }
+    }
+
+    // Adds the file of these bytes.
+    fn push_file(&mut self, files: &mut Vec<File>, id: FileId, bytes: &str) {
+        let bytes = self.bytes_of(bytes);
+        self.push(files, File { id, bytes });
+    }
+
+    // Adds the file of the places of granules: numbers with commas between them, each in 8 bytes, the lowest first.
+    fn add_places(&mut self, files: &mut Vec<File>, places: &str) {
+        let mut bytes = Vec::new(self.alloc);
+        for place in places.split(',') {
+            let place = self.number_of(place);
+            self.extend(&mut bytes, &place.to_le_bytes());
+        }
+        let id = FileId::Marks;
+        self.push(files, File { id, bytes });
     }
 
     // Adds the size and the digest of a file, as a manifest has them.
@@ -164,12 +179,16 @@ impl Answer {
         bytes
     }
 
-    /// A folder with files of columns, and the manifest of this many rows in them.
+    /// A folder with the places and the keys of granules, files of columns, and the manifest of this many rows in them.
     pub fn part(&mut self, root: &mut Vec<Folder>, rest: &str) {
         let (name, rest) = first_word(rest);
-        let (rows, columns) = first_word(rest);
+        let (rows, rest) = first_word(rest);
+        let (places, rest) = first_word(rest);
+        let (keys, columns) = first_word(rest);
         let rows = self.number_of(rows);
         let mut files = Vec::new(self.alloc);
+        self.add_places(&mut files, places);
+        self.push_file(&mut files, FileId::Primary, keys);
         if !columns.is_empty() {
             self.add_columns(&mut files, columns);
         }

@@ -1,45 +1,134 @@
-use Rattle.std.proofs.Common.{◌≡◌, ◌∙◌, Some, ap, sym}
+use Rattle.std.proofs.Common.{◌≡◌, ◌∙◌, Some, Option, ap, sym, subst, List, ℕ}
+use Rattle.mt_values.specs.declared.manifest.Manifest.{Manifest}
+use Rattle.mt_base.specs.declared.name.FileId.{FileId}
+use Rattle.mt_base.specs.declared.name.FileId.TheVariants as file
+use Rattle.mt_values.specs.declared.schema.Schema.{Schema}
+use Rattle.mt_outside.specs.Files.{Files, bytes_of}
+use Rattle.part_writer.specs.PartFiles.{loaded_of}
+use Rattle.part_writer.specs.declared.loaded.Loaded.{Loaded}
 use Rattle.part_reader.specs.Damage.{ExplainsOpening, Tells}
 use Rattle.part_reader.specs.DamagedFile.{damaged_file}
 use Rattle.part_reader.specs.Faults.{IsNoDamage}
-use Rattle.part_writer.specs.PartFiles.{manifest_of}
-use Rattle.mt_values.specs.declared.manifest.Loaded.{Loaded}
-use Rattle.mt_base.specs.declared.name.FileId.TheVariants as file
-use Rattle.mt_outside.specs.Files.{bytes_of}
-use Rattle.part_reader.proofs.Damages.{error_handed_on, manifest_sound, no_damage, opening_explained, same_bytes}
-use Rattle.part_reader.proofs.Deciding.{file_told, manifest_damaged}
+use Rattle.part_damage.specs.Sound.{AreKeysUnder, AreMarksUnder, IsLoadedOf, IsManifestFor, IsOpened, IsReadAs}
+use Rattle.part_reader.proofs.Damages.{error_handed_on, keys_told, manifest_sound, marks_told}
+use Rattle.part_reader.proofs.DamagedFiles.{file_told, manifest_told, told_file}
 use Rattle.part_reader.proofs.Gaining.{handed_on}
-use Rattle.part_reader.proofs.SoundRows.{written_manifest}
+use Rattle.part_reader.proofs.Opened.{keys_opening, manifest_is, manifest_opening, marks_opening, one_loaded, there}
+use Rattle.part_reader.proofs.SoundRows.{written_loaded}
 use Rattle.part_reader.proofs.opening.open_part.Goals as goal
+
+pub returns-in_err-manifest-clause-spelled : goal.returns-in_err-manifest-clause-spelled
+returns-in_err-manifest-clause-spelled g c = λ files loaded known is.
+    error_handed_on (λ p. p.loaded ≡ loaded) IsNoDamage c.from_residual.result c.in_err-manifest.field-0.0 c.from_residual.ensures.1 (c.in_err-manifest.ensures.spelled files loaded.manifest known is.manifest)
 
 pub returns-in_err-manifest-clause-written : goal.returns-in_err-manifest-clause-written
 returns-in_err-manifest-clause-written g c = λ files rows known written.
-    let schema = c.args.schema.now in
-    let manifest = manifest_of schema rows in
-    let is = same_bytes schema (bytes_of file.Manifest files) c.deref.result.now manifest (c.deref.ensures.value ∙ c.in_ok-bytes.ensures.bytes files known) (written_manifest schema files rows written) in
-    error_handed_on (λ p. p.loaded.manifest ≡ manifest) IsNoDamage c.from_residual-in_err-manifest.result c.in_err-manifest.field-0.0 c.from_residual-in_err-manifest.ensures.1
-    (no_damage c.in_err-manifest.field-0.0 (c.in_err-manifest.ensures.spelled manifest is))
-
-pub returns-in_err-manifest-clause-damaged : goal.returns-in_err-manifest-clause-damaged
-returns-in_err-manifest-clause-damaged g c =
-    handed_on (ExplainsOpening (g.R.Dir.Dir.files c.args.dir) c.args.schema.now) c.from_residual-in_err-manifest.result c.in_err-manifest.field-0.0 c.from_residual-in_err-manifest.ensures.1
-    (opening_explained (g.R.Dir.Dir.files c.args.dir) c.args.schema.now c.deref.result.now c.in_err-manifest.field-0.0
-    (λ files known. c.deref.ensures.value ∙ c.in_ok-bytes.ensures.bytes files known) c.in_err-manifest.ensures.damaged)
-
-pub returns-clause-written : goal.returns-clause-written
-returns-clause-written g c = λ files rows known written.
-    let schema = c.args.schema.now in
-    let manifest = manifest_of schema rows in
-    let is = same_bytes schema (bytes_of file.Manifest files) c.deref.result.now manifest (c.deref.ensures.value ∙ c.in_ok-bytes.ensures.bytes files known) (written_manifest schema files rows written) in
-    ap (λ (l : Loaded). l.manifest) c.of.ensures.loaded ∙ c.in_ok-manifest.ensures.spelled manifest is
+    let loaded = loaded_of c.args.schema.now rows in
+    let is = written_loaded c.args.schema.now files rows written c.requires in
+    error_handed_on (λ p. p.loaded ≡ loaded) IsNoDamage c.from_residual.result c.in_err-manifest.field-0.0 c.from_residual.ensures.1 (c.in_err-manifest.ensures.spelled files loaded.manifest known is.manifest)
 
 pub returns-in_err-manifest-clause-first : goal.returns-in_err-manifest-clause-first
 returns-in_err-manifest-clause-first g c = λ files known.
-    handed_on (Tells (λ found. damaged_file c.args.schema.now files ≡ found)) c.from_residual-in_err-manifest.result c.in_err-manifest.field-0.0 c.from_residual-in_err-manifest.ensures.1
-    (manifest_damaged c.args.schema.now files c.deref.result.now c.in_err-manifest.field-0.0 (c.deref.ensures.value ∙ c.in_ok-bytes.ensures.bytes files known) c.in_err-manifest.ensures.damaged c.in_err-manifest.ensures.spelled)
+    handed_on (Tells (λ found. damaged_file c.args.schema.now files ≡ found)) c.from_residual.result c.in_err-manifest.field-0.0 c.from_residual.ensures.1
+    (told_file c.args.schema.now files c.in_err-manifest.field-0.0
+    (manifest_told (g.R.Dir.Dir.files c.args.dir) c.args.schema.now files c.in_err-manifest.field-0.0 c.in_err-manifest.ensures.damaged (λ manifest is. c.in_err-manifest.ensures.spelled files manifest known is)))
+
+pub returns-in_err-manifest-clause-damaged : goal.returns-in_err-manifest-clause-damaged
+returns-in_err-manifest-clause-damaged g c =
+    handed_on (ExplainsOpening (g.R.Dir.Dir.files c.args.dir) c.args.schema.now) c.from_residual.result c.in_err-manifest.field-0.0 c.from_residual.ensures.1
+    (manifest_opening (g.R.Dir.Dir.files c.args.dir) c.args.schema.now c.in_err-manifest.field-0.0 c.in_err-manifest.ensures.damaged)
+
+-- the manifest that was read is the one that the folder has
+module _ (schema : Schema) (told : Option Files) (files : Files) (manifest : Manifest) (loaded : Loaded) (known : told ≡ Some files) (read : IsReadAs told file.Manifest (λ bytes. IsManifestFor schema bytes manifest)) (is : IsLoadedOf schema files loaded) where
+  same : loaded.manifest ≡ manifest
+  same = manifest_is schema (bytes_of file.Manifest files) loaded.manifest manifest is.manifest (there told files file.Manifest (λ bytes. IsManifestFor schema bytes manifest) known read)
+
+  own_places : AreMarksUnder schema manifest (bytes_of file.Marks files) loaded.places
+  own_places = subst (λ (m : Manifest). AreMarksUnder schema m (bytes_of file.Marks files) loaded.places) same is.places
+
+  own_keys : AreKeysUnder schema manifest (bytes_of file.Primary files) loaded.marks
+  own_keys = subst (λ (m : Manifest). AreKeysUnder schema m (bytes_of file.Primary files) loaded.marks) same is.keys
+
+pub returns-in_err-places-clause-spelled : goal.returns-in_err-places-clause-spelled
+returns-in_err-places-clause-spelled g c = λ files loaded known is.
+    error_handed_on (λ p. p.loaded ≡ loaded) IsNoDamage c.from_residual-in_err-places.result c.in_err-places.field-0.0 c.from_residual-in_err-places.ensures.1
+    (c.in_err-places.ensures.spelled files loaded.places known (own_places c.args.schema.now (g.R.Dir.Dir.files c.args.dir) files c.in_ok-manifest.manifest loaded known c.in_ok-manifest.ensures.read is))
+
+pub returns-in_err-places-clause-written : goal.returns-in_err-places-clause-written
+returns-in_err-places-clause-written g c = λ files rows known written.
+    let loaded = loaded_of c.args.schema.now rows in
+    let is = written_loaded c.args.schema.now files rows written c.requires in
+    error_handed_on (λ p. p.loaded ≡ loaded) IsNoDamage c.from_residual-in_err-places.result c.in_err-places.field-0.0 c.from_residual-in_err-places.ensures.1
+    (c.in_err-places.ensures.spelled files loaded.places known (own_places c.args.schema.now (g.R.Dir.Dir.files c.args.dir) files c.in_ok-manifest.manifest loaded known c.in_ok-manifest.ensures.read is))
+
+pub returns-in_err-places-clause-first : goal.returns-in_err-places-clause-first
+returns-in_err-places-clause-first g c = λ files known.
+    let schema = c.args.schema.now in
+    let told = g.R.Dir.Dir.files c.args.dir in
+    let manifest = c.in_ok-manifest.manifest in
+    handed_on (Tells (λ found. damaged_file schema files ≡ found)) c.from_residual-in_err-places.result c.in_err-places.field-0.0 c.from_residual-in_err-places.ensures.1
+    (told_file schema files c.in_err-places.field-0.0
+    (marks_told told files schema manifest c.requires known (there told files file.Manifest (λ bytes. IsManifestFor schema bytes manifest) known c.in_ok-manifest.ensures.read) c.in_err-places.field-0.0 c.in_err-places.ensures.damaged))
+
+pub returns-in_err-places-clause-damaged : goal.returns-in_err-places-clause-damaged
+returns-in_err-places-clause-damaged g c =
+    handed_on (ExplainsOpening (g.R.Dir.Dir.files c.args.dir) c.args.schema.now) c.from_residual-in_err-places.result c.in_err-places.field-0.0 c.from_residual-in_err-places.ensures.1
+    (marks_opening (g.R.Dir.Dir.files c.args.dir) c.args.schema.now c.in_ok-manifest.manifest c.in_ok-manifest.ensures.read c.in_err-places.field-0.0 c.in_err-places.ensures.damaged)
+
+pub returns-in_err-marks-clause-spelled : goal.returns-in_err-marks-clause-spelled
+returns-in_err-marks-clause-spelled g c = λ files loaded known is.
+    error_handed_on (λ p. p.loaded ≡ loaded) IsNoDamage c.from_residual-in_err-marks.result c.in_err-marks.field-0.0 c.from_residual-in_err-marks.ensures.1
+    (c.in_err-marks.ensures.spelled files loaded.marks known (own_keys c.args.schema.now (g.R.Dir.Dir.files c.args.dir) files c.in_ok-manifest.manifest loaded known c.in_ok-manifest.ensures.read is))
+
+pub returns-in_err-marks-clause-written : goal.returns-in_err-marks-clause-written
+returns-in_err-marks-clause-written g c = λ files rows known written.
+    let loaded = loaded_of c.args.schema.now rows in
+    let is = written_loaded c.args.schema.now files rows written c.requires in
+    error_handed_on (λ p. p.loaded ≡ loaded) IsNoDamage c.from_residual-in_err-marks.result c.in_err-marks.field-0.0 c.from_residual-in_err-marks.ensures.1
+    (c.in_err-marks.ensures.spelled files loaded.marks known (own_keys c.args.schema.now (g.R.Dir.Dir.files c.args.dir) files c.in_ok-manifest.manifest loaded known c.in_ok-manifest.ensures.read is))
+
+pub returns-in_err-marks-clause-first : goal.returns-in_err-marks-clause-first
+returns-in_err-marks-clause-first g c = λ files known.
+    let schema = c.args.schema.now in
+    let told = g.R.Dir.Dir.files c.args.dir in
+    let manifest = c.in_ok-manifest.manifest in
+    handed_on (Tells (λ found. damaged_file schema files ≡ found)) c.from_residual-in_err-marks.result c.in_err-marks.field-0.0 c.from_residual-in_err-marks.ensures.1
+    (told_file schema files c.in_err-marks.field-0.0
+    (keys_told told files schema manifest c.requires known (there told files file.Manifest (λ bytes. IsManifestFor schema bytes manifest) known c.in_ok-manifest.ensures.read) c.in_err-marks.field-0.0
+    (c.in_ok-places.places, there told files file.Marks (λ bytes. AreMarksUnder schema manifest bytes c.in_ok-places.places) known c.in_ok-places.ensures.read) c.in_err-marks.ensures.damaged))
+
+pub returns-in_err-marks-clause-damaged : goal.returns-in_err-marks-clause-damaged
+returns-in_err-marks-clause-damaged g c =
+    handed_on (ExplainsOpening (g.R.Dir.Dir.files c.args.dir) c.args.schema.now) c.from_residual-in_err-marks.result c.in_err-marks.field-0.0 c.from_residual-in_err-marks.ensures.1
+    (keys_opening (g.R.Dir.Dir.files c.args.dir) c.args.schema.now c.in_ok-manifest.manifest c.in_ok-manifest.ensures.read c.in_ok-places.places c.in_err-marks.field-0.0 c.in_ok-places.ensures.read c.in_err-marks.ensures.damaged)
+
+pub returns-clause-opened : goal.returns-clause-opened
+returns-clause-opened g c =
+    subst (IsOpened (g.R.Dir.Dir.files c.args.dir) c.args.schema.now) (sym c.of.ensures.loaded)
+    (record { schema_is = c.in-Ok.ensures; manifest = c.in_ok-manifest.ensures.read; places = c.in_ok-places.ensures.read; keys = c.in_ok-marks.ensures.read })
+
+-- what was read is what the files say
+module _ (schema : Schema) (told : Option Files) (files : Files) (loaded : Loaded) (known : told ≡ Some files) (opened : IsOpened told schema loaded) where
+  loaded_there : IsLoadedOf schema files loaded
+  loaded_there = record {
+    schema_is = opened.schema_is;
+    manifest = there told files file.Manifest (λ bytes. IsManifestFor schema bytes loaded.manifest) known opened.manifest;
+    places = there told files file.Marks (λ bytes. AreMarksUnder schema loaded.manifest bytes loaded.places) known opened.places;
+    keys = there told files file.Primary (λ bytes. AreKeysUnder schema loaded.manifest bytes loaded.marks) known opened.keys;
+  }
+
+pub returns-clause-loaded : goal.returns-clause-loaded
+returns-clause-loaded g c = λ files known. loaded_there c.args.schema.now (g.R.Dir.Dir.files c.args.dir) files _ known (returns-clause-opened g c)
+
+pub returns-clause-spelled : goal.returns-clause-spelled
+returns-clause-spelled g c = λ files loaded known is. one_loaded c.args.schema.now files _ loaded (loaded_there c.args.schema.now (g.R.Dir.Dir.files c.args.dir) files _ known (returns-clause-opened g c)) is
+
+pub returns-clause-written : goal.returns-clause-written
+returns-clause-written g c = λ files rows known written.
+    one_loaded c.args.schema.now files _ (loaded_of c.args.schema.now rows) (loaded_there c.args.schema.now (g.R.Dir.Dir.files c.args.dir) files _ known (returns-clause-opened g c)) (written_loaded c.args.schema.now files rows written c.requires)
 
 pub returns-clause-sound : goal.returns-clause-sound
 returns-clause-sound g c = λ files known e.
     manifest_sound c.args.schema.now files c.in_ok-manifest.manifest
-    (same_bytes c.args.schema.now c.deref.result.now (bytes_of file.Manifest files) c.in_ok-manifest.manifest (sym (c.deref.ensures.value ∙ c.in_ok-bytes.ensures.bytes files known)) c.in_ok-manifest.ensures.is)
+    (there (g.R.Dir.Dir.files c.args.dir) files file.Manifest (λ bytes. IsManifestFor c.args.schema.now bytes c.in_ok-manifest.manifest) known c.in_ok-manifest.ensures.read)
     (file_told c.args.schema.now files (Some file.Manifest) e)

@@ -1,6 +1,6 @@
-use Rattle.std.proofs.Common.{sym, ◌∙◌}
+use Rattle.std.proofs.Common.{ap, min, ◌-◌, ◌^◌, ◌∙◌, arith}
 use Rattle.part_writer.proofs.Contents.{content_length}
 use Rattle.part_writer.proofs.content.content_count.Goals as goal
 
 pub returns : goal.returns
-returns c = c.len.ensures ∙ sym (content_length c.args.schema.now)
+returns c = omega (arith, c.saturating_add.ensures, c.len.ensures, content_length c.args.schema.now)

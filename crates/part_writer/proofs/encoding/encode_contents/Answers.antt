@@ -1,0 +1,11 @@
+use Rattle.std.proofs.Common.{ap, ◌∙◌}
+use Rattle.mt_values.specs.Grid.{picked}
+use Rattle.column_file.specs.Marks.{keys_bytes, places_bytes}
+use Rattle.part_writer.proofs.Filling.{contents_done}
+use Rattle.part_writer.proofs.encoding.encode_contents.Goals as goal
+
+pub returns-clause-files : goal.returns-clause-files
+returns-clause-files c =
+    contents_done c.args.schema.now (picked c.args.block.now.rows c.args.order.now) c.in_ok-files.field-0.files _ _ c.in_ok-spell.field-0 c.in_ok-spell_places.field-0 c.in_ok-files.ensures.files c.in_ok-insert.ensures.ok c.in_ok-insert-2.ensures.ok
+    (c.in_ok-spell.ensures.bytes ∙ ap keys_bytes c.in_ok-marks.ensures)
+    (c.in_ok-spell_places.ensures ∙ ap places_bytes (c.as_slice.ensures ∙ c.in_ok-files.ensures.places))

@@ -1,0 +1,96 @@
+// The bytes of the files of a part, from a block of rows.
+ghost use Rattle.std.specs.Prelude.{◌≡◌, ◌<◌, All, IfOk, length, map};
+ghost use Rattle.std.specs.List.{range_with_len};
+ghost use Rattle.mt_values.specs.ColumnBytes.{column_bytes};
+ghost use Rattle.mt_values.specs.Grid.{column_of, picked};
+ghost use Rattle.mt_values.specs.Schemas.{column_types};
+ghost use Rattle.mt_values.specs.Values.{FitsType, Row};
+ghost use Rattle.column_file.specs.Marks.{granule_places, mark_keys};
+ghost use Rattle.part_writer.specs.PartFiles.{content_bytes, content_ids};
+ghost use Rattle.primary_marks.specs.Keys.{HasMarks};
+
+use column_file::{ColumnBytes, encode_column};
+use mt_base::{NoMemory, Seq};
+use mt_values::{Block, Bytes, Schema};
+use primary_marks::{Marks, Places, build, spell, spell_places};
+use std::alloc::Global;
+
+/// The bytes of the files of which a part's manifest has marks, in the order of the format, and what of them is kept in memory.
+#[derive(Drop)]
+pub struct Contents {
+    pub files: Seq<Bytes>,
+    pub marks: Marks,
+    pub places: Places,
+}
+
+/// The bytes of the files of columns, in order, and where granules begin in them.
+#[derive(Drop)]
+struct Columns {
+    files: Seq<Bytes>,
+    places: Places,
+}
+
+/// The files of the block's rows in this order, each column encoded once.
+///
+/// `NoMemory` where an allocation failed.
+pub fn encode_contents(
+    alloc: Global,
+    schema: &Schema,
+    block: &Block,
+    order: &[u32],
+) -> Result<Contents, NoMemory>
+    requires marks { HasMarks schema.now }
+    requires types { block.now.types ≡ column_types schema.now }
+    requires places { All (λ place. place < length block.now.rows) order.now }
+    ensures files { IfOk result (λ c. c.files ≡ map
+        (content_bytes schema.now (picked block.now.rows order.now)) (content_ids schema.now)) }
+    ensures marks { IfOk result (λ c. c.marks ≡ mark_keys schema.now.primary schema.now.granularity
+        (picked block.now.rows order.now)) }
+    ensures places { IfOk result (λ c. c.places ≡ granule_places schema.now.granularity
+        (length schema.now.columns) (picked block.now.rows order.now)) }
+    ensures encodable { IfOk result (λ _. All (λ (row : Row). All FitsType row)
+        (picked block.now.rows order.now)) }
+{
+    let Columns { mut files, places } = encode_columns(alloc, schema, block, order)?;
+    let marks = build(alloc, schema, block, order)?;
+    files.insert(0, spell(alloc, &marks)?)?;
+    files.insert(0, spell_places(alloc, places.as_slice())?)?;
+    Ok(Contents {
+        files,
+        marks,
+        places,
+    })
+}
+
+/// The files of the columns of the block's rows in this order.
+///
+/// `NoMemory` where an allocation failed.
+fn encode_columns(
+    alloc: Global,
+    schema: &Schema,
+    block: &Block,
+    order: &[u32],
+) -> Result<Columns, NoMemory>
+    requires granularity { 0 < schema.now.granularity }
+    requires types { block.now.types ≡ column_types schema.now }
+    requires places { All (λ place. place < length block.now.rows) order.now }
+    ensures files { IfOk result (λ c. c.files ≡ map
+        (λ n. column_bytes (column_of n (picked block.now.rows order.now)))
+        (range_with_len 0 (length schema.now.columns))) }
+    ensures places { IfOk result (λ c. c.places ≡ granule_places schema.now.granularity
+        (length schema.now.columns) (picked block.now.rows order.now)) }
+    ensures encodable { IfOk result (λ _. All (λ (row : Row). All FitsType row)
+        (picked block.now.rows order.now)) }
+{
+    // Reading the number of rows shows that each row has a value of each column.
+    prove!(block.len() <= u32::MAX as usize);
+    let granularity = schema.granularity;
+    let mut files = Seq::new(alloc);
+    let mut places = Seq::new(alloc);
+    for column in 0..schema.columns.len() {
+        let ColumnBytes { bytes, marks } = encode_column(alloc, block, column, order, granularity)?;
+        files.push(bytes)?;
+        places.push(marks)?;
+    }
+    Ok(Columns { files, places })
+}
