@@ -137,7 +137,7 @@ not_refused manifest f g WrongAt bytes place wanted found why marked right =
     ]
 
 -- the damage that is told of bytes is that of the file, where the folder tells
-damage_there : (files : Files) (manifest : Manifest) (f g : FileId) (WrongAt : List ℕ → ℕ → Type 0) (place : ℕ) (wanted found : FileMark) (told : Option Files) → told ≡ Some files → IsDamage told manifest f WrongAt (Damaged g place wanted found)
+pub damage_there : (files : Files) (manifest : Manifest) (f g : FileId) (WrongAt : List ℕ → ℕ → Type 0) (place : ℕ) (wanted found : FileMark) (told : Option Files) → told ≡ Some files → IsDamage told manifest f WrongAt (Damaged g place wanted found)
     → ExplainsBytes manifest f (WrongAt (bytes_of f files)) (bytes_of f files) (Damaged g place wanted found)
 damage_there files manifest f g WrongAt place wanted found told known damage =
     subst (λ bs. ExplainsBytes manifest f (WrongAt bs) bs (Damaged g place wanted found)) (damage.read files known) damage.explained
@@ -190,7 +190,7 @@ module _ (told : Option Files) (schema : Schema) (manifest : Manifest) where
 
 -- ---- what a fault tells
 
-wrong_column : (o : Option ColType) (rows : ℕ) (bytes : List ℕ) (place : ℕ) → IsSomeAnd o (λ t. IsFirstFault t rows bytes place) → IsSomeAnd o (λ t. Spells t rows bytes) → ⊥
+pub wrong_column : (o : Option ColType) (rows : ℕ) (bytes : List ℕ) (place : ℕ) → IsSomeAnd o (λ t. IsFirstFault t rows bytes place) → IsSomeAnd o (λ t. Spells t rows bytes) → ⊥
 wrong_column None rows bytes place wrong spelled = absurd wrong
 wrong_column (Some t) rows bytes place wrong spelled = no_spelling t rows bytes place spelled.values wrong spelled.spelling
 

@@ -33,13 +33,13 @@ use Rattle.part_reader.proofs.SoundRows.{keys_of_rows, places_of_rows, sizes_fit
 
 -- ---- lists by their places
 
-same_list : {X : Type 0} (xs ys : List X) → length xs ≡ length ys → ((i : ℕ) (y : X) → slice_get ys i ≡ Some y → slice_get xs i ≡ Some y) → xs ≡ ys
+pub same_list : {X : Type 0} (xs ys : List X) → length xs ≡ length ys → ((i : ℕ) (y : X) → slice_get ys i ≡ Some y → slice_get xs i ≡ Some y) → xs ≡ ys
 same_list [] [] e each = refl
 same_list [] (y ∷ ys) e each = absurd (omega (arith, e))
 same_list (x ∷ xs) [] e each = absurd (omega (arith, e))
 same_list (x ∷ xs) (y ∷ ys) e each = ap₂ (λ z zs. z ∷ zs) (same_Some x y (each 0 y refl)) (same_list xs ys (omega (arith, e)) (λ i z here. each (suc i) z here))
 
-all_without : (Holds : FileId → Type 0) (ids : List FileId) → ((i : ℕ) (f : FileId) → slice_get ids i ≡ Some f → Holds f) → IsFirstWithout Holds ids None
+pub all_without : (Holds : FileId → Type 0) (ids : List FileId) → ((i : ℕ) (f : FileId) → slice_get ids i ≡ Some f → Holds f) → IsFirstWithout Holds ids None
 all_without Holds [] each = refl
 all_without Holds (f ∷ fs) each = inl (each 0 f refl, all_without Holds fs (λ i g here. each (suc i) g here))
 

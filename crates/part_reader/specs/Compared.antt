@@ -1,5 +1,6 @@
 -- Whether what is kept of a part is that of the files of its columns (docs/formats.md, "Parts").
-use Rattle.std.specs.Prelude.{◌≡◌, ◌↔◌, ℕ, true, IsTrue, List, slice_get, Option, Some, None, if◌then◌else◌}
+use Rattle.std.specs.Prelude.{◌≡◌, ◌↔◌, ℕ, ◌+◌, ◌*◌, ◌<◌, true, IsTrue, List, length, map, slice_get, Option, Some, None, if◌then◌else◌}
+use Rattle.std.specs.List.{filter_map, range_with_len}
 use Rattle.mt_base.specs.declared.name.FileId.{FileId}
 use Rattle.mt_base.specs.declared.name.FileId.TheVariants as file
 use Rattle.mt_values.specs.declared.schema.Schema.{Schema}
@@ -7,7 +8,7 @@ use Rattle.mt_values.specs.declared.value.Value.{Value}
 use Rattle.mt_values.specs.declared.value.ColType.{ColType}
 use Rattle.mt_values.specs.Grid.{column_of}
 use Rattle.mt_values.specs.Schemas.{column_types}
-use Rattle.column_file.specs.Granules.{marks_of}
+use Rattle.column_file.specs.Granules.{granule_start, marks_of}
 use Rattle.column_file.specs.Marks.{with_final}
 use Rattle.column_file.specs.Spellings.{IsSpelling}
 use Rattle.part_writer.specs.PartFiles.{mark_of}
@@ -55,6 +56,13 @@ pub record IsCompared (schema : Schema) (loaded : Loaded) (f : FileId) (bytes : 
 -- the file that says what is not that of the columns, the places before the keys
 abbrev pub unlike_file : Agreement → Option FileId
 unlike_file agreed = if agreed.places then (if agreed.keys then None else Some file.Primary) else Some file.Marks
+
+-- granules of these values begin at these places and with these values, each of so many; the last may want some more
+pub record AreBegun (granularity : ℕ) (values : List Value) (found : ColumnMarks) (left : ℕ) : Type 0 where
+  pub count_is : length values + left ≡ granularity * length found.starts
+  pub few : left < granularity
+  pub starts : found.starts ≡ map (granule_start granularity values) (range_with_len 0 (length found.starts))
+  pub firsts : found.firsts.values ≡ filter_map (λ granule. slice_get values (granularity * granule)) (range_with_len 0 (length found.starts))
 
 -- where the granules of the values begin which the bytes spell, so many of them, and the values with which they begin, and the last
 pub record AreMarksIn (t : ColType) (count granularity : ℕ) (bytes : List ℕ) (found : ColumnMarks) : Type 0 where

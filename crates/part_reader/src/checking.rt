@@ -30,29 +30,24 @@ use std::alloc::Global;
 /// `Damaged` at the first file that has another mark or, of a column, spells no values; where there is none, at `marks.bin` or else
 /// `primary.bin` that is not that of the rows. It is never so where the folder and what is kept hold rows. `Fault` only where the arm's
 /// count rose in this call; `NoMemory` where an allocation failed, or a file's place does not fit 32 bits.
-pub fn check_part<R: Arm>(
-    alloc: Global,
-    part: &Part<R::Dir>,
-    schema: &Schema,
-    arm: &mut R,
-) -> Result<(), PartFault>
-    requires { HasMarks schema.now }
+pub fn check_part<R: Arm>(alloc: Global, part: &Part<R::Dir>, arm: &mut R) -> Result<(), PartFault>
+    requires { HasMarks part.now.loaded.schema }
 
     // What was read, and what is told of damage.
     ensures checked { OnOk result ((rows : List Row)
-        × AreRowsRead (R.Dir.files part.now.dir) schema.now part.now.loaded.manifest rows
-        × (part.now.loaded.places ≡ (loaded_of schema.now rows).places)
-        × (part.now.loaded.marks ≡ (loaded_of schema.now rows).marks)) }
+        × AreRowsRead (R.Dir.files part.now.dir) part.now.loaded.schema part.now.loaded.manifest rows
+        × (part.now.loaded.places ≡ (loaded_of part.now.loaded.schema rows).places)
+        × (part.now.loaded.marks ≡ (loaded_of part.now.loaded.schema rows).marks)) }
     ensures damaged { IfErr result
-        (ExplainsCheck (R.Dir.files part.now.dir) schema.now part.now.loaded) }
+        (ExplainsCheck (R.Dir.files part.now.dir) part.now.loaded.schema part.now.loaded) }
     ensures file { (files : Files) → R.Dir.files part.now.dir ≡ Some files
-        → IsLoadedOf schema.now files part.now.loaded
-        → MatchResult result (λ _. damaged_file schema.now files ≡ None)
-        (Tells (λ found. damaged_file schema.now files ≡ found)) }
+        → IsLoadedOf part.now.loaded.schema files part.now.loaded
+        → MatchResult result (λ _. damaged_file part.now.loaded.schema files ≡ None)
+        (Tells (λ found. damaged_file part.now.loaded.schema files ≡ found)) }
     ensures held { (files : Files) → R.Dir.files part.now.dir ≡ Some files
-        → IsLoadedOf schema.now files part.now.loaded
-        → OnOk result ((rows : List Row) × PartHolds R.Dir.files schema.now part.now rows) }
-    ensures sound { (rows : List Row) → PartHolds R.Dir.files schema.now part.now rows
+        → IsLoadedOf part.now.loaded.schema files part.now.loaded
+        → OnOk result ((rows : List Row) × PartHolds R.Dir.files part.now.loaded.schema part.now rows) }
+    ensures sound { (rows : List Row) → PartHolds R.Dir.files part.now.loaded.schema part.now rows
         → IfErr result IsNoDamage }
 
     // What the arm is then, and its count of faults.
@@ -61,6 +56,7 @@ pub fn check_part<R: Arm>(
     ensures fault { IsErrOf result PartFault.Fault → Rose (R.failed arm.old) (R.failed arm.new) }
     ensures calm { (IsErrOf result PartFault.Fault → ⊥) → R.failed arm.new ≡ R.failed arm.old }
 {
+    let schema = &part.loaded.schema;
     let mut agreed = shape(&part.loaded, schema);
     for place in 0..content_count(schema) {
         // No file has a place past these.

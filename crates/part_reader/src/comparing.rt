@@ -1,15 +1,20 @@
 // What is kept of a part, compared with the values of a column.
-ghost use Rattle.std.specs.Prelude.{◌≡◌, ◌<◌, ◌↔◌, ◌&&◌, ℕ, true, IsTrue, MatchResult, Some, length, slice_get};
-ghost use Rattle.std.specs.Option.{IfSome};
+ghost use Rattle.std.specs.Prelude.{All, ◌≡◌, ◌<◌, ◌↔◌, ◌&&◌, ◌++◌, ◌∷◌, [], ℕ, true, IfErr, IfOk, IsTrue, List, MatchResult, OnOk, Some, length, slice_get};
+ghost use Rattle.std.specs.List.{cons_option};
+ghost use Rattle.std.specs.Option.{IfSome, option_map};
 ghost use Rattle.column_file.specs.Faults.{Explains};
+ghost use Rattle.mt_values.specs.declared.value.Value.{Value};
+ghost use Rattle.mt_values.specs.Cells.{value_of};
+ghost use Rattle.mt_values.specs.ColumnBytes.{column_bytes};
 ghost use Rattle.mt_values.specs.Grid.{column_of};
 ghost use Rattle.mt_values.specs.Schemas.{column_types};
+ghost use Rattle.mt_values.specs.Values.{type_of};
 ghost use Rattle.primary_marks.specs.Keys.{HasMarks};
-ghost use Rattle.part_reader.specs.Compared.{AreMarksIn, IsColumnCompared, unlike_file};
+ghost use Rattle.part_reader.specs.Compared.{AreBegun, AreMarksIn, IsColumnCompared, unlike_file};
 
 use column_file::{FormatFault, cell_at, end_at};
 use mt_base::Seq;
-use mt_values::{ColType, ColumnData, FileId, Schema, cmp_cells};
+use mt_values::{Cell, ColType, ColumnData, FileId, Schema, cmp_cells};
 use part_writer::Loaded;
 use primary_marks::Marks;
 use std::alloc::Global;
@@ -59,7 +64,7 @@ impl Agreement {
     }
 }
 
-/// Where the granules of a column begin in the bytes of its file, and the values with which they begin, and the last.
+/// Where the granules of a column begin in the bytes of its file, and the end of the last; and the values with which they begin, and the last.
 #[derive(Drop)]
 pub struct ColumnMarks {
     pub starts: Seq<u64>,
@@ -105,28 +110,72 @@ fn marks_in(
     ensures { MatchResult result (AreMarksIn col_type count granularity bytes.now)
         (Explains col_type count bytes.now) }
 {
-    let mut starts = Seq::new(alloc);
-    let mut firsts = ColumnData::new(alloc, col_type);
+    let mut found = ColumnMarks {
+        starts: Seq::new(alloc),
+        firsts: ColumnData::new(alloc, col_type),
+    };
     let mut last = None;
     let mut left = 0;
     let mut at = 0;
     for _value in 0..count {
         let (cell, size) = cell_at(col_type, bytes, at)?;
-        if left == 0 {
-            starts.push(at as u64)?;
-            firsts.push_cell(cell)?;
-            left = granularity;
-        }
-        left -= 1;
+        left = go_over(&mut found, left, at, cell, granularity)?;
         last = Some(cell);
         at += size;
     }
     end_at(bytes, at)?;
-    starts.push(at as u64)?;
-    if let Some(cell) = last {
-        firsts.push_cell(cell)?;
+    finish(found, at, last)
+}
+
+/// Goes over one value more, which begins at this place of the bytes. Where the last granule wants none any more, a granule begins with it.
+/// Gives how many values the last granule wants then.
+///
+/// `NoMemory` where an allocation failed; the place may have been added then.
+fn go_over(
+    found: &mut ColumnMarks,
+    left: u32,
+    at: usize,
+    cell: Cell,
+    granularity: u32,
+) -> Result<u32, FormatFault>
+    requires granularity { 0 < granularity }
+    requires typed { type_of (value_of cell) ≡ found.old.firsts.col_type }
+    ensures col_type { OnOk result (found.new.firsts.col_type ≡ found.old.firsts.col_type) }
+    ensures begun { IfOk result (λ rest. (values : List Value) → at ≡ length (column_bytes values)
+        → AreBegun granularity values found.old left
+        → AreBegun granularity (values ++ value_of cell.entry ∷ []) found.new rest) }
+    ensures memory { IfErr result (λ e. e ≡ FormatFault.NoMemory) }
+{
+    if left > 0 {
+        return Ok(left - 1);
     }
-    Ok(ColumnMarks { starts, firsts })
+    found.starts.push(at as u64)?;
+    found.firsts.push_cell(cell)?;
+    Ok(granularity - 1)
+}
+
+/// The marks with the end of the last granule, and with the last value where there is one.
+///
+/// `NoMemory` where an allocation failed.
+fn finish(
+    mut found: ColumnMarks,
+    end: usize,
+    last: Option<Cell>,
+) -> Result<ColumnMarks, FormatFault>
+    requires { IfSome last (λ cell. type_of (value_of cell) ≡ found.firsts.col_type) }
+    ensures starts { IfOk result (λ f. f.starts ≡ found.starts ++ end ∷ []) }
+    ensures firsts { IfOk result (λ f. f.firsts.values ≡ found.firsts.values
+        ++ cons_option (option_map value_of last.entry) []) }
+    ensures memory { IfErr result (λ e. e ≡ FormatFault.NoMemory) }
+{
+    found.starts.push(end as u64)?;
+    match last {
+        None => Ok(found),
+        Some(cell) => {
+            found.firsts.push_cell(cell)?;
+            Ok(found)
+        }
+    }
 }
 
 /// Whether the places that are kept of a column are these.
@@ -156,11 +205,11 @@ fn are_keys(marks: &Marks, primary: &[u32], number: u32, firsts: &ColumnData) ->
 fn is_column(marks: &Marks, place: usize, firsts: &ColumnData) -> bool
     ensures { IsTrue result ↔ (column_of place marks.now ≡ firsts.now.values) }
 {
-    if marks.len() != firsts.len() {
-        return false;
-    }
     if place >= marks.width() {
         return firsts.is_empty();
+    }
+    if marks.len() != firsts.len() {
+        return false;
     }
     for key in 0..firsts.len() {
         if !cmp_cells(marks.key_cell(key, place), firsts.at(key)).is_eq() {
@@ -168,4 +217,27 @@ fn is_column(marks: &Marks, place: usize, firsts: &ColumnData) -> bool
         }
     }
     true
+}
+
+/// Whether what is kept of a part has places of each column of the table, and keys with a value of each column of its primary key.
+pub fn shape(loaded: &Loaded, schema: &Schema) -> Agreement
+    ensures places { IsTrue result.places
+        ↔ (length loaded.now.places ≡ length schema.now.columns) }
+    ensures keys { IsTrue result.keys
+        ↔ All (λ key. length key ≡ length schema.now.primary) loaded.now.marks }
+{
+    Agreement {
+        places: loaded.places.len() == schema.columns.len(),
+        keys: have_width(&loaded.marks, schema.primary.len()),
+    }
+}
+
+/// Whether each of the keys has this many values.
+fn have_width(marks: &Marks, width: usize) -> bool
+    ensures { IsTrue result ↔ All (λ key. length key ≡ width) marks.now }
+{
+    if marks.is_empty() {
+        return true;
+    }
+    marks.width() == width
 }

@@ -1,107 +1,127 @@
-use Rattle.std.proofs.Common.{◌≡◌, Some, ◌≤◌, ◌∙◌, None, arith, length, subst, sym}
-use Rattle.std.proofs.lemmas.List.{take_all}
+use Rattle.std.proofs.Common.{◌≡◌, ◌∙◌, ◌≤◌, Some, None, arith, length, get_or, refl, sym, inl, List}
+use Rattle.mt_base.specs.declared.name.FileId.{FileId}
 use Rattle.mt_base.specs.declared.name.FileId.TheVariants as file
 use Rattle.mt_outside.specs.Files.{Files}
+use Rattle.mt_values.specs.Values.{Row}
 use Rattle.part_writer.specs.PartFiles.{content_ids}
-use Rattle.part_writer.proofs.Contents.{content_at, content_known, content_length}
+use Rattle.part_writer.proofs.Contents.{content_known, content_length, content_there}
+use Rattle.part_reader.specs.declared.reading.PartFault.TheVariants.{Fault}
 use Rattle.part_reader.specs.Damage.{ExplainsCheck, Tells}
-use Rattle.part_reader.specs.DamagedFile.{damaged_file, first_unsound}
+use Rattle.part_reader.specs.DamagedFile.{damaged_file}
 use Rattle.part_reader.specs.Faults.{IsNoDamage}
-use Rattle.part_damage.specs.Sound.{AreChecked, FirstUnsound}
-use Rattle.part_reader.proofs.Damages.{all_sound, checked_more, damaged_content, error_handed_on, first_told, none_told}
-use Rattle.part_damage.proofs.Deciding.{file_is, told_more, unsound_file}
+use Rattle.part_damage.specs.Sound.{FirstUnsound, IsLoadedOf}
+use Rattle.part_reader.proofs.CheckedParts.{check_told, file_under, held_sound, is_like, kept_unsound, no_check_fault, unlike_fault}
+use Rattle.part_reader.proofs.ComparedColumns.{AreRowsCompared, all_compared, gone_over_more, gone_over_none}
+use Rattle.part_reader.proofs.Damages.{error_handed_on}
 use Rattle.part_reader.proofs.Gaining.{handed_on}
-use Rattle.part_reader.proofs.SoundRows.{held_sound, sound_rows}
+use Rattle.part_reader.proofs.HeldRows.{unsound_rows}
 use Rattle.part_reader.proofs.checking.check_part.Goals as goal
+use Rattle.part_reader.proofs.checking.check_part.Goals.{After-unlike}
 use Rattle.part_reader.proofs.checking.check_part.Given.{Over}
 
 pub unreachable-requires : goal.unreachable-requires
 unreachable-requires g c =
-    let here = content_at c.args.schema.now c.loop-place.place (omega (arith, c.content_count-place-end.ensures, content_length c.args.schema.now)) in
-    c.in_default.not-Some (file.Column c.loop-place.place) (c.content_file.ensures ∙ here)
+    let ids = content_ids c.args.part.now.loaded.schema in
+    let here = content_there c.args.part.now.loaded.schema c.loop-place.place (omega (arith, c.content_count-place-end.ensures, content_length c.args.part.now.loaded.schema)) in
+    c.in_default.not-Some (get_or ids c.loop-place.place file.Entry) (c.content_file.ensures ∙ here)
 
 pub check_file-requires-clause-content : goal.check_file-requires-clause-content
-check_file-requires-clause-content g c = λ κs within. content_known c.args.schema.now c.loop-place.place c.in-Some.file (sym c.in-Some.ensures)
+check_file-requires-clause-content g c = λ κs within. content_known c.args.part.now.loaded.schema c.loop-place.place c.in-Some.file (sym c.in-Some.ensures)
 
 pub returns-then-place-clause-damaged : goal.returns-then-place-clause-damaged
-returns-then-place-clause-damaged g c = record {
-  place = c.loop-place.place;
-  file = file.Column c.loop-place.place;
-  file_is = content_at c.args.schema.now c.loop-place.place (omega (arith, c.content_count-place-end.ensures, content_length c.args.schema.now));
-  before = c.loop-place.invariant.checked;
-  explained = tt;
+returns-then-place-clause-damaged g c =
+    inl (record {
+      place = c.loop-place.place;
+      file = get_or (content_ids c.args.part.now.loaded.schema) c.loop-place.place file.Entry;
+      file_is = content_there c.args.part.now.loaded.schema c.loop-place.place (omega (arith, c.content_count-place-end.ensures, content_length c.args.part.now.loaded.schema));
+      before = c.loop-place.invariant.gone.checked;
+      explained = tt;
+    })
+
+pub loop-place-init : goal.loop-place-init
+loop-place-init g c = record {
+  gone = gone_over_none (g.R.Dir.Dir.files c.args.part.now.dir) c.args.part.now.loaded.schema c.args.part.now.loaded c.shape-agreed.result c.shape-agreed.ensures.places c.shape-agreed.ensures.keys;
+  tells = refl;
+  count = refl;
 }
 
 pub loop-place-preserved : goal.loop-place-preserved
 loop-place-preserved g c = record {
-  checked = checked_more (g.R.Dir.Dir.files c.args.part.now.dir) c.args.schema.now c.args.part.now.loaded.manifest (content_ids c.args.schema.now) c.loop-place.place c.in-Some.file (sym c.in-Some.ensures)
-      c.loop-place.invariant.checked c.in_ok-check_file.ensures.checked;
+  gone = gone_over_more (g.R.Dir.Dir.files c.args.part.now.dir) c.args.part.now.loaded.schema c.args.part.now.loaded c.loop-place.place c.in-Some.file c.loop-place.agreed _ _ (sym c.in-Some.ensures)
+      c.loop-place.invariant.gone c.in_ok-check_file.ensures.compared c.and-agreed.ensures;
   tells = c.in_ok-check_file.ensures.tells ∙ c.loop-place.invariant.tells;
   count = c.in_ok-check_file.ensures.calm (λ fault. cc) ∙ c.loop-place.invariant.count;
 }
 
 -- the fault is that of the file that was read last
-fault_of : (g : Over) (c : goal.After-from_residual g) → ExplainsCheck (g.R.Dir.Dir.files c.args.part.now.dir) c.args.schema.now c.args.part.now.loaded.manifest c.in_err-check_file.field-0.0
-fault_of g c = record {
-  place = c.loop-place.place;
-  file = c.in-Some.file;
-  file_is = sym c.in-Some.ensures;
-  before = c.loop-place.invariant.checked;
-  explained = c.in_err-check_file.ensures.damaged;
-}
+fault_of : (g : Over) (c : goal.After-from_residual g) → ExplainsCheck (g.R.Dir.Dir.files c.args.part.now.dir) c.args.part.now.loaded.schema c.args.part.now.loaded c.in_err-check_file.field-0.0
+fault_of g c =
+    inl (record {
+      place = c.loop-place.place;
+      file = c.in-Some.file;
+      file_is = sym c.in-Some.ensures;
+      before = c.loop-place.invariant.gone.checked;
+      explained = c.in_err-check_file.ensures.damaged;
+    })
 
 pub returns-in_err-check_file-clause-damaged : goal.returns-in_err-check_file-clause-damaged
 returns-in_err-check_file-clause-damaged g c =
-    handed_on (ExplainsCheck (g.R.Dir.Dir.files c.args.part.now.dir) c.args.schema.now c.args.part.now.loaded.manifest) c.from_residual.result c.in_err-check_file.field-0.0 c.from_residual.ensures.1
-    (fault_of g c)
-
--- and so is the first that is told
-told_of : (g : Over) (c : goal.After-from_residual g) (files : Files) → g.R.Dir.Dir.files c.args.part.now.dir ≡ Some files → Tells (FirstUnsound c.args.schema.now c.args.part.now.loaded.manifest files (content_ids c.args.schema.now)) c.in_err-check_file.field-0.0
-told_of g c files known =
-    first_told (g.R.Dir.Dir.files c.args.part.now.dir) files c.args.schema.now c.args.part.now.loaded.manifest c.in_err-check_file.field-0.0 known (fault_of g c)
-
-pub returns-in_err-check_file-clause-first : goal.returns-in_err-check_file-clause-first
-returns-in_err-check_file-clause-first g c = λ files known.
-    let manifest = c.args.part.now.loaded.manifest in
-    let schema = c.args.schema.now in
-    let ids = content_ids schema in
-    error_handed_on (λ _. first_unsound schema manifest files ids ≡ None) (Tells (λ found. first_unsound schema manifest files ids ≡ found)) c.from_residual.result c.in_err-check_file.field-0.0 c.from_residual.ensures.1
-    (told_more (FirstUnsound schema manifest files ids) (λ found. first_unsound schema manifest files ids ≡ found) c.in_err-check_file.field-0.0 (λ found. unsound_file schema manifest files ids found) (told_of g c files known))
+    handed_on (ExplainsCheck (g.R.Dir.Dir.files c.args.part.now.dir) c.args.part.now.loaded.schema c.args.part.now.loaded) c.from_residual.result c.in_err-check_file.field-0.0 c.from_residual.ensures.1 (fault_of g c)
 
 pub returns-in_err-check_file-clause-file : goal.returns-in_err-check_file-clause-file
 returns-in_err-check_file-clause-file g c = λ files known is.
-    let manifest = c.args.part.now.loaded.manifest in
-    let schema = c.args.schema.now in
+    let schema = c.args.part.now.loaded.schema in
     error_handed_on (λ _. damaged_file schema files ≡ None) (Tells (λ found. damaged_file schema files ≡ found)) c.from_residual.result c.in_err-check_file.field-0.0 c.from_residual.ensures.1
-    (told_more (FirstUnsound schema manifest files (content_ids schema)) (λ found. damaged_file schema files ≡ found) c.in_err-check_file.field-0.0
-    (λ found first. file_is schema files found (damaged_content schema files manifest found is first)) (told_of g c files known))
+    (check_told (g.R.Dir.Dir.files c.args.part.now.dir) files schema c.args.part.now.loaded c.requires known is c.in_err-check_file.field-0.0 (fault_of g c))
 
 pub returns-in_err-check_file-clause-sound : goal.returns-in_err-check_file-clause-sound
 returns-in_err-check_file-clause-sound g c = λ rows holds.
-    let manifest = c.args.part.now.loaded.manifest in
-    let schema = c.args.schema.now in
     handed_on IsNoDamage c.from_residual.result c.in_err-check_file.field-0.0 c.from_residual.ensures.1
-    (none_told schema manifest holds.files (content_ids schema) c.in_err-check_file.field-0.0 (held_sound g.R.Dir.Dir.files schema c.args.part.now holds.files rows holds.files_are holds)
-    (told_of g c holds.files holds.files_are))
+    (held_sound g.R.Dir.Dir.files c.args.part.now.loaded.schema c.args.part.now rows holds c.in_err-check_file.field-0.0 (fault_of g c))
 
--- at the end all files are checked
-all_checked : (g : Over) (c : goal.After-loop-place g) → AreChecked (g.R.Dir.Dir.files c.args.part.now.dir) c.args.schema.now c.args.part.now.loaded.manifest (content_ids c.args.schema.now)
-all_checked g c =
-    let ids = content_ids c.args.schema.now in
+-- at the end all files are compared
+rows_found : (g : Over) (c : After-unlike g) → (rows : List Row) × AreRowsCompared (g.R.Dir.Dir.files c.args.part.now.dir) c.args.part.now.loaded.schema c.args.part.now.loaded c.loop-place.agreed rows
+rows_found g c =
+    let ids = content_ids c.args.part.now.loaded.schema in
     let past : length ids ≤ c.loop-place.place = omega (arith, c.content_count-place-end.ensures) in
-    subst (AreChecked (g.R.Dir.Dir.files c.args.part.now.dir) c.args.schema.now c.args.part.now.loaded.manifest) (take_all c.loop-place.place ids past) c.loop-place.invariant.checked
+    let exact : c.loop-place.place ≤ length ids = omega (arith, c.content_count-place-end.ensures) in
+    all_compared (g.R.Dir.Dir.files c.args.part.now.dir) c.args.part.now.loaded.schema c.args.part.now.loaded c.loop-place.agreed c.requires c.loop-place.place past exact c.loop-place.invariant.gone
 
--- and none is unsound
-none_unsound : (g : Over) (c : goal.After-loop-place g) (files : Files) → g.R.Dir.Dir.files c.args.part.now.dir ≡ Some files → FirstUnsound c.args.schema.now c.args.part.now.loaded.manifest files (content_ids c.args.schema.now) None
-none_unsound g c files known =
-    all_sound (g.R.Dir.Dir.files c.args.part.now.dir) files c.args.schema.now c.args.part.now.loaded.manifest (content_ids c.args.schema.now) known (all_checked g c)
+pub returns-in-None-clause-checked : goal.returns-in-None-clause-checked
+returns-in-None-clause-checked g c =
+    let found = rows_found g c in
+    let like = is_like c.loop-place.agreed.places c.loop-place.agreed.keys (sym c.unlike.ensures ∙ c.in-None.is) in
+    (found.0, found.1.read, found.1.places.0 like.0, found.1.keys.0 like.1)
 
-pub returns-clause-first : goal.returns-clause-first
-returns-clause-first g c = λ files known. unsound_file c.args.schema.now c.args.part.now.loaded.manifest files (content_ids c.args.schema.now) None (none_unsound g c files known)
+-- and no file is unsound where what is kept is that of the rows
+unsound : (g : Over) (c : goal.In-None g) (files : Files) → g.R.Dir.Dir.files c.args.part.now.dir ≡ Some files → IsLoadedOf c.args.part.now.loaded.schema files c.args.part.now.loaded → FirstUnsound c.args.part.now.loaded.schema c.args.part.now.loaded.manifest files None
+unsound g c files known is =
+    let found = rows_found g c in
+    let like = is_like c.loop-place.agreed.places c.loop-place.agreed.keys (sym c.unlike.ensures ∙ c.in-None.is) in
+    kept_unsound (g.R.Dir.Dir.files c.args.part.now.dir) files c.args.part.now.loaded.schema c.args.part.now.loaded c.requires known is found.0 found.1.read (found.1.places.0 like.0) (found.1.keys.0 like.1)
 
-pub returns-clause-file : goal.returns-clause-file
-returns-clause-file g c = λ files known is.
-    file_is c.args.schema.now files None (damaged_content c.args.schema.now files c.args.part.now.loaded.manifest None is (none_unsound g c files known))
+pub returns-in-None-clause-file : goal.returns-in-None-clause-file
+returns-in-None-clause-file g c = λ files known is.
+    file_under (g.R.Dir.Dir.files c.args.part.now.dir) files c.args.part.now.loaded.schema c.args.part.now.loaded c.requires known is None (unsound g c files known is)
 
-pub returns-clause-held : goal.returns-clause-held
-returns-clause-held g c = λ files known count. sound_rows g.R.Dir.Dir.files c.args.schema.now c.args.part.now files known count (none_unsound g c files known)
+pub returns-in-None-clause-held : goal.returns-in-None-clause-held
+returns-in-None-clause-held g c = λ files known is. unsound_rows g.R.Dir.Dir.files c.args.part.now.loaded.schema c.args.part.now files c.requires known is (unsound g c files known is)
+
+-- what is told of a file of granules
+unlike_of : (g : Over) (c : goal.After-unlike_rows g) → ExplainsCheck (g.R.Dir.Dir.files c.args.part.now.dir) c.args.part.now.loaded.schema c.args.part.now.loaded c.unlike_rows.result
+unlike_of g c =
+    let found = rows_found g c in
+    unlike_fault (g.R.Dir.Dir.files c.args.part.now.dir) c.args.part.now.loaded.schema c.args.part.now.loaded c.loop-place.agreed found.0 found.1 c.in-Some-unlike.file c.unlike_rows.result (sym c.unlike.ensures ∙ c.in-Some-unlike.is) c.unlike_rows.ensures
+
+pub returns-in-Some-unlike-clause-damaged : goal.returns-in-Some-unlike-clause-damaged
+returns-in-Some-unlike-clause-damaged g c = unlike_of g c
+
+pub returns-in-Some-unlike-clause-file : goal.returns-in-Some-unlike-clause-file
+returns-in-Some-unlike-clause-file g c = λ files known is.
+    check_told (g.R.Dir.Dir.files c.args.part.now.dir) files c.args.part.now.loaded.schema c.args.part.now.loaded c.requires known is c.unlike_rows.result (unlike_of g c)
+
+pub returns-in-Some-unlike-clause-sound : goal.returns-in-Some-unlike-clause-sound
+returns-in-Some-unlike-clause-sound g c = λ rows holds. held_sound g.R.Dir.Dir.files c.args.part.now.loaded.schema c.args.part.now rows holds c.unlike_rows.result (unlike_of g c)
+
+pub returns-in-Some-unlike-clause-fault : goal.returns-in-Some-unlike-clause-fault
+returns-in-Some-unlike-clause-fault g c = λ e. absurd (no_check_fault (g.R.Dir.Dir.files c.args.part.now.dir) c.args.part.now.loaded.schema c.args.part.now.loaded c.loop-place.agreed (rows_found g c).0 (rows_found g c).1 c.in-Some-unlike.file c.unlike_rows.result (sym c.unlike.ensures ∙ c.in-Some-unlike.is) c.unlike_rows.ensures (let same : c.unlike_rows.result ≡ Fault = cc in same))
