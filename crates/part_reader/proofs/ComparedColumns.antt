@@ -1,5 +1,5 @@
 -- The columns of a part gone over: what is kept of the part is that of all of them, or is not.
-use Rattle.std.proofs.Common.{◌≡◌, ℕ, zero, suc, ◌+◌, ◌-◌, ◌<◌, ◌≤◌, ◌⊎◌, ◌↔◌, ◌&&◌, inl, inr, Bool, true, false, List, [], ◌∷◌, ◌++◌, Option, Some, None, refl, sym, ap, ap₂, ◌∙◌, subst, length, map, get_or, slice_get, take, All, arith, IsSomeAnd}
+use Rattle.std.proofs.Common.{◌≡◌, ℕ, zero, suc, ◌+◌, ◌-◌, ◌^◌, ◌<◌, ◌≤◌, ◌⊎◌, ◌↔◌, ◌&&◌, inl, inr, Bool, true, false, List, [], ◌∷◌, ◌++◌, Option, Some, None, refl, sym, ap, ap₂, ◌∙◌, subst, length, map, min, get_or, slice_get, take, All, arith, IsSomeAnd}
 use Rattle.std.specs.Bool.{Decides}
 use Rattle.std.specs.List.{range_with_len}
 use Rattle.std.specs.Option.{ForSome}
@@ -118,7 +118,6 @@ true_last false b e = refl
 module _ (told : Option Files) (schema : Schema) (loaded : Loaded) where
   abbrev manifest : Manifest
   manifest = loaded.manifest
-
 
   column_sound : (n : ℕ) (one : Agreement) (bytes : List ℕ) → IsCompared schema loaded (file.Column n) bytes one → IsSound schema manifest (file.Column n) bytes
   column_sound n one bytes c = record {
@@ -252,9 +251,11 @@ module _ (told : Option Files) (schema : Schema) (loaded : Loaded) (agreed : Agr
         h.1 i (column_at i) (there i below) ∙ ap (λ (vs : List Value). Some (marks_of schema.granularity vs)) (values_are i below) ∙ sym (wanted_at i below) ∙ here)
 
     kept_places : loaded.places ≡ wanted → AllPlaces schema loaded g.columns
-    kept_places e =
-        (ap length e ∙ wanted_count, λ n c here.
-        ap (λ (ps : List (List ℕ)). slice_get ps n) e ∙ wanted_at n (within n c here) ∙ ap (λ (vs : List Value). Some (marks_of schema.granularity vs)) (sym (own_values n c here)))
+    kept_places e = (
+      ap length e ∙ wanted_count,
+      λ n c here.
+          ap (λ (ps : List (List ℕ)). slice_get ps n) e ∙ wanted_at n (within n c here) ∙ ap (λ (vs : List Value). Some (marks_of schema.granularity vs)) (sym (own_values n c here)),
+    )
 
     abbrev wanted_keys : List Row
     wanted_keys = mark_keys schema.primary schema.granularity rows
@@ -275,11 +276,13 @@ module _ (told : Option Files) (schema : Schema) (loaded : Loaded) (agreed : Agr
             subst (λ k. k < length schema.columns) same (has.own p n (slice_get_within schema.primary p n here))
 
     kept_keys : loaded.marks ≡ wanted_keys → AllKeys schema loaded g.columns
-    kept_keys e =
-        (subst (All (λ (key : Row). length key ≡ length schema.primary)) (sym e) (mark_width schema.primary schema.granularity (length schema.columns) rows wide has.own), λ n c here.
-        λ place primary.
-        ap (column_of place) e ∙ mark_column schema.primary schema.granularity (length schema.columns) rows wide has.own place n primary (within n c here)
-        ∙ ap (with_final schema.granularity) (sym (own_values n c here)))
+    kept_keys e = (
+      subst (All (λ (key : Row). length key ≡ length schema.primary)) (sym e) (mark_width schema.primary schema.granularity (length schema.columns) rows wide has.own),
+      λ n c here.
+          λ place primary.
+          ap (column_of place) e ∙ mark_column schema.primary schema.granularity (length schema.columns) rows wide has.own place n primary (within n c here)
+          ∙ ap (with_final schema.granularity) (sym (own_values n c here)),
+    )
 
     compared : AreRowsCompared told schema loaded agreed rows
     compared = record {
@@ -292,7 +295,12 @@ module _ (told : Option Files) (schema : Schema) (loaded : Loaded) (agreed : Agr
       keys = Decides-like agreed.keys keys_kept kept_keys g.keys;
     }
 
-  pub all_compared : (rows : List Row) × AreRowsCompared told schema loaded agreed rows
+  all_compared : (rows : List Row) × AreRowsCompared told schema loaded agreed rows
   all_compared =
       let r = rows_of_bytes schema loaded.manifest.rows (λ n. (column_at n).bytes) spelled_at in
       (r.0, compared r.0 r.1 r.2)
+
+-- once as many files are gone over as there are, at most 2 ^ 32, what is kept is compared with the rows
+pub counted_compared : (told : Option Files) (schema : Schema) (loaded : Loaded) (agreed : Agreement) (has : HasMarks schema) (place count : ℕ) → count ≡ min (length (content_ids schema)) (2 ^ 64 - 1) → count ≤ place → place ≤ count → place ≤ 2 ^ 32 → AreGoneOver told schema loaded place agreed
+    → (rows : List Row) × AreRowsCompared told schema loaded agreed rows
+counted_compared told schema loaded agreed has place count is past exact few g = all_compared told schema loaded agreed has place (omega (arith, is)) (omega (arith, is)) g

@@ -92,7 +92,12 @@ pub fn compare_column(
     let found = marks_in(alloc, col_type, bytes, rows, schema.granularity)?;
     Ok(Agreement {
         places: are_places(loaded, number as usize, &found.starts),
-        keys: are_keys(&loaded.marks, schema.primary.as_slice(), number, &found.firsts),
+        keys: are_keys(
+            &loaded.marks,
+            schema.primary.as_slice(),
+            number,
+            &found.firsts,
+        ),
     })
 }
 

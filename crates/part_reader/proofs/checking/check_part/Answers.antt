@@ -11,12 +11,11 @@ use Rattle.part_reader.specs.DamagedFile.{damaged_file}
 use Rattle.part_reader.specs.Faults.{IsNoDamage}
 use Rattle.part_damage.specs.Sound.{FirstUnsound, IsLoadedOf}
 use Rattle.part_reader.proofs.CheckedParts.{check_told, file_under, held_sound, is_like, kept_unsound, no_check_fault, unlike_fault}
-use Rattle.part_reader.proofs.ComparedColumns.{AreRowsCompared, all_compared, gone_over_more, gone_over_none}
+use Rattle.part_reader.proofs.ComparedColumns.{AreRowsCompared, counted_compared, gone_over_more, gone_over_none}
 use Rattle.part_reader.proofs.Damages.{error_handed_on}
 use Rattle.part_reader.proofs.Gaining.{handed_on}
 use Rattle.part_reader.proofs.HeldRows.{unsound_rows}
 use Rattle.part_reader.proofs.checking.check_part.Goals as goal
-use Rattle.part_reader.proofs.checking.check_part.Goals.{After-unlike}
 use Rattle.part_reader.proofs.checking.check_part.Given.{Over}
 
 pub unreachable-requires : goal.unreachable-requires
@@ -41,6 +40,7 @@ returns-then-place-clause-damaged g c =
 pub loop-place-init : goal.loop-place-init
 loop-place-init g c = record {
   gone = gone_over_none (g.R.Dir.Dir.files c.args.part.now.dir) c.args.part.now.loaded.schema c.args.part.now.loaded c.shape-agreed.result c.shape-agreed.ensures.places c.shape-agreed.ensures.keys;
+  few = omega arith;
   tells = refl;
   count = refl;
 }
@@ -49,6 +49,7 @@ pub loop-place-preserved : goal.loop-place-preserved
 loop-place-preserved g c = record {
   gone = gone_over_more (g.R.Dir.Dir.files c.args.part.now.dir) c.args.part.now.loaded.schema c.args.part.now.loaded c.loop-place.place c.in-Some.file c.loop-place.agreed _ _ (sym c.in-Some.ensures)
       c.loop-place.invariant.gone c.in_ok-check_file.ensures.compared c.and-agreed.ensures;
+  few = omega arith;
   tells = c.in_ok-check_file.ensures.tells ∙ c.loop-place.invariant.tells;
   count = c.in_ok-check_file.ensures.calm (λ fault. cc) ∙ c.loop-place.invariant.count;
 }
@@ -80,12 +81,10 @@ returns-in_err-check_file-clause-sound g c = λ rows holds.
     (held_sound g.R.Dir.Dir.files c.args.part.now.loaded.schema c.args.part.now rows holds c.in_err-check_file.field-0.0 (fault_of g c))
 
 -- at the end all files are compared
-rows_found : (g : Over) (c : After-unlike g) → (rows : List Row) × AreRowsCompared (g.R.Dir.Dir.files c.args.part.now.dir) c.args.part.now.loaded.schema c.args.part.now.loaded c.loop-place.agreed rows
+rows_found : (g : Over) (c : goal.In-None g) → (rows : List Row) × AreRowsCompared (g.R.Dir.Dir.files c.args.part.now.dir) c.args.part.now.loaded.schema c.args.part.now.loaded c.loop-place.agreed rows
 rows_found g c =
-    let ids = content_ids c.args.part.now.loaded.schema in
-    let past : length ids ≤ c.loop-place.place = omega (arith, c.content_count-place-end.ensures) in
-    let exact : c.loop-place.place ≤ length ids = omega (arith, c.content_count-place-end.ensures) in
-    all_compared (g.R.Dir.Dir.files c.args.part.now.dir) c.args.part.now.loaded.schema c.args.part.now.loaded c.loop-place.agreed c.requires c.loop-place.place past exact c.loop-place.invariant.gone
+    counted_compared (g.R.Dir.Dir.files c.args.part.now.dir) c.args.part.now.loaded.schema c.args.part.now.loaded c.loop-place.agreed c.requires c.loop-place.place c.content_count-place-end.result c.content_count-place-end.ensures (omega arith) (omega arith)
+    c.loop-place.invariant.few c.loop-place.invariant.gone
 
 pub returns-in-None-clause-checked : goal.returns-in-None-clause-checked
 returns-in-None-clause-checked g c =
@@ -107,10 +106,16 @@ returns-in-None-clause-file g c = λ files known is.
 pub returns-in-None-clause-held : goal.returns-in-None-clause-held
 returns-in-None-clause-held g c = λ files known is. unsound_rows g.R.Dir.Dir.files c.args.part.now.loaded.schema c.args.part.now files c.requires known is (unsound g c files known is)
 
+-- and where what is kept is not that of the rows
+rows_unlike : (g : Over) (c : goal.After-unlike_rows g) → (rows : List Row) × AreRowsCompared (g.R.Dir.Dir.files c.args.part.now.dir) c.args.part.now.loaded.schema c.args.part.now.loaded c.loop-place.agreed rows
+rows_unlike g c =
+    counted_compared (g.R.Dir.Dir.files c.args.part.now.dir) c.args.part.now.loaded.schema c.args.part.now.loaded c.loop-place.agreed c.requires c.loop-place.place c.content_count-place-end.result c.content_count-place-end.ensures (omega arith) (omega arith)
+    c.loop-place.invariant.few c.loop-place.invariant.gone
+
 -- what is told of a file of granules
 unlike_of : (g : Over) (c : goal.After-unlike_rows g) → ExplainsCheck (g.R.Dir.Dir.files c.args.part.now.dir) c.args.part.now.loaded.schema c.args.part.now.loaded c.unlike_rows.result
 unlike_of g c =
-    let found = rows_found g c in
+    let found = rows_unlike g c in
     unlike_fault (g.R.Dir.Dir.files c.args.part.now.dir) c.args.part.now.loaded.schema c.args.part.now.loaded c.loop-place.agreed found.0 found.1 c.in-Some-unlike.file c.unlike_rows.result (sym c.unlike.ensures ∙ c.in-Some-unlike.is) c.unlike_rows.ensures
 
 pub returns-in-Some-unlike-clause-damaged : goal.returns-in-Some-unlike-clause-damaged
@@ -124,4 +129,4 @@ pub returns-in-Some-unlike-clause-sound : goal.returns-in-Some-unlike-clause-sou
 returns-in-Some-unlike-clause-sound g c = λ rows holds. held_sound g.R.Dir.Dir.files c.args.part.now.loaded.schema c.args.part.now rows holds c.unlike_rows.result (unlike_of g c)
 
 pub returns-in-Some-unlike-clause-fault : goal.returns-in-Some-unlike-clause-fault
-returns-in-Some-unlike-clause-fault g c = λ e. absurd (no_check_fault (g.R.Dir.Dir.files c.args.part.now.dir) c.args.part.now.loaded.schema c.args.part.now.loaded c.loop-place.agreed (rows_found g c).0 (rows_found g c).1 c.in-Some-unlike.file c.unlike_rows.result (sym c.unlike.ensures ∙ c.in-Some-unlike.is) c.unlike_rows.ensures (let same : c.unlike_rows.result ≡ Fault = cc in same))
+returns-in-Some-unlike-clause-fault g c = λ e. absurd (no_check_fault (g.R.Dir.Dir.files c.args.part.now.dir) c.args.part.now.loaded.schema c.args.part.now.loaded c.loop-place.agreed (rows_unlike g c).0 (rows_unlike g c).1 c.in-Some-unlike.file c.unlike_rows.result (sym c.unlike.ensures ∙ c.in-Some-unlike.is) c.unlike_rows.ensures (let same : c.unlike_rows.result ≡ Fault = cc in same))
