@@ -1,5 +1,5 @@
 -- A part that is checked: what a fault says of its files, and that none is damaged where there is no fault.
-use Rattle.std.proofs.Common.{◌≡◌, ◌≢◌, ℕ, zero, suc, ◌+◌, ◌^◌, ◌<◌, ◌⊎◌, inl, inr, Bool, true, false, List, [], ◌∷◌, Option, Some, None, refl, sym, ap, ◌∙◌, subst, length, slice_get, take, IsSomeAnd}
+use Rattle.std.proofs.Common.{◌≡◌, ℕ, zero, suc, ◌+◌, ◌^◌, ◌<◌, ◌⊎◌, inl, inr, Bool, true, false, List, [], ◌∷◌, Option, Some, None, refl, sym, ap, ◌∙◌, subst, length, slice_get, take}
 use Rattle.std.specs.Bool.{if◌then◌else◌}
 use Rattle.std.proofs.lemmas.Bool.{false≢true}
 use Rattle.std.proofs.lemmas.Option.{same_Some}
@@ -8,7 +8,6 @@ use Rattle.mt_base.specs.declared.name.FileId.TheVariants as file
 use Rattle.mt_values.specs.declared.manifest.FileMark.{FileMark}
 use Rattle.mt_values.specs.declared.manifest.Manifest.{Manifest}
 use Rattle.mt_values.specs.declared.schema.Schema.{Schema}
-use Rattle.mt_values.specs.declared.value.ColType.{ColType}
 use Rattle.mt_values.specs.ColumnBytes.{column_bytes}
 use Rattle.mt_values.specs.Grid.{column_of}
 use Rattle.mt_values.specs.Schemas.{column_types}
@@ -22,14 +21,14 @@ use Rattle.part_writer.specs.PartFiles.{content_bytes, content_ids, loaded_of, m
 use Rattle.part_writer.specs.declared.loaded.Loaded.{Loaded}
 use Rattle.part_writer.proofs.Contents.{content_at}
 use Rattle.part_damage.specs.Marks.{mark_for}
-use Rattle.part_damage.specs.Sound.{AreChecked, AreKeysFor, AreMarksFor, AreRowsRead, FirstDamaged, FirstUnsound, IsFirstWithout, IsLoadedOf, IsReadable, IsSound, SpellRows, SpellsFile, granule_ids}
+use Rattle.part_damage.specs.Sound.{AreChecked, AreKeysFor, AreMarksFor, AreRowsRead, FirstUnsound, IsFirstWithout, IsLoadedOf, IsReadable, IsSound, SpellRows, SpellsFile, granule_ids}
 use Rattle.part_damage.proofs.SpelledRows.{all_have, one_rows}
 use Rattle.part_reader.specs.declared.comparing.Agreement.{Agreement}
 use Rattle.part_reader.specs.declared.reading.Part.{Part}
 use Rattle.part_reader.specs.declared.reading.PartFault.{PartFault}
 use Rattle.part_reader.specs.declared.reading.PartFault.TheVariants.{Fault, NoMemory, Damaged}
 use Rattle.part_reader.specs.Compared.{unlike_file}
-use Rattle.part_reader.specs.Damage.{ExplainsCheck, GoesWrongAlone, IsKeptUnlike, IsUnlikeDamage, IsUnlikeFault, IsUnsoundFault, Tells}
+use Rattle.part_reader.specs.Damage.{ExplainsCheck, GoesWrongAlone, IsKeptUnlike, IsUnlikeFault, IsUnsoundFault, Tells}
 use Rattle.part_reader.specs.DamagedFile.{damaged_file}
 use Rattle.part_reader.specs.Faults.{IsDamage, IsNoDamage}
 use Rattle.part_reader.specs.Parts.{PartHolds}

@@ -1,6 +1,5 @@
 -- The columns of a part gone over: what is kept of the part is that of all of them, or is not.
-use Rattle.std.proofs.Common.{◌≡◌, ℕ, zero, suc, ◌+◌, ◌-◌, ◌^◌, ◌<◌, ◌≤◌, ◌⊎◌, ◌↔◌, ◌&&◌, inl, inr, Bool, true, false, List, [], ◌∷◌, ◌++◌, Option, Some, None, refl, sym, ap, ap₂, ◌∙◌, subst, length, map, min, get_or, slice_get, take, All, arith, IsSomeAnd}
-use Rattle.std.specs.Bool.{Decides}
+use Rattle.std.proofs.Common.{◌≡◌, ℕ, zero, suc, ◌+◌, ◌-◌, ◌^◌, ◌<◌, ◌≤◌, ◌⊎◌, ◌↔◌, ◌&&◌, inl, inr, Bool, true, false, List, [], ◌∷◌, ◌++◌, Option, Some, refl, sym, ap, ap₂, ◌∙◌, subst, length, map, min, get_or, slice_get, take, All, arith, IsSomeAnd}
 use Rattle.std.specs.List.{range_with_len}
 use Rattle.std.specs.Option.{ForSome}
 use Rattle.std.proofs.lemmas.Bool.{cases_lt}
@@ -13,7 +12,6 @@ use Rattle.mt_base.specs.declared.name.FileId.TheVariants as file
 use Rattle.mt_values.specs.declared.manifest.Manifest.{Manifest}
 use Rattle.mt_values.specs.declared.schema.Schema.{Schema}
 use Rattle.mt_values.specs.declared.value.ColType.{ColType}
-use Rattle.mt_values.specs.declared.value.ColType.TheVariants as type
 use Rattle.mt_values.specs.declared.value.Value.{Value}
 use Rattle.mt_values.specs.ColumnBytes.{column_bytes}
 use Rattle.mt_values.specs.Grid.{column_of}
@@ -27,14 +25,13 @@ use Rattle.column_file.specs.Spellings.{IsSpelling, Spells}
 use Rattle.column_file.proofs.OneWay.{one_spelling}
 use Rattle.primary_marks.specs.Keys.{ArePartRows, HasMarks}
 use Rattle.primary_marks.proofs.KeysRead.{slice_get-push_new, slice_get-push_old}
-use Rattle.part_writer.specs.PartFiles.{content_ids, loaded_of, mark_of}
+use Rattle.part_writer.specs.PartFiles.{content_ids, loaded_of}
 use Rattle.part_writer.specs.declared.loaded.Loaded.{Loaded}
 use Rattle.part_writer.proofs.Contents.{column_is, content_length}
-use Rattle.part_damage.specs.Marks.{mark_for}
-use Rattle.part_damage.specs.Sound.{AreChecked, AreRowsRead, IsChecked, IsReadAs, IsSound}
+use Rattle.part_damage.specs.Sound.{AreChecked, AreRowsRead, IsReadAs, IsSound}
 use Rattle.part_damage.proofs.SpelledRows.{column_spelled, rows_of_bytes, types_length}
 use Rattle.part_reader.specs.declared.comparing.Agreement.{Agreement}
-use Rattle.part_reader.specs.Compared.{HasKeysOf, HasPlacesOf, IsColumnCompared, IsCompared}
+use Rattle.part_reader.specs.Compared.{HasKeysOf, HasPlacesOf, IsCompared}
 use Rattle.part_reader.proofs.Damages.{checked_more}
 use Rattle.part_reader.proofs.HeldRows.{same_list}
 use Rattle.part_reader.proofs.KeptColumns.{mark_column, mark_width, marks_by_columns}

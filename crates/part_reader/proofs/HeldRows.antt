@@ -1,6 +1,6 @@
 -- A part of which no file is damaged holds rows, and of one that holds rows no file is unsound.
-use Rattle.std.proofs.Common.{◌≡◌, ℕ, zero, suc, ◌+◌, ◌^◌, ◌<◌, ◌≤◌, inl, inr, List, [], ◌∷◌, Option, Some, None, refl, sym, ap, ap₂, ◌∙◌, subst, length, get_or, slice_get, map, All, arith, IsSomeAnd}
-use Rattle.std.proofs.lemmas.Option.{get_or_from_slice_get, same_Some, slice_get-get_or, slice_get_within}
+use Rattle.std.proofs.Common.{◌≡◌, ℕ, zero, suc, ◌+◌, ◌^◌, ◌<◌, inl, inr, List, [], ◌∷◌, Option, Some, None, refl, sym, ap, ap₂, ◌∙◌, subst, length, get_or, slice_get, map, arith, IsSomeAnd}
+use Rattle.std.proofs.lemmas.Option.{same_Some, slice_get-get_or, slice_get_within}
 use Rattle.mt_values.specs.declared.manifest.FileMark.{FileMark}
 use Rattle.mt_values.specs.declared.manifest.Manifest.{Manifest}
 use Rattle.mt_base.specs.declared.name.FileId.{FileId}
@@ -26,7 +26,6 @@ use Rattle.part_damage.specs.Marks.{mark_for}
 use Rattle.part_reader.specs.Parts.{FolderHolds, PartHolds}
 use Rattle.part_damage.specs.Sound.{AreKeysFor, AreMarksFor, FirstDamaged, FirstUnder, FirstUnsound, IsFirstWithout, IsLoadedOf, IsManifestFor, IsReadable, IsSound, SpellRows, SpellsFile, granule_ids}
 use Rattle.part_damage.proofs.SpelledRows.{all_have, column_spelled, one_rows, types_length}
-use Rattle.part_reader.proofs.Damages.{one_damaged}
 use Rattle.part_reader.proofs.Holding.{file_held, mark_held, mark_placed, written_holds}
 use Rattle.part_reader.proofs.Opened.{one_loaded}
 use Rattle.part_reader.proofs.SoundRows.{keys_of_rows, places_of_rows, sizes_fit, written_loaded, written_manifest}

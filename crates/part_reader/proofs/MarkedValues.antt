@@ -15,7 +15,7 @@ use Rattle.mt_values.specs.Cells.{value_of}
 use Rattle.mt_values.specs.ColumnBytes.{column_bytes, value_bytes}
 use Rattle.mt_values.specs.Values.{type_of}
 use Rattle.byte_numbers.specs.declared.faults.FormatFault.{FormatFault}
-use Rattle.byte_numbers.specs.declared.faults.FormatFault.TheVariants.{NoMemory, Malformed}
+use Rattle.byte_numbers.specs.declared.faults.FormatFault.TheVariants.{NoMemory}
 use Rattle.byte_numbers.specs.Fronts.{Begins}
 use Rattle.column_file.specs.Faults.{Explains, IsFirstFault, NoneBegins}
 use Rattle.column_file.specs.Granules.{granule_start, marks_of}

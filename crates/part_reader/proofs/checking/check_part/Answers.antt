@@ -1,5 +1,4 @@
-use Rattle.std.proofs.Common.{◌≡◌, ◌∙◌, ◌≤◌, Some, None, arith, length, get_or, refl, sym, inl, List}
-use Rattle.mt_base.specs.declared.name.FileId.{FileId}
+use Rattle.std.proofs.Common.{◌≡◌, ◌∙◌, Some, None, arith, get_or, refl, sym, inl, List}
 use Rattle.mt_base.specs.declared.name.FileId.TheVariants as file
 use Rattle.mt_outside.specs.Files.{Files}
 use Rattle.mt_values.specs.Values.{Row}

@@ -1,4 +1,4 @@
-use Rattle.std.proofs.Common.{◌≡◌, ap, arith, refl}
+use Rattle.std.proofs.Common.{ap, arith, refl}
 use Rattle.mt_values.specs.Cells.{value_of}
 use Rattle.mt_values.specs.Grid.{Cells}
 use Rattle.part_reader.proofs.MarkedValues.{granule_begins, within_granule}
