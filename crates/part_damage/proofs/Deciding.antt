@@ -1,5 +1,5 @@
 -- The first damaged file of a part, decided whatever the bytes are.
-use Rattle.std.proofs.Common.{◌≡◌, ℕ, zero, suc, ◌+◌, ◌-◌, ◌^◌, ◌<◌, ◌&&◌, Bool, true, false, eqb, ltb, inl, inr, List, [], ◌∷◌, ◌++◌, All, Option, Some, None, refl, sym, ap, ap₂, ◌∙◌, subst, length, length-append, slice_get, take, drop, flat_map, append_assoc, append-nil, arith, IsSomeAnd}
+use Rattle.std.proofs.Common.{◌≡◌, ℕ, zero, suc, ◌-◌, ◌^◌, ◌&&◌, Bool, true, false, eqb, ltb, inl, inr, List, [], ◌∷◌, ◌++◌, All, Option, Some, None, refl, sym, ap, ap₂, ◌∙◌, subst, length, length-append, slice_get, take, drop, flat_map, append_assoc, append-nil, arith, IsSomeAnd}
 use Rattle.std.specs.Bool.{Decides}
 use Rattle.std.specs.Int.{w32, w64, to_le_bytes, from_le_bytes}
 use Rattle.std.specs.List.{list_all}
@@ -30,14 +30,14 @@ use Rattle.column_file.proofs.Tested.{spells_Decides}
 use Rattle.digest_file.specs.Frames.{framed}
 use Rattle.digest_file.specs.Spellings.{IsManifestOf, IsMark}
 use Rattle.digest_file.proofs.Manifests.{frame_from_manifest, manifest_first}
-use Rattle.primary_marks.specs.Keys.{AreMarkKeys, IsKeyOf, IsPrimaryOf, KeyShape, ends_alone, granule_count, key_count, shape_of}
+use Rattle.primary_marks.specs.Keys.{IsKeyOf, IsPrimaryOf, KeyShape, ends_alone, granule_count, key_count, shape_of}
 use Rattle.primary_marks.specs.Places.{AreMarksOf, AreStartsOf}
 use Rattle.primary_marks.proofs.KeysOneWay.{keys_apart}
 use Rattle.primary_marks.proofs.Fronts.{even}
 use Rattle.primary_marks.proofs.Starts.{starts_apart}
 use Rattle.part_writer.specs.PartFiles.{content_bytes, content_ids, mark_of}
 use Rattle.part_damage.specs.Marks.{mark_for}
-use Rattle.part_damage.specs.Sound.{AreKeysUnder, AreMarksUnder, FirstDamaged, FirstUnder, FirstUnsound, IsFirstUnlike, IsFirstWithout, IsManifestFor, IsReadable, IsSound, SpellRows, SpellsFile, granule_ids}
+use Rattle.part_damage.specs.Sound.{FirstDamaged, FirstUnder, FirstUnsound, IsFirstUnlike, IsFirstWithout, IsManifestFor, IsReadable, IsSound, SpellsFile, granule_ids}
 use Rattle.part_damage.proofs.Decisions.{Decided, Whole, both, decided, first_key, first_starts, like, whole}
 use Rattle.part_damage.proofs.SpelledRows.{rows_spelled}
 

@@ -6,14 +6,13 @@ use Rattle.std.proofs.lemmas.Bool.{false≢true}
 use Rattle.std.proofs.lemmas.Bool.Decides.{Decides-eqb, Decides-ltb}
 use Rattle.std.proofs.lemmas.List.{nil_from_length}
 use Rattle.std.proofs.lemmas.List.Elements.{All-nil, All-cons, All-head, All-tail}
-use Rattle.std.proofs.lemmas.Slice.Eq.{bytes_eq-Decides}
 use Rattle.mt_values.specs.declared.value.ColType.{ColType}
 use Rattle.mt_values.specs.declared.value.ColType.TheVariants as type
 use Rattle.mt_values.specs.declared.value.Value.{Value}
 use Rattle.mt_values.specs.declared.value.Value.TheVariants as value
 use Rattle.mt_values.specs.ColumnBytes.{column_bytes, value_bytes}
 use Rattle.mt_values.specs.Values.{FitsType, Row, type_of, types_of}
-use Rattle.column_file.specs.Marks.{keys_bytes, numbers_bytes, places_bytes}
+use Rattle.column_file.specs.Marks.{numbers_bytes}
 use Rattle.column_file.specs.Spellings.{IsOfType}
 use Rattle.column_file.specs.Tests.{first_size}
 use Rattle.column_file.proofs.OneWay.{eight_apart, value_apart}
@@ -21,8 +20,6 @@ use Rattle.column_file.proofs.Tested.{FirstIs, first_is}
 use Rattle.primary_marks.specs.Keys.{IsKeyOf}
 use Rattle.primary_marks.specs.Places.{AreStarts, AreStartsOf, RiseAbove}
 use Rattle.primary_marks.proofs.Fronts.{AreApart, even}
-use Rattle.primary_marks.proofs.KeysOneWay.{keys_apart}
-use Rattle.primary_marks.proofs.Starts.{starts_apart}
 
 -- it holds, or it does not
 abbrev pub Decided : Type 0 → Type 0

@@ -55,24 +55,24 @@ column_spelled types rows i t count bytes here typed fit counted e = record {
   spelled = e;
 }
 
--- ---- the columns that sound files spell
+-- ---- the columns that bytes spell
 
--- the file of the column with this number spells these values
-record IsFileOf (files : Files) (number : ℕ) (values : List Value) : Type 0 where
+-- the bytes of the column with this number spell these values
+record AreBytesOf (bytes : ℕ → List ℕ) (number : ℕ) (values : List Value) : Type 0 where
   encodable : All FitsType values
-  bytes_are : bytes_of (file.Column number) files ≡ column_bytes values
+  bytes_are : bytes number ≡ column_bytes values
 
--- columns of these types, which are counted from a number on, and their files
-record SoundColumns (count : ℕ) (files : Files) (a : ℕ) (types : List ColType) : Type 0 where
+-- columns of these types, which are counted from a number on, and their bytes
+record SoundColumns (count : ℕ) (bytes : ℕ → List ℕ) (a : ℕ) (types : List ColType) : Type 0 where
   columns : List Cells
   types_are : map (λ (c : Cells). c.col_type) columns ≡ types
   even : AreEven columns count
   typed : All AreOfType columns
-  each : (i n : ℕ) (c : Cells) → n ≡ a + i → slice_get columns i ≡ Some c → IsFileOf files n c.values
+  each : (i n : ℕ) (c : Cells) → n ≡ a + i → slice_get columns i ≡ Some c → AreBytesOf bytes n c.values
 
-module _ (count : ℕ) (files : Files) where
+module _ (count : ℕ) (bytes : ℕ → List ℕ) where
   -- one column more in front
-  one_more : (a : ℕ) (t : ColType) (types : List ColType) (values : List Value) → All (IsOfType t) values → length values ≡ count → IsFileOf files a values → SoundColumns count files (a + 1) types → SoundColumns count files a (t ∷ types)
+  one_more : (a : ℕ) (t : ColType) (types : List ColType) (values : List Value) → All (IsOfType t) values → length values ≡ count → AreBytesOf bytes a values → SoundColumns count bytes (a + 1) types → SoundColumns count bytes a (t ∷ types)
   one_more a t types values typed counted this rest = record {
     columns = record { col_type = t; values = values } ∷ rest.columns;
     types_are = ap (λ (ts : List ColType). t ∷ ts) rest.types_are;
@@ -81,14 +81,14 @@ module _ (count : ℕ) (files : Files) where
     each = by;
   }
     where
-      by : (i n : ℕ) (c : Cells) → n ≡ a + i → slice_get (record { col_type = t; values = values } ∷ rest.columns) i ≡ Some c → IsFileOf files n c.values
+      by : (i n : ℕ) (c : Cells) → n ≡ a + i → slice_get (record { col_type = t; values = values } ∷ rest.columns) i ≡ Some c → AreBytesOf bytes n c.values
       by zero n c e here =
           let same : record { col_type = t; values = values } ≡ c = same_Some (record { col_type = t; values = values }) c here in
           let number : a ≡ n = omega arith in
-          subst (λ (x : Cells). IsFileOf files n x.values) same (subst (λ k. IsFileOf files k values) number this)
+          subst (λ (x : Cells). AreBytesOf bytes n x.values) same (subst (λ k. AreBytesOf bytes k values) number this)
       by (suc i) n c e here = rest.each i n c (omega arith) here
 
-  sound_columns : (a : ℕ) (types : List ColType) → ((i n : ℕ) (t : ColType) → n ≡ a + i → slice_get types i ≡ Some t → Spells t count (bytes_of (file.Column n) files)) → SoundColumns count files a types
+  sound_columns : (a : ℕ) (types : List ColType) → ((i n : ℕ) (t : ColType) → n ≡ a + i → slice_get types i ≡ Some t → Spells t count (bytes n)) → SoundColumns count bytes a types
   sound_columns a [] each = record {
     columns = [];
     types_are = refl;
@@ -97,13 +97,13 @@ module _ (count : ℕ) (files : Files) where
     each = λ i n c e here. absurd cc;
   }
   sound_columns a (t ∷ types) each =
-      let s : Spells t count (bytes_of (file.Column a) files) = each 0 a t (omega arith) refl in
+      let s : Spells t count (bytes a) = each 0 a t (omega arith) refl in
       one_more a t types s.values s.spelling.typed s.spelling.count_is (record { encodable = λ k d below. (s.spelling.typed k d below).1; bytes_are = s.spelling.spelled })
       (sound_columns (a + 1) types (λ i n u e here. each (suc i) n u (omega arith) here))
 
 -- ---- the rows of these columns
 
-module _ (schema : Schema) (count : ℕ) (files : Files) (s : SoundColumns count files 0 (column_types schema)) where
+module _ (schema : Schema) (count : ℕ) (bytes : ℕ → List ℕ) (s : SoundColumns count bytes 0 (column_types schema)) where
   abbrev rows : List Row
   rows = rows_of s.columns count
 
@@ -113,8 +113,8 @@ module _ (schema : Schema) (count : ℕ) (files : Files) (s : SoundColumns count
   abbrev values_at : ℕ → List Value
   values_at k = (get_or s.columns k any).values
 
-  file_at : (k : ℕ) → k < length schema.columns → IsFileOf files k (values_at k)
-  file_at k below = s.each k k (get_or s.columns k any) (sym (zero-add k)) (slice_get-get_or s.columns k any (inside k below))
+  bytes_at : (k : ℕ) → k < length schema.columns → AreBytesOf bytes k (values_at k)
+  bytes_at k below = s.each k k (get_or s.columns k any) (sym (zero-add k)) (slice_get-get_or s.columns k any (inside k below))
 
   column_at_rows : (k : ℕ) → k < length schema.columns → column_of k rows ≡ values_at k
   column_at_rows k below = column_of-rows_of s.columns count k (get_or s.columns k any) s.even (slice_get-get_or s.columns k any (inside k below)) (s.even k any (inside k below))
@@ -122,21 +122,28 @@ module _ (schema : Schema) (count : ℕ) (files : Files) (s : SoundColumns count
   rows_typed : AreRowsOf (column_types schema) rows
   rows_typed = subst (λ (ts : List ColType). AreRowsOf ts rows) s.types_are (AreRowsOf-rows_of s.columns count s.even s.typed)
 
-  spelled : SpellRows schema count files rows
-  spelled = record {
-    are = record {
-      count_is = length-rows_of s.columns count;
-      typed = rows_typed;
-      fit = rows_fit (column_types schema) rows rows_typed (λ c below. let column : c < length schema.columns = omega (arith, types_length schema) in subst (All FitsType) (sym (column_at_rows c column)) (file_at c column).encodable);
-    };
-    columns = λ n below. (file_at n below).bytes_are ∙ ap column_bytes (sym (column_at_rows n below));
+  part_rows : ArePartRows schema count rows
+  part_rows = record {
+    count_is = length-rows_of s.columns count;
+    typed = rows_typed;
+    fit = rows_fit (column_types schema) rows rows_typed (λ c below. let column : c < length schema.columns = omega (arith, types_length schema) in subst (All FitsType) (sym (column_at_rows c column)) (bytes_at c column).encodable);
   }
 
--- files of columns that spell values spell rows
+  spelled : (n : ℕ) → n < length schema.columns → bytes n ≡ column_bytes (column_of n rows)
+  spelled n below = (bytes_at n below).bytes_are ∙ ap column_bytes (sym (column_at_rows n below))
+
+-- bytes that spell values for each column spell rows
+pub rows_of_bytes : (schema : Schema) (count : ℕ) (bytes : ℕ → List ℕ) → ((n : ℕ) (t : ColType) → slice_get (column_types schema) n ≡ Some t → Spells t count (bytes n))
+    → (rows : List Row) × ArePartRows schema count rows × ((n : ℕ) → n < length schema.columns → bytes n ≡ column_bytes (column_of n rows))
+rows_of_bytes schema count bytes each =
+    let s = sound_columns count bytes 0 (column_types schema) (λ i n t e here. let same : i ≡ n = omega arith in each n t (subst (λ k. slice_get (column_types schema) k ≡ Some t) same here)) in
+    (rows_of s.columns count, part_rows schema count bytes s, spelled schema count bytes s)
+
+-- and so do files of columns
 pub rows_of_columns : (schema : Schema) (count : ℕ) (files : Files) → ((n : ℕ) (t : ColType) → slice_get (column_types schema) n ≡ Some t → Spells t count (bytes_of (file.Column n) files)) → (rows : List Row) × SpellRows schema count files rows
 rows_of_columns schema count files each =
-    let s = sound_columns count files 0 (column_types schema) (λ i n t e here. let same : i ≡ n = omega arith in each n t (subst (λ k. slice_get (column_types schema) k ≡ Some t) same here)) in
-    (rows_of s.columns count, spelled schema count files s)
+    let r = rows_of_bytes schema count (λ n. bytes_of (file.Column n) files) each in
+    (r.0, record { are = r.1; columns = r.2 })
 
 -- where each of the files has it, each has it
 pub all_have : (Holds : FileId → Type 0) (ids : List FileId) → IsFirstWithout Holds ids None → (i : ℕ) (f : FileId) → slice_get ids i ≡ Some f → Holds f

@@ -1,6 +1,5 @@
 -- The function of the first damaged file is what the relation says.
-use Rattle.std.proofs.Common.{◌≡◌, ℕ, List, Option, Some, refl, sym, ap, ◌∙◌, subst, inl, inr}
-use Rattle.mt_values.specs.declared.manifest.FileMark.{FileMark}
+use Rattle.std.proofs.Common.{◌≡◌, Option, Some, ap, subst, inr}
 use Rattle.mt_values.specs.declared.manifest.Manifest.{Manifest}
 use Rattle.mt_base.specs.declared.name.FileId.{FileId}
 use Rattle.mt_base.specs.declared.name.FileId.TheVariants as file

@@ -1,5 +1,5 @@
 -- Which file of a part is the first damaged: there is one at most, and what is told of damage is it.
-use Rattle.std.proofs.Common.{◌≡◌, ℕ, zero, suc, ◌+◌, ◌<◌, List, [], ◌∷◌, ◌++◌, Option, Some, None, inl, inr, refl, sym, ap, ◌∙◌, subst, length, slice_get, take, Result, Ok, Err, IsErrAnd, IsSomeAnd, MatchResult}
+use Rattle.std.proofs.Common.{◌≡◌, ℕ, zero, suc, ◌+◌, List, [], ◌∷◌, ◌++◌, Option, Some, None, inl, inr, refl, sym, ap, ◌∙◌, subst, length, slice_get, take, Result, Ok, Err, IsErrAnd, IsSomeAnd, MatchResult}
 use Rattle.std.proofs.lemmas.List.{take_more}
 use Rattle.std.specs.Option.{ForSome}
 use Rattle.std.proofs.lemmas.Option.{get_or_from_slice_get, same_Some, slice_get_within}
@@ -9,7 +9,6 @@ use Rattle.mt_base.specs.declared.name.FileId.{FileId}
 use Rattle.mt_base.specs.declared.name.FileId.TheVariants as file
 use Rattle.mt_values.specs.declared.schema.Schema.{Schema}
 use Rattle.mt_values.specs.declared.value.ColType.{ColType}
-use Rattle.mt_values.specs.Schemas.{column_types}
 use Rattle.mt_values.specs.Values.{Row}
 use Rattle.mt_outside.specs.Files.{Files, bytes_of}
 use Rattle.column_file.specs.Faults.{IsFirstFault}
@@ -25,10 +24,10 @@ use Rattle.part_writer.specs.PartFiles.{IsContent, content_bytes, content_ids, m
 use Rattle.part_writer.proofs.Contents.{content_known}
 use Rattle.part_reader.specs.declared.reading.PartFault.{PartFault}
 use Rattle.part_reader.specs.declared.reading.PartFault.TheVariants.{Fault, NoMemory, Damaged}
-use Rattle.part_reader.specs.Damage.{ExplainsManifest, ExplainsManifestFile, GoesWrongAlone, GoesWrongAt, Tells}
+use Rattle.part_reader.specs.Damage.{ExplainsManifest, ExplainsManifestFile, GoesWrongAt, Tells}
 use Rattle.part_reader.specs.Faults.{ExplainsBytes, ExplainsFile, IsDamage, IsNoDamage, IsRefused}
 use Rattle.part_damage.specs.Marks.{mark_for}
-use Rattle.part_damage.specs.Sound.{AreChecked, FirstDamaged, FirstUnder, FirstUnsound, IsChecked, IsFirstUnlike, IsFirstWithout, IsManifestFor, IsReadable, IsSound, SpellRows, SpellsFile, granule_ids}
+use Rattle.part_damage.specs.Sound.{AreChecked, FirstDamaged, FirstUnder, FirstUnsound, IsChecked, IsFirstUnlike, IsFirstWithout, IsManifestFor, IsReadable, IsSound, granule_ids}
 use Rattle.part_damage.proofs.SpelledRows.{one_rows}
 
 -- ---- one file at most
@@ -137,7 +136,7 @@ not_refused manifest f g WrongAt bytes place wanted found why marked right =
     ]
 
 -- the damage that is told of bytes is that of the file, where the folder tells
-damage_there : (files : Files) (manifest : Manifest) (f g : FileId) (WrongAt : List ℕ → ℕ → Type 0) (place : ℕ) (wanted found : FileMark) (told : Option Files) → told ≡ Some files → IsDamage told manifest f WrongAt (Damaged g place wanted found)
+pub damage_there : (files : Files) (manifest : Manifest) (f g : FileId) (WrongAt : List ℕ → ℕ → Type 0) (place : ℕ) (wanted found : FileMark) (told : Option Files) → told ≡ Some files → IsDamage told manifest f WrongAt (Damaged g place wanted found)
     → ExplainsBytes manifest f (WrongAt (bytes_of f files)) (bytes_of f files) (Damaged g place wanted found)
 damage_there files manifest f g WrongAt place wanted found told known damage =
     subst (λ bs. ExplainsBytes manifest f (WrongAt bs) bs (Damaged g place wanted found)) (damage.read files known) damage.explained
@@ -190,7 +189,7 @@ module _ (told : Option Files) (schema : Schema) (manifest : Manifest) where
 
 -- ---- what a fault tells
 
-wrong_column : (o : Option ColType) (rows : ℕ) (bytes : List ℕ) (place : ℕ) → IsSomeAnd o (λ t. IsFirstFault t rows bytes place) → IsSomeAnd o (λ t. Spells t rows bytes) → ⊥
+pub wrong_column : (o : Option ColType) (rows : ℕ) (bytes : List ℕ) (place : ℕ) → IsSomeAnd o (λ t. IsFirstFault t rows bytes place) → IsSomeAnd o (λ t. Spells t rows bytes) → ⊥
 wrong_column None rows bytes place wrong spelled = absurd wrong
 wrong_column (Some t) rows bytes place wrong spelled = no_spelling t rows bytes place spelled.values wrong spelled.spelling
 

@@ -1,6 +1,6 @@
 -- A part of which no file is damaged holds rows, and of one that holds rows no file is unsound.
-use Rattle.std.proofs.Common.{◌≡◌, ℕ, zero, suc, ◌+◌, ◌^◌, ◌<◌, ◌≤◌, inl, inr, List, [], ◌∷◌, Option, Some, None, refl, sym, ap, ap₂, ◌∙◌, subst, length, get_or, slice_get, map, All, arith, IsSomeAnd}
-use Rattle.std.proofs.lemmas.Option.{get_or_from_slice_get, same_Some, slice_get-get_or, slice_get_within}
+use Rattle.std.proofs.Common.{◌≡◌, ℕ, zero, suc, ◌+◌, ◌^◌, ◌<◌, inl, inr, List, [], ◌∷◌, Option, Some, None, refl, sym, ap, ap₂, ◌∙◌, subst, length, get_or, slice_get, map, arith, IsSomeAnd}
+use Rattle.std.proofs.lemmas.Option.{same_Some, slice_get-get_or, slice_get_within}
 use Rattle.mt_values.specs.declared.manifest.FileMark.{FileMark}
 use Rattle.mt_values.specs.declared.manifest.Manifest.{Manifest}
 use Rattle.mt_base.specs.declared.name.FileId.{FileId}
@@ -26,20 +26,19 @@ use Rattle.part_damage.specs.Marks.{mark_for}
 use Rattle.part_reader.specs.Parts.{FolderHolds, PartHolds}
 use Rattle.part_damage.specs.Sound.{AreKeysFor, AreMarksFor, FirstDamaged, FirstUnder, FirstUnsound, IsFirstWithout, IsLoadedOf, IsManifestFor, IsReadable, IsSound, SpellRows, SpellsFile, granule_ids}
 use Rattle.part_damage.proofs.SpelledRows.{all_have, column_spelled, one_rows, types_length}
-use Rattle.part_reader.proofs.Damages.{one_damaged}
 use Rattle.part_reader.proofs.Holding.{file_held, mark_held, mark_placed, written_holds}
 use Rattle.part_reader.proofs.Opened.{one_loaded}
 use Rattle.part_reader.proofs.SoundRows.{keys_of_rows, places_of_rows, sizes_fit, written_loaded, written_manifest}
 
 -- ---- lists by their places
 
-same_list : {X : Type 0} (xs ys : List X) → length xs ≡ length ys → ((i : ℕ) (y : X) → slice_get ys i ≡ Some y → slice_get xs i ≡ Some y) → xs ≡ ys
+pub same_list : {X : Type 0} (xs ys : List X) → length xs ≡ length ys → ((i : ℕ) (y : X) → slice_get ys i ≡ Some y → slice_get xs i ≡ Some y) → xs ≡ ys
 same_list [] [] e each = refl
 same_list [] (y ∷ ys) e each = absurd (omega (arith, e))
 same_list (x ∷ xs) [] e each = absurd (omega (arith, e))
 same_list (x ∷ xs) (y ∷ ys) e each = ap₂ (λ z zs. z ∷ zs) (same_Some x y (each 0 y refl)) (same_list xs ys (omega (arith, e)) (λ i z here. each (suc i) z here))
 
-all_without : (Holds : FileId → Type 0) (ids : List FileId) → ((i : ℕ) (f : FileId) → slice_get ids i ≡ Some f → Holds f) → IsFirstWithout Holds ids None
+pub all_without : (Holds : FileId → Type 0) (ids : List FileId) → ((i : ℕ) (f : FileId) → slice_get ids i ≡ Some f → Holds f) → IsFirstWithout Holds ids None
 all_without Holds [] each = refl
 all_without Holds (f ∷ fs) each = inl (each 0 f refl, all_without Holds fs (λ i g here. each (suc i) g here))
 

@@ -1,9 +1,9 @@
 -- Parts that hold rows: the files that were written are theirs, and nothing of them is damaged.
-use Rattle.std.proofs.Common.{◌≡◌, ℕ, zero, suc, ◌+◌, ◌<◌, inl, inr, List, [], ◌∷◌, Option, Some, None, refl, sym, ap, ◌∙◌, subst, length, map, get_or, slice_get, filter_map, All, arith, IsSomeAnd, MatchOption}
+use Rattle.std.proofs.Common.{◌≡◌, ℕ, zero, suc, ◌+◌, ◌<◌, inl, inr, List, [], ◌∷◌, Option, Some, sym, ap, ◌∙◌, subst, length, map, get_or, slice_get, filter_map, All, arith, IsSomeAnd, MatchOption}
 use Rattle.std.specs.List.{AllZip, cons_option}
 use Rattle.std.specs.Option.{option_map}
 use Rattle.std.proofs.lemmas.List.{length-map, get_or-map}
-use Rattle.std.proofs.lemmas.List.Elements.{All-nil, All-cons, All-head, All-map, All-tail}
+use Rattle.std.proofs.lemmas.List.Elements.{All-head, All-map, All-tail}
 use Rattle.std.proofs.lemmas.Option.{get_or_from_slice_get, same_Some, slice_get-get_or, slice_get-map, slice_get_within}
 use Rattle.std.proofs.lemmas.Slice.Zip.{AllZip-right}
 use Rattle.sha2.specs.Sha256.{sha256}
@@ -15,17 +15,13 @@ use Rattle.mt_values.specs.declared.schema.Column.{Column}
 use Rattle.mt_values.specs.declared.schema.Schema.{Schema}
 use Rattle.mt_values.specs.declared.value.ColType.{ColType}
 use Rattle.mt_values.specs.declared.value.ColType.TheVariants as type
-use Rattle.mt_values.specs.declared.value.Value.{Value}
 use Rattle.mt_values.specs.ColumnBytes.{column_bytes}
-use Rattle.mt_values.specs.Grid.{AreRowsOf, Cells, HaveTypeAt, column_of}
+use Rattle.mt_values.specs.Grid.{AreRowsOf, Cells, column_of}
 use Rattle.mt_values.specs.Manifests.{manifest_bytes}
 use Rattle.mt_values.specs.Schemas.{column_types}
-use Rattle.mt_values.specs.Values.{FitsType, Row, types_of}
-use Rattle.mt_values.proofs.Grids.{HaveTypeAt-typed, type_at}
-use Rattle.mt_values.proofs.OrderBy.{length_column}
+use Rattle.mt_values.specs.Values.{FitsType, Row}
 use Rattle.mt_outside.specs.Files.{Files, bytes_of}
 use Rattle.column_file.specs.Faults.{IsFirstFault}
-use Rattle.column_file.specs.Spellings.{IsOfType, IsSpelling}
 use Rattle.column_file.proofs.OneWay.{no_spelling}
 use Rattle.digest_file.specs.Spellings.{IsManifestOf}
 use Rattle.part_writer.specs.PartFiles.{IsContent, all_synced, content_bytes, content_ids, files_of_part, loaded_of, manifest_of, mark_of, with_bytes}

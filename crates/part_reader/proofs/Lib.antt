@@ -1,8 +1,13 @@
-pub mod Damages
+pub mod CheckedParts
+pub mod ComparedColumns
+pub mod ComparedFiles
 pub mod DamagedFiles
+pub mod Damages
 pub mod FilePieces
 pub mod Gaining
 pub mod HeldRows
 pub mod Holding
+pub mod KeptColumns
+pub mod MarkedValues
 pub mod Opened
 pub mod SoundRows

@@ -1,5 +1,5 @@
 -- A part that is opened: what is kept of it, and what a fault says.
-use Rattle.std.proofs.Common.{◌≡◌, ℕ, List, Option, Some, inl, inr, refl, sym, ap, ap₂, ◌∙◌, subst, length}
+use Rattle.std.proofs.Common.{◌≡◌, ℕ, List, Option, Some, inl, inr, refl, sym, ap₂, ◌∙◌, subst, length}
 use Rattle.mt_values.specs.declared.manifest.Manifest.{Manifest}
 use Rattle.mt_base.specs.declared.name.FileId.{FileId}
 use Rattle.mt_base.specs.declared.name.FileId.TheVariants as file
@@ -16,7 +16,7 @@ use Rattle.part_reader.specs.declared.reading.PartFault.{PartFault}
 use Rattle.part_reader.specs.declared.reading.PartFault.TheVariants.{Fault, NoMemory, Damaged}
 use Rattle.part_reader.specs.Damage.{ExplainsManifestFile, ExplainsOpening, GoesWrongAt}
 use Rattle.part_reader.specs.Faults.{ExplainsFile}
-use Rattle.part_damage.specs.Sound.{AreKeysUnder, AreMarksUnder, IsLoadedOf, IsManifestFor, IsReadAs, IsReadable}
+use Rattle.part_damage.specs.Sound.{AreKeysUnder, AreMarksUnder, IsLoadedOf, IsManifestFor, IsReadAs}
 
 -- what was read of a file is so of the file, where the folder tells
 pub there : (told : Option Files) (files : Files) (f : FileId) (Are : List ℕ → Type 0) → told ≡ Some files → IsReadAs told f Are → Are (bytes_of f files)

@@ -1,6 +1,6 @@
 -- The rows of a part whose files are sound, and what is kept of a part whose folder holds rows.
-use Rattle.std.proofs.Common.{◌≡◌, ℕ, zero, suc, ◌+◌, ◌^◌, ◌<◌, inl, inr, List, [], ◌∷◌, Option, Some, None, refl, sym, ap, ap₂, ◌∙◌, subst, length, map, get_or, slice_get, All, arith, IsSomeAnd}
-use Rattle.std.proofs.lemmas.Option.{get_or_from_slice_get, same_Some, slice_get-get_or, slice_get_within}
+use Rattle.std.proofs.Common.{◌≡◌, ℕ, ◌+◌, ◌^◌, ◌<◌, List, Some, refl, sym, ap, ◌∙◌, subst, length, get_or, slice_get, All, arith}
+use Rattle.std.proofs.lemmas.Option.{get_or_from_slice_get, slice_get_within}
 use Rattle.mt_values.specs.declared.manifest.FileMark.{FileMark}
 use Rattle.mt_values.specs.declared.manifest.Manifest.{Manifest}
 use Rattle.mt_base.specs.declared.name.FileId.{FileId}
@@ -11,21 +11,17 @@ use Rattle.mt_values.specs.Grid.{column_of}
 use Rattle.mt_values.specs.Schemas.{column_types}
 use Rattle.mt_values.specs.Values.{Row}
 use Rattle.mt_outside.specs.Files.{Files, bytes_of}
-use Rattle.column_file.specs.Marks.{granule_places, granules, keys_bytes, mark_keys, marks_bytes, places_bytes, primary_bytes}
-use Rattle.digest_file.specs.Spellings.{IsManifestOf, IsMark}
+use Rattle.column_file.specs.Marks.{granule_places, granules, mark_keys, marks_bytes, primary_bytes}
+use Rattle.digest_file.specs.Spellings.{IsMark}
 use Rattle.primary_marks.specs.Keys.{ArePartRows, HasMarks, IsPrimaryOf, shape_of}
 use Rattle.primary_marks.specs.Places.{AreMarksOf}
 use Rattle.primary_marks.proofs.ColumnStarts.{marks_written}
 use Rattle.primary_marks.proofs.KeyRowsOf.{keys_from_rows}
-use Rattle.primary_marks.proofs.KeysOneWay.{one_primary}
-use Rattle.primary_marks.proofs.Starts.{one_marks}
-use Rattle.part_writer.specs.PartFiles.{IsContent, content_bytes, content_ids, loaded_of, manifest_of, mark_of, marks_of, with_bytes}
-use Rattle.part_writer.specs.declared.loaded.Loaded.{Loaded}
-use Rattle.part_writer.proofs.Contents.{content_at, content_known, mark_at, marks_length}
+use Rattle.part_writer.specs.PartFiles.{content_bytes, content_ids, loaded_of, manifest_of, mark_of}
+use Rattle.part_writer.proofs.Contents.{content_at, mark_at, marks_length}
 use Rattle.part_writer.proofs.Folders.{bytes_at, content_held}
-use Rattle.part_damage.specs.Marks.{mark_for}
 use Rattle.part_reader.specs.Parts.{FolderHolds}
-use Rattle.part_damage.specs.Sound.{AreKeysFor, AreMarksFor, IsLoadedOf, IsManifestFor, SpellRows}
+use Rattle.part_damage.specs.Sound.{AreKeysFor, AreMarksFor, IsLoadedOf, IsManifestFor}
 use Rattle.part_reader.proofs.Holding.{mark_held}
 use Rattle.part_damage.proofs.SpelledRows.{types_length}
 

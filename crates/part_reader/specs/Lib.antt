@@ -1,4 +1,5 @@
 pub mod Columns
+pub mod Compared
 pub mod Damage
 pub mod DamagedFile
 pub mod Faults

@@ -3,16 +3,24 @@ ghost use Rattle.std.specs.Prelude.{◌≡◌, ◌≤◌, List, IfErr, IfOk, IsE
 ghost use Rattle.mt_outside.specs.Causes.{Rose};
 ghost use Rattle.mt_outside.specs.Files.{Files};
 ghost use Rattle.mt_values.specs.Values.{Row};
-ghost use Rattle.part_writer.specs.PartFiles.{loaded_of};
+ghost use Rattle.mt_values.specs.declared.manifest.FileMark.{FileMark};
+ghost use Rattle.part_writer.specs.PartFiles.{IsContent, loaded_of};
 ghost use Rattle.primary_marks.specs.Keys.{HasMarks};
-ghost use Rattle.part_reader.specs.Damage.{ExplainsCheck, Tells};
+ghost use Rattle.part_reader.specs.Compared.{IsCompared};
+ghost use Rattle.part_reader.specs.Damage.{ExplainsCheck, GoesWrongAlone, Tells};
 ghost use Rattle.part_reader.specs.DamagedFile.{damaged_file};
-ghost use Rattle.part_reader.specs.Faults.{IsNoDamage};
+ghost use Rattle.part_reader.specs.Faults.{ExplainsBytes, ExplainsFile, IsNoDamage};
 ghost use Rattle.part_reader.specs.Parts.{PartHolds};
-ghost use Rattle.part_damage.specs.Sound.{AreRowsRead, IsLoadedOf};
+ghost use Rattle.part_damage.specs.Sound.{AreRowsRead, IsLoadedOf, IsReadAs};
+ghost use Rattle.part_damage.specs.Marks.{mark_for};
 
-use crate::reading::{Part, PartFault};
+use crate::comparing::{Agreement, compare_column, shape};
+use crate::files::read_file;
+use crate::marked::{mark_at, mark_found, misspelled};
+use crate::reading::{NO_MARK, Part, PartFault};
 use mt_outside::Arm;
+use mt_values::{FileId, FileMark, Manifest, Schema};
+use part_writer::{Loaded, content_count, content_file};
 use std::alloc::Global;
 
 /// Nothing, where each file of which the part's manifest has a mark has it, the files of the columns spell as many rows as the manifest
@@ -48,5 +56,86 @@ pub fn check_part<R: Arm>(alloc: Global, part: &Part<R::Dir>, arm: &mut R) -> Re
     ensures fault { IsErrOf result PartFault.Fault → Rose (R.failed arm.old) (R.failed arm.new) }
     ensures calm { (IsErrOf result PartFault.Fault → ⊥) → R.failed arm.new ≡ R.failed arm.old }
 {
-    Err(PartFault::NoMemory)
+    let schema = &part.loaded.schema;
+    let mut agreed = shape(&part.loaded, schema);
+    for place in 0..content_count(schema) {
+        // No file has a place past these.
+        if place > u32::MAX as usize {
+            return Err(PartFault::NoMemory);
+        }
+        let Some(file) = content_file(schema, place as u32) else {
+            unreachable!()
+        };
+        agreed = agreed.and(check_file(alloc, part, schema, file, arm)?);
+    }
+    match agreed.unlike() {
+        None => Ok(()),
+        Some(file) => Err(unlike_rows(&part.loaded.manifest, file)),
+    }
+}
+
+/// Whether what is kept of the part is that of a file, which has its mark and of a column spells as many values as the part has rows.
+///
+/// `Damaged` where it has not, or spells no such values; else as `check_part`.
+fn check_file<R: Arm>(
+    alloc: Global,
+    part: &Part<R::Dir>,
+    schema: &Schema,
+    file: FileId,
+    arm: &mut R,
+) -> Result<Agreement, PartFault>
+    requires marks { HasMarks schema.now }
+    requires content { IsContent schema.now file }
+    ensures compared { IfOk result (λ agreed. IsReadAs (R.Dir.files part.now.dir) file
+        (λ bytes. IsCompared schema.now part.now.loaded file bytes agreed)) }
+    ensures damaged { IfErr result (ExplainsFile (R.Dir.files part.now.dir) part.now.loaded.manifest
+        file (GoesWrongAlone schema.now part.now.loaded.manifest.rows file)) }
+    ensures tells { R.tells arm.new ≡ R.tells arm.old }
+    ensures later { R.failed arm.old ≤ R.failed arm.new }
+    ensures fault { IsErrOf result PartFault.Fault → Rose (R.failed arm.old) (R.failed arm.new) }
+    ensures calm { (IsErrOf result PartFault.Fault → ⊥) → R.failed arm.new ≡ R.failed arm.old }
+{
+    let bytes = read_file(alloc, arm, &part.dir, file)?;
+    check_bytes(alloc, &part.loaded, schema, file, &bytes)
+}
+
+/// Whether what is kept of a part is that of the bytes of a file, which have its mark and of a column spell as many values as the part
+/// has rows.
+///
+/// `Damaged` where they have not, or spell no such values; `NoMemory` where an allocation failed. It is never `Fault`.
+fn check_bytes(
+    alloc: Global,
+    loaded: &Loaded,
+    schema: &Schema,
+    file: FileId,
+    bytes: &[u8],
+) -> Result<Agreement, PartFault>
+    requires marks { HasMarks schema.now }
+    requires content { IsContent schema.now file }
+    ensures { MatchResult result (IsCompared schema.now loaded.now file bytes.now)
+        (ExplainsBytes loaded.now.manifest file
+        (GoesWrongAlone schema.now loaded.now.manifest.rows file bytes.now) bytes.now) }
+{
+    let mark = mark_found(&loaded.manifest, file, bytes)?;
+    let FileId::Column(number) = file else {
+        return Ok(Agreement::whole());
+    };
+    match compare_column(alloc, loaded, schema, number, bytes) {
+        Ok(agreed) => Ok(agreed),
+        Err(error) => Err(misspelled(file, mark, error)),
+    }
+}
+
+/// The damage of a file of granules that is not that of the rows which the files of the columns spell.
+fn unlike_rows(manifest: &Manifest, file: FileId) -> PartFault
+    ensures { (mark : FileMark) → mark_for manifest.now file ≡ Some mark
+        → result ≡ PartFault.Damaged file 0 mark mark }
+{
+    let mark = mark_at(manifest, file).unwrap_or(NO_MARK);
+    PartFault::Damaged {
+        file,
+        place: 0,
+        wanted: mark,
+        found: mark,
+    }
 }

@@ -1,6 +1,131 @@
-use Rattle.std.proofs.Common.{inl, refl}
+use Rattle.std.proofs.Common.{◌≡◌, ◌∙◌, Some, None, arith, get_or, refl, sym, inl, List}
 use Rattle.mt_base.specs.declared.name.FileId.TheVariants as file
+use Rattle.mt_outside.specs.Files.{Files}
+use Rattle.mt_values.specs.Values.{Row}
+use Rattle.part_writer.specs.PartFiles.{content_ids}
+use Rattle.part_writer.proofs.Contents.{content_known, content_length, content_there}
+use Rattle.part_reader.specs.declared.reading.PartFault.TheVariants.{Fault}
+use Rattle.part_reader.specs.Damage.{ExplainsCheck, Tells}
+use Rattle.part_reader.specs.DamagedFile.{damaged_file}
+use Rattle.part_reader.specs.Faults.{IsNoDamage}
+use Rattle.part_damage.specs.Sound.{FirstUnsound, IsLoadedOf}
+use Rattle.part_reader.proofs.CheckedParts.{check_told, file_under, held_sound, is_like, kept_unsound, no_check_fault, unlike_fault}
+use Rattle.part_reader.proofs.ComparedColumns.{AreRowsCompared, counted_compared, gone_over_more, gone_over_none}
+use Rattle.part_reader.proofs.Damages.{error_handed_on}
+use Rattle.part_reader.proofs.Gaining.{handed_on}
+use Rattle.part_reader.proofs.HeldRows.{unsound_rows}
 use Rattle.part_reader.proofs.checking.check_part.Goals as goal
+use Rattle.part_reader.proofs.checking.check_part.Given.{Over}
 
-pub returns-clause-damaged : goal.returns-clause-damaged
-returns-clause-damaged g c = inl (record { place = 0; file = file.Marks; file_is = refl; before = tt; explained = tt })
+pub unreachable-requires : goal.unreachable-requires
+unreachable-requires g c =
+    let ids = content_ids c.args.part.now.loaded.schema in
+    let here = content_there c.args.part.now.loaded.schema c.loop-place.place (omega (arith, c.content_count-place-end.ensures, content_length c.args.part.now.loaded.schema)) in
+    c.in_default.not-Some (get_or ids c.loop-place.place file.Entry) (c.content_file.ensures ∙ here)
+
+pub check_file-requires-clause-content : goal.check_file-requires-clause-content
+check_file-requires-clause-content g c = λ κs within. content_known c.args.part.now.loaded.schema c.loop-place.place c.in-Some.file (sym c.in-Some.ensures)
+
+pub returns-then-place-clause-damaged : goal.returns-then-place-clause-damaged
+returns-then-place-clause-damaged g c =
+    inl (record {
+      place = c.loop-place.place;
+      file = get_or (content_ids c.args.part.now.loaded.schema) c.loop-place.place file.Entry;
+      file_is = content_there c.args.part.now.loaded.schema c.loop-place.place (omega (arith, c.content_count-place-end.ensures, content_length c.args.part.now.loaded.schema));
+      before = c.loop-place.invariant.gone.checked;
+      explained = tt;
+    })
+
+pub loop-place-init : goal.loop-place-init
+loop-place-init g c = record {
+  gone = gone_over_none (g.R.Dir.Dir.files c.args.part.now.dir) c.args.part.now.loaded.schema c.args.part.now.loaded c.shape-agreed.result c.shape-agreed.ensures.places c.shape-agreed.ensures.keys;
+  few = omega arith;
+  tells = refl;
+  count = refl;
+}
+
+pub loop-place-preserved : goal.loop-place-preserved
+loop-place-preserved g c = record {
+  gone = gone_over_more (g.R.Dir.Dir.files c.args.part.now.dir) c.args.part.now.loaded.schema c.args.part.now.loaded c.loop-place.place c.in-Some.file c.loop-place.agreed _ _ (sym c.in-Some.ensures)
+      c.loop-place.invariant.gone c.in_ok-check_file.ensures.compared c.and-agreed.ensures;
+  few = omega arith;
+  tells = c.in_ok-check_file.ensures.tells ∙ c.loop-place.invariant.tells;
+  count = c.in_ok-check_file.ensures.calm (λ fault. cc) ∙ c.loop-place.invariant.count;
+}
+
+-- the fault is that of the file that was read last
+fault_of : (g : Over) (c : goal.After-from_residual g) → ExplainsCheck (g.R.Dir.Dir.files c.args.part.now.dir) c.args.part.now.loaded.schema c.args.part.now.loaded c.in_err-check_file.field-0.0
+fault_of g c =
+    inl (record {
+      place = c.loop-place.place;
+      file = c.in-Some.file;
+      file_is = sym c.in-Some.ensures;
+      before = c.loop-place.invariant.gone.checked;
+      explained = c.in_err-check_file.ensures.damaged;
+    })
+
+pub returns-in_err-check_file-clause-damaged : goal.returns-in_err-check_file-clause-damaged
+returns-in_err-check_file-clause-damaged g c =
+    handed_on (ExplainsCheck (g.R.Dir.Dir.files c.args.part.now.dir) c.args.part.now.loaded.schema c.args.part.now.loaded) c.from_residual.result c.in_err-check_file.field-0.0 c.from_residual.ensures.1 (fault_of g c)
+
+pub returns-in_err-check_file-clause-file : goal.returns-in_err-check_file-clause-file
+returns-in_err-check_file-clause-file g c = λ files known is.
+    let schema = c.args.part.now.loaded.schema in
+    error_handed_on (λ _. damaged_file schema files ≡ None) (Tells (λ found. damaged_file schema files ≡ found)) c.from_residual.result c.in_err-check_file.field-0.0 c.from_residual.ensures.1
+    (check_told (g.R.Dir.Dir.files c.args.part.now.dir) files schema c.args.part.now.loaded c.requires known is c.in_err-check_file.field-0.0 (fault_of g c))
+
+pub returns-in_err-check_file-clause-sound : goal.returns-in_err-check_file-clause-sound
+returns-in_err-check_file-clause-sound g c = λ rows holds.
+    handed_on IsNoDamage c.from_residual.result c.in_err-check_file.field-0.0 c.from_residual.ensures.1
+    (held_sound g.R.Dir.Dir.files c.args.part.now.loaded.schema c.args.part.now rows holds c.in_err-check_file.field-0.0 (fault_of g c))
+
+-- at the end all files are compared
+rows_found : (g : Over) (c : goal.In-None g) → (rows : List Row) × AreRowsCompared (g.R.Dir.Dir.files c.args.part.now.dir) c.args.part.now.loaded.schema c.args.part.now.loaded c.loop-place.agreed rows
+rows_found g c =
+    counted_compared (g.R.Dir.Dir.files c.args.part.now.dir) c.args.part.now.loaded.schema c.args.part.now.loaded c.loop-place.agreed c.requires c.loop-place.place c.content_count-place-end.result c.content_count-place-end.ensures (omega arith) (omega arith)
+    c.loop-place.invariant.few c.loop-place.invariant.gone
+
+pub returns-in-None-clause-checked : goal.returns-in-None-clause-checked
+returns-in-None-clause-checked g c =
+    let found = rows_found g c in
+    let like = is_like c.loop-place.agreed.places c.loop-place.agreed.keys (sym c.unlike.ensures ∙ c.in-None.is) in
+    (found.0, found.1.read, found.1.places.0 like.0, found.1.keys.0 like.1)
+
+-- and no file is unsound where what is kept is that of the rows
+unsound : (g : Over) (c : goal.In-None g) (files : Files) → g.R.Dir.Dir.files c.args.part.now.dir ≡ Some files → IsLoadedOf c.args.part.now.loaded.schema files c.args.part.now.loaded → FirstUnsound c.args.part.now.loaded.schema c.args.part.now.loaded.manifest files None
+unsound g c files known is =
+    let found = rows_found g c in
+    let like = is_like c.loop-place.agreed.places c.loop-place.agreed.keys (sym c.unlike.ensures ∙ c.in-None.is) in
+    kept_unsound (g.R.Dir.Dir.files c.args.part.now.dir) files c.args.part.now.loaded.schema c.args.part.now.loaded c.requires known is found.0 found.1.read (found.1.places.0 like.0) (found.1.keys.0 like.1)
+
+pub returns-in-None-clause-file : goal.returns-in-None-clause-file
+returns-in-None-clause-file g c = λ files known is.
+    file_under (g.R.Dir.Dir.files c.args.part.now.dir) files c.args.part.now.loaded.schema c.args.part.now.loaded c.requires known is None (unsound g c files known is)
+
+pub returns-in-None-clause-held : goal.returns-in-None-clause-held
+returns-in-None-clause-held g c = λ files known is. unsound_rows g.R.Dir.Dir.files c.args.part.now.loaded.schema c.args.part.now files c.requires known is (unsound g c files known is)
+
+-- and where what is kept is not that of the rows
+rows_unlike : (g : Over) (c : goal.After-unlike_rows g) → (rows : List Row) × AreRowsCompared (g.R.Dir.Dir.files c.args.part.now.dir) c.args.part.now.loaded.schema c.args.part.now.loaded c.loop-place.agreed rows
+rows_unlike g c =
+    counted_compared (g.R.Dir.Dir.files c.args.part.now.dir) c.args.part.now.loaded.schema c.args.part.now.loaded c.loop-place.agreed c.requires c.loop-place.place c.content_count-place-end.result c.content_count-place-end.ensures (omega arith) (omega arith)
+    c.loop-place.invariant.few c.loop-place.invariant.gone
+
+-- what is told of a file of granules
+unlike_of : (g : Over) (c : goal.After-unlike_rows g) → ExplainsCheck (g.R.Dir.Dir.files c.args.part.now.dir) c.args.part.now.loaded.schema c.args.part.now.loaded c.unlike_rows.result
+unlike_of g c =
+    let found = rows_unlike g c in
+    unlike_fault (g.R.Dir.Dir.files c.args.part.now.dir) c.args.part.now.loaded.schema c.args.part.now.loaded c.loop-place.agreed found.0 found.1 c.in-Some-unlike.file c.unlike_rows.result (sym c.unlike.ensures ∙ c.in-Some-unlike.is) c.unlike_rows.ensures
+
+pub returns-in-Some-unlike-clause-damaged : goal.returns-in-Some-unlike-clause-damaged
+returns-in-Some-unlike-clause-damaged g c = unlike_of g c
+
+pub returns-in-Some-unlike-clause-file : goal.returns-in-Some-unlike-clause-file
+returns-in-Some-unlike-clause-file g c = λ files known is.
+    check_told (g.R.Dir.Dir.files c.args.part.now.dir) files c.args.part.now.loaded.schema c.args.part.now.loaded c.requires known is c.unlike_rows.result (unlike_of g c)
+
+pub returns-in-Some-unlike-clause-sound : goal.returns-in-Some-unlike-clause-sound
+returns-in-Some-unlike-clause-sound g c = λ rows holds. held_sound g.R.Dir.Dir.files c.args.part.now.loaded.schema c.args.part.now rows holds c.unlike_rows.result (unlike_of g c)
+
+pub returns-in-Some-unlike-clause-fault : goal.returns-in-Some-unlike-clause-fault
+returns-in-Some-unlike-clause-fault g c = λ e. absurd (no_check_fault (g.R.Dir.Dir.files c.args.part.now.dir) c.args.part.now.loaded.schema c.args.part.now.loaded c.loop-place.agreed (rows_unlike g c).0 (rows_unlike g c).1 c.in-Some-unlike.file c.unlike_rows.result (sym c.unlike.ensures ∙ c.in-Some-unlike.is) c.unlike_rows.ensures (let same : c.unlike_rows.result ≡ Fault = cc in same))
