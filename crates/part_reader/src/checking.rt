@@ -34,20 +34,23 @@ pub fn check_part<R: Arm>(alloc: Global, part: &Part<R::Dir>, arm: &mut R) -> Re
     requires { HasMarks part.now.loaded.schema }
 
     // What was read, and what is told of damage.
-    ensures checked { OnOk result ((rows : List Row)
-        × AreRowsRead (R.Dir.files part.now.dir) part.now.loaded.schema part.now.loaded.manifest rows
-        × (part.now.loaded.places ≡ (loaded_of part.now.loaded.schema rows).places)
-        × (part.now.loaded.marks ≡ (loaded_of part.now.loaded.schema rows).marks)) }
+    ensures checked { let schema = part.now.loaded.schema in OnOk result ((rows : List Row)
+        × AreRowsRead (R.Dir.files part.now.dir) schema part.now.loaded.manifest rows
+        × (part.now.loaded.places ≡ (loaded_of schema rows).places)
+        × (part.now.loaded.marks ≡ (loaded_of schema rows).marks)) }
     ensures damaged { IfErr result
         (ExplainsCheck (R.Dir.files part.now.dir) part.now.loaded.schema part.now.loaded) }
-    ensures file { (files : Files) → R.Dir.files part.now.dir ≡ Some files
-        → IsLoadedOf part.now.loaded.schema files part.now.loaded
-        → MatchResult result (λ _. damaged_file part.now.loaded.schema files ≡ None)
-        (Tells (λ found. damaged_file part.now.loaded.schema files ≡ found)) }
-    ensures held { (files : Files) → R.Dir.files part.now.dir ≡ Some files
-        → IsLoadedOf part.now.loaded.schema files part.now.loaded
-        → OnOk result ((rows : List Row) × PartHolds R.Dir.files part.now.loaded.schema part.now rows) }
-    ensures sound { (rows : List Row) → PartHolds R.Dir.files part.now.loaded.schema part.now rows
+    ensures file { let schema = part.now.loaded.schema in
+        (files : Files) → R.Dir.files part.now.dir ≡ Some files
+        → IsLoadedOf schema files part.now.loaded
+        → MatchResult result (λ _. damaged_file schema files ≡ None)
+        (Tells (λ found. damaged_file schema files ≡ found)) }
+    ensures held { let schema = part.now.loaded.schema in
+        (files : Files) → R.Dir.files part.now.dir ≡ Some files
+        → IsLoadedOf schema files part.now.loaded
+        → OnOk result ((rows : List Row) × PartHolds R.Dir.files schema part.now rows) }
+    ensures sound { let schema = part.now.loaded.schema in
+        (rows : List Row) → PartHolds R.Dir.files schema part.now rows
         → IfErr result IsNoDamage }
 
     // What the arm is then, and its count of faults.
@@ -90,6 +93,8 @@ fn check_file<R: Arm>(
         (λ bytes. IsCompared schema.now part.now.loaded file bytes agreed)) }
     ensures damaged { IfErr result (ExplainsFile (R.Dir.files part.now.dir) part.now.loaded.manifest
         file (GoesWrongAlone schema.now part.now.loaded.manifest.rows file)) }
+
+    // What the arm is then, and its count of faults.
     ensures tells { R.tells arm.new ≡ R.tells arm.old }
     ensures later { R.failed arm.old ≤ R.failed arm.new }
     ensures fault { IsErrOf result PartFault.Fault → Rose (R.failed arm.old) (R.failed arm.new) }

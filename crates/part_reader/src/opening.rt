@@ -127,6 +127,8 @@ fn open_marks<R: Arm>(
         → MatchResult result (λ found. found ≡ places) IsNoDamage }
     ensures damaged { IfErr result (ExplainsFile (R.Dir.files dir.now) manifest.now file.Marks
         (GoesWrongAt schema.now manifest.now.rows file.Marks)) }
+
+    // What the arm is then, and its count of faults.
     ensures tells { R.tells arm.new ≡ R.tells arm.old }
     ensures later { R.failed arm.old ≤ R.failed arm.new }
     ensures fault { IsErrOf result PartFault.Fault → Rose (R.failed arm.old) (R.failed arm.new) }
@@ -180,6 +182,8 @@ fn open_keys<R: Arm>(
         → MatchResult result (λ found. found ≡ keys) IsNoDamage }
     ensures damaged { IfErr result (ExplainsFile (R.Dir.files dir.now) manifest.now file.Primary
         (GoesWrongAt schema.now manifest.now.rows file.Primary)) }
+
+    // What the arm is then, and its count of faults.
     ensures tells { R.tells arm.new ≡ R.tells arm.old }
     ensures later { R.failed arm.old ≤ R.failed arm.new }
     ensures fault { IsErrOf result PartFault.Fault → Rose (R.failed arm.old) (R.failed arm.new) }
