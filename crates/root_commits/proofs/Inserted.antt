@@ -7,7 +7,6 @@ use Rattle.mt_base.specs.declared.partition.Partition.{Partition}
 use Rattle.mt_values.specs.declared.command.Command.TheVariants as command
 use Rattle.mt_values.specs.declared.command.Entry.{Entry}
 use Rattle.mt_values.specs.declared.command.Insert.{Insert}
-use Rattle.mt_values.specs.declared.manifest.Loaded.{Loaded}
 use Rattle.mt_values.specs.declared.schema.Schema.{Schema}
 use Rattle.mt_values.specs.Grammar.{same_bytes}
 use Rattle.mt_values.specs.Grid.{Grid}
@@ -17,6 +16,7 @@ use Rattle.mt_model.specs.History.{History, IsInsertInto, entered, is_create, sc
 use Rattle.mt_model.specs.Numbers.{last_number, numbered}
 use Rattle.mt_model.proofs.Histories.{legal_push, numbered_more, schema_more}
 use Rattle.mt_model.proofs.Tables.{itself_same}
+use Rattle.part_writer.specs.declared.loaded.Loaded.{Loaded}
 use Rattle.part_reader.proofs.Holding.{written_holds}
 use Rattle.part_reader.specs.declared.reading.Part.{Part}
 use Rattle.part_reader.specs.Parts.{PartHolds}
@@ -85,7 +85,7 @@ module _ {F : Type 0} (files_of : F → Option Files) (h : History) (old new : C
   new_part = ap (λ (n : ℕ). core_part table (record { name = fresh_part partition n; part = a.part }) rows) number
 
   holds : Holds t.schema kept rows
-  holds = written_holds files_of t.schema a.part rows is.files (a.files_are ∙ is.sealed_are) (ap (λ (l : Loaded). l.manifest) a.loaded_is ∙ is.loaded_is) is.holds
+  holds = written_holds files_of t.schema a.part rows is.files (a.files_are ∙ is.sealed_are) (a.loaded_is ∙ is.loaded_is) is.holds
 
   -- the parts of the table with their rows: those that it had, and the new one in its place
   pub parts_inserted : (rs : List (List Row)) → AllZip (Holds t.schema) (parts_of old.set table) rs

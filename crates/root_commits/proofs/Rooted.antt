@@ -6,7 +6,6 @@ use Rattle.std.specs.Option.{ForSome, option_map}
 use Rattle.std.specs.Ordering.{nat_cmp}
 use Rattle.mt_values.specs.declared.command.Command.TheVariants as command
 use Rattle.mt_values.specs.declared.command.Create.{Create}
-use Rattle.mt_values.specs.declared.manifest.Loaded.{Loaded}
 use Rattle.mt_values.specs.Grid.{Grid}
 use Rattle.mt_values.specs.RootNames.{create_name, part_name}
 use Rattle.mt_outside.specs.declared.disk.Change.TheVariants.{Publish}
@@ -14,6 +13,7 @@ use Rattle.mt_outside.specs.Disk.{Names, Told, files_at, names_of, put, with_cha
 use Rattle.mt_outside.specs.Files.{Files}
 use Rattle.mt_model.specs.History.{History, IsInsertInto, IsTableSchema, creates, entered, schema_of}
 use Rattle.part_name.specs.PartNames.{part_text}
+use Rattle.part_writer.specs.declared.loaded.Loaded.{Loaded}
 use Rattle.part_set.specs.RootNames.{is_table}
 use Rattle.part_history.specs.Entered.{next_number}
 use Rattle.root_store.specs.declared.store.CoreStore.{CoreStore}

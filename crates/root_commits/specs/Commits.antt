@@ -14,13 +14,13 @@ use Rattle.mt_values.specs.Grid.{Grid}
 use Rattle.mt_values.specs.Tables.{partition_of, same_partition, sorting_cmp}
 use Rattle.mt_values.specs.Values.{Row}
 use Rattle.mt_model.specs.Live.{sorted}
-use Rattle.mt_values.specs.declared.manifest.Loaded.{Loaded}
 use Rattle.mt_outside.specs.Disk.{Told}
 use Rattle.mt_outside.specs.Files.{Files}
 use Rattle.mt_model.specs.History.{History}
 use Rattle.part_name.specs.declared.part.PartName.{PartName}
 use Rattle.part_reader.specs.declared.reading.Part.{Part}
-use Rattle.part_writer.specs.PartFiles.{manifest_of}
+use Rattle.part_writer.specs.declared.loaded.Loaded.{Loaded}
+use Rattle.part_writer.specs.PartFiles.{loaded_of}
 use Rattle.part_set.specs.declared.kept.Kept.{Kept}
 use Rattle.part_set.specs.Parts.{IsAdded, IsInBlockOrder}
 use Rattle.part_set.specs.Sets.{parts_of}
@@ -96,12 +96,12 @@ insert_of_block table partition block = command.Insert (insert_into table partit
 abbrev pub part_rows : Schema → Grid → List Row
 part_rows schema block = sorted (sorting_cmp schema) block.rows
 
--- what was sealed of a block for a table with this schema, where the stage told it: the files of the block's rows, and their manifest
+-- what was sealed of a block for a table with this schema, where the stage told it: the files of the block's rows, and what is kept of them
 pub record IsSealedOf (schema : Schema) (block : Grid) (sealed : Option Files) (loaded : Loaded) : Type 0 where
   pub files : Files
   pub sealed_are : sealed ≡ Some files
   pub holds : FolderHolds schema (part_rows schema block) files
-  pub loaded_is : loaded.manifest ≡ manifest_of schema (part_rows schema block)
+  pub loaded_is : loaded ≡ loaded_of schema (part_rows schema block)
 
 -- the part that an INSERT of this number into a partition makes
 abbrev pub fresh_part : Partition → ℕ → PartName

@@ -5,7 +5,6 @@ use Rattle.std.specs.Option.{ForSome}
 use Rattle.std.specs.Ordering.{nat_cmp}
 use Rattle.mt_base.specs.declared.partition.Partition.{Partition}
 use Rattle.mt_values.specs.declared.command.Entry.{Entry}
-use Rattle.mt_values.specs.declared.manifest.Loaded.{Loaded}
 use Rattle.mt_values.specs.Grid.{Grid}
 use Rattle.mt_values.specs.RootNames.{part_name}
 use Rattle.mt_outside.specs.Disk.{Told, files_at, names_of}
@@ -13,6 +12,7 @@ use Rattle.mt_outside.specs.Files.{Files}
 use Rattle.mt_model.specs.History.{History}
 use Rattle.part_name.specs.declared.part.PartName.{PartName}
 use Rattle.part_name.specs.PartNames.{part_text}
+use Rattle.part_writer.specs.declared.loaded.Loaded.{Loaded}
 use Rattle.part_reader.specs.declared.reading.Part.{Part}
 use Rattle.part_set.specs.declared.kept.Kept.{Kept}
 use Rattle.part_set.specs.Parts.{IsAdded, NoneMeets}
