@@ -3,14 +3,14 @@ use Rattle.std.proofs.Common.{◌≡◌, ℕ, List, Option, Some, None, length, 
 use Rattle.std.proofs.lemmas.List.Elements.{Contains-get_or}
 use Rattle.std.proofs.lemmas.Option.{slice_get_read}
 use Rattle.mt_base.specs.declared.name.FileId.{FileId}
-use Rattle.mt_base.specs.declared.name.FileId.TheVariants as file
 use Rattle.mt_outside.specs.Disk.{Names}
-use Rattle.mt_outside.specs.Files.{Files, bytes_of}
-use Rattle.digest_file.specs.Spellings.{IsManifestOf}
+use Rattle.mt_outside.specs.Files.{Files}
+use Rattle.mt_model.specs.History.{IsTableSchema}
 use Rattle.part_reader.specs.declared.reading.Part.{Part}
 use Rattle.part_reader.specs.DamagedFile.{damaged_file}
-use Rattle.part_reader.proofs.Deciding.{file_told}
-use Rattle.part_reader.proofs.SoundRows.{undamaged_rows}
+use Rattle.part_reader.proofs.DamagedFiles.{file_told}
+use Rattle.part_reader.proofs.HeldRows.{undamaged_rows}
+use Rattle.part_reader.specs.Sound.{IsLoadedOf}
 use Rattle.part_set.specs.declared.kept.Kept.{Kept}
 use Rattle.part_set.specs.declared.root_name.RootName.TheVariants as root
 use Rattle.part_set.specs.Sets.{parts_of}
@@ -20,6 +20,7 @@ use Rattle.root_store.specs.Damage.{DamagedAt}
 use Rattle.root_store.specs.Soundness.{HasSoundParts, HoldsRows, IsSoundStore}
 use Rattle.root_store.specs.Stores.{StoreOf}
 use Rattle.root_store.proofs.Items.{map_item}
+use Rattle.root_store.proofs.TableMarks.{has_marks}
 
 module _ {F : Type 0} (files_of : F → Option Files) where
   -- a root of which no file is damaged was opened
@@ -31,7 +32,7 @@ module _ {F : Type 0} (files_of : F → Option Files) where
       let visible = (o.parts table part.name).1 has in
       let here = visible.here in
       let may = (sound.tables table t at).may k d within in
-      by table t part kept.files kept.told kept.manifest.of (λ f bad. undamaged here.0 f (
+      by table t part kept.files (sound.tables table t at).schema kept.told kept.loaded (λ f bad. undamaged here.0 f (
         root.Part (record { table = table; name = part.name }),
         kept.files,
         slice_get_read o.read (length o.read) here.0 (root.Part (record { table = table; name = part.name })) refl here.1 (sym here.2),
@@ -39,7 +40,7 @@ module _ {F : Type 0} (files_of : F → Option Files) where
         (visible, (t.schema, (o.tables table t at).entry, inr (may, bad))),
       )) (damaged_file t.schema kept.files) refl
     where
-      by : (table : List ℕ) (t : Table) (part : Kept (Part F)) (files : Files) → files_of part.part.dir ≡ Some files → IsManifestOf (bytes_of file.Manifest files) part.part.loaded.manifest → ((f : FileId) → damaged_file t.schema files ≡ Some f → ⊥) → (found : Option FileId) → damaged_file t.schema files ≡ found
+      by : (table : List ℕ) (t : Table) (part : Kept (Part F)) (files : Files) → IsTableSchema t.schema → files_of part.part.dir ≡ Some files → IsLoadedOf t.schema files part.part.loaded → ((f : FileId) → damaged_file t.schema files ≡ Some f → ⊥) → (found : Option FileId) → damaged_file t.schema files ≡ found
           → HoldsRows files_of t.schema part
-      by table t part files told manifest none None is = undamaged_rows files_of t.schema part.part files told manifest (file_told t.schema files None is)
-      by table t part files told manifest none (Some f) is = absurd (none f is)
+      by table t part files schema told loaded none None is = undamaged_rows files_of t.schema part.part files (has_marks t.schema schema) told loaded (file_told t.schema files None is)
+      by table t part files schema told loaded none (Some f) is = absurd (none f is)

@@ -330,7 +330,7 @@ module _ {F : Type 0} (read seen : List RootName) (old new : CoreStore F) (part 
         | inl here ↦ (
             let one = one_some (table_at new t) (drawn_to t0 n) x here.1 at in
             let all = all_added (IsKeptOf files_of names part.table t0.schema) (parts_of old.set part.table) (parts_of new.set part.table) K added (told.kept part.table t0 at0)
-            (record { files = r.files; there = r.there; told = r.told; manifest = r.manifest }) in
+            (record { files = r.files; there = r.there; told = r.told; loaded = r.loaded }) in
             subst (λ (y : Table). All (IsKeptOf files_of names t y.schema) (parts_of new.set t)) one (subst (λ (u : List ℕ). All (IsKeptOf files_of names u t0.schema) (parts_of new.set u)) here.0 all)
             )
         | inr other ↦ subst (All (IsKeptOf files_of names t x.schema)) (other_parts t other.0) (told.kept t x (sym other.1 ∙ at))

@@ -6,6 +6,7 @@ pub mod FirstNames
 pub mod Held
 pub mod KeptNames
 pub mod Lengths
+pub mod Loading
 pub mod NameReads
 pub mod NamesTold
 pub mod NextNames

@@ -16,24 +16,24 @@ use Rattle.std.specs.Option.{option_map}
 use Rattle.std.specs.Ordering.{nat_cmp}
 use Rattle.std.specs.declared.cmp.Ordering.TheVariants.{Less}
 use Rattle.mt_base.specs.declared.partition.Partition.{Partition}
-use Rattle.mt_base.specs.declared.name.FileId.TheVariants as file
 use Rattle.mt_values.specs.declared.schema.Schema.{Schema}
 use Rattle.mt_values.specs.Grammar.{same_bytes}
 use Rattle.mt_values.specs.RootNames.{create_name}
 use Rattle.mt_values.specs.Tables.{same_partition}
 use Rattle.mt_values.specs.Values.{Row}
 use Rattle.mt_outside.specs.Disk.{Names, files_at}
-use Rattle.mt_outside.specs.Files.{Files, bytes_of}
+use Rattle.mt_outside.specs.Files.{Files}
 use Rattle.mt_model.specs.History.{History, schema_of}
 use Rattle.mt_model.specs.Numbers.{IsNumberOfInsert, last_number, lies_within, numbered}
 use Rattle.mt_model.proofs.Tables.{itself_same, same_is}
-use Rattle.digest_file.proofs.Manifests.{one_manifest}
 use Rattle.part_name.specs.declared.part.PartName.{PartName}
 use Rattle.part_name.specs.PartNames.{Meet}
-use Rattle.part_writer.specs.PartFiles.{manifest_of}
+use Rattle.part_writer.specs.PartFiles.{loaded_of}
 use Rattle.part_reader.specs.declared.reading.Part.{Part}
 use Rattle.part_reader.specs.Parts.{PartHolds}
 use Rattle.part_reader.proofs.Holding.{written_holds}
+use Rattle.part_reader.proofs.Opened.{one_loaded}
+use Rattle.part_reader.proofs.SoundRows.{written_loaded}
 use Rattle.part_set.specs.declared.kept.Kept.{Kept}
 use Rattle.part_set.specs.declared.root_name.RootName.{RootName}
 use Rattle.part_set.specs.declared.root_name.RootName.TheVariants as root
@@ -48,7 +48,7 @@ use Rattle.part_set.proofs.Orphans.{item_more}
 use Rattle.part_history.specs.declared.part.CorePart.{CorePart}
 use Rattle.part_history.specs.Parts.{PartStands, has_block, core_parts_of}
 use Rattle.part_history.proofs.Growing.{number_drawn}
-use Rattle.part_history.proofs.Numbered.{insert_drawn}
+use Rattle.part_history.proofs.Numbered.{insert_drawn, legal_schema}
 use Rattle.root_store.specs.declared.store.CoreStore.{CoreStore}
 use Rattle.root_store.specs.declared.store.Table.{Table}
 use Rattle.root_store.specs.Roots.{FolderHolds, Stands, named}
@@ -61,6 +61,7 @@ use Rattle.root_store.proofs.InOrder.{core_order, pairs_head, pairs_tail}
 use Rattle.root_store.proofs.Items.{counted_one, item_either, map_item, mapped, one_counts, unfiltered}
 use Rattle.root_store.proofs.Orphaned.{no_orphan, of_core}
 use Rattle.root_store.proofs.Readings.{one_reading}
+use Rattle.root_store.proofs.TableMarks.{has_marks}
 use Rattle.root_store.proofs.Tabled.{never_below, table_here}
 use Rattle.root_store.proofs.Undamaged.{folders_agree}
 
@@ -214,11 +215,12 @@ module _ {F : Type 0} (files_of : F → Option Files) (names : Names) (h : Histo
         let there : files_at (root_text (root.Part (part_of table k))) names ≡ Some folder.files = subst (λ (p : TablePart). files_at (root_text (root.Part p)) names ≡ Some folder.files) c.name_is folder.there in
         let files_are : folder.files ≡ is.files = same_some folder.files is.files (sym there ∙ is.there) in
         let holds = subst (λ (x : Schema). FolderHolds x c.core.rows is.files) same (subst (FolderHolds c.there.schema c.core.rows) files_are folder.holds) in
-        let manifest = one_manifest (bytes_of file.Manifest is.files) k.part.loaded.manifest (manifest_of schema c.core.rows) is.manifest.of holds.readable in
+        let written = written_loaded schema is.files c.core.rows holds (has_marks schema (legal_schema table h schema s.legal schema_is)) in
+        let loaded : k.part.loaded ≡ loaded_of schema c.core.rows = one_loaded schema is.files k.part.loaded (loaded_of schema c.core.rows) is.loaded written in
         let core : c.core ≡ core_part table k c.core.rows = λ i. record { table = (c.name_is i).table; name = (c.name_is i).name; rows = c.core.rows } in
         record {
           rows = c.core.rows ∷ more.rows;
-          hold = (written_holds files_of schema k.part c.core.rows is.files is.told manifest holds, more.hold);
+          hold = (written_holds files_of schema k.part c.core.rows is.files is.told loaded holds, more.hold);
           from = (subst (HasItem s.parts) core c.here, more.from);
         }
 

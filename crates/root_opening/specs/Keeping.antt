@@ -1,19 +1,18 @@
 -- What the names of a root that were gone over left in the store, and what is told of one of them that is damaged.
 use Rattle.std.specs.Prelude.{◌≡◌, ◌⊎◌, ⊤, ℕ, ◌<◌, ◌≤◌, List, [], All, map, slice_get, Option, Some, None, IsSome}
 use Rattle.mt_base.specs.declared.name.FileId.{FileId}
-use Rattle.mt_base.specs.declared.name.FileId.TheVariants as file
 use Rattle.mt_values.specs.declared.schema.Schema.{Schema}
 use Rattle.mt_values.specs.RootNames.{create_name}
 use Rattle.mt_values.specs.Tables.{MayHavePartition}
 use Rattle.mt_outside.specs.declared.disk.DiskError.{DiskError}
 use Rattle.mt_outside.specs.declared.disk.DiskError.TheVariants as failure
 use Rattle.mt_outside.specs.Disk.{Names, Told, files_at, names_of}
-use Rattle.mt_outside.specs.Files.{Files, bytes_of}
+use Rattle.mt_outside.specs.Files.{Files}
 use Rattle.mt_model.specs.History.{IsTableSchema}
 use Rattle.part_name.specs.declared.part.PartName.{PartName}
 use Rattle.part_reader.specs.declared.reading.Part.{Part}
 use Rattle.part_reader.specs.DamagedFile.{damaged_file}
-use Rattle.part_reader.specs.Sound.{IsManifestFor}
+use Rattle.part_reader.specs.Sound.{IsLoadedOf}
 use Rattle.part_set.specs.declared.kept.Kept.{Kept}
 use Rattle.part_set.specs.declared.root_name.RootName.{RootName}
 use Rattle.part_set.specs.declared.root_name.TablePart.{TablePart}
@@ -67,12 +66,12 @@ IsDamageOf text file fault.NoMemory = ⊤
 IsDamageOf text file fault.Disk = ⊥
 IsDamageOf text file (fault.Damaged d) = d ≡ damage.File text file
 
--- a part has the folder of this name, as it is told, and the manifest that `manifest.bin` spells, and no file of it is damaged
+-- a part has the folder of this name, as it is told, what is kept of it is what the files there say, and none of them is damaged
 pub record IsPartRead {F : Type 0} (files_of : F → Option Files) (names : Names) (text : List ℕ) (schema : Schema) (part : Part F) : Type 0 where
   pub files : Files
   pub there : files_at text names ≡ Some files
   pub told : files_of part.dir ≡ Some files
-  pub manifest : IsManifestFor schema (bytes_of file.Manifest files) part.loaded.manifest
+  pub loaded : IsLoadedOf schema files part.loaded
   pub sound : damaged_file schema files ≡ None
 
 -- ---- names gone over

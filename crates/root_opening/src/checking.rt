@@ -82,7 +82,8 @@ pub fn check_table_part<D: Disk>(
     part: &TablePart,
     schema: &Schema,
 ) -> Result<Part<<D::Arm as Arm>::Dir>, OpenFault>
-    requires { ForSome (D.told disk.old) (λ t. IsSome (files_at text.now (names_of t))) }
+    requires there { ForSome (D.told disk.old) (λ t. IsSome (files_at text.now (names_of t))) }
+    requires schema { IsTableSchema schema.now }
 
     // The part that was read, and what damage is told.
     ensures may { OnOk result (MayHavePartition schema.now part.now.name.partition) }

@@ -7,6 +7,7 @@ ghost use Rattle.std.specs.Option.{ForSome};
 ghost use Rattle.std.specs.Ordering.{nat_cmp};
 ghost use Rattle.mt_base.specs.declared.name.FileId.{FileId};
 ghost use Rattle.mt_values.specs.RootNames.{create_name};
+ghost use Rattle.mt_model.specs.History.{IsTableSchema};
 ghost use Rattle.mt_outside.specs.Causes.{Rose};
 ghost use Rattle.mt_outside.specs.Disk.{Told, files_at, names_of};
 ghost use Rattle.part_set.specs.declared.root_name.RootName.{RootName as Named};
@@ -15,6 +16,7 @@ ghost use Rattle.part_set.specs.Parts.{NoneMeets};
 ghost use Rattle.part_set.specs.RootNames.{root_text};
 ghost use Rattle.part_set.specs.Sets.{parts_of};
 ghost use Rattle.part_set.specs.Visible.{HasTable, IsVisible};
+ghost use Rattle.root_store.specs.declared.store.Table.{Table as Kept};
 ghost use Rattle.root_store.specs.Damage.{DamagedAt, IsDamaged};
 ghost use Rattle.root_opening.specs.Keeping.{IsNamedRoot, IsTextsOf, Keeps, KeepsTold, TellsFile};
 ghost use Rattle.root_opening.specs.Opening.{TellsDamage};
@@ -89,6 +91,8 @@ fn keep_part<D: Disk>(
     requires text { text.now ≡ root_text (root.Part part.now) }
     requires there { ForSome (D.told disk.old) (λ t. IsSome (files_at text.now (names_of t))) }
     requires table { IsSome (table_at store.old part.now.table) }
+    requires schema { (t : Kept) → table_at store.old part.now.table ≡ Some t
+        → IsTableSchema t.schema }
     requires apart { NoneMeets (parts_of store.old.set part.now.table) part.now.name }
 
     // What is kept, and what damage is told.

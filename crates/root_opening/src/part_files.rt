@@ -1,11 +1,11 @@
 // The files of a part, checked.
 ghost use Rattle.std.specs.Prelude.{◌≡◌, ◌≤◌, IfErr, IfOk, IsErrOf, OnOk, Some, None};
-ghost use Rattle.mt_base.specs.declared.name.FileId.TheVariants as file;
 ghost use Rattle.mt_outside.specs.Causes.{Rose};
-ghost use Rattle.mt_outside.specs.Files.{Files, bytes_of};
+ghost use Rattle.mt_outside.specs.Files.{Files};
+ghost use Rattle.mt_model.specs.History.{IsTableSchema};
 ghost use Rattle.part_reader.specs.Damage.{Tells};
 ghost use Rattle.part_reader.specs.DamagedFile.{damaged_file};
-ghost use Rattle.part_reader.specs.Sound.{IsManifestFor};
+ghost use Rattle.part_reader.specs.Sound.{IsLoadedOf};
 
 use mt_outside::Arm;
 use mt_values::Schema;
@@ -19,10 +19,12 @@ pub fn check_files<R: Arm>(
     schema: &Schema,
     arm: &mut R,
 ) -> Result<Part<R::Dir>, PartFault>
+    requires { IsTableSchema schema.now }
+
+    // What is read, and what damage is told.
     ensures dir { IfOk result (λ p. p.dir ≡ dir) }
-    ensures manifest { (files : Files) → R.Dir.files dir ≡ Some files
-        → IfOk result (λ p. IsManifestFor schema.now (bytes_of file.Manifest files)
-        p.loaded.manifest) }
+    ensures loaded { (files : Files) → R.Dir.files dir ≡ Some files
+        → IfOk result (λ p. IsLoadedOf schema.now files p.loaded) }
     ensures sound { (files : Files) → R.Dir.files dir ≡ Some files
         → OnOk result (damaged_file schema.now files ≡ None) }
     ensures damaged { (files : Files) → R.Dir.files dir ≡ Some files
@@ -35,7 +37,7 @@ pub fn check_files<R: Arm>(
     ensures calm { (IsErrOf result PartFault.Fault → ⊥) → R.failed arm.new ≡ R.failed arm.old }
 {
     let part = open_part(alloc, dir, schema, arm)?;
-    match check_part(alloc, &part, schema, arm) {
+    match check_part(alloc, &part, arm) {
         Ok(()) => Ok(part),
         Err(fault) => Err(fault),
     }

@@ -1,8 +1,6 @@
 -- What is sealed of a block for a table.
 use Rattle.std.proofs.Common.{◌≡◌, ℕ, List, All, ap, ◌∙◌, subst, Option, Some}
 use Rattle.sha2.specs.Sha256.{sha256}
-use Rattle.mt_values.specs.declared.manifest.Loaded.{Loaded}
-use Rattle.mt_values.specs.declared.manifest.Manifest.{Manifest}
 use Rattle.mt_values.specs.declared.schema.Schema.{Schema}
 use Rattle.mt_values.specs.declared.value.ColType.{ColType}
 use Rattle.mt_values.specs.Grid.{AreRowsOf, Grid, IsOrderBy, picked}
@@ -13,7 +11,8 @@ use Rattle.mt_outside.specs.Files.{Files}
 use Rattle.mt_model.specs.History.{column_types}
 use Rattle.digest_file.specs.Spellings.{IsManifestOf}
 use Rattle.part_reader.proofs.Holding.{sealed_folder}
-use Rattle.part_writer.specs.PartFiles.{all_synced, files_of_part, manifest_of}
+use Rattle.part_writer.specs.declared.loaded.Loaded.{Loaded}
+use Rattle.part_writer.specs.PartFiles.{all_synced, files_of_part, loaded_of}
 use Rattle.root_commits.specs.Commits.{IsSealedOf, part_rows}
 use Rattle.session.proofs.Selecting.{ordered_is_sorted}
 
@@ -25,16 +24,16 @@ module _ (schema : Schema) (block : Grid) (order : List ℕ) (types : block.type
   sorted_are = ordered_is_sorted schema.key block.rows order by
 
   -- the files of the rows in the order of the key are those of the block's part
-  pub sealed_of : (sealed : Option Files) (loaded : Loaded) → sealed ≡ Some (all_synced (files_of_part schema chosen)) → loaded.manifest ≡ manifest_of schema chosen
+  pub sealed_of : (sealed : Option Files) (loaded : Loaded) → sealed ≡ Some (all_synced (files_of_part schema chosen)) → loaded ≡ loaded_of schema chosen
       → All (λ (row : Row). All FitsType row) chosen → IsManifestOf (manifest_bytes sha256 loaded.manifest) loaded.manifest → IsSealedOf schema block sealed loaded
-  sealed_of sealed loaded is manifest fit readable =
-      let same : manifest_of schema chosen ≡ manifest_of schema (part_rows schema block) = ap (manifest_of schema) sorted_are in
+  sealed_of sealed loaded is kept fit readable =
+      let same : loaded ≡ loaded_of schema (part_rows schema block) = kept ∙ ap (loaded_of schema) sorted_are in
       let typed_rows : AreRowsOf (column_types schema) (part_rows schema block) =
       subst (AreRowsOf (column_types schema)) sorted_are (subst (λ (ts : List ColType). AreRowsOf ts chosen) types (AreRowsOf-picked block.types schema.key block.rows order by typed)) in
       record {
         files = all_synced (files_of_part schema (part_rows schema block));
         sealed_are = is ∙ ap (λ (rows : List Row). Some (all_synced (files_of_part schema rows))) sorted_are;
         holds = sealed_folder schema (part_rows schema block) typed_rows (subst (All (λ (row : Row). All FitsType row)) sorted_are fit)
-            (subst (λ (m : Manifest). IsManifestOf (manifest_bytes sha256 m) m) (manifest ∙ same) readable);
-        loaded_is = manifest ∙ same;
+            (subst (λ (l : Loaded). IsManifestOf (manifest_bytes sha256 l.manifest) l.manifest) same readable);
+        loaded_is = same;
       }

@@ -23,7 +23,6 @@ use Rattle.mt_values.specs.Grid.{AreRowsOf, Cells, Grid, IsOrderBy, column_of, p
 use Rattle.mt_values.specs.Printing.{line}
 use Rattle.mt_values.proofs.Grids.{All-range, filter_map_more, items_at_all, IsPermutation-picked, AreRowsOf-picked, length-picked, lengths_typed, slice_get-column_of}
 use Rattle.mt_outside.specs.Files.{Files}
-use Rattle.mt_values.specs.declared.manifest.Manifest.{Manifest}
 use Rattle.mt_model.specs.declared.refusal.Refusal.{Refusal}
 use Rattle.mt_model.specs.declared.refusal.Refusal.TheVariants as refusal
 use Rattle.mt_model.specs.History.{History, schema_of, column_types}
@@ -36,6 +35,7 @@ use Rattle.mt_model.specs.Session.{Selects}
 use Rattle.mt_model.proofs.SameKeys.{stable_is_sorted}
 use Rattle.mt_model.proofs.Determined.{key_total}
 use Rattle.part_reader.specs.declared.reading.Part.{Part}
+use Rattle.part_writer.specs.declared.loaded.Loaded.{Loaded}
 use Rattle.part_reader.specs.Parts.{PartHolds, with_columns}
 use Rattle.part_set.specs.declared.kept.Kept.{Kept}
 use Rattle.session.specs.Scans.{ArePlacesOf, PartsHold, joined_rows, rows_kept, values_at}
@@ -186,7 +186,7 @@ module _ {F : Type 0} (files_of : F → Option Files) (schema : Schema) where
   rows_counted [] (r ∷ rs) h = absurd h
   rows_counted (p ∷ ps) [] h = absurd h
   rows_counted (p ∷ ps) (r ∷ rs) h =
-      let count : p.part.loaded.manifest.rows ≡ length r = ap (λ (m : Manifest). m.rows) h.0.loaded_is in
+      let count : p.part.loaded.manifest.rows ≡ length r = ap (λ (l : Loaded). l.manifest.rows) h.0.loaded_is in
       sum_by-cons (λ (q : Kept (Part F)). q.part.loaded.manifest.rows) p ps ∙ (ap₂ (λ m n. m + n) count (rows_counted ps rs h.1) ∙ sym (length-append r (joined_rows rs)))
 
   lists_made : (parts : List (Kept (Part F))) (lists : List (List Row)) → PartsHold files_of schema parts lists → length lists ≡ length parts

@@ -8,12 +8,12 @@ use Rattle.std.specs.Ordering.{nat_cmp}
 use Rattle.mt_base.specs.declared.partition.Partition.{Partition}
 use Rattle.mt_values.specs.declared.command.Command.{Command}
 use Rattle.mt_values.specs.declared.command.Entry.{Entry}
-use Rattle.mt_values.specs.declared.manifest.Loaded.{Loaded}
 use Rattle.mt_values.specs.declared.schema.Schema.{Schema}
 use Rattle.mt_values.specs.Annals.{Told}
 use Rattle.mt_outside.specs.Disk as root
 use Rattle.mt_outside.specs.Files.{Files}
 use Rattle.mt_model.specs.Numbers.{last_number}
+use Rattle.part_writer.specs.declared.loaded.Loaded.{Loaded}
 use Rattle.part_set.specs.Sets.{parts_of}
 use Rattle.durable_commit.specs.declared.causes.Refused.{Refused}
 use Rattle.durable_commit.specs.declared.causes.Refused.TheVariants as refused

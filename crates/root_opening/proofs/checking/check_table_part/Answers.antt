@@ -8,6 +8,6 @@ use Rattle.root_opening.proofs.checking.check_table_part.Goals as goal
 
 pub returns-then-not-may_have-clause-damaged : goal.returns-then-not-may_have-clause-damaged
 returns-then-not-may_have-clause-damaged g c = λ told is.
-    let folder = folder_of (g.D.Disk.told c.args.disk.now) c.args.text.now told is c.requires in
+    let folder = folder_of (g.D.Disk.told c.args.disk.now) c.args.text.now told is c.requires.there in
     let other : MayHavePartition c.args.schema.now c.args.part.now.name.partition → ⊥ = search rules in
     damage_told (names_of told) c.args.text.now (PartDamaged c.args.schema.now c.args.part.now) folder.files file.Manifest c.damaged.result folder.there (inl (other, refl)) c.damaged.ensures

@@ -24,6 +24,9 @@ keep_part-requires-clause-table g c κs within =
     let is = name_at c.args.root.now.names.items c.args.place c.index.result.now (root.Part part) c.index.ensures c.in-Part.is in
     c.requires.keeps.all part.table (table_in_front c.args.root.now c.requires.named c.args.place c.requires.place part is)
 
+pub keep_part-requires-clause-schema : goal.keep_part-requires-clause-schema
+keep_part-requires-clause-schema g c κs within = λ t at. (c.requires.keeps.known c.in-Part.part.table t at).schema
+
 pub keep_part-requires-clause-apart : goal.keep_part-requires-clause-apart
 keep_part-requires-clause-apart g c κs within =
     let part = c.in-Part.part in

@@ -7,6 +7,9 @@ use Rattle.root_opening.proofs.Checked.{told_weaker}
 use Rattle.root_opening.proofs.KeptNames.{part_damaged, part_kept, part_told}
 use Rattle.root_opening.proofs.keeping.keep_part.Goals as goal
 
+pub check_table_part-requires-clause-schema : goal.check_table_part-requires-clause-schema
+check_table_part-requires-clause-schema g c κs within = c.requires.schema c.in-Some.table.now (sym c.in-Some.ensures.value)
+
 pub returns-in_err-checked-clause-damaged : goal.returns-in_err-checked-clause-damaged
 returns-in_err-checked-clause-damaged g c = λ told read seen is visible tells.
     let part = c.args.part.now in

@@ -1,14 +1,22 @@
-use Rattle.std.proofs.Common.{◌<◌, List, ℕ, Some, All, length, sym, ap, ◌∙◌, subst}
+use Rattle.std.proofs.Common.{◌<◌, List, ℕ, Some, All, length, sym, ap, ◌∙◌, subst, arith}
 use Rattle.mt_values.specs.Values.{FitsType, Row}
 use Rattle.mt_values.specs.Grid.{picked}
 use Rattle.mt_values.proofs.Grids.{places_below}
-use Rattle.part_writer.specs.PartFiles.{all_synced, files_of_part, manifest_of}
+use Rattle.part_writer.specs.PartFiles.{all_synced, files_of_part, loaded_of}
+use Rattle.part_writer.proofs.Contents.{content_length}
+use Rattle.root_store.proofs.TableMarks.{has_marks}
 use Rattle.session.proofs.SealedParts.{sealed_of}
 use Rattle.session.proofs.sealing.seal_block.Goals as goal
 
 pub write_part-requires-clause-places : goal.write_part-requires-clause-places
 write_part-requires-clause-places g c κs within =
     subst (All (λ place. place < length c.args.block.now.rows)) (sym c.deref.ensures.value) (places_below c.args.schema.now.key c.args.block.now.rows c.in_ok-order.order.items c.in_ok-order.ensures)
+
+pub write_part-requires-clause-marks : goal.write_part-requires-clause-marks
+write_part-requires-clause-marks g c κs within = has_marks c.args.schema.now c.requires.schema
+
+pub write_part-requires-clause-few : goal.write_part-requires-clause-few
+write_part-requires-clause-few g c κs within = omega (arith, content_length c.args.schema.now, c.requires.schema.few)
 
 pub returns-clause-sealed : goal.returns-clause-sealed
 returns-clause-sealed g c = λ tells.
@@ -17,6 +25,6 @@ returns-clause-sealed g c = λ tells.
     let w = c.in_ok-write_part.ensures in
     sealed_of c.args.schema.now block c.in_ok-order.order.items c.requires.types c.in_ok-order.ensures c.len.ensures.typed _ _
     (w.files tells ∙ ap (λ (o : List ℕ). Some (all_synced (files_of_part c.args.schema.now (picked block.rows o)))) same)
-    (w.loaded ∙ ap (λ (o : List ℕ). manifest_of c.args.schema.now (picked block.rows o)) same)
+    (w.loaded ∙ ap (λ (o : List ℕ). loaded_of c.args.schema.now (picked block.rows o)) same)
     (subst (λ (o : List ℕ). All (λ (row : Row). All FitsType row) (picked block.rows o)) same w.encodable)
     w.readable
