@@ -3,11 +3,11 @@ use Rattle.root_store.proofs.TableMarks.{has_marks, kept_marks}
 use Rattle.root_opening.proofs.Loading.{damaged_own, sound_own}
 use Rattle.root_opening.proofs.part_files.check_files.Goals as goal
 
-pub open_part-requires : goal.open_part-requires
-open_part-requires g c = has_marks c.args.schema.now c.requires
+pub open_part-requires-after_bounds : goal.open_part-requires-after_bounds
+open_part-requires-after_bounds g c = λ κs within. has_marks c.args.schema.now c.requires
 
-pub check_part-requires : goal.check_part-requires
-check_part-requires g c = kept_marks c.args.schema.now c.in_ok-part.part.loaded.schema c.in_ok-part.ensures.opened.schema_is c.requires
+pub check_part-requires-after_bounds : goal.check_part-requires-after_bounds
+check_part-requires-after_bounds g c = λ κs within. kept_marks c.args.schema.now c.in_ok-part.part.loaded.schema c.in_ok-part.ensures.opened.schema_is c.requires
 
 pub returns-in-Ok-clause-sound : goal.returns-in-Ok-clause-sound
 returns-in-Ok-clause-sound g c = λ files told.
