@@ -1,4 +1,5 @@
 pub mod Dots
+pub mod Filed
 pub mod GroupSteps
 pub mod Inserts
 pub mod Items
@@ -13,5 +14,6 @@ pub mod Orphans
 pub mod Pairs
 pub mod PassOrder
 pub mod Passes
+pub mod Shelving
 pub mod Showings
 pub mod Visibles

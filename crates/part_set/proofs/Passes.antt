@@ -3,6 +3,7 @@ use Rattle.std.proofs.Common.{◌≡◌, ◌≢◌, ℕ, ◌+◌, ◌-◌, ◌<�
 use Rattle.std.proofs.lemmas.Bool.{cases_lt}
 use Rattle.std.proofs.lemmas.List.{get_or_default}
 use Rattle.std.proofs.lemmas.List.Elements.{Contains-get_or}
+use Rattle.std.proofs.lemmas.List.Kept.{AllPairs-filter}
 use Rattle.std.proofs.lemmas.Option.{MatchOption-at_some, get_or_from_slice_get, slice_get-get_or, slice_get_within}
 use Rattle.std.specs.List.{All, Contains as HasItem}
 use Rattle.part_name.specs.declared.part.PartName.{PartName}
@@ -11,9 +12,11 @@ use Rattle.part_name.specs.declared.relations.Stand.TheVariants.{Covered, Overla
 use Rattle.part_name.specs.PartNames.{Contains, Meet}
 use Rattle.part_name.specs.Standing.{StandsTo}
 use Rattle.part_set.specs.declared.kept.Kept.{Kept}
-use Rattle.part_set.specs.Parts.{IsAdded, IsInBlockOrder, NoneMeets, StandsClear, in_order}
+use Rattle.part_set.specs.Parts.{IsAdded, IsInBlockOrder, NoneMeets, StandsClear, in_order, kept_in}
 use Rattle.part_set.specs.Passes.{AreShown, Clash, IsInPassOrder, IsPlainName, IsShown, StandsAs, last_of}
 use Rattle.part_set.specs.Shows.{bare}
+use Rattle.mt_values.specs.Tables.{same_partition}
+use Rattle.part_set.proofs.Shelving.{mine_has, mine_within}
 use Rattle.part_set.proofs.Inserts.{meet_turned}
 use Rattle.part_set.proofs.Items.{item_cases, item_kept, item_new, item_none}
 use Rattle.part_set.proofs.PassOrder.{contains_meets, earlier_in_order, later_no_container, only_last, same_or_apart}
@@ -157,21 +160,31 @@ module _ (parts : List PartName) (sorted : IsInPassOrder parts) (plain : All IsP
       }
 
   module _ (inside : i < length parts) (part : PartName) (at : (d : PartName) → get_or parts i d ≡ part) where
+    -- those kept of the next part's partition
+    abbrev mine : List BareKept
+    mine = kept_in part.partition kept
+
+    mine_ordered : IsInBlockOrder mine
+    mine_ordered = AllPairs-filter (λ (a b : BareKept). StandsClear a.name b.name) (λ (k : BareKept). same_partition k.name.partition part.partition) kept ordered
+
+    last_kept : (last : BareKept) → last_of mine ≡ Some last → HasItem kept last
+    last_kept last is = mine_within part.partition kept last (last_has mine last is)
+
     kept_front : (k : BareKept) → HasItem kept k → in_order k.name part ≡ true
     kept_front k has =
         let from = passed.source k has in
         let early = earlier_in_order parts sorted from.0 i part (omega (arith, from.1)) inside in
         subst (λ (x : PartName). in_order x part ≡ true) (from.2 part) (subst (λ (y : PartName). in_order (get_or parts from.0 part) y ≡ true) (at part) early)
 
-    -- where the last one kept has no block of the next part, none has
-    pub none_meets : IfSome (last_of kept) (λ last. Meet last.name part → ⊥) → NoneMeets kept part
+    -- where the last one kept of its partition has no block of the next part, none kept has
+    pub none_meets : IfSome (last_of mine) (λ last. Meet last.name part → ⊥) → NoneMeets kept part
     none_meets clear = λ m d m_inside both.
         let k = get_or kept m d in
-        let has = Contains-get_or kept m d m_inside in
-        let last = get_or kept (length kept - 1) d in
-        let is : last_of kept ≡ Some last = slice_get-get_or kept (length kept - 1) d (omega arith) in
-        let last_in = last_has kept last is in
-        elim (last_or_clear kept ordered last k is has) [
+        let has = mine_has part.partition kept k (Contains-get_or kept m d m_inside) both.partition in
+        let last = get_or mine (length mine - 1) d in
+        let is : last_of mine ≡ Some last = slice_get-get_or mine (length mine - 1) d (omega (arith, has.1)) in
+        let last_in = last_kept last is in
+        elim (last_or_clear mine mine_ordered last k is has) [
           | inl same ↦ MatchOption-at_some _ (λ (l : BareKept). Meet l.name part → ⊥) last is clear (subst (λ (x : BareKept). Meet x.name part) same both)
           | inr apart ↦ only_last k.name last.name part apart (kept_front last last_in) both.partition (kept_plain last last_in).named.order both.high
         ]
@@ -196,17 +209,17 @@ module _ (parts : List PartName) (sorted : IsInPassOrder parts) (plain : All IsP
           ];
         }
 
-    -- the last one kept contains the next part
-    pub passed_covered : IsSomeAnd (last_of kept) (λ last. Contains last.name part) → Passed parts (i + 1) kept
+    -- the last one kept of its partition contains the next part
+    pub passed_covered : IsSomeAnd (last_of mine) (λ last. Contains last.name part) → Passed parts (i + 1) kept
     passed_covered covers =
-        let last = there (last_of kept) (λ (l : BareKept). Contains l.name part) covers in
+        let last = there (last_of mine) (λ (l : BareKept). Contains l.name part) covers in
         record {
           covered = λ j d before. elim (cases_lt j i) [
             | inl less ↦ passed.covered j d less
             | inr not_less ↦ (
                 let same : i ≡ j = omega arith in
                 let is : get_or parts j d ≡ part = subst (λ (k : ℕ). get_or parts k d ≡ part) same (at d) in
-                (last.0, last_has kept last.0 last.1, subst (Contains last.0.name) (sym is) last.2)
+                (last.0, last_kept last.0 last.1, subst (Contains last.0.name) (sym is) last.2)
                 )
           ];
           source = λ k has. (let from = passed.source k has in (from.0, omega (arith, from.1), from.2));
@@ -215,8 +228,8 @@ module _ (parts : List PartName) (sorted : IsInPassOrder parts) (plain : All IsP
     part_plain : IsPlainName part
     part_plain = subst IsPlainName (at part) (plain i part inside)
 
-    -- no part contains the next one, where the last one kept has a block of it and does not contain it
-    part_shown : (last : BareKept) → last_of kept ≡ Some last → Meet last.name part → (Contains last.name part → ⊥) → IsShown parts part
+    -- no part contains the next one, where the last one kept of its partition has a block of it and does not contain it
+    part_shown : (last : BareKept) → last_of mine ≡ Some last → Meet last.name part → (Contains last.name part → ⊥) → IsShown parts part
     part_shown last is meet not_contained = record {
       here = (i, inside, at part);
       shows = λ other here apart contains.
@@ -226,8 +239,8 @@ module _ (parts : List PartName) (sorted : IsInPassOrder parts) (plain : All IsP
                 let cover = passed.covered here.0 other before in
                 let over = subst (Contains cover.0.name) here.2 cover.2 in
                 let whole = passed_on cover.0.name other part over contains in
-                let last_in = last_has kept last is in
-                elim (last_or_clear kept ordered last cover.0 is cover.1) [
+                let last_in = last_kept last is in
+                elim (last_or_clear mine mine_ordered last cover.0 is (mine_has part.partition kept cover.0 cover.1 whole.partition)) [
                   | inl same ↦ not_contained (subst (λ (x : BareKept). Contains x.name part) same whole)
                   | inr clear ↦ only_last cover.0.name last.name part clear (kept_front last last_in) whole.partition (kept_plain last last_in).named.order (omega (arith, whole.max_block, part_plain.named.order))
                 ]
@@ -240,13 +253,13 @@ module _ (parts : List PartName) (sorted : IsInPassOrder parts) (plain : All IsP
     }
 
     -- two that are shown have a block in common
-    pub pass_clash : IsSomeAnd (last_of kept) (λ last. Meet last.name part × (Contains last.name part → ⊥)) → Clash parts
+    pub pass_clash : IsSomeAnd (last_of mine) (λ last. Meet last.name part × (Contains last.name part → ⊥)) → Clash parts
     pass_clash clash =
-        let last = there (last_of kept) (λ (l : BareKept). Meet l.name part × (Contains l.name part → ⊥)) clash in
+        let last = there (last_of mine) (λ (l : BareKept). Meet l.name part × (Contains l.name part → ⊥)) clash in
         record {
           first = last.0.name;
           second = part;
-          first_shown = kept_shown last.0 (last_has kept last.0 last.1);
+          first_shown = kept_shown last.0 (last_kept last.0 last.1);
           second_shown = part_shown last.0 last.1 last.2.0 last.2.1;
           meet = last.2.0;
           apart = λ same. last.2.1 (subst (Contains last.0.name) same (self_contained last.0.name));

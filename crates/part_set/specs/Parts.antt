@@ -1,8 +1,9 @@
 -- How the parts of one table stand to each other (docs/definitions.md, "Visible parts").
-use Rattle.std.specs.Prelude.{◌≡◌, ◌≢◌, ℕ, ◌+◌, ◌≤◌, ◌<◌, Bool, ◌==◌, ◌&&◌, ◌||◌, nat_lt, nat_le, List, length, map, IsTrue}
+use Rattle.std.specs.Prelude.{◌≡◌, ◌≢◌, ℕ, ◌+◌, ◌≤◌, ◌<◌, Bool, ◌==◌, ◌&&◌, ◌||◌, nat_lt, nat_le, List, filter, length, map, IsTrue}
 use Rattle.std.specs.List.{All, AllPairs, Contains as HasItem, insert}
 use Rattle.mt_base.specs.declared.partition.Partition.{Partition}
 use Rattle.mt_base.specs.declared.partition.Partition.TheVariants.{Whole, Number}
+use Rattle.mt_values.specs.Tables.{same_partition}
 use Rattle.part_name.specs.declared.part.PartName.{PartName}
 use Rattle.part_name.specs.PartNames.{Meet}
 use Rattle.part_set.specs.declared.kept.Kept.{Kept}
@@ -26,6 +27,10 @@ pub record StandsClear (a b : PartName) : Type 0 where
 -- a list of parts in block order, of which no two meet
 abbrev pub IsInBlockOrder : {P : Type 0} → List (Kept P) → Type 0
 IsInBlockOrder parts = AllPairs (λ a b. StandsClear a.name b.name) parts
+
+-- the parts that are of a partition
+abbrev pub kept_in : {P : Type 0} → Partition → List (Kept P) → List (Kept P)
+kept_in {P} partition parts = filter (λ (k : Kept P). same_partition k.name.partition partition) parts
 
 -- one of the parts has this name
 abbrev pub HasName : {P : Type 0} → List (Kept P) → PartName → Type 0

@@ -11,6 +11,7 @@ mod root_name;
 mod roots;
 mod set;
 mod shelf;
+mod tables;
 mod word;
 
 pub use kept::{Kept, Snap};

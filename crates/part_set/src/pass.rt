@@ -3,10 +3,11 @@ ghost use Rattle.std.specs.Prelude.{◌≡◌, ◌↔◌, IfOk, IfSome, IfNone, 
 ghost use Rattle.std.specs.List.{All};
 ghost use Rattle.std.specs.List.Sorted.{IsPermutation};
 ghost use Rattle.part_set.specs.Passes.{AreShown, Clash, IsInPassOrder, IsPlainName, StandsAs, pass_order};
+ghost use Rattle.part_set.specs.Shelf.{all_parts};
 
 use crate::Kept;
 use crate::order::partition_rank;
-use crate::shelf::TableParts;
+use crate::tables::TableParts;
 use mt_base::NoMemory;
 use part_name::{PartName, Stand, stand_to};
 use std::alloc::Global;
@@ -47,21 +48,22 @@ fn stand_of(kept: &[Kept<()>], part: &PartName) -> Stand
 /// The parts that no other one contains; none where two of these have a block in common.
 ///
 /// A part that contains another stands before it. While those that are kept have no block in common, only the last
-/// of them can have a block of the next part, so each part is compared with one other.
+/// of them of its partition can have a block of the next part, so each part is compared with one other.
 pub fn pass(alloc: Global, parts: &[PartName]) -> Result<Option<TableParts<()>>, NoMemory>
     requires order { IsInPassOrder parts.now }
     requires plain { All IsPlainName parts.now }
-    ensures shown { IfOk result (λ found. IfSome found (λ kept. AreShown parts.now kept.parts)) }
+    ensures shown { IfOk result (λ found. IfSome found
+        (λ kept. AreShown parts.now (all_parts kept))) }
     ensures clash { IfOk result (λ found. IfNone found (Clash parts.now)) }
 {
     let mut kept = TableParts::new(alloc);
     for part in parts {
-        match stand_of(kept.as_slice(), part) {
+        match stand_of(kept.parts_in(part.partition), part) {
             Stand::Covered => continue,
             Stand::Overlapping => return Ok(None),
             Stand::Clear => {}
         }
-        kept.add(*part, ())?;
+        kept.add(alloc, *part, ())?;
     }
     Ok(Some(kept))
 }

@@ -5,13 +5,14 @@ ghost use Rattle.part_set.specs.Clashes.{HasOverlap, IsFault};
 ghost use Rattle.part_set.specs.Groups.{AreGroups, group_of};
 ghost use Rattle.part_set.specs.Passes.{AreShown, Clash, IsPlainName};
 ghost use Rattle.part_set.specs.RootNames.{IsRootName};
+ghost use Rattle.part_set.specs.Shelf.{all_parts};
 ghost use Rattle.part_set.specs.Shows.{Shows};
 ghost use Rattle.part_set.specs.Visible.{HasNoOrphan};
 
 use crate::groups::{Groups, fill, first_orphan, tables_of};
 use crate::overlaps::first_overlap;
 use crate::pass::{in_pass_order, pass};
-use crate::shelf::TableParts;
+use crate::tables::TableParts;
 use crate::{PartSet, RootName};
 use mt_base::NoMemory;
 use mt_values::Name;
@@ -46,7 +47,8 @@ fn shown_of(
 ) -> Result<Option<TableParts<()>>, NoMemory>
     requires { All IsPlainName (unwrap_or (group_of groups.now table.now) []) }
     ensures shown { IfOk result (λ found. IfSome found
-        (λ kept. AreShown (unwrap_or (group_of groups.now table.now) []) kept.parts)) }
+        (λ kept. AreShown (unwrap_or (group_of groups.now table.now) [])
+        (all_parts kept))) }
     ensures clash { IfOk result (λ found. IfNone found
         (Clash (unwrap_or (group_of groups.now table.now) []))) }
 {

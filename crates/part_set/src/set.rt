@@ -1,11 +1,12 @@
 // The parts of all tables.
 ghost use Rattle.std.specs.Prelude.{◌≡◌, ◌≢◌, ◌↔◌, ℕ, List, [], IfOk, IsOk, OnOk, OnErr, IsTrue};
-ghost use Rattle.part_set.specs.Parts.{AreNeighbours, HasName, IsAdded, IsInBlockOrder, NoneMeets};
-ghost use Rattle.part_set.specs.Sets.{HasRoom, IsPut, parts_of, shelf_of};
+ghost use Rattle.mt_base.specs.declared.partition.Partition.{Partition as Part};
+ghost use Rattle.part_set.specs.Parts.{AreNeighbours, HasName, IsAdded, IsInBlockOrder, NoneMeets, kept_in};
+ghost use Rattle.part_set.specs.Sets.{HasRoom, IsPut, parts_of, shelves_of};
 
-use crate::shelf::TableParts;
+use crate::tables::TableParts;
 use crate::{Kept, Snap};
-use mt_base::{NoMemory, Twin};
+use mt_base::{NoMemory, Partition, Twin};
 use mt_values::{Name, Schema};
 use part_name::PartName;
 use std::alloc::Global;
@@ -27,13 +28,13 @@ impl<P> PartSet<P> {
         }
     }
 
-    /// The parts of a table, in block order; none where it has none.
-    pub fn parts(&self, table: &Name) -> &[Kept<P>]
-        ensures parts { result.now ≡ parts_of self.now table.now }
+    /// The parts of a partition of a table, in block order; none where it has none.
+    pub fn parts_in(&self, table: &Name, partition: Partition) -> &[Kept<P>]
+        ensures parts { result.now ≡ kept_in partition (parts_of self.now table.now) }
         ensures ordered { IsInBlockOrder result.now }
     {
         match self.tables.get(table) {
-            Some(parts) => parts.as_slice(),
+            Some(parts) => parts.parts_in(partition),
             None => &[],
         }
     }
@@ -60,23 +61,28 @@ impl<P> PartSet<P> {
 }
 
 impl<P: Drop> PartSet<P> {
-    /// Makes room, so that adding one part to the table takes no memory.
+    /// Makes room, so that adding one part of this partition to the table takes no memory.
     ///
     /// `NoMemory` where an allocation failed; the parts stay.
-    pub fn reserve(&mut self, alloc: Global, table: &Name) -> Result<(), NoMemory>
+    pub fn reserve(
+        &mut self,
+        alloc: Global,
+        table: &Name,
+        partition: Partition,
+    ) -> Result<(), NoMemory>
         ensures parts { (t : List ℕ) → parts_of self.new t ≡ parts_of self.old t }
-        ensures room { OnOk result (HasRoom self.new table.now) }
-        ensures kept { (t : List ℕ) → HasRoom self.old t → HasRoom self.new t }
+        ensures room { OnOk result (HasRoom self.new table.now partition) }
+        ensures kept { (t : List ℕ) (p : Part) → HasRoom self.old t p → HasRoom self.new t p }
     {
         if let Some(parts) = self.tables.get_mut(table) {
-            return parts.reserve();
+            return parts.reserve(alloc, partition);
         }
         let mut parts = TableParts::new(alloc);
-        parts.reserve()?;
+        parts.reserve(alloc, partition)?;
         self.put(alloc, table, parts)
     }
 
-    /// Adds a part to a table, at its place. Takes no memory where there is room.
+    /// Adds a part to a table, at its place. Takes no memory where its partition has room.
     ///
     /// `NoMemory` where an allocation failed; all parts stay as they were.
     pub fn add(
@@ -92,14 +98,15 @@ impl<P: Drop> PartSet<P> {
         ensures ordered { OnOk result (IsInBlockOrder (parts_of self.new table.now)) }
         ensures others { (t : List ℕ) → t ≢ table.now → parts_of self.new t ≡ parts_of self.old t }
         ensures err { OnErr result ((t : List ℕ) → parts_of self.new t ≡ parts_of self.old t) }
-        ensures room { HasRoom self.old table.now → IsOk result }
-        ensures rooms { (t : List ℕ) → t ≢ table.now → HasRoom self.old t → HasRoom self.new t }
+        ensures room { HasRoom self.old table.now name.partition → IsOk result }
+        ensures rooms { (t : List ℕ) (p : Part) → t ≢ table.now → HasRoom self.old t p
+            → HasRoom self.new t p }
     {
         if let Some(parts) = self.tables.get_mut(table) {
-            return parts.add(name, part);
+            return parts.add(alloc, name, part);
         }
         let mut parts = TableParts::new(alloc);
-        parts.add(name, part)?;
+        parts.add(alloc, name, part)?;
         self.put(alloc, table, parts)
     }
 
@@ -114,7 +121,7 @@ impl<P: Drop> PartSet<P> {
     ) -> Result<(), NoMemory>
         ensures ok { OnOk result (IsPut self.old.tables self.new.tables table.now parts) }
         ensures err { OnErr result
-            ((t : List ℕ) → shelf_of self.new.tables t ≡ shelf_of self.old.tables t) }
+            ((t : List ℕ) → shelves_of self.new.tables t ≡ shelves_of self.old.tables t) }
     {
         self.tables.insert(table.twin(alloc)?, parts)?;
         Ok(())
@@ -137,7 +144,10 @@ impl<P: Drop> PartSet<P> {
         ensures stays { self.new ≡ self.old }
     {
         let schema = schema.twin(alloc)?;
-        let parts = twins(alloc, self.parts(table))?;
+        let parts = match self.tables.get(table) {
+            Some(parts) => parts.twins(alloc)?,
+            None => Vec::new(alloc),
+        };
         Ok(Snap {
             schema,
             parts,
@@ -151,15 +161,4 @@ impl<P: Drop> PartSet<P> {
     {
         drop(snap);
     }
-}
-
-// Equal copies of parts.
-fn twins<P: Twin>(alloc: Global, parts: &[Kept<P>]) -> Result<Vec<Kept<P>>, NoMemory>
-    ensures { IfOk result (λ v. v.items ≡ parts.now) }
-{
-    let mut copies = Vec::with_capacity(alloc, parts.len())?;
-    for kept in parts {
-        copies.push(kept.twin(alloc)?)?;
-    }
-    Ok(copies)
 }

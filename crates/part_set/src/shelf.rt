@@ -1,4 +1,4 @@
-// The parts of one table.
+// The parts of one partition of a table.
 ghost use Rattle.std.specs.Prelude.{◌≡◌, ◌<◌, ◌≤◌, ◌↔◌, [], false, length, IfOk, IsOk, OnOk, OnErr, IsTrue};
 ghost use Rattle.part_set.specs.Parts.{AreNeighbours, HasName, IsAdded, IsInBlockOrder, NoneMeets, in_order};
 ghost use Rattle.std.specs.List.{All, AllWithin};
@@ -10,13 +10,13 @@ use part_name::PartName;
 use std::alloc::Global;
 use std::marker::Model;
 
-/// The parts of one table, in block order, of which no two meet.
+/// The parts of one partition of a table, in block order, of which no two meet.
 #[derive(Drop)]
-pub struct TableParts<P> {
+pub struct PartitionParts<P> {
     parts: Vec<Kept<P>>,
 }
 
-impl<P> Model for TableParts<P> {
+impl<P> Model for PartitionParts<P> {
     ghost use Rattle.std.specs.Prelude.{◌-◌, length, vec_capacity};
     ghost use Rattle.part_set.specs.Parts.{IsInBlockOrder};
     ghost use Rattle.part_set.specs.Shelf.{Shelf};
@@ -48,8 +48,8 @@ fn start_of<P>(parts: &[Kept<P>], name: &PartName) -> usize
     parts.partition_point(|kept| !in_order(name, &kept.name))
 }
 
-// Whether one of the parts has this name: only those that begin where it begins are looked at.
-fn has_name<P>(parts: &[Kept<P>], name: &PartName) -> bool
+/// Whether one of the parts has this name: only those that begin where it begins are looked at.
+pub fn has_name<P>(parts: &[Kept<P>], name: &PartName) -> bool
     requires { IsInBlockOrder parts.now }
     ensures { IsTrue result ↔ HasName parts.now name.now }
 {
@@ -65,12 +65,12 @@ fn has_name<P>(parts: &[Kept<P>], name: &PartName) -> bool
     false
 }
 
-impl<P> TableParts<P> {
+impl<P> PartitionParts<P> {
     /// No parts. Takes no memory.
     pub fn new(alloc: Global) -> Self
         ensures { result.parts ≡ [] }
     {
-        TableParts {
+        PartitionParts {
             parts: Vec::new(alloc),
         }
     }
@@ -94,24 +94,10 @@ impl<P> TableParts<P> {
         self.parts.reserve(1)?;
         Ok(())
     }
-
-    /// Whether one of them has this name.
-    pub fn has(&self, name: &PartName) -> bool
-        ensures { IsTrue result ↔ HasName self.now.parts name.now }
-    {
-        has_name(self.parts.as_slice(), name)
-    }
-
-    /// Whether these are two different parts of one partition, and none of the kept ones lies between their blocks.
-    pub fn neighbours(&self, a: &PartName, b: &PartName) -> bool
-        ensures { IsTrue result ↔ AreNeighbours self.now.parts a.now b.now }
-    {
-        are_neighbours(self.parts.as_slice(), a, b)
-    }
 }
 
-// Whether these are two different parts of one partition, and none of the kept ones lies between their blocks.
-fn are_neighbours<P>(parts: &[Kept<P>], a: &PartName, b: &PartName) -> bool
+/// Whether these are two different parts of one partition, and none of the kept ones lies between their blocks.
+pub fn are_neighbours<P>(parts: &[Kept<P>], a: &PartName, b: &PartName) -> bool
     ensures { IsTrue result ↔ AreNeighbours parts.now a.now b.now }
 {
     if a == b || a.partition != b.partition {
@@ -125,7 +111,7 @@ fn are_neighbours<P>(parts: &[Kept<P>], a: &PartName, b: &PartName) -> bool
     true
 }
 
-impl<P: Drop> TableParts<P> {
+impl<P: Drop> PartitionParts<P> {
     /// Adds a part at its place. Takes no memory where there is room.
     ///
     /// `NoMemory` where the allocation failed; the parts stay.

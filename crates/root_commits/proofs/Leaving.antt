@@ -10,12 +10,13 @@ use Rattle.std.specs.declared.cmp.Ordering.TheVariants.{Less, Equal, Greater}
 use Rattle.std.proofs.lemmas.Bool.Decides.{nat_tests}
 use Rattle.std.proofs.lemmas.Cmp.{nat_list_cmp_total, tied_itself}
 use Rattle.mt_base.specs.declared.partition.Partition.{Partition}
+use Rattle.part_set.specs.Parts.{kept_in}
 use Rattle.part_set.specs.Sets.{parts_of}
 use Rattle.durable_commit.specs.declared.causes.Limit.TheVariants as limit
 use Rattle.durable_commit.specs.declared.causes.Refused.{Refused}
 use Rattle.durable_commit.specs.declared.causes.Refused.TheVariants as refused
 use Rattle.root_store.specs.declared.store.CoreStore.{CoreStore}
-use Rattle.root_commits.specs.Commits.{IsCause, SameStore, refuses_create, refuses_part, kept_in}
+use Rattle.root_commits.specs.Commits.{IsCause, SameStore, refuses_create, refuses_part}
 use Rattle.root_store.specs.Stores.{table_at}
 
 -- a new entry that is taken out again

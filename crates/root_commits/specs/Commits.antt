@@ -1,5 +1,5 @@
 -- What refuses a commit, and what it leaves (docs/architecture.md, "Commits").
-use Rattle.std.specs.Prelude.{◌≡◌, ◌≢◌, ℕ, ◌+◌, List, [], get_or, Option, Some, None, Result, Ok, Err, filter, if◌then◌else◌, is_some, length, nat_le}
+use Rattle.std.specs.Prelude.{◌≡◌, ◌≢◌, ℕ, ◌+◌, List, [], get_or, Option, Some, None, Result, Ok, Err, if◌then◌else◌, is_some, length, nat_le}
 use Rattle.std.specs.BTreeMap.{Updates}
 use Rattle.std.specs.Cmp.Lexicographic.{slice_cmp}
 use Rattle.std.specs.Ordering.{nat_cmp}
@@ -11,7 +11,7 @@ use Rattle.mt_values.specs.declared.command.Insert.{Insert}
 use Rattle.mt_values.specs.declared.schema.Schema.{Schema}
 use Rattle.mt_values.specs.declared.command.Command.TheVariants as command
 use Rattle.mt_values.specs.Grid.{Grid}
-use Rattle.mt_values.specs.Tables.{partition_of, same_partition, sorting_cmp}
+use Rattle.mt_values.specs.Tables.{partition_of, sorting_cmp}
 use Rattle.mt_values.specs.Values.{Row}
 use Rattle.mt_model.specs.Live.{sorted}
 use Rattle.mt_outside.specs.Disk.{Told}
@@ -21,8 +21,7 @@ use Rattle.part_name.specs.declared.part.PartName.{PartName}
 use Rattle.part_reader.specs.declared.reading.Part.{Part}
 use Rattle.part_writer.specs.declared.loaded.Loaded.{Loaded}
 use Rattle.part_writer.specs.PartFiles.{loaded_of}
-use Rattle.part_set.specs.declared.kept.Kept.{Kept}
-use Rattle.part_set.specs.Parts.{IsAdded, IsInBlockOrder}
+use Rattle.part_set.specs.Parts.{IsAdded, IsInBlockOrder, kept_in}
 use Rattle.part_set.specs.Sets.{parts_of}
 use Rattle.durable_commit.specs.declared.causes.Limit.TheVariants as limit
 use Rattle.durable_commit.specs.declared.causes.Refused.{Refused}
@@ -106,10 +105,6 @@ pub record IsSealedOf (schema : Schema) (block : Grid) (sealed : Option Files) (
 -- the part that an INSERT of this number into a partition makes
 abbrev pub fresh_part : Partition → ℕ → PartName
 fresh_part partition n = record { partition = partition; min_block = n; max_block = n; level = 0; mutation = None }
-
--- the parts that are of a partition
-abbrev pub kept_in : {P : Type 0} → Partition → List (Kept P) → List (Kept P)
-kept_in {P} partition parts = filter (λ (k : Kept P). same_partition k.name.partition partition) parts
 
 -- what the store and the disk's count show against a part in a partition of a table of which so many numbers were drawn: the partition
 -- has as many parts as may be, or the table has no number left, or the store was stopped

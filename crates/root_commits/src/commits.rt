@@ -16,7 +16,7 @@ ghost use Rattle.root_store.specs.Cores.{ShowsCore};
 ghost use Rattle.table_core.specs.declared.event.Accept.TheVariants as accept;
 ghost use Rattle.table_core.specs.Core.{Core};
 ghost use Rattle.root_store.specs.Stores.{fresh_table};
-ghost use Rattle.root_commits.specs.Commits.{EntersSealed, EntersTable, IsCause, IsSealedEntry, SameStore, StandsWhere, cause_of, fresh_part, IsSealedOf, insert_into, kept_in, partition_of_block, refuses_create, refuses_part};
+ghost use Rattle.root_commits.specs.Commits.{EntersSealed, EntersTable, IsCause, IsSealedEntry, SameStore, StandsWhere, cause_of, fresh_part, IsSealedOf, insert_into, partition_of_block, refuses_create, refuses_part};
 ghost use Rattle.root_commits.specs.Images.{LeavesAfter, LeavesOne};
 ghost use Rattle.root_commits.specs.Turns.{Turns, storage, turn_of_create, turn_of_part, with_entry};
 ghost use Rattle.root_store.specs.Crashes.{KeepsThroughCrashes};
@@ -31,7 +31,7 @@ use mt_outside::{Arm, Disk, DiskError};
 use mt_values::{Annals, Block, Command, Create, Entry, Insert, Name};
 use part_name::PartName;
 use part_reader::Part;
-use part_set::{Kept, PartSet, RootName, TablePart, spell_name};
+use part_set::{PartSet, RootName, TablePart, spell_name};
 use part_writer::SealedPart;
 use root_store::{CoreStore, Table, put_table};
 use stage_dir::Sealed;
@@ -57,16 +57,6 @@ fn refuse_create<F>(store: &CoreStore<F>, table: &Name, now: u64) -> Option<Refu
     refuse_stopped(store.opened, now)
 }
 
-// How many of these parts are of the partition.
-fn count_in<P>(partition: Partition, parts: &[Kept<P>]) -> usize
-    ensures { result ≡ length (kept_in partition parts.now) }
-{
-    parts
-        .iter()
-        .filter(|kept| kept.name.partition == partition)
-        .count()
-}
-
 // What the store and the disk's count show against a part in a partition of a table of which so many numbers were drawn.
 fn refuse_part<F>(
     store: &CoreStore<F>,
@@ -77,7 +67,7 @@ fn refuse_part<F>(
 ) -> Option<Refused>
     ensures { result ≡ refuses_part store.now table.now partition drawn now }
 {
-    if count_in(partition, store.set.parts(table)) >= PART_LIMIT {
+    if store.set.parts_in(table, partition).len() >= PART_LIMIT {
         return Some(Refused::Limit(Limit::Parts));
     }
     if drawn >= NUMBER_LIMIT {
@@ -170,14 +160,14 @@ fn prepare_part<P: Drop, A: Annals>(
     ensures table { IfOk result (λ r. r.table ≡ table.now) }
     ensures length { IfOk result (λ r. r.length ≡ before + 1) }
     ensures parts { (t : List ℕ) → parts_of set.new t ≡ parts_of set.old t }
-    ensures place { OnOk result (HasRoom set.new table.now) }
+    ensures place { OnOk result (HasRoom set.new table.now part.partition) }
     ensures room { OnOk result (A.has_room annals.new) }
     ensures told { A.told annals.new ≡ A.told annals.old }
 {
     let Some(length) = before.checked_add(1) else {
         return Err(NoMemory);
     };
-    set.reserve(alloc, table)?;
+    set.reserve(alloc, table, part.partition)?;
     annals.reserve(alloc)?;
     let name = name_of_table_part(alloc, table, part)?;
     let table = table.twin(alloc)?;
@@ -324,7 +314,7 @@ fn enter_part<F: Drop>(
     after: u64,
 )
     requires fresh { NoneMeets (parts_of store.old.set table.now) name }
-    requires room { HasRoom store.old.set table.now }
+    requires room { HasRoom store.old.set table.now name.partition }
     ensures added { IsAdded (parts_of store.old.set table.now) (record { name = name; part = part })
         (parts_of store.new.set table.now) }
     ensures ordered { IsInBlockOrder (parts_of store.new.set table.now) }

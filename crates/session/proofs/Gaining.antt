@@ -8,6 +8,7 @@ use Rattle.mt_outside.specs.Causes.{Rose}
 use Rattle.mt_values.specs.declared.command.Command.{Command}
 use Rattle.mt_values.specs.declared.statement.Statement.{Statement}
 use Rattle.mt_values.specs.Annals.{Told, began}
+use Rattle.part_set.specs.Parts.{kept_in}
 use Rattle.part_set.specs.Sets.{parts_of}
 use Rattle.durable_commit.specs.declared.causes.Limit.TheVariants as limit
 use Rattle.durable_commit.specs.declared.causes.Refused.{Refused}
@@ -15,7 +16,7 @@ use Rattle.durable_commit.specs.declared.causes.Refused.TheVariants as refused
 use Rattle.durable_commit.specs.Commits.{IsOutside, entry_of}
 use Rattle.root_store.specs.declared.store.CoreStore.{CoreStore}
 use Rattle.root_store.specs.Stores.{CoreStands, table_at}
-use Rattle.root_commits.specs.Commits.{IsCause, SameStore, kept_in, refuses_create, refuses_part}
+use Rattle.root_commits.specs.Commits.{IsCause, SameStore, refuses_create, refuses_part}
 use Rattle.root_commits.proofs.Leaving.{shown_calm, shown_part_calm}
 use Rattle.replies.specs.Foreseen.{history, is_unsettled}
 use Rattle.shared_store.specs.Engines.{Opened}

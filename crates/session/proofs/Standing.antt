@@ -10,13 +10,13 @@ use Rattle.mt_model.specs.History.{History, creates, inserts, schema_of}
 use Rattle.mt_model.specs.Numbers.{last_number}
 use Rattle.part_reader.specs.declared.reading.Part.{Part}
 use Rattle.part_set.specs.declared.kept.Kept.{Kept}
+use Rattle.part_set.specs.Parts.{kept_in}
 use Rattle.part_set.specs.Sets.{parts_of}
 use Rattle.part_history.specs.Parts.{parts_in}
 use Rattle.part_history.proofs.Counted.{parts_at_most}
 use Rattle.root_store.specs.declared.store.CoreStore.{CoreStore}
 use Rattle.root_store.specs.declared.store.Table.{Table}
 use Rattle.root_store.specs.Stores.{CoreStands, core_part, core_parts, table_at}
-use Rattle.root_commits.specs.Commits.{kept_in}
 use Rattle.session.specs.Scans.{PartsHold}
 
 -- as many parts of a partition are kept as stand

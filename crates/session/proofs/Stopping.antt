@@ -20,6 +20,7 @@ use Rattle.mt_model.specs.Numbers.{last_number}
 use Rattle.mt_model.specs.Outside.{Outside, TurnFailed}
 use Rattle.mt_model.specs.Reply.{schema_of_text, create_turn, insert_turn}
 use Rattle.mt_model.specs.Session.{RefusedInTurn, Takes}
+use Rattle.part_set.specs.Parts.{kept_in}
 use Rattle.part_set.specs.Sets.{parts_of}
 use Rattle.durable_commit.specs.declared.causes.Limit.TheVariants as limit
 use Rattle.durable_commit.specs.declared.causes.Refused.{Refused}
@@ -27,7 +28,7 @@ use Rattle.durable_commit.specs.declared.causes.Refused.TheVariants as refused
 use Rattle.durable_commit.specs.Commits.{IsOutside}
 use Rattle.root_store.specs.declared.store.CoreStore.{CoreStore}
 use Rattle.root_store.specs.declared.store.Table.{Table}
-use Rattle.root_commits.specs.Commits.{IsCause, kept_in, partition_of_block, refuses_create, refuses_part}
+use Rattle.root_commits.specs.Commits.{IsCause, partition_of_block, refuses_create, refuses_part}
 use Rattle.root_store.specs.Soundness.{RootStands}
 use Rattle.root_store.specs.Stores.{CoreStands, table_at}
 use Rattle.replies.specs.Causes.{HasCauses}

@@ -14,11 +14,12 @@ use Rattle.mt_outside.specs.Disk as root
 use Rattle.mt_outside.specs.Files.{Files}
 use Rattle.mt_model.specs.Numbers.{last_number}
 use Rattle.part_writer.specs.declared.loaded.Loaded.{Loaded}
+use Rattle.part_set.specs.Parts.{kept_in}
 use Rattle.part_set.specs.Sets.{parts_of}
 use Rattle.durable_commit.specs.declared.causes.Refused.{Refused}
 use Rattle.durable_commit.specs.declared.causes.Refused.TheVariants as refused
 use Rattle.durable_commit.specs.Commits.{IsOutside, entry_of}
-use Rattle.root_commits.specs.Commits.{EntersSealed, IsCause, SameStore, StandsWhere, kept_in, partition_of_block, refuses_part}
+use Rattle.root_commits.specs.Commits.{EntersSealed, IsCause, SameStore, StandsWhere, partition_of_block, refuses_part}
 use Rattle.root_commits.specs.Turns.{IsDone, Turn, turn_of_part, with_entry}
 use Rattle.root_commits.proofs.SameStores.{stands_same}
 use Rattle.root_commits.proofs.Turning.{AfterRefusal}

@@ -4,6 +4,7 @@ use Rattle.std.specs.List.{All, Contains as HasItem}
 use Rattle.part_name.specs.declared.part.PartName.{PartName}
 use Rattle.part_set.specs.Passes.{AreShown, Clash, IsPlainName}
 use Rattle.part_set.specs.Sets.{parts_on}
+use Rattle.part_set.specs.Shelf.{all_parts}
 use Rattle.part_set.proofs.Maps.{other_parts}
 use Rattle.part_set.proofs.Pairs.{item_at}
 use Rattle.part_set.proofs.Showings.{showing_all, showing_put}
@@ -31,8 +32,8 @@ loop-name-preserved c =
     let table = c.in-Create.table in
     let has = subst (HasItem names) c.in-Create.is (item_at names c.loop-name.name-index c.name-item.result c.loop-name-test.true c.name-item.is) in
     let shown = MatchOption-at_some _ _ c.in-Some.parts c.in-Some.is c.in_ok-parts.ensures.shown in
-    showing_put names c.loop-name.name-index c.name-item.result c.loop-name-test.true c.name-item.is c.loop-name.set c.put.new.self table c.in-Some.parts.parts c.in-Create.is c.loop-name.invariant
-    (subst (λ (group : List PartName). AreShown group c.in-Some.parts.parts) (group_list names c.args.groups.now table c.requires.groups has) shown) (ap parts_on c.in_ok-put.ensures.ok.1) (other_parts c.loop-name.set.tables c.put.new.self.tables table _ c.in_ok-put.ensures.ok)
+    showing_put names c.loop-name.name-index c.name-item.result c.loop-name-test.true c.name-item.is c.loop-name.set c.put.new.self table (all_parts c.in-Some.parts) c.in-Create.is c.loop-name.invariant
+    (subst (λ (group : List PartName). AreShown group (all_parts c.in-Some.parts)) (group_list names c.args.groups.now table c.requires.groups has) shown) (ap parts_on c.in_ok-put.ensures.ok.1) (other_parts c.loop-name.set.tables c.put.new.self.tables table _ c.in_ok-put.ensures.ok)
 
 pub returns-clause-shown : goal.returns-clause-shown
 returns-clause-shown c = showing_all c.args.names.now c.loop-name.name-index c.loop-name.set c.loop-name.invariant c.loop-name-test.false c.requires.no_orphan

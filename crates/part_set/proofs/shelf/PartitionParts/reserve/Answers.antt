@@ -1,7 +1,7 @@
 use Rattle.std.proofs.Common.{◌∙◌, ◌<◌, ap, arith, subst, sym}
 use Rattle.std.proofs.lemmas.Result.{err_from_is_err_and}
 use Rattle.part_set.specs.Shelf.{Shelf}
-use Rattle.part_set.proofs.shelf.TableParts.reserve.Goals as goal
+use Rattle.part_set.proofs.shelf.PartitionParts.reserve.Goals as goal
 
 pub returns-clause-room : goal.returns-clause-room
 returns-clause-room g c = let ok = c.in_ok-reserve.ensures.ok in omega arith

@@ -3,7 +3,7 @@ use Rattle.std.proofs.lemmas.Result.{err_from_is_err_and}
 use Rattle.part_set.specs.Parts.{IsAdded, NoneMeets}
 use Rattle.part_set.specs.Shelf.{Shelf}
 use Rattle.part_set.proofs.Inserts.{order_inserted}
-use Rattle.part_set.proofs.shelf.TableParts.add.Goals as goal
+use Rattle.part_set.proofs.shelf.PartitionParts.add.Goals as goal
 
 pub invariant_of-self-2 : goal.invariant_of-self-2
 invariant_of-self-2 g c =

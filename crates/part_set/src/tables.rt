@@ -1,0 +1,142 @@
+// The parts of one table, partition by partition.
+//
+// A map has them by the place of their partition among all: so one part more costs no more than the search for its
+// partition, and moves parts of its own partition alone. Contracts see one list in block order (`all_parts`).
+ghost use Rattle.std.specs.Prelude.{◌≡◌, ◌<◌, ◌↔◌, ◌++◌, [], IfOk, IsOk, OnOk, OnErr, IsTrue};
+ghost use Rattle.mt_base.specs.declared.partition.Partition.{Partition as Part};
+ghost use Rattle.part_set.specs.Parts.{AreNeighbours, HasName, IsAdded, IsInBlockOrder, NoneMeets, kept_in};
+ghost use Rattle.part_set.specs.Shelf.{all_parts, room_of, shelf_at};
+
+use crate::Kept;
+use crate::order::partition_rank;
+use crate::shelf::{PartitionParts, are_neighbours, has_name};
+use mt_base::{NoMemory, Partition, Twin};
+use part_name::PartName;
+use std::alloc::Global;
+use std::collections::BTreeMap;
+use std::marker::Model;
+
+/// The parts of one table, in block order, of which no two meet.
+#[derive(Drop)]
+pub struct TableParts<P> {
+    // By the place of the partition among all. A partition may have room and no parts.
+    partitions: BTreeMap<u128, PartitionParts<P>>,
+}
+
+impl<P> Model for TableParts<P> {
+    ghost use Rattle.std.specs.Prelude.{ℕ, List};
+    ghost use Rattle.part_set.specs.Shelf.{AreFiled, Shelf};
+
+    ghost Value = { List (ℕ × Shelf P) };
+
+    ghost view = { λ t. t.partitions.entries };
+
+    ghost invariant = { λ t. AreFiled t.partitions.entries };
+}
+
+impl<P> TableParts<P> {
+    /// No parts. Takes no memory.
+    pub fn new(alloc: Global) -> Self
+        ensures { result ≡ [] }
+    {
+        TableParts {
+            partitions: BTreeMap::new(alloc),
+        }
+    }
+
+    /// The parts of a partition, in block order; none where it has none.
+    pub fn parts_in(&self, partition: Partition) -> &[Kept<P>]
+        ensures parts { result.now ≡ kept_in partition (all_parts self.now) }
+        ensures ordered { IsInBlockOrder result.now }
+    {
+        match self.partitions.get(&partition_rank(partition)) {
+            Some(parts) => parts.as_slice(),
+            None => &[],
+        }
+    }
+
+    /// Whether one of them has this name.
+    pub fn has(&self, name: &PartName) -> bool
+        ensures { IsTrue result ↔ HasName (all_parts self.now) name.now }
+    {
+        has_name(self.parts_in(name.partition), name)
+    }
+
+    /// Whether these are two different parts of one partition, and none of the kept ones lies between their blocks.
+    pub fn neighbours(&self, a: &PartName, b: &PartName) -> bool
+        ensures { IsTrue result ↔ AreNeighbours (all_parts self.now) a.now b.now }
+    {
+        are_neighbours(self.parts_in(a.partition), a, b)
+    }
+}
+
+impl<P: Drop> TableParts<P> {
+    /// Makes room for one more part of a partition.
+    ///
+    /// `NoMemory` where an allocation failed; the parts stay.
+    pub fn reserve(&mut self, alloc: Global, partition: Partition) -> Result<(), NoMemory>
+        ensures parts { all_parts self.new ≡ all_parts self.old }
+        ensures room { OnOk result (0 < room_of (shelf_at partition self.new)) }
+        ensures kept { (p : Part) → 0 < room_of (shelf_at p self.old)
+            → 0 < room_of (shelf_at p self.new) }
+    {
+        let place = partition_rank(partition);
+        if let Some(parts) = self.partitions.get_mut(&place) {
+            return parts.reserve();
+        }
+        let mut parts = PartitionParts::new(alloc);
+        parts.reserve()?;
+        self.partitions.insert(place, parts)?;
+        Ok(())
+    }
+
+    /// Adds a part at its place. Takes no memory where its partition has room.
+    ///
+    /// `NoMemory` where an allocation failed; the parts stay.
+    pub fn add(&mut self, alloc: Global, name: PartName, part: P) -> Result<(), NoMemory>
+        requires { NoneMeets (all_parts self.old) name }
+        ensures ok { OnOk result (IsAdded (all_parts self.old)
+            (record { name = name; part = part }) (all_parts self.new)) }
+        ensures ordered { OnOk result (IsInBlockOrder (all_parts self.new)) }
+        ensures err { OnErr result (all_parts self.new ≡ all_parts self.old) }
+        ensures room { 0 < room_of (shelf_at name.partition self.old) → IsOk result }
+    {
+        let place = partition_rank(name.partition);
+        if let Some(parts) = self.partitions.get_mut(&place) {
+            return parts.add(name, part);
+        }
+        let mut parts = PartitionParts::new(alloc);
+        parts.add(name, part)?;
+        self.partitions.insert(place, parts)?;
+        Ok(())
+    }
+}
+
+impl<P: Twin> TableParts<P> {
+    /// Equal copies of all parts, in block order.
+    ///
+    /// `NoMemory` where an allocation failed.
+    pub fn twins(&self, alloc: Global) -> Result<Vec<Kept<P>>, NoMemory>
+        ensures { IfOk result (λ v. v.items ≡ all_parts self.now) }
+    {
+        let mut copies = Vec::new(alloc);
+        for parts in self.partitions.values() {
+            copy_to(alloc, &mut copies, parts.as_slice())?;
+        }
+        Ok(copies)
+    }
+}
+
+// Equal copies of parts come to others, after them.
+fn copy_to<P: Twin>(
+    alloc: Global,
+    copies: &mut Vec<Kept<P>>,
+    parts: &[Kept<P>],
+) -> Result<(), NoMemory>
+    ensures { OnOk result (copies.new.items ≡ copies.old.items ++ parts.now) }
+{
+    for kept in parts {
+        copies.push(kept.twin(alloc)?)?;
+    }
+    Ok(())
+}
