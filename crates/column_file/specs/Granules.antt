@@ -9,6 +9,10 @@ use Rattle.mt_values.specs.ColumnBytes.{column_bytes}
 abbrev pub granule_of : ℕ → List Value → ℕ → List Value
 granule_of granularity values granule = take granularity (drop (granularity * granule) values)
 
+-- the values of a run of so many granules
+abbrev pub run_of : ℕ → ℕ → ℕ → List Value → List Value
+run_of granularity first count values = take (granularity * count) (drop (granularity * first) values)
+
 -- a granule begins after the bytes of the values of all granules before it, each of which has so many values
 abbrev pub granule_start : ℕ → List Value → ℕ → ℕ
 granule_start granularity values granule = length (column_bytes (take (granularity * granule) values))

@@ -187,7 +187,7 @@ module _ (told : Option Files) (schema : Schema) (loaded : Loaded) where
 any_column : ColumnRead
 any_column = record { bytes = []; values = [] }
 
-mapped_at : {Y : Type 0} (f : ℕ → Y) (n i : ℕ) → i < n → slice_get (map f (range_with_len 0 n)) i ≡ Some (f i)
+pub mapped_at : {Y : Type 0} (f : ℕ → Y) (n i : ℕ) → i < n → slice_get (map f (range_with_len 0 n)) i ≡ Some (f i)
 mapped_at f n i below =
     slice_get-get_or (map f (range_with_len 0 n)) i (f i) (omega (arith, length-map-range_with_len f 0 n))
     ∙ ap Some (get_or-map-range_with_len f 0 n i i (f i) below (omega arith))

@@ -16,7 +16,7 @@ use Rattle.column_file.specs.Spellings.{with_values}
 use Rattle.column_file.proofs.Reading.{gained_spelled}
 use Rattle.part_writer.specs.PartFiles.{manifest_of}
 use Rattle.part_reader.specs.declared.reading.Part.{Part}
-use Rattle.part_reader.specs.Columns.{AreRead, IsRead}
+use Rattle.part_reader.specs.Columns.{AreEach, AreRead, IsRead}
 use Rattle.part_reader.specs.Parts.{HoldsAt, with_columns}
 use Rattle.part_writer.specs.declared.loaded.Loaded.{Loaded}
 use Rattle.part_reader.proofs.Holding.{AreTyped, columns_held, columns_within, each_typed}
@@ -24,8 +24,8 @@ use Rattle.part_damage.proofs.SpelledRows.{column_spelled}
 
 -- ---- one column more
 
-module _ (told : Option Files) (manifest : Manifest) where
-  read_push : (places : List ℕ) (olds news : List Cells) (number : ℕ) (old new : Cells) → AreRead told manifest places olds news → IsRead told manifest number old new → AreRead told manifest (places ++ number ∷ []) (olds ++ old ∷ []) (news ++ new ∷ [])
+module _ (Gained : ℕ → Cells → Cells → Type 0) where
+  read_push : (places : List ℕ) (olds news : List Cells) (number : ℕ) (old new : Cells) → AreEach Gained places olds news → Gained number old new → AreEach Gained (places ++ number ∷ []) (olds ++ old ∷ []) (news ++ new ∷ [])
   read_push [] [] [] number old new before this = (this, tt)
   read_push [] [] (n ∷ news) number old new before this = absurd before
   read_push [] (o ∷ olds) [] number old new before this = absurd before
@@ -37,14 +37,14 @@ module _ (told : Option Files) (manifest : Manifest) where
 
   -- the columns gone over, once one more of them was read
   pub read_more : (places : List ℕ) (olds now after : List Cells) (i : ℕ) (old new : Cells) → i < length places → length now ≡ length places → length olds ≡ length places → old ≡ get_or olds i old → after ≡ set now i new
-      → AreRead told manifest (take i places) (take i olds) (take i now) → IsRead told manifest (get_or places i 0) old new → AreRead told manifest (take (i + 1) places) (take (i + 1) olds) (take (i + 1) after)
+      → AreEach Gained (take i places) (take i olds) (take i now) → Gained (get_or places i 0) old new → AreEach Gained (take (i + 1) places) (take (i + 1) olds) (take (i + 1) after)
   read_more places olds now after i old new below wide even old_is e before this =
       let p : take (i + 1) places ≡ take i places ++ get_or places i 0 ∷ [] = take_more places i 0 below in
       let o : take (i + 1) olds ≡ take i olds ++ old ∷ [] = take_more olds i old (omega arith) ∙ ap (λ x. take i olds ++ x ∷ []) (sym old_is) in
       let n : take (i + 1) after ≡ take i now ++ new ∷ [] = ap (take (i + 1)) e ∙ take_more_set now i new (omega arith) in
       rw (p, o, n) (read_push (take i places) (take i olds) (take i now) (get_or places i 0) old new before this)
 
-  pub read_all : (places : List ℕ) (olds now : List Cells) (i : ℕ) → length places ≤ i → length now ≡ length places → length olds ≡ length places → AreRead told manifest (take i places) (take i olds) (take i now) → AreRead told manifest places olds now
+  pub read_all : (places : List ℕ) (olds now : List Cells) (i : ℕ) → length places ≤ i → length now ≡ length places → length olds ≡ length places → AreEach Gained (take i places) (take i olds) (take i now) → AreEach Gained places olds now
   read_all places olds now i past wide even before =
       let p = take_all i places past in
       let o = take_all i olds (omega arith) in

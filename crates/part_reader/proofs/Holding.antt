@@ -134,7 +134,7 @@ each_typed types (p ∷ places) (c ∷ columns) within e =
 -- ---- nothing is damaged
 
 -- the type at a place of the columns
-type_there : (types : List ColType) (places : List ℕ) (columns : List Cells) (at number : ℕ) (column : Cells) → AreTyped types places columns → slice_get places at ≡ Some number → slice_get columns at ≡ Some column → slice_get types number ≡ Some column.col_type
+pub type_there : (types : List ColType) (places : List ℕ) (columns : List Cells) (at number : ℕ) (column : Cells) → AreTyped types places columns → slice_get places at ≡ Some number → slice_get columns at ≡ Some column → slice_get types number ≡ Some column.col_type
 type_there types places columns at number column typed number_is column_is =
     let Typed = λ (place : ℕ) (c : Cells). slice_get types place ≡ Some c.col_type in
     let there = AllZip-right Typed places columns typed at in

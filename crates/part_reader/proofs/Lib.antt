@@ -1,4 +1,6 @@
 pub mod CheckedParts
+pub mod ChosenColumns
+pub mod ChosenItems
 pub mod ComparedColumns
 pub mod ComparedFiles
 pub mod DamagedFiles

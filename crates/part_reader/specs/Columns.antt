@@ -17,8 +17,12 @@ pub record IsRead (told : Option Files) (manifest : Manifest) (number : ℕ) (ol
   pub marked : mark_for manifest (file.Column number) ≡ Some (mark_of bytes)
   pub gained : GainsAll manifest.rows bytes old new
 
+-- each of these columns got something of the part's column at its place
+abbrev pub AreEach : (ℕ → Cells → Cells → Type 0) → List ℕ → List Cells → List Cells → Type 0
+AreEach Gained [] [] [] = Unit {0}
+AreEach Gained (place ∷ places) (old ∷ olds) (new ∷ news) = Gained place old new × AreEach Gained places olds news
+AreEach Gained places olds news = ⊥
+
 -- so it is for each of these columns, from its place
 abbrev pub AreRead : Option Files → Manifest → List ℕ → List Cells → List Cells → Type 0
-AreRead told manifest [] [] [] = Unit {0}
-AreRead told manifest (place ∷ places) (old ∷ olds) (new ∷ news) = IsRead told manifest place old new × AreRead told manifest places olds news
-AreRead told manifest places olds news = ⊥
+AreRead told manifest = AreEach (IsRead told manifest)

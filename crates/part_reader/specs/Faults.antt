@@ -72,3 +72,12 @@ pub record ExplainsPart (told : Option Files) (manifest : Manifest) (places : Li
   pub number_is : slice_get places at ≡ Some number
   pub column_is : slice_get columns at ≡ Some column
   pub explained : ExplainsColumn told manifest number column.col_type fault
+
+-- so it is with one of these columns, each of which was read from its place as one of its type
+pub record ExplainsEach (Explains : ℕ → ColType → PartFault → Type 0) (places : List ℕ) (columns : List Cells) (fault : PartFault) : Type 0 where
+  pub at : ℕ
+  pub number : ℕ
+  pub column : Cells
+  pub number_is : slice_get places at ≡ Some number
+  pub column_is : slice_get columns at ≡ Some column
+  pub explained : Explains number column.col_type fault

@@ -5,13 +5,17 @@ mod checking;
 mod comparing;
 mod copies;
 mod files;
+mod granules;
 mod laws;
 mod marked;
 mod opening;
 mod reading;
+mod runs;
 
 pub use checking::check_part;
-pub use files::read_file;
+pub use files::{Span, read_file};
+pub use granules::add_granules;
 pub use laws::{damage_is_one_file, parts_hold_what_was_written, sound_parts_hold_rows};
 pub use opening::open_part;
 pub use reading::{NO_MARK, Part, PartFault, read_columns};
+pub use runs::Run;

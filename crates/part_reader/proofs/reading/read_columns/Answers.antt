@@ -2,6 +2,7 @@ use Rattle.std.proofs.Common.{◌≡◌, ◌<◌, length, get_or, refl, ◌∙�
 use Rattle.std.proofs.lemmas.List.{get_or_default}
 use Rattle.std.proofs.lemmas.Option.{slice_get-get_or, slice_get_read}
 use Rattle.mt_values.specs.Grid.{Cells}
+use Rattle.part_reader.specs.Columns.{IsRead}
 use Rattle.part_reader.specs.Faults.{ExplainsPart, IsNoDamage}
 use Rattle.part_reader.proofs.Holding.{sound_part}
 use Rattle.part_reader.proofs.Gaining.{handed_on, read_all, read_even, read_more, read_types, rest_more, rows_read}
@@ -16,7 +17,7 @@ loop-number-preserved g c =
     let old : Cells = get_or c.loop-number.columns i any in
     let old_is : old ≡ get_or olds i old = c.loop-number.invariant.rest i any (omega arith) ∙ get_or_default olds i any old (omega arith) in
     record {
-      read = read_more (g.R.Dir.Dir.files c.args.part.now.dir) c.args.part.now.loaded.manifest c.args.places.now olds c.loop-number.columns _ i old c.read_column.new.column (omega arith) (omega arith) c.requires old_is refl
+      read = read_more (IsRead (g.R.Dir.Dir.files c.args.part.now.dir) c.args.part.now.loaded.manifest) c.args.places.now olds c.loop-number.columns _ i old c.read_column.new.column (omega arith) (omega arith) c.requires old_is refl
           c.loop-number.invariant.read c.in_ok-read_column.ensures.read;
       rest = rest_more olds c.loop-number.columns _ i c.read_column.new.column c.loop-number.invariant.rest refl;
       tells = c.in_ok-read_column.ensures.tells ∙ c.loop-number.invariant.tells;
@@ -55,7 +56,7 @@ returns-in_err-read_column-clause-sound g c = λ schema rows holds typed.
 
 pub returns-clause-read : goal.returns-clause-read
 returns-clause-read g c =
-    read_all (g.R.Dir.Dir.files c.args.part.now.dir) c.args.part.now.loaded.manifest c.args.places.now c.args.columns.now c.loop-number.columns c.loop-number.number (omega arith) (omega arith) c.requires c.loop-number.invariant.read
+    read_all (IsRead (g.R.Dir.Dir.files c.args.part.now.dir) c.args.part.now.loaded.manifest) c.args.places.now c.args.columns.now c.loop-number.columns c.loop-number.number (omega arith) (omega arith) c.requires c.loop-number.invariant.read
 
 pub returns-clause-values : goal.returns-clause-values
 returns-clause-values g c = λ schema rows holds typed.

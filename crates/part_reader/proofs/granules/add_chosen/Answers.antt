@@ -1,0 +1,34 @@
+use Rattle.std.proofs.Common.{refl, ap, ◌∙◌, ◌-◌, ◌+◌, ◌++◌, ℕ, subst, sym, take, replicate, true, append-nil, arith}
+use Rattle.std.proofs.lemmas.List.{take_all}
+use Rattle.std.specs.Result.{OnOk}
+use Rattle.mt_values.specs.Grid.{Cells}
+use Rattle.part_reader.specs.declared.runs.Run.{Run}
+use Rattle.part_reader.specs.Granules.{GainsChosen, column_in}
+use Rattle.part_reader.proofs.ChosenColumns.{gains_last, gains_over, gains_run, gains_skip}
+use Rattle.part_reader.proofs.ChosenItems.{run_more, run_none, run_since}
+use Rattle.part_reader.proofs.granules.add_chosen.Goals as goal
+
+pub loop-granule-preserved-then-is_chosen : goal.loop-granule-preserved-then-is_chosen
+loop-granule-preserved-then-is_chosen g c = record {
+  before = omega (arith, c.loop-granule.invariant.before);
+  run = run_more c.args.chosen.now c.loop-granule.first c.loop-granule.granule c.loop-granule.invariant.before c.loop-granule-test.true c.if-is_chosen.true c.loop-granule.invariant.run;
+  gained = c.loop-granule.invariant.gained;
+  tells = c.loop-granule.invariant.tells;
+  count = c.loop-granule.invariant.count;
+}
+
+pub loop-granule-preserved : goal.loop-granule-preserved
+loop-granule-preserved g c =
+    let i = c.loop-granule.invariant in
+    record {
+      before = omega arith;
+      run = run_none c.args.chosen.now (c.loop-granule.granule + 1);
+      gained = gains_over (column_in g.R.Dir.Dir.files c.args.part.now c.args.number) c.args.chosen.now c.loop-granule.first c.loop-granule.granule c.args.column.now c.loop-granule.column c.add_run.new.column i.before c.loop-granule-test.true c.if-is_chosen.false i.run i.gained c.in_ok-add_run.ensures.read;
+      tells = c.in_ok-add_run.ensures.tells ∙ i.tells;
+      count = c.in_ok-add_run.ensures.calm (λ fault. cc) ∙ i.count;
+    }
+
+pub returns-clause-gained : goal.returns-clause-gained
+returns-clause-gained g c =
+    let i = c.loop-granule.invariant in
+    gains_last (column_in g.R.Dir.Dir.files c.args.part.now c.args.number) c.args.chosen.now c.loop-granule.first c.loop-granule.granule _ c.args.column.now c.loop-granule.column c.add_run-2.new.column c.add_run-2.result i.before (omega (arith, c.loop-granule-test.false, c.loop-granule.auto.granule-end)) (omega (arith, c.loop-granule-test.false, c.loop-granule.auto.granule-end)) i.run i.gained c.add_run-2.ensures.read

@@ -1,0 +1,146 @@
+-- Which granules of a part are read, and what its columns say of them (docs/formats.md, "Parts").
+use Rattle.std.specs.Prelude.{◌≡◌, ℕ, ◌+◌, ◌-◌, ◌*◌, ◌^◌, ◌<◌, ◌≤◌, ◌⊎◌, min, Bool, true, false, List, [], ◌∷◌, ◌++◌, length, take, drop, replicate, slice_get, slice_range, All, Option, Some, None, ⊤}
+use Rattle.std.specs.List.{range_with_len}
+use Rattle.std.specs.Option.{ForSome, option_and_then}
+use Rattle.mt_base.specs.declared.name.FileId.{FileId}
+use Rattle.mt_base.specs.declared.name.FileId.TheVariants as file
+use Rattle.mt_values.specs.declared.manifest.FileMark.{FileMark}
+use Rattle.mt_values.specs.declared.manifest.Manifest.{Manifest}
+use Rattle.mt_values.specs.declared.value.ColType.{ColType}
+use Rattle.mt_values.specs.declared.value.Value.{Value}
+use Rattle.mt_values.specs.ColumnBytes.{column_bytes}
+use Rattle.mt_values.specs.Grid.{Cells}
+use Rattle.mt_outside.specs.Files.{Files, bytes_of}
+use Rattle.byte_numbers.specs.declared.faults.FormatFault.{FormatFault}
+use Rattle.byte_numbers.specs.declared.faults.FormatFault.TheVariants as format
+use Rattle.column_file.specs.Faults.{IsFirstFault}
+use Rattle.column_file.specs.Granules.{marks_of}
+use Rattle.column_file.specs.Spellings.{GainsAll, IsSpelling, with_values}
+use Rattle.part_writer.specs.PartFiles.{mark_of}
+use Rattle.part_writer.specs.declared.loaded.Loaded.{Loaded}
+use Rattle.part_damage.specs.Marks.{mark_for}
+use Rattle.part_reader.specs.declared.files.Span.{Span}
+use Rattle.part_reader.specs.declared.reading.Part.{Part}
+use Rattle.part_reader.specs.declared.reading.PartFault.{PartFault}
+use Rattle.part_reader.specs.declared.reading.PartFault.TheVariants.{Fault, NoMemory, Damaged}
+use Rattle.part_reader.specs.declared.reading.TheConstants.{NO_MARK}
+use Rattle.part_reader.specs.declared.runs.Run.{Run}
+
+-- ---- granules of a list
+
+-- of a list parted into granules of so many, the items of the chosen ones, in order
+abbrev pub chosen_of : {X : Type 0} → ℕ → List Bool → List X → List X
+chosen_of granularity [] xs = []
+chosen_of granularity (true ∷ chosen) xs = take granularity xs ++ chosen_of granularity chosen (drop granularity xs)
+chosen_of granularity (false ∷ chosen) xs = chosen_of granularity chosen (drop granularity xs)
+
+-- how many of so many items are in the chosen granules
+abbrev pub chosen_count : ℕ → List Bool → ℕ → ℕ
+chosen_count granularity chosen count = length (chosen_of granularity chosen (range_with_len 0 count))
+
+-- granules of a run, all of them chosen, stand after those before it
+pub record IsChosenRun (chosen : List Bool) (run : Run) : Type 0 where
+  pub within : run.first + run.count ≤ length chosen
+  pub all : take (run.first + run.count) chosen ≡ take run.first chosen ++ replicate run.count true
+
+-- ---- a run of granules of a column
+
+-- a column of a part: what the folder tells, what is kept of the part, and the column's number
+pub record PartColumn : Type 0 where
+  pub told : Option Files
+  pub loaded : Loaded
+  pub number : ℕ
+
+abbrev pub column_in : {F : Type 0} → (F → Option Files) → Part F → ℕ → PartColumn
+column_in files_of part number = record { told = files_of part.dir; loaded = part.loaded; number = number }
+
+-- where a granule of a column begins in its file, by the places that are kept; after the last granule, where the file ends
+abbrev pub place_of : List (List ℕ) → ℕ → ℕ → Option ℕ
+place_of places number granule = option_and_then (λ (column : List ℕ). slice_get column granule) (slice_get places number)
+
+-- the places between which the bytes of a run stand
+pub record IsSpanOf (places : List (List ℕ)) (number : ℕ) (run : Run) (span : Span) : Type 0 where
+  pub start : place_of places number run.first ≡ Some span.start
+  pub end : place_of places number (run.first + run.count) ≡ Some span.end
+
+-- how many rows a run has: so many for each granule, the last granule of all perhaps fewer
+abbrev pub rows_in : Loaded → Run → ℕ
+rows_in loaded run = min (loaded.schema.granularity * run.count) (loaded.manifest.rows - loaded.schema.granularity * run.first)
+
+-- bytes were read that are those of the file between two places, where the folder tells
+abbrev pub IsSpanRead : PartColumn → Span → List ℕ → Type 0
+IsSpanRead c span bytes = ForSome c.told (λ files. bytes ≡ slice_range (bytes_of (file.Column c.number) files) span.start span.end)
+
+-- a column got the values that the bytes of a run spell, one for each row
+pub record IsRunRead (c : PartColumn) (run : Run) (old new : Cells) : Type 0 where
+  pub span : Span
+  pub span_is : IsSpanOf c.loaded.places c.number run span
+  pub bytes : List ℕ
+  pub read : IsSpanRead c span bytes
+  pub gained : GainsAll (rows_in c.loaded run) bytes old new
+
+-- ---- damage
+
+-- what is called wanted of a file: the mark that the manifest has of it, or none
+abbrev pub wanted_of : Manifest → FileId → FileMark
+wanted_of manifest f = or_none (mark_for manifest f)
+  where
+    or_none : Option FileMark → FileMark
+    or_none (Some mark) = mark
+    or_none None = NO_MARK
+
+-- what an error says of bytes that were read from a place of a file
+abbrev pub fault_after : ℕ → Manifest → FileId → List ℕ → FormatFault → PartFault
+fault_after start manifest f bytes format.NoMemory = NoMemory
+fault_after start manifest f bytes (format.Malformed place) = Damaged f (start + place) (wanted_of manifest f) (mark_of bytes)
+
+-- the place of an error in the file is one that 64 bits count
+abbrev pub FitsAfter : ℕ → FormatFault → Type 0
+FitsAfter start format.NoMemory = ⊤
+FitsAfter start (format.Malformed place) = start + place < 2 ^ 64
+
+-- what is said of the places where they have no such run
+abbrev pub no_run : Manifest → PartFault
+no_run manifest = Damaged file.Marks 0 (wanted_of manifest file.Marks) (wanted_of manifest file.Marks)
+
+-- the bytes of a run were read, and go wrong at a place as a value of the type for each row
+pub record IsRunDamage (c : PartColumn) (run : Run) (t : ColType) (fault : PartFault) : Type 0 where
+  pub span : Span
+  pub span_is : IsSpanOf c.loaded.places c.number run span
+  pub bytes : List ℕ
+  pub read : IsSpanRead c span bytes
+  pub place : ℕ
+  pub wrong : IsFirstFault t (rows_in c.loaded run) bytes place
+  pub fault_is : fault ≡ fault_after span.start c.loaded.manifest (file.Column c.number) bytes (format.Malformed place)
+
+-- the places that are kept have no such run
+pub record IsRunless (c : PartColumn) (run : Run) (fault : PartFault) : Type 0 where
+  pub none : (span : Span) → IsSpanOf c.loaded.places c.number run span → ⊥
+  pub fault_is : fault ≡ no_run c.loaded.manifest
+
+-- what a fault says of a run of a column that was read as one of this type
+abbrev pub ExplainsRun : PartColumn → Run → ColType → PartFault → Type 0
+ExplainsRun c run t Fault = ⊤
+ExplainsRun c run t NoMemory = ⊤
+ExplainsRun c run t (Damaged f place wanted found) = IsRunDamage c run t (Damaged f place wanted found) ⊎ IsRunless c run (Damaged f place wanted found)
+
+-- ---- the chosen granules of a column
+
+-- the column's file has the bytes of these values of the type, one for each row, and the places that are kept are theirs
+pub record HoldsValues (c : PartColumn) (t : ColType) (values : List Value) : Type 0 where
+  pub files : Files
+  pub told_is : c.told ≡ Some files
+  pub spelled : IsSpelling t c.loaded.manifest.rows (bytes_of (file.Column c.number) files) values
+  pub places : slice_get c.loaded.places c.number ≡ Some (marks_of c.loaded.schema.granularity values)
+
+-- a column got as many values as the chosen granules have rows: those of the column that is read, where it holds some
+pub record GainsChosen (c : PartColumn) (chosen : List Bool) (old new : Cells) : Type 0 where
+  pub col_type : new.col_type ≡ old.col_type
+  pub even : length new.values ≡ length old.values + chosen_count c.loaded.schema.granularity chosen c.loaded.manifest.rows
+  pub values : (values : List Value) → HoldsValues c old.col_type values → new ≡ with_values old (chosen_of c.loaded.schema.granularity chosen values)
+
+-- what a fault says of the chosen granules of a column
+pub record ExplainsChosen (c : PartColumn) (chosen : List Bool) (t : ColType) (fault : PartFault) : Type 0 where
+  pub run : Run
+  pub run_is : IsChosenRun chosen run
+  pub explained : ExplainsRun c run t fault

@@ -1,0 +1,106 @@
+// The values of chosen granules of a part.
+ghost use Rattle.std.specs.Prelude.{◌≡◌, ◌+◌, ◌≤◌, ℕ, All, IfErr, IsErrOf, List, OnOk, length, map, slice_get};
+ghost use Rattle.std.specs.List.{filter_map};
+ghost use Rattle.column_file.specs.Marks.{granules};
+ghost use Rattle.mt_outside.specs.Causes.{Rose};
+ghost use Rattle.mt_base.specs.declared.name.FileId.TheVariants as file;
+ghost use Rattle.mt_values.specs.declared.schema.Schema.{Schema};
+ghost use Rattle.mt_values.specs.Grid.{Cells};
+ghost use Rattle.mt_values.specs.Schemas.{column_types};
+ghost use Rattle.mt_values.specs.Values.{Row};
+ghost use Rattle.part_reader.specs.Faults.{ExplainsEach, IsNoDamage};
+ghost use Rattle.part_reader.specs.Granules.{ExplainsChosen, GainsChosen, chosen_count, chosen_of, column_in};
+ghost use Rattle.part_reader.specs.Parts.{HoldsAt, with_columns};
+
+use crate::reading::{Part, PartFault};
+use crate::runs::{Run, add_run};
+use mt_outside::Arm;
+use mt_values::ColumnData;
+use std::alloc::Global;
+
+/// Adds the values that the rows of the chosen granules have in the part's columns at these places, counted from 0, each to its own
+/// column. Neighbouring granules are read at once, column by column, and no byte outside of the chosen ones is read; a place may come
+/// twice. Digests are not compared.
+///
+/// `Damaged` where the bytes of a run of granules are no spelling of a value for each of its rows, or the places that are kept have
+/// no such run: never where the folder and what is kept hold rows. `Fault` only where the arm's count rose in this call; `NoMemory`
+/// where an allocation failed. After an error some of the values may have been added.
+pub fn add_granules<R: Arm>(
+    alloc: Global,
+    arm: &mut R,
+    part: &Part<R::Dir>,
+    chosen: &[bool],
+    places: &[u32],
+    columns: &mut [ColumnData],
+) -> Result<(), PartFault>
+    requires columns { length columns.old ≡ length places.now }
+    requires granules { length chosen.now ≡ granules part.now.loaded.schema.granularity
+        part.now.loaded.manifest.rows }
+
+    // What the columns get.
+    ensures values { (schema : Schema) (rows : List Row)
+        → HoldsAt R.Dir.files schema part.now (map file.Column places.now) rows
+        → map (λ (c : Cells). c.col_type) columns.old ≡ filter_map (slice_get (column_types schema))
+        places.now → OnOk result (columns.new ≡ with_columns (chosen_of
+        part.now.loaded.schema.granularity chosen.now rows) places.now columns.old) }
+    ensures even { (n : ℕ) → All (λ (c : Cells). length c.values ≡ n) columns.old
+        → OnOk result (All (λ (c : Cells). length c.values ≡ n + chosen_count
+        part.now.loaded.schema.granularity chosen.now part.now.loaded.manifest.rows) columns.new) }
+    ensures types { OnOk result (map (λ (c : Cells). c.col_type) columns.new ≡ map
+        (λ (c : Cells). c.col_type) columns.old) }
+
+    // What a fault says.
+    ensures sound { (schema : Schema) (rows : List Row)
+        → HoldsAt R.Dir.files schema part.now (map file.Column places.now) rows
+        → map (λ (c : Cells). c.col_type) columns.old ≡ filter_map (slice_get (column_types schema))
+        places.now → IfErr result IsNoDamage }
+    ensures damaged { IfErr result (ExplainsEach (λ number t. ExplainsChosen
+        (column_in R.Dir.files part.now number) chosen.now t) places.now columns.old) }
+
+    // What the arm is then, and its count of faults.
+    ensures tells { R.tells arm.new ≡ R.tells arm.old }
+    ensures later { R.failed arm.old ≤ R.failed arm.new }
+    ensures fault { IsErrOf result PartFault.Fault → Rose (R.failed arm.old) (R.failed arm.new) }
+    ensures calm { (IsErrOf result PartFault.Fault → ⊥) → R.failed arm.new ≡ R.failed arm.old }
+{
+    for (number, place) in places.iter().enumerate() {
+        add_chosen(alloc, arm, part, chosen, *place, &mut columns[number])?;
+    }
+    Ok(())
+}
+
+/// Adds the values that the rows of the chosen granules have in the part's column with this number to a column, run by run.
+///
+/// The errors are those of `add_granules`.
+fn add_chosen<R: Arm>(
+    alloc: Global,
+    arm: &mut R,
+    part: &Part<R::Dir>,
+    chosen: &[bool],
+    number: u32,
+    column: &mut ColumnData,
+) -> Result<(), PartFault>
+    ensures gained { OnOk result (GainsChosen (column_in R.Dir.files part.now number) chosen.now
+        column.old column.new) }
+    ensures damaged { IfErr result (ExplainsChosen (column_in R.Dir.files part.now number)
+        chosen.now column.old.col_type) }
+
+    // What the arm is then, and its count of faults.
+    ensures tells { R.tells arm.new ≡ R.tells arm.old }
+    ensures later { R.failed arm.old ≤ R.failed arm.new }
+    ensures fault { IsErrOf result PartFault.Fault → Rose (R.failed arm.old) (R.failed arm.new) }
+    ensures calm { (IsErrOf result PartFault.Fault → ⊥) → R.failed arm.new ≡ R.failed arm.old }
+{
+    // Where the granules begin that were chosen since the last one that was not.
+    let mut first = 0;
+    for (granule, is_chosen) in chosen.iter().enumerate() {
+        if *is_chosen {
+            continue;
+        }
+        let count = granule - first;
+        add_run(alloc, arm, part, number, Run { first, count }, column)?;
+        first = granule + 1;
+    }
+    let count = chosen.len() - first;
+    add_run(alloc, arm, part, number, Run { first, count }, column)
+}

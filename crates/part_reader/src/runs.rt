@@ -1,0 +1,136 @@
+// Runs of granules of a column, each read by itself.
+ghost use Rattle.std.specs.Prelude.{◌≡◌, ◌≢◌, ◌≤◌, ◌<◌, ◌+◌, ◌^◌, IfErr, IsErrOf, MatchOption, OnOk, length};
+ghost use Rattle.mt_base.specs.declared.name.FileId.TheVariants as file;
+ghost use Rattle.mt_outside.specs.Causes.{Rose};
+ghost use Rattle.part_reader.specs.Granules.{ExplainsRun, FitsAfter, IsRunRead, IsSpanOf, column_in, fault_after, no_run, place_of, rows_in, wanted_of};
+
+use crate::files::{Span, read_span};
+use crate::marked::mark_at;
+use crate::reading::{NO_MARK, Part, PartFault};
+use column_file::{FormatFault, decode_onto};
+use digest_file::mark_of;
+use mt_outside::Arm;
+use mt_values::{ColumnData, FileId, FileMark, Manifest};
+use part_writer::Loaded;
+use primary_marks::Places;
+use std::alloc::Global;
+
+/// Granules of a part that stand one after another: the first of them, counted from 0, and how many.
+#[derive(Clone, Copy, Debug)]
+pub struct Run {
+    pub first: usize,
+    pub count: usize,
+}
+
+/// Adds the values that the rows of a run have in the part's column with this number to a column. The bytes of the run alone are read.
+///
+/// `Damaged` where the places that are kept have no such run, or the bytes are no spelling of a value for each of its rows;
+/// `Fault` only where the arm's count rose in this call; `NoMemory` where an allocation failed. After an error some of the values
+/// may have been added.
+pub fn add_run<R: Arm>(
+    alloc: Global,
+    arm: &mut R,
+    part: &Part<R::Dir>,
+    number: u32,
+    run: Run,
+    column: &mut ColumnData,
+) -> Result<(), PartFault>
+    requires { run.first + run.count < 2 ^ 64 }
+    ensures read { OnOk result
+        (IsRunRead (column_in R.Dir.files part.now number) run column.old column.new) }
+    ensures damaged { IfErr result
+        (ExplainsRun (column_in R.Dir.files part.now number) run column.old.col_type) }
+
+    // What the arm is then, and its count of faults.
+    ensures tells { R.tells arm.new ≡ R.tells arm.old }
+    ensures later { R.failed arm.old ≤ R.failed arm.new }
+    ensures fault { IsErrOf result PartFault.Fault → Rose (R.failed arm.old) (R.failed arm.new) }
+    ensures calm { (IsErrOf result PartFault.Fault → ⊥) → R.failed arm.new ≡ R.failed arm.old }
+{
+    let manifest = &part.loaded.manifest;
+    let Some(span) = span_of(&part.loaded.places, number, run) else {
+        return Err(unplaced(manifest));
+    };
+    let file = FileId::Column(number);
+    let bytes = read_span(alloc, arm, &part.dir, file, span)?;
+    match decode_onto(column, &bytes, row_count(&part.loaded, run)) {
+        Ok(()) => Ok(()),
+        Err(error) => Err(misread(manifest, file, span.start, &bytes, error)),
+    }
+}
+
+/// The places of a column's file between which the bytes of a run stand, by the places that are kept.
+///
+/// `None` where these have no such run.
+fn span_of(places: &Places, number: u32, run: Run) -> Option<Span>
+    requires { run.first + run.count < 2 ^ 64 }
+    ensures { MatchOption result ((span : Span) → IsSpanOf places.now number run span → ⊥)
+        (IsSpanOf places.now number run) }
+{
+    let start = place_of(places, number, run.first)?;
+    let end = place_of(places, number, run.first + run.count)?;
+    Some(Span { start, end })
+}
+
+/// Where a granule of a column begins in its file, by the places that are kept; after the last granule, where the file ends.
+fn place_of(places: &Places, number: u32, granule: usize) -> Option<u64>
+    ensures { result ≡ place_of places.now number granule }
+{
+    let column = places.as_slice().get(number as usize)?;
+    column.as_slice().get(granule).copied()
+}
+
+/// How many rows a run has.
+fn row_count(loaded: &Loaded, run: Run) -> usize
+    ensures { result ≡ rows_in loaded.now run }
+{
+    let granularity = loaded.schema.granularity as usize;
+    let before = granularity.saturating_mul(run.first);
+    let rows = (loaded.manifest.rows as usize).saturating_sub(before);
+    granularity.saturating_mul(run.count).min(rows)
+}
+
+/// What an error says of bytes that were read from a place of a file.
+fn misread(
+    manifest: &Manifest,
+    file: FileId,
+    start: u64,
+    bytes: &[u8],
+    error: FormatFault,
+) -> PartFault
+    requires { FitsAfter start error }
+    ensures { result ≡ fault_after start manifest.now file bytes.now error }
+{
+    match error {
+        FormatFault::NoMemory => PartFault::NoMemory,
+        FormatFault::Malformed { place } => PartFault::Damaged {
+            file,
+            place: start + place,
+            wanted: wanted_of(manifest, file),
+            found: mark_of(bytes),
+        },
+    }
+}
+
+/// What is said where the places that are kept have no run that was to be read.
+fn unplaced(manifest: &Manifest) -> PartFault
+    ensures { result ≡ no_run manifest.now }
+{
+    let mark = wanted_of(manifest, FileId::Marks);
+    PartFault::Damaged {
+        file: FileId::Marks,
+        place: 0,
+        wanted: mark,
+        found: mark,
+    }
+}
+
+/// The mark that the manifest has of a file, or `NO_MARK` where it has none.
+fn wanted_of(manifest: &Manifest, file: FileId) -> FileMark
+    ensures { result ≡ wanted_of manifest.now file }
+{
+    match mark_at(manifest, file) {
+        Some(mark) => mark,
+        None => NO_MARK,
+    }
+}
