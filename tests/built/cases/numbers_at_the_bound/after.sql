@@ -1,0 +1,9 @@
+SELECT * FROM h;
+INSERT INTO h;
+4	1
+\.
+CREATE TABLE u (a UInt8) ENGINE = MergeTree ORDER BY a;
+INSERT INTO u;
+1
+\.
+SELECT k FROM h;

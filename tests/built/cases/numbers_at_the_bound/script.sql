@@ -1,0 +1,17 @@
+INSERT INTO h;
+2	1
+1	5
+3	3
+2	0
+\.
+SELECT * FROM h;
+INSERT INTO h;
+2	2
+\.
+INSERT INTO h;
+3	1
+1	1
+2	1
+\.
+INSERT INTO h;
+\.

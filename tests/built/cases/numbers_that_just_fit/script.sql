@@ -1,0 +1,8 @@
+INSERT INTO h;
+2	1
+1	5
+3	3
+\.
+INSERT INTO h;
+1	1
+\.

@@ -1,0 +1,2 @@
+SELECT * FROM u;
+SELECT s FROM t;

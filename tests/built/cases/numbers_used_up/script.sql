@@ -1,0 +1,9 @@
+INSERT INTO t;
+3	c
+\.
+INSERT INTO u;
+7
+\.
+INSERT INTO u;
+\.
+SELECT * FROM t;
