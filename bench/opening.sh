@@ -1,8 +1,8 @@
 #!/usr/bin/env bash
-# Measures opening: a root of one table with PARTS parts of ROWS rows each, the first two words, 100 and 1000 if they are left out. The
-# program runs an empty script over it five times, with the files in the system's cache, and the run of the least CPU time is printed. Where
-# `perf` is there, the share of the digests in that time is printed too. A twin in plain Rust only reads each file and digests it.
-# It fails where the root is not opened, and asks for no speed.
+# Measures opening: a root of one table with PARTS parts of ROWS rows of the workload `events` each, the first two words, 100 and 1000 if
+# they are left out. The program runs an empty script over it five times, with the files in the system's cache, and the run of the least CPU
+# time is printed. Where `perf` is there, the share of the digests in that time is printed too. A twin in plain Rust only reads each file and
+# digests it. It fails where the root is not opened, and asks for no speed.
 set -euo pipefail
 parts=${1:-100}
 rows=${2:-1000}
@@ -14,20 +14,7 @@ root=$(cd "$(dirname "$0")/.." && pwd -P)
 work=$(mktemp -d)
 trap 'rm -rf "$work"' EXIT
 
-# The rows of the workload `events`: a random UInt64 key, a UInt32, an Int64, a text of about 20 bytes and a UInt8.
-python3 - "$parts" "$rows" >"$work/script" <<'P'
-import sys
-parts, rows, seed = int(sys.argv[1]), int(sys.argv[2]), 88172645463325252
-print("CREATE TABLE e (k UInt64, a UInt32, b Int64, s String, c UInt8) ENGINE = MergeTree ORDER BY k;")
-for part in range(parts):
-    print("INSERT INTO e;")
-    for row in range(rows):
-        seed ^= seed << 13 & (1 << 64) - 1
-        seed ^= seed >> 7
-        seed ^= seed << 17 & (1 << 64) - 1
-        print(f"{seed}\t{seed >> 32}\t{(seed >> 11) - (1 << 52)}\tevent {seed % 10**14:014d}\t{row % 256}")
-    print("\\.")
-P
+python3 "$root/bench/events.py" "$parts" "$rows" 0 >"$work/script"
 "$root/bin/mergetree" --path "$work/built" </dev/null >/dev/null # builds the program, where needed
 program=$root/crates/mergetree/out/mergetree
 timeout 1800 "$program" --path "$work/d" <"$work/script" >/dev/null
