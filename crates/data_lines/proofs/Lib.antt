@@ -1,3 +1,4 @@
 pub mod DataLines
 pub mod LineParts
+pub mod LineRuns
 pub mod Sections
