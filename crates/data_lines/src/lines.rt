@@ -1,10 +1,11 @@
 // The lines of data that a text begins with.
 ghost use Rattle.std.specs.Prelude.{◌≡◌, ◌<◌, ◌≤◌, ◌+◌, length, take, drop, IfSome, false};
 ghost use Rattle.std.specs.Option.{option_map};
+ghost use Rattle.memchr.specs.Find.{IsFirstByte, is_byte2};
 ghost use Rattle.mt_values.specs.Script.{data_ended, data_of, ends_data, line_from};
 ghost use Rattle.data_lines.specs.Sections.{data_in};
 
-use memchr::memchr2;
+use memchr::memchr2_iter;
 
 /// How much of a text is data.
 #[derive(Clone, Copy)]
@@ -19,6 +20,14 @@ pub struct Extent {
     pub used: usize,
 }
 
+// The first place of a line feed or a backslash in a text; none where it has neither.
+fn next_mark(text: &[u8]) -> Option<usize>
+    ensures { IsFirstByte (is_byte2 10 92) text.now result }
+{
+    // The iterator tries the bytes that are near first, and most lines are short.
+    memchr2_iter(b'\n', b'\\', text).next()
+}
+
 /// The place of the line feed that ends the line of data which a text begins with: the first that no backslash takes.
 /// None where no line feed ends the line. Takes no memory.
 pub fn line_end(text: &[u8]) -> Option<usize>
@@ -28,7 +37,7 @@ pub fn line_end(text: &[u8]) -> Option<usize>
 {
     let mut at = 0;
     'marks: while at < text.len() {
-        let Some(plain) = memchr2(b'\n', b'\\', &text[at..]) else {
+        let Some(plain) = next_mark(&text[at..]) else {
             return None;
         };
         let mark = at + plain;
