@@ -1,14 +1,23 @@
 // The fields of a line, and the value that a field is.
 ghost use Rattle.std.specs.Prelude.{◌≡◌, ◌≢◌, ◌<◌, IfOk, IfSome, Some, length, false, slice_get};
+ghost use Rattle.memchr.specs.Find.{IsFirstByte, is_byte3};
 ghost use Rattle.mt_values.specs.Rows.{fields_from, text_of, value_of_field};
 ghost use Rattle.mt_values.specs.declared.value.ColType.TheVariants as type;
 ghost use Rattle.tsv_fields.specs.Fields.{EndFields, IsValueRead, line_at, line_found, marked, value_or_none};
 
 use crate::numbers::{signed_below, unsigned_up_to};
 use crate::texts::{plain_len, unescape};
-use memchr::memchr3;
+use memchr::memchr3_iter;
 use mt_base::{NoMemory, Stop, TEXT_LIMIT};
 use mt_values::{Cell, ColType, FieldFault};
+
+// The first place of a tab, a line feed or a backslash in a text; none where it has none of them.
+fn next_mark(text: &[u8]) -> Option<usize>
+    ensures { IsFirstByte (is_byte3 9 10 92) text.now result }
+{
+    // The iterator tries the bytes that are near first, and most fields are short.
+    memchr3_iter(b'\t', b'\n', b'\\', text).next()
+}
 
 /// Puts the places where the fields of a line end in place of what `ends` had. The line is what stands before the first
 /// line feed that no backslash takes, if `lines` is set, and else the whole text. Answers the place of that line feed;
@@ -28,7 +37,7 @@ pub fn mark_fields(
 {
     ends.clear();
     let mut at = 0;
-    'marks: while let Some(plain) = memchr3(b'\t', b'\n', b'\\', &text[at..]) {
+    'marks: while let Some(plain) = next_mark(&text[at..]) {
         let mark = at + plain;
         if text[mark] == b'\\' {
             // It takes the byte after it.
