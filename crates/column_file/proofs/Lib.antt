@@ -1,3 +1,4 @@
+pub mod Ahead
 pub mod Marked
 pub mod Numbers
 pub mod OneWay

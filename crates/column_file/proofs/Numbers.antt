@@ -1,14 +1,11 @@
 -- Numbers in bytes: bytes of a type's width are a number of it, and fewer begin none.
-use Rattle.std.proofs.Common.{◌≡◌, ◌≢◌, ℕ, zero, suc, ◌+◌, ◌*◌, ◌/◌, ◌%◌, ◌^◌, ◌<◌, ◌≤◌, List, [], ◌∷◌, ◌++◌, ◌⊎◌, All, Fits, FitsSigned, refl, sym, ap, ◌∙◌, subst, inl, inr, length, length-append, length-drop, length-take-le, take, drop, take-append-drop, get_or, arith}
+use Rattle.std.proofs.Common.{◌≡◌, ◌≢◌, ℕ, zero, suc, ◌+◌, ◌*◌, ◌/◌, ◌%◌, ◌^◌, ◌<◌, ◌≤◌, List, [], ◌∷◌, ◌++◌, FitsSigned, refl, sym, ap, ◌∙◌, subst, length, length-append, length-drop, length-take-le, take, drop, take-append-drop, arith}
 use Rattle.std.proofs.Math.Nat.{lt-div-mul-add, mul-div-le, mul-le-mul_left}
-use Rattle.std.proofs.lemmas.Bool.{cases_lt}
 use Rattle.std.proofs.lemmas.Int.{of_z-to_z}
-use Rattle.std.proofs.lemmas.List.{get_or_past}
-use Rattle.std.proofs.lemmas.List.Elements.{All-cons, All-drop, All-from_get_or, All-get_or, All-nil, All-take}
-use Rattle.std.proofs.lemmas.Nat.{le_bytes_2, le_bytes_4, le_bytes_8}
+use Rattle.std.proofs.lemmas.List.Elements.{All-cons, All-drop, All-nil, All-take}
 use mir.Facts.{sfits_to_z}
 use mir.Val.{bits}
-use Rattle.std.specs.Int.{Width, w8, w16, w32, w64, to_le_bytes, from_le_bytes, byte_at, bytes_low_first, cast_signed, cast_unsigned}
+use Rattle.std.specs.Int.{Width, w8, w16, w32, w64, to_le_bytes, byte_at, bytes_low_first, cast_signed, cast_unsigned}
 use Rattle.mt_values.specs.declared.value.ColType.{ColType}
 use Rattle.mt_values.specs.declared.value.ColType.TheVariants as type
 use Rattle.mt_values.specs.declared.value.Value.{Value}

@@ -32,7 +32,7 @@ AreWithin values places = All (λ place. place < length values) places
 
 -- ---- one value more
 
-picked_more : (values : List Value) (places : List ℕ) (i : ℕ) (v : Value) → i < length places → slice_get values (get_or places i 0) ≡ Some v → values_at values (take (i + 1) places) ≡ values_at values (take i places) ++ v ∷ []
+pub picked_more : (values : List Value) (places : List ℕ) (i : ℕ) (v : Value) → i < length places → slice_get values (get_or places i 0) ≡ Some v → values_at values (take (i + 1) places) ≡ values_at values (take i places) ++ v ∷ []
 picked_more values places i v h is =
     filter_map_more (slice_get values) places i (get_or places i 0) v h (get_or_default places i 0 (get_or places i 0) h) is
 

@@ -1,3 +1,5 @@
 pub mod DataLines
 pub mod LineParts
+pub mod LineRuns
+pub mod Marks
 pub mod Sections

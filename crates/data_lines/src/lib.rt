@@ -4,5 +4,5 @@
 mod lines;
 mod section;
 
-pub use lines::{line_end, takes_next};
+pub use lines::line_end;
 pub use section::{Section, inserted};

@@ -1,8 +1,11 @@
 // The lines of data that a text begins with.
-ghost use Rattle.std.specs.Prelude.{◌≡◌, ◌<◌, ◌≤◌, ◌+◌, ◌==◌, ◌&&◌, length, take, drop, IfSome, false, not};
+ghost use Rattle.std.specs.Prelude.{◌≡◌, ◌<◌, ◌≤◌, ◌+◌, length, take, drop, IfSome, false};
 ghost use Rattle.std.specs.Option.{option_map};
-ghost use Rattle.mt_values.specs.Script.{data_ended, data_of, ends_data, line_from, takes_next};
+ghost use Rattle.memchr.specs.Find.{IsFirstByte, is_byte2};
+ghost use Rattle.mt_values.specs.Script.{data_ended, data_of, ends_data, line_from};
 ghost use Rattle.data_lines.specs.Sections.{data_in};
+
+use memchr::memchr2_iter;
 
 /// How much of a text is data.
 #[derive(Clone, Copy)]
@@ -17,18 +20,12 @@ pub struct Extent {
     pub used: usize,
 }
 
-// Whether the byte is a line feed that no backslash takes.
-fn ends_line(taken: bool, byte: u8) -> bool
-    ensures { result ≡ (not taken && byte == 10) }
+// The first place of a line feed or a backslash in a text; none where it has neither.
+fn next_mark(text: &[u8]) -> Option<usize>
+    ensures { IsFirstByte (is_byte2 10 92) text.now result }
 {
-    !taken && byte == b'\n'
-}
-
-/// Whether the byte is a backslash that takes the next byte: it is not itself taken.
-pub fn takes_next(taken: bool, byte: u8) -> bool
-    ensures { result ≡ takes_next taken byte }
-{
-    !taken && byte == b'\\'
+    // The iterator tries the bytes that are near first, and most lines are short.
+    memchr2_iter(b'\n', b'\\', text).next()
 }
 
 /// The place of the line feed that ends the line of data which a text begins with: the first that no backslash takes.
@@ -38,12 +35,17 @@ pub fn line_end(text: &[u8]) -> Option<usize>
         ≡ line_from false text.now }
     ensures within { IfSome result (λ k. k < length text.now) }
 {
-    let mut taken = false;
-    for (at, byte) in text.iter().enumerate() {
-        if ends_line(taken, *byte) {
-            return Some(at);
+    let mut at = 0;
+    'marks: while at < text.len() {
+        let Some(plain) = next_mark(&text[at..]) else {
+            return None;
+        };
+        let mark = at + plain;
+        if text[mark] == b'\n' {
+            return Some(mark);
         }
-        taken = takes_next(taken, *byte);
+        // The backslash takes the byte after it.
+        at = mark + 2;
     }
     None
 }

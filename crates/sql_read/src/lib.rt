@@ -11,7 +11,7 @@ mod productions;
 mod script;
 mod tokens;
 
-pub use data_lines::{line_end, takes_next};
+pub use data_lines::line_end;
 pub use grammar::statement;
 pub use laws::{faults_are_first, whole_statements_stay};
 pub use script::{Next, next_statement};

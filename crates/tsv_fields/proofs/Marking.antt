@@ -8,11 +8,6 @@ use Rattle.mt_values.proofs.Fronts.{parted, parted_none}
 use Rattle.data_lines.proofs.LineParts.{line_more, line_here, line_none}
 use Rattle.tsv_fields.specs.Fields.{pieces_from, EndsRise, EndFields, line_at, line_found, marked}
 
--- it is a line feed, where those are looked for
-pub feed_told : (lines : Bool) (b : ℕ) → (lines && b == 10) ≡ true → (lines ≡ true) × (b ≡ 10)
-feed_told true b told = (refl, grind (arith, nat_tests))
-feed_told false b told = absurd cc
-
 -- ---- one byte more of a line
 
 -- whether the byte after some bytes is taken

@@ -1,19 +1,22 @@
 // The fields of a line, and the value that a field is.
-ghost use Rattle.std.specs.Prelude.{◌≡◌, ◌≢◌, ◌<◌, ◌&&◌, ◌==◌, IfOk, IfSome, Some, length, false, slice_get};
+ghost use Rattle.std.specs.Prelude.{◌≡◌, ◌≢◌, ◌<◌, IfOk, IfSome, Some, length, false, slice_get};
+ghost use Rattle.memchr.specs.Find.{IsFirstByte, is_byte3};
 ghost use Rattle.mt_values.specs.Rows.{fields_from, text_of, value_of_field};
 ghost use Rattle.mt_values.specs.declared.value.ColType.TheVariants as type;
 ghost use Rattle.tsv_fields.specs.Fields.{EndFields, IsValueRead, line_at, line_found, marked, value_or_none};
 
 use crate::numbers::{signed_below, unsigned_up_to};
 use crate::texts::{plain_len, unescape};
+use memchr::memchr3_iter;
 use mt_base::{NoMemory, Stop, TEXT_LIMIT};
 use mt_values::{Cell, ColType, FieldFault};
 
-// Whether the byte is a line feed, where lines are looked for.
-fn is_feed(lines: bool, byte: u8) -> bool
-    ensures { result ≡ (lines && byte == 10) }
+// The first place of a tab, a line feed or a backslash in a text; none where it has none of them.
+fn next_mark(text: &[u8]) -> Option<usize>
+    ensures { IsFirstByte (is_byte3 9 10 92) text.now result }
 {
-    lines && byte == b'\n'
+    // The iterator tries the bytes that are near first, and most fields are short.
+    memchr3_iter(b'\t', b'\n', b'\\', text).next()
 }
 
 /// Puts the places where the fields of a line end in place of what `ends` had. The line is what stands before the first
@@ -33,21 +36,24 @@ pub fn mark_fields(
     ensures fields { IfOk result (λ feed. EndFields (marked text.now feed) ends.new.items) }
 {
     ends.clear();
-    let mut taken = false;
-    for (at, byte) in text.iter().enumerate() {
-        if taken {
-            taken = false;
+    let mut at = 0;
+    'marks: while let Some(plain) = next_mark(&text[at..]) {
+        let mark = at + plain;
+        if text[mark] == b'\\' {
+            // It takes the byte after it.
+            at = (mark + 2).min(text.len());
             continue;
         }
-        if *byte == b'\t' {
-            ends.push(at)?;
+        if text[mark] == b'\t' {
+            ends.push(mark)?;
+            at = mark + 1;
             continue;
         }
-        if is_feed(lines, *byte) {
-            ends.push(at)?;
-            return Ok(Some(at));
+        if lines {
+            ends.push(mark)?;
+            return Ok(Some(mark));
         }
-        taken = *byte == b'\\';
+        at = mark + 1;
     }
     ends.push(text.len())?;
     Ok(None)

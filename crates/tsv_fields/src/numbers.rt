@@ -1,7 +1,10 @@
 // Numbers from the bytes of a field.
-ghost use Rattle.std.specs.Prelude.{◌≡◌, ◌≤◌, ◌<◌, ◌^◌, ◌≤ℤ◌, ◌<ℤ◌, neg_ℤ, pos, IfSome};
+ghost use Rattle.std.specs.Prelude.{◌≡◌, ◌≤◌, ◌<◌, ◌^◌, ◌≤ℤ◌, ◌<ℤ◌, neg_ℤ, pos, IfSome, length};
 ghost use Rattle.mt_values.specs.Rows.{digits_up_to, minus, signed_below, unsigned_up_to};
-ghost use Rattle.tsv_fields.specs.Numbers.{with_digit, IsBelow};
+ghost use Rattle.tsv_fields.specs.Numbers.{number_in, with_digit, IsBelow};
+
+/// So many decimal digits say a number below 2^64, whatever they are.
+const SHORT: usize = 19;
 
 // The number with one more digit; none where the byte is no digit, or where that passes the greatest number.
 fn with_digit(most: u64, number: u64, byte: u8) -> Option<u64>
@@ -18,6 +21,23 @@ fn with_digit(most: u64, number: u64, byte: u8) -> Option<u64>
     Some(longer)
 }
 
+// The number that decimal digits say, at most `SHORT` of them; none where a byte is no digit.
+// Kept out of its caller, in whose loop it would run slower.
+#[inline(never)]
+fn short_number(digits: &[u8]) -> Option<u64>
+    requires { length digits.now ≤ 19 }
+    ensures { result ≡ number_in digits.now }
+{
+    let mut number: u64 = 0;
+    for digit in digits {
+        if !digit.is_ascii_digit() {
+            return None;
+        }
+        number = number * 10 + u64::from(*digit - b'0');
+    }
+    Some(number)
+}
+
 // The number that decimal digits say, up to a greatest one; none where a byte is no digit or there is none.
 #[tactic(auto, using(crate::proofs::Digits::digits_more, crate::proofs::Digits::digits_none))]
 fn digits_up_to(most: u64, digits: &[u8]) -> Option<u64>
@@ -27,12 +47,19 @@ fn digits_up_to(most: u64, digits: &[u8]) -> Option<u64>
     if digits.is_empty() {
         return None;
     }
-    let mut number: u64 = 0;
-    for digit in digits {
+    let first = digits.len().min(SHORT);
+    let Some(mut number) = short_number(&digits[..first]) else {
+        return None;
+    };
+    let rest = &digits[first..];
+    for digit in rest {
         let Some(longer) = with_digit(most, number, *digit) else {
             return None;
         };
         number = longer;
+    }
+    if number > most {
+        return None;
     }
     Some(number)
 }

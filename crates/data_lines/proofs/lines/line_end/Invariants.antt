@@ -1,7 +1,10 @@
-use Rattle.std.proofs.Common.{◌≡◌, take, drop, false}
+use Rattle.std.proofs.Common.{◌≡◌, ◌-◌, length, false}
 use Rattle.mt_values.specs.Script.{line_from}
-use Rattle.mt_values.proofs.Fronts.{parted}
+use Rattle.data_lines.proofs.LineRuns.{line_to}
 use Rattle.data_lines.proofs.lines.line_end.Given as goal
 
-abbrev pub invariant-loop-at : goal.invariant-loop-at
-invariant-loop-at l = parted (take l.at l.text) (line_from l.taken (drop l.at l.text)) ≡ line_from false l.text
+abbrev pub invariant-marks : goal.invariant-marks
+invariant-marks l = line_to l.text l.at ≡ line_from false l.text
+
+abbrev pub decreases-marks : goal.decreases-marks
+decreases-marks l = length l.text - l.at
