@@ -35,12 +35,12 @@ use Rattle.part_reader.specs.declared.reading.PartFault.{PartFault}
 use Rattle.part_reader.specs.declared.reading.PartFault.TheVariants.{Fault, NoMemory, Damaged}
 use Rattle.part_reader.specs.declared.runs.Run.{Run}
 use Rattle.part_reader.specs.Columns.{AreEach}
-use Rattle.part_reader.specs.Faults.{ExplainsEach, IsNoDamage}
-use Rattle.part_reader.specs.Granules.{ExplainsChosen, ExplainsRun, GainsChosen, HoldsValues, IsChosenRun, IsRunDamage, IsRunRead, IsRunless, IsSpanOf, IsSpanRead, PartColumn, chosen_count, chosen_of, column_in, fault_after, place_of, rows_in}
+use Rattle.part_reader.specs.Faults.{ExplainsEach, IsNoDamage, fault_after}
+use Rattle.part_reader.specs.Granules.{ExplainsChosen, ExplainsRun, GainsChosen, HoldsValues, IsChosenRun, IsRunDamage, IsRunRead, IsRunless, IsSpanOf, IsSpanRead, PartColumn, chosen_count, chosen_of, column_in, place_of, rows_in, values_in}
 use Rattle.part_reader.specs.Parts.{HoldsAt, with_columns}
 use Rattle.part_reader.proofs.ChosenItems.{chosen_run, chosen_skip, column_chosen, count_run, run_length, run_since}
 use Rattle.part_reader.proofs.ComparedColumns.{mapped_at}
-use Rattle.part_reader.proofs.Holding.{AreTyped, columns_held, columns_within, each_typed, type_there}
+use Rattle.part_reader.proofs.Holding.{AreTyped, columns_held, columns_within, each_typed, misread_explained, type_there}
 
 -- ---- a run of a column that holds values
 
@@ -82,7 +82,7 @@ module _ (c : PartColumn) (t : ColType) (values : List Value) (h : HoldsValues c
   no_run_damage run Fault within why = tt
   no_run_damage run NoMemory within why = tt
   no_run_damage run (Damaged f place wanted found) within (inl d) =
-      absurd (no_spelling t (rows_in c.loaded run) d.bytes d.place (run_of g run.first run.count values) d.wrong (run_is run d.span d.bytes d.span_is d.read))
+      absurd (no_spelling t (rows_in c.loaded run) d.bytes d.misread.place (run_of g run.first run.count values) d.misread.wrong (run_is run d.span d.bytes d.span_is d.read))
   no_run_damage run (Damaged f place wanted found) within (inr r) =
       absurd (r.none (record { start = granule_start g values run.first; end = granule_start g values (run.first + run.count) })
       (record { start = marks_there run.first (omega (arith, within)); end = marks_there (run.first + run.count) within }))
@@ -98,9 +98,7 @@ run_explained c run t span rows bytes seen shown (format.Malformed place) why at
       span_is = at;
       bytes = bytes;
       read = read;
-      place = place;
-      wrong = subst (λ bs. IsFirstFault t (rows_in c.loaded run) bs place) same (subst (λ n. IsFirstFault t n seen place) many wrong);
-      fault_is = ap (λ bs. fault_after span.start c.loaded.manifest (file.Column c.number) bs (format.Malformed place)) alike;
+      misread = misread_explained (values_in c run t) span.start bytes seen shown place (fault_after span.start c.loaded.manifest (file.Column c.number) shown (format.Malformed place)) same alike (subst (λ n. IsFirstFault t n seen place) many wrong) refl;
     }))
 
 -- ---- run after run

@@ -1,4 +1,4 @@
-//! The parts of tables, opened, checked and read back: each file by its mark in the manifest.
+//! The parts of tables: opened and checked by the marks of the manifest, and the values of their columns read back.
 #![tactic(auto)]
 
 mod checking;

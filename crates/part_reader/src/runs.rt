@@ -2,15 +2,14 @@
 ghost use Rattle.std.specs.Prelude.{◌≡◌, ◌≢◌, ◌≤◌, ◌<◌, ◌+◌, ◌^◌, IfErr, IsErrOf, MatchOption, OnOk, length};
 ghost use Rattle.mt_base.specs.declared.name.FileId.TheVariants as file;
 ghost use Rattle.mt_outside.specs.Causes.{Rose};
-ghost use Rattle.part_reader.specs.Granules.{ExplainsRun, FitsAfter, IsRunRead, IsSpanOf, column_in, fault_after, no_run, place_of, rows_in, wanted_of};
+ghost use Rattle.part_reader.specs.Granules.{ExplainsRun, IsRunRead, IsSpanOf, column_in, no_run, place_of, rows_in};
 
 use crate::files::{Span, read_span};
-use crate::marked::mark_at;
-use crate::reading::{NO_MARK, Part, PartFault};
-use column_file::{FormatFault, decode_onto};
-use digest_file::mark_of;
+use crate::marked::{misread, wanted_of};
+use crate::reading::{Part, PartFault};
+use column_file::decode_onto;
 use mt_outside::Arm;
-use mt_values::{ColumnData, FileId, FileMark, Manifest};
+use mt_values::{ColumnData, FileId, Manifest};
 use part_writer::Loaded;
 use primary_marks::Places;
 use std::alloc::Global;
@@ -90,28 +89,6 @@ fn row_count(loaded: &Loaded, run: Run) -> usize
     granularity.saturating_mul(run.count).min(rows)
 }
 
-/// What an error says of bytes that were read from a place of a file.
-fn misread(
-    manifest: &Manifest,
-    file: FileId,
-    start: u64,
-    bytes: &[u8],
-    error: FormatFault,
-) -> PartFault
-    requires { FitsAfter start error }
-    ensures { result ≡ fault_after start manifest.now file bytes.now error }
-{
-    match error {
-        FormatFault::NoMemory => PartFault::NoMemory,
-        FormatFault::Malformed { place } => PartFault::Damaged {
-            file,
-            place: start + place,
-            wanted: wanted_of(manifest, file),
-            found: mark_of(bytes),
-        },
-    }
-}
-
 /// What is said where the places that are kept have no run that was to be read.
 fn unplaced(manifest: &Manifest) -> PartFault
     ensures { result ≡ no_run manifest.now }
@@ -122,15 +99,5 @@ fn unplaced(manifest: &Manifest) -> PartFault
         place: 0,
         wanted: mark,
         found: mark,
-    }
-}
-
-/// The mark that the manifest has of a file, or `NO_MARK` where it has none.
-fn wanted_of(manifest: &Manifest, file: FileId) -> FileMark
-    ensures { result ≡ wanted_of manifest.now file }
-{
-    match mark_at(manifest, file) {
-        Some(mark) => mark,
-        None => NO_MARK,
     }
 }
