@@ -114,3 +114,18 @@ pub record ExplainsEach (Explains : ℕ → ColType → PartFault → Type 0) (p
   pub number_is : slice_get places at ≡ Some number
   pub column_is : slice_get columns at ≡ Some column
   pub explained : Explains number column.col_type fault
+
+-- damage of one of the columns at these places, each of which was read as one of its type
+pub record IsDamageAt (Explains : ℕ → ColType → PartFault → Type 0) (types : List ColType) (places : List ℕ) (damage : PartFault) : Type 0 where
+  pub at : ℕ
+  pub number : ℕ
+  pub col_type : ColType
+  pub number_is : slice_get places at ≡ Some number
+  pub type_is : slice_get types number ≡ Some col_type
+  pub explained : Explains number col_type damage
+
+-- what a fault says of columns that were read at these places
+abbrev pub ExplainsAt : (ℕ → ColType → PartFault → Type 0) → List ColType → List ℕ → PartFault → Type 0
+ExplainsAt Explains types places Fault = ⊤
+ExplainsAt Explains types places NoMemory = ⊤
+ExplainsAt Explains types places (Damaged f place wanted found) = IsDamageAt Explains types places (Damaged f place wanted found)

@@ -4,6 +4,7 @@
 mod checking;
 mod comparing;
 mod copies;
+mod cut_rows;
 mod files;
 mod granules;
 mod laws;
@@ -14,7 +15,7 @@ mod runs;
 
 pub use checking::check_part;
 pub use files::{Span, read_file};
-pub use granules::add_granules;
+pub use granules::{add_granules, read_granules};
 pub use laws::{damage_is_one_file, parts_hold_what_was_written, sound_parts_hold_rows};
 pub use opening::open_part;
 pub use reading::{NO_MARK, Part, PartFault, read_columns};

@@ -80,7 +80,7 @@ fn place_of(places: &Places, number: u32, granule: usize) -> Option<u64>
 }
 
 /// How many rows a run has.
-fn row_count(loaded: &Loaded, run: Run) -> usize
+pub fn row_count(loaded: &Loaded, run: Run) -> usize
     ensures { result ≡ rows_in loaded.now run }
 {
     let granularity = loaded.schema.granularity as usize;
