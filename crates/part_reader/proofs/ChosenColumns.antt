@@ -36,7 +36,7 @@ use Rattle.part_reader.specs.declared.reading.PartFault.TheVariants.{Fault, NoMe
 use Rattle.part_reader.specs.declared.runs.Run.{Run}
 use Rattle.part_reader.specs.Columns.{AreEach}
 use Rattle.part_reader.specs.Faults.{ExplainsEach, IsNoDamage, fault_after}
-use Rattle.part_reader.specs.Granules.{ExplainsChosen, ExplainsRun, GainsChosen, HoldsValues, IsChosenRun, IsRunDamage, IsRunRead, IsRunless, IsSpanOf, IsSpanRead, PartColumn, chosen_count, chosen_of, column_in, place_of, rows_in, values_in}
+use Rattle.part_reader.specs.Granules.{ExplainsChosen, ExplainsRun, GainsChosen, HoldsValues, IsChosenRun, IsRunAdded, IsRunDamage, IsRunRead, IsRunless, IsSpanOf, IsSpanRead, PartColumn, chosen_count, chosen_of, column_in, place_of, rows_in, values_in}
 use Rattle.part_reader.specs.Parts.{HoldsAt, with_columns}
 use Rattle.part_reader.proofs.ChosenItems.{chosen_run, chosen_skip, column_chosen, count_run, run_length, run_since}
 use Rattle.part_reader.proofs.ComparedColumns.{mapped_at}
@@ -130,6 +130,13 @@ module _ (c : PartColumn) (chosen : List Bool) where
             (append_assoc old.values (chosen_of size (take run.first chosen) values) (run_of size run.first run.count values) ∙ ap (λ (vs : List Value). old.values ++ vs) (sym (chosen_run size chosen run values is)));
       }
 
+  -- the same of a run that may be empty
+  pub gains_added : (run : Run) (old now new : Cells) → GainsChosen c (take run.first chosen) old now → IsRunAdded c run now new → IsChosenRun chosen run → GainsChosen c (take (run.first + run.count) chosen) old new
+  gains_added run old now new before (inr read) is = gains_run run old now new before read is
+  gains_added run old now new before (inl empty) is =
+      let none : run.count ≡ 0 = empty.0 in
+      subst (λ (x : Cells). GainsChosen c (take (run.first + run.count) chosen) old x) (sym empty.1) (subst (λ n. GainsChosen c (take n chosen) old now) (omega (arith, none)) before)
+
   pub gains_skip : (granule : ℕ) (old new : Cells) → granule < length chosen → get_or chosen granule false ≡ false → GainsChosen c (take granule chosen) old new → GainsChosen c (take (granule + 1) chosen) old new
   gains_skip granule old new below not before = record {
     col_type = before.col_type;
@@ -139,21 +146,21 @@ module _ (c : PartColumn) (chosen : List Bool) where
 
   -- up to a granule that is not chosen
   pub gains_over : (first granule : ℕ) (old now new : Cells) → first ≤ granule → granule < length chosen → get_or chosen granule false ≡ false → take granule chosen ≡ take first chosen ++ replicate (granule - first) true → GainsChosen c (take first chosen) old now
-      → IsRunRead c (record { first = first; count = granule - first }) now new → GainsChosen c (take (granule + 1) chosen) old new
+      → IsRunAdded c (record { first = first; count = granule - first }) now new → GainsChosen c (take (granule + 1) chosen) old new
   gains_over first granule old now new before below not run gained read =
       let this : Run = record { first = first; count = granule - first } in
       let is : IsChosenRun chosen this = run_since chosen this granule before (omega (arith, below)) refl run in
-      gains_skip granule old new below not (subst (λ n. GainsChosen c (take n chosen) old new) (omega (arith, before)) (gains_run this old now new gained read is))
+      gains_skip granule old new below not (subst (λ n. GainsChosen c (take n chosen) old new) (omega (arith, before)) (gains_added this old now new gained read is))
 
   -- up to the last one
   pub gains_last : (first granule count : ℕ) (old now new : Cells) (result : Result (Unit {0}) PartFault) → first ≤ granule → granule ≡ length chosen → count ≡ granule - first → take granule chosen ≡ take first chosen ++ replicate (granule - first) true → GainsChosen c (take first chosen) old now
-      → OnOk result (IsRunRead c (record { first = first; count = count }) now new) → OnOk result (GainsChosen c chosen old new)
+      → OnOk result (IsRunAdded c (record { first = first; count = count }) now new) → OnOk result (GainsChosen c chosen old new)
   gains_last first granule count old now new (Err e) before end counted run gained read = tt
   gains_last first granule count old now new (Ok x) before end counted run gained read =
       let this : Run = record { first = first; count = count } in
       let is : IsChosenRun chosen this = run_since chosen this granule before (omega (arith, end)) counted run in
       let all : take (first + count) chosen ≡ chosen = take_all (first + count) chosen (omega (arith, before, end, counted)) in
-      subst (λ (cs : List Bool). GainsChosen c cs old new) all (gains_run this old now new gained read is)
+      subst (λ (cs : List Bool). GainsChosen c cs old new) all (gains_added this old now new gained read is)
 
 -- ---- columns of a part that holds rows
 

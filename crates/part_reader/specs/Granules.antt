@@ -72,6 +72,10 @@ pub record IsRunRead (c : PartColumn) (run : Run) (old new : Cells) : Type 0 whe
   pub read : IsSpanRead c span bytes
   pub gained : GainsAll (rows_in c.loaded run) bytes old new
 
+-- a column got what a run has, and of one without granules nothing
+abbrev pub IsRunAdded : PartColumn → Run → Cells → Cells → Type 0
+IsRunAdded c run old new = ((run.count ≡ 0) × (new ≡ old)) ⊎ IsRunRead c run old new
+
 -- ---- damage
 
 -- what is said of the places where they have no such run

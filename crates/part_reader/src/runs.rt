@@ -2,7 +2,7 @@
 ghost use Rattle.std.specs.Prelude.{◌≡◌, ◌≢◌, ◌≤◌, ◌<◌, ◌+◌, ◌^◌, IfErr, IsErrOf, MatchOption, OnOk, length};
 ghost use Rattle.mt_base.specs.declared.name.FileId.TheVariants as file;
 ghost use Rattle.mt_outside.specs.Causes.{Rose};
-ghost use Rattle.part_reader.specs.Granules.{ExplainsRun, IsRunRead, IsSpanOf, column_in, no_run, place_of, rows_in};
+ghost use Rattle.part_reader.specs.Granules.{ExplainsRun, IsRunAdded, IsSpanOf, column_in, no_run, place_of, rows_in};
 
 use crate::files::{Span, read_span};
 use crate::marked::{misread, wanted_of};
@@ -21,7 +21,8 @@ pub struct Run {
     pub count: usize,
 }
 
-/// Adds the values that the rows of a run have in the part's column with this number to a column. The bytes of the run alone are read.
+/// Adds the values that the rows of a run have in the part's column with this number to a column. The bytes of the run alone are read;
+/// an empty run is not looked up, and nothing is read.
 ///
 /// `Damaged` where the places that are kept have no such run, or the bytes are no spelling of a value for each of its rows;
 /// `Fault` only where the arm's count rose in this call; `NoMemory` where an allocation failed. After an error some of the values
@@ -36,7 +37,7 @@ pub fn add_run<R: Arm>(
 ) -> Result<(), PartFault>
     requires { run.first + run.count < 2 ^ 64 }
     ensures read { OnOk result
-        (IsRunRead (column_in R.Dir.files part.now number) run column.old column.new) }
+        (IsRunAdded (column_in R.Dir.files part.now number) run column.old column.new) }
     ensures damaged { IfErr result
         (ExplainsRun (column_in R.Dir.files part.now number) run column.old.col_type) }
 
@@ -46,6 +47,9 @@ pub fn add_run<R: Arm>(
     ensures fault { IsErrOf result PartFault.Fault → Rose (R.failed arm.old) (R.failed arm.new) }
     ensures calm { (IsErrOf result PartFault.Fault → ⊥) → R.failed arm.new ≡ R.failed arm.old }
 {
+    if run.count == 0 {
+        return Ok(());
+    }
     let manifest = &part.loaded.manifest;
     let Some(span) = span_of(&part.loaded.places, number, run) else {
         return Err(unplaced(manifest));
