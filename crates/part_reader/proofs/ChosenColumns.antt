@@ -1,19 +1,18 @@
 -- Columns that get the values of chosen granules, run by run.
-use Rattle.std.proofs.Common.{◌≡◌, ℕ, zero, suc, ◌+◌, ◌-◌, ◌*◌, ◌<◌, ◌≤◌, inl, inr, min, Bool, true, false, List, [], ◌∷◌, ◌++◌, Option, Some, refl, sym, ap, ap₂, ◌∙◌, subst, length, length-append, take, drop, get_or, map, slice_get, slice_range, filter_map, All, arith, append_assoc, append-nil, replicate, Result, Ok, Err, OnOk}
+use Rattle.std.proofs.Common.{◌≡◌, ℕ, ◌+◌, ◌-◌, ◌*◌, ◌<◌, ◌≤◌, inl, inr, Bool, true, false, List, [], ◌∷◌, ◌++◌, Option, Some, refl, sym, ap, ap₂, ◌∙◌, subst, length, length-append, take, get_or, map, slice_get, slice_range, filter_map, All, arith, append_assoc, append-nil, replicate, Result, Ok, Err, OnOk}
 use Rattle.std.specs.Int.{div_ceil}
-use Rattle.std.specs.List.{AllZip, range_with_len}
+use Rattle.std.specs.List.{range_with_len}
 use Rattle.std.specs.Option.{option_and_then}
 use Rattle.std.proofs.lemmas.List.{take_all}
 use Rattle.std.proofs.lemmas.List.Elements.{All-nil, All-cons, All-head, All-tail}
 use Rattle.std.proofs.lemmas.List.FromFn.{length-map-range_with_len}
 use Rattle.std.proofs.lemmas.Option.{get_or_from_slice_get, same_Some, slice_get_within}
 use Rattle.mt_base.specs.declared.name.FileId.TheVariants as file
-use Rattle.mt_values.specs.declared.manifest.Manifest.{Manifest}
 use Rattle.mt_values.specs.declared.schema.Schema.{Schema}
 use Rattle.mt_values.specs.declared.value.ColType.{ColType}
 use Rattle.mt_values.specs.declared.value.Value.{Value}
 use Rattle.mt_values.specs.ColumnBytes.{column_bytes}
-use Rattle.mt_values.specs.Grid.{AreRowsOf, Cells, column_of}
+use Rattle.mt_values.specs.Grid.{Cells, column_of}
 use Rattle.mt_values.specs.Schemas.{column_types}
 use Rattle.mt_values.specs.Values.{Row}
 use Rattle.mt_outside.specs.Files.{Files, bytes_of}
@@ -26,7 +25,6 @@ use Rattle.column_file.specs.Spellings.{IsSpelling, with_values}
 use Rattle.column_file.proofs.Marked.{run_spelled}
 use Rattle.column_file.proofs.OneWay.{no_spelling}
 use Rattle.column_file.proofs.Reading.{gained_spelled}
-use Rattle.part_writer.specs.PartFiles.{loaded_of}
 use Rattle.part_writer.specs.declared.loaded.Loaded.{Loaded}
 use Rattle.part_damage.proofs.SpelledRows.{column_spelled, types_length}
 use Rattle.part_reader.specs.declared.files.Span.{Span}
@@ -36,7 +34,7 @@ use Rattle.part_reader.specs.declared.reading.PartFault.TheVariants.{Fault, NoMe
 use Rattle.part_reader.specs.declared.runs.Run.{Run}
 use Rattle.part_reader.specs.Columns.{AreEach}
 use Rattle.part_reader.specs.Faults.{ExplainsEach, IsNoDamage, fault_after}
-use Rattle.part_reader.specs.Granules.{ExplainsChosen, ExplainsRun, GainsChosen, HoldsValues, IsChosenRun, IsRunAdded, IsRunDamage, IsRunRead, IsRunless, IsSpanOf, IsSpanRead, PartColumn, chosen_count, chosen_of, column_in, place_of, rows_in, values_in}
+use Rattle.part_reader.specs.Granules.{ExplainsChosen, ExplainsRun, GainsChosen, HoldsValues, IsChosenRun, IsRunAdded, IsRunRead, IsSpanOf, IsSpanRead, PartColumn, chosen_count, chosen_of, column_in, place_of, rows_in, values_in}
 use Rattle.part_reader.specs.Parts.{HoldsAt, with_columns}
 use Rattle.part_reader.proofs.ChosenItems.{chosen_run, chosen_skip, column_chosen, count_run, run_length, run_since}
 use Rattle.part_reader.proofs.ComparedColumns.{mapped_at}

@@ -1,5 +1,5 @@
 -- Rows that columns make, cut to the columns at some places.
-use Rattle.std.proofs.Common.{◌≡◌, ℕ, zero, suc, ◌+◌, ◌<◌, ◌≤◌, Bool, true, false, List, [], ◌∷◌, ◌++◌, refl, sym, ap, ap₂, ◌∙◌, subst, arith, length, get_or, take, drop, replicate, map, slice_get, filter_map, option_and_then, All, min, ◌-◌, ◌*◌, Option, Some, zero-add, length-append, length-drop, length-take}
+use Rattle.std.proofs.Common.{◌≡◌, ℕ, suc, ◌+◌, ◌<◌, Bool, true, false, List, [], ◌∷◌, ◌++◌, refl, sym, ap, ap₂, ◌∙◌, arith, length, get_or, take, drop, map, slice_get, filter_map, option_and_then, All, min, ◌-◌, ◌*◌, Option, Some, zero-add}
 use Rattle.std.specs.List.{cons_option, range_with_len}
 use Rattle.std.specs.Option.{option_map}
 use Rattle.std.proofs.lemmas.List.{length-map, map-append, take_at, take_more}
@@ -20,9 +20,8 @@ use Rattle.part_writer.specs.declared.loaded.Loaded.{Loaded}
 use Rattle.part_reader.specs.declared.reading.Part.{Part}
 use Rattle.part_reader.specs.declared.reading.PartFault.{PartFault}
 use Rattle.part_reader.specs.declared.reading.PartFault.TheVariants.{Fault, NoMemory, Damaged}
-use Rattle.part_reader.specs.declared.runs.Run.{Run}
 use Rattle.part_reader.specs.Faults.{ExplainsAt, ExplainsEach}
-use Rattle.part_reader.specs.Granules.{IsChosenRun, chosen_count, chosen_of}
+use Rattle.part_reader.specs.Granules.{chosen_count, chosen_of}
 use Rattle.part_reader.specs.Parts.{HoldsAt, with_columns}
 use Rattle.part_reader.proofs.ChosenItems.{chosen_length, chosen_skip, count_run}
 use Rattle.part_reader.proofs.Holding.{columns_within, each_typed, type_there}
