@@ -1,19 +1,18 @@
 -- Columns that get the values of chosen granules, run by run.
-use Rattle.std.proofs.Common.{◌≡◌, ℕ, zero, suc, ◌+◌, ◌-◌, ◌*◌, ◌<◌, ◌≤◌, inl, inr, min, Bool, true, false, List, [], ◌∷◌, ◌++◌, Option, Some, refl, sym, ap, ap₂, ◌∙◌, subst, length, length-append, take, drop, get_or, map, slice_get, slice_range, filter_map, All, arith, append_assoc, append-nil, replicate, Result, Ok, Err, OnOk}
+use Rattle.std.proofs.Common.{◌≡◌, ℕ, ◌+◌, ◌-◌, ◌*◌, ◌<◌, ◌≤◌, inl, inr, Bool, true, false, List, [], ◌∷◌, ◌++◌, Option, Some, refl, sym, ap, ap₂, ◌∙◌, subst, length, length-append, take, get_or, map, slice_get, slice_range, filter_map, All, arith, append_assoc, append-nil, replicate, Result, Ok, Err, OnOk}
 use Rattle.std.specs.Int.{div_ceil}
-use Rattle.std.specs.List.{AllZip, range_with_len}
+use Rattle.std.specs.List.{range_with_len}
 use Rattle.std.specs.Option.{option_and_then}
 use Rattle.std.proofs.lemmas.List.{take_all}
 use Rattle.std.proofs.lemmas.List.Elements.{All-nil, All-cons, All-head, All-tail}
 use Rattle.std.proofs.lemmas.List.FromFn.{length-map-range_with_len}
 use Rattle.std.proofs.lemmas.Option.{get_or_from_slice_get, same_Some, slice_get_within}
 use Rattle.mt_base.specs.declared.name.FileId.TheVariants as file
-use Rattle.mt_values.specs.declared.manifest.Manifest.{Manifest}
 use Rattle.mt_values.specs.declared.schema.Schema.{Schema}
 use Rattle.mt_values.specs.declared.value.ColType.{ColType}
 use Rattle.mt_values.specs.declared.value.Value.{Value}
 use Rattle.mt_values.specs.ColumnBytes.{column_bytes}
-use Rattle.mt_values.specs.Grid.{AreRowsOf, Cells, column_of}
+use Rattle.mt_values.specs.Grid.{Cells, column_of}
 use Rattle.mt_values.specs.Schemas.{column_types}
 use Rattle.mt_values.specs.Values.{Row}
 use Rattle.mt_outside.specs.Files.{Files, bytes_of}
@@ -26,7 +25,6 @@ use Rattle.column_file.specs.Spellings.{IsSpelling, with_values}
 use Rattle.column_file.proofs.Marked.{run_spelled}
 use Rattle.column_file.proofs.OneWay.{no_spelling}
 use Rattle.column_file.proofs.Reading.{gained_spelled}
-use Rattle.part_writer.specs.PartFiles.{loaded_of}
 use Rattle.part_writer.specs.declared.loaded.Loaded.{Loaded}
 use Rattle.part_damage.proofs.SpelledRows.{column_spelled, types_length}
 use Rattle.part_reader.specs.declared.files.Span.{Span}
@@ -35,12 +33,12 @@ use Rattle.part_reader.specs.declared.reading.PartFault.{PartFault}
 use Rattle.part_reader.specs.declared.reading.PartFault.TheVariants.{Fault, NoMemory, Damaged}
 use Rattle.part_reader.specs.declared.runs.Run.{Run}
 use Rattle.part_reader.specs.Columns.{AreEach}
-use Rattle.part_reader.specs.Faults.{ExplainsEach, IsNoDamage}
-use Rattle.part_reader.specs.Granules.{ExplainsChosen, ExplainsRun, GainsChosen, HoldsValues, IsChosenRun, IsRunDamage, IsRunRead, IsRunless, IsSpanOf, IsSpanRead, PartColumn, chosen_count, chosen_of, column_in, fault_after, place_of, rows_in}
+use Rattle.part_reader.specs.Faults.{ExplainsEach, IsNoDamage, fault_after}
+use Rattle.part_reader.specs.Granules.{ExplainsChosen, ExplainsRun, GainsChosen, HoldsValues, IsChosenRun, IsRunAdded, IsRunRead, IsSpanOf, IsSpanRead, PartColumn, chosen_count, chosen_of, column_in, place_of, rows_in, values_in}
 use Rattle.part_reader.specs.Parts.{HoldsAt, with_columns}
 use Rattle.part_reader.proofs.ChosenItems.{chosen_run, chosen_skip, column_chosen, count_run, run_length, run_since}
 use Rattle.part_reader.proofs.ComparedColumns.{mapped_at}
-use Rattle.part_reader.proofs.Holding.{AreTyped, columns_held, columns_within, each_typed, type_there}
+use Rattle.part_reader.proofs.Holding.{AreTyped, columns_held, columns_within, each_typed, misread_explained, type_there}
 
 -- ---- a run of a column that holds values
 
@@ -82,7 +80,7 @@ module _ (c : PartColumn) (t : ColType) (values : List Value) (h : HoldsValues c
   no_run_damage run Fault within why = tt
   no_run_damage run NoMemory within why = tt
   no_run_damage run (Damaged f place wanted found) within (inl d) =
-      absurd (no_spelling t (rows_in c.loaded run) d.bytes d.place (run_of g run.first run.count values) d.wrong (run_is run d.span d.bytes d.span_is d.read))
+      absurd (no_spelling t (rows_in c.loaded run) d.bytes d.misread.place (run_of g run.first run.count values) d.misread.wrong (run_is run d.span d.bytes d.span_is d.read))
   no_run_damage run (Damaged f place wanted found) within (inr r) =
       absurd (r.none (record { start = granule_start g values run.first; end = granule_start g values (run.first + run.count) })
       (record { start = marks_there run.first (omega (arith, within)); end = marks_there (run.first + run.count) within }))
@@ -98,9 +96,7 @@ run_explained c run t span rows bytes seen shown (format.Malformed place) why at
       span_is = at;
       bytes = bytes;
       read = read;
-      place = place;
-      wrong = subst (λ bs. IsFirstFault t (rows_in c.loaded run) bs place) same (subst (λ n. IsFirstFault t n seen place) many wrong);
-      fault_is = ap (λ bs. fault_after span.start c.loaded.manifest (file.Column c.number) bs (format.Malformed place)) alike;
+      misread = misread_explained (values_in c run t) span.start bytes seen shown place (fault_after span.start c.loaded.manifest (file.Column c.number) shown (format.Malformed place)) same alike (subst (λ n. IsFirstFault t n seen place) many wrong) refl;
     }))
 
 -- ---- run after run
@@ -132,6 +128,13 @@ module _ (c : PartColumn) (chosen : List Bool) where
             (append_assoc old.values (chosen_of size (take run.first chosen) values) (run_of size run.first run.count values) ∙ ap (λ (vs : List Value). old.values ++ vs) (sym (chosen_run size chosen run values is)));
       }
 
+  -- the same of a run that may be empty
+  pub gains_added : (run : Run) (old now new : Cells) → GainsChosen c (take run.first chosen) old now → IsRunAdded c run now new → IsChosenRun chosen run → GainsChosen c (take (run.first + run.count) chosen) old new
+  gains_added run old now new before (inr read) is = gains_run run old now new before read is
+  gains_added run old now new before (inl empty) is =
+      let none : run.count ≡ 0 = empty.0 in
+      subst (λ (x : Cells). GainsChosen c (take (run.first + run.count) chosen) old x) (sym empty.1) (subst (λ n. GainsChosen c (take n chosen) old now) (omega (arith, none)) before)
+
   pub gains_skip : (granule : ℕ) (old new : Cells) → granule < length chosen → get_or chosen granule false ≡ false → GainsChosen c (take granule chosen) old new → GainsChosen c (take (granule + 1) chosen) old new
   gains_skip granule old new below not before = record {
     col_type = before.col_type;
@@ -141,21 +144,21 @@ module _ (c : PartColumn) (chosen : List Bool) where
 
   -- up to a granule that is not chosen
   pub gains_over : (first granule : ℕ) (old now new : Cells) → first ≤ granule → granule < length chosen → get_or chosen granule false ≡ false → take granule chosen ≡ take first chosen ++ replicate (granule - first) true → GainsChosen c (take first chosen) old now
-      → IsRunRead c (record { first = first; count = granule - first }) now new → GainsChosen c (take (granule + 1) chosen) old new
+      → IsRunAdded c (record { first = first; count = granule - first }) now new → GainsChosen c (take (granule + 1) chosen) old new
   gains_over first granule old now new before below not run gained read =
       let this : Run = record { first = first; count = granule - first } in
       let is : IsChosenRun chosen this = run_since chosen this granule before (omega (arith, below)) refl run in
-      gains_skip granule old new below not (subst (λ n. GainsChosen c (take n chosen) old new) (omega (arith, before)) (gains_run this old now new gained read is))
+      gains_skip granule old new below not (subst (λ n. GainsChosen c (take n chosen) old new) (omega (arith, before)) (gains_added this old now new gained read is))
 
   -- up to the last one
   pub gains_last : (first granule count : ℕ) (old now new : Cells) (result : Result (Unit {0}) PartFault) → first ≤ granule → granule ≡ length chosen → count ≡ granule - first → take granule chosen ≡ take first chosen ++ replicate (granule - first) true → GainsChosen c (take first chosen) old now
-      → OnOk result (IsRunRead c (record { first = first; count = count }) now new) → OnOk result (GainsChosen c chosen old new)
+      → OnOk result (IsRunAdded c (record { first = first; count = count }) now new) → OnOk result (GainsChosen c chosen old new)
   gains_last first granule count old now new (Err e) before end counted run gained read = tt
   gains_last first granule count old now new (Ok x) before end counted run gained read =
       let this : Run = record { first = first; count = count } in
       let is : IsChosenRun chosen this = run_since chosen this granule before (omega (arith, end)) counted run in
       let all : take (first + count) chosen ≡ chosen = take_all (first + count) chosen (omega (arith, before, end, counted)) in
-      subst (λ (cs : List Bool). GainsChosen c cs old new) all (gains_run this old now new gained read is)
+      subst (λ (cs : List Bool). GainsChosen c cs old new) all (gains_added this old now new gained read is)
 
 -- ---- columns of a part that holds rows
 

@@ -1,13 +1,12 @@
 -- Parts that hold rows: the files that were written are theirs, and nothing of them is damaged.
-use Rattle.std.proofs.Common.{◌≡◌, ℕ, zero, suc, ◌+◌, ◌<◌, inl, inr, List, [], ◌∷◌, Option, Some, sym, ap, ◌∙◌, subst, length, map, get_or, slice_get, filter_map, All, arith, IsSomeAnd, MatchOption}
+use Rattle.std.proofs.Common.{◌≡◌, ℕ, zero, suc, ◌+◌, ◌<◌, List, [], ◌∷◌, Option, Some, refl, sym, ap, ◌∙◌, subst, length, map, get_or, slice_get, filter_map, All, arith, IsSomeAnd, MatchOption}
 use Rattle.std.specs.List.{AllZip, cons_option}
-use Rattle.std.specs.Option.{option_map}
+use Rattle.std.specs.Option.{ForSome, option_map}
 use Rattle.std.proofs.lemmas.List.{length-map, get_or-map}
 use Rattle.std.proofs.lemmas.List.Elements.{All-head, All-map, All-tail}
 use Rattle.std.proofs.lemmas.Option.{get_or_from_slice_get, same_Some, slice_get-get_or, slice_get-map, slice_get_within}
 use Rattle.std.proofs.lemmas.Slice.Zip.{AllZip-right}
 use Rattle.sha2.specs.Sha256.{sha256}
-use Rattle.mt_values.specs.declared.manifest.FileMark.{FileMark}
 use Rattle.mt_values.specs.declared.manifest.Manifest.{Manifest}
 use Rattle.mt_base.specs.declared.name.FileId.{FileId}
 use Rattle.mt_base.specs.declared.name.FileId.TheVariants as file
@@ -21,7 +20,9 @@ use Rattle.mt_values.specs.Manifests.{manifest_bytes}
 use Rattle.mt_values.specs.Schemas.{column_types}
 use Rattle.mt_values.specs.Values.{FitsType, Row}
 use Rattle.mt_outside.specs.Files.{Files, bytes_of}
-use Rattle.column_file.specs.Faults.{IsFirstFault}
+use Rattle.byte_numbers.specs.declared.faults.FormatFault.{FormatFault}
+use Rattle.byte_numbers.specs.declared.faults.FormatFault.TheVariants as format
+use Rattle.column_file.specs.Faults.{Explains, IsFirstFault}
 use Rattle.column_file.proofs.OneWay.{no_spelling}
 use Rattle.digest_file.specs.Spellings.{IsManifestOf}
 use Rattle.part_writer.specs.PartFiles.{IsContent, all_synced, content_bytes, content_ids, files_of_part, loaded_of, manifest_of, mark_of, with_bytes}
@@ -31,7 +32,7 @@ use Rattle.part_writer.proofs.Folders.{bytes_at, content_held, manifest_held, se
 use Rattle.part_reader.specs.declared.reading.PartFault.{PartFault}
 use Rattle.part_reader.specs.declared.reading.PartFault.TheVariants.{Fault, NoMemory, Damaged}
 use Rattle.part_reader.specs.declared.reading.Part.{Part}
-use Rattle.part_reader.specs.Faults.{ExplainsPart, IsDamage, IsNoDamage, IsRefused}
+use Rattle.part_reader.specs.Faults.{ExplainsColumn, ExplainsEach, IsColumnDamage, IsMisread, IsNoDamage, WantedValues, fault_after}
 use Rattle.part_damage.specs.Marks.{mark_for}
 use Rattle.part_reader.specs.Parts.{FolderHolds, HoldsAt, PartHolds}
 use Rattle.part_damage.proofs.SpelledRows.{column_spelled}
@@ -141,29 +142,41 @@ type_there types places columns at number column typed number_is column_is =
     let this = subst (λ (o : Option Cells). MatchOption o (Unit {0}) (λ c. IsSomeAnd (slice_get places at) (λ p. Typed p c))) column_is there in
     subst (λ (o : Option ℕ). IsSomeAnd o (λ p. Typed p column)) number_is this
 
-no_damage : (told : Option Files) (files : Files) (manifest : Manifest) (schema : Schema) (rows : List Row) (number : ℕ) (t : ColType) (f : FileId) (place : ℕ) (wanted found : FileMark) → told ≡ Some files → bytes_of (file.Column number) files ≡ column_bytes (column_of number rows)
-    → manifest ≡ manifest_of schema rows → AreRowsOf (column_types schema) rows → All (λ (row : Row). All FitsType row) rows → slice_get (column_types schema) number ≡ Some t → IsDamage told manifest (file.Column number) (IsFirstFault t manifest.rows) (Damaged f place wanted found) → ⊥
-no_damage told files manifest schema rows number t f place wanted found known held is typed fit here damage =
-    let bytes = column_bytes (column_of number rows) in
-    let same : damage.bytes ≡ bytes = damage.read files known ∙ held in
-    let below : number < length (column_types schema) = slice_get_within (column_types schema) number t here in
-    let mark : mark_for manifest (file.Column number) ≡ Some (mark_of bytes) =
-    ap (λ (m : Manifest). mark_for m (file.Column number)) is ∙ mark_held schema rows (file.Column number) (omega (arith, length-map schema.columns (λ (c : Column). c.col_type))) in
-    let refused : IsRefused (Some (mark_of bytes)) (IsFirstFault t manifest.rows damage.bytes) damage.bytes place wanted =
-    subst (λ (o : Option FileMark). IsRefused o (IsFirstFault t manifest.rows damage.bytes) damage.bytes place wanted) mark damage.explained.2 in
-    elim refused.1 [
-      | inl other ↦ other.0 (ap mark_of (sym same))
-      | inr wrong ↦ no_spelling t manifest.rows damage.bytes place (column_of number rows) wrong.1
-          (column_spelled (column_types schema) rows number t manifest.rows damage.bytes here typed fit (ap (λ (m : Manifest). m.rows) is) same)
-    ]
+-- nothing of a column that holds rows goes wrong
+no_damage : (told : Option Files) (files : Files) (schema : Schema) (rows : List Row) (w : WantedValues) (damage : PartFault) → told ≡ Some files → bytes_of (file.Column w.number) files ≡ column_bytes (column_of w.number rows)
+    → w.count ≡ length rows → AreRowsOf (column_types schema) rows → All (λ (row : Row). All FitsType row) rows → slice_get (column_types schema) w.number ≡ Some w.col_type → IsColumnDamage told w damage → ⊥
+no_damage told files schema rows w damage known held counted typed fit here d =
+    no_spelling w.col_type w.count d.bytes d.misread.place (column_of w.number rows) d.misread.wrong
+    (column_spelled (column_types schema) rows w.number w.col_type w.count d.bytes here typed fit counted (d.read files known ∙ held))
 
 pub sound_part : {F : Type 0} (files_of : F → Option Files) (schema : Schema) (part : Part F) (places : List ℕ) (rows : List Row) (columns : List Cells) (fault : PartFault) → HoldsAt files_of schema part (map file.Column places) rows
-    → map (λ (c : Cells). c.col_type) columns ≡ filter_map (slice_get (column_types schema)) places → ExplainsPart (files_of part.dir) part.loaded.manifest places columns fault → IsNoDamage fault
+    → map (λ (c : Cells). c.col_type) columns ≡ filter_map (slice_get (column_types schema)) places → ExplainsEach (ExplainsColumn (files_of part.dir) part.loaded.manifest) places columns fault → IsNoDamage fault
 sound_part files_of schema part places rows columns Fault h typed why = tt
 sound_part files_of schema part places rows columns NoMemory h typed why = tt
 sound_part files_of schema part places rows columns (Damaged f place wanted found) h typed why =
     let held : bytes_of (file.Column why.number) h.files ≡ column_bytes (column_of why.number rows) =
     subst (λ p. bytes_of (file.Column p) h.files ≡ column_bytes (column_of p rows)) (get_or_from_slice_get places why.at why.number 0 why.number_is)
     (columns_held files_of schema part places rows h why.at 0 (slice_get_within places why.at why.number why.number_is)) in
-    no_damage (files_of part.dir) h.files part.loaded.manifest schema rows why.number why.column.col_type f place wanted found h.files_are held (ap (λ (l : Loaded). l.manifest) h.loaded_is) h.typed h.encodable
-    (type_there (column_types schema) places columns why.at why.number why.column (each_typed (column_types schema) places columns (columns_within files_of schema part places rows h) typed) why.number_is why.column_is) why.explained
+    let here : slice_get (column_types schema) why.number ≡ Some why.column.col_type =
+    type_there (column_types schema) places columns why.at why.number why.column (each_typed (column_types schema) places columns (columns_within files_of schema part places rows h) typed) why.number_is why.column_is in
+    let w : WantedValues = record { manifest = part.loaded.manifest; number = why.number; col_type = why.column.col_type; count = part.loaded.manifest.rows } in
+    absurd (no_damage (files_of part.dir) h.files schema rows w (Damaged f place wanted found) h.files_are held (ap (λ (l : Loaded). l.manifest.rows) h.loaded_is) h.typed h.encodable here why.explained)
+
+-- ---- what is said of bytes that go wrong
+
+pub misread_explained : (w : WantedValues) (start : ℕ) (bytes seen shown : List ℕ) (place : ℕ) (why : PartFault) → seen ≡ bytes → shown ≡ bytes → IsFirstFault w.col_type w.count seen place
+    → why ≡ fault_after start w.manifest (file.Column w.number) shown (format.Malformed place) → IsMisread w start bytes why
+misread_explained w start bytes seen shown place why same alike wrong is = record {
+  place = place;
+  wrong = subst (λ bs. IsFirstFault w.col_type w.count bs place) same wrong;
+  fault_is = is ∙ ap (λ bs. fault_after start w.manifest (file.Column w.number) bs (format.Malformed place)) alike;
+}
+
+-- of a file that was read whole
+pub column_explained : (told : Option Files) (manifest : Manifest) (number : ℕ) (t : ColType) (bytes seen shown : List ℕ) (error : FormatFault) (why : PartFault) → ForSome told (λ files. bytes ≡ bytes_of (file.Column number) files) → seen ≡ bytes → shown ≡ bytes
+    → Explains t manifest.rows seen error → why ≡ fault_after 0 manifest (file.Column number) shown error → ExplainsColumn told manifest number t why
+column_explained told manifest number t bytes seen shown format.NoMemory why read same alike wrong is = subst (ExplainsColumn told manifest number t) (sym is) tt
+column_explained told manifest number t bytes seen shown (format.Malformed place) why read same alike wrong is =
+    let w : WantedValues = record { manifest = manifest; number = number; col_type = t; count = manifest.rows } in
+    subst (ExplainsColumn told manifest number t) (sym is)
+    (record { bytes = bytes; read = read; misread = misread_explained w 0 bytes seen shown place (fault_after 0 manifest (file.Column number) shown (format.Malformed place)) same alike wrong refl })

@@ -3,6 +3,7 @@ pub mod ChosenColumns
 pub mod ChosenItems
 pub mod ComparedColumns
 pub mod ComparedFiles
+pub mod CutRows
 pub mod DamagedFiles
 pub mod Damages
 pub mod FilePieces

@@ -1,20 +1,17 @@
 -- What columns get from the files of a part (docs/formats.md, "Parts").
-use Rattle.std.specs.Prelude.{◌≡◌, ℕ, List, [], ◌∷◌, Option, Some}
+use Rattle.std.specs.Prelude.{◌≡◌, ℕ, List, [], ◌∷◌, Option}
 use Rattle.std.specs.Option.{ForSome}
 use Rattle.mt_values.specs.declared.manifest.Manifest.{Manifest}
 use Rattle.mt_base.specs.declared.name.FileId.TheVariants as file
 use Rattle.mt_values.specs.Grid.{Cells}
 use Rattle.mt_outside.specs.Files.{Files, bytes_of}
 use Rattle.column_file.specs.Spellings.{GainsAll}
-use Rattle.part_writer.specs.PartFiles.{mark_of}
-use Rattle.part_damage.specs.Marks.{mark_for}
 
--- bytes were read that have the mark of the part's column with this number, and a column got the values that they spell;
--- they are those of the column's file, where the folder tells
+-- bytes were read, those of the file of the part's column with this number where the folder tells, and a column got the values that they
+-- spell, one for each row
 pub record IsRead (told : Option Files) (manifest : Manifest) (number : ℕ) (old new : Cells) : Type 0 where
   pub bytes : List ℕ
   pub read : ForSome told (λ files. bytes ≡ bytes_of (file.Column number) files)
-  pub marked : mark_for manifest (file.Column number) ≡ Some (mark_of bytes)
   pub gained : GainsAll manifest.rows bytes old new
 
 -- each of these columns got something of the part's column at its place

@@ -1,5 +1,5 @@
 -- What a fault says of a part (docs/formats.md, "Parts").
-use Rattle.std.specs.Prelude.{◌≡◌, ◌≢◌, ◌⊎◌, ℕ, List, slice_get, Option, Some, None, ⊤}
+use Rattle.std.specs.Prelude.{◌≡◌, ◌≢◌, ◌⊎◌, ℕ, ◌+◌, ◌^◌, ◌<◌, List, slice_get, Option, Some, None, ⊤}
 use Rattle.std.specs.Option.{ForSome}
 use Rattle.mt_values.specs.declared.manifest.FileMark.{FileMark}
 use Rattle.mt_values.specs.declared.manifest.Manifest.{Manifest}
@@ -60,20 +60,53 @@ ExplainsFile told manifest f WrongAt Fault = ⊤
 ExplainsFile told manifest f WrongAt NoMemory = ⊤
 ExplainsFile told manifest f WrongAt (Damaged g place wanted found) = IsDamage told manifest f WrongAt (Damaged g place wanted found)
 
--- what a fault says of the part's column with this number, which was read into one of this type
-abbrev pub ExplainsColumn : Option Files → Manifest → ℕ → ColType → PartFault → Type 0
-ExplainsColumn told manifest number t fault = ExplainsFile told manifest (file.Column number) (IsFirstFault t manifest.rows) fault
+-- ---- values that are read without a comparison of marks
 
--- the fault is one of these columns, each of which was read from its place
-pub record ExplainsPart (told : Option Files) (manifest : Manifest) (places : List ℕ) (columns : List Cells) (fault : PartFault) : Type 0 where
-  pub at : ℕ
+-- what is called wanted of a file: the mark that the manifest has of it, or none
+abbrev pub wanted_of : Manifest → FileId → FileMark
+wanted_of manifest f = or_none (mark_for manifest f)
+  where
+    or_none : Option FileMark → FileMark
+    or_none (Some mark) = mark
+    or_none None = NO_MARK
+
+-- what an error says of bytes that were read from a place of a file
+abbrev pub fault_after : ℕ → Manifest → FileId → List ℕ → FormatFault → PartFault
+fault_after start manifest f bytes format.NoMemory = NoMemory
+fault_after start manifest f bytes (format.Malformed place) = Damaged f (start + place) (wanted_of manifest f) (mark_of bytes)
+
+-- the place of an error in the file is one that 64 bits count
+abbrev pub FitsAfter : ℕ → FormatFault → Type 0
+FitsAfter start format.NoMemory = ⊤
+FitsAfter start (format.Malformed place) = start + place < 2 ^ 64
+
+-- values of a part's column that were to be read: the part's manifest, the column's number, their type, and how many
+pub record WantedValues : Type 0 where
+  pub manifest : Manifest
   pub number : ℕ
-  pub column : Cells
-  pub number_is : slice_get places at ≡ Some number
-  pub column_is : slice_get columns at ≡ Some column
-  pub explained : ExplainsColumn told manifest number column.col_type fault
+  pub col_type : ColType
+  pub count : ℕ
 
--- so it is with one of these columns, each of which was read from its place as one of its type
+-- bytes that were read from a place of the column's file go wrong as a spelling of these values, and the fault says where
+pub record IsMisread (w : WantedValues) (start : ℕ) (bytes : List ℕ) (fault : PartFault) : Type 0 where
+  pub place : ℕ
+  pub wrong : IsFirstFault w.col_type w.count bytes place
+  pub fault_is : fault ≡ fault_after start w.manifest (file.Column w.number) bytes (format.Malformed place)
+
+-- these bytes were read, those of the whole file where the folder tells, and go wrong as a spelling of the values
+pub record IsColumnDamage (told : Option Files) (w : WantedValues) (fault : PartFault) : Type 0 where
+  pub bytes : List ℕ
+  pub read : ForSome told (λ files. bytes ≡ bytes_of (file.Column w.number) files)
+  pub misread : IsMisread w 0 bytes fault
+
+-- what a fault says of the part's column with this number, of which a value of this type was to be read for each row
+abbrev pub ExplainsColumn : Option Files → Manifest → ℕ → ColType → PartFault → Type 0
+ExplainsColumn told manifest number t Fault = ⊤
+ExplainsColumn told manifest number t NoMemory = ⊤
+ExplainsColumn told manifest number t (Damaged f place wanted found) =
+    IsColumnDamage told (record { manifest = manifest; number = number; col_type = t; count = manifest.rows }) (Damaged f place wanted found)
+
+-- the fault is one of these columns, each of which was read from its place as one of its type
 pub record ExplainsEach (Explains : ℕ → ColType → PartFault → Type 0) (places : List ℕ) (columns : List Cells) (fault : PartFault) : Type 0 where
   pub at : ℕ
   pub number : ℕ
@@ -81,3 +114,18 @@ pub record ExplainsEach (Explains : ℕ → ColType → PartFault → Type 0) (p
   pub number_is : slice_get places at ≡ Some number
   pub column_is : slice_get columns at ≡ Some column
   pub explained : Explains number column.col_type fault
+
+-- damage of one of the columns at these places, each of which was read as one of its type
+pub record IsDamageAt (Explains : ℕ → ColType → PartFault → Type 0) (types : List ColType) (places : List ℕ) (damage : PartFault) : Type 0 where
+  pub at : ℕ
+  pub number : ℕ
+  pub col_type : ColType
+  pub number_is : slice_get places at ≡ Some number
+  pub type_is : slice_get types number ≡ Some col_type
+  pub explained : Explains number col_type damage
+
+-- what a fault says of columns that were read at these places
+abbrev pub ExplainsAt : (ℕ → ColType → PartFault → Type 0) → List ColType → List ℕ → PartFault → Type 0
+ExplainsAt Explains types places Fault = ⊤
+ExplainsAt Explains types places NoMemory = ⊤
+ExplainsAt Explains types places (Damaged f place wanted found) = IsDamageAt Explains types places (Damaged f place wanted found)

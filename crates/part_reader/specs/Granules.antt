@@ -1,30 +1,22 @@
 -- Which granules of a part are read, and what its columns say of them (docs/formats.md, "Parts").
-use Rattle.std.specs.Prelude.{◌≡◌, ℕ, ◌+◌, ◌-◌, ◌*◌, ◌^◌, ◌<◌, ◌≤◌, ◌⊎◌, min, Bool, true, false, List, [], ◌∷◌, ◌++◌, length, take, drop, replicate, slice_get, slice_range, All, Option, Some, None, ⊤}
+use Rattle.std.specs.Prelude.{◌≡◌, ℕ, ◌+◌, ◌-◌, ◌*◌, ◌≤◌, ◌⊎◌, min, Bool, true, false, List, [], ◌∷◌, ◌++◌, length, take, drop, replicate, slice_get, slice_range, Option, Some, ⊤}
 use Rattle.std.specs.List.{range_with_len}
 use Rattle.std.specs.Option.{ForSome, option_and_then}
-use Rattle.mt_base.specs.declared.name.FileId.{FileId}
 use Rattle.mt_base.specs.declared.name.FileId.TheVariants as file
-use Rattle.mt_values.specs.declared.manifest.FileMark.{FileMark}
 use Rattle.mt_values.specs.declared.manifest.Manifest.{Manifest}
 use Rattle.mt_values.specs.declared.value.ColType.{ColType}
 use Rattle.mt_values.specs.declared.value.Value.{Value}
-use Rattle.mt_values.specs.ColumnBytes.{column_bytes}
 use Rattle.mt_values.specs.Grid.{Cells}
 use Rattle.mt_outside.specs.Files.{Files, bytes_of}
-use Rattle.byte_numbers.specs.declared.faults.FormatFault.{FormatFault}
-use Rattle.byte_numbers.specs.declared.faults.FormatFault.TheVariants as format
-use Rattle.column_file.specs.Faults.{IsFirstFault}
 use Rattle.column_file.specs.Granules.{marks_of}
 use Rattle.column_file.specs.Spellings.{GainsAll, IsSpelling, with_values}
-use Rattle.part_writer.specs.PartFiles.{mark_of}
 use Rattle.part_writer.specs.declared.loaded.Loaded.{Loaded}
-use Rattle.part_damage.specs.Marks.{mark_for}
 use Rattle.part_reader.specs.declared.files.Span.{Span}
 use Rattle.part_reader.specs.declared.reading.Part.{Part}
 use Rattle.part_reader.specs.declared.reading.PartFault.{PartFault}
 use Rattle.part_reader.specs.declared.reading.PartFault.TheVariants.{Fault, NoMemory, Damaged}
-use Rattle.part_reader.specs.declared.reading.TheConstants.{NO_MARK}
 use Rattle.part_reader.specs.declared.runs.Run.{Run}
+use Rattle.part_reader.specs.Faults.{IsMisread, WantedValues, wanted_of}
 
 -- ---- granules of a list
 
@@ -79,39 +71,27 @@ pub record IsRunRead (c : PartColumn) (run : Run) (old new : Cells) : Type 0 whe
   pub read : IsSpanRead c span bytes
   pub gained : GainsAll (rows_in c.loaded run) bytes old new
 
+-- a column got what a run has, and of one without granules nothing
+abbrev pub IsRunAdded : PartColumn → Run → Cells → Cells → Type 0
+IsRunAdded c run old new = ((run.count ≡ 0) × (new ≡ old)) ⊎ IsRunRead c run old new
+
 -- ---- damage
-
--- what is called wanted of a file: the mark that the manifest has of it, or none
-abbrev pub wanted_of : Manifest → FileId → FileMark
-wanted_of manifest f = or_none (mark_for manifest f)
-  where
-    or_none : Option FileMark → FileMark
-    or_none (Some mark) = mark
-    or_none None = NO_MARK
-
--- what an error says of bytes that were read from a place of a file
-abbrev pub fault_after : ℕ → Manifest → FileId → List ℕ → FormatFault → PartFault
-fault_after start manifest f bytes format.NoMemory = NoMemory
-fault_after start manifest f bytes (format.Malformed place) = Damaged f (start + place) (wanted_of manifest f) (mark_of bytes)
-
--- the place of an error in the file is one that 64 bits count
-abbrev pub FitsAfter : ℕ → FormatFault → Type 0
-FitsAfter start format.NoMemory = ⊤
-FitsAfter start (format.Malformed place) = start + place < 2 ^ 64
 
 -- what is said of the places where they have no such run
 abbrev pub no_run : Manifest → PartFault
 no_run manifest = Damaged file.Marks 0 (wanted_of manifest file.Marks) (wanted_of manifest file.Marks)
 
--- the bytes of a run were read, and go wrong at a place as a value of the type for each row
+-- the values of a run that were to be read: one of the type for each row
+abbrev pub values_in : PartColumn → Run → ColType → WantedValues
+values_in c run t = record { manifest = c.loaded.manifest; number = c.number; col_type = t; count = rows_in c.loaded run }
+
+-- the bytes of a run were read, and go wrong as a spelling of its values
 pub record IsRunDamage (c : PartColumn) (run : Run) (t : ColType) (fault : PartFault) : Type 0 where
   pub span : Span
   pub span_is : IsSpanOf c.loaded.places c.number run span
   pub bytes : List ℕ
   pub read : IsSpanRead c span bytes
-  pub place : ℕ
-  pub wrong : IsFirstFault t (rows_in c.loaded run) bytes place
-  pub fault_is : fault ≡ fault_after span.start c.loaded.manifest (file.Column c.number) bytes (format.Malformed place)
+  pub misread : IsMisread (values_in c run t) span.start bytes fault
 
 -- the places that are kept have no such run
 pub record IsRunless (c : PartColumn) (run : Run) (fault : PartFault) : Type 0 where

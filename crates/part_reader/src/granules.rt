@@ -1,21 +1,26 @@
-// The values of chosen granules of a part.
-ghost use Rattle.std.specs.Prelude.{◌≡◌, ◌+◌, ◌≤◌, ℕ, All, IfErr, IsErrOf, List, OnOk, length, map, slice_get};
+// The values of chosen granules of a part, and the rows that have them.
+ghost use Rattle.std.specs.Prelude.{◌≡◌, ◌+◌, ◌<◌, ◌≤◌, ◌^◌, ℕ, All, IfErr, IfOk, IsErrOf, List, OnOk, length, map, slice_get};
 ghost use Rattle.std.specs.List.{filter_map};
+ghost use Rattle.std.specs.Option.{IfSome};
 ghost use Rattle.column_file.specs.Marks.{granules};
 ghost use Rattle.mt_outside.specs.Causes.{Rose};
 ghost use Rattle.mt_base.specs.declared.name.FileId.TheVariants as file;
 ghost use Rattle.mt_values.specs.declared.schema.Schema.{Schema};
 ghost use Rattle.mt_values.specs.Grid.{Cells};
+ghost use Rattle.mt_values.specs.Printing.{selected};
 ghost use Rattle.mt_values.specs.Schemas.{column_types};
 ghost use Rattle.mt_values.specs.Values.{Row};
-ghost use Rattle.part_reader.specs.Faults.{ExplainsEach, IsNoDamage};
+ghost use Rattle.part_reader.specs.Faults.{ExplainsAt, ExplainsEach, IsNoDamage};
 ghost use Rattle.part_reader.specs.Granules.{ExplainsChosen, GainsChosen, chosen_count, chosen_of, column_in};
 ghost use Rattle.part_reader.specs.Parts.{HoldsAt, with_columns};
 
+use crate::cut_rows::{empty_columns, rows_of_block};
 use crate::reading::{Part, PartFault};
-use crate::runs::{Run, add_run};
+use crate::runs::{Run, add_run, row_count};
+use mt_base::NoMemory;
 use mt_outside::Arm;
-use mt_values::ColumnData;
+use mt_values::{Block, ColumnData, Row};
+use part_writer::Loaded;
 use std::alloc::Global;
 
 /// Adds the values that the rows of the chosen granules have in the part's columns at these places, counted from 0, each to its own
@@ -67,6 +72,80 @@ pub fn add_granules<R: Arm>(
         add_chosen(alloc, arm, part, chosen, *place, &mut columns[number])?;
     }
     Ok(())
+}
+
+/// The rows of the chosen granules of a part, in order: of each the values at these places, counted from 0, in their order. A place may
+/// come twice. The files are read as `add_granules` reads them.
+///
+/// The errors are those of `add_granules`, and `NoMemory` where 32 bits can't count the rows.
+pub fn read_granules<R: Arm>(
+    alloc: Global,
+    arm: &mut R,
+    part: &Part<R::Dir>,
+    chosen: &[bool],
+    places: &[u32],
+) -> Result<Vec<Row>, PartFault>
+    requires places { All (λ place. place < length part.now.loaded.schema.columns) places.now }
+    requires granules { length chosen.now ≡ granules part.now.loaded.schema.granularity
+        part.now.loaded.manifest.rows }
+
+    // What is read.
+    ensures rows { (schema : Schema) (rows : List Row)
+        → HoldsAt R.Dir.files schema part.now (map file.Column places.now) rows
+        → IfOk result (λ v. v.items ≡ map (selected places.now)
+        (chosen_of part.now.loaded.schema.granularity chosen.now rows)) }
+    ensures count { IfOk result (λ v. length v.items ≡ chosen_count
+        part.now.loaded.schema.granularity chosen.now part.now.loaded.manifest.rows) }
+
+    // What a fault says.
+    ensures sound { (schema : Schema) (rows : List Row)
+        → HoldsAt R.Dir.files schema part.now (map file.Column places.now) rows
+        → IfErr result IsNoDamage }
+    ensures damaged { IfErr result (ExplainsAt (λ number t. ExplainsChosen
+        (column_in R.Dir.files part.now number) chosen.now t)
+        (column_types part.now.loaded.schema) places.now) }
+
+    // What the arm is then, and its count of faults.
+    ensures tells { R.tells arm.new ≡ R.tells arm.old }
+    ensures later { R.failed arm.old ≤ R.failed arm.new }
+    ensures fault { IsErrOf result PartFault.Fault → Rose (R.failed arm.old) (R.failed arm.new) }
+    ensures calm { (IsErrOf result PartFault.Fault → ⊥) → R.failed arm.new ≡ R.failed arm.old }
+{
+    let Ok(mut columns) = empty_columns(alloc, &part.loaded.schema, places) else {
+        return Err(PartFault::NoMemory);
+    };
+    let Some(count) = count_chosen(&part.loaded, chosen) else {
+        return Err(PartFault::NoMemory);
+    };
+    add_granules(alloc, arm, part, chosen, places, &mut columns)?;
+    let block = Block::of_columns(columns, count);
+    match rows_of_block(alloc, &block) {
+        Ok(rows) => Ok(rows),
+        Err(NoMemory) => Err(PartFault::NoMemory),
+    }
+}
+
+/// How many rows the chosen granules of a part have; none where 32 bits can't count them.
+fn count_chosen(loaded: &Loaded, chosen: &[bool]) -> Option<usize>
+    ensures rows { IfSome result (λ rows. rows ≡ chosen_count loaded.now.schema.granularity
+        chosen.now loaded.now.manifest.rows) }
+    ensures few { IfSome result (λ rows. rows < 2 ^ 32) }
+{
+    let mut rows: usize = 0;
+    for (granule, is_chosen) in chosen.iter().enumerate() {
+        if !*is_chosen {
+            continue;
+        }
+        let run = Run {
+            first: granule,
+            count: 1,
+        };
+        rows = rows.checked_add(row_count(loaded, run))?;
+    }
+    if rows > u32::MAX as usize {
+        return None;
+    }
+    Some(rows)
 }
 
 /// Adds the values that the rows of the chosen granules have in the part's column with this number to a column, run by run.

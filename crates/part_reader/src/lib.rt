@@ -1,9 +1,10 @@
-//! The parts of tables, opened, checked and read back: each file by its mark in the manifest.
+//! The parts of tables: opened and checked by the marks of the manifest, and the values of their columns read back.
 #![tactic(auto)]
 
 mod checking;
 mod comparing;
 mod copies;
+mod cut_rows;
 mod files;
 mod granules;
 mod laws;
@@ -14,7 +15,7 @@ mod runs;
 
 pub use checking::check_part;
 pub use files::{Span, read_file};
-pub use granules::add_granules;
+pub use granules::{add_granules, read_granules};
 pub use laws::{damage_is_one_file, parts_hold_what_was_written, sound_parts_hold_rows};
 pub use opening::open_part;
 pub use reading::{NO_MARK, Part, PartFault, read_columns};

@@ -1,40 +1,13 @@
-// Bytes that a manifest has a mark of.
-ghost use Rattle.std.specs.Prelude.{◌≡◌, IfErr, MatchResult, OnOk, Some};
-ghost use Rattle.mt_base.specs.declared.name.FileId.TheVariants as file;
-ghost use Rattle.column_file.specs.Faults.{IsFirstFault};
-ghost use Rattle.column_file.specs.Spellings.{GainsAll};
+// The marks that a manifest has of files, and what is said of bytes that were read of them.
+ghost use Rattle.std.specs.Prelude.{◌≡◌, MatchResult, Some};
 ghost use Rattle.part_writer.specs.PartFiles.{mark_of};
-ghost use Rattle.part_reader.specs.Faults.{ExplainsBytes, fault_of};
+ghost use Rattle.part_reader.specs.Faults.{ExplainsBytes, FitsAfter, fault_after, fault_of, wanted_of};
 ghost use Rattle.part_damage.specs.Marks.{mark_for};
 
 use crate::reading::{NO_MARK, PartFault};
-use column_file::{FormatFault, decode_onto};
+use column_file::FormatFault;
 use digest_file::mark_of;
-use mt_values::{ColumnData, FileId, FileMark, Manifest};
-
-/// Adds the values of a part to a column, from the bytes that were read of the file of the part's column with this number.
-///
-/// `Damaged` where the bytes do not have the mark of the manifest, the manifest has none, or they are no spelling of so many values;
-/// `NoMemory` where an allocation failed. It is never `Fault`. After an error some of the values may have been added.
-pub fn add_values(
-    manifest: &Manifest,
-    number: u32,
-    bytes: &[u8],
-    column: &mut ColumnData,
-) -> Result<(), PartFault>
-    ensures marked { OnOk result
-        (mark_for manifest.now (file.Column number) ≡ Some (mark_of bytes.now)) }
-    ensures gained { OnOk result (GainsAll manifest.now.rows bytes.now column.old column.new) }
-    ensures damaged { IfErr result (ExplainsBytes manifest.now (file.Column number)
-        (IsFirstFault column.old.col_type manifest.now.rows bytes.now) bytes.now) }
-{
-    let file = FileId::Column(number);
-    let mark = mark_found(manifest, file, bytes)?;
-    match decode_onto(column, bytes, manifest.rows as usize) {
-        Ok(()) => Ok(()),
-        Err(error) => Err(misspelled(file, mark, error)),
-    }
-}
+use mt_values::{FileId, FileMark, Manifest};
 
 /// What an error says of a file whose bytes have the mark of the manifest, which is this one.
 pub fn misspelled(file: FileId, mark: FileMark, error: FormatFault) -> PartFault
@@ -89,5 +62,37 @@ pub fn mark_at(manifest: &Manifest, file: FileId) -> Option<FileMark>
         FileId::Primary => marks.get(1).copied(),
         FileId::Column(number) => marks.get(number as usize + 2).copied(),
         _ => None,
+    }
+}
+
+/// The mark that the manifest has of a file, or `NO_MARK` where it has none.
+pub fn wanted_of(manifest: &Manifest, file: FileId) -> FileMark
+    ensures { result ≡ wanted_of manifest.now file }
+{
+    match mark_at(manifest, file) {
+        Some(mark) => mark,
+        None => NO_MARK,
+    }
+}
+
+/// What an error says of bytes that were read from a place of a file. Their mark is taken only here, and compared with none.
+pub fn misread(
+    manifest: &Manifest,
+    file: FileId,
+    start: u64,
+    bytes: &[u8],
+    error: FormatFault,
+) -> PartFault
+    requires { FitsAfter start error }
+    ensures { result ≡ fault_after start manifest.now file bytes.now error }
+{
+    match error {
+        FormatFault::NoMemory => PartFault::NoMemory,
+        FormatFault::Malformed { place } => PartFault::Damaged {
+            file,
+            place: start + place,
+            wanted: wanted_of(manifest, file),
+            found: mark_of(bytes),
+        },
     }
 }

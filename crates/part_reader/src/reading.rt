@@ -8,11 +8,12 @@ ghost use Rattle.mt_values.specs.Grid.{Cells};
 ghost use Rattle.mt_values.specs.Schemas.{column_types};
 ghost use Rattle.mt_values.specs.Values.{Row};
 ghost use Rattle.part_reader.specs.Columns.{AreRead, IsRead};
-ghost use Rattle.part_reader.specs.Faults.{ExplainsColumn, ExplainsPart, IsNoDamage};
+ghost use Rattle.part_reader.specs.Faults.{ExplainsColumn, ExplainsEach, IsNoDamage};
 ghost use Rattle.part_reader.specs.Parts.{HoldsAt, with_columns};
 
 use crate::files::read_file;
-use crate::marked::add_values;
+use crate::marked::misread;
+use column_file::decode_onto;
 use mt_outside::{Arm, DiskError};
 use mt_values::{ColumnData, FileId, FileMark, Rows};
 use part_writer::Loaded;
@@ -60,8 +61,9 @@ pub enum PartFault {
     /// An allocation failed.
     #[error("out of memory")]
     NoMemory,
-    /// A file does not have the mark that the manifest has of it, or the manifest has none of it. The place is 0 then.
-    /// Or it has its mark, and its bytes are no spelling of what such a file has in it: from this place on, counted from 0, they go wrong.
+    /// A file that was opened or checked does not have the mark that the manifest has of it, or the manifest has none of it. The place
+    /// is 0 then. Or its bytes, or those of granules, are no spelling of what such a file has in it: from this place of the file on,
+    /// counted from 0, they go wrong.
     /// Or it is `marks.bin` or `primary.bin`, and not that of the rows which the files of the columns spell. The place is 0 then.
     /// Or it is `manifest.bin`, and its bytes are no manifest with a mark of each other file: at this place they go wrong,
     /// or the number of files stands.
@@ -71,7 +73,7 @@ pub enum PartFault {
         place: u64,
         /// The mark of the manifest, or `NO_MARK` where it has none, as of itself.
         wanted: FileMark,
-        /// The mark of the bytes that were read.
+        /// The mark of the bytes that were read, of granules alone where no more was read.
         found: FileMark,
     },
 }
@@ -101,11 +103,11 @@ impl From<AllocError> for PartFault {
 }
 
 /// Adds the values of the part's columns at these places, counted from 0, each to its own column. Each file is read whole;
-/// a place may come twice.
+/// a place may come twice. Digests are not compared.
 ///
-/// `Damaged` where the bytes of a file do not have the mark of the manifest, the manifest has none of it, or they are no spelling
-/// of so many values as the part has rows: never where the folder and the manifest hold rows. `Fault` only where the arm's count
-/// rose in this call; `NoMemory` where an allocation failed. After an error some of the values may have been added.
+/// `Damaged` where the bytes of a file are no spelling of so many values as the part has rows: never where the folder and what is
+/// kept hold rows. `Fault` only where the arm's count rose in this call; `NoMemory` where an allocation failed. After an error some
+/// of the values may have been added.
 pub fn read_columns<R: Arm>(
     alloc: Global,
     arm: &mut R,
@@ -129,8 +131,8 @@ pub fn read_columns<R: Arm>(
         columns.new) }
     ensures types { OnOk result (map (λ (c : Cells). c.col_type) columns.new ≡ map
         (λ (c : Cells). c.col_type) columns.old) }
-    ensures damaged { IfErr result (ExplainsPart (R.Dir.files part.now.dir) part.now.loaded.manifest
-        places.now columns.old) }
+    ensures damaged { IfErr result (ExplainsEach (ExplainsColumn (R.Dir.files part.now.dir)
+        part.now.loaded.manifest) places.now columns.old) }
 
     // What the arm is then, and its count of faults.
     ensures tells { R.tells arm.new ≡ R.tells arm.old }
@@ -163,6 +165,11 @@ fn read_column<R: Arm>(
     ensures fault { IsErrOf result PartFault.Fault → Rose (R.failed arm.old) (R.failed arm.new) }
     ensures calm { (IsErrOf result PartFault.Fault → ⊥) → R.failed arm.new ≡ R.failed arm.old }
 {
-    let bytes = read_file(alloc, arm, &part.dir, FileId::Column(number))?;
-    add_values(&part.loaded.manifest, number, &bytes, column)
+    let manifest = &part.loaded.manifest;
+    let file = FileId::Column(number);
+    let bytes = read_file(alloc, arm, &part.dir, file)?;
+    match decode_onto(column, &bytes, manifest.rows as usize) {
+        Ok(()) => Ok(()),
+        Err(error) => Err(misread(manifest, file, 0, &bytes, error)),
+    }
 }

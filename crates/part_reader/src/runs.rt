@@ -2,15 +2,14 @@
 ghost use Rattle.std.specs.Prelude.{◌≡◌, ◌≢◌, ◌≤◌, ◌<◌, ◌+◌, ◌^◌, IfErr, IsErrOf, MatchOption, OnOk, length};
 ghost use Rattle.mt_base.specs.declared.name.FileId.TheVariants as file;
 ghost use Rattle.mt_outside.specs.Causes.{Rose};
-ghost use Rattle.part_reader.specs.Granules.{ExplainsRun, FitsAfter, IsRunRead, IsSpanOf, column_in, fault_after, no_run, place_of, rows_in, wanted_of};
+ghost use Rattle.part_reader.specs.Granules.{ExplainsRun, IsRunAdded, IsSpanOf, column_in, no_run, place_of, rows_in};
 
 use crate::files::{Span, read_span};
-use crate::marked::mark_at;
-use crate::reading::{NO_MARK, Part, PartFault};
-use column_file::{FormatFault, decode_onto};
-use digest_file::mark_of;
+use crate::marked::{misread, wanted_of};
+use crate::reading::{Part, PartFault};
+use column_file::decode_onto;
 use mt_outside::Arm;
-use mt_values::{ColumnData, FileId, FileMark, Manifest};
+use mt_values::{ColumnData, FileId, Manifest};
 use part_writer::Loaded;
 use primary_marks::Places;
 use std::alloc::Global;
@@ -22,7 +21,8 @@ pub struct Run {
     pub count: usize,
 }
 
-/// Adds the values that the rows of a run have in the part's column with this number to a column. The bytes of the run alone are read.
+/// Adds the values that the rows of a run have in the part's column with this number to a column. The bytes of the run alone are read;
+/// an empty run is not looked up, and nothing is read.
 ///
 /// `Damaged` where the places that are kept have no such run, or the bytes are no spelling of a value for each of its rows;
 /// `Fault` only where the arm's count rose in this call; `NoMemory` where an allocation failed. After an error some of the values
@@ -37,7 +37,7 @@ pub fn add_run<R: Arm>(
 ) -> Result<(), PartFault>
     requires { run.first + run.count < 2 ^ 64 }
     ensures read { OnOk result
-        (IsRunRead (column_in R.Dir.files part.now number) run column.old column.new) }
+        (IsRunAdded (column_in R.Dir.files part.now number) run column.old column.new) }
     ensures damaged { IfErr result
         (ExplainsRun (column_in R.Dir.files part.now number) run column.old.col_type) }
 
@@ -47,6 +47,9 @@ pub fn add_run<R: Arm>(
     ensures fault { IsErrOf result PartFault.Fault → Rose (R.failed arm.old) (R.failed arm.new) }
     ensures calm { (IsErrOf result PartFault.Fault → ⊥) → R.failed arm.new ≡ R.failed arm.old }
 {
+    if run.count == 0 {
+        return Ok(());
+    }
     let manifest = &part.loaded.manifest;
     let Some(span) = span_of(&part.loaded.places, number, run) else {
         return Err(unplaced(manifest));
@@ -81,35 +84,13 @@ fn place_of(places: &Places, number: u32, granule: usize) -> Option<u64>
 }
 
 /// How many rows a run has.
-fn row_count(loaded: &Loaded, run: Run) -> usize
+pub fn row_count(loaded: &Loaded, run: Run) -> usize
     ensures { result ≡ rows_in loaded.now run }
 {
     let granularity = loaded.schema.granularity as usize;
     let before = granularity.saturating_mul(run.first);
     let rows = (loaded.manifest.rows as usize).saturating_sub(before);
     granularity.saturating_mul(run.count).min(rows)
-}
-
-/// What an error says of bytes that were read from a place of a file.
-fn misread(
-    manifest: &Manifest,
-    file: FileId,
-    start: u64,
-    bytes: &[u8],
-    error: FormatFault,
-) -> PartFault
-    requires { FitsAfter start error }
-    ensures { result ≡ fault_after start manifest.now file bytes.now error }
-{
-    match error {
-        FormatFault::NoMemory => PartFault::NoMemory,
-        FormatFault::Malformed { place } => PartFault::Damaged {
-            file,
-            place: start + place,
-            wanted: wanted_of(manifest, file),
-            found: mark_of(bytes),
-        },
-    }
 }
 
 /// What is said where the places that are kept have no run that was to be read.
@@ -122,15 +103,5 @@ fn unplaced(manifest: &Manifest) -> PartFault
         place: 0,
         wanted: mark,
         found: mark,
-    }
-}
-
-/// The mark that the manifest has of a file, or `NO_MARK` where it has none.
-fn wanted_of(manifest: &Manifest, file: FileId) -> FileMark
-    ensures { result ≡ wanted_of manifest.now file }
-{
-    match mark_at(manifest, file) {
-        Some(mark) => mark,
-        None => NO_MARK,
     }
 }

@@ -33,13 +33,16 @@ all_hold files_of schema (part ∷ parts) held =
     let rest = all_hold files_of schema parts (All-tail (HoldsRows files_of schema) part parts held) in
     (first.0 ∷ rest.0, (first.1, rest.1))
 
+same_file : {f g : FileId} {a b : ℕ} {v w x y : FileMark} → fault.Damaged f a v x ≡ fault.Damaged g b w y → f ≡ g
+same_file e = cc
+
 -- a SELECT that tells of damage, from why its parts were not read
 tells : {F : Type 0} (files_of : F → Option Files) (snap : Snap (Part F)) (text : SelectText) (reply : List ℕ) (places : List ℕ) → selected_places snap.schema.columns text.columns ≡ Ok places
     → (part : PartName) (f : FileId) (place : ℕ) (wanted found : FileMark)
     → ExplainsParts files_of snap.parts.items places (filter_map (slice_get (column_types snap.schema)) places) part (fault.Damaged f place wanted found)
     → reply ≡ refusal_line (refusal.Damaged text.table (part_text part) (file_name f)) → TellsOfDamage files_of snap text reply
 tells files_of snap text reply places chosen part f place wanted found why is =
-    let column : f ≡ file.Column why.number = why.explained.explained.0 in
+    let column : f ≡ file.Column why.number = same_file why.explained.misread.fault_is in
     record {
       places = places;
       places_are = chosen;

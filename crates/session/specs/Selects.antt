@@ -16,8 +16,8 @@ use Rattle.part_set.specs.declared.kept.Snap.{Snap}
 use Rattle.part_reader.specs.declared.reading.Part.{Part}
 use Rattle.mt_base.specs.Files.{file_name}
 
--- The reply tells of damage: of a part of the table, and of the file of a selected column in it. The bytes that were read there are not those
--- that the part's manifest means, or spell no values of the column's type.
+-- The reply tells of damage: of a part of the table, and of the file of a selected column in it. The bytes that were read there spell no values
+-- of the column's type, one for each row of the part (docs/replies.md, "Faults").
 pub record TellsOfDamage {F : Type 0} (files_of : F → Option Files) (snap : Snap (Part F)) (text : SelectText) (reply : List ℕ) : Type 0 where
   pub places : List ℕ
   pub places_are : selected_places snap.schema.columns text.columns ≡ Ok places

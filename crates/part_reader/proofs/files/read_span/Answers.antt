@@ -1,5 +1,5 @@
 use Rattle.std.proofs.Common.{◌∙◌, arith, drop, length-take}
-use Rattle.part_reader.proofs.FilePieces.{span_last, span_more, span_within}
+use Rattle.part_reader.proofs.FilePieces.{span_more, span_within}
 use Rattle.part_reader.proofs.files.read_span.Goals as goal
 
 pub loop-read-preserved : goal.loop-read-preserved

@@ -1,11 +1,7 @@
-use Rattle.std.proofs.Common.{refl, ap, ◌∙◌, ◌-◌, ◌+◌, ◌++◌, ℕ, subst, sym, take, replicate, true, append-nil, arith}
-use Rattle.std.proofs.lemmas.List.{take_all}
-use Rattle.std.specs.Result.{OnOk}
-use Rattle.mt_values.specs.Grid.{Cells}
-use Rattle.part_reader.specs.declared.runs.Run.{Run}
-use Rattle.part_reader.specs.Granules.{GainsChosen, column_in}
-use Rattle.part_reader.proofs.ChosenColumns.{gains_last, gains_over, gains_run, gains_skip}
-use Rattle.part_reader.proofs.ChosenItems.{run_more, run_none, run_since}
+use Rattle.std.proofs.Common.{◌∙◌, ◌+◌, arith}
+use Rattle.part_reader.specs.Granules.{column_in}
+use Rattle.part_reader.proofs.ChosenColumns.{gains_last, gains_over}
+use Rattle.part_reader.proofs.ChosenItems.{run_more, run_none}
 use Rattle.part_reader.proofs.granules.add_chosen.Goals as goal
 
 pub loop-granule-preserved-then-is_chosen : goal.loop-granule-preserved-then-is_chosen

@@ -1,9 +1,7 @@
-use Rattle.std.proofs.Common.{◌≡◌, ℕ, ◌<◌, length, get_or, refl, ◌∙◌, arith}
+use Rattle.std.proofs.Common.{◌≡◌, ◌<◌, length, get_or, refl, ◌∙◌, arith}
 use Rattle.std.proofs.lemmas.List.{get_or_default}
 use Rattle.std.proofs.lemmas.Option.{slice_get-get_or, slice_get_read}
 use Rattle.mt_values.specs.Grid.{Cells}
-use Rattle.mt_values.specs.declared.value.ColType.{ColType}
-use Rattle.part_reader.specs.declared.reading.PartFault.{PartFault}
 use Rattle.part_reader.specs.Faults.{ExplainsEach, IsNoDamage}
 use Rattle.part_reader.specs.Granules.{ExplainsChosen, GainsChosen, column_in}
 use Rattle.part_reader.proofs.ChosenColumns.{chosen_even, chosen_rows, chosen_sound, chosen_types}

@@ -3,7 +3,7 @@ use Rattle.std.proofs.lemmas.List.{get_or_default}
 use Rattle.std.proofs.lemmas.Option.{slice_get-get_or, slice_get_read}
 use Rattle.mt_values.specs.Grid.{Cells}
 use Rattle.part_reader.specs.Columns.{IsRead}
-use Rattle.part_reader.specs.Faults.{ExplainsPart, IsNoDamage}
+use Rattle.part_reader.specs.Faults.{ExplainsColumn, ExplainsEach, IsNoDamage}
 use Rattle.part_reader.proofs.Holding.{sound_part}
 use Rattle.part_reader.proofs.Gaining.{handed_on, read_all, read_even, read_more, read_types, rest_more, rows_read}
 use Rattle.part_reader.proofs.reading.read_columns.Goals as goal
@@ -25,7 +25,7 @@ loop-number-preserved g c =
     }
 
 -- the fault is that of the column that was read last
-fault_of : (g : Over) (c : goal.After-from_residual g) → ExplainsPart (g.R.Dir.Dir.files c.args.part.now.dir) c.args.part.now.loaded.manifest c.args.places.now c.args.columns.now c.in_err-read_column.field-0.0
+fault_of : (g : Over) (c : goal.After-from_residual g) → ExplainsEach (ExplainsColumn (g.R.Dir.Dir.files c.args.part.now.dir) c.args.part.now.loaded.manifest) c.args.places.now c.args.columns.now c.in_err-read_column.field-0.0
 fault_of g c =
     let olds = c.args.columns.now in
     let i = c.loop-number.number in
@@ -45,7 +45,7 @@ fault_of g c =
 
 pub returns-in_err-read_column-clause-damaged : goal.returns-in_err-read_column-clause-damaged
 returns-in_err-read_column-clause-damaged g c =
-    handed_on (ExplainsPart (g.R.Dir.Dir.files c.args.part.now.dir) c.args.part.now.loaded.manifest c.args.places.now c.args.columns.now) c.from_residual.result c.in_err-read_column.field-0.0 c.from_residual.ensures.1
+    handed_on (ExplainsEach (ExplainsColumn (g.R.Dir.Dir.files c.args.part.now.dir) c.args.part.now.loaded.manifest) c.args.places.now c.args.columns.now) c.from_residual.result c.in_err-read_column.field-0.0 c.from_residual.ensures.1
     (fault_of g c)
 
 pub returns-in_err-read_column-clause-sound : goal.returns-in_err-read_column-clause-sound
