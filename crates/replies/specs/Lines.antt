@@ -1,6 +1,5 @@
 -- Replies that need no store (docs/replies.md).
 use Rattle.std.specs.Prelude.{◌≡◌, ℕ, List, ◌++◌, length, flat_map}
-use Rattle.std.specs.List.{range_with_len}
 use Rattle.mt_values.specs.Grid.{AreRowsOf, Grid, IsOrderBy, picked}
 use Rattle.mt_values.specs.Order.{key_of}
 use Rattle.mt_values.specs.Printing.{line}
@@ -15,9 +14,10 @@ abbrev pub IsLineOfStage : DiskError → List ℕ → Type 0
 IsLineOfStage failure.NoMemory line = ⊥
 IsLineOfStage failure.Fault line = line ≡ refusal_line refusal.Failed
 
--- the lines of the rows of a block, sorted by their columns from left to right, after their number and the length of the history
-pub record Printed (block : Grid) (place : ℕ) (reply : List ℕ) : Type 0 where
+-- the lines of the rows of a block, of each the values of the columns at these positions, sorted by them from left to right, after the number of
+-- the rows and the length of the history
+pub record Printed (block : Grid) (shown : List ℕ) (place : ℕ) (reply : List ℕ) : Type 0 where
   pub order : List ℕ
-  pub by : IsOrderBy (range_with_len 0 (length block.types)) block.rows order
+  pub by : IsOrderBy shown block.rows order
   pub typed : AreRowsOf block.types block.rows
-  pub reply_is : reply ≡ rows_line (length block.rows) place ++ flat_map (λ row. line (key_of (range_with_len 0 (length block.types)) row)) (picked block.rows order)
+  pub reply_is : reply ≡ rows_line (length block.rows) place ++ flat_map (λ row. line (key_of shown row)) (picked block.rows order)

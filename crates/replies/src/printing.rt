@@ -6,29 +6,27 @@ ghost use Rattle.replies.specs.Lines.{Printed};
 use crate::reply::Reply;
 use mt_base::NoMemory;
 use mt_model::rows_line;
-use mt_values::{Block, ColumnData, all_places};
+use mt_values::{Block, ColumnData};
 use std::alloc::Global;
 use tsv_rows::write_rows;
 
-/// The reply with the rows of these columns, so many, sorted by them from left to right. `place` is the length of the history.
+/// The reply with the rows of these columns, so many: of each row the values of the columns at the positions that are shown, in order.
+/// The rows are sorted by these from left to right. `place` is the length of the history.
 pub fn print(
     alloc: Global,
     place: u64,
     columns: Vec<ColumnData>,
     rows: usize,
+    shown: &[u32],
 ) -> Result<Reply, NoMemory>
     requires few { rows < 2 ^ 32 }
     requires even { All (λ (c : Cells). length c.values ≡ rows) columns.items }
-    ensures { IfOk result (λ reply. Printed (grid_of columns.items rows) place reply) }
+    requires shown { All (λ at. at < length columns.items) shown.now }
+    ensures { IfOk result (λ reply. Printed (grid_of columns.items rows) shown.now place reply) }
 {
     let block = Block::of_columns(columns, rows);
-    let Ok(width) = u32::try_from(block.width()) else {
-        return Err(NoMemory);
-    };
-    let all = all_places(alloc, width)?;
-    let places = all.as_slice();
-    let order = block.order_by(alloc, places)?;
+    let order = block.order_by(alloc, shown)?;
     let mut bytes = rows_line(alloc, block.len(), place)?;
-    write_rows(&block, order.as_slice(), places, &mut bytes)?;
+    write_rows(&block, order.as_slice(), shown, &mut bytes)?;
     Ok(Reply::answer(bytes))
 }

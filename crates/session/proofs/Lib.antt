@@ -4,6 +4,7 @@ pub mod Damaged
 pub mod Gaining
 pub mod Kept
 pub mod Inserting
+pub mod Picking
 pub mod Progressing
 pub mod Running
 pub mod SealedParts

@@ -40,25 +40,12 @@ use Rattle.part_reader.specs.Parts.{PartHolds, with_columns}
 use Rattle.part_set.specs.declared.kept.Kept.{Kept}
 use Rattle.session.specs.Scans.{ArePlacesOf, PartsHold, joined_rows, rows_kept, values_at}
 use Rattle.replies.specs.Lines.{Printed}
+use Rattle.session.proofs.Picking.{shown_lines, shown_rising}
+use Rattle.std.proofs.lemmas.List.Sorted.{IsPermutation-map}
 
 -- rows ordered by the key are the rows stably sorted by it
 pub ordered_is_sorted : (key : List ℕ) (rows : List Row) (order : List ℕ) → IsOrderBy key rows order → picked rows order ≡ sorted (key_cmp key) rows
 ordered_is_sorted key rows order by = stable_is_sorted (key_cmp key) (key_total key) rows (picked rows order) by.rising by.stable
-
-whole_key : (n : ℕ) (row : Row) → length row ≡ n → key_of (range_with_len 0 n) row ≡ row
-whole_key n row len = ap (λ k. key_of (range_with_len 0 k) row) (sym len) ∙ items_at_all row
-
--- sorted by all columns is sorted as rows
-sorted_rows : (n : ℕ) (rows : List Row) → All (λ row. length row ≡ n) rows → IsSorted (key_cmp (range_with_len 0 n)) rows → IsSorted row_cmp rows
-sorted_rows n rows len up k d low high =
-    let same : key_cmp (range_with_len 0 n) (get_or rows (k + 1) d) (get_or rows k d) ≡ row_cmp (get_or rows (k + 1) d) (get_or rows k d) =
-    ap (λ x. slice_cmp value_cmp x (key_of (range_with_len 0 n) (get_or rows k d))) (whole_key n (get_or rows (k + 1) d) (len (k + 1) d (omega arith)))
-    ∙ ap (slice_cmp value_cmp (get_or rows (k + 1) d)) (whole_key n (get_or rows k d) (len k d (omega arith))) in
-    ap is_lt (sym same) ∙ up k d low high
-
-concat_lines : (rows : List Row) → concat (map line rows) ≡ flat_map line rows
-concat_lines [] = refl
-concat_lines (r ∷ rs) = ap (λ (ls : List ℕ). line r ++ ls) (concat_lines rs)
 
 -- ---- the columns that are read
 
@@ -246,26 +233,18 @@ empty_many places columns are = sym (length-map columns (λ (c : Cells). c.value
 
 -- ---- the reply
 
-whole_lines : (n : ℕ) (rows : List Row) → All (λ (row : Row). length row ≡ n) rows → flat_map (λ row. line (key_of (range_with_len 0 n) row)) rows ≡ flat_map line rows
-whole_lines n [] len = refl
-whole_lines n (r ∷ rs) len =
-    ap₂ (λ (xs ys : List ℕ). xs ++ ys) (ap line (whole_key n r (All-head (λ (row : Row). length row ≡ n) r rs len))) (whole_lines n rs (All-tail (λ (row : Row). length row ≡ n) r rs len))
-
 -- a SELECT's answer, from the rows of its table
-pub selects : (h : History) (s : SelectText) (schema : Schema) (places : List ℕ) (rows : List Row) (block : Grid) (place : ℕ) (reply : List ℕ)
+pub selects : (h : History) (s : SelectText) (schema : Schema) (places : List ℕ) (rows : List Row) (block : Grid) (shown : List ℕ) (place : ℕ) (reply : List ℕ)
     → take place h ≡ h → schema_of s.table h ≡ Some schema → selected_places schema.columns s.columns ≡ Ok places → Partly schema (live s.table schema h) rows
-    → block.rows ≡ map (key_of places) rows → Printed block place reply → Selects h s place reply
-selects h s schema places rows block place reply all there columns partly rows_are p =
-    let width = length block.types in
-    let ordered = picked block.rows p.order in
-    let typed : AreRowsOf block.types ordered = AreRowsOf-picked block.types (range_with_len 0 width) block.rows p.order p.by p.typed in
-    let len : All (λ (row : Row). length row ≡ width) ordered = lengths_typed block.types ordered typed in
+    → map (key_of shown) block.rows ≡ map (key_of places) rows → Printed block shown place reply → Selects h s place reply
+selects h s schema places rows block shown place reply all there columns partly rows_are p =
+    let ordered = map (key_of shown) (picked block.rows p.order) in
     let lines = map line ordered in
-    let count : length lines ≡ length block.rows = length-map ordered line ∙ length-picked (range_with_len 0 width) block.rows p.order p.by in
+    let count : length lines ≡ length block.rows = length-map ordered line ∙ length-map (picked block.rows p.order) (key_of shown) ∙ length-picked shown block.rows p.order p.by in
     let prints : Prints (map (key_of places) rows) lines = subst (λ (rs : List Row). Prints rs lines) rows_are (record {
       order = ordered;
-      same = IsPermutation-picked (range_with_len 0 width) block.rows p.order p.by;
-      rising = sorted_rows width ordered len p.by.rising;
+      same = IsPermutation-map (key_of shown) block.rows (picked block.rows p.order) (IsPermutation-picked shown block.rows p.order p.by);
+      rising = shown_rising shown (picked block.rows p.order) p.by.rising;
       lines_are = refl;
     }) in
     let answer : Answer h schema s lines = record { columns = places; selected = columns; rows = rows; partly = partly; prints = prints } in
@@ -275,5 +254,5 @@ selects h s schema places rows block place reply all there columns partly rows_a
       there = ap (schema_of s.table) all ∙ there;
       answer = subst (λ (x : History). Answer x schema s lines) (sym all) answer;
       reply_is = p.reply_is
-          ∙ (ap (λ ls. rows_line (length block.rows) place ++ ls) (whole_lines width ordered len ∙ sym (concat_lines ordered)) ∙ ap (λ n. rows_line n place ++ concat lines) (sym count));
+          ∙ (ap (λ ls. rows_line (length block.rows) place ++ ls) (shown_lines shown (picked block.rows p.order)) ∙ ap (λ n. rows_line n place ++ concat lines) (sym count));
     }

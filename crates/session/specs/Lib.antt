@@ -1,4 +1,5 @@
 pub mod Answers
+pub mod Picks
 pub mod Scans
 pub mod Selects
 pub mod Staged

@@ -17,7 +17,7 @@ ghost use Rattle.shared_store.specs.Engines.{IsOpen, IsSnapOf};
 ghost use Rattle.part_set.specs.declared.kept.Snap.{Snap};
 ghost use Rattle.part_reader.specs.declared.reading.Part.{Part};
 
-use crate::{count_rows, empty_columns, read_parts};
+use crate::{count_rows, empty_columns, pick_columns, read_parts};
 use mt_base::{NoMemory, Stop};
 use mt_model::selected_columns;
 use mt_outside::{Arm, Dir, Disk, DiskError, Gate, Point, Who};
@@ -28,7 +28,8 @@ use replies::{Reply, damaged, failed_line, no_table_line, print, stage_line};
 use shared_store::Engine;
 use std::alloc::Global;
 
-/// The rows of a pinned table, so many, of the columns at these places, which are the selected ones.
+/// The rows of a pinned table, so many, of the columns at these places, which are the selected ones. The file of a column is read once
+/// of each part, however often the column is selected.
 ///
 /// `NoMemory` where an allocation failed; the arm's count stays.
 fn read_places<R: Arm>(
@@ -60,10 +61,12 @@ fn read_places<R: Arm>(
     ensures memory { OnErr result (R.failed arm.new ≡ R.failed arm.old) }
 {
     let parts = snap.parts.as_slice();
-    let mut columns = empty_columns(alloc, &snap.schema, places)?;
+    let picked = pick_columns(alloc, snap.schema.columns.len(), places)?;
+    let read = picked.read.as_slice();
+    let mut columns = empty_columns(alloc, &snap.schema, read)?;
     let failed = failed_line(alloc)?;
-    match read_parts(alloc, arm, parts, places, &mut columns) {
-        Ok(()) => print(alloc, snap.length, columns, rows),
+    match read_parts(alloc, arm, parts, read, &mut columns) {
+        Ok(()) => print(alloc, snap.length, columns, rows, picked.shown.as_slice()),
         Err((_, PartFault::NoMemory)) => Err(NoMemory),
         Err((_, PartFault::Fault)) => stage_line(DiskError::Fault, failed),
         Err((part, PartFault::Damaged { file, .. })) => damaged(alloc, text, &part, file),
