@@ -11,5 +11,6 @@ pub mod HeldRows
 pub mod Holding
 pub mod KeptColumns
 pub mod MarkedValues
+pub mod NumberMarks
 pub mod Opened
 pub mod SoundRows
