@@ -12,5 +12,6 @@ pub mod HeldRows
 pub mod Holding
 pub mod KeptColumns
 pub mod MarkedValues
+pub mod NumberMarks
 pub mod Opened
 pub mod SoundRows

@@ -1,8 +1,10 @@
 // What is kept of a part, compared with the values of a column.
-ghost use Rattle.std.specs.Prelude.{All, ◌≡◌, ◌<◌, ◌↔◌, ◌&&◌, ◌++◌, ◌∷◌, [], ℕ, true, IfErr, IfOk, IsTrue, List, MatchResult, OnOk, Some, length, slice_get};
+ghost use Rattle.std.specs.Prelude.{All, ◌≡◌, ◌≢◌, ◌<◌, ◌-◌, ◌*◌, ◌↔◌, ◌&&◌, ◌++◌, ◌∷◌, [], ℕ, true, IfErr, IfOk, IsTrue, List, MatchOption, MatchResult, None, OnOk, Some, length, slice_get, take};
 ghost use Rattle.std.specs.List.{cons_option};
 ghost use Rattle.std.specs.Option.{IfSome, option_map};
 ghost use Rattle.column_file.specs.Faults.{Explains};
+ghost use Rattle.column_file.specs.Spellings.{IsSpelling, fewest_bytes};
+ghost use Rattle.mt_values.specs.declared.value.ColType.TheVariants as type;
 ghost use Rattle.mt_values.specs.declared.value.Value.{Value};
 ghost use Rattle.mt_values.specs.Cells.{value_of};
 ghost use Rattle.mt_values.specs.ColumnBytes.{column_bytes};
@@ -115,6 +117,9 @@ fn marks_in(
     ensures { MatchResult result (AreMarksIn col_type count granularity bytes.now)
         (Explains col_type count bytes.now) }
 {
+    if are_numbers(col_type, bytes, count) {
+        return marks_of_numbers(alloc, col_type, bytes, count, granularity);
+    }
     let mut found = ColumnMarks {
         starts: Seq::new(alloc),
         firsts: ColumnData::new(alloc, col_type),
@@ -130,6 +135,103 @@ fn marks_in(
     }
     end_at(bytes, at)?;
     finish(found, at, last)
+}
+
+/// Whether the type is one of numbers, and the bytes are as many as `count` of them take.
+fn are_numbers(col_type: ColType, bytes: &[u8], count: usize) -> bool
+    ensures { IsTrue result → (col_type ≢ type.Text)
+        × (length bytes.now ≡ fewest_bytes col_type * count) }
+{
+    match number_width(col_type) {
+        None => false,
+        Some(width) => width.checked_mul(count) == Some(bytes.len()),
+    }
+}
+
+/// How many bytes each number of the type takes; none where its values are texts, which differ in length.
+fn number_width(col_type: ColType) -> Option<usize>
+    ensures { MatchOption result (col_type ≡ type.Text)
+        (λ width. (col_type ≢ type.Text) × (width ≡ fewest_bytes col_type)) }
+{
+    match col_type {
+        ColType::UInt8 | ColType::Int8 => Some(1),
+        ColType::UInt16 | ColType::Int16 => Some(2),
+        ColType::UInt32 | ColType::Int32 => Some(4),
+        ColType::UInt64 | ColType::Int64 => Some(8),
+        ColType::Text => None,
+    }
+}
+
+/// The marks of the numbers that the bytes spell: those with which granules begin, and the last, are read alone.
+///
+/// `NoMemory` where an allocation failed.
+fn marks_of_numbers(
+    alloc: Global,
+    col_type: ColType,
+    bytes: &[u8],
+    count: usize,
+    granularity: u32,
+) -> Result<ColumnMarks, FormatFault>
+    requires granularity { 0 < granularity }
+    requires number { col_type ≢ type.Text }
+    requires size { length bytes.now ≡ fewest_bytes col_type * count }
+    ensures { MatchResult result (AreMarksIn col_type count granularity bytes.now)
+        (λ e. e ≡ FormatFault.NoMemory) }
+{
+    let mut found = ColumnMarks {
+        starts: Seq::new(alloc),
+        firsts: ColumnData::new(alloc, col_type),
+    };
+    let size = granularity as usize;
+    for granule in 0..count.div_ceil(size) {
+        let Some((at, cell)) = number_at(col_type, bytes, count, granule * size) else {
+            unreachable!();
+        };
+        found.starts.push(at as u64)?;
+        found.firsts.push_cell(cell)?;
+    }
+    finish(found, bytes.len(), last_number(col_type, bytes, count))
+}
+
+/// Where the number at a place begins in the bytes, and the number; places are counted from 0.
+///
+/// `None` where there are no more than `place` numbers.
+fn number_at(
+    col_type: ColType,
+    bytes: &[u8],
+    count: usize,
+    place: usize,
+) -> Option<(usize, Cell<'_>)>
+    requires number { col_type ≢ type.Text }
+    requires size { length bytes.now ≡ fewest_bytes col_type * count }
+    ensures typed { IfSome result (λ p. type_of (value_of p.1) ≡ col_type) }
+    ensures number { (values : List Value) → IsSpelling col_type count bytes.now values
+        → MatchOption result (slice_get values place ≡ None) (λ p.
+        (p.0 ≡ length (column_bytes (take place values)))
+        × (slice_get values place ≡ Some (value_of p.1))) }
+{
+    if place >= count {
+        return None;
+    }
+    let at = number_width(col_type)? * place;
+    match cell_at(col_type, bytes, at) {
+        Ok((cell, _size)) => Some((at, cell)),
+        Err(_) => None,
+    }
+}
+
+/// The last of the numbers that the bytes spell, where there is one.
+fn last_number(col_type: ColType, bytes: &[u8], count: usize) -> Option<Cell<'_>>
+    requires number { col_type ≢ type.Text }
+    requires size { length bytes.now ≡ fewest_bytes col_type * count }
+    ensures typed { IfSome result (λ cell. type_of (value_of cell) ≡ col_type) }
+    ensures last { (values : List Value) → IsSpelling col_type count bytes.now values
+        → slice_get values (length values - 1) ≡ option_map value_of result }
+{
+    match number_at(col_type, bytes, count, count.saturating_sub(1)) {
+        Some((_at, cell)) => Some(cell),
+        None => None,
+    }
 }
 
 /// Goes over one value more, which begins at this place of the bytes. Where the last granule wants none any more, a granule begins with it.

@@ -1,7 +1,11 @@
 use Rattle.std.proofs.Common.{◌+◌, ◌∙◌, Some, arith, refl}
 use Rattle.mt_values.specs.Cells.{value_of}
 use Rattle.part_reader.proofs.MarkedValues.{gone_finished, gone_more, gone_within, last_typed, walk}
+use Rattle.part_reader.proofs.NumberMarks.{memory_explained}
 use Rattle.part_reader.proofs.comparing.marks_in.Goals as goal
+
+pub returns-then-are_numbers : goal.returns-then-are_numbers
+returns-then-are_numbers c = memory_explained c.args.col_type c.args.count c.args.granularity c.args.bytes.now c.marks_of_numbers.result c.marks_of_numbers.ensures
 
 pub loop-value-preserved : goal.loop-value-preserved
 loop-value-preserved c =
