@@ -84,12 +84,13 @@ shown_rising shown rows up k d low high =
 -- ---- damage
 
 -- damage of a column that is read is damage of a selected one
-pub explained_at : {F : Type 0} (files_of : F → Option Files) (types : List ColType) (parts : List (Kept (Part F))) (places read : List ℕ) (name : PartName) (reason : PartFault) → All (HasItem places) read → All (λ p. p < length types) places
-    → ExplainsParts files_of parts read (filter_map (slice_get types) read) name reason → ExplainsParts files_of parts places (filter_map (slice_get types) places) name reason
-explained_at files_of types parts places read name reason chosen within why =
+pub explained_at : {F : Type 0} (files_of : F → Option Files) (types read_as : List ColType) (parts : List (Kept (Part F))) (places read : List ℕ) (name : PartName) (reason : PartFault) → All (HasItem places) read → All (λ p. p < length types) places
+    → read_as ≡ filter_map (slice_get types) read → ExplainsParts files_of parts read read_as name reason → ExplainsParts files_of parts places (filter_map (slice_get types) places) name reason
+explained_at files_of types read_as parts places read name reason chosen within as_is why =
     let inside : why.at < length read = slice_get_within read why.at why.number why.number_is in
     let own : slice_get types why.number ≡ Some why.col_type =
-    sym (found_at types read why.at (read_within (λ p. p < length types) places read chosen within) ∙ ap (option_and_then (slice_get types)) why.number_is) ∙ why.type_is in
+    sym (found_at types read why.at (read_within (λ p. p < length types) places read chosen within) ∙ ap (option_and_then (slice_get types)) why.number_is)
+    ∙ (ap (λ (ts : List ColType). slice_get ts why.at) (sym as_is) ∙ why.type_is) in
     let item : HasItem places why.number = subst (HasItem places) (get_or_from_slice_get read why.at why.number 0 why.number_is) (chosen why.at 0 inside) in
     let here : slice_get places item.0 ≡ Some why.number = slice_get-get_or places item.0 why.number item.1 ∙ ap Some item.2 in
     record {

@@ -40,7 +40,7 @@ use Rattle.part_reader.specs.Parts.{PartHolds, with_columns}
 use Rattle.part_set.specs.declared.kept.Kept.{Kept}
 use Rattle.session.specs.Scans.{ArePlacesOf, PartsHold, joined_rows, rows_kept, values_at}
 use Rattle.replies.specs.Lines.{Printed}
-use Rattle.session.proofs.Picking.{shown_lines, shown_rising}
+use Rattle.session.proofs.Picking.{read_within, shown_lines, shown_rising}
 use Rattle.std.proofs.lemmas.List.Sorted.{IsPermutation-map}
 
 -- rows ordered by the key are the rows stably sorted by it
@@ -79,6 +79,11 @@ selected_below schema selected.All places is =
     let all : range_with_len 0 (length schema.columns) ≡ places = cc in
     subst (All (λ p. p < length schema.columns)) all (All-range (λ p. p < length schema.columns) (length schema.columns) (λ k h. h))
 selected_below schema (selected.Named names) places is = named_below schema.columns names places is
+
+-- and so are those of the columns that it reads
+pub read_below : (schema : Schema) (s : Selected) (places own read : List ℕ) → selected_places schema.columns s ≡ Ok places → All (HasItem places) own → read ≡ own → ArePlacesOf schema read
+read_below schema s places own read is chosen same =
+    subst (ArePlacesOf schema) (sym same) (read_within (λ place. place < length schema.columns) places own chosen (selected_below schema s places is))
 
 -- the columns of a SELECT, by its table
 module _ (s : SelectText) (h : History) where

@@ -3,7 +3,6 @@ use Rattle.std.proofs.Common.{◌≡◌, ◌<◌, ◌∙◌, ℕ, List, Some, le
 use Rattle.std.proofs.lemmas.List.{length-map}
 use Rattle.std.specs.List.{Contains as HasItem}
 use Rattle.mt_values.specs.declared.schema.Column.{Column}
-use Rattle.mt_values.specs.declared.value.ColType.{ColType}
 use Rattle.mt_values.specs.Order.{key_of}
 use Rattle.mt_model.specs.History.{column_types}
 use Rattle.mt_values.specs.Grid.{Cells, grid_of, rows_of}
@@ -12,15 +11,15 @@ use Rattle.mt_model.specs.Refusals.{is_damage}
 use Rattle.part_reader.specs.Faults.{IsNoDamage}
 use Rattle.replies.specs.Foreseen.{history}
 use Rattle.replies.specs.Lines.{Printed}
-use Rattle.session.proofs.Picking.{explained_at, read_within, rows_shown, shown_within}
-use Rattle.session.specs.Scans.{ArePlacesOf, ExplainsParts, PartsHold, joined_rows, rows_kept, values_at}
+use Rattle.session.proofs.Picking.{explained_at, rows_shown, shown_within}
+use Rattle.session.specs.Scans.{ExplainsParts, PartsHold, joined_rows, rows_kept, values_at}
 use Rattle.std.proofs.lemmas.Bool.{false≢true}
 use Rattle.part_reader.specs.declared.reading.PartFault.{PartFault}
 use Rattle.replies.proofs.Undamaged.{stage_line}
 use Rattle.session.proofs.Damaged.{all_hold, tells_of_damage}
 use Rattle.replies.proofs.Ends.{added_nothing, length_history, whole_front}
 use Rattle.replies.proofs.Refusing.{select_failed}
-use Rattle.session.proofs.Selecting.{columns_are, empty_even, empty_many, joined_typed, lent_back, projected, rows_counted, selected_below, selects, typed_have_all}
+use Rattle.session.proofs.Selecting.{columns_are, empty_even, empty_many, joined_typed, lent_back, projected, read_below, rows_counted, selected_below, selects, typed_have_all}
 use Rattle.session.proofs.SelectStanding.{snap_held, snap_schema}
 use Rattle.replies.proofs.Causing.{says_answer, says_damage, says_failed}
 use Rattle.replies.proofs.Counting.{line_of_stage}
@@ -36,9 +35,7 @@ pick_columns-requires g c =
 pub empty_columns-requires : goal.empty_columns-requires
 empty_columns-requires g c =
     let schema = c.args.snap.now.schema in
-    let within = selected_below schema c.args.text.now.columns c.args.places.now c.requires.places in
-    let read = c.as_slice-read.ensures.value in
-    subst (ArePlacesOf schema) (sym read) (read_within (λ place. place < length schema.columns) c.args.places.now c.in_ok-picked.picked.read.items c.in_ok-picked.ensures.selected within)
+    read_below schema c.args.text.now.columns c.args.places.now c.in_ok-picked.picked.read.items c.as_slice-read.result.now c.requires.places c.in_ok-picked.ensures.selected c.as_slice-read.ensures.value
 
 pub read_parts-requires-after_bounds : goal.read_parts-requires-after_bounds
 read_parts-requires-after_bounds g c κs within = ap length c.deref_mut.ensures.value ∙ empty_many c.as_slice-read.result.now c.in_ok-columns.columns.items c.in_ok-columns.ensures.empty
@@ -58,7 +55,7 @@ returns-clause-answers g c = λ kept store stands pinned.
     let files = g.R.Dir.Dir.files in
     let schema = c.args.snap.now.schema in
     let held = snap_held files (history kept) store stands c.args.text.now.table c.args.snap.now pinned in
-    let within = empty_columns-requires g c in
+    let within = read_below schema c.args.text.now.columns c.args.places.now c.in_ok-picked.picked.read.items c.as_slice-read.result.now c.requires.places c.in_ok-picked.ensures.selected c.as_slice-read.ensures.value in
     let types = ap (map (λ (x : Cells). x.col_type)) c.deref_mut.ensures.value ∙ c.in_ok-columns.ensures.types in
     let sound = c.in-Err-default-Damaged.ensures.sound schema held.rows (subst (λ ps. PartsHold files schema ps held.rows) (sym c.as_slice-parts.ensures.value) held.hold)
     within types in
@@ -82,8 +79,10 @@ print-requires-clause-shown g c =
     let back = lent_back items new c.in_ok-columns.columns.len (c.in-Ok.ensures.many ∙ ap length c.deref_mut.ensures.value) (ap length (sym c.deref_mut.ensures.value) ∙ c.deref_mut.ensures.len) in
     let picked = c.in_ok-picked.picked in
     let many : length new ≡ length picked.read.items = c.in-Ok.ensures.many ∙ ap length c.deref_mut.ensures.value ∙ empty_many c.as_slice-read.result.now items c.in_ok-columns.ensures.empty ∙ ap length c.as_slice-read.ensures.value in
-    let wide = ap length back ∙ many in
-    subst (All (λ at. at < _)) (sym c.as_slice.ensures.value) (subst (λ n. All (λ at. at < n) picked.shown.items) (sym wide) (shown_within picked.read.items picked.shown.items c.args.places.now c.in_ok-picked.ensures.shown))
+    let shown = c.as_slice.result.now in
+    let below : All (λ at. at < length picked.read.items) shown =
+    subst (All (λ at. at < length picked.read.items)) (sym c.as_slice.ensures.value) (shown_within picked.read.items picked.shown.items c.args.places.now c.in_ok-picked.ensures.shown) in
+    subst (λ (cs : List Cells). All (λ at. at < length cs) shown) (sym back) (subst (λ n. All (λ at. at < n) shown) (sym many) below)
 
 pub returns-in-Ok-clause-answers : goal.returns-in-Ok-clause-answers
 returns-in-Ok-clause-answers g c = λ kept store stands pinned.
@@ -94,7 +93,7 @@ returns-in-Ok-clause-answers g c = λ kept store stands pinned.
     let there = snap_schema files (history kept) store stands text.table c.args.snap.now pinned in
     let hold = subst (λ ps. PartsHold files schema ps held.rows) (sym c.as_slice-parts.ensures.value) held.hold in
     let chosen = c.requires.places in
-    let within = empty_columns-requires g c in
+    let within = read_below schema c.args.text.now.columns c.args.places.now c.in_ok-picked.picked.read.items c.as_slice-read.result.now c.requires.places c.in_ok-picked.ensures.selected c.as_slice-read.ensures.value in
     let lent = c.deref_mut.ensures.value in
     let items = c.in_ok-columns.columns.items in
     let new = c.read_parts.new.columns in
@@ -130,7 +129,7 @@ returns-clause-undamaged g c = λ held.
     let files = g.R.Dir.Dir.files in
     let schema = c.args.snap.now.schema in
     let hold = all_hold files schema c.args.snap.now.parts.items held in
-    let within = empty_columns-requires g c in
+    let within = read_below schema c.args.text.now.columns c.args.places.now c.in_ok-picked.picked.read.items c.as_slice-read.result.now c.requires.places c.in_ok-picked.ensures.selected c.as_slice-read.ensures.value in
     let types = ap (map (λ (x : Cells). x.col_type)) c.deref_mut.ensures.value ∙ c.in_ok-columns.ensures.types in
     let sound = c.in-Err-default-Damaged.ensures.sound schema hold.0 (subst (λ ps. PartsHold files schema ps hold.0) (sym c.as_slice-parts.ensures.value) hold.1)
     within types in
@@ -152,14 +151,14 @@ returns-clause-damaged g c =
     let parts = c.as_slice-parts.result.now in
     let places = c.args.places.now in
     let read = c.as_slice-read.result.now in
-    let Explains : List ColType → PartFault → Type 0 = λ ts w. ExplainsParts files parts read ts c.in-Err-default-Damaged.part w in
     let types = ap (map (λ (x : Cells). x.col_type)) c.deref_mut.ensures.value ∙ c.in_ok-columns.ensures.types in
     let within = subst (λ n. All (λ p. p < n) places) (sym (length-map schema.columns (λ (x : Column). x.col_type))) (selected_below schema text.columns places chosen) in
     let selected = subst (All (HasItem places)) (sym c.as_slice-read.ensures.value) c.in_ok-picked.ensures.selected in
-    let why = subst (λ ts. Explains ts _) types (subst (Explains (map (λ (x : Cells). x.col_type) c.deref_mut.result.now)) c.in-Err-default-Damaged.field-0-1-is c.in-Err-default-Damaged.ensures.damaged) in
+    let read_as = map (λ (x : Cells). x.col_type) c.deref_mut.result.now in
+    let why = subst (λ (w : PartFault). ExplainsParts files parts read read_as c.in-Err-default-Damaged.part w) c.in-Err-default-Damaged.field-0-1-is c.in-Err-default-Damaged.ensures.damaged in
     IfOk-weaker c.damaged.result _ _ (λ line is bad. tells_of_damage files c.args.snap.now text line places chosen
     parts (filter_map (slice_get (column_types schema)) places) c.as_slice-parts.ensures.value refl
-    c.in-Err-default-Damaged.part c.in-Err-default-Damaged.file _ _ _ (explained_at files (column_types schema) parts places read c.in-Err-default-Damaged.part _ selected within why)
+    c.in-Err-default-Damaged.part c.in-Err-default-Damaged.file _ _ _ (explained_at files (column_types schema) read_as parts places read c.in-Err-default-Damaged.part _ selected within types why)
     is) c.damaged.ensures
 
 pub returns-in-Ok-clause-damaged : goal.returns-in-Ok-clause-damaged
