@@ -15,4 +15,3 @@ returns-clause-found c =
     let at : length read ≡ c.in-Ok.at = omega (arith, c.len.ensures, c.in-Ok.ensures) in
     subst (AreFound (set found place (Some c.in-Ok.at))) (sym c.in_ok-push.ensures.items)
     (subst (λ n. AreFound (set found place (Some n)) (read ++ place ∷ [])) at (found_push found read place c.requires.found free))
-
