@@ -1,7 +1,7 @@
 // The workload `events` in plain Rust, with the program's own way of working: each INSERT is read into columns, its rows are split by
 // their partition and sorted by their key, as pairs of a number and a place, and each partition is written as a part: the program's
-// files, with their SHA-256 in a manifest, each synced before the folder gets its name. For the SELECT the columns are read back,
-// checked, sorted and printed. It knows one table, `e (k UInt64, a UInt32, b Int64, s String, c UInt8)` with the key k, parted by a
+// files, with their SHA-256 in a manifest, each synced before the folder gets its name. For the SELECT the columns are read back, with no
+// digest compared, sorted and printed. It knows one table, `e (k UInt64, a UInt32, b Int64, s String, c UInt8)` with the key k, parted by a
 // or not at all, and no escapes. With --times it tells the steps apart on standard error.
 mod sha256;
 
@@ -225,17 +225,12 @@ impl Steps {
     }
 }
 
-/// A part that has its name, with the digests of its columns.
-struct Part {
-    folder: PathBuf,
-    digests: [[u8; 32]; 5],
-}
-
 /// The table, and how many commands were accepted.
 struct Table {
     root: PathBuf,
     is_parted: bool,
-    parts: Vec<Part>,
+    /// The folders of the parts.
+    parts: Vec<PathBuf>,
     length: usize,
     steps: Steps,
 }
@@ -256,8 +251,8 @@ impl Table {
         Ok(Table { root: root.to_path_buf(), is_parted, parts: Vec::new(), length: 1, steps: Steps::new() })
     }
 
-    /// Writes the rows of a partition into a stage, and gives its folder and the digests of its columns.
-    fn stage(&mut self, columns: &Columns, pairs: &[(u64, u32)], number: usize) -> io::Result<Part> {
+    /// Writes the rows of a partition into a stage, and gives its folder.
+    fn stage(&mut self, columns: &Columns, pairs: &[(u64, u32)], number: usize) -> io::Result<PathBuf> {
         let folder = self.root.join(format!(".stage_{number}"));
         let files = encode(columns, pairs);
         self.steps.end("encode");
@@ -271,8 +266,7 @@ impl Table {
         }
         write_synced(&folder.join("manifest.bin"), &manifest)?;
         self.steps.end("write and sync");
-        let [_, _, digests @ ..] = digests;
-        Ok(Part { folder, digests })
+        Ok(folder)
     }
 
     /// Adds the rows of one INSERT, which end at a line `\.`: a stage for each of its partitions, and then a name for each.
@@ -288,31 +282,22 @@ impl Table {
         for (number, pairs) in partitions.iter().enumerate() {
             staged.push(self.stage(&columns, pairs, number)?);
         }
-        for (part, pairs) in staged.into_iter().zip(&partitions) {
+        for (stage, pairs) in staged.iter().zip(&partitions) {
             let (number, place) = (self.parts.len() + 1, pairs[0].1 as usize);
             let partition = if self.is_parted { columns.a[place].to_string() } else { "all".to_string() };
             let name = format!("e.part_{partition}_{number}_{number}_0");
-            let folder = publish(&self.root, &part.folder, &name)?;
-            self.parts.push(Part { folder, ..part });
+            self.parts.push(publish(&self.root, stage, &name)?);
             self.length += 1;
         }
         self.steps.end("publish");
         Ok(())
     }
 
-    /// The columns of a part, read back and checked.
+    /// The columns of a part, read back.
     fn read(&mut self, number: usize) -> io::Result<Vec<Vec<u8>>> {
-        let part = &self.parts[number];
-        let mut files = Vec::new();
-        for (column, digest) in part.digests.iter().enumerate() {
-            let bytes = fs::read(part.folder.join(format!("c{column}.bin")))?;
-            if sha256(&bytes) != *digest {
-                return Err(io::ErrorKind::InvalidData.into());
-            }
-            files.push(bytes);
-        }
-        self.steps.end("read back and check");
-        Ok(files)
+        let files = (0..5).map(|column| fs::read(self.parts[number].join(format!("c{column}.bin")))).collect();
+        self.steps.end("read back");
+        files
     }
 
     /// The reply to the SELECT of all columns.
