@@ -44,3 +44,7 @@ granularity_limit = 65536
 -- how many rows a granule has where a table's statement does not say it (ClickHouse, MergeTree: index_granularity)
 abbrev pub default_granularity : ℕ
 default_granularity = 8192
+
+-- the most parentheses and NOTs of a condition that are open at once
+abbrev pub depth_limit : ℕ
+depth_limit = 64

@@ -32,3 +32,6 @@ pub const GRANULARITY_LIMIT: u32 = 65_536;
 
 /// How many rows a granule has where a table's statement does not say it.
 pub const DEFAULT_GRANULARITY: u32 = 8192;
+
+/// No more parentheses and NOTs of a condition are open at once than this.
+pub const DEPTH_LIMIT: usize = 64;

@@ -5,8 +5,11 @@ pub mod Grids
 pub mod KeyOrders
 pub mod Leads
 pub mod Limited
+pub mod Literals
+pub mod Masks
 pub mod OrderBy
 pub mod Orders
+pub mod Polish
 pub mod Repeats
 pub mod RowBounds
 pub mod RowPartitions
@@ -15,3 +18,4 @@ pub mod RowValues
 pub mod ScriptBounds
 pub mod Texts
 pub mod TokenBounds
+pub mod Wheres

@@ -2,6 +2,11 @@
 use Rattle.std.specs.Prelude.{ℕ, zero, suc, Bool, true, false, not, ◌&&◌, ◌||◌, ◌==◌, nat_le, nat_lt, List, [], ◌∷◌, ◌++◌, length, Result, Ok, Err, if◌then◌else◌, codes}
 use Rattle.std.specs.Cmp.Lexicographic.{pointwise}
 use Rattle.std.specs.List.{list_any}
+use Rattle.mt_values.specs.declared.expr.Comparison.{Comparison}
+use Rattle.mt_values.specs.declared.expr.Comparison.TheVariants as comparison
+use Rattle.mt_values.specs.declared.expr.Literal.{Literal}
+use Rattle.mt_values.specs.declared.expr.LiteralText.TheVariants as literal_text
+use Rattle.mt_values.specs.declared.expr.TestText.{TestText}
 use Rattle.mt_values.specs.declared.value.ColType.{ColType}
 use Rattle.mt_values.specs.declared.value.ColType.TheVariants as type
 use Rattle.mt_values.specs.declared.schema.Column.{Column}
@@ -14,6 +19,7 @@ use Rattle.mt_values.specs.declared.statement.Cause.{Cause}
 use Rattle.mt_values.specs.declared.statement.Cause.TheVariants as cause
 use Rattle.mt_values.specs.declared.statement.Clause.{Clause}
 use Rattle.mt_values.specs.declared.statement.Clause.TheVariants as clause
+use Rattle.mt_values.specs.declared.statement.SelectText.{SelectText}
 use Rattle.mt_values.specs.declared.statement.Selected.{Selected}
 use Rattle.mt_values.specs.declared.statement.Selected.TheVariants as selected
 use Rattle.mt_values.specs.declared.statement.Slip.{Slip}
@@ -21,9 +27,10 @@ use Rattle.mt_values.specs.declared.statement.Slip.TheVariants as slip
 use Rattle.mt_values.specs.declared.statement.Statement.{Statement}
 use Rattle.mt_values.specs.declared.statement.Statement.TheVariants as statement
 pub use Rattle.mt_base.specs.Limits.{statement_limit}
-use Rattle.mt_base.specs.Limits.{name_limit}
+use Rattle.mt_base.specs.Limits.{depth_limit, name_limit}
 use Rattle.mt_values.specs.Tokens.{is_keyword, tokens_of}
-use Rattle.mt_values.specs.Readers.{Reader, Reading, Test, Part, done, either, expect, choose, listed}
+use Rattle.mt_values.specs.Conditions.{Condition, Always, And, Holds, Not, Or}
+use Rattle.mt_values.specs.Readers.{Reader, Reading, Test, Part, done, either, expect, choose, here, listed}
 
 -- equal bytes
 abbrev pub same_bytes : List ℕ → List ℕ → Bool
@@ -138,6 +145,20 @@ number token.Stray = Err slip.Wrong
 abbrev pub list_of : {S X : Type 0} → Part S X → Part S (List X)
 list_of item = listed (is_symbol symbol.Comma) (the symbol.Comma) item
 
+-- x { k x }, joined from the left: what follows those that came, at most so many
+abbrev pub joined_within : {S X : Type 0} → ℕ → List ℕ → (X → X → X) → Part S X → X → Part S X
+joined_within zero k join item front next = next front
+joined_within (suc n) k join item front next =
+    choose (is_word (is_keyword k)) (expect (keyword k) (λ _. item (λ x. joined_within n k join item (join front x) next))) (next front)
+
+-- there are no more of them than tokens
+abbrev pub joined_from : {S X : Type 0} → List ℕ → (X → X → X) → Part S X → X → Part S X
+joined_from k join item front next ts = joined_within (length ts) k join item front next ts
+
+-- x { k x }, joined from the left
+abbrev pub joined_by : {S X : Type 0} → List ℕ → (X → X → X) → Part S X → Part S X
+joined_by k join item next = item (λ x. joined_from k join item x next)
+
 abbrev pub one_name : {S : Type 0} → Part S (List ℕ)
 one_name next = expect name next
 
@@ -228,6 +249,113 @@ is_format w = same_bytes w (codes "TabSeparated") || same_bytes w (codes "TSV")
 abbrev pub format : Test (Unit {0})
 format t = passing (is_word is_format t)
 
+-- ---- conditions
+
+-- a string
+abbrev pub is_text : Token → Bool
+is_text (token.Text bytes) = true
+is_text t = false
+
+abbrev pub string : Test (List ℕ)
+string (token.Text bytes) = Ok bytes
+string (token.Word w) = Err slip.Wrong
+string (token.Number n) = Err slip.Wrong
+string (token.Symbol s) = Err slip.Wrong
+string token.Stray = Err slip.Wrong
+
+-- the comparison that a symbol says
+abbrev pub comparison_of : Symbol → Result Comparison Slip
+comparison_of symbol.Equal = Ok comparison.Equal
+comparison_of symbol.NotEqual = Ok comparison.NotEqual
+comparison_of symbol.Less = Ok comparison.Less
+comparison_of symbol.LessOrEqual = Ok comparison.LessOrEqual
+comparison_of symbol.Greater = Ok comparison.Greater
+comparison_of symbol.GreaterOrEqual = Ok comparison.GreaterOrEqual
+comparison_of s = Err slip.Wrong
+
+-- op = "=" | "!=" | "<>" | "<" | "<=" | ">" | ">="
+abbrev pub operator : Test Comparison
+operator (token.Symbol s) = comparison_of s
+operator (token.Word w) = Err slip.Wrong
+operator (token.Number n) = Err slip.Wrong
+operator (token.Text t) = Err slip.Wrong
+operator token.Stray = Err slip.Wrong
+
+-- [ "+" | "-" ]: whether it is a minus
+abbrev pub sign : {S : Type 0} → Part S Bool
+sign next =
+    choose (is_symbol symbol.Plus) (expect (the symbol.Plus) (λ _. next false))
+    (choose (is_symbol symbol.Minus) (expect (the symbol.Minus) (λ _. next true)) (next false))
+
+-- a string, as a literal that begins at a place
+abbrev pub text_at : {S : Type 0} → ℕ → Part S Literal
+text_at place next = expect string (λ bytes. next (record { at = place; text = literal_text.Text bytes }))
+
+-- [ "+" | "-" ] number, as a literal that begins at a place
+abbrev pub number_at : {S : Type 0} → ℕ → Part S Literal
+number_at place next = sign (λ negative. expect number (λ digits. next (record { at = place; text = literal_text.Number negative digits })))
+
+-- literal = [ "+" | "-" ] number | string
+abbrev pub literal : {S : Type 0} → Part S Literal
+literal next = here (λ place. choose is_text (text_at place next) (number_at place next))
+
+-- IN "(" literal { "," literal } ")", which is "=" with one of several
+abbrev pub membership : {S : Type 0} → Part S (Comparison × List Literal)
+membership next =
+    expect (keyword (codes "IN")) (λ _. expect (the symbol.Open) (λ _. list_of literal (λ literals. expect (the symbol.Close) (λ _.
+    next (comparison.Equal, literals)))))
+
+-- op literal
+abbrev pub comparing : {S : Type 0} → Part S (Comparison × List Literal)
+comparing next = expect operator (λ found. literal (λ l. next (found, l ∷ [])))
+
+-- what follows the column of a test
+abbrev pub compared : {S : Type 0} → Part S (Comparison × List Literal)
+compared next = choose (is_word (is_keyword (codes "IN"))) (membership next) (comparing next)
+
+-- test = name op literal | name IN "(" literal { "," literal } ")"
+abbrev pub test : {S : Type 0} → Part S TestText
+test next = expect name (λ column. compared (λ found. next (record { column = column; comparison = found.0; literals = found.1 })))
+
+-- conj = term { AND term }
+abbrev pub all_of : {S : Type 0} → Part S (Condition TestText) → Part S (Condition TestText)
+all_of term = joined_by (codes "AND") And term
+
+-- expr = conj { OR conj }
+abbrev pub some_of : {S : Type 0} → Part S (Condition TestText) → Part S (Condition TestText)
+some_of term = joined_by (codes "OR") Or (all_of term)
+
+-- the condition that is one test
+abbrev pub holding : {S : Type 0} → Part S (Condition TestText)
+holding next = test (λ t. next (Holds t))
+
+-- the tokens that open a parenthesis or a NOT
+abbrev pub opens : Token → Bool
+opens t = is_word (is_keyword (codes "NOT")) t || is_symbol symbol.Open t
+
+-- NOT term | "(" expr ")"
+abbrev pub opened : {S : Type 0} → Part S (Condition TestText) → Part S (Condition TestText)
+opened term next =
+    choose (is_word (is_keyword (codes "NOT"))) (expect (keyword (codes "NOT")) (λ _. term (λ c. next (Not c))))
+    (expect (the symbol.Open) (λ _. some_of term (λ c. expect (the symbol.Close) (λ _. next c))))
+
+-- a token that opens one more than may be open
+abbrev pub too_deep : Test (Unit {0})
+too_deep t = Err slip.TooDeep
+
+-- term = NOT term | "(" expr ")" | test, with so many parentheses and NOTs that may still be opened
+unfoldable pub term_within : {S : Type 0} → ℕ → Part S (Condition TestText)
+term_within zero next = choose opens (expect too_deep (λ _. next Always)) (holding next)
+term_within (suc n) next = choose opens (opened (term_within n) next) (holding next)
+
+-- expr, of which at most a bound of parentheses and NOTs are open at once
+abbrev pub expr : {S : Type 0} → Part S (Condition TestText)
+expr = some_of (term_within depth_limit)
+
+-- [ WHERE expr ]
+abbrev pub where_part : {S : Type 0} → Part S (Condition TestText)
+where_part next = choose (is_word (is_keyword (codes "WHERE"))) (expect (keyword (codes "WHERE")) (λ _. expr next)) (next Always)
+
 -- selected = "*" | name { "," name }
 abbrev pub selection : {S : Type 0} → Part S Selected
 selection next =
@@ -253,17 +381,25 @@ insert lines ended =
     (expect (keyword (codes "FORMAT")) (λ _. expect format (λ _. ends (statement.Insert (record { table = table; lines = lines; ended = ended })))))
     (ends (statement.Insert (record { table = table; lines = lines; ended = ended }))))))
 
--- select = SELECT selected FROM name
-abbrev pub select : Reader Statement
-select =
+-- select = SELECT selected FROM name [ WHERE expr ]
+abbrev pub select_text : {S : Type 0} → Part S SelectText
+select_text next =
     expect (keyword (codes "SELECT")) (λ _. selection (λ columns. expect (keyword (codes "FROM")) (λ _. expect name (λ table.
-    ends (statement.Select (record { columns = columns; table = table }))))))
+    where_part (λ condition. next (record { columns = columns; table = table; condition = condition }))))))
+
+abbrev pub select : Reader Statement
+select = select_text (λ asked. ends (statement.Select asked))
+
+-- explain = EXPLAIN select
+abbrev pub explain : Reader Statement
+explain = expect (keyword (codes "EXPLAIN")) (λ _. select_text (λ asked. ends (statement.Explain asked)))
 
 -- a statement of this text, with its data
 abbrev pub statement_reader : List ℕ → List ℕ → Bool → Reader Statement
 statement_reader text lines ended =
     choose (is_word (is_keyword (codes "CREATE"))) (create text)
-    (choose (is_word (is_keyword (codes "INSERT"))) (insert lines ended) select)
+    (choose (is_word (is_keyword (codes "INSERT"))) (insert lines ended)
+    (choose (is_word (is_keyword (codes "EXPLAIN"))) explain select))
 
 -- ---- texts
 
@@ -280,11 +416,13 @@ place_of_first size (p ∷ ps) = p.at
 abbrev pub cause_at : Slip → ℕ → Cause
 cause_at slip.Wrong place = cause.Grammar place
 cause_at slip.LongName place = cause.LongName
+cause_at slip.TooDeep place = cause.TooDeep
 
 -- the bound on a statement's length stands before the fault; where both stand at one place, a fault of the grammar comes first
 abbrev pub is_behind_limit : Slip → ℕ → Bool
 is_behind_limit slip.Wrong place = nat_lt statement_limit place
 is_behind_limit slip.LongName place = nat_le statement_limit place
+is_behind_limit slip.TooDeep place = nat_le statement_limit place
 
 abbrev pub refused_at : ℕ → Slip → ℕ → Cause
 refused_at size s place = if nat_lt statement_limit size && is_behind_limit s place then cause.LongStatement else cause_at s place

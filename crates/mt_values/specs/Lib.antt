@@ -2,12 +2,17 @@ pub mod Annals
 pub mod Cells
 pub mod ColumnBytes
 pub mod Columns
+pub mod Conditions
 pub mod Escapes
 pub mod Grammar
+pub mod Granules
 pub mod Grid
 pub mod Lists
+pub mod Literals
 pub mod Manifests
 pub mod Order
+pub mod Polish
+pub mod PolishCode
 pub mod Printing
 pub mod Readers
 pub mod RootNames
@@ -17,5 +22,6 @@ pub mod Script
 pub mod Sorting
 pub mod Strings
 pub mod Tables
+pub mod Tests
 pub mod Tokens
 pub mod Values

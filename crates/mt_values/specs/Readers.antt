@@ -43,6 +43,15 @@ choose test this other (p ∷ ps) = either (test p.token) this other (p ∷ ps)
 abbrev pub Part : Type 0 → Type 0 → Type 0
 Part S X = (X → Reader S) → Reader S
 
+-- the place of the next token; none is read at their end, so that any number stands there
+abbrev pub place_of_next : List Placed → ℕ
+place_of_next [] = 0
+place_of_next (p ∷ ps) = p.at
+
+-- the place of the next token, which stays the next
+abbrev pub here : {S : Type 0} → Part S ℕ
+here next ts = next (place_of_next ts) ts
+
 -- one part after another, as long as the token between them comes; after those that came before, and at most so many
 abbrev pub listed_within : {S X Y : Type 0} → ℕ → (Token → Bool) → Test Y → Part S X → List X → Part S (List X)
 listed_within zero more between item front next ts = Err (slip.Wrong, ts)

@@ -15,7 +15,7 @@ use std::marker::Model;
 
 /// The values of a column, in a vector of their type.
 #[derive(Debug, Drop)]
-enum Cells {
+pub(crate) enum Cells {
     UInt8(Vec<u8>),
     UInt16(Vec<u16>),
     UInt32(Vec<u32>),
@@ -30,7 +30,7 @@ enum Cells {
 /// A column of a block. Contracts see its type and the list of its values.
 #[derive(Debug, Drop)]
 pub struct ColumnData {
-    cells: Cells,
+    pub(crate) cells: Cells,
 }
 
 impl Cells {
@@ -38,7 +38,7 @@ impl Cells {
     ghost use Rattle.mt_values.specs.Columns.{cells_of};
 
     /// The number of values.
-    fn len(&self) -> usize
+    pub(crate) fn len(&self) -> usize
         ensures { result ≡ length (cells_of self.now).values }
     {
         match self {
@@ -55,7 +55,7 @@ impl Cells {
     }
 
     /// The value at a place, counted from 0.
-    fn at(&self, place: usize) -> Cell<'_>
+    pub(crate) fn at(&self, place: usize) -> Cell<'_>
         requires { place < length (cells_of self.now).values }
         ensures { slice_get (cells_of self.now).values place ≡ Some (value_of result) }
     {

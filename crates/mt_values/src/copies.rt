@@ -1,5 +1,5 @@
 // Equal copies of what tables are made of.
-use crate::{ColType, Column, Schema, Value};
+use crate::{ColType, Column, Schema, Test, Value};
 use mt_base::{NoMemory, Twin};
 use std::alloc::Global;
 
@@ -42,6 +42,16 @@ impl Twin for Schema {
             primary: self.primary.twin(alloc)?,
             partition: self.partition,
             granularity: self.granularity,
+        })
+    }
+}
+
+impl Twin for Test {
+    fn twin(&self, alloc: Global) -> Result<Self, NoMemory> {
+        Ok(Test {
+            column: self.column,
+            comparison: self.comparison,
+            literals: self.literals.twin(alloc)?,
         })
     }
 }

@@ -1,5 +1,5 @@
 // Statements as they were read from a script.
-use crate::{Bytes, Column, Name};
+use crate::{Bytes, Column, Expr, Name, TestText};
 use mt_base::Seq;
 
 /// A statement of a script, with its data.
@@ -8,6 +8,8 @@ pub enum Statement {
     Create(CreateText),
     Insert(InsertText),
     Select(SelectText),
+    /// What a SELECT would read.
+    Explain(SelectText),
 }
 
 /// Why a text is refused as it is read.
@@ -20,6 +22,8 @@ pub enum Cause {
     LongStatement,
     /// A name in it is longer than a name may be.
     LongName,
+    /// More parentheses and NOTs of a condition are open at once than may be.
+    TooDeep,
 }
 
 /// Why a token can't stand where it does.
@@ -29,6 +33,8 @@ pub enum Slip {
     Wrong,
     /// It is a name, and longer than a name may be.
     LongName,
+    /// It opens a parenthesis or a NOT of a condition, and as many as may be are open.
+    TooDeep,
 }
 
 /// A CREATE TABLE. Its names are as they were written.
@@ -72,9 +78,11 @@ pub enum Selected {
     Named(Seq<Name>),
 }
 
-/// A SELECT. Its names are as they were written.
+/// A SELECT. Its names and literals are as they were written.
 #[derive(Drop)]
 pub struct SelectText {
     pub columns: Selected,
     pub table: Name,
+    /// What stands after WHERE; no condition where there is none.
+    pub condition: Expr<TestText>,
 }

@@ -1,0 +1,13 @@
+use Rattle.mt_values.proofs.Polish.{built_is, joined_or}
+use Rattle.mt_values.proofs.expr.Expr.or.Goals as goal
+
+pub invariant_of-result : goal.invariant_of-result
+invariant_of-result g c =
+    joined_or c.args.self c.args.other c.in_ok-tests.tests c.in_ok-tests.joints
+    c.in_ok-tests.ensures.tests c.in_ok-tests.ensures.joints c.in_ok-tests.ensures.few c.requires
+
+pub returns : goal.returns
+returns g c =
+    built_is c.in_ok-tests.tests c.in_ok-tests.joints
+    (joined_or c.args.self c.args.other c.in_ok-tests.tests c.in_ok-tests.joints
+    c.in_ok-tests.ensures.tests c.in_ok-tests.ensures.joints c.in_ok-tests.ensures.few c.requires)

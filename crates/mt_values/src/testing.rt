@@ -1,0 +1,91 @@
+// Which values of a column meet a test: one match on the column's type, and then one loop for each literal over the
+// vector of that type.
+ghost use Rattle.std.specs.Prelude.{◌≡◌, ◌||◌, Bool, IfOk, List, ℕ, length, map};
+ghost use Rattle.std.specs.Cmp.Lexicographic.{slice_cmp};
+ghost use Rattle.std.specs.Ordering.{nat_cmp};
+ghost use Rattle.mt_values.specs.Cells.{value_of};
+ghost use Rattle.mt_values.specs.Columns.{cells_of};
+ghost use Rattle.mt_values.specs.Order.{value_cmp};
+ghost use Rattle.mt_values.specs.Tests.{meets, says};
+ghost use Rattle.mt_values.specs.declared.value.Value.{Value};
+
+use crate::column::Cells;
+use crate::eval::says;
+use crate::sorting::cmp_cells;
+use crate::strings::Strings;
+use crate::{Cell, ColumnData, Comparison, Test, Value};
+use mt_base::NoMemory;
+use std::alloc::Global;
+
+impl ColumnData {
+    /// Whether each value meets a test, in the order of the values.
+    ///
+    /// `NoMemory` where an allocation failed.
+    pub fn tested(&self, alloc: Global, test: &Test) -> Result<Vec<bool>, NoMemory>
+        ensures { IfOk result (λ v. v.items ≡ map (meets test.now) self.now.values) }
+    {
+        let mut mask = vec![in alloc; false; self.cells.len()]?;
+        for literal in test.literals.as_slice() {
+            self.cells.add_met(&mut mask, test.comparison, literal);
+        }
+        Ok(mask)
+    }
+}
+
+impl Cells {
+    /// Adds to a mask the values that compare so with a literal. A literal of another type, which no statement gives, is
+    /// asked of each value by itself.
+    fn add_met(&self, mask: &mut [bool], comparison: Comparison, literal: &Value)
+        requires { length mask.old ≡ length (cells_of self.now).values }
+        ensures { (f : Value → Bool) → mask.old ≡ map f (cells_of self.now).values
+            → mask.new ≡ map (λ v. f v || says comparison (value_cmp v literal.now))
+            (cells_of self.now).values }
+    {
+        match (self, literal) {
+            (Cells::UInt8(v), Value::UInt8(n)) => add_numbers(mask, comparison, v, *n),
+            (Cells::UInt16(v), Value::UInt16(n)) => add_numbers(mask, comparison, v, *n),
+            (Cells::UInt32(v), Value::UInt32(n)) => add_numbers(mask, comparison, v, *n),
+            (Cells::UInt64(v), Value::UInt64(n)) => add_numbers(mask, comparison, v, *n),
+            (Cells::Int8(v), Value::Int8(n)) => add_numbers(mask, comparison, v, *n),
+            (Cells::Int16(v), Value::Int16(n)) => add_numbers(mask, comparison, v, *n),
+            (Cells::Int32(v), Value::Int32(n)) => add_numbers(mask, comparison, v, *n),
+            (Cells::Int64(v), Value::Int64(n)) => add_numbers(mask, comparison, v, *n),
+            (Cells::Text(v), Value::Text(s)) => add_texts(mask, comparison, v, s.as_slice()),
+            _ => self.add_values(mask, comparison, Cell::of(literal)),
+        }
+    }
+
+    /// Adds to a mask the values that compare so with a literal of any type.
+    fn add_values(&self, mask: &mut [bool], comparison: Comparison, literal: Cell)
+        requires { length mask.old ≡ length (cells_of self.now).values }
+        ensures { (f : Value → Bool) → mask.old ≡ map f (cells_of self.now).values
+            → mask.new ≡ map (λ v. f v || says comparison (value_cmp v (value_of literal.entry)))
+            (cells_of self.now).values }
+    {
+        for place in 0..self.len() {
+            mask[place] = mask[place] | says(comparison, cmp_cells(self.at(place), literal));
+        }
+    }
+}
+
+/// Adds to a mask the numbers that compare so with another.
+fn add_numbers<T: Ord + Copy>(mask: &mut [bool], comparison: Comparison, numbers: &[T], literal: T)
+    requires { length mask.old ≡ length numbers.now }
+    ensures { (f : T → Bool) → mask.old ≡ map f numbers.now
+        → mask.new ≡ map (λ n. f n || says comparison (T.cmp n literal)) numbers.now }
+{
+    for (place, number) in numbers.iter().enumerate() {
+        mask[place] = mask[place] | says(comparison, number.cmp(&literal));
+    }
+}
+
+/// Adds to a mask the texts that compare so with another.
+fn add_texts(mask: &mut [bool], comparison: Comparison, texts: &Strings, literal: &[u8])
+    requires { length mask.old ≡ length texts.now }
+    ensures { (f : List ℕ → Bool) → mask.old ≡ map f texts.now
+        → mask.new ≡ map (λ s. f s || says comparison (slice_cmp nat_cmp s literal.now)) texts.now }
+{
+    for place in 0..texts.len() {
+        mask[place] = mask[place] | says(comparison, texts.at(place).cmp(&literal));
+    }
+}
