@@ -2,9 +2,12 @@ pub mod Chains
 pub mod Choices
 pub mod FaultStatements
 pub mod Faults
+pub mod FaultConditions
 pub mod FaultParts
+pub mod FaultTokens
 pub mod FirstWords
 pub mod Growth
+pub mod Joined
 pub mod Keywords
 pub mod Listed
 pub mod NextClauses
@@ -12,5 +15,7 @@ pub mod Nexts
 pub mod Pieces
 pub mod Sections
 pub mod Skipping
+pub mod Takes
+pub mod Terms
 pub mod TextParts
 pub mod TokenSteps

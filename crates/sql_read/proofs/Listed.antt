@@ -36,7 +36,7 @@ either_same : {S : Type 0} (c : Bool) (this that other : Reader S) (ts : List Pl
 either_same true this that other ts same = same
 either_same false this that other ts same = refl
 
-choose_same : {S : Type 0} (test : Token → Bool) (this that other : Reader S) (ts : List Placed) → this ts ≡ that ts → choose test this other ts ≡ choose test that other ts
+pub choose_same : {S : Type 0} (test : Token → Bool) (this that other : Reader S) (ts : List Placed) → this ts ≡ that ts → choose test this other ts ≡ choose test that other ts
 choose_same test this that other [] same = refl
 choose_same test this that other (p ∷ ps) same = either_same (test p.token) this that other (p ∷ ps) same
 

@@ -1,13 +1,13 @@
 // What is left of a statement's tokens, read from the left.
 ghost use Rattle.std.specs.Prelude.{◌≡◌, ◌<◌, ◌≤◌, Bool, length, OnOk, codes};
 ghost use Rattle.mt_values.specs.declared.token.Token.{Token};
-ghost use Rattle.mt_values.specs.Grammar.{exactly, fits_name, format, is_format, is_reserved, is_symbol, is_word, keyword, name, number, passing, plain, same_bytes, the, type_named};
-ghost use Rattle.mt_values.specs.Readers.{expect};
+ghost use Rattle.mt_values.specs.Grammar.{comparison_of, exactly, fits_name, format, is_format, is_reserved, is_symbol, is_text, is_word, keyword, name, number, operator, passing, plain, same_bytes, string, the, type_named};
+ghost use Rattle.mt_values.specs.Readers.{expect, place_of_next};
 ghost use Rattle.mt_values.specs.Tokens.{is_keyword};
 ghost use Rattle.sql_read.specs.Reads.{Reads, Skips, first_is};
 
 use mt_base::{NAME_LIMIT, Stop, Twin};
-use mt_values::{Bytes, ColType, Name, Placed, Slip, Symbol, Token};
+use mt_values::{Bytes, ColType, Comparison, Name, Placed, Slip, Symbol, Token};
 use std::alloc::Global;
 use std::marker::Model;
 
@@ -102,6 +102,21 @@ fn type_named(word: &[u8]) -> Result<ColType, Slip>
     Err(Slip::Wrong)
 }
 
+// The comparison that a symbol says.
+fn comparison_of(symbol: Symbol) -> Result<Comparison, Slip>
+    ensures { result ≡ comparison_of symbol }
+{
+    match symbol {
+        Symbol::Equal => Ok(Comparison::Equal),
+        Symbol::NotEqual => Ok(Comparison::NotEqual),
+        Symbol::Less => Ok(Comparison::Less),
+        Symbol::LessOrEqual => Ok(Comparison::LessOrEqual),
+        Symbol::Greater => Ok(Comparison::Greater),
+        Symbol::GreaterOrEqual => Ok(Comparison::GreaterOrEqual),
+        _ => Err(Slip::Wrong),
+    }
+}
+
 impl<'a> Cursor<'a> {
     /// A cursor before these tokens.
     pub fn new(tokens: &'a [Placed]) -> Self
@@ -115,6 +130,26 @@ impl<'a> Cursor<'a> {
         ensures { result.now ≡ self.now }
     {
         self.rest
+    }
+
+    /// The place of the next token, from 0 at the statement's first byte; 0 where there is none.
+    pub fn place(&self) -> usize
+        ensures { result ≡ place_of_next self.now }
+    {
+        match self.rest {
+            [first, ..] => first.at,
+            [] => 0,
+        }
+    }
+
+    /// Whether the next token is a string.
+    pub fn at_text(&self) -> bool
+        ensures { result ≡ first_is is_text self.now }
+    {
+        match self.rest {
+            [first, ..] => matches!(&first.token, Token::Text(_)),
+            [] => false,
+        }
     }
 
     /// Whether the next token is this symbol.
@@ -193,7 +228,8 @@ impl<'a> Cursor<'a> {
 
     /// Takes this keyword where it comes next, in any case of its letters, and says whether it did.
     pub fn skip_keyword(&mut self, wanted: &[u8]) -> bool
-        ensures { Skips (is_word (is_keyword wanted.now)) self.old result self.new }
+        ensures way { Skips (is_word (is_keyword wanted.now)) self.old result self.new }
+        ensures no_more { length self.new ≤ length self.old }
     {
         self.skip_if(self.at_keyword(wanted))
     }
@@ -287,6 +323,7 @@ impl<'a> Cursor<'a> {
             Err(slip) => Err(Stop::Refused(slip)),
         }
     }
+
     /// Takes a number, and gives its digits.
     pub fn number(&mut self, alloc: Global) -> Result<Bytes, Stop<Slip>>
         ensures read { Reads (expect number) self.old result self.new }
@@ -301,5 +338,41 @@ impl<'a> Cursor<'a> {
         let digits = digits.twin(alloc)?;
         self.rest = more;
         Ok(digits)
+    }
+
+    /// Takes a string, and gives what it says.
+    pub fn string(&mut self, alloc: Global) -> Result<Bytes, Stop<Slip>>
+        ensures read { Reads (expect string) self.old result self.new }
+        ensures less { OnOk result (length self.new < length self.old) }
+    {
+        let [first, more @ ..] = self.rest else {
+            return Err(Stop::Refused(Slip::Wrong));
+        };
+        let Token::Text(said) = &first.token else {
+            return Err(Stop::Refused(Slip::Wrong));
+        };
+        let said = said.twin(alloc)?;
+        self.rest = more;
+        Ok(said)
+    }
+
+    /// Takes a comparison.
+    pub fn operator(&mut self) -> Result<Comparison, Stop<Slip>>
+        ensures read { Reads (expect operator) self.old result self.new }
+        ensures less { OnOk result (length self.new < length self.old) }
+    {
+        let [first, more @ ..] = self.rest else {
+            return Err(Stop::Refused(Slip::Wrong));
+        };
+        let Token::Symbol(symbol) = &first.token else {
+            return Err(Stop::Refused(Slip::Wrong));
+        };
+        match comparison_of(*symbol) {
+            Ok(comparison) => {
+                self.rest = more;
+                Ok(comparison)
+            }
+            Err(slip) => Err(Stop::Refused(slip)),
+        }
     }
 }

@@ -30,6 +30,9 @@ fn read(
     if tokens.at_keyword(b"INSERT") {
         return tokens.insert(alloc, lines, ended);
     }
+    if tokens.at_keyword(b"EXPLAIN") {
+        return tokens.explain(alloc);
+    }
     tokens.select(alloc)
 }
 
@@ -49,7 +52,7 @@ fn is_behind_limit(slip: Slip, place: usize) -> bool
 {
     match slip {
         Slip::Wrong => STATEMENT_LIMIT < place,
-        Slip::LongName => STATEMENT_LIMIT <= place,
+        Slip::LongName | Slip::TooDeep => STATEMENT_LIMIT <= place,
     }
 }
 
@@ -59,6 +62,7 @@ fn cause_at(slip: Slip, place: usize) -> Cause
     match slip {
         Slip::Wrong => Cause::Grammar(place),
         Slip::LongName => Cause::LongName,
+        Slip::TooDeep => Cause::TooDeep,
     }
 }
 
@@ -119,7 +123,8 @@ fn said_by(
 ///
 /// - `Grammar` with the place of the first token with which no statement of the grammar goes on, or the text's length
 ///   where it is the text's end;
-/// - `LongName` where a name is too long, and `LongStatement` where the text is, if that comes before.
+/// - `LongName` where a name is too long, `TooDeep` where one more parenthesis or NOT of a condition is opened than may be,
+///   and `LongStatement` where the text is too long, if that comes before.
 ///
 /// `Stop::NoMemory` where an allocation failed.
 pub fn statement(
@@ -133,4 +138,90 @@ pub fn statement(
 {
     let tokens = tokens_and_end(alloc, text, terminated)?;
     said_by(alloc, &tokens, text, lines, ended)
+}
+
+#[cfg(test)]
+mod tests {
+    use crate::script::{Next, next_statement};
+    use mt_base::NoMemory;
+    use mt_values::{Cause, SelectText, Selected, Statement};
+    use std::alloc::Global;
+    use std::test::Fail;
+
+    // Texts with what they ask for, or with the place of their fault.
+    const TEXTS: [(&str, &str); 15] = [
+        (
+            "EXPLAIN SELECT a FROM t WHERE a = 1;",
+            "explain a from t where a",
+        ),
+        (
+            "EXPLAIN SELECT a FROM t WHERE a = 1 OR b IN (2, 3);",
+            "explain a from t where a b",
+        ),
+        ("Explain\n-- all\nSELECT a, b FROM t;", "explain a b from t"),
+        // EXPLAIN may be a name
+        ("explain select * from explain;", "explain * from explain"),
+        ("SELECT explain FROM t;", "select explain from t"),
+        // faults
+        ("EXPLAIN;", "at 7"),
+        ("EXPLAIN", "at 7"),
+        ("EXPLAIN EXPLAIN SELECT a FROM t;", "at 8"),
+        ("EXPLAIN INSERT INTO t;", "at 8"),
+        ("EXPLAIN SELECT a FRM t;", "at 17"),
+        ("EXPLAIN SELECT a FROM t", "at 23"),
+        ("EXPLAIN SELECT a FROM t WHERE;", "at 29"),
+        ("EXPLAINS SELECT a FROM t;", "at 0"),
+        ("SELECT EXPLAIN a FROM t;", "at 15"),
+        ("SELECT a FROM t EXPLAIN;", "at 16"),
+    ];
+
+    // The columns, the table and the columns that are tested, in words.
+    fn put_asked(out: &mut Vec<u8>, asked: &SelectText) -> Result<(), NoMemory> {
+        match &asked.columns {
+            Selected::All => out.extend_from_slice(b" *")?,
+            Selected::Named(names) => {
+                for name in names.as_slice() {
+                    out.push(b' ')?;
+                    out.extend_from_slice(name.as_slice())?;
+                }
+            }
+        }
+        out.extend_from_slice(b" from ")?;
+        out.extend_from_slice(asked.table.as_slice())?;
+        for (index, test) in asked.condition.tests().iter().enumerate() {
+            out.extend_from_slice(if index == 0 { b" where " } else { b" " })?;
+            out.extend_from_slice(test.column.as_slice())?;
+        }
+        Ok(())
+    }
+
+    // What a text asks for, or the place of its fault.
+    fn read(alloc: Global, text: &str) -> Result<Vec<u8>, NoMemory> {
+        let mut out = Vec::new(alloc);
+        let next = next_statement(alloc, text.as_bytes(), true);
+        match &next {
+            Next::Found(Statement::Select(asked), _) => {
+                out.extend_from_slice(b"select")?;
+                put_asked(&mut out, asked)?;
+            }
+            Next::Found(Statement::Explain(asked), _) => {
+                out.extend_from_slice(b"explain")?;
+                put_asked(&mut out, asked)?;
+            }
+            Next::Refused(Cause::Grammar(place), _) => {
+                out.extend_from_slice(format!(in alloc; "at {place}")?.as_bytes())?;
+            }
+            _ => out.extend_from_slice(b"neither")?,
+        }
+        Ok(out)
+    }
+
+    #[test]
+    fn what_is_asked_may_be_explained(rt: HostRuntime) -> Result<(), Fail> {
+        for (text, wanted) in TEXTS {
+            let found = read(rt.alloc(), text)?;
+            assert_eq!(rt; found.as_slice(), wanted.as_bytes(), "{text}");
+        }
+        Ok(())
+    }
 }

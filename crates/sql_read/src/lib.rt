@@ -3,6 +3,7 @@
 
 mod blanks;
 mod clauses;
+mod conditions;
 mod cursor;
 mod escapes;
 mod grammar;

@@ -1,7 +1,7 @@
 // The productions of the grammar, each of which takes its tokens from the left.
 ghost use Rattle.std.specs.Prelude.{◌<◌, ◌∷◌, [], Bool, List, OnOk, length};
 ghost use Rattle.mt_values.specs.declared.token.Placed.{Placed};
-ghost use Rattle.mt_values.specs.Grammar.{column, create, insert, key, list_of, one_name, select, selection};
+ghost use Rattle.mt_values.specs.Grammar.{column, create, explain, insert, key, list_of, one_name, select, select_text, selection};
 ghost use Rattle.sql_read.specs.Parts.{created_clauses, created_columns, engine_part, inserted_format, key_after, name_after, selected_table};
 ghost use Rattle.sql_read.specs.Reads.{Ends, IsRead, Reads, ReadsEnd};
 
@@ -165,14 +165,12 @@ impl Cursor<'_> {
         self.end()
     }
 
-    // FROM name, and the statement's end
+    // FROM name
     fn selected_table(&mut self, alloc: Global) -> Result<Name, Stop<Slip>>
-        ensures { ReadsEnd selected_table self.old result self.new }
+        ensures { Reads selected_table self.old result self.new }
     {
         self.keyword(b"FROM")?;
-        let table = self.name(alloc)?;
-        self.end()?;
-        Ok(table)
+        self.name(alloc)
     }
 
     /// A CREATE of this text. Its bytes and its names are copied, once.
@@ -211,13 +209,37 @@ impl Cursor<'_> {
         }))
     }
 
-    /// A SELECT.
-    pub fn select(&mut self, alloc: Global) -> Result<Statement, Stop<Slip>>
-        ensures { IsRead select self.old result self.new }
+    // SELECT selected FROM name [ WHERE expr ]
+    fn select_text(&mut self, alloc: Global) -> Result<SelectText, Stop<Slip>>
+        ensures { Reads select_text self.old result self.new }
     {
         self.keyword(b"SELECT")?;
         let columns = self.selection(alloc)?;
         let table = self.selected_table(alloc)?;
-        Ok(Statement::Select(SelectText { columns, table }))
+        let condition = self.condition(alloc)?;
+        Ok(SelectText {
+            columns,
+            table,
+            condition,
+        })
+    }
+
+    /// A SELECT. Its names and literals are copied, once.
+    pub fn select(&mut self, alloc: Global) -> Result<Statement, Stop<Slip>>
+        ensures { IsRead select self.old result self.new }
+    {
+        let asked = self.select_text(alloc)?;
+        self.end()?;
+        Ok(Statement::Select(asked))
+    }
+
+    /// EXPLAIN and a SELECT. Its names and literals are copied, once.
+    pub fn explain(&mut self, alloc: Global) -> Result<Statement, Stop<Slip>>
+        ensures { IsRead explain self.old result self.new }
+    {
+        self.keyword(b"EXPLAIN")?;
+        let asked = self.select_text(alloc)?;
+        self.end()?;
+        Ok(Statement::Explain(asked))
     }
 }
