@@ -1,5 +1,5 @@
 -- The causes of refusals: the script, or the outside, whose count rose then.
-use Rattle.std.proofs.Common.{◌≡◌, ◌⊎◌, ℕ, ◌-◌, ◌<◌, ◌≤◌, ◌^◌, Bool, true, false, cond, List, [], ◌∷◌, ◌++◌, Option, Some, None, Result, Ok, Err, length, take, drop, refl, sym, zero, suc, ◌==◌, ap, ◌∙◌, subst, inl, inr, arith, nat_le, nat_lt, is_some, ◌&&◌, ◌||◌}
+use Rattle.std.proofs.Common.{◌≡◌, ◌⊎◌, ℕ, ◌-◌, ◌<◌, ◌≤◌, ◌^◌, Bool, true, false, cond, List, [], ◌∷◌, ◌++◌, Option, Some, None, Result, Ok, Err, length, map, take, drop, refl, sym, zero, suc, ◌==◌, ap, ◌∙◌, subst, inl, inr, arith, nat_le, nat_lt, is_some, ◌&&◌, ◌||◌}
 use Rattle.std.proofs.lemmas.Bool.{false≢true}
 use Rattle.std.proofs.lemmas.Bool.Decides.{nat_tests}
 use Rattle.std.specs.Option.{option_map}
@@ -18,6 +18,9 @@ use Rattle.mt_values.specs.declared.statement.Cause.{Cause}
 use Rattle.mt_values.specs.declared.statement.Cause.TheVariants as cause
 use Rattle.mt_values.specs.declared.statement.Selected.{Selected}
 use Rattle.mt_values.specs.declared.statement.Selected.TheVariants as selected
+use Rattle.mt_values.specs.declared.expr.Literal.{Literal}
+use Rattle.mt_values.specs.declared.expr.TestText.{TestText}
+use Rattle.mt_values.specs.Conditions.{Condition, tests_of}
 use Rattle.mt_values.specs.Rows.{inserted_rows}
 use Rattle.mt_values.specs.Schemas.{schema_fault_as as rule_of}
 use Rattle.mt_values.specs.Values.{Row}
@@ -26,7 +29,9 @@ use Rattle.mt_model.specs.declared.refusal.Refusal.{Refusal}
 use Rattle.mt_model.specs.declared.refusal.Refusal.TheVariants as refusal
 use Rattle.mt_model.specs.declared.refusal.Room.TheVariants as room
 use Rattle.mt_model.specs.Clauses.{column_place, first_key, first_unknown, mentioned, schema_written}
-use Rattle.mt_model.specs.Reply.{found_or, place_onto, places_of, first_refusal, refusal_of_rules, refusal_of_schema, refusal_of_table, refusal_of_text, too_many_columns, unknown_column, unless_refused, schema_of_text, create_turn, rows_or_refused, rows_for, insert_turn, selected_places, columns_for, columns_of_select}
+use Rattle.mt_model.specs.Reply.{found_or, place_onto, places_of, first_refusal, refusal_of_rules, refusal_of_schema, refusal_of_table, refusal_of_text, too_many_columns, unknown_column, unless_refused, schema_of_text, create_turn, rows_or_refused, rows_for, insert_turn, selected_places}
+use Rattle.mt_model.specs.Queries.{asked_with, first_alien, place_in, query_for, query_of, query_of_select, refusal_of_condition, refusal_of_test, refusal_of_tests, type_at}
+use Rattle.mt_model.specs.declared.query.Query.{Query}
 use Rattle.mt_values.specs.declared.statement.Statement.{Statement}
 use Rattle.mt_values.specs.declared.statement.Statement.TheVariants as statement
 use Rattle.mt_values.specs.declared.statement.CreateText.{CreateText}
@@ -159,9 +164,34 @@ selected_tells : (columns : List Column) (which : Selected) → Scripted (select
 selected_tells columns selected.All = tt
 selected_tells columns (selected.Named names) = places_tell columns names
 
-columns_tell : (t : SelectText) (o : Option Schema) → Scripted (columns_for t o)
-columns_tell t None = (omega arith, refl)
-columns_tell t (Some schema) = selected_tells schema.columns t.columns
+literal_tells : (column : List ℕ) (o : Option Literal) → Tells (option_map (λ (l : Literal). refusal.Literal column l.at) o)
+literal_tells column None = tt
+literal_tells column (Some l) = (omega arith, refl)
+
+tests_tell : (columns : List Column) (ts : List TestText) → Tells (refusal_of_tests columns ts)
+tests_tell columns [] = tt
+tests_tell columns (t ∷ ts) =
+    tells_first (refusal_of_test columns t) (refusal_of_tests columns ts) (literal_tells t.column (first_alien (type_at columns (place_in columns t)) t.literals)) (tests_tell columns ts)
+
+condition_tells : (columns : List Column) (c : Condition TestText) → Tells (refusal_of_condition columns c)
+condition_tells columns c =
+    let names = map (λ (t : TestText). t.column) (tests_of c) in
+    tells_first (option_map refusal.NoColumn (first_unknown columns names)) (refusal_of_tests columns (tests_of c)) (unknown_tells (first_unknown columns names)) (tests_tell columns (tests_of c))
+
+asked_tells : (columns : List Column) (c : Condition TestText) (r : Result (List ℕ) Refusal) → Scripted r → Scripted (asked_with columns c r)
+asked_tells columns c (Err why) h = h
+asked_tells columns c (Ok places) h = unless_tells (refusal_of_condition columns c) _ (condition_tells columns c)
+
+query_tells : (columns : List Column) (s : SelectText) → Scripted (query_of columns s)
+query_tells columns s = asked_tells columns s.condition (selected_places columns s.columns) (selected_tells columns s.columns)
+
+select_tells : (t : SelectText) (o : Option Schema) → Scripted (query_for t o)
+select_tells t None = (omega arith, refl)
+select_tells t (Some schema) = query_tells schema.columns t
+
+asking_tells : (r : Result Query Refusal) → Scripted r → Scripted (no_commands r)
+asking_tells (Err why) t = t
+asking_tells (Ok query) t = tt
 
 commands_tell : (h : History) (st : Statement) → Scripted (commands_of h st)
 commands_tell h (statement.Create c) = by (schema_of_text c) (text_tells c)
@@ -178,30 +208,28 @@ commands_tell h (statement.Insert i) = by (schema_of i.table h)
     by : (o : Option Schema) → Scripted (commands_for i o)
     by None = (omega arith, refl)
     by (Some schema) = of_rows schema (rows_for i (Some schema)) (rows_tell i (Some schema))
-commands_tell h (statement.Select t) = by (columns_for t (schema_of t.table h)) (columns_tell t (schema_of t.table h))
-  where
-    by : (r : Result (List ℕ) Refusal) → Scripted r → Scripted (no_commands r)
-    by (Err why) t = t
-    by (Ok columns) t = tt
+commands_tell h (statement.Select t) = asking_tells (query_of_select t h) (select_tells t (schema_of t.table h))
+commands_tell h (statement.Explain t) = asking_tells (query_of_select t h) (select_tells t (schema_of t.table h))
 
--- a statement that gives no commands, or a SELECT that has no columns, is refused for what it says
+-- a statement that gives no commands, or a SELECT or an EXPLAIN that asks nothing of its table, is refused for what it says
 pub commands_are_cause : (h : History) (st : Statement) (why : Refusal) → commands_of h st ≡ Err why → OfText why
 commands_are_cause h st why is = scripted (commands_of h st) why is (commands_tell h st)
 
-pub columns_are_cause : (h : History) (t : SelectText) (why : Refusal) → columns_of_select t h ≡ Err why → OfText why
-columns_are_cause h t why is = scripted (columns_of_select t h) why is (columns_tell t (schema_of t.table h))
+pub select_is_cause : (h : History) (t : SelectText) (why : Refusal) → query_of_select t h ≡ Err why → OfText why
+select_is_cause h t why is = scripted (query_of_select t h) why is (select_tells t (schema_of t.table h))
 
 -- a CREATE or a SELECT that is refused for what it says
 pub text_is_cause : (c : CreateText) (why : Refusal) → schema_of_text c ≡ Err why → OfScript why
 text_is_cause c why is = (scripted (schema_of_text c) why is (text_tells c)).0
 
-pub selected_is_cause : (columns : List Column) (which : Selected) (why : Refusal) → selected_places columns which ≡ Err why → OfScript why
-selected_is_cause columns which why is = (scripted (selected_places columns which) why is (selected_tells columns which)).0
+pub query_is_cause : (columns : List Column) (s : SelectText) (why : Refusal) → query_of columns s ≡ Err why → OfScript why
+query_is_cause columns s why is = (scripted (query_of columns s) why is (query_tells columns s)).0
 
 pub cause_tells : (why : Cause) → OfText (refusal_of_cause why)
 cause_tells (cause.Grammar place) = (omega arith, refl)
 cause_tells cause.LongStatement = (omega arith, refl)
 cause_tells cause.LongName = (omega arith, refl)
+cause_tells cause.TooDeep = (omega arith, refl)
 
 -- ---- what a reply says of the outside
 
@@ -236,8 +264,10 @@ pub takes_blames : (n : Outside) (h : History) (s : ℕ) (st : Result Statement 
 takes_blames n h s (Ok (statement.Create c)) from to reply t = commands_blame n h s (statement.Create c) from to reply t
 takes_blames n h s (Ok (statement.Insert i)) from to reply t = commands_blame n h s (statement.Insert i) from to reply t
 takes_blames n h s (Ok (statement.Select t)) from to reply (inl (r, a)) = by_none n reply _ r.reply_is refl
-takes_blames n h s (Ok (statement.Select t)) from to reply (inr (inl (why, is, r))) = by_script n why reply r.line (columns_are_cause (take to h) t why is).0
-takes_blames n h s (Ok (statement.Select t)) from to reply (inr (inr (columns, is, a, failed))) = by_stage n reply failed
+takes_blames n h s (Ok (statement.Select t)) from to reply (inr (inl (why, is, r))) = by_script n why reply r.line (select_is_cause (take to h) t why is).0
+takes_blames n h s (Ok (statement.Select t)) from to reply (inr (inr (query, is, a, failed))) = by_stage n reply failed
+takes_blames n h s (Ok (statement.Explain t)) from to reply (inl (r, a)) = by_none n reply _ r.reply_is refl
+takes_blames n h s (Ok (statement.Explain t)) from to reply (inr (why, is, r)) = by_script n why reply r.line (select_is_cause (take to h) t why is).0
 takes_blames n h s (Err why) from to reply r = by_script n (refusal_of_cause why) reply r.line (cause_tells why).0
 
 -- a refusal that tells of the outside comes only where the count rose
@@ -321,5 +351,7 @@ refused_by_cause n h s (Ok (statement.Create c)) from to reply t refuses = comma
 refused_by_cause n h s (Ok (statement.Insert i)) from to reply t refuses = commands_refused n h s (statement.Insert i) from to reply t refuses
 refused_by_cause n h s (Ok (statement.Select t)) from to reply (inl (r, a)) refuses = absurd (not_by_none reply _ r.reply_is refl refuses)
 refused_by_cause n h s (Ok (statement.Select t)) from to reply (inr (inl (why, is, r))) refuses = inl (why, ap no_commands is)
-refused_by_cause n h s (Ok (statement.Select t)) from to reply (inr (inr (columns, is, a, failed))) refuses = absurd (not_by_outside refusal.Failed reply failed.0 (omega arith) (omega arith) refuses)
+refused_by_cause n h s (Ok (statement.Select t)) from to reply (inr (inr (query, is, a, failed))) refuses = absurd (not_by_outside refusal.Failed reply failed.0 (omega arith) (omega arith) refuses)
+refused_by_cause n h s (Ok (statement.Explain t)) from to reply (inl (r, a)) refuses = absurd (not_by_none reply _ r.reply_is refl refuses)
+refused_by_cause n h s (Ok (statement.Explain t)) from to reply (inr (why, is, r)) refuses = inl (why, ap no_commands is)
 refused_by_cause n h s (Err why) from to reply r refuses = tt

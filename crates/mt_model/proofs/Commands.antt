@@ -9,6 +9,7 @@ use Rattle.mt_values.specs.declared.command.Command.{Command}
 use Rattle.mt_values.specs.declared.command.Command.TheVariants as command
 use Rattle.mt_values.specs.declared.command.Insert.{Insert}
 use Rattle.mt_values.specs.declared.schema.Schema.{Schema}
+use Rattle.mt_values.specs.declared.statement.SelectText.{SelectText}
 use Rattle.mt_values.specs.declared.statement.Statement.{Statement}
 use Rattle.mt_values.specs.declared.statement.Statement.TheVariants as statement
 use Rattle.mt_values.specs.Tables.{MayHavePartition, partition_of, same_partition}
@@ -22,7 +23,9 @@ use Rattle.mt_model.specs.declared.refusal.Room.TheVariants as room
 use Rattle.mt_model.specs.History.{History, IsInsertInto, IsTableSchema, creates, entered, schema_of}
 use Rattle.mt_model.specs.Numbers.{last_number}
 use Rattle.mt_model.specs.Refusals.{accepted_by}
-use Rattle.mt_model.specs.Reply.{columns_for, create_turn, insert_turn, rows_for, schema_of_text}
+use Rattle.mt_model.specs.Queries.{query_for, query_of_select}
+use Rattle.mt_model.specs.declared.query.Query.{Query}
+use Rattle.mt_model.specs.Reply.{create_turn, insert_turn, rows_for, schema_of_text}
 use Rattle.mt_model.specs.Session.{TurnRefuses}
 use Rattle.mt_model.proofs.Histories.{inserts_more, last_more, schema_kept}
 
@@ -81,9 +84,9 @@ few_created : (table : List ℕ) (r : Result Schema Refusal) → Few (create_com
 few_created table (Err why) = tt
 few_created table (Ok schema) = omega arith
 
-few_selected : (r : Result (List ℕ) Refusal) → Few (no_commands r)
-few_selected (Err why) = tt
-few_selected (Ok columns) = omega arith
+few_asked : (r : Result Query Refusal) → Few (no_commands r)
+few_asked (Err why) = tt
+few_asked (Ok query) = omega arith
 
 none_before : (done rest : List Command) (next : Command) → length (done ++ next ∷ rest) ≤ 1 → done ≡ []
 none_before [] rest next few = refl
@@ -96,6 +99,13 @@ first_of_few r done rest next few is = none_before done rest next (subst (λ (x 
 
 -- ---- commands as the history grows
 
+asking_kept : (h more : History) (t : SelectText) (cs : List Command) → no_commands (query_of_select t h) ≡ Ok cs → no_commands (query_of_select t (h ++ more)) ≡ Ok cs
+asking_kept h more t cs is = by (schema_of t.table h) refl is
+  where
+    by : (o : Option Schema) → schema_of t.table h ≡ o → no_commands (query_for t o) ≡ Ok cs → no_commands (query_for t (schema_of t.table (h ++ more))) ≡ Ok cs
+    by None there is = cc
+    by (Some schema) there is = ap (λ o. no_commands (query_for t o)) (schema_kept t.table h more schema there) ∙ is
+
 pub commands_kept : (h more : History) (s : Statement) (cs : List Command) → commands_of h s ≡ Ok cs → commands_of (h ++ more) s ≡ Ok cs
 commands_kept h more (statement.Create c) cs is = is
 commands_kept h more (statement.Insert i) cs is = by (schema_of i.table h) refl is
@@ -103,11 +113,8 @@ commands_kept h more (statement.Insert i) cs is = by (schema_of i.table h) refl 
     by : (o : Option Schema) → schema_of i.table h ≡ o → commands_for i o ≡ Ok cs → commands_for i (schema_of i.table (h ++ more)) ≡ Ok cs
     by None there is = cc
     by (Some schema) there is = ap (commands_for i) (schema_kept i.table h more schema there) ∙ is
-commands_kept h more (statement.Select t) cs is = by (schema_of t.table h) refl is
-  where
-    by : (o : Option Schema) → schema_of t.table h ≡ o → no_commands (columns_for t o) ≡ Ok cs → no_commands (columns_for t (schema_of t.table (h ++ more))) ≡ Ok cs
-    by None there is = cc
-    by (Some schema) there is = ap (λ o. no_commands (columns_for t o)) (schema_kept t.table h more schema there) ∙ is
+commands_kept h more (statement.Select t) cs is = asking_kept h more t cs is
+commands_kept h more (statement.Explain t) cs is = asking_kept h more t cs is
 
 -- ---- a statement's commands are INSERTs, or one CREATE
 
@@ -141,7 +148,9 @@ insert_or_first h (statement.Insert i) done rest next is = inl (at_seam done res
     by None = tt
     by (Some schema) = inserts_of_rows schema i.table (rows_for i (Some schema))
 insert_or_first h (statement.Select t) done rest next is =
-    inr (first_of_few (commands_of h (statement.Select t)) done rest next (few_selected (columns_for t (schema_of t.table h))) is)
+    inr (first_of_few (commands_of h (statement.Select t)) done rest next (few_asked (query_of_select t h)) is)
+insert_or_first h (statement.Explain t) done rest next is =
+    inr (first_of_few (commands_of h (statement.Explain t)) done rest next (few_asked (query_of_select t h)) is)
 
 -- ---- turns
 

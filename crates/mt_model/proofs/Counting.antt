@@ -14,7 +14,7 @@ use Rattle.mt_model.specs.History.{History, own}
 use Rattle.mt_model.specs.Outside.{Outside, TurnFailed}
 use Rattle.mt_model.specs.Refusals.{accepted_by, code_of, refusal_line, refusal_of_cause}
 use Rattle.mt_model.specs.Session.{Accepts, Adds, AddsNothing, AddsOnly, StopsAfter, TakesCommands, Takes}
-use Rattle.mt_model.proofs.Causes.{cause_tells, columns_are_cause, commands_are_cause}
+use Rattle.mt_model.proofs.Causes.{cause_tells, select_is_cause, commands_are_cause}
 use Rattle.mt_model.proofs.Commands.{insert_or_first, turn_counts}
 use Rattle.mt_model.proofs.Growing.{stays}
 use Rattle.mt_model.proofs.Places.{get_below}
@@ -111,6 +111,9 @@ refused_counts n h s (Ok (statement.Create c)) from to reply t some = commands_c
 refused_counts n h s (Ok (statement.Insert i)) from to reply t some = commands_counted n h s (statement.Insert i) from to reply t some
 refused_counts n h s (Ok (statement.Select t)) from to reply (inl (r, a)) some = absurd (no_number reply _ r.reply_is refl some)
 refused_counts n h s (Ok (statement.Select t)) from to reply (inr (inl (why, is, r))) some =
-    (why, [], r.line, sym (columns_are_cause (take to h) t why is).1, adds_none h s from to r.nothing)
-refused_counts n h s (Ok (statement.Select t)) from to reply (inr (inr (columns, is, a, failed))) some = (refusal.Failed, [], failed.0, refl, adds_none h s from to a)
+    (why, [], r.line, sym (select_is_cause (take to h) t why is).1, adds_none h s from to r.nothing)
+refused_counts n h s (Ok (statement.Select t)) from to reply (inr (inr (query, is, a, failed))) some = (refusal.Failed, [], failed.0, refl, adds_none h s from to a)
+refused_counts n h s (Ok (statement.Explain t)) from to reply (inl (r, a)) some = absurd (no_number reply _ r.reply_is refl some)
+refused_counts n h s (Ok (statement.Explain t)) from to reply (inr (why, is, r)) some =
+    (why, [], r.line, sym (select_is_cause (take to h) t why is).1, adds_none h s from to r.nothing)
 refused_counts n h s (Err why) from to reply r some = (refusal_of_cause why, [], r.line, sym (cause_tells why).1, adds_none h s from to r.nothing)

@@ -12,13 +12,15 @@ use Rattle.mt_values.specs.Values.{Row}
 use Rattle.mt_values.specs.Order.{key_of, key_cmp, row_cmp, IsExact}
 use Rattle.mt_values.specs.Tables.{IsPlain, partition_of, same_partition, sorting_cmp}
 use Rattle.mt_values.specs.Printing.{line}
+use Rattle.mt_values.specs.Tests.{eval}
 use Rattle.mt_values.proofs.Orders.{value_total, value_exact}
 use Rattle.mt_model.specs.History.{History}
 use Rattle.mt_model.specs.Live.{live}
 use Rattle.mt_model.specs.Partial.{Partly}
 use Rattle.mt_model.specs.Answer.{Answer, Prints}
 use Rattle.mt_model.proofs.Commands.{same_itself}
-use Rattle.mt_model.proofs.SameKeys.{permutes, exact_sorted, filter_after}
+use Rattle.mt_model.specs.declared.query.Query.{Query}
+use Rattle.mt_model.proofs.SameKeys.{permutes, exact_alike, exact_sorted, filter_after, filters_swap}
 use Rattle.mt_model.proofs.Sorting.{equal_is}
 
 pub key_total : (places : List ℕ) → IsTotalOrder (key_cmp places)
@@ -51,6 +53,16 @@ partly_permutes schema rows x plain partly = permutes row_cmp row_total rows x e
         ∙ (ap found (sym (partly (partition_of schema a) a))
         ∙ sym (filter_after (λ r. is_eq (row_cmp a r)) own (alike_in schema a) x))
 
+-- what passes a test does not depend on the order of the rows
+pub filter_moved : (p : Row → Bool) (rows other : List Row) → IsPermutation rows other → IsPermutation (filter p rows) (filter p other)
+filter_moved p rows other moved = permutes row_cmp row_total (filter p rows) (filter p other) each
+  where
+    each : (a : Row) → filter (λ r. is_eq (row_cmp a r)) (filter p rows) ≡ filter (λ r. is_eq (row_cmp a r)) (filter p other)
+    each a =
+        filters_swap (λ r. is_eq (row_cmp a r)) p rows
+        ∙ (ap (filter p) (exact_alike row_cmp row_exact rows other moved a)
+        ∙ sym (filters_swap (λ r. is_eq (row_cmp a r)) p other))
+
 -- the lines of rows do not depend on the order of the rows
 pub prints_once : (rows other : List Row) (a b : List (List ℕ)) → IsPermutation rows other → Prints rows a → Prints other b → a ≡ b
 prints_once rows other a b moved one two =
@@ -64,7 +76,10 @@ answers_once h schema s a b plain one two =
     let rows = live s.table schema h in
     let moved : IsPermutation one.rows two.rows =
     IsPermutation-trans one.rows rows two.rows (IsPermutation-sym rows one.rows (partly_permutes schema rows one.rows plain one.partly)) (partly_permutes schema rows two.rows plain two.partly) in
-    let places : Ok one.columns ≡ Ok two.columns = sym one.selected ∙ two.selected in
-    let columns : one.columns ≡ two.columns = cc in
-    let prints : Prints (map (key_of two.columns) one.rows) a = subst (λ (k : List ℕ). Prints (map (key_of k) one.rows) a) columns one.prints in
-    prints_once (map (key_of two.columns) one.rows) (map (key_of two.columns) two.rows) a b (IsPermutation-map (key_of two.columns) one.rows two.rows moved) prints two.prints
+    let asked : Ok one.query ≡ Ok two.query = sym one.asked ∙ two.asked in
+    let query : one.query ≡ two.query = cc in
+    let shown : Query → List Row → List Row = λ q xs. map (key_of q.places) (filter (eval q.condition) xs) in
+    let prints : Prints (shown two.query one.rows) a = subst (λ (q : Query). Prints (shown q one.rows) a) query one.prints in
+    let found = filter_moved (eval two.query.condition) one.rows two.rows moved in
+    prints_once (shown two.query one.rows) (shown two.query two.rows) a b
+    (IsPermutation-map (key_of two.query.places) (filter (eval two.query.condition) one.rows) (filter (eval two.query.condition) two.rows) found) prints two.prints

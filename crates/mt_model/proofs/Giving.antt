@@ -3,7 +3,6 @@ use Rattle.std.proofs.Common.{ℕ, ◌+◌, ◌<◌, Bool, true, false, List, []
 use Rattle.std.proofs.lemmas.List.Elements.{All-head, All-tail}
 use Rattle.mt_values.specs.declared.statement.InsertText.{InsertText}
 use Rattle.mt_values.specs.declared.statement.SelectText.{SelectText}
-use Rattle.mt_values.specs.declared.statement.Selected.{Selected}
 use Rattle.mt_values.specs.declared.statement.Selected.TheVariants as selected
 use Rattle.mt_values.specs.declared.statement.Slip.{Slip}
 use Rattle.mt_values.specs.declared.statement.Statement.{Statement}
@@ -12,7 +11,12 @@ use Rattle.mt_values.specs.declared.token.Placed.{Placed}
 use Rattle.mt_values.specs.declared.token.Symbol.TheVariants as symbol
 use Rattle.mt_values.specs.declared.token.Token.{Token}
 use Rattle.mt_values.specs.Tokens.{is_keyword}
-use Rattle.mt_values.specs.Readers.{Reader, Reading, Test, Part, done, taken, expect, either, choose, listed_within}
+use Rattle.mt_values.specs.Readers.{Reader, Reading, Test, Part, done, taken, expect, either, choose, listed_within, place_of_next}
+use Rattle.mt_values.specs.Conditions.{Condition, Always, And, Holds, Not, Or}
+use Rattle.mt_values.specs.declared.expr.Comparison.TheVariants as comparison
+use Rattle.mt_values.specs.declared.expr.LiteralText.TheVariants as literal_text
+use Rattle.mt_values.specs.declared.expr.TestText.{TestText}
+use Rattle.mt_values.specs.Grammar.{term_within}
 use Rattle.mt_values.specs.Grammar as grammar
 
 any_ok : {X : Type 0} (r : Result X Slip) → IfOk r (λ _. Unit {0})
@@ -108,13 +112,84 @@ module _ (T : Token → Type 0) (Good : Statement → Type 0) where
       (expect_gives (grammar.keyword (codes "FORMAT")) _ (λ _. expect_gives grammar.format _ (λ _. ends_gives (statement.Insert (record { table = table; lines = lines; ended = ended })) (good _))))
       (ends_gives (statement.Insert (record { table = table; lines = lines; ended = ended })) (good _)))))
 
-  from_gives : (columns : Selected) → ((s : SelectText) → Good (statement.Select s))
-      → GivesAll (expect (grammar.keyword (codes "FROM")) (λ _. expect grammar.name (λ table. grammar.ends (statement.Select (record { columns = columns; table = table })))))
-  from_gives columns good = expect_gives _ _ (λ _. expect_gives grammar.name _ (λ table. ends_gives (statement.Select (record { columns = columns; table = table })) (good _)))
+  -- ---- conditions
 
-  pub select_gives : ((s : SelectText) → Good (statement.Select s)) → GivesAll grammar.select
-  select_gives good =
-      expect_gives (grammar.keyword (codes "SELECT")) _ (λ _.
+  sign_passes : Passes grammar.sign
+  sign_passes next each =
+      choose_gives (grammar.is_symbol symbol.Plus) _ _
+      (expect_gives (grammar.the symbol.Plus) _ (λ _. each false))
+      (choose_gives (grammar.is_symbol symbol.Minus) _ _ (expect_gives (grammar.the symbol.Minus) _ (λ _. each true)) (each false))
+
+  number_passes : (place : ℕ) → Passes (grammar.number_at place)
+  number_passes place next each =
+      sign_passes _ (λ negative. expect_gives grammar.number _ (λ digits. each (record { at = place; text = literal_text.Number negative digits })))
+
+  literal_passes : Passes grammar.literal
+  literal_passes next each ts known =
+      choose_gives grammar.is_text (grammar.text_at (place_of_next ts) next) (grammar.number_at (place_of_next ts) next)
+      (expect_gives grammar.string _ (λ bytes. each (record { at = place_of_next ts; text = literal_text.Text bytes })))
+      (number_passes (place_of_next ts) next each) ts known
+
+  compared_passes : Passes grammar.compared
+  compared_passes next each =
+      choose_gives (grammar.is_word (is_keyword (codes "IN"))) _ _
+      (expect_gives (grammar.keyword (codes "IN")) _ (λ _. expect_gives (grammar.the symbol.Open) _ (λ _.
+      list_gives grammar.literal _ literal_passes (λ literals some. expect_gives (grammar.the symbol.Close) _ (λ _. each (comparison.Equal, literals))))))
+      (expect_gives grammar.operator _ (λ found. literal_passes _ (λ l. each (found, l ∷ []))))
+
+  holding_passes : Passes grammar.holding
+  holding_passes next each =
+      expect_gives grammar.name _ (λ column. compared_passes _ (λ found. each (Holds (record { column = column; comparison = found.0; literals = found.1 }))))
+
+  joined_gives : {X : Type 0} (n : ℕ) (k : List ℕ) (join : X → X → X) (item : Part Statement X) (front : X) (next : X → Reader Statement)
+      → Passes item → ((x : X) → GivesAll (next x)) → GivesAll (grammar.joined_within n k join item front next)
+  joined_gives zero k join item front next passes each = each front
+  joined_gives (suc n) k join item front next passes each =
+      choose_gives (grammar.is_word (is_keyword k)) _ _
+      (expect_gives (grammar.keyword k) _ (λ _. passes _ (λ x. joined_gives n k join item (join front x) next passes each))) (each front)
+
+  joined_passes : {X : Type 0} (k : List ℕ) (join : X → X → X) (item : Part Statement X) → Passes item → Passes (grammar.joined_by k join item)
+  joined_passes k join item passes next each = passes _ (λ x ts known. joined_gives (length ts) k join item x next passes each ts known)
+
+  some_passes : (term : Part Statement (Condition TestText)) → Passes term → Passes (grammar.some_of term)
+  some_passes term passes = joined_passes (codes "OR") Or (grammar.all_of term) (joined_passes (codes "AND") And term passes)
+
+  opened_passes : (term : Part Statement (Condition TestText)) → Passes term → Passes (grammar.opened term)
+  opened_passes term passes next each =
+      choose_gives (grammar.is_word (is_keyword (codes "NOT"))) _ _
+      (expect_gives (grammar.keyword (codes "NOT")) _ (λ _. passes _ (λ c. each (Not c))))
+      (expect_gives (grammar.the symbol.Open) _ (λ _. some_passes term passes _ (λ c. expect_gives (grammar.the symbol.Close) _ (λ _. each c))))
+
+  term_passes : (n : ℕ) → Passes (grammar.term_within n)
+  unfolding term_within
+  term_passes zero next each = choose_gives grammar.opens _ _ (expect_gives grammar.too_deep _ (λ _. each Always)) (holding_passes next each)
+  term_passes (suc n) next each = choose_gives grammar.opens _ _ (opened_passes (term_within n) (term_passes n) next each) (holding_passes next each)
+
+  where_passes : Passes grammar.where_part
+  where_passes next each =
+      choose_gives (grammar.is_word (is_keyword (codes "WHERE"))) _ _
+      (expect_gives (grammar.keyword (codes "WHERE")) _ (λ _. some_passes (term_within 64) (term_passes 64) next each)) (each Always)
+
+  -- ---- SELECT and EXPLAIN
+
+  selection_passes : Passes grammar.selection
+  selection_passes next each =
       choose_gives (grammar.is_symbol symbol.Star) _ _
-      (expect_gives (grammar.the symbol.Star) _ (λ _. from_gives selected.All good))
-      (list_gives grammar.one_name _ name_passes (λ names some. from_gives (selected.Named names) good)))
+      (expect_gives (grammar.the symbol.Star) _ (λ _. each selected.All))
+      (list_gives grammar.one_name _ name_passes (λ names some. each (selected.Named names)))
+
+  select_passes : Passes grammar.select_text
+  select_passes next each =
+      expect_gives (grammar.keyword (codes "SELECT")) _ (λ _. selection_passes _ (λ columns.
+      expect_gives (grammar.keyword (codes "FROM")) _ (λ _. expect_gives grammar.name _ (λ table.
+      where_passes _ (λ condition. each (record { columns = columns; table = table; condition = condition }))))))
+
+  select_gives : ((s : SelectText) → Good (statement.Select s)) → GivesAll grammar.select
+  select_gives good = select_passes _ (λ asked. ends_gives (statement.Select asked) (good asked))
+
+  explain_gives : ((s : SelectText) → Good (statement.Explain s)) → GivesAll grammar.explain
+  explain_gives good = expect_gives (grammar.keyword (codes "EXPLAIN")) _ (λ _. select_passes _ (λ asked. ends_gives (statement.Explain asked) (good asked)))
+
+  -- an EXPLAIN, or a SELECT
+  pub asking_gives : ((s : SelectText) → Good (statement.Select s)) → ((s : SelectText) → Good (statement.Explain s)) → GivesAll (choose (grammar.is_word (is_keyword (codes "EXPLAIN"))) grammar.explain grammar.select)
+  asking_gives select explain = choose_gives (grammar.is_word (is_keyword (codes "EXPLAIN"))) grammar.explain grammar.select (explain_gives explain) (select_gives select)

@@ -11,9 +11,10 @@ use Rattle.mt_model.specs.Commands.{commands_of}
 use Rattle.mt_model.specs.History.{History, own, schema_of}
 use Rattle.mt_model.specs.declared.refusal.Refusal.{Refusal}
 use Rattle.mt_model.specs.Outside.{Outside}
-use Rattle.mt_model.specs.Reply.{columns_of_select}
+use Rattle.mt_model.specs.Queries.{query_of_select}
 use Rattle.mt_model.specs.Answer.{Answer}
-use Rattle.mt_model.specs.Session.{AddsNothing, Adds, TurnAllows, Accepts, AcceptsAll, StopsAfter, Selects, RefusedAs, RefusedInTurn, CommandRefused, SelectRefused, TakesCommands, Takes, SessionRun}
+use Rattle.mt_model.specs.Explain.{Explains}
+use Rattle.mt_model.specs.Session.{AddsNothing, Adds, TurnAllows, Accepts, AcceptsAll, StopsAfter, Selects, RefusedAs, RefusedInTurn, CommandRefused, SelectRefused, ExplainRefused, TakesCommands, Takes, SessionRun}
 
 -- what stands below a place stays there
 same_part : (h more : History) (from to : ℕ) → from ≤ to → to ≤ length h → take (to - from) (drop from (h ++ more)) ≡ take (to - from) (drop from h)
@@ -99,9 +100,13 @@ command_refused_more n h more s st from to reply (inr (inr (done, next, rest, st
 
 select_refused_more : (n : Outside) (h more : History) (s : ℕ) (t : SelectText) (from to : ℕ) (reply : List ℕ) → SelectRefused n h s t from to reply → SelectRefused n (h ++ more) s t from to reply
 select_refused_more n h more s t from to reply (inl (why, is, r)) =
-    inl (why, subst (λ (x : History). columns_of_select t x ≡ Err why) (same_front h more to r.nothing.there) is, refused_more h more s from to why reply r)
-select_refused_more n h more s t from to reply (inr (columns, is, a, failed)) =
-    inr (columns, subst (λ (x : History). columns_of_select t x ≡ Ok columns) (same_front h more to a.there) is, nothing_more h more s from to a, failed)
+    inl (why, subst (λ (x : History). query_of_select t x ≡ Err why) (same_front h more to r.nothing.there) is, refused_more h more s from to why reply r)
+select_refused_more n h more s t from to reply (inr (query, is, a, failed)) =
+    inr (query, subst (λ (x : History). query_of_select t x ≡ Ok query) (same_front h more to a.there) is, nothing_more h more s from to a, failed)
+
+explain_refused_more : (h more : History) (s : ℕ) (t : SelectText) (from to : ℕ) (reply : List ℕ) → ExplainRefused h s t from to reply → ExplainRefused (h ++ more) s t from to reply
+explain_refused_more h more s t from to reply (why, is, r) =
+    (why, subst (λ (x : History). query_of_select t x ≡ Err why) (same_front h more to r.nothing.there) is, refused_more h more s from to why reply r)
 
 -- ---- runs
 
@@ -114,6 +119,9 @@ takes_more n h more s (Ok (statement.Create c)) from to reply t = commands_more 
 takes_more n h more s (Ok (statement.Insert i)) from to reply t = commands_more n h more s (statement.Insert i) from to reply t
 takes_more n h more s (Ok (statement.Select t)) from to reply (inl (is, a)) = inl (selects_more h more t to reply a.there is, nothing_more h more s from to a)
 takes_more n h more s (Ok (statement.Select t)) from to reply (inr r) = inr (select_refused_more n h more s t from to reply r)
+takes_more n h more s (Ok (statement.Explain t)) from to reply (inl (is, a)) =
+    inl (subst (λ (x : History). Explains x t to reply) (same_front h more to a.there) is, nothing_more h more s from to a)
+takes_more n h more s (Ok (statement.Explain t)) from to reply (inr r) = inr (explain_refused_more h more s t from to reply r)
 takes_more n h more s (Err why) from to reply r = refused_more h more s from to _ reply r
 
 -- a run stays one as the history grows

@@ -3,6 +3,7 @@ pub mod Causes
 pub mod ClauseBounds
 pub mod ClauseKeys
 pub mod Commands
+pub mod ConditionBounds
 pub mod Counting
 pub mod Determined
 pub mod Gained
@@ -16,6 +17,7 @@ pub mod OneWay
 pub mod OwnColumns
 pub mod Parted
 pub mod Places
+pub mod Queries
 pub mod Ranges
 pub mod Refused
 pub mod Replies

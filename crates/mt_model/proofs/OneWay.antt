@@ -1,5 +1,5 @@
 -- A script's run after a base is determined: what its statements do is a function of the history before them.
-use Rattle.std.proofs.Common.{◌≡◌, ◌⊎◌, ℕ, Bool, true, false, cond, nat_le, ◌+◌, ◌-◌, ◌<◌, ◌≤◌, ◌^◌, List, [], ◌∷◌, ◌++◌, All, Option, Some, None, Result, Ok, Err, length, map, take, drop, slice_get, refl, sym, ap, ◌∙◌, subst, inl, inr, append_assoc, append-nil, arith, suc}
+use Rattle.std.proofs.Common.{◌≡◌, ◌⊎◌, ℕ, Bool, true, false, cond, nat_le, ◌+◌, ◌-◌, ◌<◌, ◌≤◌, ◌^◌, List, [], ◌∷◌, ◌++◌, All, Option, Some, None, Result, Ok, Err, length, map, filter, take, drop, slice_get, refl, sym, ap, ◌∙◌, subst, inl, inr, append_assoc, append-nil, arith, suc}
 use Rattle.std.proofs.lemmas.List.{drop-drop, length-take-le, take_all, length-drop, take-append-drop}
 use Rattle.std.proofs.lemmas.List.Elements.{All-head, All-tail, All-take, All-drop}
 use Rattle.std.proofs.lemmas.Bool.Decides.{nat_tests}
@@ -13,19 +13,22 @@ use Rattle.mt_values.specs.declared.statement.Statement.TheVariants as statement
 use Rattle.mt_values.specs.declared.statement.SelectText.{SelectText}
 use Rattle.mt_values.specs.Order.{key_of, row_cmp}
 use Rattle.mt_values.specs.Printing.{line}
+use Rattle.mt_values.specs.Tests.{eval}
 use Rattle.mt_model.specs.Commands.{commands_of}
 use Rattle.mt_model.specs.History.{History, ArePlain, FewInserts, entered, own, schema_of}
 use Rattle.mt_model.specs.Live.{live, sorted}
 use Rattle.mt_model.specs.Numbers.{last_number}
 use Rattle.mt_model.specs.Answer.{Answer, Prints}
+use Rattle.mt_model.specs.Queries.{query_for, query_of, query_of_select}
+use Rattle.mt_model.specs.declared.query.Query.{Query}
 use Rattle.mt_model.specs.declared.refusal.Refusal.{Refusal}
 use Rattle.mt_model.specs.declared.refusal.Refusal.TheVariants as refusal
 use Rattle.mt_model.specs.declared.refusal.Room.TheVariants as room
 use Rattle.mt_model.specs.Outside.{Outside, HasRisen, ReadOrStageFailed, TurnFailed}
 use Rattle.mt_model.specs.Refusals.{refusal_line, refusal_of_cause}
-use Rattle.mt_model.specs.Reply.{ok_line, rows_reply, create_turn, insert_turn, selected_places, columns_for, columns_of_select}
+use Rattle.mt_model.specs.Reply.{ok_line, rows_reply, create_turn, insert_turn}
 use Rattle.mt_model.specs.Session.{AddsNothing, Adds, Accepts, TurnAllows, TurnRefuses, Selects, RefusedAs, SelectRefused, TakesCommands, Takes, SessionRun}
-use Rattle.mt_model.specs.Script.{OwnEntries, ScriptRun}
+use Rattle.mt_model.specs.Script.{HasNoExplain, IsNoExplain, OwnEntries, ScriptRun}
 use Rattle.mt_model.proofs.Lists.{take_got}
 use Rattle.mt_model.proofs.Places.{stops_places, takes_places}
 use Rattle.mt_model.proofs.Determined.{answers_once, row_total}
@@ -80,7 +83,7 @@ all_entered h base from to (c ∷ cs) each past a =
     all_entered h base a.0 to cs each later a.3
     ∙ (ap (λ (x : History). entered x 0 cs) (one_entered h base from a.0 c each past a.2) ∙ entered_more (take from h) 0 c cs)
 
--- ---- what a statement does after a history
+-- ---- what a statement but an EXPLAIN does after a history
 
 -- its reply, by the place that it comes to, and the commands that are accepted
 record Step : Type 0 where
@@ -108,21 +111,22 @@ abbrev commands_step : Result (List Command) Refusal → History → Step
 commands_step (Err why) h = refused why
 commands_step (Ok cs) h = turns 0 cs h
 
-abbrev lines_at : SelectText → Schema → List ℕ → History → List (List ℕ)
-lines_at t schema columns h = map line (sorted row_cmp (map (key_of columns) (live t.table schema h)))
+abbrev lines_at : SelectText → Schema → Query → History → List (List ℕ)
+lines_at t schema query h = map line (sorted row_cmp (map (key_of query.places) (filter (eval query.condition) (live t.table schema h))))
 
-abbrev select_columns : SelectText → History → Schema → Result (List ℕ) Refusal → Step
-select_columns t h schema (Err why) = refused why
-select_columns t h schema (Ok columns) = record { reply = rows_reply (lines_at t schema columns h); commands = [] }
+abbrev select_query : SelectText → History → Schema → Result Query Refusal → Step
+select_query t h schema (Err why) = refused why
+select_query t h schema (Ok query) = record { reply = rows_reply (lines_at t schema query h); commands = [] }
 
 abbrev select_step : SelectText → History → Option Schema → Step
 select_step t h None = refused (refusal.NoTable t.table)
-select_step t h (Some schema) = select_columns t h schema (selected_places schema.columns t.columns)
+select_step t h (Some schema) = select_query t h schema (query_of schema.columns t)
 
 abbrev step_of : Result Statement Cause → History → Step
 step_of (Ok (statement.Create c)) h = commands_step (commands_of h (statement.Create c)) h
 step_of (Ok (statement.Insert i)) h = commands_step (commands_of h (statement.Insert i)) h
 step_of (Ok (statement.Select t)) h = select_step t h (schema_of t.table h)
+step_of (Ok (statement.Explain t)) h = commands_step (commands_of h (statement.Explain t)) h
 step_of (Err why) h = refused (refusal_of_cause why)
 
 -- the history after a statement
@@ -138,14 +142,14 @@ abbrev end_of : List (Result Statement Cause) → History → History
 end_of [] h = h
 end_of (s ∷ ss) h = end_of ss (after s h)
 
--- the lines of an answer are those of the selected columns of the live rows in order
-lines_are : (h : History) (schema : Schema) (t : SelectText) (lines : List (List ℕ)) → ArePlain h → schema_of t.table h ≡ Some schema → (answer : Answer h schema t lines) → lines ≡ lines_at t schema answer.columns h
+-- the lines of an answer are those of the selected columns of the live rows that meet the condition, in order
+lines_are : (h : History) (schema : Schema) (t : SelectText) (lines : List (List ℕ)) → ArePlain h → schema_of t.table h ≡ Some schema → (answer : Answer h schema t lines) → lines ≡ lines_at t schema answer.query h
 lines_are h schema t lines plain there answer =
     let rows = live t.table schema h in
-    let shown = map (key_of answer.columns) rows in
-    let prints : Prints shown (lines_at t schema answer.columns h) = record { order = sorted row_cmp shown; same = sorted_permutes row_cmp row_total shown; rising = sorted_rises row_cmp row_total shown; lines_are = refl } in
-    let own_answer : Answer h schema t (lines_at t schema answer.columns h) = record { columns = answer.columns; selected = answer.selected; rows = rows; partly = λ partition row. refl; prints = prints } in
-    answers_once h schema t lines (lines_at t schema answer.columns h) (plain t.table schema there) answer own_answer
+    let shown = map (key_of answer.query.places) (filter (eval answer.query.condition) rows) in
+    let prints : Prints shown (lines_at t schema answer.query h) = record { order = sorted row_cmp shown; same = sorted_permutes row_cmp row_total shown; rising = sorted_rises row_cmp row_total shown; lines_are = refl } in
+    let own_answer : Answer h schema t (lines_at t schema answer.query h) = record { query = answer.query; asked = answer.asked; rows = rows; partly = λ partition row. refl; prints = prints } in
+    answers_once h schema t lines (lines_at t schema answer.query h) (plain t.table schema there) answer own_answer
 
 -- ---- where no count rose, the outside refuses nothing
 
@@ -323,20 +327,20 @@ module _ (n : Outside) (calm : IsCalm n) (h : History) (base from to : ℕ) (eac
       let x = take from h in
       let there : schema_of t.table x ≡ Some r.schema = asked (schema_of t.table) (Some r.schema) r.there (stay a) in
       let answer : Answer x r.schema t r.lines = subst (λ (k : ℕ). Answer (take k h) r.schema t r.lines) (stay a) r.answer in
-      let lines : r.lines ≡ lines_at t r.schema answer.columns x = lines_are x r.schema t r.lines clear.plain there answer in
-      let step : step_of (Ok (statement.Select t)) x ≡ select_columns t x r.schema (Ok answer.columns) =
-      ap (select_step t x) there ∙ ap (select_columns t x r.schema) answer.selected in
+      let lines : r.lines ≡ lines_at t r.schema answer.query x = lines_are x r.schema t r.lines clear.plain there answer in
+      let step : step_of (Ok (statement.Select t)) x ≡ select_query t x r.schema (Ok answer.query) =
+      ap (select_step t x) there ∙ ap (select_query t x r.schema) answer.asked in
       subst (Did h from to reply) (sym step)
-      (did_nothing reply (select_columns t x r.schema (Ok answer.columns)) a (r.reply_is ∙ ap (λ (zs : List (List ℕ)). rows_reply zs to) lines) refl)
+      (did_nothing reply (select_query t x r.schema (Ok answer.query)) a (r.reply_is ∙ ap (λ (zs : List (List ℕ)). rows_reply zs to) lines) refl)
 
-  refused_columns : (t : SelectText) (g : History) (why : Refusal) (o : Option Schema) → columns_for t o ≡ Err why → select_step t g o ≡ refused why
-  refused_columns t g why None is = let same : refusal.NoTable t.table ≡ why = cc in ap refused same
-  refused_columns t g why (Some schema) is = ap (select_columns t g schema) is
+  refused_query : (t : SelectText) (g : History) (why : Refusal) (o : Option Schema) → query_for t o ≡ Err why → select_step t g o ≡ refused why
+  refused_query t g why None is = let same : refusal.NoTable t.table ≡ why = cc in ap refused same
+  refused_query t g why (Some schema) is = ap (select_query t g schema) is
 
   did_not_select : (t : SelectText) (reply : List ℕ) → SelectRefused n h 0 t from to reply → Did h from to reply (step_of (Ok (statement.Select t)) (take from h))
   did_not_select t reply (inl (why, is, r)) =
-      did_refused why reply _ r (refused_columns t (take from h) why (schema_of t.table (take from h)) (asked (columns_of_select t) (Err why) is (stay r.nothing)))
-  did_not_select t reply (inr (columns, is, a, failed)) = absurd (never_failed n reply calm failed)
+      did_refused why reply _ r (refused_query t (take from h) why (schema_of t.table (take from h)) (asked (query_of_select t) (Err why) is (stay r.nothing)))
+  did_not_select t reply (inr (query, is, a, failed)) = absurd (never_failed n reply calm failed)
 
   -- the history that a statement's commands come to is clear, where the statements come to one that is
   clear_commands : (st : Statement) (cs : List Command) → step_of (Ok st) (take from h) ≡ commands_step (commands_of (take from h) st) (take from h) → EndsClear h (Ok st ∷ ss) from → commands_of (take from h) st ≡ Ok cs → TurnsClear h 0 cs (take from h)
@@ -344,12 +348,13 @@ module _ (n : Outside) (calm : IsCalm n) (h : History) (base from to : ℕ) (eac
   clear_commands st cs same (inr clear) is =
       inr (subst (λ (s : Step). IsClear (entered (take from h) 0 s.commands)) (same ∙ ap (λ r. commands_step r (take from h)) is) (clear_end ss (after (Ok st) (take from h)) clear))
 
-  did : (st : Result Statement Cause) (reply : List ℕ) → EndsClear h (st ∷ ss) from → Takes n h 0 st from to reply → Did h from to reply (step_of st (take from h))
-  did (Ok (statement.Create c)) reply clear t = did_commands (statement.Create c) reply (λ cs is. clear_commands (statement.Create c) cs refl clear is) t
-  did (Ok (statement.Insert i)) reply clear t = did_commands (statement.Insert i) reply (λ cs is. clear_commands (statement.Insert i) cs refl clear is) t
-  did (Ok (statement.Select t)) reply clear (inl (r, a)) = did_select t reply (clear_so_far h (Ok (statement.Select t) ∷ ss) from clear) r a
-  did (Ok (statement.Select t)) reply clear (inr r) = did_not_select t reply r
-  did (Err why) reply clear r = did_refused (refusal_of_cause why) reply _ r refl
+  did : (st : Result Statement Cause) (reply : List ℕ) → IsNoExplain st → EndsClear h (st ∷ ss) from → Takes n h 0 st from to reply → Did h from to reply (step_of st (take from h))
+  did (Ok (statement.Create c)) reply other clear t = did_commands (statement.Create c) reply (λ cs is. clear_commands (statement.Create c) cs refl clear is) t
+  did (Ok (statement.Insert i)) reply other clear t = did_commands (statement.Insert i) reply (λ cs is. clear_commands (statement.Insert i) cs refl clear is) t
+  did (Ok (statement.Select t)) reply other clear (inl (r, a)) = did_select t reply (clear_so_far h (Ok (statement.Select t) ∷ ss) from clear) r a
+  did (Ok (statement.Select t)) reply other clear (inr r) = did_not_select t reply r
+  did (Ok (statement.Explain t)) reply other clear r = absurd other
+  did (Err why) reply other clear r = did_refused (refusal_of_cause why) reply _ r refl
 
 -- ---- runs
 
@@ -365,13 +370,13 @@ record Ran (h : History) (ss : List (Result Statement Cause)) (from to : ℕ) (o
   out_is : out ≡ out_of ss (take from h)
   end_is : take to h ≡ end_of ss (take from h)
 
-ran : (n : Outside) → IsCalm n → (h : History) (base : ℕ) (ss : List (Result Statement Cause)) (from to : ℕ) (out : List ℕ) → OwnEntries h base → base ≤ from → EndsClear h ss from → SessionRun n h 0 ss from to out → Ran h ss from to out
-ran n calm h base [] from to out each past clear r = record { out_is = r.1; end_is = ap (λ (m : ℕ). take m h) (sym r.0) }
-ran n calm h base (s ∷ ss) from to out each past clear r =
+ran : (n : Outside) → IsCalm n → (h : History) (base : ℕ) (ss : List (Result Statement Cause)) (from to : ℕ) (out : List ℕ) → OwnEntries h base → base ≤ from → HasNoExplain ss → EndsClear h ss from → SessionRun n h 0 ss from to out → Ran h ss from to out
+ran n calm h base [] from to out each past others clear r = record { out_is = r.1; end_is = ap (λ (m : ℕ). take m h) (sym r.0) }
+ran n calm h base (s ∷ ss) from to out each past others clear r =
     let place = r.0 in
     let places = takes_places n h 0 s from place r.1 r.3 in
-    let one = did n calm h base from place each past ss s r.1 clear r.3 in
-    let rest = ran n calm h base ss place to r.2 each (omega (arith, places.0)) (clear_next h s ss from place one.more_is clear) r.4 in
+    let one = did n calm h base from place each past ss s r.1 (All-head IsNoExplain s ss others) clear r.3 in
+    let rest = ran n calm h base ss place to r.2 each (omega (arith, places.0)) (All-tail IsNoExplain s ss others) (clear_next h s ss from place one.more_is clear) r.4 in
     let more = after s (take from h) in
     let length_is : length more ≡ place = ap length (sym one.more_is) ∙ length-take-le place h places.1 in
     record {
@@ -380,20 +385,20 @@ ran n calm h base (s ∷ ss) from to out each past clear r =
       end_is = rest.end_is ∙ ap (end_of ss) one.more_is;
     }
 
-script_ran : (n : Outside) → IsCalm n → (h : History) (ss : List (Result Statement Cause)) (base : ℕ) (out : List ℕ) → EndsClear h ss base → ScriptRun n ss h base out → (out ≡ out_of ss (take base h)) × (h ≡ end_of ss (take base h))
-script_ran n calm h ss base out clear r =
+script_ran : (n : Outside) → IsCalm n → (h : History) (ss : List (Result Statement Cause)) (base : ℕ) (out : List ℕ) → HasNoExplain ss → EndsClear h ss base → ScriptRun n ss h base out → (out ≡ out_of ss (take base h)) × (h ≡ end_of ss (take base h))
+script_ran n calm h ss base out others clear r =
     let rises = run_rises n h ss base r.last out r.run in
     let all : length h ≡ r.last = stays_there h base r.last (length h) r.sessions rises r.nothing_else in
-    let found = ran n calm h base ss base r.last out r.sessions (omega arith) clear r.run in
+    let found = ran n calm h base ss base r.last out r.sessions (omega arith) others clear r.run in
     let whole : take r.last h ≡ h = take_all r.last h (omega arith) in
     (found.out_is, sym whole ∙ found.end_is)
 
--- what a script prints after a base, and each command that is accepted, are determined where no count rose and one of the histories is clear
-pub one_way : (n : Outside) (script : List (Result Statement Cause)) (h g : History) (base : ℕ) (a b : List ℕ) → n.ended ≡ n.opened → n.ended < 2 ^ 64 - 1 → FewInserts h → ArePlain h → take base h ≡ take base g → ScriptRun n script h base a → ScriptRun n script g base b → (a ≡ b) × (h ≡ g)
-one_way n script h g base a b still below few plain same one two =
+-- what a script without an EXPLAIN prints after a base, and each command that is accepted, are determined where no count rose and one of the histories is clear
+pub one_way : (n : Outside) (script : List (Result Statement Cause)) (h g : History) (base : ℕ) (a b : List ℕ) → n.ended ≡ n.opened → n.ended < 2 ^ 64 - 1 → FewInserts h → ArePlain h → HasNoExplain script → take base h ≡ take base g → ScriptRun n script h base a → ScriptRun n script g base b → (a ≡ b) × (h ≡ g)
+one_way n script h g base a b still below few plain others same one two =
     let calm : IsCalm n = record { still = still; below = below } in
     let clear : IsClear h = record { few = few; plain = plain } in
-    let left = script_ran n calm h script base a (inl clear) one in
+    let left = script_ran n calm h script base a others (inl clear) one in
     let end : h ≡ end_of script (take base g) = left.1 ∙ ap (end_of script) same in
-    let right = script_ran n calm g script base b (inr (subst IsClear end clear)) two in
+    let right = script_ran n calm g script base b others (inr (subst IsClear end clear)) two in
     (left.0 ∙ ap (out_of script) same ∙ sym right.0, end ∙ sym right.1)

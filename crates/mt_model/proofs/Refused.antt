@@ -10,6 +10,7 @@ code_of_line (refusal.NoTable table) = refl
 code_of_line (refusal.TableExists table) = refl
 code_of_line (refusal.NoColumn column) = refl
 code_of_line (refusal.Schema why column) = refl
+code_of_line (refusal.Literal column place) = refl
 code_of_line (refusal.Fields line found wanted) = refl
 code_of_line (refusal.Field line field) = refl
 code_of_line (refusal.Past b) = refl

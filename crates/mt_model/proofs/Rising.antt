@@ -43,6 +43,7 @@ module _ (n m : Outside) (same : n.opened ≡ m.opened) (later : n.ended ≤ m.e
     takes_risen (Ok (statement.Insert i)) t = commands_risen (statement.Insert i) t
     takes_risen (Ok (statement.Select t)) (inl taken) = inl taken
     takes_risen (Ok (statement.Select t)) (inr r) = inr (select_risen t r)
+    takes_risen (Ok (statement.Explain t)) r = r
     takes_risen (Err why) r = r
 
 pub run_risen : (n m : Outside) → n.opened ≡ m.opened → n.ended ≤ m.ended → (h : History) (s : ℕ) (ss : List (Result Statement Cause)) (from to : ℕ) (out : List ℕ) → SessionRun n h s ss from to out → SessionRun m h s ss from to out

@@ -38,7 +38,7 @@ conds false true x xs = refl
 conds false false x xs = refl
 
 -- two tests take elements away in any order
-filters_swap : {X : Type 0} (p q : X → Bool) (xs : List X) → filter p (filter q xs) ≡ filter q (filter p xs)
+pub filters_swap : {X : Type 0} (p q : X → Bool) (xs : List X) → filter p (filter q xs) ≡ filter q (filter p xs)
 filters_swap p q [] = refl
 filters_swap p q (x ∷ xs) =
     filter_cons p (q x) x (filter q xs)

@@ -62,14 +62,14 @@ texts_same (suc n) (suc m) (b ∷ bs) low high =
 -- ---- lists of names and of columns
 
 -- two readers read alike what is no longer than this
-abbrev Alike : ℕ → Reader Statement → Reader Statement → Type 0
+abbrev pub Alike : ℕ → Reader Statement → Reader Statement → Type 0
 Alike k f g = (ts : List Placed) → length ts ≤ k → f ts ≡ g ts
 
 taken_same : {X : Type 0} (r : Result X Slip) (f g : X → Reader Statement) (p : Placed) (ps : List Placed) → ((x : X) → Alike (length ps) (f x) (g x)) → taken r f p ps ≡ taken r g p ps
 taken_same (Ok x) f g p ps same = same x ps (omega arith)
 taken_same (Err s) f g p ps same = refl
 
-expect_same : {X : Type 0} (test : Test X) (f g : X → Reader Statement) (ts : List Placed) → ((x : X) (rest : List Placed) → length rest < length ts → f x rest ≡ g x rest) → expect test f ts ≡ expect test g ts
+pub expect_same : {X : Type 0} (test : Test X) (f g : X → Reader Statement) (ts : List Placed) → ((x : X) (rest : List Placed) → length rest < length ts → f x rest ≡ g x rest) → expect test f ts ≡ expect test g ts
 expect_same test f g [] same = refl
 expect_same test f g (p ∷ ps) same = taken_same (test p.token) f g p ps (λ x rest less. same x rest (omega arith))
 
@@ -77,15 +77,15 @@ either_same : (b : Bool) (f g h k : Reader Statement) (ts : List Placed) → f t
 either_same true f g h k ts first second = first
 either_same false f g h k ts first second = second
 
-choose_same : (test : Token → Bool) (f g h k : Reader Statement) (ts : List Placed) → f ts ≡ g ts → h ts ≡ k ts → choose test f h ts ≡ choose test g k ts
+pub choose_same : (test : Token → Bool) (f g h k : Reader Statement) (ts : List Placed) → f ts ≡ g ts → h ts ≡ k ts → choose test f h ts ≡ choose test g k ts
 choose_same test f g h k [] first second = second
 choose_same test f g h k (p ∷ ps) first second = either_same (test p.token) f g h k (p ∷ ps) first second
 
 -- a part reads on after itself
-abbrev ReadsOn : {X : Type 0} → Part Statement X → Type 0
+abbrev pub ReadsOn : {X : Type 0} → Part Statement X → Type 0
 ReadsOn {X} part = (f g : X → Reader Statement) (ts : List Placed) → ((x : X) → Alike (length ts) (f x) (g x)) → part f ts ≡ part g ts
 
-listed_same : {X Y : Type 0} (n m : ℕ) (more : Token → Bool) (between : Test Y) (item : Part Statement X) (front : List X) (next : List X → Reader Statement) (ts : List Placed)
+pub listed_same : {X Y : Type 0} (n m : ℕ) (more : Token → Bool) (between : Test Y) (item : Part Statement X) (front : List X) (next : List X → Reader Statement) (ts : List Placed)
     → ReadsOn item → length ts < n → length ts < m → listed_within n more between item front next ts ≡ listed_within m more between item front next ts
 listed_same zero m more between item front next ts on low high = absurd (omega arith)
 listed_same (suc n) zero more between item front next ts on low high = absurd (omega arith)

@@ -11,7 +11,8 @@ use Rattle.mt_model.specs.declared.refusal.Refusal.{Refusal}
 use Rattle.mt_model.specs.History.{History, entered}
 use Rattle.mt_model.specs.Outside.{Outside}
 use Rattle.mt_model.specs.Refusals.{code_of, is_refusal}
-use Rattle.mt_model.specs.Reply.{columns_of_select}
+use Rattle.mt_model.specs.Queries.{query_of_select}
+use Rattle.mt_model.specs.declared.query.Query.{Query}
 use Rattle.mt_model.specs.Script.{OwnEntries, ScriptReplies}
 use Rattle.mt_model.specs.Session.{Accepts, AddsNothing, SessionReplies, TurnRefuses, TakesCommands, Takes}
 use Rattle.mt_model.proofs.OneWay.{IsCalm, all_entered, never_failed, never_in_turn, stays_there}
@@ -49,16 +50,18 @@ module _ (n : Outside) (calm : IsCalm n) (h : History) (base from to : ℕ) (own
       absurd (none (inr (done, next, rest, why, gives, subst (λ (x : History). TurnRefuses x (length done) next why) grown turn)))
   commands_go st reply (inr (inr (inr (done, next, rest, a, inr (allows, failed))))) none = absurd (never_in_turn n (length done) reply calm failed)
 
-  no_more : (r : Result (List ℕ) Refusal) → commands_or_none (no_commands r) ≡ []
-  no_more (Ok columns) = refl
+  no_more : (r : Result Query Refusal) → commands_or_none (no_commands r) ≡ []
+  no_more (Ok query) = refl
   no_more (Err why) = refl
 
   goes_on : (st : Result Statement Cause) (reply : List ℕ) → Takes n h 0 st from to reply → (MeetsCause (take from h) st → ⊥) → (take to h ≡ entered (take from h) 0 (given (take from h) st)) × (is_refusal reply ≡ false)
   goes_on (Ok (statement.Create c)) reply t none = commands_go (statement.Create c) reply t none
   goes_on (Ok (statement.Insert i)) reply t none = commands_go (statement.Insert i) reply t none
-  goes_on (Ok (statement.Select t)) reply (inl (r, a)) none = (stays _ (no_more (columns_of_select t (take from h))) a, not_refused reply _ r.reply_is refl)
-  goes_on (Ok (statement.Select t)) reply (inr (inl (why, is, r))) none = absurd (none (inl (why, ap no_commands (here (columns_of_select t) (Err why) r.nothing is))))
-  goes_on (Ok (statement.Select t)) reply (inr (inr (columns, is, a, failed))) none = absurd (never_failed n reply calm failed)
+  goes_on (Ok (statement.Select t)) reply (inl (r, a)) none = (stays _ (no_more (query_of_select t (take from h))) a, not_refused reply _ r.reply_is refl)
+  goes_on (Ok (statement.Select t)) reply (inr (inl (why, is, r))) none = absurd (none (inl (why, ap no_commands (here (query_of_select t) (Err why) r.nothing is))))
+  goes_on (Ok (statement.Select t)) reply (inr (inr (query, is, a, failed))) none = absurd (never_failed n reply calm failed)
+  goes_on (Ok (statement.Explain t)) reply (inl (r, a)) none = (stays _ (no_more (query_of_select t (take from h))) a, not_refused reply _ r.reply_is refl)
+  goes_on (Ok (statement.Explain t)) reply (inr (why, is, r)) none = absurd (none (inl (why, ap no_commands (here (query_of_select t) (Err why) r.nothing is))))
   goes_on (Err why) reply r none = absurd (none tt)
 
 -- so no reply of the script refuses

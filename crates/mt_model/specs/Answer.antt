@@ -1,15 +1,17 @@
 -- What a SELECT answers (docs/definitions-of-runs.md, "Answers"; ClickHouse, SELECT).
-use Rattle.std.specs.Prelude.{◌≡◌, ℕ, List, map, Ok}
+use Rattle.std.specs.Prelude.{◌≡◌, ℕ, List, filter, map, Ok}
 use Rattle.std.specs.List.Sorted.{IsPermutation, IsSorted}
 use Rattle.mt_values.specs.declared.schema.Schema.{Schema}
 use Rattle.mt_values.specs.declared.statement.SelectText.{SelectText}
 use Rattle.mt_values.specs.Values.{Row}
 use Rattle.mt_values.specs.Order.{key_of, row_cmp}
 use Rattle.mt_values.specs.Printing.{line}
+use Rattle.mt_values.specs.Tests.{eval}
 use Rattle.mt_model.specs.History.{History}
 use Rattle.mt_model.specs.Live.{live}
 use Rattle.mt_model.specs.Partial.{Partly}
-use Rattle.mt_model.specs.Reply.{selected_places}
+use Rattle.mt_model.specs.declared.query.Query.{Query}
+use Rattle.mt_model.specs.Queries.{query_of}
 
 -- the rows' lines, sorted by their columns from left to right, each row as often as it occurs (docs/definitions-of-runs.md, "Answers")
 pub record Prints (rows : List Row) (lines : List (List ℕ)) : Type 0 where
@@ -18,10 +20,10 @@ pub record Prints (rows : List Row) (lines : List (List ℕ)) : Type 0 where
   pub rising : IsSorted row_cmp order
   pub lines_are : lines ≡ map line order
 
--- the lines of a SELECT: its columns of the rows that merges may have left of its table's live rows (docs/definitions-of-runs.md, "Answers")
+-- the lines of a SELECT: its columns of those rows that meet its condition, of what merges may have left of its table's live rows (docs/definitions-of-runs.md, "Answers"; ClickHouse, SELECT: WHERE)
 pub record Answer (h : History) (schema : Schema) (s : SelectText) (lines : List (List ℕ)) : Type 0 where
-  pub columns : List ℕ
-  pub selected : selected_places schema.columns s.columns ≡ Ok columns
+  pub query : Query
+  pub asked : query_of schema.columns s ≡ Ok query
   pub rows : List Row
   pub partly : Partly schema (live s.table schema h) rows
-  pub prints : Prints (map (key_of columns) rows) lines
+  pub prints : Prints (map (key_of query.places) (filter (eval query.condition) rows)) lines

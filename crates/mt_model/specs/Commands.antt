@@ -12,7 +12,9 @@ use Rattle.mt_values.specs.Tables.{partition_of, same_partition}
 use Rattle.mt_model.specs.declared.refusal.Refusal.{Refusal}
 use Rattle.mt_model.specs.declared.refusal.Refusal.TheVariants as refusal
 use Rattle.mt_model.specs.History.{History, schema_of, column_types}
-use Rattle.mt_model.specs.Reply.{columns_of_select, rows_for, schema_of_text}
+use Rattle.mt_model.specs.declared.query.Query.{Query}
+use Rattle.mt_model.specs.Queries.{query_of_select}
+use Rattle.mt_model.specs.Reply.{rows_for, schema_of_text}
 
 -- the rows of one partition, in their order (docs/definitions-of-runs.md, "Commands of statements")
 abbrev pub rows_in : Schema → Partition → List Row → List Row
@@ -51,13 +53,14 @@ abbrev pub commands_for : InsertText → Option Schema → Result (List Command)
 commands_for i None = Err (refusal.NoTable i.table)
 commands_for i (Some schema) = commands_of_rows schema i.table (rows_for i (Some schema))
 
--- a SELECT has no command, if its table and columns are there (docs/definitions-of-runs.md, "Commands of statements")
-abbrev pub no_commands : Result (List ℕ) Refusal → Result (List Command) Refusal
+-- a SELECT or an EXPLAIN has no command, if its table and its columns are there, and its literals belong to them (docs/definitions-of-runs.md, "Commands of statements")
+abbrev pub no_commands : Result Query Refusal → Result (List Command) Refusal
 no_commands (Err why) = Err why
-no_commands (Ok columns) = Ok []
+no_commands (Ok query) = Ok []
 
 -- the commands that a statement gives after a history, or why its text, its table or its data refuses it (docs/definitions-of-runs.md, "Commands of statements")
 abbrev pub commands_of : History → Statement → Result (List Command) Refusal
 commands_of h (statement.Create c) = create_commands c.table (schema_of_text c)
 commands_of h (statement.Insert i) = commands_for i (schema_of i.table h)
-commands_of h (statement.Select s) = no_commands (columns_of_select s h)
+commands_of h (statement.Select s) = no_commands (query_of_select s h)
+commands_of h (statement.Explain s) = no_commands (query_of_select s h)

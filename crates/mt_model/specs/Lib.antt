@@ -2,11 +2,13 @@ pub mod Answer
 pub mod Causes
 pub mod Clauses
 pub mod Commands
+pub mod Explain
 pub mod History
 pub mod Live
 pub mod Numbers
 pub mod Outside
 pub mod Partial
+pub mod Queries
 pub mod Refusals
 pub mod Reply
 pub mod Script

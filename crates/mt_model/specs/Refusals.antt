@@ -41,6 +41,7 @@ bound_text bound.Name = codes "name 64"
 bound_text bound.Statement = codes "statement 1048576"
 bound_text bound.Value = codes "value 1048576"
 bound_text bound.Rows = codes "rows 1048576"
+bound_text bound.Depth = codes "depth 64"
 
 abbrev pub room_text : Room → List ℕ
 room_text room.Parts = codes "parts 3000"
@@ -53,6 +54,7 @@ refusal_text (refusal.NoTable table) = codes "E02" ++ and_name table
 refusal_text (refusal.TableExists table) = codes "E03" ++ and_name table
 refusal_text (refusal.NoColumn column) = codes "E04" ++ and_name column
 refusal_text (refusal.Schema why column) = codes "E05 " ++ reason_word why ++ and_name column
+refusal_text (refusal.Literal column place) = codes "E06" ++ and_name column ++ and_number place
 refusal_text (refusal.Fields line found wanted) = codes "E07" ++ and_number line ++ and_number found ++ and_number wanted
 refusal_text (refusal.Field line field) = codes "E08" ++ and_number line ++ and_number field
 refusal_text (refusal.Past b) = codes "E12 " ++ bound_text b
@@ -73,6 +75,7 @@ code (refusal.NoTable table) = 2
 code (refusal.TableExists table) = 3
 code (refusal.NoColumn column) = 4
 code (refusal.Schema why column) = 5
+code (refusal.Literal column place) = 6
 code (refusal.Fields line found wanted) = 7
 code (refusal.Field line field) = 8
 code (refusal.Past b) = 12
@@ -111,6 +114,7 @@ abbrev pub refusal_of_cause : Cause → Refusal
 refusal_of_cause (cause.Grammar place) = refusal.Grammar place
 refusal_of_cause cause.LongStatement = refusal.Past bound.Statement
 refusal_of_cause cause.LongName = refusal.Past bound.Name
+refusal_of_cause cause.TooDeep = refusal.Past bound.Depth
 
 abbrev pub refusal_of_row : RowFault → Refusal
 refusal_of_row (row_fault.Fields line found wanted) = refusal.Fields line found wanted

@@ -12,7 +12,6 @@ use Rattle.mt_values.specs.declared.schema.SchemaFault.{SchemaFault}
 use Rattle.mt_values.specs.declared.schema.SchemaFault.TheVariants as fault
 use Rattle.mt_values.specs.declared.statement.CreateText.{CreateText}
 use Rattle.mt_values.specs.declared.statement.InsertText.{InsertText}
-use Rattle.mt_values.specs.declared.statement.SelectText.{SelectText}
 use Rattle.mt_values.specs.declared.statement.Selected.{Selected}
 use Rattle.mt_values.specs.declared.statement.Selected.TheVariants as selected
 use Rattle.mt_values.specs.Values.{Row}
@@ -143,11 +142,3 @@ insert_turn parts drawn accepted =
 abbrev pub selected_places : List Column → Selected → Result (List ℕ) Refusal
 selected_places columns selected.All = Ok (range_with_len 0 (length columns))
 selected_places columns (selected.Named names) = places_of columns names
-
-abbrev pub columns_for : SelectText → Option Schema → Result (List ℕ) Refusal
-columns_for s None = Err (refusal.NoTable s.table)
-columns_for s (Some schema) = selected_places schema.columns s.columns
-
--- the places of the columns that a SELECT takes, if its table is there and has them
-abbrev pub columns_of_select : SelectText → History → Result (List ℕ) Refusal
-columns_of_select s h = columns_for s (schema_of s.table h)

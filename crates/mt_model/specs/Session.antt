@@ -10,11 +10,14 @@ use Rattle.mt_values.specs.declared.statement.SelectText.{SelectText}
 use Rattle.mt_model.specs.Answer.{Answer}
 use Rattle.mt_model.specs.Commands.{commands_of}
 use Rattle.mt_model.specs.declared.refusal.Refusal.{Refusal}
+use Rattle.mt_model.specs.Explain.{Explains}
 use Rattle.mt_model.specs.History.{History, schema_of, inserts, own}
 use Rattle.mt_model.specs.Numbers.{last_number}
 use Rattle.mt_model.specs.Outside.{Outside, ReadOrStageFailed, TurnFailed}
 use Rattle.mt_model.specs.Refusals.{refusal_line, refusal_of_cause}
-use Rattle.mt_model.specs.Reply.{ok_line, rows_reply, create_turn, insert_turn, columns_of_select}
+use Rattle.mt_model.specs.declared.query.Query.{Query}
+use Rattle.mt_model.specs.Queries.{query_of_select}
+use Rattle.mt_model.specs.Reply.{ok_line, rows_reply, create_turn, insert_turn}
 
 -- from one place of the history to the same or a later one the session accepted nothing (docs/definitions-of-runs.md, "Turns")
 pub record AddsNothing (h : History) (session from to : ℕ) : Type 0 where
@@ -97,11 +100,16 @@ CommandRefused n h session s from to reply =
     ⊎ ((commands : List Command) × (commands_of (take to h) s ≡ Ok commands) × (0 < length commands) × AddsNothing h session from to × ReadOrStageFailed n reply)
     ⊎ ((done : List Command) × (next : Command) × (rest : List Command) × StopsAfter h session s from to done (next ∷ rest) × RefusedInTurn n (take to h) (length done) next reply)
 
--- what a SELECT may be refused for: by its table and columns, or by the outside once they are there (docs/definitions-of-runs.md, "Statements taken")
+-- what a SELECT may be refused for: by its table, columns and literals, or by the outside once they are there (docs/definitions-of-runs.md, "Statements taken")
 abbrev pub SelectRefused : Outside → History → ℕ → SelectText → ℕ → ℕ → List ℕ → Type 0
 SelectRefused n h session s from to reply =
-    ((why : Refusal) × (columns_of_select s (take to h) ≡ Err why) × RefusedAs h session from to why reply)
-    ⊎ ((columns : List ℕ) × (columns_of_select s (take to h) ≡ Ok columns) × AddsNothing h session from to × ReadOrStageFailed n reply)
+    ((why : Refusal) × (query_of_select s (take to h) ≡ Err why) × RefusedAs h session from to why reply)
+    ⊎ ((query : Query) × (query_of_select s (take to h) ≡ Ok query) × AddsNothing h session from to × ReadOrStageFailed n reply)
+
+-- an EXPLAIN may be refused by its table, columns and literals (docs/definitions-of-runs.md, "Statements taken")
+abbrev pub ExplainRefused : History → ℕ → SelectText → ℕ → ℕ → List ℕ → Type 0
+ExplainRefused h session s from to reply =
+    (why : Refusal) × (query_of_select s (take to h) ≡ Err why) × RefusedAs h session from to why reply
 
 -- a CREATE or an INSERT may have this reply: all its commands were accepted, or it is refused (docs/definitions-of-runs.md, "Statements taken")
 abbrev pub TakesCommands : Outside → History → ℕ → Statement → ℕ → ℕ → List ℕ → Type 0
@@ -114,6 +122,8 @@ TakesStatement n h session (statement.Create c) from to reply = TakesCommands n 
 TakesStatement n h session (statement.Insert i) from to reply = TakesCommands n h session (statement.Insert i) from to reply
 TakesStatement n h session (statement.Select s) from to reply =
     (Selects h s to reply × AddsNothing h session from to) ⊎ SelectRefused n h session s from to reply
+TakesStatement n h session (statement.Explain s) from to reply =
+    (Explains (take to h) s to reply × AddsNothing h session from to) ⊎ ExplainRefused h session s from to reply
 
 -- the same of a text, which is a statement or is refused as it is read (docs/definitions-of-runs.md, "Statements taken")
 abbrev pub Takes : Outside → History → ℕ → Item → ℕ → ℕ → List ℕ → Type 0

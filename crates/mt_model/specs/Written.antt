@@ -26,6 +26,7 @@ abbrev pub IsStatementText : Statement → Type 0
 IsStatementText (statement.Create c) = IsCreateText c
 IsStatementText (statement.Insert i) = Unit {0}
 IsStatementText (statement.Select s) = Unit {0}
+IsStatementText (statement.Explain s) = Unit {0}
 
 -- so it is of a text that is a statement
 abbrev pub IsWritten : Item → Type 0

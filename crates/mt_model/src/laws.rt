@@ -1,6 +1,6 @@
 // Laws of the definitions: what follows from them, whatever a program does. Each function has an empty body and the law as its contract.
 ghost use Rattle.std.specs.List.{list_any};
-ghost use Rattle.std.specs.Prelude.{◌≡◌, ◌⊎◌, ◌-◌, ◌^◌, ◌<◌, ◌≤◌, ◌++◌, ◌∷◌, [], ℕ, Bool, List, length, take, true, false, All, None, Some, Ok};
+ghost use Rattle.std.specs.Prelude.{◌≡◌, ◌⊎◌, ◌-◌, ◌^◌, ◌<◌, ◌≤◌, ◌++◌, ◌∷◌, [], ℕ, Bool, List, length, take, true, false, All, None, Some, Ok, codes};
 ghost use Rattle.std.specs.List.Sorted.{IsPermutation, IsSorted};
 ghost use Rattle.mt_values.specs.declared.value.ColType.{ColType};
 ghost use Rattle.mt_values.specs.declared.schema.Column.{Column};
@@ -10,6 +10,8 @@ ghost use Rattle.mt_values.specs.declared.command.Command.{Command};
 ghost use Rattle.mt_values.specs.declared.command.Command.TheVariants as command;
 ghost use Rattle.mt_values.specs.declared.command.Entry.{Entry};
 ghost use Rattle.mt_values.specs.declared.command.Insert.{Insert};
+ghost use Rattle.mt_values.specs.declared.expr.Literal.{Literal};
+ghost use Rattle.mt_values.specs.declared.expr.TestText.{TestText};
 ghost use Rattle.mt_values.specs.declared.statement.Clause.{Clause};
 ghost use Rattle.mt_values.specs.declared.statement.CreateText.{CreateText};
 ghost use Rattle.mt_values.specs.declared.statement.SelectText.{SelectText};
@@ -23,10 +25,13 @@ ghost use Rattle.mt_values.specs.Grid.{AreRowsOf};
 ghost use Rattle.mt_values.specs.Tables.{IsPlain, MayHavePartition, partition_of, sorting_cmp};
 ghost use Rattle.mt_values.specs.Tokens.{string_within, tokens_within};
 ghost use Rattle.mt_values.specs.Readers.{Reader, listed_within};
-ghost use Rattle.mt_values.specs.Grammar.{clauses_within, column, is_symbol, one_name, the};
+ghost use Rattle.mt_values.specs.Grammar.{all_of, clauses_within, column, is_symbol, joined_within, literal, one_name, term_within, the};
+ghost use Rattle.mt_values.specs.Conditions.{Condition, And, Or};
 ghost use Rattle.mt_values.specs.Script.{Item, data_ended_within, data_within, statements_of, statements_within};
 ghost use Rattle.mt_values.specs.Rows.{inserted_rows, row_limit, rows_within, unescaped_within};
 ghost use Rattle.mt_model.specs.Causes.{MeetsCause, NoneMeetsCause};
+ghost use Rattle.mt_model.specs.declared.counts.Counts.{Counts};
+ghost use Rattle.mt_model.specs.Explain.{explain_line};
 ghost use Rattle.mt_model.specs.Clauses.{NamesKeys};
 ghost use Rattle.mt_model.specs.Commands.{partitions_of, rows_in};
 ghost use Rattle.mt_model.specs.declared.refusal.Refusal.{Refusal};
@@ -38,7 +43,7 @@ ghost use Rattle.mt_model.specs.Outside.{Outside, HasRisen};
 ghost use Rattle.mt_model.specs.Refusals.{accepted_by, code, code_of, is_damage, is_refusal, refusal_line};
 ghost use Rattle.mt_model.specs.Reply.{create_turn, ok_line, rows_reply, schema_of_text};
 ghost use Rattle.mt_model.specs.Session.{AddsOnly, SessionRun, Takes};
-ghost use Rattle.mt_model.specs.Script.{ScriptReplies, ScriptRun};
+ghost use Rattle.mt_model.specs.Script.{HasNoExplain, ScriptReplies, ScriptRun};
 ghost use Rattle.mt_model.specs.Written.{IsWritten};
 
 /// The first entries of a legal history are a legal history, and one more entry that may come next leaves it legal.
@@ -142,6 +147,7 @@ pub fn refusals_have_numbers()
     ensures refusals { (r : Refusal) → code_of (refusal_line r) ≡ code r }
     ensures accepted { (h : ℕ) → code_of (ok_line h) ≡ 0 }
     ensures answers { (lines : List (List ℕ)) (h : ℕ) → code_of (rows_reply lines h) ≡ 0 }
+    ensures explained { (n : Counts) (h : ℕ) → code_of (explain_line n h) ≡ 0 }
 {}
 
 /// A refused statement adds those commands to the history that its line counts, and no others.
@@ -202,15 +208,15 @@ pub fn runs_stay_as_counts_rise()
         → SessionRun m h session statements from to out }
 {}
 
-/// A script that runs after a base has one run only, where the disk's count did not rise and stands below its type's end,
-/// and in one of the two histories no partition of a table has 3000 INSERTs and every table is plain: what it prints, and
-/// each command that is accepted, are determined. A partition with 3000 INSERTs may have 3000 parts or fewer, by what was
-/// merged, and refuse the next one or not.
+/// A script without an EXPLAIN that runs after a base has one run only, where the disk's count did not rise and stands below
+/// its type's end, and in one of the two histories no partition of a table has 3000 INSERTs and every table is plain: what it
+/// prints, and each command that is accepted, are determined. A partition with 3000 INSERTs may have 3000 parts or fewer, by
+/// what was merged, and refuse the next one or not; and an EXPLAIN counts parts and granules as merges left them.
 pub fn scripts_run_in_one_way()
     ensures { (n : Outside) (script : List Item) (h g : History) (base : ℕ) (a b : List ℕ)
         → n.ended ≡ n.opened → n.ended < 2 ^ 64 - 1 → FewInserts h → ArePlain h
-        → take base h ≡ take base g → ScriptRun n script h base a → ScriptRun n script g base b
-        → (a ≡ b) × (h ≡ g) }
+        → HasNoExplain script → take base h ≡ take base g → ScriptRun n script h base a
+        → ScriptRun n script g base b → (a ≡ b) × (h ≡ g) }
 {}
 
 /// The counts that bound the grammar's readers cut nothing off: each step takes at least one byte, or one token, and there
@@ -243,4 +249,20 @@ pub fn bounds_cut_nothing_off()
         → rows_within n types ended count lines ≡ rows_within m types ended count lines }
     ensures texts { (n m : ℕ) (text : List ℕ) → length text < n → length text < m
         → unescaped_within n text ≡ unescaped_within m text }
+
+    // Of conditions.
+    ensures literals { (n m : ℕ) (next : List Literal → Reader Statement) (ts : List Placed)
+        → length ts < n → length ts < m
+        → listed_within n (is_symbol symbol.Comma) (the symbol.Comma) literal [] next ts ≡
+        listed_within m (is_symbol symbol.Comma) (the symbol.Comma) literal [] next ts }
+    ensures ands { (n m depth : ℕ) (front : Condition TestText)
+        (next : Condition TestText → Reader Statement) (ts : List Placed)
+        → length ts ≤ n → length ts ≤ m
+        → joined_within n (codes "AND") And (term_within depth) front next ts ≡
+        joined_within m (codes "AND") And (term_within depth) front next ts }
+    ensures ors { (n m depth : ℕ) (front : Condition TestText)
+        (next : Condition TestText → Reader Statement) (ts : List Placed)
+        → length ts ≤ n → length ts ≤ m
+        → joined_within n (codes "OR") Or (all_of (term_within depth)) front next ts ≡
+        joined_within m (codes "OR") Or (all_of (term_within depth)) front next ts }
 {}

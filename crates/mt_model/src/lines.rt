@@ -1,8 +1,10 @@
 // The lines of replies.
 ghost use Rattle.std.specs.Prelude.{◌≡◌, ◌++◌, IfOk, codes};
+ghost use Rattle.mt_model.specs.Explain as explain;
 ghost use Rattle.mt_model.specs.Refusals as refusals;
 ghost use Rattle.mt_model.specs.Reply as reply;
 
+use crate::counts::Counts;
 use crate::refusal::{Bound, Reason, Refusal, Room};
 use mt_base::NoMemory;
 use mt_values::Name;
@@ -26,6 +28,24 @@ pub fn rows_line(alloc: Global, count: usize, place: u64) -> Result<Vec<u8>, NoM
     Ok(format!(in alloc; "ROWS {count} PREFIX {place}\n")?.into_bytes())
 }
 
+/// The line of an EXPLAIN. `place` is the length of the history that it is of.
+///
+/// `NoMemory` where there was none for the line.
+pub fn explain_line(alloc: Global, counts: &Counts, place: u64) -> Result<Vec<u8>, NoMemory>
+    ensures { IfOk result (λ line. line.items ≡ explain.explain_line counts.now place) }
+{
+    let Counts {
+        chosen_parts,
+        parts,
+        chosen_granules,
+        granules,
+    } = *counts;
+    let line = format!(in alloc;
+        "PARTS {chosen_parts}/{parts} GRANULES {chosen_granules}/{granules} PREFIX {place}\n"
+    )?;
+    Ok(line.into_bytes())
+}
+
 /// The line of a refusal.
 ///
 /// `NoMemory` where there was none for the line.
@@ -47,6 +67,11 @@ fn refusal_text(alloc: Global, refusal: &Refusal) -> Result<Vec<u8>, NoMemory>
         Refusal::TableExists(table) => named(alloc, b"E03", table),
         Refusal::NoColumn(column) => named(alloc, b"E04", column),
         Refusal::Schema(reason, column) => named(alloc, reason_text(*reason), column),
+        Refusal::Literal(column, place) => with_number(
+            alloc,
+            named(alloc, b"E06", column)?,
+            *place as u64,
+        ),
         Refusal::Fields {
             line,
             found,
@@ -94,6 +119,7 @@ fn bound_text(bound: Bound) -> &'static [u8]
         Bound::Statement => b"E12 statement 1048576",
         Bound::Value => b"E12 value 1048576",
         Bound::Rows => b"E12 rows 1048576",
+        Bound::Depth => b"E12 depth 64",
     }
 }
 

@@ -33,6 +33,8 @@ pub enum Bound {
     Value,
     /// The rows of an INSERT.
     Rows,
+    /// The parentheses and NOTs of a condition that are open at once.
+    Depth,
 }
 
 /// A quantity with a bound that is met in the turn of an INSERT's command.
@@ -57,6 +59,8 @@ pub enum Refusal {
     NoColumn(Name),
     /// The schema breaks a rule, at the column of this name.
     Schema(Reason, Name),
+    /// The literal at this place of the statement, counted from 0, does not belong to the column of this name.
+    Literal(Name, usize),
     /// A line of data has another number of fields than the table has columns. Lines count from 1.
     Fields {
         line: usize,
@@ -111,6 +115,7 @@ impl Refusal {
             Cause::Grammar(place) => Refusal::Grammar(place),
             Cause::LongStatement => Refusal::Past(Bound::Statement),
             Cause::LongName => Refusal::Past(Bound::Name),
+            Cause::TooDeep => Refusal::Past(Bound::Depth),
         }
     }
 
@@ -155,6 +160,7 @@ impl Refusal {
             Refusal::TableExists(_) => 3,
             Refusal::NoColumn(_) => 4,
             Refusal::Schema(_, _) => 5,
+            Refusal::Literal(_, _) => 6,
             Refusal::Fields { .. } => 7,
             Refusal::Field { .. } => 8,
             Refusal::Past(_) => 12,

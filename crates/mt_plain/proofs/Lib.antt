@@ -3,5 +3,7 @@ pub mod Equal
 pub mod Inserting
 pub mod Parting
 pub mod Rows
+pub mod Standing
 pub mod Steps
+pub mod Tallying
 pub mod Turning

@@ -13,7 +13,7 @@ use Rattle.mt_model.specs.declared.refusal.Refusal.{Refusal}
 use Rattle.mt_model.specs.declared.refusal.Refusal.TheVariants as refusal
 use Rattle.mt_model.specs.History.{History, IsLegal, entered, schema_of}
 use Rattle.mt_model.specs.Refusals.{refusal_line}
-use Rattle.mt_model.specs.Reply.{columns_for, columns_of_select}
+use Rattle.mt_model.specs.Queries.{query_for, query_of_select}
 use Rattle.mt_model.specs.Session.{AddsNothing, Accepts, StopsAfter, TurnRefuses, RefusedAs, SessionRun, Takes, TakesCommands, TakesStatement}
 use Rattle.mt_model.specs.Script.{ScriptRun}
 use Rattle.mt_model.proofs.Growing.{run_append, run_more, stays}
@@ -82,11 +82,19 @@ took_legal h new cs reply may took legal = subst IsLegal (ap (λ t. t.history) t
 
 -- ---- SELECT
 
-unselected_takes : (h : History) (t : SelectText) (why : Refusal) (reply : List ℕ) → columns_of_select t h ≡ Err why → reply ≡ refusal_line why → TakesStatement calm h 0 (statement.Select t) (length h) (length h) reply
-unselected_takes h t why reply is line = inr (inl (why, subst (λ (x : History). columns_of_select t x ≡ Err why) (sym (whole h)) is, refused_here h why reply line))
+unselected_takes : (h : History) (t : SelectText) (why : Refusal) (reply : List ℕ) → query_of_select t h ≡ Err why → reply ≡ refusal_line why → TakesStatement calm h 0 (statement.Select t) (length h) (length h) reply
+unselected_takes h t why reply is line = inr (inl (why, subst (λ (x : History). query_of_select t x ≡ Err why) (sym (whole h)) is, refused_here h why reply line))
 
 pub no_table_takes : (h : History) (t : SelectText) (reply : List ℕ) → schema_of t.table h ≡ None → reply ≡ refusal_line (refusal.NoTable t.table) → TakesStatement calm h 0 (statement.Select t) (length h) (length h) reply
-no_table_takes h t reply none line = unselected_takes h t (refusal.NoTable t.table) reply (ap (columns_for t) none) line
+no_table_takes h t reply none line = unselected_takes h t (refusal.NoTable t.table) reply (ap (query_for t) none) line
+
+-- ---- EXPLAIN
+
+unexplained_takes : (h : History) (t : SelectText) (why : Refusal) (reply : List ℕ) → query_of_select t h ≡ Err why → reply ≡ refusal_line why → TakesStatement calm h 0 (statement.Explain t) (length h) (length h) reply
+unexplained_takes h t why reply is line = inr (why, subst (λ (x : History). query_of_select t x ≡ Err why) (sym (whole h)) is, refused_here h why reply line)
+
+pub no_table_explained : (h : History) (t : SelectText) (reply : List ℕ) → schema_of t.table h ≡ None → reply ≡ refusal_line (refusal.NoTable t.table) → TakesStatement calm h 0 (statement.Explain t) (length h) (length h) reply
+no_table_explained h t reply none line = unexplained_takes h t (refusal.NoTable t.table) reply (ap (query_for t) none) line
 
 -- ---- scripts
 

@@ -1,7 +1,7 @@
 // Whether a history and a text are those of a script's run.
 ghost use Rattle.std.specs.Prelude.{◌≡◌, ◌↔◌, IfOk, true};
 ghost use Rattle.mt_model.specs.History.{FewInserts};
-ghost use Rattle.mt_model.specs.Script.{ScriptRun};
+ghost use Rattle.mt_model.specs.Script.{HasNoExplain, ScriptRun};
 ghost use Rattle.mt_plain.specs.Plain.{calm};
 
 use super::running::run;
@@ -13,9 +13,9 @@ use std::alloc::Global;
 /// Whether a script without a history before it, over an outside without faults, may have left this history and printed
 /// this text.
 ///
-/// A yes is right of every history. A no is right of a history in which no partition of a table has 3000 INSERTs: the plain
-/// program merges nothing, and so it refuses more INSERTs into a partition that has 3000, where a program that merges may
-/// take them.
+/// A yes is right of every history. A no is right of a script without an EXPLAIN, and of a history in which no partition of a
+/// table has 3000 INSERTs: the plain program merges nothing, and so it counts a part for each INSERT, and refuses more INSERTs
+/// into a partition that has 3000, where a program that merges may count fewer parts and take them.
 ///
 /// `NoMemory` where an allocation failed.
 pub fn allows(
@@ -26,8 +26,8 @@ pub fn allows(
 ) -> Result<bool, NoMemory>
     ensures allowed { IfOk result
         (λ b. b ≡ true → ScriptRun calm statements.now entries.now 0 printed.now) }
-    ensures exact { FewInserts entries.now → ScriptRun calm statements.now entries.now 0 printed.now
-        → IfOk result (λ b. b ≡ true) }
+    ensures exact { FewInserts entries.now → HasNoExplain statements.now
+        → ScriptRun calm statements.now entries.now 0 printed.now → IfOk result (λ b. b ≡ true) }
 {
     let done = run(alloc, statements)?;
     if done.out.as_slice() == printed {

@@ -2,14 +2,18 @@
 #![tactic(auto)]
 
 mod blocks;
+mod boxes;
 mod checking;
 mod commands;
 mod comparing;
+mod counting;
 mod entries;
+mod explaining;
 mod keys;
 mod lines;
 mod live;
 mod partitions;
+mod portions;
 mod printing;
 mod replies;
 mod running;
@@ -22,11 +26,14 @@ pub use blocks::{rows_of, same_blocks};
 pub use checking::allows;
 pub use commands::{create_commands, insert_commands};
 pub use comparing::{Order, compare};
+pub use counting::counts;
 pub use entries::enter;
+pub use explaining::explained;
 pub use keys::{key_values, picked_rows};
 pub use lines::lines_of;
 pub use live::live_rows;
 pub use partitions::{partitions_of, rows_in, same_partition};
+pub use portions::{Portion, portions_of};
 pub use printing::all_lines;
 pub use replies::rows_reply;
 pub use running::{Outcome, run, step};

@@ -10,11 +10,12 @@ ghost use Rattle.mt_model.specs.Written.{IsStatementText, IsWritten};
 ghost use Rattle.mt_plain.specs.Plain.{Grows, TookTurns, calm};
 
 use super::commands::{create_commands, insert_commands};
+use super::explaining::explained;
 use super::selecting::answer;
 use super::turns::accept;
 use crate::{rows_reply, schema_of};
 use mt_base::{NoMemory, Stop, Twin};
-use mt_model::{Refusal, ok_line, refusal_line};
+use mt_model::{Refusal, explain_line, ok_line, refusal_line};
 use mt_values::{Cause, Command, CreateText, Entry, InsertText, SelectText, Statement};
 use std::alloc::Global;
 
@@ -45,8 +46,8 @@ pub fn run(alloc: Global, statements: &[Result<Statement, Cause>]) -> Result<Out
 
 /// Runs one statement after the last entry of a history, over an outside without faults, and gives its reply.
 ///
-/// `NoMemory` where an allocation failed; the history stays as it was. It also answers a SELECT from a table of 2^32
-/// columns and more, which no legal history has.
+/// `NoMemory` where an allocation failed; the history stays as it was. It also answers a SELECT and an EXPLAIN of a
+/// table of 2^32 columns and more, and an EXPLAIN of 2^64 granules and more, which no legal history has.
 pub fn step(
     alloc: Global,
     history: &mut Vec<Entry>,
@@ -111,6 +112,7 @@ fn step_statement(
         Statement::Create(create) => step_create(alloc, history, create),
         Statement::Insert(insert) => step_insert(alloc, history, insert),
         Statement::Select(select) => step_select(alloc, history, select),
+        Statement::Explain(asked) => step_explain(alloc, history, asked),
     }
 }
 
@@ -179,6 +181,21 @@ fn step_select(alloc: Global, history: &[Entry], select: &SelectText) -> Result<
     };
     match answer(alloc, history, schema, select) {
         Ok(lines) => rows_reply(alloc, &lines, history.len() as u64),
+        Err(Stop::Refused(refusal)) => refused(alloc, refusal),
+        Err(Stop::NoMemory) => Err(NoMemory),
+    }
+}
+
+/// Answers an EXPLAIN.
+fn step_explain(alloc: Global, history: &[Entry], asked: &SelectText) -> Result<Vec<u8>, NoMemory>
+    ensures { IfOk result (λ reply. TakesStatement calm history.now 0 (statement.Explain asked.now)
+        (length history.now) (length history.now) reply.items) }
+{
+    let Some(schema) = schema_of(history, &asked.table) else {
+        return refused(alloc, Refusal::NoTable(asked.table.twin(alloc)?));
+    };
+    match explained(alloc, history, schema, asked) {
+        Ok(counts) => explain_line(alloc, &counts, history.len() as u64),
         Err(Stop::Refused(refusal)) => refused(alloc, refusal),
         Err(Stop::NoMemory) => Err(NoMemory),
     }

@@ -5,4 +5,6 @@ pub mod Joined
 pub mod Numbered
 pub mod Ordered
 pub mod Orders
+pub mod OwnRows
+pub mod Portions
 pub mod Ranges

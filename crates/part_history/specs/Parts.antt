@@ -11,6 +11,7 @@ use Rattle.mt_values.specs.declared.schema.Schema.{Schema}
 use Rattle.mt_values.specs.Grammar.{same_bytes}
 use Rattle.mt_values.specs.Tables.{same_partition, sorting_cmp}
 use Rattle.mt_values.specs.Values.{Row}
+use Rattle.mt_model.specs.Explain.{Portion}
 use Rattle.mt_model.specs.History.{History, schema_of}
 use Rattle.mt_model.specs.Live.{live}
 use Rattle.mt_model.specs.Numbers.{IsNumberOfInsert, lies_within, within}
@@ -66,3 +67,8 @@ block_cmp a b = ordering_then (partition_cmp a.name.partition b.name.partition) 
 
 abbrev pub AreInBlockOrder : List CorePart → Type 0
 AreInBlockOrder parts = IsSorted block_cmp parts
+
+-- the rows that a part keeps together, without its name (docs/definitions-of-runs.md, "Explained reads")
+abbrev pub portion_of : CorePart → Portion
+portion_of p =
+    record { partition = p.name.partition; least = p.name.min_block; greatest = p.name.max_block; rows = p.rows }

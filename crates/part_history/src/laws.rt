@@ -1,10 +1,11 @@
 // Laws of the definitions: what follows from them, whatever a program does. Each function has an empty body and the law as its contract.
-ghost use Rattle.std.specs.Prelude.{◌≡◌, ◌≢◌, ◌⊎◌, ◌<◌, ◌≤◌, ◌++◌, ◌∷◌, [], All, List, ℕ, Some, length, slice_get};
+ghost use Rattle.std.specs.Prelude.{◌≡◌, ◌≢◌, ◌⊎◌, ◌<◌, ◌≤◌, ◌++◌, ◌∷◌, [], All, List, ℕ, Some, length, map, slice_get};
 ghost use Rattle.mt_base.specs.declared.partition.Partition.{Partition};
 ghost use Rattle.mt_values.specs.declared.command.Command.TheVariants as command;
 ghost use Rattle.mt_values.specs.declared.command.Insert.{Insert};
 ghost use Rattle.mt_values.specs.declared.schema.Schema.{Schema};
-ghost use Rattle.mt_values.specs.Tables.{MayHavePartition};
+ghost use Rattle.mt_values.specs.Tables.{MayHavePartition, partition_of};
+ghost use Rattle.mt_model.specs.Explain.{PortionsStand};
 ghost use Rattle.mt_model.specs.History.{History, IsLegal, entered, inserts, schema_of};
 ghost use Rattle.mt_model.specs.Live.{live};
 ghost use Rattle.mt_model.specs.Numbers.{numbered};
@@ -12,7 +13,7 @@ ghost use Rattle.mt_model.specs.Partial.{Partly};
 ghost use Rattle.part_name.specs.PartNames.{Before, IsPartName};
 ghost use Rattle.part_history.specs.declared.part.CorePart.{CorePart};
 ghost use Rattle.part_history.specs.Entered.{next_number, part_of_insert, parts_after, parts_upto, with_part};
-ghost use Rattle.part_history.specs.Parts.{AreInBlockOrder, TableStands, parts_in, rows_of_parts};
+ghost use Rattle.part_history.specs.Parts.{AreInBlockOrder, TableStands, parts_in, portion_of, rows_of_parts};
 
 /// The rows of the parts that stand for a table, part after part in block order, are what merges may have left of its live rows.
 pub fn parts_stand_for_live_rows()
@@ -52,6 +53,20 @@ pub fn parts_stand_apart()
         (a b : CorePart) → TableStands table parts h → slice_get parts i ≡ Some a
         → slice_get parts j ≡ Some b → i ≢ j → a.name.partition ≡ b.name.partition
         → IsPartName a.name → IsPartName b.name → Before a.name b.name ⊎ Before b.name a.name }
+{}
+
+/// The rows of the parts that stand for a table are of their part's partition.
+pub fn rows_are_of_their_partition()
+    ensures { (h : History) (table : List ℕ) (schema : Schema) (parts : List CorePart) → IsLegal h
+        → schema_of table h ≡ Some schema → TableStands table parts h
+        → All (λ p. All (λ row. partition_of schema row ≡ p.name.partition) p.rows) parts }
+{}
+
+/// The parts that stand for a table are portions of its rows that stand for it.
+pub fn parts_are_portions()
+    ensures { (h : History) (table : List ℕ) (schema : Schema) (parts : List CorePart)
+        → schema_of table h ≡ Some schema → TableStands table parts h
+        → PortionsStand h table schema (map portion_of parts) }
 {}
 
 /// A table has in a partition at most one part for each INSERT that was accepted into it: merges leave fewer.

@@ -4,6 +4,7 @@ use Rattle.mt_values.proofs.TokenBounds.{tokens_same}
 use Rattle.mt_values.proofs.ScriptBounds.{statements_same, data_same, data_ended_same}
 use Rattle.mt_values.proofs.RowBounds.{rows_same}
 use Rattle.mt_model.proofs.ClauseBounds.{clauses_same}
+use Rattle.mt_model.proofs.ConditionBounds.{ands_same, literals_same, ors_same}
 use Rattle.mt_model.proofs.TextBounds.{strings_same, texts_same, names_same, columns_same}
 use Rattle.mt_model.proofs.laws.bounds_cut_nothing_off.Goals as goal
 
@@ -19,4 +20,7 @@ returns c = record {
   ends = data_ended_same;
   rows = rows_same;
   texts = texts_same;
+  literals = λ n m next ts. literals_same n m (is_symbol symbol.Comma) (the symbol.Comma) next ts;
+  ands = ands_same;
+  ors = ors_same;
 }

@@ -4,16 +4,16 @@ use Rattle.mt_base.specs.declared.memory.NoMemory.{NoMemory}
 use Rattle.mt_values.specs.declared.statement.Cause.{Cause}
 use Rattle.mt_values.specs.declared.statement.Statement.{Statement}
 use Rattle.mt_model.specs.History.{History, FewInserts}
-use Rattle.mt_model.specs.Script.{ScriptRun}
+use Rattle.mt_model.specs.Script.{HasNoExplain, ScriptRun}
 use Rattle.mt_plain.specs.Plain.{calm}
 use Rattle.mt_model.proofs.OneWay.{one_way}
 use Rattle.mt_plain.proofs.checking.allows.Goals as goal
 
 -- one of the script's histories with few INSERTs is the one that was left
 allowed_same : (ss : List (Result Statement Cause)) (h g : History) (out : List ℕ) (r : Result Bool NoMemory) → ScriptRun calm ss h 0 out → IfOk r (λ same. (same ≡ true) ↔ (h ≡ g))
-    → FewInserts g → ScriptRun calm ss g 0 out → IfOk r (λ b. b ≡ true)
-allowed_same ss h g out (Ok b) run same few other = same.1 (sym (one_way calm ss g h 0 out out refl (omega arith) few (λ table schema is. tt) refl other run).1)
-allowed_same ss h g out (Err e) run same few other = tt
+    → FewInserts g → HasNoExplain ss → ScriptRun calm ss g 0 out → IfOk r (λ b. b ≡ true)
+allowed_same ss h g out (Ok b) run same few others other = same.1 (sym (one_way calm ss g h 0 out out refl (omega arith) few (λ table schema is. tt) others refl other run).1)
+allowed_same ss h g out (Err e) run same few others other = tt
 
 pub returns-then-eq-clause-exact : goal.returns-then-eq-clause-exact
 returns-then-eq-clause-exact c =
@@ -26,6 +26,6 @@ returns-then-eq-clause-exact c =
     allowed_same ss h g c.args.printed.now c.same_histories.result run same
 
 pub returns-clause-exact : goal.returns-clause-exact
-returns-clause-exact c = λ few run.
-    let one = one_way calm c.args.statements.now c.args.entries.now c.in_ok-done.done.history.items 0 c.args.printed.now c.in_ok-done.done.out.items refl (omega arith) few (λ table schema is. tt) refl run c.in_ok-done.ensures.run in
+returns-clause-exact c = λ few others run.
+    let one = one_way calm c.args.statements.now c.args.entries.now c.in_ok-done.done.history.items 0 c.args.printed.now c.in_ok-done.done.out.items refl (omega arith) few (λ table schema is. tt) others refl run c.in_ok-done.ensures.run in
     absurd (other_text c.as_slice.result.now c.args.printed.now c.if-eq.ensures (c.as_slice.ensures.value ∙ sym one.0))

@@ -1,0 +1,80 @@
+-- What an EXPLAIN answers (docs/definitions-of-runs.md, "Explained reads"; ClickHouse, EXPLAIN: indexes).
+use Rattle.std.specs.Prelude.{◌≡◌, ◌≤◌, ◌&&◌, ◌++◌, ◌∷◌, [], ℕ, Bool, List, All, Ok, Some, codes, length}
+use Rattle.std.specs.Fmt.{decimal}
+use Rattle.std.specs.List.{count_by, list_any, sum_by}
+use Rattle.std.specs.List.Sorted.{IsSorted}
+use Rattle.mt_base.specs.declared.partition.Partition.{Partition}
+use Rattle.mt_values.specs.declared.expr.Test.{Test}
+use Rattle.mt_values.specs.declared.schema.Schema.{Schema}
+use Rattle.mt_values.specs.declared.statement.SelectText.{SelectText}
+use Rattle.mt_values.specs.Conditions.{Condition}
+use Rattle.mt_values.specs.Granules.{mark_keys}
+use Rattle.mt_values.specs.Tables.{same_partition, sorting_cmp}
+use Rattle.mt_values.specs.Values.{Row}
+use Rattle.predicate.specs.Granules.{chosen_in}
+use Rattle.mt_model.specs.declared.counts.Counts.{Counts}
+use Rattle.mt_model.specs.declared.query.Query.{Query}
+use Rattle.mt_model.specs.History.{History, schema_of}
+use Rattle.mt_model.specs.Live.{live}
+use Rattle.mt_model.specs.Numbers.{IsNumberOfInsert, lies_within, within}
+use Rattle.mt_model.specs.Partial.{Partly}
+use Rattle.mt_model.specs.Queries.{query_of}
+
+-- Rows of a table that are kept together: those of the INSERTs into one partition whose numbers lie in a range, as merges may have
+-- left them (ClickHouse, MergeTree: data storage; docs/definitions-of-runs.md, "Explained reads").
+pub record Portion : Type 0 where
+  pub partition : Partition
+  pub least : ℕ
+  pub greatest : ℕ
+  pub rows : List Row
+
+-- whether a number of the partition lies in the portion's range (docs/definitions-of-runs.md, "Explained reads")
+abbrev pub has_number : Partition → ℕ → Portion → Bool
+has_number partition n p = same_partition p.partition partition && lies_within p.least p.greatest n
+
+-- a portion stands for INSERTs into a table: both ends of its range are theirs, and its rows are sorted (docs/definitions-of-runs.md, "Explained reads")
+pub record PortionStands (h : History) (table : List ℕ) (schema : Schema) (p : Portion) : Type 0 where
+  pub order : p.least ≤ p.greatest
+  pub first : IsNumberOfInsert table p.partition p.least h
+  pub last : IsNumberOfInsert table p.partition p.greatest h
+  pub rising : IsSorted (sorting_cmp schema) p.rows
+  pub partly : Partly schema (live table schema (within table p.partition p.least p.greatest h)) p.rows
+
+-- portions stand for a table: each INSERT into it is in exactly one (docs/definitions-of-runs.md, "Explained reads")
+pub record PortionsStand (h : History) (table : List ℕ) (schema : Schema) (ps : List Portion) : Type 0 where
+  pub each : All (PortionStands h table schema) ps
+  pub once : (partition : Partition) (n : ℕ) → IsNumberOfInsert table partition n h → count_by (has_number partition n) ps ≡ 1
+
+-- which granules of a portion's rows a condition leaves (docs/definitions.md, "Boxes of granules")
+abbrev pub chosen_granules : Schema → Condition Test → Portion → List Bool
+chosen_granules schema c p = chosen_in schema p.partition c (mark_keys schema.primary schema.granularity p.rows)
+
+-- whether a granule of a portion is chosen (docs/definitions-of-runs.md, "Explained reads")
+abbrev pub is_chosen : Schema → Condition Test → Portion → Bool
+is_chosen schema c p = list_any (λ chosen. chosen) (chosen_granules schema c p)
+
+-- the numbers of an EXPLAIN over portions (docs/definitions-of-runs.md, "Explained reads")
+abbrev pub counts_of : Schema → Condition Test → List Portion → Counts
+counts_of schema c ps = record {
+  chosen_parts = count_by (is_chosen schema c) ps;
+  parts = length ps;
+  chosen_granules = sum_by (λ p. count_by (λ chosen. chosen) (chosen_granules schema c p)) ps;
+  granules = sum_by (λ p. length (chosen_granules schema c p)) ps;
+}
+
+-- the line of an EXPLAIN (docs/replies.md, "Replies")
+abbrev pub explain_line : Counts → ℕ → List ℕ
+explain_line n h =
+    codes "PARTS " ++ decimal n.chosen_parts ++ codes "/" ++ decimal n.parts
+    ++ codes " GRANULES " ++ decimal n.chosen_granules ++ codes "/" ++ decimal n.granules
+    ++ codes " PREFIX " ++ decimal h ++ 10 ∷ []
+
+-- an EXPLAIN's reply at a place has the numbers of portions that stand for the history up to it (docs/definitions-of-runs.md, "Explained reads")
+pub record Explains (h : History) (s : SelectText) (to : ℕ) (reply : List ℕ) : Type 0 where
+  pub schema : Schema
+  pub there : schema_of s.table h ≡ Some schema
+  pub query : Query
+  pub asked : query_of schema.columns s ≡ Ok query
+  pub portions : List Portion
+  pub stand : PortionsStand h s.table schema portions
+  pub reply_is : reply ≡ explain_line (counts_of schema query.condition portions) to

@@ -1,0 +1,7 @@
+-- the numbers over the portions so far
+use Rattle.std.proofs.Common.{◌≡◌, take}
+use Rattle.mt_model.specs.Explain.{counts_of}
+use Rattle.mt_plain.proofs.counting.counts.Given as goal
+
+abbrev pub invariant-loop-portion : goal.invariant-loop-portion
+invariant-loop-portion l = l.counts ≡ counts_of l.schema l.condition (take l.portion-index l.portions)

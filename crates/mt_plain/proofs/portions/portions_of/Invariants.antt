@@ -1,0 +1,7 @@
+-- the portions so far, and what the rest adds to them
+use Rattle.std.proofs.Common.{◌≡◌, drop}
+use Rattle.mt_plain.specs.Portions.{portions_from, unmerged}
+use Rattle.mt_plain.proofs.portions.portions_of.Given as goal
+
+abbrev pub invariant-loop-entry : goal.invariant-loop-entry
+invariant-loop-entry l = portions_from l.table l.schema l.found.items (drop l.entry-index l.entries) ≡ unmerged l.table l.schema l.entries

@@ -1,0 +1,41 @@
+-- The portions of a table in the plain program, which merges nothing: each INSERT is one.
+use Rattle.std.specs.Prelude.{ℕ, ◌+◌, Bool, List, [], ◌∷◌, ◌++◌, length, if◌then◌else◌}
+use Rattle.std.specs.List.{count_by, list_any}
+use Rattle.mt_values.specs.declared.command.Command.{Command}
+use Rattle.mt_values.specs.declared.command.Command.TheVariants as command
+use Rattle.mt_values.specs.declared.command.Insert.{Insert}
+use Rattle.mt_values.specs.declared.schema.Schema.{Schema}
+use Rattle.mt_values.specs.Grammar.{same_bytes}
+use Rattle.mt_values.specs.Tables.{sorting_cmp}
+use Rattle.mt_model.specs.declared.counts.Counts.{Counts}
+use Rattle.mt_model.specs.Explain.{Portion}
+use Rattle.mt_model.specs.History.{History}
+use Rattle.mt_model.specs.Live.{sorted}
+
+-- the portion of one INSERT with this number: its rows in the table's order
+abbrev pub portion_of : Schema → ℕ → Insert → Portion
+portion_of schema n i = record { partition = i.partition; least = n; greatest = n; rows = sorted (sorting_cmp schema) i.block.rows }
+
+-- the portions of a table after one more command: an INSERT into it is one more, with the next number
+abbrev pub portions_after : List ℕ → Schema → List Portion → Command → List Portion
+portions_after table schema ps (command.Create c) = ps
+portions_after table schema ps (command.Insert i) =
+    if same_bytes i.table table then ps ++ portion_of schema (length ps + 1) i ∷ [] else ps
+
+-- what commands add to these portions
+abbrev pub portions_from : List ℕ → Schema → List Portion → History → List Portion
+portions_from table schema ps [] = ps
+portions_from table schema ps (e ∷ es) = portions_from table schema (portions_after table schema ps e.command) es
+
+-- the portions of a table of this schema
+abbrev pub unmerged : List ℕ → Schema → History → List Portion
+unmerged table schema h = portions_from table schema [] h
+
+-- the numbers of an EXPLAIN over one part more, whose granules are chosen so
+abbrev pub with_part : Counts → List Bool → Counts
+with_part n chosen = record {
+  chosen_parts = n.chosen_parts + (if list_any (λ c. c) chosen then 1 else 0);
+  parts = n.parts + 1;
+  chosen_granules = n.chosen_granules + count_by (λ c. c) chosen;
+  granules = n.granules + length chosen;
+}
