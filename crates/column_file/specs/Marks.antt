@@ -4,25 +4,9 @@ use Rattle.std.specs.Int.{div_ceil, w64, to_le_bytes}
 use Rattle.std.specs.List.{filter_map, range_with_len}
 use Rattle.mt_values.specs.ColumnBytes.{column_bytes}
 use Rattle.mt_values.specs.Grid.{column_of}
-use Rattle.mt_values.specs.Order.{key_of}
+pub use Rattle.mt_values.specs.Granules.{granule_starts, granules, mark_keys, with_final}
 use Rattle.mt_values.specs.Values.{Row}
 use Rattle.column_file.specs.Granules.{marks_of}
-
--- how many granules rows are parted into: each has this many of them, the last perhaps fewer
-abbrev pub granules : ℕ → ℕ → ℕ
-granules granularity count = div_ceil count granularity
-
--- the first of each granule: each granularity-th, from the first
-abbrev pub granule_starts : {X : Type 0} → ℕ → List X → List X
-granule_starts granularity xs = filter_map (λ granule. slice_get xs (granularity * granule)) (range_with_len 0 (granules granularity (length xs)))
-
--- the first of each granule, and then the last of all; none where there is none
-abbrev pub with_final : {X : Type 0} → ℕ → List X → List X
-with_final granularity xs = granule_starts granularity xs ++ drop (length xs - 1) xs
-
--- the primary keys of the rows with which granules begin, and of the last row
-abbrev pub mark_keys : List ℕ → ℕ → List Row → List Row
-mark_keys primary granularity rows = map (key_of primary) (with_final granularity rows)
 
 -- keys one after another, the values of each in order
 abbrev pub keys_bytes : List Row → List ℕ

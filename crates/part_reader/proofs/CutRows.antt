@@ -57,7 +57,7 @@ projected columns places rows are fit =
     (λ k row is. ap (row_at columns) (zero-add k) ∙ (row_by_values columns k ∙ (ap (filter_map (λ (vs : List Value). slice_get vs k)) are ∙ values_row rows places k row is fit)))
 
 -- columns that were empty have the values of the rows alone
-with_empty : (rows : List Row) (places : List ℕ) (columns : List Cells) → map (λ (c : Cells). c.values) columns ≡ map (λ place. []) places → map (λ (c : Cells). c.values) (with_columns rows places columns) ≡ map (λ place. column_of place rows) places
+pub with_empty : (rows : List Row) (places : List ℕ) (columns : List Cells) → map (λ (c : Cells). c.values) columns ≡ map (λ place. []) places → map (λ (c : Cells). c.values) (with_columns rows places columns) ≡ map (λ place. column_of place rows) places
 with_empty rows [] columns are = refl
 with_empty rows (p ∷ ps) [] are = cc
 with_empty rows (p ∷ ps) (c ∷ cs) are =
@@ -98,12 +98,12 @@ empty_next places at columns t lt are =
 
 -- ---- chosen rows
 
-chosen_every : {X : Type 0} (P : X → Type 0) (g : ℕ) (chosen : List Bool) (xs : List X) → All P xs → All P (chosen_of g chosen xs)
+pub chosen_every : {X : Type 0} (P : X → Type 0) (g : ℕ) (chosen : List Bool) (xs : List X) → All P xs → All P (chosen_of g chosen xs)
 chosen_every P g [] xs all = All-nil P
 chosen_every P g (true ∷ chosen) xs all = All-append P (take g xs) (chosen_of g chosen (drop g xs)) (All-take P g xs all) (chosen_every P g chosen (drop g xs) (All-drop P g xs all))
 chosen_every P g (false ∷ chosen) xs all = chosen_every P g chosen (drop g xs) (All-drop P g xs all)
 
-typed_have_all : (types : List ColType) (places : List ℕ) (rows : List Row) → All (λ place. place < length types) places → AreRowsOf types rows → HaveAll places rows
+pub typed_have_all : (types : List ColType) (places : List ℕ) (rows : List Row) → All (λ place. place < length types) places → AreRowsOf types rows → HaveAll places rows
 typed_have_all types places rows within typed =
     All-weaker (λ p. p < length types) (λ p. All (λ (row : Row). p < length row) rows)
     (λ p lt. All-weaker (λ row. length row ≡ length types) (λ row. p < length row) (λ row len. omega (arith, len, lt)) rows (lengths_typed types rows typed)) places within

@@ -7,6 +7,7 @@ use Rattle.mt_values.specs.declared.manifest.Manifest.{Manifest}
 use Rattle.mt_values.specs.declared.value.ColType.{ColType}
 use Rattle.mt_values.specs.declared.value.Value.{Value}
 use Rattle.mt_values.specs.Grid.{Cells}
+pub use Rattle.mt_values.specs.Granules.{chosen_of}
 use Rattle.mt_outside.specs.Files.{Files, bytes_of}
 use Rattle.column_file.specs.Granules.{marks_of}
 use Rattle.column_file.specs.Spellings.{GainsAll, IsSpelling, with_values}
@@ -19,12 +20,6 @@ use Rattle.part_reader.specs.declared.runs.Run.{Run}
 use Rattle.part_reader.specs.Faults.{IsMisread, WantedValues, wanted_of}
 
 -- ---- granules of a list
-
--- of a list parted into granules of so many, the items of the chosen ones, in order
-abbrev pub chosen_of : {X : Type 0} → ℕ → List Bool → List X → List X
-chosen_of granularity [] xs = []
-chosen_of granularity (true ∷ chosen) xs = take granularity xs ++ chosen_of granularity chosen (drop granularity xs)
-chosen_of granularity (false ∷ chosen) xs = chosen_of granularity chosen (drop granularity xs)
 
 -- how many of so many items are in the chosen granules
 abbrev pub chosen_count : ℕ → List Bool → ℕ → ℕ

@@ -28,7 +28,7 @@ use std::alloc::Global;
 /// twice. Digests are not compared.
 ///
 /// `Damaged` where the bytes of a run of granules are no spelling of a value for each of its rows, or the places that are kept have
-/// no such run: never where the folder and what is kept hold rows. `Fault` only where the arm's count rose in this call; `NoMemory`
+/// no such run: never where the folder and what is kept hold rows, and it is said of each of their granules whether it is chosen. `Fault` only where the arm's count rose in this call; `NoMemory`
 /// where an allocation failed. After an error some of the values may have been added.
 pub fn add_granules<R: Arm>(
     alloc: Global,
@@ -38,9 +38,7 @@ pub fn add_granules<R: Arm>(
     places: &[u32],
     columns: &mut [ColumnData],
 ) -> Result<(), PartFault>
-    requires columns { length columns.old ≡ length places.now }
-    requires granules { length chosen.now ≡ granules part.now.loaded.schema.granularity
-        part.now.loaded.manifest.rows }
+    requires { length columns.old ≡ length places.now }
 
     // What the columns get.
     ensures values { (schema : Schema) (rows : List Row)
@@ -58,7 +56,8 @@ pub fn add_granules<R: Arm>(
     ensures sound { (schema : Schema) (rows : List Row)
         → HoldsAt R.Dir.files schema part.now (map file.Column places.now) rows
         → map (λ (c : Cells). c.col_type) columns.old ≡ filter_map (slice_get (column_types schema))
-        places.now → IfErr result IsNoDamage }
+        places.now → length chosen.now ≡ granules schema.granularity (length rows)
+        → IfErr result IsNoDamage }
     ensures damaged { IfErr result (ExplainsEach (λ number t. ExplainsChosen
         (column_in R.Dir.files part.now number) chosen.now t) places.now columns.old) }
 
@@ -85,9 +84,7 @@ pub fn read_granules<R: Arm>(
     chosen: &[bool],
     places: &[u32],
 ) -> Result<Vec<Row>, PartFault>
-    requires places { All (λ place. place < length part.now.loaded.schema.columns) places.now }
-    requires granules { length chosen.now ≡ granules part.now.loaded.schema.granularity
-        part.now.loaded.manifest.rows }
+    requires { All (λ place. place < length part.now.loaded.schema.columns) places.now }
 
     // What is read.
     ensures rows { (schema : Schema) (rows : List Row)
@@ -100,6 +97,7 @@ pub fn read_granules<R: Arm>(
     // What a fault says.
     ensures sound { (schema : Schema) (rows : List Row)
         → HoldsAt R.Dir.files schema part.now (map file.Column places.now) rows
+        → length chosen.now ≡ granules schema.granularity (length rows)
         → IfErr result IsNoDamage }
     ensures damaged { IfErr result (ExplainsAt (λ number t. ExplainsChosen
         (column_in R.Dir.files part.now number) chosen.now t)
@@ -126,7 +124,7 @@ pub fn read_granules<R: Arm>(
 }
 
 /// How many rows the chosen granules of a part have; none where 32 bits can't count them.
-fn count_chosen(loaded: &Loaded, chosen: &[bool]) -> Option<usize>
+pub fn count_chosen(loaded: &Loaded, chosen: &[bool]) -> Option<usize>
     ensures rows { IfSome result (λ rows. rows ≡ chosen_count loaded.now.schema.granularity
         chosen.now loaded.now.manifest.rows) }
     ensures few { IfSome result (λ rows. rows < 2 ^ 32) }

@@ -14,8 +14,9 @@ mod reading;
 mod runs;
 
 pub use checking::check_part;
+pub use cut_rows::{empty_columns, rows_of_block};
 pub use files::{Span, read_file};
-pub use granules::{add_granules, read_granules};
+pub use granules::{add_granules, count_chosen, read_granules};
 pub use laws::{damage_is_one_file, parts_hold_what_was_written, sound_parts_hold_rows};
 pub use opening::open_part;
 pub use reading::{NO_MARK, Part, PartFault, read_columns};

@@ -1,5 +1,5 @@
 -- Items that are spelled one after another, where no two of them begin one text.
-use Rattle.std.proofs.Common.{◌≡◌, ℕ, suc, ◌+◌, ◌<◌, ◌≤◌, List, [], ◌∷◌, ◌++◌, All, Result, Ok, Err, IfErr, IsErrAnd, refl, sym, subst, ap, ap₂, ◌∙◌, length, length-append, get_or, take, append_assoc, append-nil, arith, flat_map}
+use Rattle.std.proofs.Common.{◌≡◌, ℕ, ◌+◌, ◌<◌, ◌≤◌, List, [], ◌∷◌, ◌++◌, All, Result, Ok, Err, IfErr, IsErrAnd, refl, sym, subst, ap, ap₂, ◌∙◌, length, length-append, get_or, take, append_assoc, append-nil, arith, flat_map}
 use Rattle.std.proofs.lemmas.List.{nil_from_length, take_more}
 use Rattle.std.proofs.lemmas.List.Concat.{flat_map-append}
 use Rattle.std.proofs.lemmas.List.Elements.{All-head, All-tail}

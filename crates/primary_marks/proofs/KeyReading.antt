@@ -1,25 +1,20 @@
 -- Keys read from bytes, value by value and key by key.
-use Rattle.std.proofs.Common.{◌≡◌, ℕ, zero, suc, ◌+◌, ◌-◌, ◌<◌, ◌≤◌, List, [], ◌∷◌, ◌++◌, Option, Some, None, IfSome, refl, sym, ap, ap₂, ◌∙◌, subst, length, length-append, length-drop, map, take, drop, set, slice_get, get_or, All, arith, append_assoc, append-nil, option_map}
-use Rattle.std.specs.List.{range_with_len}
-use Rattle.std.proofs.lemmas.List.{drop-drop, drop_all, length-map, length-set, length-take-le, take_all, take_more}
-use Rattle.std.proofs.lemmas.List.FromFn.{map-range_with_len_more}
-use Rattle.std.proofs.lemmas.List.Elements.{All-append, All-cons, All-head, All-nil, All-push, All-tail}
+use Rattle.std.proofs.Common.{◌≡◌, ℕ, suc, ◌+◌, ◌<◌, ◌≤◌, List, [], ◌∷◌, ◌++◌, Option, Some, None, IfSome, refl, sym, ap, ap₂, ◌∙◌, subst, length, length-append, take, drop, set, slice_get, get_or, All, arith, append_assoc, append-nil, option_map}
+use Rattle.std.proofs.lemmas.List.{drop-drop, drop_all, length-map, length-set, take_all, take_more}
+use Rattle.std.proofs.lemmas.List.Elements.{All-nil, All-push}
 use Rattle.std.proofs.lemmas.Option.{get_or_from_slice_get, slice_get-get_or, slice_get-map, slice_get_within}
 use Rattle.byte_numbers.specs.declared.faults.FormatFault.{FormatFault}
 use Rattle.byte_numbers.specs.declared.faults.FormatFault.TheVariants.{NoMemory, Malformed}
 use Rattle.byte_numbers.specs.Fronts.{Begins}
-use Rattle.mt_values.specs.declared.value.ColType.{ColType}
 use Rattle.mt_values.specs.declared.value.Value.{Value}
 use Rattle.mt_values.specs.ColumnBytes.{column_bytes, value_bytes}
-use Rattle.mt_values.specs.Grid.{Cells, row_at, rows_of}
+use Rattle.mt_values.specs.Grid.{Cells, row_at}
 use Rattle.mt_values.specs.Values.{FitsType, Row, type_of, types_of}
-use Rattle.column_file.specs.Marks.{keys_bytes}
-use Rattle.column_file.specs.Spellings.{IsOfType, with_values}
-use Rattle.primary_marks.specs.Columns.{ExplainsValue, GainKey, GainsValue, HaveKeys, HaveWanted, IsWantedIn, key_types, wanted_key, with_key}
-use Rattle.primary_marks.specs.KeyFaults.{ExplainsKey, IsBegun, IsKeyStuckAt, NoValueFollows}
-use Rattle.primary_marks.specs.Keys.{IsKeyOf}
+use Rattle.column_file.specs.Spellings.{with_values}
+use Rattle.primary_marks.specs.Columns.{ExplainsValue, GainKey, GainsValue, HaveWanted, IsWantedIn, key_types, wanted_key, with_key}
+use Rattle.primary_marks.specs.KeyFaults.{ExplainsKey}
 use Rattle.primary_marks.proofs.Fronts.{spelled_last}
-use Rattle.primary_marks.proofs.KeyRows.{HaveAt, have_at, length-row_at, row_at-cons, slice_get-row_at}
+use Rattle.primary_marks.proofs.KeyRows.{length-row_at, slice_get-row_at}
 
 -- ---- value by value
 

@@ -1,5 +1,5 @@
 -- The keys of rows are keys that may be kept, and such keys are those of some rows.
-use Rattle.std.proofs.Common.{◌≡◌, ℕ, zero, suc, ◌+◌, ◌-◌, ◌*◌, ◌/◌, ◌^◌, ◌<◌, ◌||◌, FitsSigned, mul_comm, mul-le-mul_right, ◌≤◌, ◌⊎◌, inl, inr, Bool, true, false, cond, nat_eq, min, List, [], ◌∷◌, ◌++◌, Option, Some, None, All, refl, sym, ap, ap₂, ◌∙◌, subst, length, length-append, map, take, drop, slice_get, get_or, filter_map, arith, option_map}
+use Rattle.std.proofs.Common.{◌≡◌, ℕ, zero, suc, ◌+◌, ◌-◌, ◌*◌, ◌/◌, ◌^◌, ◌<◌, ◌||◌, FitsSigned, mul_comm, mul-le-mul_right, ◌≤◌, ◌⊎◌, inl, inr, Bool, true, false, cond, nat_eq, min, List, [], ◌∷◌, ◌++◌, Option, Some, None, All, refl, sym, ap, ap₂, ◌∙◌, subst, length, length-append, map, drop, slice_get, get_or, filter_map, arith, option_map}
 use Rattle.std.specs.Bool.{⊤}
 use Rattle.std.specs.Int.{div_ceil}
 use mir.Facts.{sfits_to_z}
@@ -20,13 +20,12 @@ use Rattle.mt_values.specs.declared.value.ColType.{ColType}
 use Rattle.mt_values.specs.declared.value.ColType.TheVariants as type
 use Rattle.mt_values.specs.declared.value.Value.{Value}
 use Rattle.mt_values.specs.declared.value.Value.TheVariants as value
-use Rattle.mt_values.specs.Grid.{AreRowsOf}
 use Rattle.mt_values.specs.Order.{key_of}
 use Rattle.mt_values.specs.Schemas.{column_types, double_key_at, first_repeat, key_fault}
 use Rattle.mt_values.specs.Values.{FitsType, Row, type_of, types_of}
 use Rattle.mt_values.proofs.Grids.{All-range, range_more, rows_at_all}
 use Rattle.column_file.specs.Marks.{granule_starts, granules, keys_bytes, mark_keys, primary_bytes, with_final}
-use Rattle.primary_marks.specs.Keys.{AreMarkKeys, ArePartRows, HasMarks, IsKeyOf, IsPrimaryOf, KeyShape, shape_of, ends_alone, granule_count, key_count, key_shape}
+use Rattle.primary_marks.specs.Keys.{AreMarkKeys, ArePartRows, HasMarks, IsKeyOf, IsPrimaryOf, KeyShape, shape_of, ends_alone, key_shape}
 use Rattle.primary_marks.proofs.KeyRows.{length-found}
 use Rattle.primary_marks.proofs.KeysRead.{granules_some, one_more, slice_get-push_new, slice_get-push_old}
 use Rattle.primary_marks.proofs.MarkedRows.{All-with_final, granule_below, last_only, map_on_range, map-append, map-map, with_final-map}
@@ -258,7 +257,7 @@ filter_map_some : (f : ℕ → Option ℕ) (h : ℕ → ℕ) (a m : ℕ) → ((k
 filter_map_some f h a zero e = refl
 filter_map_some f h a (suc m) e = ap₂ cons_option (e a (omega arith)) (filter_map_some f h (a + 1) m (λ k q. e k (omega arith)))
 
-range_item : (n i : ℕ) → i < n → slice_get (range_with_len 0 n) i ≡ Some i
+pub range_item : (n i : ℕ) → i < n → slice_get (range_with_len 0 n) i ≡ Some i
 range_item n i h =
     let none : 0 + i ≡ i = omega arith in
     slice_get-get_or (range_with_len 0 n) i 0 (omega (arith, length-range_with_len 0 n)) ∙ ap Some (get_or-range_with_len 0 n i 0 h ∙ none)
@@ -273,7 +272,7 @@ final_range n g some large =
     let last : slice_get xs (length xs - 1) ≡ Some (n - 1) = ap (λ m. slice_get xs (m - 1)) len ∙ range_item n (n - 1) (omega arith) in
     ap₂ (λ a b. a ++ b) starts (last_only xs (n - 1) last)
 
-no_granules : (g : ℕ) → 0 < g → granules g 0 ≡ 0
+pub no_granules : (g : ℕ) → 0 < g → granules g 0 ≡ 0
 no_granules g large = either (cases_lt 0 (granules g 0))
   where
     either : (0 < granules g 0) ⊎ (granules g 0 ≤ 0) → granules g 0 ≡ 0
@@ -286,7 +285,7 @@ drop_none : {X : Type 0} (k : ℕ) → drop {A = X} k [] ≡ []
 drop_none zero = refl
 drop_none (suc k) = refl
 
-none_kept : (primary : List ℕ) (g : ℕ) → 0 < g → mark_keys primary g [] ≡ []
+pub none_kept : (primary : List ℕ) (g : ℕ) → 0 < g → mark_keys primary g [] ≡ []
 none_kept primary g large =
     ap₂ (λ m r. map (key_of primary) (filter_map (λ k. slice_get [] (g * k)) (range_with_len 0 m) ++ r)) (no_granules g large) (drop_none (0 - 1))
 
@@ -382,7 +381,7 @@ own_types : (schema : Schema) → All (λ p. p < length schema.columns) schema.p
 own_types schema own = subst (λ n. All (λ p. p < n) schema.primary) (sym (length-map schema.columns (λ (c : Column). c.col_type))) own
 
 -- the keys of some rows, by the places of these
-kept_by_places : (primary : List ℕ) (g : ℕ) (rows : List Row) → 0 < length rows → 0 < g → mark_keys primary g rows ≡ map (λ k. key_of primary (get_or rows k [])) (map (λ j. g * j) (range_with_len 0 (granules g (length rows))) ++ (length rows - 1) ∷ [])
+pub kept_by_places : (primary : List ℕ) (g : ℕ) (rows : List Row) → 0 < length rows → 0 < g → mark_keys primary g rows ≡ map (λ k. key_of primary (get_or rows k [])) (map (λ j. g * j) (range_with_len 0 (granules g (length rows))) ++ (length rows - 1) ∷ [])
 kept_by_places primary g rows some large =
     let r : ℕ → Row = λ k. get_or rows k [] in
     ap (mark_keys primary g) (sym (rows_at_all rows)) ∙ ap (map (key_of primary)) (with_final-map r g (range_with_len 0 (length rows)) ∙ ap (map r) (final_range (length rows) g some large))

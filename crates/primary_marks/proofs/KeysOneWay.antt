@@ -1,5 +1,5 @@
 -- primary.bin is read in one way.
-use Rattle.std.proofs.Common.{◌≡◌, ◌≢◌, ℕ, zero, suc, ◌+◌, ◌-◌, ◌*◌, ◌<◌, ◌≤◌, ◌&&◌, ◌⊎◌, Bool, true, false, cond, nat_eq, List, [], ◌∷◌, ◌++◌, Option, Some, None, IfSome, All, inl, inr, refl, sym, ap, ap₂, ◌∙◌, subst, length, length-append, map, take, drop, slice_get, append_assoc, append-nil, arith, take-append-drop, option_map, Result, Ok, Err, IsErr, IfErr, IfOk, MatchResult}
+use Rattle.std.proofs.Common.{◌≡◌, ℕ, zero, suc, ◌+◌, ◌-◌, ◌*◌, ◌<◌, ◌≤◌, ◌&&◌, Bool, true, false, cond, nat_eq, List, [], ◌∷◌, ◌++◌, Option, Some, None, IfSome, All, inl, inr, refl, sym, ap, ap₂, ◌∙◌, subst, length, length-append, take, drop, slice_get, append_assoc, append-nil, arith, take-append-drop, option_map, Result, Ok, Err, IfErr, IfOk, MatchResult}
 use Rattle.std.proofs.lemmas.Bool.{eqb-true}
 use Rattle.std.proofs.lemmas.List.{length-map, drop_at, nil_from_length}
 use Rattle.std.proofs.lemmas.List.Elements.{All-drop, All-head, All-tail}
@@ -13,7 +13,7 @@ use Rattle.mt_values.specs.Values.{FitsType, Row, type_of, types_of}
 use Rattle.column_file.specs.Marks.{keys_bytes}
 use Rattle.column_file.proofs.OneWay.{value_apart}
 use Rattle.primary_marks.specs.KeyFaults.{ExplainsPrimary, IsKeyStuckAt, IsPrimaryFault, KeysGoOnWrong, wanted_after}
-use Rattle.primary_marks.specs.Keys.{AreMarkKeys, IsKeyOf, IsPrimaryOf, KeyShape, ends_alone, granule_count, key_count}
+use Rattle.primary_marks.specs.Keys.{AreMarkKeys, IsKeyOf, IsPrimaryOf, KeyShape, ends_alone, granule_count}
 use Rattle.primary_marks.proofs.Fronts.{AreApart, Longer, even, longer}
 use Rattle.primary_marks.proofs.KeysRead.{granules_some}
 

@@ -1,29 +1,27 @@
 -- Keys read one after another, and what primary.bin says of them.
-use Rattle.std.proofs.Common.{◌≡◌, ◌≢◌, ℕ, zero, suc, ◌+◌, ◌-◌, ◌*◌, ◌<◌, ◌≤◌, ◌&&◌, Bool, true, false, cond, nat_eq, min, List, [], ◌∷◌, ◌++◌, Option, Some, None, IfSome, ◌⊎◌, inl, inr, refl, sym, ap, ap₂, ◌∙◌, subst, length, length-append, length-drop, map, take, drop, slice_get, get_or, All, arith, append_assoc, append-nil, Result, Ok, Err, IsErr, IfErr, MatchResult}
+use Rattle.std.proofs.Common.{◌≡◌, ℕ, zero, suc, ◌+◌, ◌-◌, ◌*◌, ◌<◌, ◌≤◌, ◌&&◌, Bool, true, false, cond, nat_eq, min, List, [], ◌∷◌, ◌++◌, Option, Some, None, IfSome, ◌⊎◌, inl, inr, refl, sym, ap, ap₂, ◌∙◌, subst, length, length-append, length-drop, take, drop, slice_get, get_or, All, arith, append_assoc, append-nil}
 use Rattle.std.specs.Int.{div_ceil}
-use Rattle.std.specs.List.{range_with_len}
 use Rattle.std.proofs.lemmas.Bool.{cases_lt, eq-eqb, ne_eqb}
 use Rattle.std.proofs.lemmas.Grind.{div_ceil_times}
 use Rattle.std.proofs.Math.Bool.{and-true, and-false}
 use Rattle.std.proofs.lemmas.List.{drop-drop, drop_all, length-map, take_all}
 use Rattle.std.proofs.lemmas.List.FromFn.{map-range_with_len_more}
-use Rattle.std.proofs.lemmas.List.Elements.{All-append, All-cons, All-head, All-nil, All-push, All-tail}
-use Rattle.std.proofs.lemmas.Option.{slice_get-get_or, slice_get-map, slice_get_within}
+use Rattle.std.proofs.lemmas.List.Elements.{All-cons, All-head, All-nil, All-push, All-tail}
+use Rattle.std.proofs.lemmas.Option.{slice_get-get_or}
 use Rattle.byte_numbers.specs.declared.faults.FormatFault.{FormatFault}
 use Rattle.byte_numbers.specs.declared.faults.FormatFault.TheVariants.{NoMemory, Malformed}
 use Rattle.byte_numbers.specs.Fronts.{Begins}
 use Rattle.mt_values.specs.declared.value.ColType.{ColType}
-use Rattle.mt_values.specs.declared.value.Value.{Value}
-use Rattle.mt_values.specs.ColumnBytes.{column_bytes, value_bytes}
+use Rattle.mt_values.specs.ColumnBytes.{column_bytes}
 use Rattle.mt_values.specs.Grid.{Cells, row_at, rows_of}
-use Rattle.mt_values.specs.Values.{FitsType, Row, type_of, types_of}
+use Rattle.mt_values.specs.Values.{Row, type_of}
 use Rattle.mt_values.proofs.Grids.{length-rows_of, slice_get-rows_of}
 use Rattle.column_file.specs.Marks.{granules, keys_bytes}
-use Rattle.column_file.specs.Spellings.{IsOfType, with_values}
+use Rattle.column_file.specs.Spellings.{with_values}
 use Rattle.primary_marks.specs.Columns.{GainKey, HaveKeys, HaveWanted, key_types, wanted_key, with_key}
-use Rattle.primary_marks.specs.KeyFaults.{ExplainsKey, ExplainsPrimary, IsKeyStuckAt, IsPrimaryFault, KeysGoOnWrong, wanted_after}
+use Rattle.primary_marks.specs.KeyFaults.{ExplainsKey, ExplainsPrimary, IsKeyStuckAt, IsPrimaryFault, wanted_after}
 use Rattle.primary_marks.specs.Keys.{AreMarkKeys, IsKeyOf, IsPrimaryOf, KeyShape, ends_alone, granule_count, key_count, key_shape}
-use Rattle.primary_marks.proofs.Fronts.{handed_on, spelled_last}
+use Rattle.primary_marks.proofs.Fronts.{spelled_last}
 use Rattle.primary_marks.proofs.KeyRows.{have_at, row_at-cons}
 use Rattle.primary_marks.proofs.MarkedRows.{map_on_range}
 

@@ -1,10 +1,13 @@
+pub mod Between
 pub mod ColumnStarts
 pub mod Fronts
+pub mod GranuleBoxes
 pub mod KeyReading
 pub mod KeyRows
 pub mod KeyRowsOf
 pub mod KeysOneWay
 pub mod KeysRead
 pub mod MarkedRows
+pub mod SkippedGranules
 pub mod Starts
 pub mod Wanted

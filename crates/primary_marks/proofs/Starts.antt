@@ -1,9 +1,8 @@
 -- Numbers that rise, and the bytes that they are.
-use Rattle.std.proofs.Common.{◌≡◌, ℕ, suc, ◌+◌, ◌-◌, ◌*◌, ◌^◌, ◌<◌, ◌≤◌, ◌↔◌, IsTrue, nat_lt, take-append-drop, List, [], ◌∷◌, ◌++◌, ◌⊎◌, All, Some, Result, Ok, Err, IsErr, IfErr, MatchResult, refl, sym, ap, ◌∙◌, subst, inl, inr, length, length-append, length-drop, take, drop, slice_get, append_assoc, append-nil, arith}
+use Rattle.std.proofs.Common.{◌≡◌, ℕ, suc, ◌+◌, ◌-◌, ◌*◌, ◌^◌, ◌<◌, ◌≤◌, ◌↔◌, IsTrue, nat_lt, take-append-drop, List, [], ◌∷◌, ◌++◌, All, Some, Result, Ok, Err, IsErr, IfErr, MatchResult, refl, sym, ap, ◌∙◌, subst, inl, inr, length, length-append, length-drop, take, drop, slice_get, append_assoc, append-nil, arith}
 use Rattle.std.specs.Int.{w64, to_le_bytes}
 use Rattle.std.proofs.lemmas.Bool.Decides.{nat_tests}
 use Rattle.std.proofs.lemmas.List.{drop_all, drop-drop, nil_from_length}
-use Rattle.std.proofs.lemmas.List.Concat.{flat_map-append}
 use Rattle.std.proofs.lemmas.List.Elements.{All-head, All-nil, All-push}
 use Rattle.byte_numbers.specs.declared.faults.FormatFault.{FormatFault}
 use Rattle.byte_numbers.specs.declared.faults.FormatFault.TheVariants.{NoMemory, Malformed}

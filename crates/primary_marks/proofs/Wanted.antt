@@ -1,5 +1,5 @@
 -- Whether a value is the wanted one.
-use Rattle.std.proofs.Common.{◌≡◌, ◌↔◌, ℕ, Bool, true, IsTrue, is_eq, Option, Some, refl, sym, ap, ◌∙◌, subst, List, ◌++◌, drop, slice_get}
+use Rattle.std.proofs.Common.{◌≡◌, ◌↔◌, ℕ, Bool, IsTrue, is_eq, Option, Some, refl, sym, ap, ◌∙◌, subst, List, ◌++◌, drop, slice_get}
 use Rattle.std.specs.Ordering.{ordering_reverse}
 use Rattle.std.specs.declared.cmp.Ordering.{Ordering}
 use Rattle.std.specs.declared.cmp.Ordering.TheVariants.{Less, Equal, Greater}

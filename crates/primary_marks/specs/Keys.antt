@@ -1,5 +1,5 @@
 -- Bytes that are primary.bin (docs/formats.md, "Primary keys").
-use Rattle.std.specs.Prelude.{◌≡◌, ℕ, ◌+◌, ◌-◌, ◌*◌, ◌<◌, Bool, true, nat_eq, List, length, map, min, slice_get, All}
+use Rattle.std.specs.Prelude.{◌≡◌, ℕ, ◌+◌, ◌-◌, ◌*◌, ◌<◌, Bool, true, nat_eq, List, length, min, slice_get, All}
 use Rattle.std.specs.List.{filter_map}
 use Rattle.mt_values.specs.declared.schema.Schema.{Schema}
 use Rattle.mt_values.specs.declared.value.ColType.{ColType}

@@ -1,11 +1,18 @@
 // What the definitions say of bytes, whichever function reads them. The functions have empty bodies and the laws as their contracts.
-ghost use Rattle.std.specs.Prelude.{◌≡◌, ◌^◌, ◌<◌, ◌≤◌, ℕ, All, List, None, length};
+ghost use Rattle.std.specs.Prelude.{◌≡◌, ◌^◌, ◌*◌, ◌<◌, ◌≤◌, ℕ, [], All, List, None, Some, drop, false, filter, length, slice_get, take};
+ghost use Rattle.mt_base.specs.declared.partition.Partition.{Partition};
 ghost use Rattle.mt_values.specs.ColumnBytes.{column_bytes};
+ghost use Rattle.mt_values.specs.Conditions.{Condition, tests_of};
+ghost use Rattle.mt_values.specs.Granules.{chosen_of};
 ghost use Rattle.mt_values.specs.Grid.{AreRowsOf, column_of};
-ghost use Rattle.mt_values.specs.Schemas.{column_types, key_fault};
+ghost use Rattle.mt_values.specs.Schemas.{column_types, key_fault, schema_fault};
+ghost use Rattle.mt_values.specs.Tests.{eval};
 ghost use Rattle.mt_values.specs.Values.{Row};
+ghost use Rattle.mt_values.specs.declared.expr.Test.{Test};
 ghost use Rattle.mt_values.specs.declared.schema.Schema.{Schema};
 ghost use Rattle.column_file.specs.Marks.{granule_places, granules, mark_keys, marks_bytes, primary_bytes};
+ghost use Rattle.predicate.specs.Granules.{chosen_in};
+ghost use Rattle.primary_marks.specs.Choosing.{ArePartOf};
 ghost use Rattle.primary_marks.specs.KeyFaults.{IsPrimaryFault};
 ghost use Rattle.primary_marks.specs.Keys.{ArePartRows, HasMarks, IsPrimaryOf, KeyShape, shape_of};
 ghost use Rattle.primary_marks.specs.Places.{AreMarksOf, IsMarksFault};
@@ -49,4 +56,25 @@ pub fn keys_are_those_of_rows()
         × ArePartRows schema count rows
         × (bytes ≡ primary_bytes schema.primary schema.granularity rows)
         × (keys ≡ mark_keys schema.primary schema.granularity rows) }
+{}
+
+/// Granules that are not chosen hold no row of which the condition is true: of a part of a table whose schema breaks no rule, and
+/// a condition over the table's columns. So the rows of the chosen ones are all that have to be read. Each granule has an answer.
+pub fn skipped_granules_hold_no_match()
+    ensures each { (schema : Schema) (partition : Partition) (c : Condition Test) (rows : List Row)
+        → HasMarks schema → schema_fault schema ≡ None → ArePartOf schema partition rows
+        → All (λ (t : Test). t.column < length schema.columns) (tests_of c) → (granule : ℕ)
+        → slice_get (chosen_in schema partition c
+        (mark_keys schema.primary schema.granularity rows)) granule ≡ Some false
+        → filter (eval c) (take schema.granularity
+        (drop (schema.granularity * granule) rows)) ≡ [] }
+    ensures all { (schema : Schema) (partition : Partition) (c : Condition Test) (rows : List Row)
+        → HasMarks schema → schema_fault schema ≡ None → ArePartOf schema partition rows
+        → All (λ (t : Test). t.column < length schema.columns) (tests_of c)
+        → filter (eval c) (chosen_of schema.granularity (chosen_in schema partition c
+        (mark_keys schema.primary schema.granularity rows)) rows) ≡ filter (eval c) rows }
+    ensures count { (schema : Schema) (partition : Partition) (c : Condition Test)
+        (primary : List ℕ) (g : ℕ) (rows : List Row) → 0 < g
+        → length (chosen_in schema partition c (mark_keys primary g rows)) ≡ granules g
+        (length rows) }
 {}

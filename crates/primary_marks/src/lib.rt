@@ -2,6 +2,7 @@
 #![tactic(auto)]
 
 mod building;
+mod choosing;
 mod laws;
 mod marks;
 mod places;
@@ -9,9 +10,10 @@ mod reading;
 
 pub use building::{build, spell};
 pub use byte_numbers::FormatFault;
+pub use choosing::choose;
 pub use laws::{
     keys_are_read_in_one_way, keys_are_those_of_rows, places_are_read_in_one_way,
-    places_of_rows_are_read,
+    places_of_rows_are_read, skipped_granules_hold_no_match,
 };
 pub use marks::Marks;
 pub use places::{Places, read_places, spell_places};

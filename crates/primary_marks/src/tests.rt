@@ -1,11 +1,12 @@
-// What no clause says: that calls come to an answer, and what becomes of small files of which a byte is changed, left out
-// or added: each is refused, or read as what spells these bytes.
-ghost use Rattle.std.specs.Prelude.{IfOk};
+// What no clause says: that calls come to an answer; what becomes of small files of which a byte is changed, left out or
+// added: each is refused, or read as what spells these bytes; and which granules are chosen of rows that were worked by hand.
+ghost use Rattle.std.specs.Prelude.{◌≡◌, IfOk};
+ghost use Rattle.mt_values.specs.Conditions.{height};
 ghost use Rattle.primary_marks.specs.Keys.{HasMarks};
 
-use crate::{FormatFault, read, read_places, spell, spell_places};
-use mt_base::{NoMemory, Seq};
-use mt_values::{ColType, Column, Schema};
+use crate::{FormatFault, choose, read, read_places, spell, spell_places};
+use mt_base::{NoMemory, Partition, Seq};
+use mt_values::{ColType, Column, Comparison, Expr, Schema, Test, Value};
 use std::alloc::Global;
 use std::test::Fail;
 
@@ -187,5 +188,232 @@ fn places_go_wrong_at_their_first_fault(rt: HostRuntime) -> Result<(), Fail> {
     assert_eq!(rt; fault_of_places(alloc, &wrong, 1), Some(16));
     // Numbers for more granules than there are bytes.
     assert_eq!(rt; fault_of_places(alloc, bytes, u64::MAX), Some(16));
+    Ok(())
+}
+
+/// A table with the column UInt64, which is its primary key, and granules of 2 rows.
+fn one_column(alloc: Global) -> Result<Schema, NoMemory>
+    ensures { IfOk result HasMarks }
+{
+    let mut columns = Seq::new(alloc);
+    columns.push(Column {
+        name: Seq::from_slice(alloc, b"k")?,
+        col_type: ColType::UInt64,
+    })?;
+    Ok(Schema {
+        columns,
+        key: Seq::from_slice(alloc, &[0])?,
+        primary: Seq::from_slice(alloc, &[0])?,
+        partition: None,
+        granularity: 2,
+    })
+}
+
+/// A table with two columns UInt8, of which the first parts it and the second is its primary key, and granules of 2 rows.
+fn parted(alloc: Global) -> Result<Schema, NoMemory>
+    ensures { IfOk result HasMarks }
+{
+    let mut columns = Seq::new(alloc);
+    columns.push(Column {
+        name: Seq::from_slice(alloc, b"p")?,
+        col_type: ColType::UInt8,
+    })?;
+    columns.push(Column {
+        name: Seq::from_slice(alloc, b"k")?,
+        col_type: ColType::UInt8,
+    })?;
+    Ok(Schema {
+        columns,
+        key: Seq::from_slice(alloc, &[1])?,
+        primary: Seq::from_slice(alloc, &[1])?,
+        partition: Some(0),
+        granularity: 2,
+    })
+}
+
+/// A comparison of a column with a value.
+fn test(
+    alloc: Global,
+    column: u32,
+    comparison: Comparison,
+    value: Value,
+) -> Result<Expr<Test>, NoMemory>
+    ensures { IfOk result (λ c. height c ≡ 1) }
+{
+    let mut literals = Seq::new(alloc);
+    literals.push(value)?;
+    Expr::of(
+        alloc,
+        Test {
+            column,
+            comparison,
+            literals,
+        },
+    )
+}
+
+/// A part whose granules are asked: its table and partition, its primary.bin, and the number of its rows.
+#[derive(Drop)]
+struct Asked<'a> {
+    schema: Schema,
+    partition: Partition,
+    bytes: &'a [u8],
+    rows: u64,
+    ghost marked: { HasMarks schema },
+}
+
+impl<'a> Asked<'a> {
+    /// Whether the granules that a condition leaves are these.
+    fn leaves(
+        &self,
+        alloc: Global,
+        condition: &Expr<Test>,
+        wanted: &[bool],
+    ) -> Result<bool, NoMemory> {
+        match read(alloc, &self.schema, self.bytes, self.rows) {
+            Ok(marks) => {
+                let chosen = choose(alloc, &self.schema, &self.partition, condition, &marks)?;
+                Ok(chosen.as_slice() == wanted)
+            }
+            Err(_) => Ok(false),
+        }
+    }
+
+    /// Whether the granules that a comparison of a column with a value leaves are these.
+    fn compares(
+        &self,
+        alloc: Global,
+        (column, comparison, value): (u32, Comparison, Value),
+        wanted: &[bool],
+    ) -> Result<bool, NoMemory> {
+        self.leaves(alloc, &test(alloc, column, comparison, value)?, wanted)
+    }
+}
+
+#[test]
+fn granules_are_chosen_by_their_first_keys(rt: HostRuntime) -> Result<(), Fail> {
+    let alloc = rt.alloc();
+    // The rows 1 3 3 3 5 in granules of two: the boxes are from 1 to 3, from 3 to 5, and 5 alone.
+    let part = Asked {
+        schema: one_column(alloc)?,
+        partition: Partition::Whole,
+        bytes: b"\x01\0\0\0\0\0\0\0\x03\0\0\0\0\0\0\0\x05\0\0\0\0\0\0\0\x05\0\0\0\0\0\0\0",
+        rows: 5,
+    };
+    for (comparison, number, wanted) in [
+        (Comparison::Equal, 3, [true, true, false]),
+        (Comparison::Equal, 1, [true, false, false]),
+        (Comparison::Equal, 2, [true, false, false]),
+        (Comparison::Equal, 5, [false, true, true]),
+        (Comparison::Equal, 6, [false, false, false]),
+        (Comparison::NotEqual, 5, [true, true, false]),
+        (Comparison::Less, 1, [false, false, false]),
+        (Comparison::Less, 3, [true, false, false]),
+        (Comparison::LessOrEqual, 3, [true, true, false]),
+        (Comparison::Greater, 3, [false, true, true]),
+        (Comparison::Greater, 5, [false, false, false]),
+        (Comparison::GreaterOrEqual, 5, [false, true, true]),
+    ] {
+        let asked = (0, comparison, Value::UInt64(number));
+        assert!(rt; part.compares(alloc, asked, wanted.as_slice())?, "{number}");
+    }
+    Ok(())
+}
+
+#[test]
+fn columns_of_a_key_are_known_up_to_the_first_difference(rt: HostRuntime) -> Result<(), Fail> {
+    let alloc = rt.alloc();
+    // The rows 1a 1b 1c 2a 2b: the first granule has a = 1 and s from a to c, the second a from 1 to 2 and any s, the third 2b.
+    let part = Asked {
+        schema: two_columns(alloc)?,
+        partition: Partition::Whole,
+        bytes: b"\x01\x01a\x01\x01c\x02\x01b\x02\x01b",
+        rows: 5,
+    };
+    for (comparison, number, wanted) in [
+        (Comparison::Equal, 1, [true, true, false]),
+        (Comparison::Equal, 2, [false, true, true]),
+        (Comparison::Less, 1, [false, false, false]),
+        (Comparison::Greater, 1, [false, true, true]),
+    ] {
+        let asked = (0, comparison, Value::UInt8(number));
+        assert!(rt;
+            part.compares(alloc, asked, wanted.as_slice())?,
+            "a and {number}"
+        );
+    }
+    for (comparison, text, wanted) in [
+        (Comparison::Equal, b"a", [true, true, false]),
+        (Comparison::Equal, b"b", [true, true, true]),
+        (Comparison::Equal, b"d", [false, true, false]),
+        (Comparison::Less, b"b", [true, true, false]),
+        (Comparison::Greater, b"c", [false, true, false]),
+    ] {
+        let asked = (1, comparison, Value::Text(Seq::from_slice(alloc, text)?));
+        assert!(rt;
+            part.compares(alloc, asked, wanted.as_slice())?,
+            "s and {text:?}"
+        );
+    }
+    Ok(())
+}
+
+#[test]
+fn the_partition_is_asked(rt: HostRuntime) -> Result<(), Fail> {
+    let alloc = rt.alloc();
+    for (column, number, partition, wanted) in [
+        (0, 7, Partition::Number(7), [true, true]),
+        (0, 6, Partition::Number(7), [false, false]),
+        (1, 1, Partition::Number(7), [true, false]),
+        (1, 7, Partition::Number(7), [false, false]),
+        // A number that the column cannot have says nothing, and neither does the whole.
+        (0, 6, Partition::Number(256), [true, true]),
+        (0, 6, Partition::Whole, [true, true]),
+    ] {
+        // The rows 1 2 3: the boxes are from 1 to 3, and 3 alone.
+        let part = Asked {
+            schema: parted(alloc)?,
+            partition,
+            bytes: b"\x01\x03\x03",
+            rows: 3,
+        };
+        let asked = (column, Comparison::Equal, Value::UInt8(number));
+        assert!(rt;
+            part.compares(alloc, asked, wanted.as_slice())?,
+            "{column} and {number}"
+        );
+    }
+    Ok(())
+}
+
+#[test]
+fn parts_of_a_condition_are_joined(rt: HostRuntime) -> Result<(), Fail> {
+    let alloc = rt.alloc();
+    // As in the test before, of the partition 7.
+    let part = Asked {
+        schema: parted(alloc)?,
+        partition: Partition::Number(7),
+        bytes: b"\x01\x03\x03",
+        rows: 3,
+    };
+    let six = test(alloc, 0, Comparison::Equal, Value::UInt8(6))?;
+    let either = six.or(test(alloc, 1, Comparison::Less, Value::UInt8(3))?)?;
+    assert!(rt; part.leaves(alloc, &either, &[true, false])?);
+    let mut three = test(alloc, 1, Comparison::Equal, Value::UInt8(3))?;
+    three.negate()?;
+    assert!(rt; part.leaves(alloc, &three, &[true, false])?);
+    Ok(())
+}
+
+#[test]
+fn a_part_without_rows_has_no_granule(rt: HostRuntime) -> Result<(), Fail> {
+    let alloc = rt.alloc();
+    let part = Asked {
+        schema: parted(alloc)?,
+        partition: Partition::Number(7),
+        bytes: b"",
+        rows: 0,
+    };
+    assert!(rt; part.leaves(alloc, &Expr::always(alloc)?, &[])?);
     Ok(())
 }

@@ -1,7 +1,9 @@
-use Rattle.std.proofs.Common.{◌≡◌, ◌<◌, length, get_or, refl, ◌∙◌, arith}
+use Rattle.std.proofs.Common.{◌≡◌, ◌<◌, length, get_or, refl, sym, ap, ◌∙◌, arith}
 use Rattle.std.proofs.lemmas.List.{get_or_default}
 use Rattle.std.proofs.lemmas.Option.{slice_get-get_or, slice_get_read}
 use Rattle.mt_values.specs.Grid.{Cells}
+use Rattle.column_file.specs.Marks.{granules}
+use Rattle.part_writer.specs.declared.loaded.Loaded.{Loaded}
 use Rattle.part_reader.specs.Faults.{ExplainsEach, IsNoDamage}
 use Rattle.part_reader.specs.Granules.{ExplainsChosen, GainsChosen, column_in}
 use Rattle.part_reader.proofs.ChosenColumns.{chosen_even, chosen_rows, chosen_sound, chosen_types}
@@ -17,7 +19,7 @@ loop-number-preserved g c =
     let old : Cells = get_or c.loop-number.columns i any in
     let old_is : old ≡ get_or olds i old = c.loop-number.invariant.rest i any (omega arith) ∙ get_or_default olds i any old (omega arith) in
     record {
-      gained = read_more (λ place. GainsChosen (column_in g.R.Dir.Dir.files c.args.part.now place) c.args.chosen.now) c.args.places.now olds c.loop-number.columns _ i old c.add_chosen.new.column (omega arith) (omega arith) c.requires.columns old_is refl
+      gained = read_more (λ place. GainsChosen (column_in g.R.Dir.Dir.files c.args.part.now place) c.args.chosen.now) c.args.places.now olds c.loop-number.columns _ i old c.add_chosen.new.column (omega arith) (omega arith) c.requires old_is refl
           c.loop-number.invariant.gained c.in_ok-add_chosen.ensures.gained;
       rest = rest_more olds c.loop-number.columns _ i c.add_chosen.new.column c.loop-number.invariant.rest refl;
       tells = c.in_ok-add_chosen.ensures.tells ∙ c.loop-number.invariant.tells;
@@ -49,22 +51,22 @@ returns-in_err-add_chosen-clause-damaged g c =
     (fault_of g c)
 
 pub returns-in_err-add_chosen-clause-sound : goal.returns-in_err-add_chosen-clause-sound
-returns-in_err-add_chosen-clause-sound g c = λ schema rows holds typed.
+returns-in_err-add_chosen-clause-sound g c = λ schema rows holds typed counted.
     handed_on IsNoDamage c.from_residual.result c.in_err-add_chosen.field-0.0 c.from_residual.ensures.1
-    (chosen_sound g.R.Dir.Dir.files schema c.args.part.now c.args.places.now rows holds c.args.chosen.now c.args.columns.now c.in_err-add_chosen.field-0.0 c.requires.granules typed (fault_of g c))
+    (chosen_sound g.R.Dir.Dir.files schema c.args.part.now c.args.places.now rows holds c.args.chosen.now c.args.columns.now c.in_err-add_chosen.field-0.0 (counted ∙ sym (ap (λ (l : Loaded). granules l.schema.granularity l.manifest.rows) holds.loaded_is)) typed (fault_of g c))
 
 pub returns-clause-values : goal.returns-clause-values
 returns-clause-values g c = λ schema rows holds typed.
     chosen_rows g.R.Dir.Dir.files schema c.args.part.now c.args.places.now rows holds c.args.chosen.now c.args.columns.now c.loop-number.columns typed
-    (read_all (λ place. GainsChosen (column_in g.R.Dir.Dir.files c.args.part.now place) c.args.chosen.now) c.args.places.now c.args.columns.now c.loop-number.columns c.loop-number.number (omega arith) (omega arith) c.requires.columns c.loop-number.invariant.gained)
+    (read_all (λ place. GainsChosen (column_in g.R.Dir.Dir.files c.args.part.now place) c.args.chosen.now) c.args.places.now c.args.columns.now c.loop-number.columns c.loop-number.number (omega arith) (omega arith) c.requires c.loop-number.invariant.gained)
 
 pub returns-clause-even : goal.returns-clause-even
 returns-clause-even g c = λ n even.
     chosen_even g.R.Dir.Dir.files c.args.part.now c.args.chosen.now n c.args.places.now c.args.columns.now c.loop-number.columns
-    (read_all (λ place. GainsChosen (column_in g.R.Dir.Dir.files c.args.part.now place) c.args.chosen.now) c.args.places.now c.args.columns.now c.loop-number.columns c.loop-number.number (omega arith) (omega arith) c.requires.columns c.loop-number.invariant.gained)
+    (read_all (λ place. GainsChosen (column_in g.R.Dir.Dir.files c.args.part.now place) c.args.chosen.now) c.args.places.now c.args.columns.now c.loop-number.columns c.loop-number.number (omega arith) (omega arith) c.requires c.loop-number.invariant.gained)
     even
 
 pub returns-clause-types : goal.returns-clause-types
 returns-clause-types g c =
     chosen_types g.R.Dir.Dir.files c.args.part.now c.args.chosen.now c.args.places.now c.args.columns.now c.loop-number.columns
-    (read_all (λ place. GainsChosen (column_in g.R.Dir.Dir.files c.args.part.now place) c.args.chosen.now) c.args.places.now c.args.columns.now c.loop-number.columns c.loop-number.number (omega arith) (omega arith) c.requires.columns c.loop-number.invariant.gained)
+    (read_all (λ place. GainsChosen (column_in g.R.Dir.Dir.files c.args.part.now place) c.args.chosen.now) c.args.places.now c.args.columns.now c.loop-number.columns c.loop-number.number (omega arith) (omega arith) c.requires c.loop-number.invariant.gained)

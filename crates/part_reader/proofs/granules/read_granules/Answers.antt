@@ -13,9 +13,9 @@ use Rattle.part_reader.proofs.granules.read_granules.Goals as goal
 
 -- the columns have the types of the part's own columns
 pub returns-in_err-add_granules-clause-sound : goal.returns-in_err-add_granules-clause-sound
-returns-in_err-add_granules-clause-sound g c = λ schema rows holds.
+returns-in_err-add_granules-clause-sound g c = λ schema rows holds counted.
     let typed = ap (map (λ (x : Cells). x.col_type)) c.deref_mut.ensures.value ∙ c.in-Ok.ensures.types ∙ ap (λ (l : Loaded). filter_map (slice_get (column_types l.schema)) c.args.places.now) holds.loaded_is in
-    handed_on IsNoDamage c.from_residual.result c.in_err-add_granules.field-0.0 c.from_residual.ensures.1 (c.in_err-add_granules.ensures.sound schema rows holds typed)
+    handed_on IsNoDamage c.from_residual.result c.in_err-add_granules.field-0.0 c.from_residual.ensures.1 (c.in_err-add_granules.ensures.sound schema rows holds typed counted)
 
 pub returns-in_err-add_granules-clause-damaged : goal.returns-in_err-add_granules-clause-damaged
 returns-in_err-add_granules-clause-damaged g c =
@@ -23,7 +23,7 @@ returns-in_err-add_granules-clause-damaged g c =
     let places = c.args.places.now in
     let types = column_types schema in
     let typed = ap (map (λ (x : Cells). x.col_type)) c.deref_mut.ensures.value ∙ c.in-Ok.ensures.types in
-    let within = subst (λ n. All (λ place. place < n) places) (sym (length-map schema.columns (λ (x : Column). x.col_type))) c.requires.places in
+    let within = subst (λ n. All (λ place. place < n) places) (sym (length-map schema.columns (λ (x : Column). x.col_type))) c.requires in
     handed_on (ExplainsAt (λ number t. ExplainsChosen (column_in g.R.Dir.Dir.files c.args.part.now number) c.args.chosen.now t) types places) c.from_residual.result c.in_err-add_granules.field-0.0 c.from_residual.ensures.1
     (explained_at (λ number t. ExplainsChosen (column_in g.R.Dir.Dir.files c.args.part.now number) c.args.chosen.now t) types places c.deref_mut.result.now c.in_err-add_granules.field-0.0 within typed c.in_err-add_granules.ensures.damaged)
 

@@ -1,8 +1,8 @@
-use Rattle.std.proofs.Common.{◌≡◌, ◌+◌, ◌<◌, ◌≤◌, All, List, ℕ, ap, refl, sym, ◌∙◌, subst, arith, filter_map, get_or, length, map, slice_get, take}
+use Rattle.std.proofs.Common.{◌≡◌, ◌+◌, ◌<◌, ◌≤◌, All, List, ℕ, ap, sym, ◌∙◌, subst, arith, filter_map, get_or, length, map, slice_get, take}
 use Rattle.std.proofs.lemmas.List.{get_or_default, take_all}
 use Rattle.mt_values.specs.Grid.{Cells, column_of, picked, rows_of}
 use Rattle.mt_values.specs.Values.{Row}
-use Rattle.column_file.specs.Marks.{mark_keys, with_final}
+use Rattle.column_file.specs.Marks.{with_final}
 use Rattle.primary_marks.specs.Columns.{HaveKeys}
 use Rattle.primary_marks.proofs.MarkedRows.{All-with_final, column_length, columns_have, column_picked, keys_kept, length-picked_within, reach_all, values_more, values_of}
 use Rattle.primary_marks.proofs.building.build.Goals as goal

@@ -1,7 +1,7 @@
-use Rattle.std.proofs.Common.{◌≡◌, ◌*◌, ◌<◌, [], ◌∷◌, ◌++◌, Some, List, ℕ, get_or, ap, refl, sym, ◌∙◌, arith, slice_get, length}
+use Rattle.std.proofs.Common.{◌*◌, ◌<◌, [], ◌∷◌, ◌++◌, List, ℕ, get_or, ap, sym, ◌∙◌, arith, length}
 use Rattle.std.specs.Int.{div_ceil}
 use Rattle.std.proofs.lemmas.Option.{slice_get-get_or}
-use Rattle.primary_marks.proofs.MarkedRows.{granule_below, last_only, starts_more}
+use Rattle.primary_marks.proofs.MarkedRows.{granule_below, starts_more}
 use Rattle.primary_marks.proofs.building.marked_places.Goals as goal
 
 pub loop-granule-preserved : goal.loop-granule-preserved

@@ -1,4 +1,4 @@
-use Rattle.std.proofs.Common.{◌≡◌, slice_get, sym, arith}
+use Rattle.std.proofs.Common.{slice_get, arith}
 use Rattle.mt_values.specs.Cells.{value_of}
 use Rattle.primary_marks.proofs.KeyRows.{fit_more, fit_whole, key_more, key_whole}
 use Rattle.primary_marks.proofs.building.push_key.Goals as goal

@@ -1,5 +1,4 @@
-use Rattle.std.proofs.Common.{◌≡◌, refl, ap, sym, ◌∙◌, take, drop, true, false, IsTrue}
-use Rattle.std.specs.Int.{w64, to_le_bytes}
+use Rattle.std.proofs.Common.{refl, ap, ◌∙◌, take, drop, IsTrue}
 use Rattle.std.proofs.lemmas.List.{take_rest}
 use Rattle.primary_marks.proofs.Starts.{next_there, next_other}
 use Rattle.primary_marks.proofs.places.next_number.Goals as goal

@@ -1,9 +1,9 @@
-use Rattle.std.proofs.Common.{◌≡◌, ◌+◌, ◌*◌, ap, refl, sym, ◌∙◌, arith, drop, length, length-append, [], ◌∷◌, ◌++◌, subst, List, ℕ}
+use Rattle.std.proofs.Common.{◌≡◌, ◌+◌, ◌*◌, ap, sym, ◌∙◌, arith, drop, length, length-append, [], ◌∷◌, subst, List, ℕ}
 use Rattle.std.proofs.lemmas.List.{drop-drop}
 use Rattle.byte_numbers.specs.declared.faults.FormatFault.TheVariants.{Malformed}
 use Rattle.primary_marks.specs.Places.{ExplainsStarts, IsNextStart, NoStartFollows}
 use Rattle.primary_marks.proofs.Fronts.{handed}
-use Rattle.primary_marks.proofs.Starts.{AreBegun, begun_all, begun_more, begun_stuck}
+use Rattle.primary_marks.proofs.Starts.{AreBegun, begun_more, begun_stuck}
 use Rattle.primary_marks.proofs.places.read_numbers.Goals as goal
 
 -- what is left after the numbers so far

@@ -1,4 +1,4 @@
-use Rattle.std.proofs.Common.{◌≡◌, ◌+◌, ◌*◌, ◌≤◌, ◌∷◌, [], ap, sym, ◌∙◌, subst, arith, length, length-append, List, ℕ, IfErr}
+use Rattle.std.proofs.Common.{◌≡◌, ◌+◌, ◌*◌, ◌≤◌, ◌∷◌, [], ap, sym, ◌∙◌, subst, arith, length, length-append}
 use Rattle.byte_numbers.specs.declared.faults.FormatFault.TheVariants.{Malformed}
 use Rattle.primary_marks.specs.Places.{ExplainsMarks}
 use Rattle.primary_marks.proofs.Fronts.{handed, handed_on}

@@ -1,9 +1,8 @@
-use Rattle.std.proofs.Common.{◌≡◌, ◌<◌, List, ℕ, IfErr, IfOk, refl, ap, sym, ◌∙◌, subst, arith, length}
+use Rattle.std.proofs.Common.{◌≡◌, List, IfErr, IfOk, ap, ◌∙◌, subst, arith, length}
 use Rattle.std.proofs.lemmas.List.{length-map}
 use Rattle.mt_values.specs.Grid.{Cells}
 use Rattle.mt_values.specs.Values.{Row}
 use Rattle.mt_values.specs.declared.value.ColType.{ColType}
-use Rattle.primary_marks.specs.Columns.{key_types}
 use Rattle.primary_marks.specs.KeyFaults.{ExplainsPrimary}
 use Rattle.primary_marks.specs.Keys.{IsPrimaryOf, key_shape, shape_of}
 use Rattle.primary_marks.proofs.KeyRows.{length-primary_types}

@@ -1,4 +1,4 @@
-use Rattle.std.proofs.Common.{◌≡◌, ◌+◌, ◌<◌, ◌≤◌, drop, List, ℕ, get_or, length, refl, ap, sym, ◌∙◌, subst, IfSome, arith, length-drop}
+use Rattle.std.proofs.Common.{◌≡◌, ◌+◌, ◌<◌, drop, List, ℕ, length, sym, subst, IfSome, arith}
 use Rattle.std.proofs.lemmas.List.{drop-drop}
 use Rattle.mt_values.specs.Grid.{Cells}
 use Rattle.primary_marks.specs.Columns.{ExplainsValue, GainsValue, key_types, wanted_key}

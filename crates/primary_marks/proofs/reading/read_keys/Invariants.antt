@@ -1,5 +1,5 @@
 -- the keys of the granules gone over
-use Rattle.std.proofs.Common.{◌≡◌, ◌≤◌, length}
+use Rattle.std.proofs.Common.{◌≤◌, length}
 use Rattle.primary_marks.specs.Columns.{key_types}
 use Rattle.primary_marks.proofs.KeysRead.{AreKeysRead}
 use Rattle.primary_marks.proofs.reading.read_keys.Given as goal

@@ -1,4 +1,4 @@
-use Rattle.std.proofs.Common.{◌≡◌, ◌<◌, length, slice_get, Some, refl, sym, ap, ◌∙◌, arith}
+use Rattle.std.proofs.Common.{◌≡◌, length, refl, arith}
 use Rattle.std.proofs.lemmas.Option.{slice_get_read}
 use Rattle.primary_marks.proofs.KeyRows.{seen_column, seen_len, seen_value}
 use Rattle.primary_marks.proofs.marks.Marks.key_cell.Goals as goal

@@ -1,4 +1,4 @@
-use Rattle.std.proofs.Common.{◌≡◌, All, List, ℕ, length, sym, ◌∙◌, subst}
+use Rattle.std.proofs.Common.{◌≡◌, All, ℕ, length, sym, ◌∙◌, subst}
 use Rattle.mt_values.specs.Values.{Row}
 use Rattle.primary_marks.proofs.KeyRows.{seen_width}
 use Rattle.primary_marks.proofs.marks.Marks.width.Goals as goal
