@@ -8,10 +8,12 @@ use Rattle.mt_values.specs.declared.statement.Statement.TheVariants as statement
 use Rattle.mt_values.specs.Annals.{Told}
 use Rattle.mt_model.specs.Commands.{commands_of}
 use Rattle.mt_model.specs.declared.refusal.Refusal.{Refusal}
+use Rattle.mt_model.specs.Explain.{Explains}
 use Rattle.mt_model.specs.History.{History}
 use Rattle.mt_model.specs.Outside.{Outside, ReadOrStageFailed, TurnFailed}
 use Rattle.mt_model.specs.Refusals.{refusal_line, refusal_of_cause}
-use Rattle.mt_model.specs.Reply.{columns_of_select}
+use Rattle.mt_model.specs.Queries.{query_of_select}
+use Rattle.mt_model.specs.declared.query.Query.{Query}
 use Rattle.mt_model.specs.Session.{RefusedAs, RefusedInTurn, StopsAfter, Takes, TakesCommands, TurnAllows, TurnRefuses}
 use Rattle.replies.specs.Foreseen.{history}
 use Rattle.replies.proofs.Ends.{whole_front, added_nothing}
@@ -60,11 +62,17 @@ module _ (n : Outside) (kept : Told) (reply : List ℕ) where
       command_unsettled turn failed = at_turn (inr (turn, failed))
 
   module _ (s : SelectText) where
-    pub select_refused : (why : Refusal) → columns_of_select s (history kept) ≡ Err why → reply ≡ refusal_line why → Takes n (history kept) 0 (Ok (statement.Select s)) (length kept.list) (length kept.list) reply
-    select_refused why columns is = inr (inl (why, ap (columns_of_select s) (whole_front kept) ∙ columns, refused why is))
+    pub select_refused : (why : Refusal) → query_of_select s (history kept) ≡ Err why → reply ≡ refusal_line why → Takes n (history kept) 0 (Ok (statement.Select s)) (length kept.list) (length kept.list) reply
+    select_refused why asked is = inr (inl (why, ap (query_of_select s) (whole_front kept) ∙ asked, refused why is))
 
-    pub select_failed : (columns : List ℕ) → columns_of_select s (history kept) ≡ Ok columns → ReadOrStageFailed n reply → Takes n (history kept) 0 (Ok (statement.Select s)) (length kept.list) (length kept.list) reply
-    select_failed columns is failed = inr (inr (columns, ap (columns_of_select s) (whole_front kept) ∙ is, added_nothing kept, failed))
+    pub select_failed : (query : Query) → query_of_select s (history kept) ≡ Ok query → ReadOrStageFailed n reply → Takes n (history kept) 0 (Ok (statement.Select s)) (length kept.list) (length kept.list) reply
+    select_failed query is failed = inr (inr (query, ap (query_of_select s) (whole_front kept) ∙ is, added_nothing kept, failed))
+
+    pub explain_refused : (why : Refusal) → query_of_select s (history kept) ≡ Err why → reply ≡ refusal_line why → Takes n (history kept) 0 (Ok (statement.Explain s)) (length kept.list) (length kept.list) reply
+    explain_refused why asked is = inr (why, ap (query_of_select s) (whole_front kept) ∙ asked, refused why is)
+
+    pub explains_all : Explains (history kept) s (length kept.list) reply → Takes n (history kept) 0 (Ok (statement.Explain s)) (length kept.list) (length kept.list) reply
+    explains_all explains = inl (subst (λ (h : History). Explains h s (length kept.list) reply) (sym (whole_front kept)) explains, added_nothing kept)
 
   -- a text that is no statement
   pub text_refused : (why : Cause) → reply ≡ refusal_line (refusal_of_cause why) → Takes n (history kept) 0 (Err why) (length kept.list) (length kept.list) reply

@@ -20,6 +20,7 @@ pub cause_line : (why : Cause) → is_damage (refusal_line (refusal_of_cause why
 cause_line (cause.Grammar place) = refl
 cause_line cause.LongStatement = refl
 cause_line cause.LongName = refl
+cause_line cause.TooDeep = refl
 
 pub data_line : (why : DataFault) → is_damage (refusal_line (refusal_of_data why)) ≡ false
 data_line (data_fault.Row (row_fault.Fields line found wanted)) = refl

@@ -27,3 +27,8 @@ is_unsettled reply = code_of reply == 16
 abbrev pub Selected : Told → SelectText → ℕ → ℕ → List ℕ → Type 0
 Selected kept text arm opened reply =
     (n : Outside) (disk : ℕ) → Foresees opened disk arm n → Takes n (history kept) 0 (Ok (statement.Select text)) (length kept.list) (length kept.list) reply
+
+-- the reply is one that the EXPLAIN may have at the end of the history, whatever the outside comes to
+abbrev pub Explained : Told → SelectText → List ℕ → Type 0
+Explained kept text reply =
+    (n : Outside) → Takes n (history kept) 0 (Ok (statement.Explain text)) (length kept.list) (length kept.list) reply

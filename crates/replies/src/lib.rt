@@ -1,5 +1,5 @@
-//! The replies that need no store: the lines that refuse a statement, the rows of a SELECT, and the replies to a command, formed
-//! before its commit. What replies told, and how they are written.
+//! The replies that need no store: the lines that refuse a statement, the rows of a SELECT, the numbers of an EXPLAIN, and the
+//! replies to a command, formed before its commit. What replies told, and how they are written.
 #![tactic(auto)]
 
 mod forming;
@@ -11,7 +11,7 @@ mod writing;
 
 pub use forming::{Replies, replies_after};
 pub use lines::{damaged, data_line, failed_line, no_table_line, stage_line, unsettled_line};
-pub use printing::print;
+pub use printing::{explained, print};
 pub use reply::Reply;
 pub use tally::Tally;
 pub use writing::write_reply;

@@ -22,6 +22,7 @@ ok_is (Err why) schema is = absurd cc
 by_statement : (table text : List ℕ) (schema : Schema) (s : Statement) → schema_of_statement table text s ≡ Some schema → IsWritten (Ok s) → IsTableSchema schema
 by_statement table text schema (statement.Insert i) is written = absurd cc
 by_statement table text schema (statement.Select i) is written = absurd cc
+by_statement table text schema (statement.Explain i) is written = absurd cc
 by_statement table text schema (statement.Create c) is written = by (same_bytes c.table table && same_bytes c.text text) is
   where
     by : (b : Bool) → cond b (result_ok (schema_of_text c)) None ≡ Some schema → IsTableSchema schema

@@ -13,7 +13,9 @@ use Rattle.mt_values.specs.Grammar.{same_bytes}
 use Rattle.mt_values.specs.Script.{statements_of}
 use Rattle.mt_model.specs.declared.refusal.Refusal.{Refusal}
 use Rattle.mt_model.specs.Commands.{commands_of, create_commands, no_commands}
-use Rattle.mt_model.specs.Reply.{columns_of_select, schema_of_text}
+use Rattle.mt_model.specs.Queries.{query_of_select}
+use Rattle.mt_model.specs.declared.query.Query.{Query}
+use Rattle.mt_model.specs.Reply.{schema_of_text}
 use Rattle.mt_model.proofs.Tables.{itself_same, same_is}
 use Rattle.root_store.specs.Entries.{ReadsAs, create_of, schema_of_statement, schema_of_items, schema_of_entry, entry_text}
 
@@ -55,6 +57,7 @@ IsFound table text schema s = (commands_of [] s ≡ Ok (create_of table schema �
 statement_gives : (table text : List ℕ) (schema : Schema) (s : Statement) → schema_of_statement table text s ≡ Some schema → IsFound table text schema s
 statement_gives table text schema (statement.Insert i) is = absurd cc
 statement_gives table text schema (statement.Select s) is = absurd cc
+statement_gives table text schema (statement.Explain s) is = absurd cc
 statement_gives table text schema (statement.Create c) is = by (same_bytes c.table table) (same_bytes c.text text) refl refl is
   where
     by : (a b : Bool) → same_bytes c.table table ≡ a → same_bytes c.text text ≡ b → cond (a && b) (result_ok (schema_of_text c)) None ≡ Some schema → IsFound table text schema (statement.Create c)
@@ -77,8 +80,8 @@ items_read table text schema (Ok s ∷ []) are is =
 pub reads_as : (table text : List ℕ) (schema : Schema) → schema_of_entry table text ≡ Some schema → ReadsAs text (create_of table schema)
 reads_as table text schema is = items_read table text schema (statements_of (text ++ codes ";")) refl is
 
-no_create : (r : Result (List ℕ) Refusal) (c : Command) → no_commands r ≡ Ok (c ∷ []) → ⊥
-no_create (Ok columns) c is = cc
+no_create : (r : Result Query Refusal) (c : Command) → no_commands r ≡ Ok (c ∷ []) → ⊥
+no_create (Ok query) c is = cc
 no_create (Err why) c is = cc
 
 created_by : (table text : List ℕ) (schema : Schema) (c : CreateText) (r : Result Schema Refusal) → c.text ≡ text → schema_of_text c ≡ r → create_commands c.table r ≡ Ok (create_of table schema ∷ [])
@@ -96,7 +99,8 @@ one_text a b is = cc
 given_by : (table text : List ℕ) (schema : Schema) (s : Statement) → entry_text s ≡ Some text → commands_of [] s ≡ Ok (create_of table schema ∷ []) → schema_of_statement table text s ≡ Some schema
 given_by table text schema (statement.Create c) spelled is = created_by table text schema c (schema_of_text c) (one_text c.text text spelled) refl is
 given_by table text schema (statement.Insert i) spelled is = absurd cc
-given_by table text schema (statement.Select s) spelled is = absurd (no_create (columns_of_select s []) (create_of table schema) is)
+given_by table text schema (statement.Select s) spelled is = absurd (no_create (query_of_select s []) (create_of table schema) is)
+given_by table text schema (statement.Explain s) spelled is = absurd (no_create (query_of_select s []) (create_of table schema) is)
 
 -- and one that reads so has the schema
 pub found_as : (table text : List ℕ) (schema : Schema) → ReadsAs text (create_of table schema) → schema_of_entry table text ≡ Some schema

@@ -13,7 +13,6 @@ use Rattle.mt_values.specs.Annals.{Told}
 use Rattle.mt_values.specs.Script.{statements_of, statement_and}
 use Rattle.root_store.proofs.EntryReads.{reads_as}
 use Rattle.mt_values.proofs.ScriptBounds.{statements_of_step}
-use Rattle.mt_outside.specs.Disk as root
 use Rattle.mt_outside.specs.Files.{Files}
 use Rattle.mt_model.specs.declared.refusal.Bound.TheVariants as bound
 use Rattle.mt_model.specs.declared.refusal.Refusal.TheVariants as refusal
@@ -22,7 +21,6 @@ use Rattle.mt_model.specs.History.{History, schema_of, creates}
 use Rattle.mt_model.specs.Reply.{schema_of_text, create_turn, ok_line}
 use Rattle.mt_model.specs.Written.{IsCreateText}
 use Rattle.mt_model.proofs.Tables.{itself_same}
-use Rattle.root_store.specs.declared.store.CoreStore.{CoreStore}
 use Rattle.durable_commit.specs.Commits.{Notes, entry_of}
 use Rattle.root_store.specs.Entries.{EntryHolds, schema_of_items, schema_of_entry}
 use Rattle.root_store.specs.Soundness.{RootStands}

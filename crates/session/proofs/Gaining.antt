@@ -20,7 +20,7 @@ use Rattle.root_commits.specs.Commits.{IsCause, SameStore, refuses_create, refus
 use Rattle.root_commits.proofs.Leaving.{shown_calm, shown_part_calm}
 use Rattle.replies.specs.Foreseen.{history, is_unsettled}
 use Rattle.shared_store.specs.Engines.{Opened}
-use Rattle.session.specs.Answers.{AcceptsNothing, BeginsNext, EndsUnanswered, IsBegun, Turned}
+use Rattle.session.specs.Answers.{AcceptsNothing, EndsUnanswered, IsBegun, Turned}
 use Rattle.session.proofs.Accepting.{begins_first, unanswered_nothing}
 use Rattle.mt_outside.specs.Disk as root
 use Rattle.mt_outside.specs.Files.{Files}

@@ -1,8 +1,11 @@
 pub mod Accepting
+pub mod Asking
 pub mod Creating
 pub mod Damaged
+pub mod Explaining
 pub mod Gaining
 pub mod Kept
+pub mod Matching
 pub mod Inserting
 pub mod Picking
 pub mod Progressing

@@ -1,5 +1,5 @@
 -- A statement of which some commands were accepted, each in a turn of its own: one more, all of them, and the next one not.
-use Rattle.std.proofs.Common.{◌≡◌, ◌⊎◌, ℕ, ◌+◌, ◌-◌, ◌<◌, ◌≤◌, false, true, List, [], ◌∷◌, ◌++◌, length, map, take, refl, sym, ap, ◌∙◌, subst, append-nil, append_assoc, arith, Option, Some, None, Ok, Result, inl, inr, length-append}
+use Rattle.std.proofs.Common.{◌≡◌, ◌⊎◌, ℕ, ◌+◌, ◌-◌, ◌<◌, ◌≤◌, true, List, [], ◌∷◌, ◌++◌, length, take, refl, sym, ap, ◌∙◌, subst, append-nil, append_assoc, arith, Option, Some, None, Ok, Result, inl, inr, length-append}
 use Rattle.std.specs.List.{All}
 use Rattle.std.proofs.lemmas.List.{length-map, map-append, take_at}
 use Rattle.std.proofs.lemmas.List.Elements.{All-append, All-cons, All-nil}
@@ -23,7 +23,7 @@ use Rattle.root_store.specs.Stores.{CoreStands}
 use Rattle.shared_store.specs.Engines.{Opened}
 use Rattle.replies.specs.Foreseen.{Foresees, history, is_unsettled}
 use Rattle.replies.proofs.Ends.{added_nothing, length_history, whole_front}
-use Rattle.session.specs.Answers.{Answered, BeginsNext, EndsUnanswered, IsBegun, Knows, Turned}
+use Rattle.session.specs.Answers.{Answered, EndsUnanswered, IsBegun, Knows, Turned}
 use Rattle.session.specs.Turns.{AcceptsInTurn, EndsInTurn, InTurn, LeavesInTurn, RefusesInTurn}
 use Rattle.session.proofs.Accepting.{adds_after, after_note, front_after, history_after, length_after}
 

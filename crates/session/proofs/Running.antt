@@ -1,5 +1,5 @@
 -- The turns of an INSERT's parts, one after another, until all were accepted or one was not.
-use Rattle.std.proofs.Common.{◌≡◌, ℕ, ◌+◌, ◌<◌, ◌≤◌, true, false, List, [], ◌∷◌, ◌++◌, length, map, reverse, refl, sym, ap, ◌∙◌, subst, append-nil, append_assoc, arith, Option, Some, None, Ok, IsSome, length-append}
+use Rattle.std.proofs.Common.{◌≡◌, ℕ, ◌+◌, ◌<◌, ◌≤◌, List, [], ◌∷◌, ◌++◌, length, map, refl, sym, ap, ◌∙◌, subst, append-nil, append_assoc, arith, Option, Some, None, Ok, IsSome, length-append}
 use Rattle.std.specs.List.{All}
 use Rattle.std.proofs.lemmas.List.{length-map, length-reverse, map-append}
 use Rattle.std.proofs.lemmas.List.Elements.{All-head, All-tail}
@@ -11,7 +11,6 @@ use Rattle.mt_values.specs.Annals.{Told}
 use Rattle.mt_outside.specs.Files.{Files}
 use Rattle.mt_model.specs.Commands.{commands_of}
 use Rattle.mt_model.specs.Reply.{ok_line}
-use Rattle.root_commits.specs.Commits.{SameStore}
 use Rattle.root_store.specs.declared.store.Table.{Table}
 use Rattle.root_store.specs.Soundness.{HasSoundParts}
 use Rattle.root_store.specs.Stores.{table_at}

@@ -10,13 +10,13 @@ use Rattle.mt_model.specs.Partial.{Partly}
 use Rattle.part_reader.specs.declared.reading.Part.{Part}
 use Rattle.part_set.specs.declared.kept.Kept.{Kept}
 use Rattle.part_set.specs.Sets.{parts_of}
-use Rattle.part_history.specs.Parts.{rows_of_parts}
+use Rattle.part_history.specs.Parts.{TableStands, rows_of_parts}
 use Rattle.part_history.proofs.Joined.{parts_joined}
 use Rattle.root_store.specs.declared.store.CoreStore.{CoreStore}
 use Rattle.root_store.specs.declared.store.Table.{Table}
 use Rattle.root_store.specs.Stores.{CoreStands, core_parts, table_at}
 use Rattle.part_set.specs.declared.kept.Snap.{Snap}
-use Rattle.session.specs.Scans.{PartsHold, joined_rows}
+use Rattle.final_fold.specs.Scans.{PartsHold, joined_rows}
 use Rattle.shared_store.specs.Engines.{IsSnapOf}
 
 rows_joined : {F : Type 0} (files_of : F → Option Files) (schema : Schema) (table : List ℕ) (kept : List (Kept (Part F))) (rows : List (List Row)) → PartsHold files_of schema kept rows
@@ -26,10 +26,11 @@ rows_joined files_of schema table [] (r ∷ rows) h = absurd h
 rows_joined files_of schema table (k ∷ kept) [] h = absurd h
 rows_joined files_of schema table (k ∷ kept) (r ∷ rows) h = ap (λ (rs : List Row). r ++ rs) (rows_joined files_of schema table kept rows h.1)
 
--- a table's parts hold rows that merges may have left of its live rows
+-- a table's parts hold rows with which they stand for its commands, and which merges may have left of its live rows
 pub record Held {F : Type 0} (files_of : F → Option Files) (h : History) (table : List ℕ) (schema : Schema) (parts : List (Kept (Part F))) : Type 0 where
   pub rows : List (List Row)
   pub hold : PartsHold files_of schema parts rows
+  pub stand : TableStands table (core_parts table parts rows) h
   pub partly : Partly schema (live table schema h) (joined_rows rows)
 
 module _ {F : Type 0} (files_of : F → Option Files) (h : History) (store : CoreStore F) (s : CoreStands files_of h store) (table : List ℕ) where
@@ -50,6 +51,7 @@ module _ {F : Type 0} (files_of : F → Option Files) (h : History) (store : Cor
         record {
           rows = p.rows;
           hold = p.hold;
+          stand = p.stand;
           partly = subst (Partly t.schema (live table t.schema h)) (rows_joined files_of t.schema table (parts_of store.set table) p.rows p.hold)
               (parts_joined h table t.schema s.legal table_schema (core_parts table (parts_of store.set table) p.rows) p.stand p.order);
         }

@@ -17,7 +17,7 @@ use Rattle.part_history.proofs.Counted.{parts_at_most}
 use Rattle.root_store.specs.declared.store.CoreStore.{CoreStore}
 use Rattle.root_store.specs.declared.store.Table.{Table}
 use Rattle.root_store.specs.Stores.{CoreStands, core_part, core_parts, table_at}
-use Rattle.session.specs.Scans.{PartsHold}
+use Rattle.final_fold.specs.Scans.{PartsHold}
 
 -- as many parts of a partition are kept as stand
 as_many : {F : Type 0} (files_of : F → Option Files) (schema : Schema) (table : List ℕ) (partition : Partition) (kept : List (Kept (Part F))) (rows : List (List Row)) → PartsHold files_of schema kept rows

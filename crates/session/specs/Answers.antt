@@ -1,5 +1,5 @@
 -- What the answer to a statement does to what the annals list and to the open root (docs/definitions-of-runs.md, "Statements taken").
-use Rattle.std.specs.Prelude.{◌≡◌, ◌⊎◌, ◌<◌, ℕ, true, false, List, [], ◌∷◌, ◌++◌, length, All, Option, None, Some, Result, Ok, MatchResult}
+use Rattle.std.specs.Prelude.{◌≡◌, ◌⊎◌, ◌<◌, ℕ, true, false, List, ◌∷◌, ◌++◌, length, All, Option, None, Some, Result, Ok, MatchResult}
 use Rattle.mt_values.specs.declared.annals.Noted.{Noted}
 use Rattle.mt_values.specs.declared.command.Command.{Command}
 use Rattle.mt_values.specs.declared.statement.Statement.{Statement}
@@ -11,7 +11,6 @@ use Rattle.mt_model.specs.Session.{StopsAfter, Takes, Unanswered}
 use Rattle.replies.specs.Foreseen.{Foresees, history, is_unsettled}
 use Rattle.durable_commit.specs.Commits.{entry_of}
 use Rattle.root_commits.specs.Commits.{SameStore}
-use Rattle.root_store.specs.Crashes.{Storage}
 use Rattle.root_store.specs.Soundness.{RootStands}
 use Rattle.root_store.specs.Stores.{CoreStands}
 use Rattle.mt_base.specs.declared.memory.NoMemory.{NoMemory}

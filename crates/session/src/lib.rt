@@ -1,11 +1,10 @@
-//! Running one statement over a store: a CREATE, an INSERT or a SELECT, from its text to its reply.
+//! Running one statement over a store: a CREATE, an INSERT, a SELECT or an EXPLAIN, from its text to its reply.
 #![tactic(auto)]
 
-mod columns;
 mod creates;
 mod data;
+mod explains;
 mod inserts;
-mod picked;
 mod sealing;
 mod selects;
 mod staging;
@@ -13,11 +12,10 @@ mod statements;
 mod stopped;
 mod turns;
 
-pub use columns::{count_rows, empty_columns, read_parts};
 pub use creates::create;
 pub use data::read_block;
+pub use explains::{count_reads, explain};
 pub use inserts::insert;
-pub use picked::{Picked, pick_columns};
 pub use sealing::{SealedBlock, give_back_part, give_back_parts, seal_blocks};
 pub use selects::{scan, select};
 pub use staging::{give_back, seal_entry};

@@ -4,45 +4,45 @@ ghost use Rattle.mt_values.specs.declared.statement.Statement.TheVariants as sta
 ghost use Rattle.mt_values.specs.Annals.{Told};
 ghost use Rattle.mt_model.specs.History.{IsTableSchema};
 ghost use Rattle.mt_model.specs.Refusals.{is_damage};
-ghost use Rattle.mt_model.specs.Reply.{selected_places};
+ghost use Rattle.mt_model.specs.Queries.{query_of};
+ghost use Rattle.final_fold.specs.Scans.{rows_kept};
 ghost use Rattle.replies.specs.Causes.{HasCauses};
 ghost use Rattle.replies.specs.Foreseen.{Selected, history};
 ghost use Rattle.root_store.specs.declared.store.CoreStore.{CoreStore};
 ghost use Rattle.root_store.specs.Soundness.{HasSoundParts, HoldsRows};
 ghost use Rattle.root_store.specs.Stores.{CoreStands};
 ghost use Rattle.session.specs.Answers.{Knows};
-ghost use Rattle.session.specs.Scans.{rows_kept};
 ghost use Rattle.session.specs.Selects.{TellsOfDamage};
 ghost use Rattle.shared_store.specs.Engines.{IsOpen, IsSnapOf};
 ghost use Rattle.part_set.specs.declared.kept.Snap.{Snap};
 ghost use Rattle.part_reader.specs.declared.reading.Part.{Part};
 
-use crate::{count_rows, empty_columns, pick_columns, read_parts};
+use final_fold::{Wanted, add_matches, count_rows, pick_columns};
 use mt_base::{NoMemory, Stop};
-use mt_model::selected_columns;
+use mt_model::{Query, query_of};
 use mt_outside::{Arm, Dir, Disk, DiskError, Gate, Point, Who};
 use mt_values::{Annals, SelectText};
-use part_reader::{Part, PartFault};
+use part_reader::{Part, PartFault, empty_columns};
 use part_set::Snap;
 use replies::{Reply, damaged, failed_line, no_table_line, print, stage_line};
+use select_plan::plan;
 use shared_store::Engine;
 use std::alloc::Global;
 
-/// The rows of a pinned table, so many, of the columns at these places, which are the selected ones. The file of a column is read once
-/// of each part, however often the column is selected.
+/// The rows of a pinned table that meet a SELECT's condition, of its columns. Of a part the granules alone are read that the plan
+/// chooses; a column is read once, however often it is named.
 ///
 /// `NoMemory` where an allocation failed; the arm's count stays.
-fn read_places<R: Arm>(
+fn read_matches<R: Arm>(
     alloc: Global,
     snap: &Snap<Part<R::Dir>>,
     arm: &mut R,
     text: &SelectText,
-    places: &[u32],
-    rows: usize,
+    query: &Query,
 ) -> Result<Reply, NoMemory>
-    requires places { selected_places snap.now.schema.columns text.now.columns ≡ Ok places.now }
-    requires rows { rows ≡ rows_kept snap.now.parts.items }
-    requires few { rows < 2 ^ 32 }
+    requires table { IsTableSchema snap.now.schema }
+    requires query { query_of snap.now.schema.columns text.now ≡ Ok query.now }
+    requires few { rows_kept snap.now.parts.items < 2 ^ 32 }
 
     // What is answered, and why.
     ensures answers { (kept : Told) (store : CoreStore R.Dir)
@@ -60,21 +60,33 @@ fn read_places<R: Arm>(
     ensures later { R.failed arm.old ≤ R.failed arm.new }
     ensures memory { OnErr result (R.failed arm.new ≡ R.failed arm.old) }
 {
-    let parts = snap.parts.as_slice();
-    let picked = pick_columns(alloc, snap.schema.columns.len(), places)?;
-    let read = picked.read.as_slice();
-    let mut columns = empty_columns(alloc, &snap.schema, read)?;
+    let planned = plan(alloc, snap, query)?;
+    let picked = pick_columns(alloc, snap.schema.columns.len(), query.places.as_slice())?;
+    let wanted = Wanted {
+        schema: &snap.schema,
+        condition: &query.condition,
+        places: picked.read.as_slice(),
+    };
+    let mut columns = empty_columns(alloc, &snap.schema, wanted.places)?;
     let failed = failed_line(alloc)?;
-    match read_parts(alloc, arm, parts, read, &mut columns) {
-        Ok(()) => print(alloc, snap.length, columns, rows, picked.shown.as_slice()),
+    let parts = snap.parts.as_slice();
+    match add_matches(
+        alloc,
+        arm,
+        parts,
+        planned.parts.as_slice(),
+        &wanted,
+        &mut columns,
+    ) {
+        Ok(rows) => print(alloc, snap.length, columns, rows, picked.shown.as_slice()),
         Err((_, PartFault::NoMemory)) => Err(NoMemory),
         Err((_, PartFault::Fault)) => stage_line(DiskError::Fault, failed),
         Err((part, PartFault::Damaged { file, .. })) => damaged(alloc, text, &part, file),
     }
 }
 
-/// The rows of a pinned table, of the selected columns, sorted by these from left to right, unless the SELECT is refused. It takes
-/// no turn.
+/// The rows of a pinned table that meet the condition, of the selected columns, sorted by these from left to right, unless the SELECT
+/// is refused. It takes no turn.
 ///
 /// `NoMemory` where an allocation failed; the arm's count stays.
 pub fn scan<R: Arm>(
@@ -101,18 +113,19 @@ pub fn scan<R: Arm>(
     ensures later { R.failed arm.old ≤ R.failed arm.new }
     ensures memory { OnErr result (R.failed arm.new ≡ R.failed arm.old) }
 {
-    let places = match selected_columns(alloc, snap.schema.columns.as_slice(), &text.columns) {
-        Ok(places) => places,
+    let query = match query_of(alloc, snap.schema.columns.as_slice(), text) {
+        Ok(query) => query,
         Err(Stop::Refused(refusal)) => return Reply::refused(alloc, &refusal),
         Err(Stop::NoMemory) => return Err(NoMemory),
     };
-    let Some(rows) = count_rows(snap.parts.as_slice()) else {
+    // The rows that are read have places of 32 bits.
+    if count_rows(snap.parts.as_slice()).is_none() {
         return Err(NoMemory);
-    };
-    read_places(alloc, snap, arm, text, places.as_slice(), rows)
+    }
+    read_matches(alloc, snap, arm, text, &query)
 }
 
-/// The rows of a table as it is at one turn, unless the SELECT is refused.
+/// The rows that meet the condition, of a table as it is at one turn, unless the SELECT is refused.
 ///
 /// `NoMemory` where an allocation failed; nothing changed.
 pub fn select<F: Dir, R: Arm<Dir = F>, D: Disk<Arm = R>, A: Annals, G: Gate>(

@@ -9,6 +9,7 @@ ghost use Rattle.session.specs.Answers.{AcceptsNothing, Answers, Knows, Turned};
 ghost use Rattle.shared_store.specs.Engines.{GoesOn, GoesThroughCrashes};
 
 use crate::creates::create;
+use crate::explains::explain;
 use crate::inserts::insert;
 use crate::selects::select;
 use mt_base::NoMemory;
@@ -65,6 +66,7 @@ pub fn run_statement<F: Dir, R: Arm<Dir = F>, D: Disk<Arm = R>, A: Annals, G: Ga
         Ok(Statement::Create(text)) => create(alloc, engine, arm, &text),
         Ok(Statement::Insert(text)) => insert(alloc, engine, arm, &text),
         Ok(Statement::Select(text)) => select(alloc, engine, arm, gate, &text),
+        Ok(Statement::Explain(text)) => explain(alloc, engine, &text),
         Err(cause) => {
             engine.is_open();
             Reply::refused(alloc, &Refusal::of_cause(cause))

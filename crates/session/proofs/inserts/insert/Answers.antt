@@ -1,6 +1,6 @@
 use Rattle.std.proofs.lemmas.Result.{IfErr-weaker, IfOk-weaker}
 use Rattle.std.proofs.lemmas.List.Elements.{All-weaker}
-use Rattle.std.proofs.Common.{◌≡◌, ◌<◌, ◌+◌, ℕ, All, Bool, List, [], Option, Some, Ok, Err, true, false, IsSome, length, refl, sym, ap, ◌∙◌, subst, arith, IfOk}
+use Rattle.std.proofs.Common.{◌≡◌, ◌<◌, ℕ, All, Bool, List, [], Option, Some, Ok, Err, true, false, IsSome, length, refl, sym, ap, ◌∙◌, subst, arith, IfOk}
 use Rattle.mt_base.specs.Stops.{Refuses}
 use Rattle.block_split.specs.declared.blocks.PartitionBlock.{PartitionBlock}
 use Rattle.mt_values.specs.declared.row_fault.DataFault.{DataFault}

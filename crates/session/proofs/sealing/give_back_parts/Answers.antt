@@ -1,5 +1,5 @@
-use Rattle.std.proofs.Common.{◌≡◌, ◌≤◌, ◌∙◌, ap, sym, arith}
-use Rattle.session.specs.Turns.{NoneFailed, in_turn}
+use Rattle.std.proofs.Common.{◌∙◌, arith}
+use Rattle.session.specs.Turns.{NoneFailed}
 use Rattle.session.proofs.Stacking.{later_have, turn_has}
 use Rattle.session.proofs.sealing.give_back_parts.Goals as goal
 

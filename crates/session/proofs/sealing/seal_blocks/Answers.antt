@@ -1,10 +1,9 @@
-use Rattle.std.proofs.Common.{◌≡◌, ◌∷◌, ◌++◌, [], All, List, Some, length, refl, sym, ap, ◌∙◌, subst, arith}
-use Rattle.std.specs.Option.{option_to_list}
+use Rattle.std.proofs.Common.{◌≡◌, refl, ◌∙◌, arith}
 use Rattle.block_split.specs.declared.blocks.PartitionBlock.{PartitionBlock}
 use Rattle.mt_model.specs.History.{column_types}
 use Rattle.session.specs.declared.sealing.SealedBlock.{SealedBlock}
-use Rattle.session.specs.Turns.{IsPartFor, NoneFailed, in_turn}
-use Rattle.session.proofs.Stacking.{all_have, last_has, one_sealed, others_have}
+use Rattle.session.specs.Turns.{IsPartFor, NoneFailed}
+use Rattle.session.proofs.Stacking.{all_have, one_sealed, others_have}
 use Rattle.session.proofs.sealing.seal_blocks.Goals as goal
 
 pub unsealed-preserved : goal.unsealed-preserved

@@ -6,7 +6,7 @@ use Rattle.session.specs.Answers.{AcceptsNothing, Answers}
 use Rattle.root_store.specs.Soundness.{HasSoundParts}
 use Rattle.shared_store.specs.Engines.{GoesOn, GoesThroughCrashes, Opened}
 use Rattle.session.proofs.Accepting.{answers_kept, nothing_accepted, stays_open}
-use Rattle.session.proofs.SelectAnswers.{selected_answers}
+use Rattle.session.proofs.SelectAnswers.{explained_answers, selected_answers}
 use Rattle.mt_values.specs.declared.statement.Cause.{Cause}
 use Rattle.mt_values.specs.declared.statement.Cause.TheVariants as cause
 use Rattle.mt_values.specs.declared.statement.Statement.TheVariants as statement
@@ -25,6 +25,16 @@ returns-in-Ok-Select-clause-answers g c = λ kept tells knows.
     let same = subst (λ (now : Opened _). Answers files kept (Ok (statement.Select text)) (record { was = here; now = now; arm = arm }) c.select.result) (sym c.select.ensures.stays)
     (selected_answers files kept text here arm c.select.result knows (c.select.ensures.answers kept knows)) in
     subst (λ st. Answers files kept st (record { was = here; now = c.select.new.engine; arm = arm }) c.select.result) (sym (c.in-Ok-Select.is ∙ ap Ok c.in-Ok-Select.field-0-is)) same
+
+pub returns-in-Ok-Explain-clause-answers : goal.returns-in-Ok-Explain-clause-answers
+returns-in-Ok-Explain-clause-answers g c = λ kept tells knows.
+    let files = g.F.Dir.files in
+    let here = c.args.engine.now in
+    let arm = g.R.Arm.failed c.args.arm.now in
+    let text = c.in-Ok-Explain.text in
+    let same = subst (λ (now : Opened _). Answers files kept (Ok (statement.Explain text)) (record { was = here; now = now; arm = arm }) c.explain.result) (sym c.explain.ensures.stays)
+    (explained_answers files kept text here arm c.explain.result knows (c.explain.ensures.answers kept knows)) in
+    subst (λ st. Answers files kept st (record { was = here; now = c.explain.new.engine; arm = arm }) c.explain.result) (sym (c.in-Ok-Explain.is ∙ ap Ok c.in-Ok-Explain.field-0-is)) same
 
 pub returns-in-Err-clause-answers : goal.returns-in-Err-clause-answers
 returns-in-Err-clause-answers g c = λ kept tells knows.
@@ -45,6 +55,26 @@ returns-in-Ok-Select-clause-through_crashes g c = λ tells.
 -- a stopped store
 pub returns-in-Ok-Select-clause-stopped : goal.returns-in-Ok-Select-clause-stopped
 returns-in-Ok-Select-clause-stopped g c = λ risen. subst (λ (now : Opened _). AcceptsNothing c.args.engine.now now) (sym c.select.ensures.stays) (nothing_accepted c.args.engine.now)
+
+pub returns-in-Ok-Explain-clause-through_crashes : goal.returns-in-Ok-Explain-clause-through_crashes
+returns-in-Ok-Explain-clause-through_crashes g c = λ tells.
+    subst (λ (now : Opened _). GoesThroughCrashes g.F.Dir.files c.args.engine.now now) (sym c.explain.ensures.stays) (λ first start keeps. keeps)
+
+pub returns-in-Ok-Explain-clause-stopped : goal.returns-in-Ok-Explain-clause-stopped
+returns-in-Ok-Explain-clause-stopped g c = λ risen. subst (λ (now : Opened _). AcceptsNothing c.args.engine.now now) (sym c.explain.ensures.stays) (nothing_accepted c.args.engine.now)
+
+pub returns-in-Ok-Explain-clause-held : goal.returns-in-Ok-Explain-clause-held
+returns-in-Ok-Explain-clause-held g c = λ tells held. subst (λ (now : Opened _). HasSoundParts g.F.Dir.files now.store) (sym c.explain.ensures.stays) held
+
+pub returns-in-Ok-Explain-clause-goes_on : goal.returns-in-Ok-Explain-clause-goes_on
+returns-in-Ok-Explain-clause-goes_on g c = subst (λ (now : Opened _). GoesOn c.args.engine.now now) (sym c.explain.ensures.stays) (stays_open c.args.engine.now c.explain.ensures.open)
+
+pub returns-in-Ok-Explain-clause-causes : goal.returns-in-Ok-Explain-clause-causes
+returns-in-Ok-Explain-clause-causes g c =
+    let here = c.args.engine.now in
+    let arm = g.R.Arm.failed c.args.arm.now in
+    subst (λ (now : Opened _). IfOk c.explain.result (HasCauses here.store.opened here.storage.failed now.storage.failed arm arm)) (sym c.explain.ensures.stays)
+    (c.explain.ensures.causes here.store.opened here.storage.failed arm)
 
 pub returns-in-Err-clause-stopped : goal.returns-in-Err-clause-stopped
 returns-in-Err-clause-stopped g c = λ risen. nothing_accepted c.args.engine.now
@@ -75,6 +105,7 @@ returns-in-Err-clause-causes g c =
     text_code (cause.Grammar place) = omega arith
     text_code cause.LongStatement = omega arith
     text_code cause.LongName = omega arith
+    text_code cause.TooDeep = omega arith
 
 -- the reply does not tell of damage
 pub returns-in-Err-clause-undamaged : goal.returns-in-Err-clause-undamaged

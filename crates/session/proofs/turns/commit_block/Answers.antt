@@ -1,31 +1,27 @@
-use Rattle.std.proofs.lemmas.Result.{IfErr-weaker, IfOk-weaker}
-use Rattle.std.proofs.lemmas.Option.{IfSome_then}
-use Rattle.std.proofs.Common.{◌≡◌, ◌<◌, ◌+◌, ℕ, List, Option, Some, None, Ok, Err, Result, IsErr, IsSome, refl, sym, ap, ◌∙◌, subst, arith}
+use Rattle.std.proofs.Common.{◌≡◌, ◌+◌, ℕ, Option, Ok, Err, Result, IsErr, refl, sym, ap, ◌∙◌, subst, arith}
 use Rattle.mt_values.specs.declared.schema.Schema.{Schema}
 use Rattle.mt_model.specs.Refusals.{is_damage}
 use Rattle.mt_model.specs.Reply.{ok_line}
-use Rattle.part_writer.specs.declared.writing.SealedPart.{SealedPart}
 use Rattle.replies.proofs.Causing.{says_answer}
 use Rattle.replies.specs.Foreseen.{history}
 use Rattle.root_commits.specs.Commits.{partition_of_block}
 use Rattle.root_commits.specs.Turns.{turn_of_part}
-use Rattle.root_commits.proofs.Turning.{AfterRefusal, after_refusal}
+use Rattle.root_commits.proofs.Turning.{after_refusal}
 use Rattle.root_store.specs.declared.store.Table.{Table}
 use Rattle.root_store.specs.Stores.{table_at}
 use Rattle.shared_store.specs.Engines.{schema_kept}
 use Rattle.session.specs.declared.sealing.SealedBlock.{SealedBlock}
-use Rattle.session.specs.Stops.{IsLineOf}
 use Rattle.mt_base.specs.declared.memory.NoMemory.{NoMemory}
 use Rattle.session.specs.declared.turns.TurnReply.{TurnReply}
 use Rattle.mt_values.specs.Annals.{Told}
 use Rattle.mt_outside.specs.Files.{Files}
 use Rattle.session.specs.Answers.{Turned}
 use Rattle.session.specs.Turns.{EndsInTurn, InTurn, IsPartFor, TakesTurn, part_command}
-use Rattle.session.proofs.Accepting.{nothing_accepted, stays_open}
+use Rattle.session.proofs.Accepting.{nothing_accepted}
 use Rattle.session.proofs.Gaining.{part_failed, stays_refused, still_added, still_part_refused}
 use Rattle.session.proofs.Kept.{kept_as}
-use Rattle.session.proofs.Stopping.{commit_line, part_risen, refused_says}
-use Rattle.session.proofs.Turning.{accepts_turn, ends_before, ends_turn, found_table, refuses_turn, schema_added, schema_stays}
+use Rattle.session.proofs.Stopping.{part_risen, refused_says}
+use Rattle.session.proofs.Turning.{accepts_turn, ends_before, ends_turn, found_table, refuses_turn, schema_added}
 use Rattle.session.proofs.turns.commit_block.Goals as goal
 
 -- the part is of the table's schema

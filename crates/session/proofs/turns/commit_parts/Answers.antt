@@ -1,16 +1,12 @@
-use Rattle.std.proofs.Common.{◌≡◌, ◌<◌, ◌≤◌, ◌+◌, ◌++◌, ◌∷◌, [], ℕ, All, List, Option, Some, None, Ok, length, refl, sym, ap, ◌∙◌, subst, arith}
-use Rattle.std.specs.Option.{option_to_list}
-use Rattle.mt_values.specs.declared.schema.Schema.{Schema}
+use Rattle.std.proofs.Common.{◌≡◌, ◌∷◌, [], ℕ, List, Ok, length, refl, sym, ◌∙◌, subst, arith}
 use Rattle.mt_values.specs.declared.statement.Statement.TheVariants as statement
 use Rattle.replies.specs.Causes.{HasCauses}
-use Rattle.root_store.specs.Stores.{table_at}
-use Rattle.shared_store.specs.Engines.{schema_kept}
 use Rattle.session.specs.declared.sealing.SealedBlock.{SealedBlock}
 use Rattle.mt_model.specs.Reply.{ok_line}
 use Rattle.session.specs.Answers.{Answered, EndsUnanswered}
 use Rattle.session.specs.declared.turns.TurnReply.{TurnReply}
-use Rattle.session.specs.Turns.{IfAccepted, IsPartFor, IsRowsFor, NoneFailed, TakesTurn, in_turn, part_command, reply_in}
-use Rattle.session.proofs.Running.{AreFor, Runs, Taken, causes_same, counted, crashes_next, goes_next, held_next, of_next, of_rest, run_begins, run_done, run_ended, run_on, run_refused, still_there, stopped_next}
+use Rattle.session.specs.Turns.{IfAccepted, IsRowsFor, NoneFailed, TakesTurn, part_command, reply_in}
+use Rattle.session.proofs.Running.{causes_same, counted, crashes_next, goes_next, held_next, of_next, of_rest, run_done, run_ended, run_on, run_refused, stopped_next}
 use Rattle.session.proofs.turns.commit_parts.Goals as goal
 
 pub commit_block-requires-clause-rows : goal.commit_block-requires-clause-rows

@@ -1,0 +1,115 @@
+use Rattle.std.proofs.Common.{◌≡◌, ◌∙◌, ◌+◌, [], Bool, List, All, Some, ap, arith, get_or, length, refl, slice_get, subst, sym}
+use Rattle.std.specs.List.{filter}
+use Rattle.std.proofs.lemmas.Option.{slice_get-get_or, slice_get_read, slice_get_within}
+use Rattle.column_file.specs.Marks.{granules}
+use Rattle.mt_values.specs.Grid.{Cells}
+use Rattle.mt_values.specs.Tests.{eval}
+use Rattle.mt_values.specs.Values.{Row}
+use Rattle.part_reader.specs.declared.reading.PartFault.TheVariants.{NoMemory}
+use Rattle.part_reader.specs.Granules.{chosen_of}
+use Rattle.part_writer.specs.declared.loaded.Loaded.{Loaded}
+use Rattle.final_fold.specs.Matches.{HoldEachMatch, matching}
+use Rattle.final_fold.proofs.Explained.{out_of_memory, part_explained}
+use Rattle.final_fold.proofs.Scanning.{PartAt, count_all, count_next, part_at, rows_next, values_all, values_next, zip_at}
+use Rattle.final_fold.proofs.matches.add_matches.Goals as goal
+use Rattle.final_fold.proofs.matches.add_matches.Goals.{After-as_slice}
+use Rattle.final_fold.proofs.matches.add_matches.Given.{Over}
+
+pub returns-in_default-make_plan-clause-damaged : goal.returns-in_default-make_plan-clause-damaged
+returns-in_default-make_plan-clause-damaged g c =
+    let parts = c.args.parts.now in
+    let chosen = c.args.chosen.now in
+    let there : slice_get parts 0 ≡ Some c.in-Some.first.now = sym c.in-Some.ensures.value in
+    let many = c.requires.chosen in
+    let own : List Bool = get_or chosen 0 [] in
+    record {
+      at = 0;
+      kept = c.in-Some.first.now;
+      own = own;
+      kept_is = there;
+      own_is = slice_get-get_or chosen 0 [] (omega (arith, many, slice_get_within parts 0 c.in-Some.first.now there));
+      name_is = refl;
+      explained = out_of_memory g.R.Dir.Dir.files c.in-Some.first.now.part own c.args.wanted.now;
+    }
+
+pub bounds-chosen-number : goal.bounds-chosen-number
+bounds-chosen-number g c =
+    let many = c.requires.chosen in
+    omega (arith, many, c.loop-number-test.true)
+
+-- the granules of the part that is read
+own_is : (g : Over) (c : After-as_slice g) → slice_get c.args.chosen.now c.loop-number.number ≡ Some c.as_slice.result.now
+own_is g c =
+    let many = c.requires.chosen in
+    slice_get_read c.args.chosen.now (length c.args.chosen.now) c.loop-number.number c.index-chosen-number.result refl (omega (arith, many, c.loop-number-test.true)) c.index-chosen-number.is
+    ∙ ap Some (sym c.as_slice.ensures)
+
+kept_is : (g : Over) (c : After-as_slice g) → slice_get c.args.parts.now c.loop-number.number ≡ Some c.index-parts-number.result
+kept_is g c = slice_get_read c.args.parts.now (length c.args.parts.now) c.loop-number.number c.index-parts-number.result refl c.loop-number-test.true c.index-parts-number.is
+
+pub add_part-requires-clause-task : goal.add_part-requires-clause-task
+add_part-requires-clause-task g c κs within =
+    record { wanted = c.requires.wanted; plan = c.in-Ok.ensures }
+
+pub returns-in-Err-clause-sound : goal.returns-in-Err-clause-sound
+returns-in-Err-clause-sound g c = λ rows holds said.
+    let d = (goal.at.returns-in-Err-clause-sound g c).After-as_slice in
+    let w = c.args.wanted.now in
+    let i = c.loop-number.number in
+    let own = c.as_slice.result.now in
+    let h = part_at g.R.Dir.Dir.files w.schema.now c.args.parts.now rows i c.index-parts-number.result holds c.loop-number-test.true c.index-parts-number.is in
+    c.in-Err.ensures.sound h.rows h.holds
+    (zip_at (λ (cs : List Bool) (rs : List Row). length cs ≡ granules w.schema.now.granularity (length rs)) c.args.chosen.now rows i own h.rows said (own_is g d) h.there)
+
+pub returns-in-Err-clause-damaged : goal.returns-in-Err-clause-damaged
+returns-in-Err-clause-damaged g c =
+    let d = (goal.at.returns-in-Err-clause-damaged g c).After-as_slice in
+    part_explained g.R.Dir.Dir.files c.args.parts.now c.args.chosen.now c.args.wanted.now c.loop-number.number c.index-parts-number.result c.as_slice.result.now c.in-Err.fault c.loop-number-test.true c.index-parts-number.is (own_is g d) c.in-Err.ensures.damaged
+
+pub returns-in_default-checked_add-clause-damaged : goal.returns-in_default-checked_add-clause-damaged
+returns-in_default-checked_add-clause-damaged g c =
+    let d = (goal.at.returns-in_default-checked_add-clause-damaged g c).After-as_slice in
+    part_explained g.R.Dir.Dir.files c.args.parts.now c.args.chosen.now c.args.wanted.now c.loop-number.number c.index-parts-number.result c.as_slice.result.now NoMemory c.loop-number-test.true c.index-parts-number.is (own_is g d)
+    (out_of_memory g.R.Dir.Dir.files c.index-parts-number.result.part c.as_slice.result.now c.args.wanted.now)
+
+pub loop-number-preserved : goal.loop-number-preserved
+loop-number-preserved g c =
+    let files = g.R.Dir.Dir.files in
+    let w = c.args.wanted.now in
+    let parts = c.args.parts.now in
+    let i = c.loop-number.number in
+    let kept = c.index-parts-number.result in
+    let own = c.as_slice.result.now in
+    let new = c.add_part.new.columns in
+    let f = eval w.condition.now in
+    let e = c.in-Ok-add_part.ensures in
+    let d = (goal.at.loop-number-preserved g c).After-as_slice in
+    let sum : c.loop-number.count + c.in-Ok-add_part.added ≡ c.in-Some-checked_add.more = omega (arith, c.in-Some-checked_add.ensures) in
+    let met = λ (rs : List Row). filter f (chosen_of kept.part.loaded.schema.granularity own rs) in
+    let met_is : (rows : List (List Row)) (h : PartAt files w.schema.now kept.part i rows) → HoldEachMatch w c.args.chosen.now rows → met h.rows ≡ filter f h.rows =
+    λ rows h each.
+    ap (λ (l : Loaded). filter f (chosen_of l.schema.granularity own h.rows)) h.holds.loaded_is
+    ∙ zip_at (λ (cs : List Bool) (rs : List Row). matching w.condition.now (chosen_of w.schema.now.granularity cs rs) ≡ matching w.condition.now rs) c.args.chosen.now rows i own h.rows each (own_is g d) h.there in
+    record {
+      values = λ rows holds each empty.
+          let h = part_at files w.schema.now parts rows i kept holds c.loop-number-test.true c.index-parts-number.is in
+          values_next f rows i h.rows (met h.rows) w.places.now c.loop-number.columns new h.next (c.loop-number.invariant.values rows holds each empty) (met_is rows h each) (e.values h.rows h.holds);
+      counted = λ rows holds each.
+          let h = part_at files w.schema.now parts rows i kept holds c.loop-number-test.true c.index-parts-number.is in
+          sym sum ∙ count_next f rows i h.rows (met h.rows) c.loop-number.count c.in-Ok-add_part.added h.next (c.loop-number.invariant.counted rows holds each) (met_is rows h each) (e.counted h.rows h.holds);
+      types = e.types ∙ c.loop-number.invariant.types;
+      even = λ zero. subst (λ n. All (λ (x : Cells). length x.values ≡ n) new) sum (e.even c.loop-number.count (c.loop-number.invariant.even zero));
+      few = omega (arith, sum, e.few, c.loop-number.invariant.few, rows_next parts i kept c.loop-number-test.true c.index-parts-number.is);
+      tells = e.tells ∙ c.loop-number.invariant.tells;
+      failed = e.calm (λ fault. cc) ∙ c.loop-number.invariant.failed;
+    }
+
+pub returns-clause-values : goal.returns-clause-values
+returns-clause-values g c = λ rows holds each empty.
+    let w = c.args.wanted.now in
+    values_all g.R.Dir.Dir.files w.schema.now (eval w.condition.now) c.args.parts.now rows c.loop-number.number w.places.now c.loop-number.columns holds c.loop-number-test.false (c.loop-number.invariant.values rows holds each empty)
+
+pub returns-clause-counted : goal.returns-clause-counted
+returns-clause-counted g c = λ rows holds each.
+    let w = c.args.wanted.now in
+    count_all g.R.Dir.Dir.files w.schema.now (eval w.condition.now) c.args.parts.now rows c.loop-number.number c.loop-number.count holds c.loop-number-test.false (c.loop-number.invariant.counted rows holds each)

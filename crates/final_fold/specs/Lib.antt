@@ -1,0 +1,4 @@
+pub mod Asked
+pub mod Matches
+pub mod Picks
+pub mod Scans

@@ -1,0 +1,44 @@
+// How many rows parts have, and how many answers of a mask are true.
+ghost use Rattle.std.specs.Prelude.{◌≡◌, ◌<◌, ◌^◌, IfSome};
+ghost use Rattle.final_fold.specs.Matches.{count_true, some_true};
+ghost use Rattle.final_fold.specs.Scans.{rows_kept};
+
+use mt_base::Rows;
+use part_reader::Part;
+use part_set::Kept;
+
+/// How many rows parts have together; none where a place of 32 bits can't count them.
+pub fn count_rows<F>(parts: &[Kept<Part<F>>]) -> Option<usize>
+    ensures rows { IfSome result (λ rows. rows ≡ rows_kept parts.now) }
+    ensures few { IfSome result (λ rows. rows < 2 ^ 32) }
+{
+    let mut rows: u64 = 0;
+    for kept in parts {
+        rows = rows.checked_add(kept.part.rows())?;
+    }
+    if rows > u32::MAX as u64 {
+        return None;
+    }
+    Some(rows as usize)
+}
+
+/// How many answers of a mask are true.
+pub(crate) fn count_true(mask: &[bool]) -> usize
+    ensures { result ≡ count_true mask.now }
+{
+    let mut count: usize = 0;
+    for is_true in mask {
+        if !*is_true {
+            continue;
+        }
+        count += 1;
+    }
+    count
+}
+
+/// Whether an answer of a mask is true.
+pub(crate) fn some_true(mask: &[bool]) -> bool
+    ensures { result ≡ some_true mask.now }
+{
+    mask.iter().any(|is_true| *is_true)
+}

@@ -1,0 +1,98 @@
+// The rows of a table's parts that meet a condition.
+ghost use Rattle.std.specs.Prelude.{◌≡◌, ◌≤◌, ℕ, [], All, IfErr, IfOk, List, OnOk, length, map};
+ghost use Rattle.mt_outside.specs.Causes.{Rose};
+ghost use Rattle.mt_values.specs.Grid.{Cells};
+ghost use Rattle.mt_values.specs.Values.{Row};
+ghost use Rattle.part_reader.specs.Faults.{IsNoDamage};
+ghost use Rattle.final_fold.specs.Asked.{IsWanted};
+ghost use Rattle.final_fold.specs.Matches.{ExplainsMatches, HoldEachMatch, SayOfEach, matching};
+ghost use Rattle.final_fold.specs.Scans.{HaveTypes, PartsHold, joined_rows, rows_kept, values_at};
+
+use crate::adding::add_part;
+use crate::asking::{Task, Wanted, make_plan};
+use mt_base::Seq;
+use mt_outside::Arm;
+use mt_values::ColumnData;
+use part_name::PartName;
+use part_reader::{Part, PartFault};
+use part_set::Kept;
+use std::alloc::Global;
+
+/// Adds the rows of a table's parts that meet a condition to columns, part by part: of each the values at the wanted places. Of a
+/// part the granules alone are read that are chosen: the columns that the condition names first, each once, and the others in the
+/// granules that have a row which meets it. Returns how many rows were added.
+///
+/// The name of the part of which a column could not be read, and why: `Damaged` where its bytes in some chosen granules are damaged,
+/// never where the parts hold rows of the table, and it is said of each of their granules whether it is chosen; `Fault` only where the
+/// arm's count rose in this call; `NoMemory` where an allocation failed, or 32 bits can't count the chosen rows of a part. After an
+/// error some of the values may have been added.
+pub fn add_matches<R: Arm>(
+    alloc: Global,
+    arm: &mut R,
+    parts: &[Kept<Part<R::Dir>>],
+    chosen: &[Seq<bool>],
+    wanted: &Wanted,
+    columns: &mut [ColumnData],
+) -> Result<usize, (PartName, PartFault)>
+    requires wanted { IsWanted wanted.now }
+    requires columns { HaveTypes wanted.now.schema.now wanted.now.places.now columns.old }
+    requires chosen { length chosen.now ≡ length parts.now }
+
+    // What the columns get.
+    ensures values { (rows : List (List Row))
+        → PartsHold R.Dir.files wanted.now.schema.now parts.now rows
+        → HoldEachMatch wanted.now chosen.now rows
+        → map (λ (c : Cells). c.values) columns.old ≡ values_at [] wanted.now.places.now
+        → OnOk result (map (λ (c : Cells). c.values) columns.new ≡ values_at
+        (matching wanted.now.condition.now (joined_rows rows)) wanted.now.places.now) }
+    ensures counted { (rows : List (List Row))
+        → PartsHold R.Dir.files wanted.now.schema.now parts.now rows
+        → HoldEachMatch wanted.now chosen.now rows
+        → IfOk result (λ count. count ≡ length
+        (matching wanted.now.condition.now (joined_rows rows))) }
+    ensures even { All (λ (c : Cells). length c.values ≡ 0) columns.old
+        → IfOk result (λ count. All (λ (c : Cells). length c.values ≡ count) columns.new) }
+    ensures types { OnOk result (map (λ (c : Cells). c.col_type) columns.new ≡ map
+        (λ (c : Cells). c.col_type) columns.old) }
+    ensures few { IfOk result (λ count. count ≤ rows_kept parts.now) }
+
+    // What a fault says.
+    ensures sound { (rows : List (List Row))
+        → PartsHold R.Dir.files wanted.now.schema.now parts.now rows
+        → SayOfEach wanted.now chosen.now rows → IfErr result (λ e. IsNoDamage e.1) }
+    ensures damaged { IfErr result (ExplainsMatches R.Dir.files parts.now chosen.now wanted.now) }
+
+    // What the arm is then, and its count of faults.
+    ensures tells { R.tells arm.new ≡ R.tells arm.old }
+    ensures later { R.failed arm.old ≤ R.failed arm.new }
+    ensures fault { IfErr result
+        (λ e. e.1 ≡ PartFault.Fault → Rose (R.failed arm.old) (R.failed arm.new)) }
+    ensures calm { OnOk result (R.failed arm.new ≡ R.failed arm.old) }
+    ensures calm_err { IfErr result
+        (λ e. (e.1 ≡ PartFault.Fault → ⊥) → R.failed arm.new ≡ R.failed arm.old) }
+{
+    let Some(first) = parts.first() else {
+        return Ok(0);
+    };
+    let Ok(plan) = make_plan(alloc, wanted) else {
+        return Err((first.name, PartFault::NoMemory));
+    };
+    let mut count: usize = 0;
+    for (number, kept) in parts.iter().enumerate() {
+        let task = Task {
+            part: &kept.part,
+            chosen: chosen[number].as_slice(),
+            wanted: *wanted,
+            plan: &plan,
+        };
+        let added = match add_part(alloc, arm, &task, columns) {
+            Ok(added) => added,
+            Err(fault) => return Err((kept.name, fault)),
+        };
+        let Some(more) = count.checked_add(added) else {
+            return Err((kept.name, PartFault::NoMemory));
+        };
+        count = more;
+    }
+    Ok(count)
+}

@@ -1,0 +1,66 @@
+-- From the plan of a table's parts to the answer of an EXPLAIN.
+use Rattle.std.proofs.Common.{◌≡◌, ℕ, ◌+◌, Bool, cond, List, [], ◌∷◌, length, map, refl, sym, ap, ap₂, ◌∙◌, Option, Some, Ok}
+use Rattle.std.specs.List.{count_by, list_any, sum_by}
+use Rattle.std.proofs.lemmas.List.{length-map}
+use Rattle.std.proofs.lemmas.List.Sums.{sum_by-cons}
+use Rattle.mt_values.specs.declared.expr.Test.{Test}
+use Rattle.mt_values.specs.declared.schema.Schema.{Schema}
+use Rattle.mt_values.specs.declared.statement.SelectText.{SelectText}
+use Rattle.mt_values.specs.Conditions.{Condition}
+use Rattle.mt_values.specs.Values.{Row}
+use Rattle.mt_outside.specs.Files.{Files}
+use Rattle.mt_model.specs.declared.counts.Counts.{Counts}
+use Rattle.mt_model.specs.declared.query.Query.{Query}
+use Rattle.mt_model.specs.Explain.{Explains, Portion, PortionsStand, chosen_granules, counts_of, explain_line, is_chosen}
+use Rattle.mt_model.specs.History.{History, schema_of}
+use Rattle.mt_model.specs.Queries.{query_of}
+use Rattle.part_history.specs.Parts.{portion_of}
+use Rattle.part_reader.specs.declared.reading.Part.{Part}
+use Rattle.part_set.specs.declared.kept.Kept.{Kept}
+use Rattle.part_writer.specs.declared.loaded.Loaded.{Loaded}
+use Rattle.predicate.specs.Granules.{chosen_in}
+use Rattle.root_store.specs.Stores.{core_parts}
+use Rattle.select_plan.specs.Plans.{counts_over, planned_part}
+use Rattle.final_fold.specs.Scans.{PartsHold}
+
+-- a sum over what becomes of each item is a sum over the items
+sum_map : {X Y : Type 0} (f : Y → ℕ) (g : X → Y) (xs : List X) → sum_by f (map g xs) ≡ sum_by (λ x. f (g x)) xs
+sum_map f g [] = refl
+sum_map f g (x ∷ xs) = sum_by-cons f (g x) (map g xs) ∙ (ap (λ n. f (g x) + n) (sum_map f g xs) ∙ sym (sum_by-cons (λ y. f (g y)) x xs))
+
+abbrev counted : ℕ → ℕ → ℕ → ℕ → Counts
+counted a b c d = record { chosen_parts = a; parts = b; chosen_granules = c; granules = d }
+
+same : (a b c d e f g h : ℕ) → a ≡ b → c ≡ d → e ≡ f → g ≡ h → counted a c e g ≡ counted b d f h
+same a b c d e f g h p q r s = cc
+
+-- the counts of portions are those of their granules
+pub counts_are : (schema : Schema) (c : Condition Test) (ps : List Portion) → counts_over (map (chosen_granules schema c) ps) ≡ counts_of schema c ps
+counts_are schema c ps =
+    let parts = map (chosen_granules schema c) ps in
+    same (count_by (list_any (λ b. b)) parts) (count_by (is_chosen schema c) ps) (length parts) (length ps)
+    (sum_by (count_by (λ b. b)) parts) (sum_by (λ p. count_by (λ b. b) (chosen_granules schema c p)) ps)
+    (sum_by length parts) (sum_by (λ p. length (chosen_granules schema c p)) ps)
+    (sum_map (λ (b : List Bool). cond (list_any (λ x. x) b) 1 0) (chosen_granules schema c) ps)
+    (length-map ps (chosen_granules schema c))
+    (sum_map (count_by (λ b. b)) (chosen_granules schema c) ps)
+    (sum_map length (chosen_granules schema c) ps)
+
+module _ {F : Type 0} (files_of : F → Option Files) (schema : Schema) (c : Condition Test) (table : List ℕ) where
+  -- the plan of parts that hold rows chooses the granules of these rows
+  pub plan_is : (kept : List (Kept (Part F))) (rows : List (List Row)) → PartsHold files_of schema kept rows
+      → map (planned_part schema c) kept ≡ map (chosen_granules schema c) (map portion_of (core_parts table kept rows))
+  plan_is [] [] h = refl
+  plan_is [] (r ∷ rows) h = absurd h
+  plan_is (k ∷ kept) [] h = absurd h
+  plan_is (k ∷ kept) (r ∷ rows) h =
+      ap₂ (λ (b : List Bool) (bs : List (List Bool)). b ∷ bs)
+      (ap (λ (l : Loaded). chosen_in schema k.name.partition c l.marks) h.0.loaded_is)
+      (plan_is kept rows h.1)
+
+-- an EXPLAIN's answer, from the portions of its table
+pub explains : (h : History) (s : SelectText) (schema : Schema) (q : Query) (ps : List Portion) (n : Counts) (place : ℕ) (reply : List ℕ)
+    → schema_of s.table h ≡ Some schema → query_of schema.columns s ≡ Ok q → PortionsStand h s.table schema ps → n ≡ counts_of schema q.condition ps
+    → reply ≡ explain_line n place → Explains h s place reply
+explains h s schema q ps n place reply there asked stand counted is =
+    record { schema = schema; there = there; query = q; asked = asked; portions = ps; stand = stand; reply_is = is ∙ ap (λ (m : Counts). explain_line m place) counted }

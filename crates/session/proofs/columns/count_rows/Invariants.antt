@@ -1,7 +1,0 @@
--- the rows of the parts gone over
-use Rattle.std.proofs.Common.{◌≡◌, take}
-use Rattle.session.specs.Scans.{rows_kept}
-use Rattle.session.proofs.columns.count_rows.Given as goal
-
-abbrev pub invariant-loop-kept : goal.invariant-loop-kept
-invariant-loop-kept g l = l.rows ≡ rows_kept (take l.kept-index l.parts)

@@ -1,0 +1,73 @@
+use Rattle.std.proofs.lemmas.Result.{IfOk-weaker}
+use Rattle.std.proofs.Common.{◌≡◌, ◌∙◌, List, Ok, length, map, sym, ap, subst, arith}
+use Rattle.mt_base.specs.Stops.{Refuses}
+use Rattle.mt_values.specs.declared.schema.Column.{Column}
+use Rattle.mt_model.specs.Explain.{Portion, counts_of, explain_line}
+use Rattle.mt_model.specs.Queries.{query_of}
+use Rattle.mt_model.proofs.Causes.{query_is_cause, undamaged_line}
+use Rattle.part_history.proofs.Portions.{portions_stand}
+use Rattle.part_history.specs.Parts.{portion_of}
+use Rattle.replies.proofs.Causing.{says_script}
+use Rattle.replies.proofs.Ends.{length_history}
+use Rattle.replies.proofs.Refusing.{explain_refused, explains_all}
+use Rattle.replies.proofs.Undamaged.{line_of}
+use Rattle.replies.specs.Foreseen.{history}
+use Rattle.root_store.specs.Stores.{core_parts}
+use Rattle.select_plan.specs.Plans.{counts_over}
+use Rattle.session.proofs.Accepting.{refused_as}
+use Rattle.session.proofs.Asking.{query_is}
+use Rattle.session.proofs.Explaining.{counts_are, explains, plan_is}
+use Rattle.session.proofs.SelectStanding.{snap_held, snap_schema}
+use Rattle.session.proofs.explains.count_reads.Goals as goal
+
+-- the columns of a table are not too many
+pub query_of-requires : goal.query_of-requires
+query_of-requires g c =
+    let few = c.requires.few in
+    omega (arith, few, ap length c.as_slice.ensures)
+
+-- what it is refused for
+pub returns-in-Err-Refused-clause-answers : goal.returns-in-Err-Refused-clause-answers
+returns-in-Err-Refused-clause-answers g c = λ kept store stands pinned.
+    let text = c.args.text.now in
+    let there = snap_schema g.F.Dir.files (history kept) store stands text.table c.args.snap.now pinned in
+    let asked = ap (λ (cs : List Column). query_of cs text) (sym c.as_slice.ensures)
+    ∙ subst (Refuses (query_of c.as_slice.result.now text)) c.in-Err-Refused.field-0-is c.in-Err-Refused.ensures in
+    IfOk-weaker c.refused.result _ _ (λ line is n. explain_refused n kept line text c.in-Err-Refused.refusal (query_is text (history kept) c.args.snap.now.schema there ∙ asked) is)
+    (refused_as _ c.in-Err-Refused.refusal c.refused.result c.in-Err-Refused.refusal-is c.refused.ensures)
+
+pub returns-in-Err-Refused-clause-undamaged : goal.returns-in-Err-Refused-clause-undamaged
+returns-in-Err-Refused-clause-undamaged g c =
+    let text = c.args.text.now in
+    let asked = ap (λ (cs : List Column). query_of cs text) (sym c.as_slice.ensures)
+    ∙ subst (Refuses (query_of c.as_slice.result.now text)) c.in-Err-Refused.field-0-is c.in-Err-Refused.ensures in
+    IfOk-weaker c.refused.result _ _ (λ line is. line_of line c.in-Err-Refused.refusal is (undamaged_line c.in-Err-Refused.refusal (query_is_cause c.args.snap.now.schema.columns text c.in-Err-Refused.refusal asked)))
+    (refused_as _ c.in-Err-Refused.refusal c.refused.result c.in-Err-Refused.refusal-is c.refused.ensures)
+
+pub returns-in-Err-Refused-clause-causes : goal.returns-in-Err-Refused-clause-causes
+returns-in-Err-Refused-clause-causes g c = λ opened disk arm.
+    let text = c.args.text.now in
+    let asked = ap (λ (cs : List Column). query_of cs text) (sym c.as_slice.ensures)
+    ∙ subst (Refuses (query_of c.as_slice.result.now text)) c.in-Err-Refused.field-0-is c.in-Err-Refused.ensures in
+    IfOk-weaker c.refused.result _ _ (λ line is. says_script opened disk disk arm arm line c.in-Err-Refused.refusal is (query_is_cause c.args.snap.now.schema.columns text c.in-Err-Refused.refusal asked))
+    (refused_as _ c.in-Err-Refused.refusal c.refused.result c.in-Err-Refused.refusal-is c.refused.ensures)
+
+-- the numbers of the plan
+pub returns-clause-answers : goal.returns-clause-answers
+returns-clause-answers g c = λ kept store stands pinned.
+    let files = g.F.Dir.files in
+    let text = c.args.text.now in
+    let snap = c.args.snap.now in
+    let schema = snap.schema in
+    let q = c.in-Ok.query in
+    let there = snap_schema files (history kept) store stands text.table snap pinned in
+    let held = snap_held files (history kept) store stands text.table snap pinned in
+    let asked : query_of schema.columns text ≡ Ok q = ap (λ (cs : List Column). query_of cs text) (sym c.as_slice.ensures) ∙ c.in-Ok.ensures in
+    let ps : List Portion = map portion_of (core_parts text.table snap.parts.items held.rows) in
+    let counted : c.in-Some.counts ≡ counts_of schema q.condition ps =
+    c.in-Some.ensures ∙ ap counts_over (c.in_ok-planned.ensures ∙ plan_is files schema q.condition text.table snap.parts.items held.rows held.hold)
+    ∙ counts_are schema q.condition ps in
+    let place : snap.length ≡ length kept.list = pinned.length_is ∙ (stands.length_is ∙ length_history kept) in
+    IfOk-weaker c.explained.result _ _ (λ reply is n.
+    explains_all n kept reply text (explains (history kept) text schema q ps c.in-Some.counts (length kept.list) reply there asked
+    (portions_stand (history kept) text.table schema there (core_parts text.table snap.parts.items held.rows) held.stand) counted (is ∙ ap (explain_line c.in-Some.counts) place))) c.explained.ensures

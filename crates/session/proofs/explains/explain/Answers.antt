@@ -1,0 +1,33 @@
+use Rattle.std.proofs.lemmas.Result.{IfOk-weaker}
+use Rattle.std.proofs.Common.{sym, subst}
+use Rattle.mt_model.specs.declared.refusal.Refusal.TheVariants as refusal
+use Rattle.mt_model.specs.History.{IsTableSchema}
+use Rattle.replies.specs.Foreseen.{history}
+use Rattle.replies.proofs.Refusing.{explain_refused}
+use Rattle.session.proofs.Asking.{no_query}
+use Rattle.session.proofs.SelectStanding.{no_table}
+use Rattle.shared_store.specs.Engines.{Snaps}
+use Rattle.session.proofs.explains.explain.Goals as goal
+
+-- there is no such table
+pub returns-in_default-clause-answers : goal.returns-in_default-clause-answers
+returns-in_default-clause-answers g c = λ kept knows.
+    let text = c.args.text.now in
+    let here = c.args.engine.now in
+    let none = no_table g.F.Dir.files (history kept) here.store knows.stands text.table (subst (Snaps here.store text.table) c.in_default.is c.in_ok-snap.ensures.snap) in
+    IfOk-weaker c.no_table_line.result _ _ (λ line is n. explain_refused n kept line text (refusal.NoTable text.table) (no_query text (history kept) none) is) c.no_table_line.ensures
+
+-- a table of the store has a schema that a table may have
+pub count_reads-reply-requires-after_bounds : goal.count_reads-reply-requires-after_bounds
+count_reads-reply-requires-after_bounds g c κs within =
+    let text = c.args.text.now in
+    let pinned = subst (Snaps c.args.engine.now.store text.table) c.in-Some.is c.in_ok-snap.ensures.snap in
+    subst IsTableSchema (sym pinned.schema) (c.snapshot.ensures.open.sound.tables text.table pinned.made pinned.there).schema
+
+-- the numbers of the pinned table
+pub returns-clause-answers : goal.returns-clause-answers
+returns-clause-answers g c = λ kept knows.
+    let text = c.args.text.now in
+    let store = c.args.engine.now.store in
+    let pinned = subst (Snaps store text.table) c.in-Some.is c.in_ok-snap.ensures.snap in
+    c.count_reads-reply.ensures.answers kept store knows.stands pinned

@@ -1,0 +1,75 @@
+// Running an EXPLAIN: a table is pinned in one turn, and what a SELECT would read of its parts is counted outside of it. No file is read.
+ghost use Rattle.std.specs.Prelude.{◌≡◌, ℕ, false, IfOk};
+ghost use Rattle.mt_values.specs.Annals.{Told};
+ghost use Rattle.mt_model.specs.History.{IsTableSchema};
+ghost use Rattle.mt_model.specs.Refusals.{is_damage};
+ghost use Rattle.replies.specs.Causes.{HasCauses};
+ghost use Rattle.replies.specs.Foreseen.{Explained, history};
+ghost use Rattle.root_store.specs.declared.store.CoreStore.{CoreStore};
+ghost use Rattle.root_store.specs.Stores.{CoreStands};
+ghost use Rattle.session.specs.Answers.{Knows};
+ghost use Rattle.shared_store.specs.Engines.{IsOpen, IsSnapOf};
+
+use mt_base::{NoMemory, Stop};
+use mt_model::query_of;
+use mt_outside::{Arm, Dir, Disk};
+use mt_values::{Annals, SelectText};
+use part_reader::Part;
+use part_set::Snap;
+use replies::{Reply, explained, no_table_line};
+use select_plan::plan;
+use shared_store::Engine;
+use std::alloc::Global;
+
+/// How many parts and granules of a pinned table a SELECT would read, unless it is refused. It takes no turn.
+///
+/// `NoMemory` where an allocation failed, or 64 bits can't count the granules.
+pub fn count_reads<F: Dir>(
+    alloc: Global,
+    snap: &Snap<Part<F>>,
+    text: &SelectText,
+) -> Result<Reply, NoMemory>
+    requires { IsTableSchema snap.now.schema }
+    ensures answers { (kept : Told) (store : CoreStore F) → CoreStands F.files (history kept) store
+        → IsSnapOf store text.now.table snap.now → IfOk result (Explained kept text.now) }
+    ensures undamaged { IfOk result (λ reply. is_damage reply ≡ false) }
+    ensures causes { (opened disk arm : ℕ) → IfOk result (HasCauses opened disk disk arm arm) }
+{
+    let query = match query_of(alloc, snap.schema.columns.as_slice(), text) {
+        Ok(query) => query,
+        Err(Stop::Refused(refusal)) => return Reply::refused(alloc, &refusal),
+        Err(Stop::NoMemory) => return Err(NoMemory),
+    };
+    let planned = plan(alloc, snap, &query)?;
+    let Some(counts) = planned.counts() else {
+        return Err(NoMemory);
+    };
+    explained(alloc, &counts, snap.length)
+}
+
+/// How many parts and granules of a table, as it is at one turn, a SELECT would read, unless it is refused.
+///
+/// `NoMemory` where an allocation failed; nothing changed.
+pub fn explain<F: Dir, R: Arm<Dir = F>, D: Disk<Arm = R>, A: Annals>(
+    alloc: Global,
+    engine: &mut Engine<F, R, D, A>,
+    text: &SelectText,
+) -> Result<Reply, NoMemory>
+    // What is answered, and why.
+    ensures answers { (kept : Told) → Knows F.files kept engine.old
+        → IfOk result (Explained kept text.now) }
+    ensures undamaged { IfOk result (λ reply. is_damage reply ≡ false) }
+    ensures causes { (opened disk arm : ℕ) → IfOk result (HasCauses opened disk disk arm arm) }
+
+    ensures open { IsOpen engine.old }
+
+    // What stays.
+    ensures stays { engine.new ≡ engine.old }
+{
+    let Some(snap) = engine.snapshot(alloc, &text.table)? else {
+        return no_table_line(alloc, &text.table);
+    };
+    let reply = count_reads(alloc, &snap, text);
+    engine.give_back(snap);
+    reply
+}
