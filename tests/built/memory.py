@@ -7,6 +7,7 @@ until there are no more (`refuse.c`, loaded into the program by LD_PRELOAD); in 
   insert   two INSERTs over three partitions and a SELECT, over a folder with a table that has parts
   open     no statement, over a folder with two tables that have parts
   select   two SELECTs, over the same
+  where    SELECTs with conditions and an EXPLAIN, over a folder with a table that has parts
 Wanted are (docs/replies.md, "Statuses")
   of the run            status 6, and the replies to the first statements, whole; all replies and status 0 where the program did without
                         what was refused
@@ -33,8 +34,8 @@ MOST = 5000
 TABLE = "CREATE TABLE t (p UInt8, a UInt16, s String) ENGINE = MergeTree PARTITION BY p ORDER BY a;\n"
 OTHER = "CREATE TABLE u (a UInt16) ENGINE = MergeTree ORDER BY a;\nINSERT INTO u;\n4\n3\n\\.\n"
 
-# A statement of a script: its text, and the rows of t that each of its commands adds.
-Statement = collections.namedtuple("Statement", "text adds")
+# A statement of a script: its text, the rows of t that each of its commands adds, and its reply where it is neither OK nor all rows of t.
+Statement = collections.namedtuple("Statement", "text adds reply", defaults=[None])
 
 
 def insert(*partitions):
@@ -51,11 +52,17 @@ CREATE = Statement(TABLE, [[]])
 SELECT = Statement("SELECT * FROM t;\n", [])
 Sweep = collections.namedtuple("Sweep", "before script")
 BASE = [CREATE, insert(1, 3, 1)]
+ASKED = [
+    Statement("SELECT s FROM t WHERE a > 7 AND NOT p = 3;\n", [], b"ROWS 1 PREFIX 3\nrow 0\n"),
+    Statement("SELECT p FROM t WHERE s IN ('row 1', 'row 2') OR (a = 9 AND s < 'x');\n", [], b"ROWS 3 PREFIX 3\n1\n1\n3\n"),
+    Statement("EXPLAIN SELECT s FROM t WHERE p = 3;\n", [], b"PARTS 1/2 GRANULES 1/2 PREFIX 3\n"),
+]
 SWEEPS = {
     "new": Sweep([], [CREATE, insert(2, 1, 2, 3), SELECT]),
     "insert": Sweep(BASE, [insert(2, 1, 2, 3), insert(3, 2, 1), SELECT]),
     "open": Sweep([*BASE, Statement(OTHER, [[], []])], []),
     "select": Sweep([*BASE, Statement(OTHER, [[], []])], [SELECT, SELECT]),
+    "where": Sweep(BASE, ASKED),
 }
 
 
@@ -80,7 +87,7 @@ def replies_of(sweep):
     done, replies = commands_of(sweep.before), []
     for statement in sweep.script:
         done = done + statement.adds
-        replies.append(f"OK {len(done)}\n".encode() if statement.adds else table_after(done))
+        replies.append(statement.reply or (f"OK {len(done)}\n".encode() if statement.adds else table_after(done)))
     return replies
 
 

@@ -14,11 +14,13 @@
 #   before.sql     a script that is run before, with the same words in the same folder
 #   change.sh      commands that change the folder of the run, after that script
 #   beside.sql     the script of a run that has opened the folder before the case's run, and goes on once that has ended
+#   beside.sh      commands that change the folder of the run, once the run beside it has opened it
 #   after.sql      a script that is run at the end, with the same words in the same folder
 #   stdout         what is to be printed, to the byte; none: nothing
 #   status         the status that is wanted; none: 0
 #   seconds        how long the run may take, where it has to wait for many syncs; none: 60
-#   beside.stdout  what the run beside it is to print, which is to end with 0
+#   beside.stdout  what the run beside it is to print
+#   beside.status  the status with which it is to end; none: 0
 #   after.stdout   what the run at the end is to print, whatever its status
 #   files          what is to lie in the folder of the run at the end, in the order of the paths' bytes: a file as its path, a space
 #                  and its bytes in hexadecimal digits, an empty folder as its path and a slash; none: that is not compared
@@ -70,8 +72,9 @@ files_in() {
 
 # Prints how a run differs from the files of its case: nothing where it does not.
 differences() {
-    local status=$1 wanted printed
+    local status=$1 wanted wanted_beside printed
     wanted=$(cat "$folder/status" 2>/dev/null || echo 0)
+    wanted_beside=$(cat "$folder/beside.status" 2>/dev/null || echo 0)
     printed=$(first_of "$folder/stdout" /dev/null)
     if [ "$status" != "$wanted" ]; then
         printf 'status %s in place of %s; ' "$status" "$wanted"
@@ -79,8 +82,8 @@ differences() {
     if ! cmp -s "$work/out" "$printed"; then
         printf 'other output: %s; ' "$(diff "$printed" "$work/out" | tr '\n' '|')"
     fi
-    if [ -e "$folder/beside.sql" ] && [ "$besides" != 0 ]; then
-        printf 'status %s of the run beside it; ' "$besides"
+    if [ -e "$folder/beside.sql" ] && [ "$besides" != "$wanted_beside" ]; then
+        printf 'status %s in place of %s of the run beside it; ' "$besides" "$wanted_beside"
     fi
     if [ -e "$folder/beside.sql" ] && ! cmp -s "$work/beside" "$folder/beside.stdout"; then
         printf 'other replies beside it: %s; ' "$(diff "$folder/beside.stdout" "$work/beside" | tr '\n' '|')"
@@ -110,7 +113,8 @@ run_closed() {
     (cd "$work/room" && exec timeout "$seconds" bash -c "exec \"\$0\" \"\$@\" $closing" "$program" "$@")
 }
 
-# Starts the run beside the case's, and waits until it holds the folder. It is given its script later.
+# Starts the run beside the case's, and waits until it holds the folder and sleeps: it has opened the folder then, and waits for its
+# script, which it is given later.
 start_beside() {
     local tries
     rm -f "$work/later"
@@ -119,7 +123,7 @@ start_beside() {
     beside=$!
     exec {later}>"$work/later"
     for tries in $(seq 500); do
-        if cat "/proc/$beside/fdinfo/"* 2>/dev/null | grep -q '^lock:'; then
+        if cat "/proc/$beside/fdinfo/"* 2>/dev/null | grep -q '^lock:' && grep -q '^State:.S' "/proc/$beside/status"; then
             return
         fi
         sleep 0.02
@@ -176,6 +180,9 @@ try_case() {
     fi
     if [ -e "$folder/beside.sql" ]; then
         start_beside "${words[@]}"
+    fi
+    if [ -e "$folder/beside.sh" ]; then
+        (cd "$work/room" && bash -e "$folder/beside.sh")
     fi
     run_closed "${words[@]}" <"$source" >"$sink" || status=$?
     if [ -e "$folder/beside.sql" ]; then

@@ -1,0 +1,711 @@
+#!/usr/bin/env python3
+"""Works out what the program is to answer, by docs/grammar.md, docs/replies.md and docs/definitions.md, and not by its code.
+
+    tests/answers.py < SCRIPT      prints the replies to a script over an empty root, and ends with the status of its run
+    tests/answers.py cases         compares what it works out with the stdout of run_cases and of the cases of tests/built, where it can
+    tests/answers.py fill < LINES  prints directives of run_cases with what they come to, to be put into its stdin and stdout
+
+It knows an outside without faults: CREATE, INSERT, SELECT and EXPLAIN over what this and earlier runs accepted. It is slow and plain: a
+SELECT asks each row, and only an EXPLAIN looks at boxes. Where an EXPLAIN passes over a granule it asks each of its rows too, and fails
+where one meets the condition.
+"""
+import hashlib
+import os
+import re
+import subprocess
+import sys
+
+HERE = os.path.dirname(os.path.realpath(__file__))
+CASES = os.path.join(HERE, "..", "crates", "run_cases")
+BUILT = os.path.join(HERE, "built", "cases")
+BITS = {b"UInt8": 8, b"UInt16": 16, b"UInt32": 32, b"UInt64": 64, b"Int8": 8, b"Int16": 16, b"Int32": 32, b"Int64": 64}
+BLANKS = b" \t\r\n"
+RESERVED = {b"AND", b"OR", b"NOT", b"IN", b"FROM", b"FINAL", b"WHERE", b"INDEX"}
+ESCAPES = {ord("b"): 8, ord("f"): 12, ord("r"): 13, ord("n"): 10, ord("t"): 9, ord("0"): 0, ord("a"): 7, ord("v"): 11}
+PRINTED = {8: b"\\b", 12: b"\\f", 13: b"\\r", 10: b"\\n", 9: b"\\t", 0: b"\\0", 39: b"\\'", 92: b"\\\\"}
+WORD = re.compile(rb"[A-Za-z_][A-Za-z0-9_]*")
+NUMBER = re.compile(rb"[0-9]+(?![A-Za-z0-9_])")
+SYMBOL = re.compile(rb"!=|<>|<=|>=|[(),=<>*+\-;]")
+STRING = re.compile(rb"'((?:[^'\\]|''|\\[\s\S])*)'(?!')")
+TAKEN = re.compile(rb"\\x([0-9A-Fa-f]{2})|\\([^xN])|\\[xN]|''")
+BLANK = re.compile(rb"(?:[ \t\r\n]|--[^\n]*)*")
+LINE = re.compile(rb"(?:[^\\\n]|\\[\s\S])*")
+FIELD = re.compile(rb"(?:[^\\\t]|\\[\s\S])*")
+MOST_BYTES = 1 << 20
+MOST_ROWS = 1 << 20
+sys.set_int_max_str_digits(0)
+
+
+class Refused(Exception):
+    """A refusal: its line, and for one of the text its place and how it stands among others at that place."""
+
+    def __init__(self, line, place=0, rank=0):
+        super().__init__(line)
+        self.line, self.place, self.rank = line, place, rank
+
+
+def unescaped(text, at_quotes):
+    """What a text with escapes says; nothing where one is faulty. Two quotes are one in a string."""
+    faulty = False
+
+    def byte_of(match):
+        nonlocal faulty
+        if match[1]:
+            return bytes([int(match[1], 16)])
+        if match[2]:
+            return bytes([ESCAPES.get(match[2][0], match[2][0])])
+        if match[0] == b"''":
+            return b"'" if at_quotes else match[0]
+        faulty = True
+        return b""
+
+    said = TAKEN.sub(byte_of, text)
+    return None if faulty else said
+
+
+def escaped(text):
+    """A String as it is printed."""
+    return b"".join(PRINTED.get(byte, bytes([byte])) for byte in text)
+
+
+def value_of(kind, number):
+    """The value that a number is in a column of a type; nothing where it is out of range."""
+    if kind not in BITS:
+        return None
+    end = 1 << BITS[kind]
+    low, high = (0, end) if kind.startswith(b"U") else (-end // 2, end // 2)
+    return number if low <= number < high else None
+
+
+def field_value(kind, field):
+    """The value of a field of data; nothing where it is none."""
+    if kind == b"String":
+        return unescaped(field, False)
+    wanted = rb"\+?[0-9]+" if kind.startswith(b"U") else rb"[+-]?[0-9]+"
+    return value_of(kind, int(field)) if re.fullmatch(wanted, field) else None
+
+
+def same(left, right):
+    """Whether a word is a keyword, in any case."""
+    return left.upper() == right
+
+
+class Reader:
+    """Reads a text token by token, and stops at its first fault."""
+
+    def __init__(self, text):
+        self.text = text
+        self.next()
+
+    def next(self):
+        """Goes on to the next token: its kind, its bytes or what it says, and its place."""
+        self.place = BLANK.match(self.text, getattr(self, "after", 0)).end()
+        for kind, pattern in (("word", WORD), ("number", NUMBER), ("string", STRING), ("symbol", SYMBOL)):
+            found = pattern.match(self.text, self.place)
+            if found:
+                said = unescaped(found[1], True) if kind == "string" else found[0]
+                if said is None:
+                    break
+                self.kind, self.said, self.after = kind, said, found.end()
+                return
+        self.kind, self.said, self.after = "fault", b"", self.place
+
+    def fault(self):
+        """The token that stands here is the first fault."""
+        raise Refused(f"E01 {self.place}", self.place)
+
+    def takes(self, *texts):
+        """Takes one of some symbols or keywords, if it stands here, and says which."""
+        said = self.said.upper() if self.kind == "word" else self.said
+        if self.kind in ("word", "symbol") and said in texts:
+            self.next()
+            return said
+        return None
+
+    def wants(self, *texts):
+        """Takes keywords and symbols that must stand here."""
+        for text in texts:
+            if not self.takes(text):
+                self.fault()
+
+    def one_of(self, words):
+        """Takes one of some words, as it is written."""
+        if self.kind != "word" or self.said not in words:
+            self.fault()
+        return self.taken()
+
+    def taken(self):
+        said = self.said
+        self.next()
+        return said
+
+    def name(self):
+        if self.kind != "word" or self.said.upper() in RESERVED:
+            self.fault()
+        if len(self.said) > 64:
+            raise Refused("E12 name 64", self.place, 2)
+        return self.taken()
+
+    def names(self):
+        found = [self.name()]
+        while self.takes(b","):
+            found.append(self.name())
+        return found
+
+    def number(self):
+        if self.kind != "number":
+            self.fault()
+        return int(self.taken())
+
+    def key(self):
+        if not self.takes(b"("):
+            return [self.name()]
+        found = self.names()
+        self.wants(b")")
+        return found
+
+    def literal(self):
+        """A literal: its place, and the number or the bytes that it says."""
+        place = self.place
+        if self.kind == "string":
+            return place, self.taken()
+        sign = self.takes(b"+", b"-")
+        number = self.number()
+        return place, -number if sign == b"-" else number
+
+    def opened(self, depth):
+        """The depth with one more parenthesis or NOT open, which stands here."""
+        if depth == 64:
+            raise Refused("E12 depth 64", self.place, 2)
+        self.next()
+        return depth + 1
+
+    def term(self, depth):
+        if self.kind == "word" and same(self.said, b"NOT"):
+            return "not", [self.term(self.opened(depth))]
+        if self.kind == "symbol" and self.said == b"(":
+            inner = self.expression(self.opened(depth))
+            self.wants(b")")
+            return inner
+        column = self.name()
+        sign = self.takes(b"=", b"!=", b"<>", b"<", b"<=", b">", b">=", b"IN")
+        if not sign:
+            self.fault()
+        if sign != b"IN":
+            return "test", column, sign, [self.literal()]
+        self.wants(b"(")
+        literals = [self.literal()]
+        while self.takes(b","):
+            literals.append(self.literal())
+        self.wants(b")")
+        return "test", column, b"=", literals
+
+    def joined(self, word, part, depth):
+        found = [part(depth)]
+        while self.takes(word):
+            found.append(part(depth))
+        return found[0] if len(found) == 1 else ("and" if word == b"AND" else "or", found)
+
+    def expression(self, depth):
+        return self.joined(b"OR", lambda deep: self.joined(b"AND", self.term, deep), depth)
+
+    def select(self, is_explained):
+        columns = None if self.takes(b"*") else self.names()
+        self.wants(b"FROM")
+        table = self.name()
+        condition = self.expression(0) if self.takes(b"WHERE") else ("and", [])
+        self.wants(b";")
+        return "explain" if is_explained else "select", table, columns, condition
+
+    def clauses(self, create):
+        while True:
+            clause = self.takes(b"ORDER", b"PRIMARY", b"PARTITION", b"SETTINGS") if self.kind == "word" else None
+            if clause is None:
+                break
+            if clause in create["clauses"]:
+                raise Refused(f"E01 {create['at']}", create["at"])
+            if clause == b"SETTINGS":
+                self.one_of([b"index_granularity"])
+                self.wants(b"=")
+                create["clauses"][clause] = self.number()
+            else:
+                self.wants(b"KEY" if clause == b"PRIMARY" else b"BY")
+                create["clauses"][clause] = [self.name()] if clause == b"PARTITION" else self.key()
+            create["at"] = self.place
+        if b"ORDER" not in create["clauses"]:
+            self.fault()
+        self.wants(b";")
+
+    def create(self):
+        self.wants(b"TABLE")
+        create = {"table": self.name(), "columns": [], "clauses": {}}
+        self.wants(b"(")
+        create["columns"].append((self.name(), self.one_of([*BITS, b"String"])))
+        while self.takes(b","):
+            create["columns"].append((self.name(), self.one_of([*BITS, b"String"])))
+        self.wants(b")", b"ENGINE", b"=")
+        self.one_of([b"MergeTree"])
+        if self.takes(b"("):
+            self.wants(b")")
+        create["at"] = self.place
+        self.clauses(create)
+        return "create", create
+
+    def insert(self):
+        self.wants(b"INTO")
+        table = self.name()
+        if self.takes(b"FORMAT"):
+            self.one_of([b"TabSeparated", b"TSV"])
+        self.wants(b";")
+        return "insert", table
+
+    def statement(self):
+        first = self.takes(b"CREATE", b"INSERT", b"SELECT", b"EXPLAIN") if self.kind == "word" else None
+        if first == b"CREATE":
+            return self.create()
+        if first == b"INSERT":
+            return self.insert()
+        if first == b"EXPLAIN":
+            self.wants(b"SELECT")
+        elif first != b"SELECT":
+            self.fault()
+        return self.select(first == b"EXPLAIN")
+
+
+def end_of(script, place):
+    """The place of the first semicolon outside strings and comments from a place on; nothing where there is none."""
+    step = re.compile(rb"(?:[^;'\-]|-(?!-)|--[^\n]*|'(?:[^'\\]|\\[\s\S])*')*")
+    found = step.match(script, place).end()
+    return found if script[found:found + 1] == b";" else None
+
+
+def statements_of(script):
+    """The statements of a script: each what it says or its refusal, with its data, which is nothing where it takes none."""
+    place = 0
+    while True:
+        place = re.compile(rb"(?:[ \t\r\n;]|--[^\n]*)*").match(script, place).end()
+        if place == len(script):
+            return
+        end = end_of(script, place)
+        text = script[place:] if end is None else script[place:end + 1]
+        size = len(text) if end is None else len(text) - 1
+        start, place = place, len(script) if end is None else end + 1
+        first = WORD.match(text)
+        takes_data = end is not None and first is not None and same(first[0], b"INSERT")
+        refusals = [Refused("E12 statement 1048576", MOST_BYTES, 1)] if size > MOST_BYTES else []
+        statement = None
+        try:
+            statement = Reader(text).statement()
+        except Refused as refusal:
+            refusals.append(refusal)
+        data = None
+        if takes_data:
+            other = re.compile(rb"[ \t\r]*").match(script, place).end()
+            if script[other:other + 1] not in (b"\n", b""):
+                refusals.append(Refused(f"E01 {other - start}", other - start))
+            line = script.find(b"\n", other)
+            data, place = lines_of(script, len(script) if line < 0 else line + 1)
+        yield min(refusals, key=lambda each: (each.place, each.rank)) if refusals else statement, data
+
+
+def lines_of(script, place):
+    """The lines of data from a place on, whether they come to their end, and the place after them."""
+    lines = []
+    while True:
+        end = LINE.match(script, place).end()
+        line, is_whole = script[place:end], script[end:end + 1] == b"\n"
+        if line == b"\\." and (is_whole or end == len(script)):
+            return (lines, True), end + 1
+        if not is_whole:
+            return (lines, False), len(script)
+        lines.append(line)
+        place = end + 1
+
+
+def first_double(names):
+    """The first name that repeats an earlier one; nothing where none does."""
+    return next((name for place, name in enumerate(names) if name in names[:place]), None)
+
+
+def schema_of(create):
+    """The schema of a CREATE."""
+    columns, clauses = create["columns"], create["clauses"]
+    names = [name for name, _ in columns]
+    for clause, value in clauses.items():
+        for name in value if clause != b"SETTINGS" else []:
+            if name not in names:
+                raise Refused(b"E04 " + name)
+    sorting, primary = clauses[b"ORDER"], clauses.get(b"PRIMARY", clauses[b"ORDER"])
+    parting = clauses.get(b"PARTITION", [None])[0]
+    doubles = [first_double(names)] + [first_double(clauses[each]) for each in clauses if each in (b"ORDER", b"PRIMARY")]
+    for reason, name in zip([b"column", b"key", b"key"], doubles):
+        if name is not None:
+            raise Refused(b"E05 double_" + reason + b" " + name)
+    for place, name in enumerate(primary):
+        if sorting[place:place + 1] != [name]:
+            raise Refused(b"E05 not_prefix " + name)
+    if parting is not None and not dict(columns)[parting].startswith(b"U"):
+        raise Refused(b"E05 partition_type " + parting)
+    if not 1 <= clauses.get(b"SETTINGS", 8192) <= 65536:
+        raise Refused(b"E05 granularity -")
+    if len(columns) > 64:
+        raise Refused(b"E12 columns 64")
+    place = names.index
+    return {
+        "columns": columns,
+        "names": names,
+        "sorting": [place(name) for name in sorting],
+        "primary": [place(name) for name in primary],
+        "partition": None if parting is None else place(parting),
+        "granularity": clauses.get(b"SETTINGS", 8192),
+    }
+
+
+def rows_of(schema, data):
+    """The rows of an INSERT's data."""
+    lines, is_ended = data
+    kinds = [kind for _, kind in schema["columns"]]
+    rows = []
+    for number, line in enumerate(lines, 1):
+        if number > MOST_ROWS:
+            raise Refused(b"E12 rows 1048576")
+        fields, place = [], -1
+        while place < len(line):
+            end = FIELD.match(line, place + 1).end()
+            fields.append(line[place + 1:end])
+            place = end
+        if len(fields) != len(kinds):
+            raise Refused(f"E07 {number} {len(fields)} {len(kinds)}")
+        row = [field_value(kind, field) for kind, field in zip(kinds, fields)]
+        for field, value in enumerate(row, 1):
+            if value is None:
+                raise Refused(f"E08 {number} {field}")
+            if isinstance(value, bytes) and len(value) > MOST_BYTES:
+                raise Refused(b"E12 value 1048576")
+        rows.append(row)
+    if not is_ended:
+        raise Refused(f"E13 {len(rows)}")
+    return rows
+
+
+def tests_of(condition):
+    """The tests of a condition, in the order of the text."""
+    if condition[0] == "test":
+        return [condition]
+    return [test for part in condition[1] for test in tests_of(part)]
+
+
+def asked_of(schema, condition):
+    """The condition with the places of its columns and the values of its literals."""
+    if condition[0] != "test":
+        return condition[0], [asked_of(schema, part) for part in condition[1]]
+    _, column, sign, literals = condition
+    place = schema["names"].index(column)
+    kind, values = schema["columns"][place][1], []
+    for at, said in literals:
+        value = value_of(kind, said) if isinstance(said, int) else said if kind == b"String" else None
+        if value is None:
+            raise Refused(b"E06 " + column + b" " + str(at).encode())
+        values.append(value)
+    return "test", place, sign, values
+
+
+COMPARED = {
+    b"=": lambda value, literal: value == literal,
+    b"!=": lambda value, literal: value != literal,
+    b"<>": lambda value, literal: value != literal,
+    b"<": lambda value, literal: value < literal,
+    b"<=": lambda value, literal: value <= literal,
+    b">": lambda value, literal: value > literal,
+    b">=": lambda value, literal: value >= literal,
+}
+OTHER = {b"=": b"!=", b"!=": b"=", b"<>": b"=", b"<": b">=", b"<=": b">", b">": b"<=", b">=": b"<"}
+
+
+def meets(condition, row):
+    """Whether a row meets a condition."""
+    if condition[0] == "test":
+        return any(COMPARED[condition[2]](row[condition[1]], literal) for literal in condition[3])
+    truths = [meets(part, row) for part in condition[1]]
+    return not truths[0] if condition[0] == "not" else all(truths) if condition[0] == "and" else any(truths)
+
+
+def may_be(sign, low, high, literal):
+    """Whether some value of a range may compare so with a literal."""
+    if sign == b"=":
+        return low <= literal <= high
+    if sign in (b"!=", b"<>"):
+        return not low == high == literal
+    return COMPARED[sign](low if sign in (b"<", b"<=") else high, literal)
+
+
+def can(condition, box):
+    """Whether a condition may be true, and whether it may be false, in a box of a range or nothing for each column."""
+    if condition[0] == "test":
+        _, place, sign, literals = condition
+        if box[place] is None:
+            return True, True
+        low, high = box[place]
+        yes = any(may_be(sign, low, high, literal) for literal in literals)
+        return yes, all(may_be(OTHER[sign], low, high, literal) for literal in literals)
+    parts = [can(part, box) for part in condition[1]]
+    if condition[0] == "not":
+        return parts[0][1], parts[0][0]
+    yes, no = [part[0] for part in parts], [part[1] for part in parts]
+    return (all(yes), any(no)) if condition[0] == "and" else (any(yes), all(no))
+
+
+def box_of(schema, partition, first, last):
+    """The box of a partition's rows from one key to another."""
+    box = [None] * len(schema["columns"])
+    for place in schema["primary"]:
+        box[place] = first[place], last[place]
+        if first[place] != last[place]:
+            break
+    if schema["partition"] is not None:
+        box[schema["partition"]] = partition, partition
+    return box
+
+
+class Store:
+    """What was accepted: tables, each with its schema and its parts of a partition and sorted rows; and the list of the commands."""
+
+    def __init__(self):
+        self.tables, self.commands = {}, []
+
+    @property
+    def length(self):
+        return len(self.commands)
+
+    def create(self, create):
+        schema = schema_of(create)
+        if create["table"] in self.tables:
+            raise Refused(b"E03 " + create["table"])
+        if len(self.tables) == 64:
+            raise Refused(b"E12 tables 64")
+        self.tables[create["table"]] = schema, []
+        self.commands.append((create["table"], schema))
+        return f"OK {self.length}\n".encode()
+
+    def insert(self, table, data):
+        schema, parts = self.found(table)
+        groups = {}
+        for row in rows_of(schema, data):
+            groups.setdefault(None if schema["partition"] is None else row[schema["partition"]], []).append(row)
+        for accepted, (partition, rows) in enumerate(groups.items()):
+            if sum(part[0] == partition for part in parts) == 3000:
+                raise Refused(f"E12 parts 3000 {accepted}")
+            parts.append((partition, sorted(rows, key=lambda row: [row[place] for place in schema["sorting"]])))
+            self.commands.append((table, partition, rows))
+        return f"OK {self.length}\n".encode()
+
+    def names(self):
+        """The names of the root, in the order of their bytes."""
+        found = []
+        for table, (_, parts) in self.tables.items():
+            found.append(table + b".create")
+            for number, (partition, _) in enumerate(parts, 1):
+                text = b"all" if partition is None else b"%d" % partition
+                found.append(b"%s.part_%s_%d_%d_0" % (table, text, number, number))
+        return sorted(found)
+
+    def found(self, table):
+        if table not in self.tables:
+            raise Refused(b"E02 " + table)
+        return self.tables[table]
+
+    def asked(self, table, columns, condition):
+        """The table, the places of the columns that are selected, and the condition."""
+        schema, parts = self.found(table)
+        names = schema["names"] if columns is None else columns
+        for name in names + [test[1] for test in tests_of(condition)]:
+            if name not in schema["names"]:
+                raise Refused(b"E04 " + name)
+        return schema, parts, [schema["names"].index(name) for name in names], asked_of(schema, condition)
+
+    def select(self, *text):
+        _, parts, places, condition = self.asked(*text)
+        rows = [row for _, rows in parts for row in rows if meets(condition, row)]
+        found = sorted([row[place] for place in places] for row in rows)
+        lines = [b"ROWS %d PREFIX %d" % (len(found), self.length)]
+        for row in found:
+            lines.append(b"\t".join(escaped(value) if isinstance(value, bytes) else b"%d" % value for value in row))
+        return b"\n".join(lines) + b"\n"
+
+    def explain(self, *text):
+        schema, parts, _, condition = self.asked(*text)
+        chosen = []
+        for partition, rows in parts:
+            size = schema["granularity"]
+            starts = range(0, len(rows), size)
+            ends = [rows[start] for start in starts][1:] + rows[-1:]
+            boxes = [box_of(schema, partition, rows[start], end) for start, end in zip(starts, ends)]
+            chosen.append([can(condition, box)[0] for box in boxes])
+            for start, is_chosen in zip(starts, chosen[-1]):
+                assert is_chosen or not any(meets(condition, row) for row in rows[start:start + size])
+        told = sum(map(any, chosen)), len(parts), sum(map(sum, chosen)), sum(map(len, chosen)), self.length
+        return b"PARTS %d/%d GRANULES %d/%d PREFIX %d\n" % told
+
+    def answer(self, statement, data):
+        """The reply to a statement."""
+        if isinstance(statement, Refused):
+            raise statement
+        kind, *rest = statement
+        return getattr(self, kind)(*rest, *([data] if kind == "insert" else []))
+
+    def run(self, script):
+        """The status and the replies of a script."""
+        status, replies = 0, []
+        for statement, data in statements_of(script):
+            try:
+                replies.append(self.answer(statement, data))
+            except Refused as refusal:
+                line = refusal.line.encode() if isinstance(refusal.line, str) else refusal.line
+                replies.append(line + b"\n")
+                status = 1
+        return status, b"".join(replies)
+
+
+def bytes_of(text):
+    """The bytes that a directive writes."""
+    found = {b"\\n": b"\n", b"\\t": b"\t", b"\\\\": b"\\"}
+    taken = re.compile(rb"\\x([0-9a-f]{2})|\\[nt\\]")
+    return b"" if text == b'""' else taken.sub(lambda m: bytes([int(m[1], 16)]) if m[1] else found[m[0]], text)
+
+
+def shown(replies):
+    """Replies as an answer shows them."""
+    if len(replies) > 1000:
+        return b"%d bytes, SHA-256 %s" % (len(replies), hashlib.sha256(replies).hexdigest().encode())
+    names = {9: b"\\t", 10: b"\\n", 13: b"\\r", 34: b'\\"', 39: b"\\'", 92: b"\\\\"}
+    plain = lambda byte: bytes([byte]) if 32 <= byte < 127 else b"\\x%02x" % byte
+    return b'"' + b"".join(names.get(byte) or plain(byte) for byte in replies) + b'"'
+
+
+class Bench:
+    """What directives come to, where no fault, damage or crash is set up."""
+
+    def __init__(self):
+        self.case, self.script, self.store, self.left, self.named = b"", b"", None, None, {}
+
+    def ran(self, store):
+        status, replies = store.run(self.script)
+        return b"%d, %d accepted: %s" % (status, store.length, shown(replies))
+
+    def allows(self, rest):
+        """Whether a script may leave the history of another one and print a text."""
+        first, second, text = (rest + b"  ").split(b" ", 2)
+        found, wanted = Store(), Store()
+        wanted.run(self.named[second])
+        return found.run(self.named[first])[1] == bytes_of(text[:-2]) and found.commands == wanted.commands
+
+    def told(self, line):
+        """The line that a directive comes to; nothing where none is worked out."""
+        word, _, rest = line.partition(b" ")
+        if word == b"case":
+            self.case = rest
+        elif word in (b"script", b"add") or word in (b"check", b"run", b"again", b"probe") and rest:
+            self.script = bytes_of(rest) if word != b"add" else self.script + bytes_of(rest)
+        elif word == b"repeat":
+            count, _, text = rest.partition(b" ")
+            self.script += int(count) * bytes_of(text)
+        if word == b"check":
+            return b"  %s: three alike, %s" % (self.case, self.ran(Store()))
+        if word == b"new":
+            self.store, self.left = None if rest else Store(), None
+        elif word == b"run" and self.store is not None:
+            self.left = Store()
+            return b"  %s: %s" % (self.case, self.ran(self.left))
+        elif word == b"again" and self.left is not None:
+            return b"  %s: %s" % (self.case, self.ran(self.left))
+        elif word == b"named":
+            name, _, script = rest.partition(b" ")
+            self.named[name] = bytes_of(script)
+        elif word == b"allows":
+            return b"  %s: %s" % (self.case, b"true" if self.allows(rest) else b"false")
+        elif word == b"names" and self.left is not None:
+            names = self.left.names()
+            return b"  %s: %d names%s" % (self.case, len(names), b"".join(b" " + shown(name) for name in names))
+        elif word not in (b"case", b"script", b"add", b"repeat", b"names", b"left", b"bytes", b"#", b""):
+            self.store = self.left = None
+        return None
+
+
+def fill(lines):
+    """Prints directives with what they come to."""
+    bench = Bench()
+    for line in lines:
+        sys.stdout.buffer.write(line + b"\n")
+        told = bench.told(line)
+        if told is not None:
+            sys.stdout.buffer.write(told + b"\n")
+
+
+def compare_cases():
+    """Compares the answers of run_cases that are worked out, and gives how many there are and those that differ."""
+    with open(os.path.join(CASES, "stdin"), "rb") as lines:
+        directives = lines.read().split(b"\n")
+    with open(os.path.join(CASES, "stdout"), "rb") as lines:
+        answers = lines.read().split(b"\n")
+    bench, place, tried, differ = Bench(), 0, 0, []
+    for directive in directives:
+        while place < len(answers) and answers[place] != directive:
+            place += 1
+        place += 1
+        told = bench.told(directive)
+        if told is not None:
+            tried += 1
+            if answers[place:place + 1] != [told]:
+                differ.append((told, answers[place] if place < len(answers) else b""))
+    return tried, differ
+
+
+def compare_built():
+    """Compares the output that the cases of tests/built want, of those that are a script over a new folder."""
+    known, tried, differ = {"script.sql", "script.sh", "stdout", "status", "files", "seconds"}, 0, []
+    for name in sorted(os.listdir(BUILT)):
+        folder = os.path.join(BUILT, name)
+        files = set(os.listdir(folder))
+        if not files <= known or not files & {"script.sql", "script.sh"}:
+            continue
+        if "script.sh" in files:
+            script = subprocess.run(["bash", os.path.join(folder, "script.sh")], stdout=subprocess.PIPE, check=True).stdout
+        else:
+            script = read(folder, "script.sql")
+        found = b"%d %s" % Store().run(script)
+        wanted = (read(folder, "status").strip() or b"0") + b" " + read(folder, "stdout")
+        tried += 1
+        if found != wanted:
+            differ.append((name.encode() + b": " + found[:2000], wanted[:2000]))
+    return tried, differ
+
+
+def read(folder, name):
+    """The bytes of a file, none where it is not there."""
+    path = os.path.join(folder, name)
+    if not os.path.exists(path):
+        return b""
+    with open(path, "rb") as file:
+        return file.read()
+
+
+def main():
+    if sys.argv[1:] == ["fill"]:
+        text = sys.stdin.buffer.read()
+        fill(text.split(b"\n")[:-1])
+    elif sys.argv[1:] == ["cases"]:
+        failed = False
+        for name, (tried, differ) in (("run_cases", compare_cases()), ("tests/built", compare_built())):
+            for told, stood in differ:
+                print(f"worked out {told.decode('utf-8', 'backslashreplace')}\n   written {stood.decode('utf-8', 'backslashreplace')}")
+            print(f"{name}: {tried} answers worked out, {len(differ)} differ")
+            failed = failed or differ or not tried
+        sys.exit(1 if failed else 0)
+    else:
+        status, replies = Store().run(sys.stdin.buffer.read())
+        sys.stdout.buffer.write(replies)
+        sys.exit(status)
+
+
+if __name__ == "__main__":
+    main()

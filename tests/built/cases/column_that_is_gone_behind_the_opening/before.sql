@@ -1,0 +1,5 @@
+CREATE TABLE t (p UInt8, a UInt8) ENGINE = MergeTree PARTITION BY p ORDER BY a;
+INSERT INTO t;
+1	5
+2	6
+\.
