@@ -1,14 +1,18 @@
 // The workload `events` in plain Rust, with the program's own way of working: each INSERT is read into columns, its rows are split by
 // their partition and sorted by their key, as pairs of a number and a place, and each partition is written as a part: the program's
-// files, with their SHA-256 in a manifest, each synced before the folder gets its name. For the SELECT the columns are read back, with no
-// digest compared, sorted and printed. It knows one table, `e (k UInt64, a UInt32, b Int64, s String, c UInt8)` with the key k, parted by a
-// or not at all, and no escapes. With --times it tells the steps apart on standard error.
+// files, with their SHA-256 in a manifest, each synced before the folder gets its name. A folder that is there is opened, and each digest
+// of its files compared. For a SELECT the columns are read back, with no digest compared, sorted and printed. With a condition only the
+// granules are read that may have a match by their keys and their partition: first the columns of the condition, and of those granules that
+// have a match the columns that are shown. It knows one table, `e (k UInt64, a UInt32, b Int64, s String, c UInt8)` with the key k, parted
+// by a or not at all, and no escapes; and of SELECTs `SELECT * FROM e` and some columns in the table's order, each with a condition of
+// comparisons of numbers that are joined by AND. With --times it tells the steps apart on standard error.
 mod sha256;
 
 use sha256::sha256;
 use std::collections::HashMap;
 use std::fs::{self, File};
 use std::io::{self, BufWriter, Read, Write};
+use std::os::unix::fs::FileExt;
 use std::path::{Path, PathBuf};
 use std::time::{Duration, Instant};
 
@@ -16,8 +20,18 @@ use std::time::{Duration, Instant};
 const GRANULE: usize = 8192;
 /// What the columns of numbers k, a, b and c take for each row, in bytes.
 const WIDTHS: [usize; 4] = [8, 4, 8, 1];
+/// The columns.
+const NAMES: [&str; 5] = ["k", "a", "b", "s", "c"];
+/// The places of the columns k, of a, which may part the table, and of c, which has a byte for each row.
+const KEY: usize = 0;
+const PARTITION: usize = 1;
+const BYTES: usize = 4;
+/// The bytes of a manifest in front of its first mark, of a digest, and of a mark.
+const HEADER: usize = 18;
+const DIGEST: usize = 32;
+const MARK: usize = 40;
 
-/// The columns of the table.
+/// The columns of the table, or those of them that are shown; the others are empty.
 #[derive(Default)]
 struct Columns {
     k: Vec<u64>,
@@ -32,6 +46,35 @@ impl Columns {
     fn text(&self, place: usize) -> &[u8] {
         let start = if place == 0 { 0 } else { self.ends[place - 1] };
         &self.bytes[start..self.ends[place]]
+    }
+
+    /// The values of a row in the columns behind the key, nothing in those that are not shown.
+    fn rest(&self, place: usize) -> (Option<u32>, Option<i64>, Option<&[u8]>, Option<u8>) {
+        let text = (place < self.ends.len()).then(|| self.text(place));
+        (self.a.get(place).copied(), self.b.get(place).copied(), text, self.c.get(place).copied())
+    }
+
+    /// Adds of a column the values that are kept, of those that these bytes spell.
+    fn add(&mut self, column: usize, bytes: &[u8], keep: &[bool]) {
+        match column {
+            0 => self.k.extend(kept(bytes, keep).map(u64::from_le_bytes)),
+            1 => self.a.extend(kept(bytes, keep).map(u32::from_le_bytes)),
+            2 => self.b.extend(kept(bytes, keep).map(i64::from_le_bytes)),
+            3 => self.add_texts(bytes, keep),
+            _ => self.c.extend(kept(bytes, keep).map(u8::from_le_bytes)),
+        }
+    }
+
+    fn add_texts(&mut self, bytes: &[u8], keep: &[bool]) {
+        let mut rest = bytes;
+        for &is_kept in keep {
+            let (size, behind) = split_leb128(rest);
+            if is_kept {
+                self.bytes.extend_from_slice(&behind[..size]);
+                self.ends.push(self.bytes.len());
+            }
+            rest = &behind[size..];
+        }
     }
 
     /// Adds a line of five fields without escapes.
@@ -62,6 +105,36 @@ impl Columns {
         }
         partitions.iter_mut().for_each(|pairs| pairs.sort());
         partitions
+    }
+}
+
+/// The numbers of this width that are kept, of those that the bytes spell.
+fn kept<'a, const WIDTH: usize>(bytes: &'a [u8], keep: &'a [bool]) -> impl Iterator<Item = [u8; WIDTH]> + 'a {
+    let numbers = bytes.chunks_exact(WIDTH).zip(keep);
+    numbers.filter(|(_, &is_kept)| is_kept).map(|(number, _)| number.try_into().unwrap())
+}
+
+/// The number of this place in the bytes of a column of numbers.
+fn number_at(column: usize, bytes: &[u8], place: usize) -> i128 {
+    match column {
+        0 => u64::from_le_bytes(bytes[8 * place..][..8].try_into().unwrap()).into(),
+        1 => u32::from_le_bytes(bytes[4 * place..][..4].try_into().unwrap()).into(),
+        2 => i64::from_le_bytes(bytes[8 * place..][..8].try_into().unwrap()).into(),
+        _ => bytes[place].into(),
+    }
+}
+
+/// The number at the front of the bytes, and the bytes behind it.
+fn split_leb128(bytes: &[u8]) -> (usize, &[u8]) {
+    let (mut size, mut shift, mut rest) = (0usize, 0, bytes);
+    loop {
+        let byte = rest[0];
+        rest = &rest[1..];
+        size |= ((byte % 128) as usize) << shift;
+        shift += 7;
+        if byte < 128 {
+            return (size, rest);
+        }
     }
 }
 
@@ -147,41 +220,13 @@ fn publish(root: &Path, stage: &Path, name: &str) -> io::Result<PathBuf> {
     Ok(folder)
 }
 
-/// Adds the values of the five column files of a part.
-fn decode(columns: &mut Columns, files: &[Vec<u8>]) {
-    columns.k.extend(files[0].chunks_exact(8).map(|b| u64::from_le_bytes(b.try_into().unwrap())));
-    columns.a.extend(files[1].chunks_exact(4).map(|b| u32::from_le_bytes(b.try_into().unwrap())));
-    columns.b.extend(files[2].chunks_exact(8).map(|b| i64::from_le_bytes(b.try_into().unwrap())));
-    let mut rest = files[3].as_slice();
-    while let Some((&first, more)) = rest.split_first() {
-        let (mut size, mut shift, mut byte, mut behind) = (0usize, 0, first, more);
-        while byte >= 128 {
-            size |= ((byte % 128) as usize) << shift;
-            shift += 7;
-            byte = behind[0];
-            behind = &behind[1..];
-        }
-        size |= (byte as usize) << shift;
-        columns.bytes.extend_from_slice(&behind[..size]);
-        columns.ends.push(columns.bytes.len());
-        rest = &behind[size..];
-    }
-    columns.c.extend_from_slice(&files[4]);
-}
-
-/// The places of the rows in the order of all columns from left to right.
-fn order_of(columns: &Columns) -> Vec<u32> {
-    let mut pairs: Vec<(u64, u32)> = columns.k.iter().copied().zip(0..).collect();
+/// The places of so many rows in the order of all columns from left to right.
+fn order_of(columns: &Columns, rows: usize) -> Vec<u32> {
+    let key = |place: u32| columns.k.get(place as usize).copied().unwrap_or(0);
+    let mut pairs: Vec<(u64, u32)> = (0..rows as u32).map(|place| (key(place), place)).collect();
     pairs.sort_by(|x, y| {
-        x.0.cmp(&y.0).then_with(|| {
-            let (i, j) = (x.1 as usize, y.1 as usize);
-            (columns.a[i], columns.b[i], columns.text(i), columns.c[i]).cmp(&(
-                columns.a[j],
-                columns.b[j],
-                columns.text(j),
-                columns.c[j],
-            ))
-        })
+        let rest = || columns.rest(x.1 as usize).cmp(&columns.rest(y.1 as usize));
+        x.0.cmp(&y.0).then_with(rest)
     });
     pairs.into_iter().map(|pair| pair.1).collect()
 }
@@ -190,12 +235,185 @@ fn print(columns: &Columns, order: &[u32], length: usize) -> io::Result<Vec<u8>>
     let mut out = Vec::new();
     writeln!(out, "ROWS {} PREFIX {length}", order.len())?;
     for &place in order {
-        let i = place as usize;
-        write!(out, "{}\t{}\t{}\t", columns.k[i], columns.a[i], columns.b[i])?;
-        out.extend_from_slice(columns.text(i));
-        writeln!(out, "\t{}", columns.c[i])?;
+        let (a, b, s, c) = columns.rest(place as usize);
+        columns.k.get(place as usize).map_or(Ok(()), |k| write!(out, "{k}\t"))?;
+        a.map_or(Ok(()), |a| write!(out, "{a}\t"))?;
+        b.map_or(Ok(()), |b| write!(out, "{b}\t"))?;
+        if let Some(s) = s {
+            out.extend_from_slice(s);
+            out.push(b'\t');
+        }
+        c.map_or(Ok(()), |c| write!(out, "{c}\t"))?;
+        out.pop();
+        out.push(b'\n');
     }
     Ok(out)
+}
+
+/// A test of a condition: its column, and the least and the greatest number that meet it.
+struct Test {
+    column: usize,
+    least: i128,
+    greatest: i128,
+}
+
+/// The test of a text such as `a < 5`.
+fn test_of(text: &str) -> Option<Test> {
+    let words: Vec<&str> = text.split(' ').collect();
+    let &[name, sign, number] = words.as_slice() else { return None };
+    let column = NAMES.iter().position(|&other| other == name && other != "s")?;
+    let number: i128 = number.parse().ok()?;
+    let (least, greatest) = match sign {
+        "=" => (number, number),
+        "<" => (i128::MIN, number - 1),
+        "<=" => (i128::MIN, number),
+        ">" => (number + 1, i128::MAX),
+        ">=" => (number, i128::MAX),
+        _ => return None,
+    };
+    Some(Test { column, least, greatest })
+}
+
+/// What a SELECT asks: whether each column is shown, and tests that each row meets.
+struct Query {
+    shown: [bool; 5],
+    tests: Vec<Test>,
+}
+
+/// What the line of a SELECT asks.
+fn query_of(line: &[u8]) -> Option<Query> {
+    let text = std::str::from_utf8(line).ok()?.strip_prefix("SELECT ")?.strip_suffix(";")?;
+    let (columns, condition) = text.split_once(" FROM e")?;
+    let shown = NAMES.map(|name| columns == "*" || columns.split(", ").any(|column| column == name));
+    let tests = condition.strip_prefix(" WHERE ").map(|tests| tests.split(" AND ").map(test_of).collect());
+    Some(Query { shown, tests: tests.unwrap_or(Some(Vec::new()))? })
+}
+
+/// What is kept of a part: where its granules begin in the columns, and the keys of their first rows; of both one more.
+struct Granules {
+    starts: Vec<Vec<u64>>,
+    keys: Vec<u64>,
+}
+
+/// A part: its folder, its partition, and what is kept of it, where that was read.
+struct Part {
+    folder: PathBuf,
+    partition: Option<u32>,
+    granules: Option<Granules>,
+}
+
+fn numbers_of(bytes: &[u8]) -> Vec<u64> {
+    bytes.chunks_exact(8).map(|number| u64::from_le_bytes(number.try_into().unwrap())).collect()
+}
+
+/// The bytes of a file that ends with the digest of what is in front, which is compared.
+fn read_sealed(file: &Path) -> io::Result<Vec<u8>> {
+    let mut bytes = fs::read(file)?;
+    let digest = bytes.split_off(bytes.len().checked_sub(DIGEST).ok_or(io::ErrorKind::InvalidData)?);
+    (sha256(&bytes) == digest[..]).then_some(bytes).ok_or(io::ErrorKind::InvalidData.into())
+}
+
+impl Part {
+    /// The part of a folder of this name.
+    fn of(folder: PathBuf) -> Part {
+        let name = folder.file_name().unwrap().to_str().unwrap();
+        let partition = name.split('_').nth(1).and_then(|number| number.parse().ok());
+        Part { partition, folder, granules: None }
+    }
+
+    /// Compares the digests of the part's files.
+    fn check(&self) -> io::Result<()> {
+        let manifest = read_sealed(&self.folder.join("manifest.bin"))?;
+        let names = ["marks", "primary", "c0", "c1", "c2", "c3", "c4"];
+        for (name, mark) in names.iter().zip(manifest[HEADER..].chunks_exact(MARK)) {
+            let bytes = fs::read(self.folder.join(format!("{name}.bin")))?;
+            if sha256(&bytes) != mark[MARK - DIGEST..] {
+                return Err(io::ErrorKind::InvalidData.into());
+            }
+        }
+        Ok(())
+    }
+
+    /// Reads what is kept of the part, where that is not there.
+    fn load(&mut self) -> io::Result<()> {
+        if self.granules.is_none() {
+            let keys = numbers_of(&fs::read(self.folder.join("primary.bin"))?);
+            let marks = numbers_of(&fs::read(self.folder.join("marks.bin"))?);
+            let starts = marks.chunks_exact(keys.len()).map(<[u64]>::to_vec).collect();
+            self.granules = Some(Granules { starts, keys });
+        }
+        Ok(())
+    }
+
+    /// The granules of which each test may be met by some row.
+    fn chosen(&self, tests: &[Test]) -> Vec<usize> {
+        let keys = &self.granules.as_ref().unwrap().keys;
+        let may_meet = |test: &Test, granule: usize| match (test.column, self.partition) {
+            (KEY, _) => i128::from(keys[granule]) <= test.greatest && test.least <= keys[granule + 1].into(),
+            (PARTITION, Some(number)) => (test.least..=test.greatest).contains(&number.into()),
+            _ => true,
+        };
+        let all = 0..keys.len() - 1;
+        all.filter(|&granule| tests.iter().all(|test| may_meet(test, granule))).collect()
+    }
+
+    /// The bytes of a column in some granules, which rise. Neighbouring ones are read at once.
+    fn read(&self, column: usize, granules: &[usize]) -> io::Result<Vec<u8>> {
+        let starts = &self.granules.as_ref().unwrap().starts[column];
+        let file = File::open(self.folder.join(format!("c{column}.bin")))?;
+        let mut bytes = Vec::new();
+        for run in granules.chunk_by(|left, right| left + 1 == *right) {
+            let (from, to) = (starts[run[0]], starts[run[run.len() - 1] + 1]);
+            let before = bytes.len();
+            bytes.resize(before + (to - from) as usize, 0);
+            file.read_exact_at(&mut bytes[before..], from)?;
+        }
+        Ok(bytes)
+    }
+
+    /// How many rows a granule has.
+    fn rows(&self, granule: usize) -> usize {
+        let starts = &self.granules.as_ref().unwrap().starts[BYTES];
+        (starts[granule + 1] - starts[granule]) as usize
+    }
+
+    /// Adds the rows that meet the tests, and gives how many they are.
+    fn add_matches(&self, query: &Query, columns: &mut Columns) -> io::Result<usize> {
+        let chosen = self.chosen(&query.tests);
+        let mut keep = vec![true; chosen.iter().map(|&granule| self.rows(granule)).sum()];
+        let mut read = [const { None }; 5];
+        for test in &query.tests {
+            if read[test.column].is_none() {
+                read[test.column] = Some(self.read(test.column, &chosen)?);
+            }
+            let bytes = read[test.column].as_ref().unwrap();
+            for (place, is_kept) in keep.iter_mut().enumerate() {
+                *is_kept &= (test.least..=test.greatest).contains(&number_at(test.column, bytes, place));
+            }
+        }
+        let (matched, keep_matched) = self.matched(&chosen, &keep);
+        for column in (0..5).filter(|&column| query.shown[column] && !matched.is_empty()) {
+            match &read[column] {
+                Some(bytes) => columns.add(column, bytes, &keep),
+                None => columns.add(column, &self.read(column, &matched)?, &keep_matched),
+            }
+        }
+        Ok(keep.iter().filter(|&&is_kept| is_kept).count())
+    }
+
+    /// The granules with a row that is kept, and which of their rows are.
+    fn matched(&self, chosen: &[usize], keep: &[bool]) -> (Vec<usize>, Vec<bool>) {
+        let (mut matched, mut keep_matched, mut rest) = (Vec::new(), Vec::new(), keep);
+        for &granule in chosen {
+            let (front, behind) = rest.split_at(self.rows(granule));
+            if front.contains(&true) {
+                matched.push(granule);
+                keep_matched.extend_from_slice(front);
+            }
+            rest = behind;
+        }
+        (matched, keep_matched)
+    }
 }
 
 /// How long the steps took, those of one name together.
@@ -229,8 +447,7 @@ impl Steps {
 struct Table {
     root: PathBuf,
     is_parted: bool,
-    /// The folders of the parts.
-    parts: Vec<PathBuf>,
+    parts: Vec<Part>,
     length: usize,
     steps: Steps,
 }
@@ -249,6 +466,25 @@ impl Table {
         publish(root, &stage, "e.create")?;
         let is_parted = text.windows(9).any(|word| word == b"PARTITION");
         Ok(Table { root: root.to_path_buf(), is_parted, parts: Vec::new(), length: 1, steps: Steps::new() })
+    }
+
+    /// Opens the table of a folder that is there. Each digest is compared.
+    fn open(root: &Path) -> io::Result<Table> {
+        let entry = read_sealed(&root.join("e.create").join("entry.bin"))?;
+        let is_parted = entry.windows(9).any(|word| word == b"PARTITION");
+        let mut table = Table { root: root.to_path_buf(), is_parted, parts: Vec::new(), length: 1, steps: Steps::new() };
+        for folder in fs::read_dir(root)? {
+            let folder = folder?;
+            if folder.file_name().to_string_lossy().starts_with("e.part_") {
+                let mut part = Part::of(folder.path());
+                part.check()?;
+                part.load()?;
+                table.parts.push(part);
+            }
+        }
+        table.length += table.parts.len();
+        table.steps.end("open");
+        Ok(table)
     }
 
     /// Writes the rows of a partition into a stage, and gives its folder.
@@ -286,29 +522,23 @@ impl Table {
             let (number, place) = (self.parts.len() + 1, pairs[0].1 as usize);
             let partition = if self.is_parted { columns.a[place].to_string() } else { "all".to_string() };
             let name = format!("e.part_{partition}_{number}_{number}_0");
-            self.parts.push(publish(&self.root, stage, &name)?);
+            self.parts.push(Part::of(publish(&self.root, stage, &name)?));
             self.length += 1;
         }
         self.steps.end("publish");
         Ok(())
     }
 
-    /// The columns of a part, read back.
-    fn read(&mut self, number: usize) -> io::Result<Vec<Vec<u8>>> {
-        let files = (0..5).map(|column| fs::read(self.parts[number].join(format!("c{column}.bin")))).collect();
-        self.steps.end("read back");
-        files
-    }
-
-    /// The reply to the SELECT of all columns.
-    fn select(&mut self) -> io::Result<Vec<u8>> {
-        let mut columns = Columns::default();
-        for number in 0..self.parts.len() {
-            let files = self.read(number)?;
-            decode(&mut columns, &files);
-            self.steps.end("decode");
+    /// The reply to a SELECT.
+    fn select(&mut self, line: &[u8]) -> io::Result<Vec<u8>> {
+        let query = query_of(line).ok_or(io::ErrorKind::InvalidData)?;
+        let (mut columns, mut rows) = (Columns::default(), 0);
+        for part in &mut self.parts {
+            part.load()?;
+            rows += part.add_matches(&query, &mut columns)?;
         }
-        let order = order_of(&columns);
+        self.steps.end("read back and decode");
+        let order = order_of(&columns, rows);
         self.steps.end("sort the rows");
         let out = print(&columns, &order, self.length)?;
         self.steps.end("print");
@@ -322,16 +552,20 @@ fn main() -> io::Result<()> {
     io::stdin().read_to_end(&mut script)?;
     let mut out = BufWriter::new(io::stdout());
     let mut lines = script.split(|&byte| byte == b'\n');
-    let create = lines.next().ok_or(io::ErrorKind::InvalidData)?;
-    let mut table = Table::create(Path::new(&words[1]), create)?;
-    writeln!(out, "OK 1")?;
+    let root = Path::new(&words[1]);
+    let mut table = if root.exists() {
+        Table::open(root)?
+    } else {
+        writeln!(out, "OK 1")?;
+        Table::create(root, lines.next().ok_or(io::ErrorKind::InvalidData)?)?
+    };
     out.flush()?;
     while let Some(line) = lines.next() {
         if line.starts_with(b"INSERT") {
             table.insert(&mut lines)?;
             writeln!(out, "OK {}", table.length)?;
         } else if line.starts_with(b"SELECT") {
-            out.write_all(&table.select()?)?;
+            out.write_all(&table.select(line)?)?;
         }
         out.flush()?;
     }
