@@ -37,13 +37,21 @@ statement_limit = 1048576
 abbrev pub name_limit : ℕ
 name_limit = 64
 
--- a granule has no more rows than this (ClickHouse, MergeTree: index_granularity; docs/definitions.md, "Schemas")
+-- a granule has no more rows than this, and a block of a skip index no more granules (ClickHouse, MergeTree: index_granularity; docs/definitions.md, "Schemas")
 abbrev pub granularity_limit : ℕ
 granularity_limit = 65536
 
 -- how many rows a granule has where a table's statement does not say it (ClickHouse, MergeTree: index_granularity)
 abbrev pub default_granularity : ℕ
 default_granularity = 8192
+
+-- a table has no more skip indexes than this
+abbrev pub index_limit : ℕ
+index_limit = 8
+
+-- a skip index of the distinct values keeps no more values of a block than this (ClickHouse, MergeTree: "Skip Index Types", set; docs/definitions.md, "Schemas")
+abbrev pub set_limit : ℕ
+set_limit = 4294967295
 
 -- the most parentheses and NOTs of a condition that are open at once
 abbrev pub depth_limit : ℕ

@@ -27,11 +27,17 @@ pub const STATEMENT_LIMIT: usize = 1_048_576;
 /// A name has no more bytes than this.
 pub const NAME_LIMIT: usize = 64;
 
-/// A granule has no more rows than this.
+/// A granule has no more rows than this, and a block of a skip index no more granules.
 pub const GRANULARITY_LIMIT: u32 = 65_536;
 
 /// How many rows a granule has where a table's statement does not say it.
 pub const DEFAULT_GRANULARITY: u32 = 8192;
+
+/// A table has no more skip indexes than this.
+pub const INDEX_LIMIT: usize = 8;
+
+/// A skip index of the distinct values keeps no more values of a block than this.
+pub const SET_LIMIT: u64 = 4_294_967_295;
 
 /// No more parentheses and NOTs of a condition are open at once than this.
 pub const DEPTH_LIMIT: usize = 64;

@@ -9,6 +9,7 @@ pub mod Literals
 pub mod Masks
 pub mod OrderBy
 pub mod Orders
+pub mod Parting
 pub mod Polish
 pub mod Repeats
 pub mod RowBounds

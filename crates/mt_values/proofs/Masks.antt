@@ -1,15 +1,16 @@
 -- Masks, which are asked of a list item by item.
-use Rattle.std.proofs.Common.{◌≡◌, ℕ, Bool, false, true, ◌||◌, ◌+◌, ◌<◌, ◌≤◌, List, [], ◌∷◌, ◌++◌, length, map, take, drop, get_or, set, replicate, refl, sym, ap, ap₂, ◌∙◌, append_assoc, arith}
+use Rattle.std.proofs.Common.{◌≡◌, ℕ, zero, suc, Bool, false, true, ◌||◌, ◌+◌, ◌<◌, ◌≤◌, List, [], ◌∷◌, ◌++◌, length, map, take, drop, get_or, slice_get, set, replicate, refl, sym, ap, ap₂, ◌∙◌, append_assoc, arith, zero-add}
 use Rattle.std.specs.List.{list_any}
 use Rattle.std.specs.declared.cmp.Ordering.{Ordering}
 use Rattle.std.proofs.Math.Seq.{get_or-append_seam}
 use Rattle.std.proofs.lemmas.Simd.{map-map}
 use Rattle.std.proofs.lemmas.List.Folds.{list_any-append}
-use Rattle.std.proofs.lemmas.List.{append-nil, drop_all, drop_more, length-map, length-take, map-append, set_at, take_all, take_more}
+use Rattle.std.proofs.lemmas.List.{append-nil, drop_all, drop-map, drop_more, length-drop, length-map, length-take, map-append, set_at, take-map, take_all, take_more}
 use Rattle.mt_values.specs.declared.expr.Comparison.{Comparison}
 use Rattle.mt_values.specs.declared.value.ColType.{ColType}
 use Rattle.mt_values.specs.declared.value.Value.{Value}
 use Rattle.mt_values.specs.Grid.{Cells}
+use Rattle.mt_values.specs.Lists.{run_of}
 use Rattle.mt_values.specs.Order.{value_cmp}
 use Rattle.mt_values.specs.Tests.{says}
 
@@ -81,16 +82,52 @@ module _ {X : Type 0} (f h : X → Bool) where
   pub all_gone_over : (xs : List X) (i : ℕ) (mask : List Bool) → length xs ≤ i → mask ≡ gone_over xs i → mask ≡ map added xs
   all_gone_over xs i mask end before = over_all f added xs i mask end before
 
+-- ---- runs
+
+module _ {X : Type 0} where
+  pub length_run : (from count : ℕ) (xs : List X) → from + count ≤ length xs → length (run_of from count xs) ≡ count
+  length_run from count xs within = omega (arith, length-take count (drop from xs), length-drop from xs, within)
+
+  pub map_run : {Y : Type 0} (f : X → Y) (from count : ℕ) (xs : List X) → map f (run_of from count xs) ≡ run_of from count (map f xs)
+  map_run f from count xs = sym (take-map f count (drop from xs)) ∙ ap (take count) (sym (drop-map f from xs))
+
+  -- an item of a run
+  pub run_at : (from count i : ℕ) (xs : List X) → i < count → slice_get (run_of from count xs) i ≡ slice_get xs (from + i)
+  run_at zero count i xs within = taken count i xs within ∙ ap (slice_get xs) (sym (zero-add i))
+    where
+      taken : (n i : ℕ) (ys : List X) → i < n → slice_get (take n ys) i ≡ slice_get ys i
+      taken zero i ys lt = absurd (omega (arith, lt))
+      taken (suc n) i [] lt = refl
+      taken (suc n) zero (y ∷ ys) lt = refl
+      taken (suc n) (suc i) (y ∷ ys) lt = taken n i ys (omega (arith, lt))
+  run_at (suc from) count i [] within = by count
+    where
+      none : List X
+      none = []
+
+      by : (n : ℕ) → slice_get (take n none) i ≡ slice_get none (suc from + i)
+      by zero = refl
+      by (suc n) = refl
+  run_at (suc from) count i (x ∷ xs) within = run_at from count i xs within ∙ ap (slice_get (x ∷ xs)) (next from i)
+    where
+      next : (m k : ℕ) → suc (m + k) ≡ suc m + k
+      next m k = omega arith
+
+  -- all of it
+  pub run_all : (n : ℕ) (xs : List X) → n ≡ length xs → run_of 0 n xs ≡ xs
+  run_all n xs size = take_all n xs (omega (arith, size))
+
 -- ---- the values of a column
 
--- what was asked of the items of a column was asked of its values
+-- what was asked of a run of the items of a column was asked of that of its values
 pub added_values : {X : Type 0} (value : X → Value) (t : ColType) (cmp : X → X → Ordering) → ((x y : X) → value_cmp (value x) (value y) ≡ cmp x y)
-    → (c : Comparison) (n : X) (xs ys : List X) (cells : Cells) (literal : Value) (mask after : List Bool)
-    → ys ≡ xs → cells ≡ record { col_type = t; values = map value xs } → literal ≡ value n
+    → (c : Comparison) (n : X) (from count : ℕ) (xs ys : List X) (cells : Cells) (literal : Value) (mask after : List Bool)
+    → ys ≡ run_of from count xs → cells ≡ record { col_type = t; values = map value xs } → literal ≡ value n
     → ((f : X → Bool) → mask ≡ map f ys → after ≡ map (λ x. f x || says c (cmp x n)) ys)
-    → (f : Value → Bool) → mask ≡ map f cells.values → after ≡ map (λ v. f v || says c (value_cmp v literal)) cells.values
-added_values value t cmp order c n xs ys cells literal mask after same is one asked f before =
-    let values : map value ys ≡ cells.values = ap (map value) same ∙ ap (λ (x : Cells). x.values) (sym is) in
+    → (f : Value → Bool) → mask ≡ map f (run_of from count cells.values) → after ≡ map (λ v. f v || says c (value_cmp v literal)) (run_of from count cells.values)
+added_values value t cmp order c n from count xs ys cells literal mask after same is one asked f before =
+    let values : map value ys ≡ run_of from count cells.values =
+    ap (map value) same ∙ map_run value from count xs ∙ ap (λ (x : Cells). run_of from count x.values) (sym is) in
     asked (λ x. f (value x)) (before ∙ ap (map f) (sym values) ∙ map-map f value ys)
     ∙ (λ i. map (λ x. f (value x) || says c (sym (order x n) i)) ys)
     ∙ sym (map-map (λ v. f v || says c (value_cmp v (value n))) value ys)

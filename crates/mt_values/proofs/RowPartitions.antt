@@ -8,7 +8,7 @@ use Rattle.mt_values.specs.declared.schema.SchemaFault.{SchemaFault}
 use Rattle.mt_values.specs.declared.schema.SchemaFault.TheVariants as fault
 use Rattle.mt_values.specs.declared.value.Value.{Value}
 use Rattle.mt_values.specs.declared.value.Value.TheVariants as value
-use Rattle.mt_values.specs.Schemas.{column_fault, column_types, empty_fault, fault_or, granularity_fault, is_unsigned, is_unsigned_column, keys_fault, partition_fault, prefix_fault, schema_fault}
+use Rattle.mt_values.specs.Schemas.{column_fault, column_types, empty_fault, fault_or, granularity_fault, index_fault, index_granularity_fault, is_unsigned, is_unsigned_column, keys_fault, partition_fault, prefix_fault, schema_fault, set_size_fault}
 use Rattle.mt_values.specs.Tables.{IsPartitionBy, MayHavePartition, number_at, number_in, numbers_of, numbers_of_column, partition_by_column, partition_of}
 use Rattle.mt_values.specs.Values.{FitsType, IsValue, Row, type_of, types_of}
 
@@ -63,28 +63,58 @@ none_after (Some f) b none = cc
 
 -- where no rule is broken, neither is that for the primary key, nor that for the partition column
 module _ (schema : Schema) (sound : schema_fault schema ≡ None) where
+  abbrev after_partition : Option SchemaFault
+  after_partition =
+      fault_or (granularity_fault schema.granularity)
+      (fault_or (index_granularity_fault schema.indexes) (fault_or (set_size_fault schema.indexes) None))
+
   abbrev after_prefix : Option SchemaFault
-  after_prefix = fault_or (partition_fault schema.columns schema.partition) (fault_or (granularity_fault schema.granularity) None)
+  after_prefix = fault_or (partition_fault schema.columns schema.partition) after_partition
 
   abbrev after_keys : Option SchemaFault
   after_keys = fault_or (prefix_fault schema.key schema.primary) after_prefix
 
+  abbrev after_indexes : Option SchemaFault
+  after_indexes = fault_or (keys_fault SortingFirst schema.key schema.primary) after_keys
+
   abbrev after_columns : Option SchemaFault
-  after_columns = fault_or (keys_fault SortingFirst schema.key schema.primary) after_keys
+  after_columns = fault_or (index_fault schema.indexes) after_indexes
 
   keys_sound : after_keys ≡ None
   keys_sound =
       none_after (keys_fault SortingFirst schema.key schema.primary) after_keys
+      (none_after (index_fault schema.indexes) after_indexes
       (none_after (column_fault schema.columns) after_columns
-      (none_after (empty_fault schema.columns) (fault_or (column_fault schema.columns) after_columns) sound))
+      (none_after (empty_fault schema.columns) (fault_or (column_fault schema.columns) after_columns) sound)))
 
   pub prefix_sound : prefix_fault schema.key schema.primary ≡ None
   prefix_sound = none_before (prefix_fault schema.key schema.primary) after_prefix keys_sound
 
   pub partition_sound : partition_fault schema.columns schema.partition ≡ None
   partition_sound =
-      none_before (partition_fault schema.columns schema.partition) (fault_or (granularity_fault schema.granularity) None)
+      none_before (partition_fault schema.columns schema.partition) after_partition
       (none_after (prefix_fault schema.key schema.primary) after_prefix keys_sound)
+
+  sizes_sound : after_partition ≡ None
+  sizes_sound =
+      none_after (partition_fault schema.columns schema.partition) after_partition
+      (none_after (prefix_fault schema.key schema.primary) after_prefix keys_sound)
+
+  pub granularity_sound : granularity_fault schema.granularity ≡ None
+  granularity_sound =
+      none_before (granularity_fault schema.granularity) (fault_or (index_granularity_fault schema.indexes) (fault_or (set_size_fault schema.indexes) None)) sizes_sound
+
+  index_sizes_sound : fault_or (index_granularity_fault schema.indexes) (fault_or (set_size_fault schema.indexes) None) ≡ None
+  index_sizes_sound =
+      none_after (granularity_fault schema.granularity) (fault_or (index_granularity_fault schema.indexes) (fault_or (set_size_fault schema.indexes) None)) sizes_sound
+
+  pub spans_sound : index_granularity_fault schema.indexes ≡ None
+  spans_sound = none_before (index_granularity_fault schema.indexes) (fault_or (set_size_fault schema.indexes) None) index_sizes_sound
+
+  pub sets_sound : set_size_fault schema.indexes ≡ None
+  sets_sound =
+      none_before (set_size_fault schema.indexes) None
+      (none_after (index_granularity_fault schema.indexes) (fault_or (set_size_fault schema.indexes) None) index_sizes_sound)
 
 -- a partition column that breaks no rule is unsigned
 pub unsigned_there : (columns : List Column) (place : ℕ) → partition_fault columns (Some place) ≡ None → is_unsigned_column (slice_get columns place) ≡ true

@@ -25,6 +25,11 @@ tests_of (Not c) = tests_of c
 tests_of (And a b) = tests_of a ++ tests_of b
 tests_of (Or a b) = tests_of a ++ tests_of b
 
+-- its conjuncts, in the order of the text: what AND joins at the top; any other expression is one by itself (docs/definitions.md, "Conditions")
+abbrev pub conjuncts_of : {T : Type 0} → Condition T → List (Condition T)
+conjuncts_of (And a b) = conjuncts_of a ++ conjuncts_of b
+conjuncts_of c = c ∷ []
+
 -- the same expression over what becomes of each test (docs/definitions.md, "Conditions")
 abbrev pub map_tests : {T U : Type 0} → (T → U) → Condition T → Condition U
 map_tests f Always = Always

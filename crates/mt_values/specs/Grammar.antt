@@ -1,7 +1,7 @@
 -- The statements of the grammar, production by production (docs/grammar.md, "Statements").
-use Rattle.std.specs.Prelude.{ℕ, zero, suc, Bool, true, false, not, ◌&&◌, ◌||◌, ◌==◌, nat_le, nat_lt, List, [], ◌∷◌, ◌++◌, length, Result, Ok, Err, if◌then◌else◌, codes}
+use Rattle.std.specs.Prelude.{ℕ, zero, suc, Bool, true, false, not, ◌&&◌, ◌||◌, ◌==◌, nat_le, nat_lt, List, [], ◌∷◌, ◌++◌, length, Option, Some, None, Result, Ok, Err, if◌then◌else◌, codes}
 use Rattle.std.specs.Cmp.Lexicographic.{pointwise}
-use Rattle.std.specs.List.{list_any}
+use Rattle.std.specs.List.{filter_map, list_any}
 use Rattle.mt_values.specs.declared.expr.Comparison.{Comparison}
 use Rattle.mt_values.specs.declared.expr.Comparison.TheVariants as comparison
 use Rattle.mt_values.specs.declared.expr.Literal.{Literal}
@@ -19,6 +19,11 @@ use Rattle.mt_values.specs.declared.statement.Cause.{Cause}
 use Rattle.mt_values.specs.declared.statement.Cause.TheVariants as cause
 use Rattle.mt_values.specs.declared.statement.Clause.{Clause}
 use Rattle.mt_values.specs.declared.statement.Clause.TheVariants as clause
+use Rattle.mt_values.specs.declared.statement.Element.{Element}
+use Rattle.mt_values.specs.declared.statement.Element.TheVariants as element
+use Rattle.mt_values.specs.declared.statement.IndexText.{IndexText}
+use Rattle.mt_values.specs.declared.statement.KindText.{KindText}
+use Rattle.mt_values.specs.declared.statement.KindText.TheVariants as kind
 use Rattle.mt_values.specs.declared.statement.SelectText.{SelectText}
 use Rattle.mt_values.specs.declared.statement.Selected.{Selected}
 use Rattle.mt_values.specs.declared.statement.Selected.TheVariants as selected
@@ -162,9 +167,46 @@ joined_by k join item next = item (λ x. joined_from k join item x next)
 abbrev pub one_name : {S : Type 0} → Part S (List ℕ)
 one_name next = expect name next
 
--- element = name plain
-abbrev pub column : {S : Type 0} → Part S Column
-column next = expect name (λ n. expect plain (λ t. next (record { name = n; col_type = t })))
+-- column = name type
+abbrev pub column : {S : Type 0} → Part S Element
+column next = expect name (λ n. expect plain (λ t. next (element.Column (record { name = n; col_type = t }))))
+
+-- set "(" number ")"
+abbrev pub set_kind : {S : Type 0} → Part S KindText
+set_kind next =
+    expect (exactly (codes "set")) (λ _. expect (the symbol.Open) (λ _. expect number (λ digits. expect (the symbol.Close) (λ _. next (kind.Set digits)))))
+
+-- kind = minmax | set "(" number ")"
+abbrev pub index_kind : {S : Type 0} → Part S KindText
+index_kind next = choose (is_word (same_bytes (codes "minmax"))) (expect (exactly (codes "minmax")) (λ _. next kind.MinMax)) (set_kind next)
+
+-- index = INDEX name name TYPE kind GRANULARITY number
+abbrev pub index : {S : Type 0} → Part S Element
+index next =
+    expect (keyword (codes "INDEX")) (λ _. expect name (λ n. expect name (λ c.
+    expect (keyword (codes "TYPE")) (λ _. index_kind (λ k.
+    expect (keyword (codes "GRANULARITY")) (λ _. expect number (λ digits.
+    next (element.Index (record { name = n; column = c; kind = k; granularity = digits })))))))))
+
+-- element = column | index
+abbrev pub table_element : {S : Type 0} → Part S Element
+table_element next = choose (is_word (is_keyword (codes "INDEX"))) (index next) (column next)
+
+abbrev pub column_in : Element → Option Column
+column_in (element.Column c) = Some c
+column_in (element.Index i) = None
+
+-- the columns among some elements
+abbrev pub columns_of : List Element → List Column
+columns_of elements = filter_map column_in elements
+
+abbrev pub index_in : Element → Option IndexText
+index_in (element.Column c) = None
+index_in (element.Index i) = Some i
+
+-- the indexes among some elements
+abbrev pub indexes_of : List Element → List IndexText
+indexes_of elements = filter_map index_in elements
 
 -- engine = MergeTree [ "(" ")" ]
 abbrev pub engine : {S : Type 0} → Reader S → Reader S
@@ -369,9 +411,9 @@ selection next =
 abbrev pub create : List ℕ → Reader Statement
 create text =
     expect (keyword (codes "CREATE")) (λ _. expect (keyword (codes "TABLE")) (λ _. expect name (λ table.
-    expect (the symbol.Open) (λ _. list_of column (λ columns. expect (the symbol.Close) (λ _.
+    expect (the symbol.Open) (λ _. list_of table_element (λ elements. expect (the symbol.Close) (λ _.
     expect (keyword (codes "ENGINE")) (λ _. expect (the symbol.Equal) (λ _. engine (clauses (λ cs.
-    ends (statement.Create (record { text = text; table = table; columns = columns; clauses = cs }))))))))))))
+    ends (statement.Create (record { text = text; table = table; elements = elements; clauses = cs }))))))))))))
 
 -- insert = INSERT INTO name [ FORMAT format ]
 abbrev pub insert : List ℕ → Bool → Reader Statement

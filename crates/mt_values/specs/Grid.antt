@@ -25,6 +25,10 @@ row_at columns i = filter_map (λ (c : Cells). slice_get c.values i) columns
 abbrev pub rows_of : List Cells → ℕ → List Row
 rows_of columns n = map (row_at columns) (range_with_len 0 n)
 
+-- n rows of columns, from a place on
+abbrev pub rows_within : List Cells → ℕ → ℕ → List Row
+rows_within columns from n = map (row_at columns) (range_with_len from n)
+
 -- columns as a block of n rows
 abbrev pub grid_of : List Cells → ℕ → Grid
 grid_of columns n = record { types = map (λ (c : Cells). c.col_type) columns; rows = rows_of columns n }

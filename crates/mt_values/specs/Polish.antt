@@ -1,5 +1,5 @@
 -- Expressions in Polish order, as they are kept (docs/architecture.md, "Conditions").
-use Rattle.std.specs.Prelude.{◌≡◌, ◌<◌, ◌≤◌, List, [], ◌∷◌, ◌++◌, length}
+use Rattle.std.specs.Prelude.{◌≡◌, ℕ, ◌<◌, ◌≤◌, Bool, true, false, List, [], ◌∷◌, ◌++◌, length, take}
 use Rattle.mt_values.specs.declared.expr.Joint.{Joint}
 use Rattle.mt_values.specs.declared.expr.Joint.TheVariants as joint
 use Rattle.mt_values.specs.declared.expr.TheConstants.{MOST_TRUTHS}
@@ -57,3 +57,30 @@ ComesTo m answer tests (b ∷ a ∷ before) (joint.And ∷ joints) = ComesTo m a
 ComesTo m answer tests [] (joint.Or ∷ joints) = ⊥
 ComesTo m answer tests (b ∷ []) (joint.Or ∷ joints) = ⊥
 ComesTo m answer tests (b ∷ a ∷ before) (joint.Or ∷ joints) = ComesTo m answer tests (m.or_of a b ∷ before) joints
+
+-- whether a joint is AND (docs/architecture.md, "Conditions")
+abbrev pub is_and : Joint → Bool
+is_and joint.And = true
+is_and j = false
+
+-- how many expressions a joint joins (docs/architecture.md, "Conditions")
+abbrev pub parts_of : Joint → ℕ
+parts_of joint.Always = 0
+parts_of joint.Test = 0
+parts_of joint.Not = 1
+parts_of joint.And = 2
+parts_of joint.Or = 2
+
+-- how many tests an expression has beside those of the expressions that its last joint joins (docs/architecture.md, "Conditions")
+abbrev pub own_tests : Joint → ℕ
+own_tests joint.Test = 1
+own_tests j = 0
+
+-- the joints before a place are some, and then those of an expression, whatever its tests are (docs/architecture.md, "Conditions")
+pub record EndsWith (joints : List Joint) (end : ℕ) (front : List Joint) (c : Condition (Unit {0})) : Type 0 where
+  pub within : end ≤ length joints
+  pub parted : take end joints ≡ front ++ joints_of c
+
+-- some expression ends there (docs/architecture.md, "Conditions")
+abbrev pub EndsThere : List Joint → ℕ → Type 0
+EndsThere joints end = (front : List Joint) × (c : Condition (Unit {0})) × EndsWith joints end front c

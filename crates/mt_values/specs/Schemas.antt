@@ -1,14 +1,18 @@
 -- The types of a schema's columns, and which rule it breaks first.
-use Rattle.std.specs.Prelude.{ℕ, ◌+◌, List, [], ◌∷◌, ◌++◌, Option, Some, None, Bool, true, false, ◌&&◌, if◌then◌else◌, map, nat_eq, nat_le, slice_get}
-use Rattle.std.specs.List.{list_any}
+use Rattle.std.specs.Prelude.{ℕ, ◌+◌, List, [], ◌∷◌, ◌++◌, Option, Some, None, Bool, true, false, not, ◌&&◌, if◌then◌else◌, map, nat_eq, nat_le, nat_lt, slice_get}
+use Rattle.std.specs.List.{list_any, position}
+use Rattle.std.specs.Option.{option_map}
 use Rattle.std.specs.Cmp.Lexicographic.{pointwise}
-use Rattle.mt_base.specs.Limits.{granularity_limit}
+use Rattle.mt_base.specs.Limits.{granularity_limit, set_limit}
 use Rattle.mt_values.specs.declared.schema.Column.{Column}
+use Rattle.mt_values.specs.declared.schema.IndexKind.{IndexKind}
+use Rattle.mt_values.specs.declared.schema.IndexKind.TheVariants as kind
 use Rattle.mt_values.specs.declared.schema.KeyOrder.{KeyOrder}
 use Rattle.mt_values.specs.declared.schema.KeyOrder.TheVariants.{SortingFirst, PrimaryFirst}
 use Rattle.mt_values.specs.declared.schema.Schema.{Schema}
 use Rattle.mt_values.specs.declared.schema.SchemaFault.{SchemaFault}
 use Rattle.mt_values.specs.declared.schema.SchemaFault.TheVariants as fault
+use Rattle.mt_values.specs.declared.schema.SkipIndex.{SkipIndex}
 use Rattle.mt_values.specs.declared.value.ColType.{ColType}
 use Rattle.mt_values.specs.declared.value.ColType.TheVariants as type
 
@@ -30,6 +34,14 @@ same_name a b = pointwise nat_eq a.name b.name
 abbrev pub double_column_at : ℕ → Column → SchemaFault
 double_column_at place column = fault.DoubleColumn place
 
+-- both skip indexes have one name
+abbrev pub same_index_name : SkipIndex → SkipIndex → Bool
+same_index_name a b = pointwise nat_eq a.name b.name
+
+-- the fault of the skip index at a place, whose name is an earlier one's
+abbrev pub double_index_at : ℕ → SkipIndex → SchemaFault
+double_index_at place index = fault.DoubleIndex place
+
 -- the fault of a key's mention of a column, by the mention's place and the column's
 abbrev pub double_key_at : ℕ → ℕ → SchemaFault
 double_key_at place column = fault.DoubleKey column
@@ -37,6 +49,10 @@ double_key_at place column = fault.DoubleKey column
 -- the first column that has the name of an earlier one
 abbrev pub column_fault : List Column → Option SchemaFault
 column_fault columns = first_repeat same_name double_column_at 0 [] columns
+
+-- the first skip index that has the name of an earlier one (docs/definitions.md, "Schemas")
+abbrev pub index_fault : List SkipIndex → Option SchemaFault
+index_fault indexes = first_repeat same_index_name double_index_at 0 [] indexes
 
 -- the first mention in the key that repeats an earlier one
 abbrev pub key_fault : List ℕ → Option SchemaFault
@@ -80,6 +96,27 @@ partition_fault columns (Some place) = if is_unsigned_column (slice_get columns 
 abbrev pub granularity_fault : ℕ → Option SchemaFault
 granularity_fault rows = if nat_le 1 rows && nat_le rows granularity_limit then None else Some fault.Granularity
 
+-- the granules of a block are not from 1 to 65536 (ClickHouse, MergeTree: "Data Skipping Indexes", GRANULARITY; docs/definitions.md, "Schemas")
+abbrev pub has_no_span : SkipIndex → Bool
+has_no_span index = not (nat_le 1 index.granularity && nat_le index.granularity granularity_limit)
+
+-- the first skip index whose blocks have no granules or too many (docs/definitions.md, "Schemas")
+abbrev pub index_granularity_fault : List SkipIndex → Option SchemaFault
+index_granularity_fault indexes = option_map fault.IndexGranularity (position has_no_span indexes)
+
+-- more values of a block may be kept than there are numbers of 32 bits above 0 (ClickHouse, MergeTree: "Skip Index Types", set; docs/definitions.md, "Schemas")
+abbrev pub is_large : IndexKind → Bool
+is_large kind.MinMax = false
+is_large (kind.Set limit) = nat_lt set_limit limit
+
+-- the same of a skip index (docs/definitions.md, "Schemas")
+abbrev pub has_large_set : SkipIndex → Bool
+has_large_set index = is_large index.kind
+
+-- the first skip index that may keep too many values of a block (docs/definitions.md, "Schemas")
+abbrev pub set_size_fault : List SkipIndex → Option SchemaFault
+set_size_fault indexes = option_map fault.SetSize (position has_large_set indexes)
+
 -- a table has at least one column (docs/definitions.md, "Schemas")
 abbrev pub empty_fault : List Column → Option SchemaFault
 empty_fault [] = Some fault.NoColumns
@@ -93,8 +130,9 @@ first_fault (found ∷ others) = fault_or found (first_fault others)
 -- the first rule that the schema breaks, by which key is written first (docs/definitions.md, "Schemas")
 abbrev pub schema_fault_as : KeyOrder → Schema → Option SchemaFault
 schema_fault_as first schema =
-    first_fault (empty_fault schema.columns ∷ column_fault schema.columns ∷ keys_fault first schema.key schema.primary
-    ∷ prefix_fault schema.key schema.primary ∷ partition_fault schema.columns schema.partition ∷ granularity_fault schema.granularity ∷ [])
+    first_fault (empty_fault schema.columns ∷ column_fault schema.columns ∷ index_fault schema.indexes
+    ∷ keys_fault first schema.key schema.primary ∷ prefix_fault schema.key schema.primary ∷ partition_fault schema.columns schema.partition
+    ∷ granularity_fault schema.granularity ∷ index_granularity_fault schema.indexes ∷ set_size_fault schema.indexes ∷ [])
 
 -- the first rule that the schema breaks, the sorting key tried first (docs/definitions.md, "Schemas")
 abbrev pub schema_fault : Schema → Option SchemaFault

@@ -9,7 +9,7 @@ use mt_base::{NoMemory, Seq};
 use std::alloc::Global;
 
 /// A borrowed value: the variants of `Value`, a text as a view of its bytes.
-#[derive(Clone, Copy)]
+#[derive(Clone, Copy, PartialEq, Eq, Hash)]
 pub enum Cell<'a> {
     UInt8(u8),
     UInt16(u16),

@@ -1,5 +1,5 @@
 // Equal copies of what tables are made of.
-use crate::{ColType, Column, Schema, Test, Value};
+use crate::{ColType, Column, IndexKind, Schema, SkipIndex, Test, Value};
 use mt_base::{NoMemory, Twin};
 use std::alloc::Global;
 
@@ -34,6 +34,23 @@ impl Twin for Column {
     }
 }
 
+impl Twin for IndexKind {
+    fn twin(&self, _alloc: Global) -> Result<Self, NoMemory> {
+        Ok(*self)
+    }
+}
+
+impl Twin for SkipIndex {
+    fn twin(&self, alloc: Global) -> Result<Self, NoMemory> {
+        Ok(SkipIndex {
+            name: self.name.twin(alloc)?,
+            column: self.column,
+            kind: self.kind,
+            granularity: self.granularity,
+        })
+    }
+}
+
 impl Twin for Schema {
     fn twin(&self, alloc: Global) -> Result<Self, NoMemory> {
         Ok(Schema {
@@ -42,6 +59,7 @@ impl Twin for Schema {
             primary: self.primary.twin(alloc)?,
             partition: self.partition,
             granularity: self.granularity,
+            indexes: self.indexes.twin(alloc)?,
         })
     }
 }

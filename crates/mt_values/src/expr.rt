@@ -75,8 +75,8 @@ pub const MOST_TRUTHS: usize = 131;
 /// An expression over tests. Contracts see it as a tree.
 #[derive(Drop)]
 pub struct Expr<T> {
-    tests: Seq<T>,
-    joints: Seq<Joint>,
+    pub(crate) tests: Seq<T>,
+    pub(crate) joints: Seq<Joint>,
 }
 
 impl<T> Model for Expr<T> {

@@ -7,6 +7,7 @@ mod block;
 mod cell;
 mod column;
 mod command;
+mod conjuncts;
 mod copies;
 mod digits;
 mod eval;
@@ -32,6 +33,7 @@ pub use block::Block;
 pub use cell::Cell;
 pub use column::ColumnData;
 pub use command::{Command, Create, Entry, Insert};
+pub use conjuncts::conjuncts_are_the_condition;
 pub use digits::number_within;
 pub use eval::{meets, meets_at};
 pub use expr::{Comparison, Expr, Joint, Literal, LiteralText, MOST_TRUTHS, Test, TestText};
@@ -42,11 +44,15 @@ pub use order::{cmp_key, cmp_value, orders_are_exact, orders_are_total};
 pub use partitions::rows_have_partitions_of_their_table;
 pub use row_fault::{DataFault, FieldFault, RowFault};
 pub use schema::{
-    Column, KeyOrder, Schema, SchemaFault, faults_do_not_depend_on_the_order_of_keys, has_name,
+    Column, IndexKind, KeyOrder, Schema, SchemaFault, SkipIndex,
+    faults_do_not_depend_on_the_order_of_keys, has_name,
 };
 pub use script::Place;
 pub use sorting::{all_places, cmp_cells};
 pub use stack::Stack;
-pub use statement::{Cause, Clause, CreateText, InsertText, SelectText, Selected, Slip, Statement};
+pub use statement::{
+    Cause, Clause, CreateText, Element, IndexText, InsertText, KindText, SelectText, Selected,
+    Slip, Statement,
+};
 pub use token::{Placed, Symbol, Token};
 pub use value::{ColType, Row, Value};

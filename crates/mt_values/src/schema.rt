@@ -1,13 +1,18 @@
-// The columns of a table, its keys, its partition column and the size of its granules.
-ghost use Rattle.std.specs.Prelude.{◌≡◌, None, Some, IfOk, MatchResult, nat_eq};
+// The columns of a table, its keys, its partition column, the size of its granules and its skip indexes.
+ghost use Rattle.std.specs.Prelude.{◌≡◌, ◌∷◌, [], None, Some, IfOk, MatchResult, nat_eq};
 ghost use Rattle.std.specs.Cmp.Lexicographic.{pointwise};
-ghost use Rattle.std.specs.List.{list_any};
+ghost use Rattle.std.specs.List.{list_any, position};
 ghost use Rattle.mt_values.specs.declared.schema.KeyOrder.{KeyOrder};
 ghost use Rattle.mt_values.specs.declared.schema.KeyOrder.TheVariants.{SortingFirst};
 ghost use Rattle.mt_values.specs.declared.schema.Schema.{Schema};
 ghost use Rattle.mt_values.specs.Schemas.{
   column_fault,
+  first_fault,
   granularity_fault,
+  has_large_set,
+  has_no_span,
+  index_fault,
+  index_granularity_fault,
   is_unsigned,
   key_fault,
   keys_fault,
@@ -15,10 +20,11 @@ ghost use Rattle.mt_values.specs.Schemas.{
   prefix_fault,
   schema_fault,
   schema_fault_as,
+  set_size_fault,
 };
 
 use crate::{ColType, Name};
-use mt_base::{GRANULARITY_LIMIT, NoMemory, Seq};
+use mt_base::{GRANULARITY_LIMIT, NoMemory, SET_LIMIT, Seq};
 use std::alloc::Global;
 
 /// A column of a table.
@@ -26,6 +32,26 @@ use std::alloc::Global;
 pub struct Column {
     pub name: Name,
     pub col_type: ColType,
+}
+
+/// What a skip index keeps of the values of a block.
+#[derive(Clone, Copy, Debug, PartialEq, Eq)]
+pub enum IndexKind {
+    /// The least and the greatest.
+    MinMax,
+    /// Each value once, where there are no more than this number of them; 0 stands for the greatest number of 32 bits.
+    Set(u64),
+}
+
+/// A skip index of a table.
+#[derive(Debug, Drop, PartialEq, Eq)]
+pub struct SkipIndex {
+    pub name: Name,
+    /// The place of its column, from 0.
+    pub column: u32,
+    pub kind: IndexKind,
+    /// How many granules a block has.
+    pub granularity: u32,
 }
 
 /// The columns of a table, in order, and which of them, by their places from 0, are its keys and its partition column.
@@ -40,6 +66,8 @@ pub struct Schema {
     pub partition: Option<u32>,
     /// How many rows a granule has.
     pub granularity: u32,
+    /// The skip indexes, in the order of the text.
+    pub indexes: Seq<SkipIndex>,
 }
 
 /// The first rule that a schema breaks, by the order of these variants.
@@ -49,6 +77,8 @@ pub enum SchemaFault {
     NoColumns,
     /// The column at this place, from 0, has the name of an earlier one.
     DoubleColumn(usize),
+    /// The skip index at this place, from 0, has the name of an earlier one.
+    DoubleIndex(usize),
     /// A key names the column at this place a second time.
     DoubleKey(u32),
     /// The primary key has the column at this place where the sorting key has another one or none.
@@ -57,6 +87,10 @@ pub enum SchemaFault {
     PartitionType(u32),
     /// The rows of a granule are none, or more than a granule may have.
     Granularity,
+    /// The granules of a block of the skip index at this place are none, or more than a block may have.
+    IndexGranularity(usize),
+    /// The skip index at this place may keep more values of a block than one may.
+    SetSize(usize),
 }
 
 /// Which of the two keys a statement names first.
@@ -90,6 +124,9 @@ impl Schema {
         if let Some(fault) = double_column(self.columns.as_slice()) {
             return Err(fault);
         }
+        if let Some(fault) = double_index(self.indexes.as_slice()) {
+            return Err(fault);
+        }
         if let Some(fault) = double_mention(first, self.key.as_slice(), self.primary.as_slice()) {
             return Err(fault);
         }
@@ -99,7 +136,10 @@ impl Schema {
         if let Some(fault) = partition_type(self.columns.as_slice(), self.partition) {
             return Err(fault);
         }
-        match granularity(self.granularity) {
+        if let Some(fault) = granularity(self.granularity) {
+            return Err(fault);
+        }
+        match sizes_of_indexes(self.indexes.as_slice()) {
             Some(fault) => Err(fault),
             None => Ok(()),
         }
@@ -136,6 +176,25 @@ pub fn has_name(columns: &[Column], name: &Name) -> bool
     ensures { result ≡ list_any (λ column. pointwise nat_eq column.name name.now) columns.now }
 {
     columns.iter().any(|column| column.name == *name)
+}
+
+/// The fault of the first skip index that has the name of an earlier one.
+fn double_index(indexes: &[SkipIndex]) -> Option<SchemaFault>
+    ensures { result ≡ index_fault indexes.now }
+{
+    for (place, index) in indexes.iter().enumerate() {
+        if has_index_name(&indexes[..place], &index.name) {
+            return Some(SchemaFault::DoubleIndex(place));
+        }
+    }
+    None
+}
+
+/// Whether one of the skip indexes has the name.
+fn has_index_name(indexes: &[SkipIndex], name: &Name) -> bool
+    ensures { result ≡ list_any (λ index. pointwise nat_eq index.name name.now) indexes.now }
+{
+    indexes.iter().any(|index| index.name == *name)
 }
 
 /// The fault of the first mention in either key that repeats an earlier one of it, the key that is written first before the
@@ -206,6 +265,52 @@ fn granularity(rows: u32) -> Option<SchemaFault>
         return Some(SchemaFault::Granularity);
     }
     None
+}
+
+/// The fault of the first skip index whose blocks have no granules or too many, or else of the first that may keep too many values
+/// of a block.
+fn sizes_of_indexes(indexes: &[SkipIndex]) -> Option<SchemaFault>
+    ensures { result ≡ first_fault
+        (index_granularity_fault indexes.now ∷ set_size_fault indexes.now ∷ []) }
+{
+    if let Some(place) = first_without_span(indexes) {
+        return Some(SchemaFault::IndexGranularity(place));
+    }
+    match first_large_set(indexes) {
+        Some(place) => Some(SchemaFault::SetSize(place)),
+        None => None,
+    }
+}
+
+/// The place of the first skip index whose blocks have no granules or too many.
+fn first_without_span(indexes: &[SkipIndex]) -> Option<usize>
+    ensures { result ≡ position has_no_span indexes.now }
+{
+    indexes.iter().position(|index| has_no_span(index))
+}
+
+/// The place of the first skip index that may keep too many values of a block.
+fn first_large_set(indexes: &[SkipIndex]) -> Option<usize>
+    ensures { result ≡ position has_large_set indexes.now }
+{
+    indexes.iter().position(|index| has_large_set(index))
+}
+
+/// Whether a block of the skip index has no granules, or more than a block may have.
+fn has_no_span(index: &SkipIndex) -> bool
+    ensures { result ≡ has_no_span index.now }
+{
+    index.granularity == 0 || index.granularity > GRANULARITY_LIMIT
+}
+
+/// Whether the skip index may keep more values of a block than one may.
+fn has_large_set(index: &SkipIndex) -> bool
+    ensures { result ≡ has_large_set index.now }
+{
+    match index.kind {
+        IndexKind::MinMax => false,
+        IndexKind::Set(limit) => limit > SET_LIMIT,
+    }
 }
 
 /// Whether a schema breaks a rule does not depend on which of its keys is tried first.

@@ -43,9 +43,35 @@ pub struct CreateText {
     /// The statement's bytes, from its first token up to its semicolon.
     pub text: Bytes,
     pub table: Name,
-    pub columns: Seq<Column>,
+    /// Its columns and indexes, in the order of the text.
+    pub elements: Seq<Element>,
     /// Its clauses, in the order of the text.
     pub clauses: Seq<Clause>,
+}
+
+/// A column or an index of a CREATE TABLE.
+#[derive(Drop)]
+pub enum Element {
+    Column(Column),
+    Index(IndexText),
+}
+
+/// An INDEX of a CREATE TABLE. Its names are as they were written.
+#[derive(Drop)]
+pub struct IndexText {
+    pub name: Name,
+    pub column: Name,
+    pub kind: KindText,
+    /// The digits of GRANULARITY: how many granules a block has.
+    pub granularity: Bytes,
+}
+
+/// What an INDEX of a CREATE TABLE keeps of a block.
+#[derive(Drop)]
+pub enum KindText {
+    MinMax,
+    /// The digits of the number of values at most.
+    Set(Bytes),
 }
 
 /// A clause of a CREATE TABLE. Its names are as they were written.

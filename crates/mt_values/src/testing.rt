@@ -1,10 +1,11 @@
 // Which values of a column meet a test: one match on the column's type, and then one loop for each literal over the
 // vector of that type.
-ghost use Rattle.std.specs.Prelude.{◌≡◌, ◌||◌, Bool, IfOk, List, ℕ, length, map};
+ghost use Rattle.std.specs.Prelude.{◌≡◌, ◌≤◌, ◌+◌, ◌||◌, Bool, IfOk, List, ℕ, length, map};
 ghost use Rattle.std.specs.Cmp.Lexicographic.{slice_cmp};
 ghost use Rattle.std.specs.Ordering.{nat_cmp};
 ghost use Rattle.mt_values.specs.Cells.{value_of};
 ghost use Rattle.mt_values.specs.Columns.{cells_of};
+ghost use Rattle.mt_values.specs.Lists.{run_of};
 ghost use Rattle.mt_values.specs.Order.{value_cmp};
 ghost use Rattle.mt_values.specs.Tests.{meets, says};
 ghost use Rattle.mt_values.specs.declared.value.Value.{Value};
@@ -24,48 +25,98 @@ impl ColumnData {
     pub fn tested(&self, alloc: Global, test: &Test) -> Result<Vec<bool>, NoMemory>
         ensures { IfOk result (λ v. v.items ≡ map (meets test.now) self.now.values) }
     {
-        let mut mask = vec![in alloc; false; self.cells.len()]?;
+        self.tested_within(alloc, test, 0, self.len())
+    }
+
+    /// Whether each value of a run meets a test: of so many values from a place on, counted from 0, in their order.
+    ///
+    /// `NoMemory` where an allocation failed.
+    pub fn tested_within(
+        &self,
+        alloc: Global,
+        test: &Test,
+        from: usize,
+        count: usize,
+    ) -> Result<Vec<bool>, NoMemory>
+        requires { from + count ≤ length self.now.values }
+        ensures { IfOk result
+            (λ v. v.items ≡ map (meets test.now) (run_of from count self.now.values)) }
+    {
+        let mut mask = vec![in alloc; false; count]?;
         for literal in test.literals.as_slice() {
-            self.cells.add_met(&mut mask, test.comparison, literal);
+            self.cells
+                .add_met(&mut mask, from, test.comparison, literal);
         }
         Ok(mask)
     }
 }
 
 impl Cells {
-    /// Adds to a mask the values that compare so with a literal. A literal of another type, which no statement gives, is
-    /// asked of each value by itself.
-    fn add_met(&self, mask: &mut [bool], comparison: Comparison, literal: &Value)
-        requires { length mask.old ≡ length (cells_of self.now).values }
-        ensures { (f : Value → Bool) → mask.old ≡ map f (cells_of self.now).values
+    /// Adds to a mask of the values from a place on those that compare so with a literal. A literal of another type, which no
+    /// statement gives, is asked of each value by itself.
+    fn add_met(&self, mask: &mut [bool], from: usize, comparison: Comparison, literal: &Value)
+        requires { from + length mask.old ≤ length (cells_of self.now).values }
+        ensures { (f : Value → Bool)
+            → mask.old ≡ map f (run_of from (length mask.old) (cells_of self.now).values)
             → mask.new ≡ map (λ v. f v || says comparison (value_cmp v literal.now))
-            (cells_of self.now).values }
+            (run_of from (length mask.old) (cells_of self.now).values) }
     {
+        let count = mask.len();
         match (self, literal) {
-            (Cells::UInt8(v), Value::UInt8(n)) => add_numbers(mask, comparison, v, *n),
-            (Cells::UInt16(v), Value::UInt16(n)) => add_numbers(mask, comparison, v, *n),
-            (Cells::UInt32(v), Value::UInt32(n)) => add_numbers(mask, comparison, v, *n),
-            (Cells::UInt64(v), Value::UInt64(n)) => add_numbers(mask, comparison, v, *n),
-            (Cells::Int8(v), Value::Int8(n)) => add_numbers(mask, comparison, v, *n),
-            (Cells::Int16(v), Value::Int16(n)) => add_numbers(mask, comparison, v, *n),
-            (Cells::Int32(v), Value::Int32(n)) => add_numbers(mask, comparison, v, *n),
-            (Cells::Int64(v), Value::Int64(n)) => add_numbers(mask, comparison, v, *n),
-            (Cells::Text(v), Value::Text(s)) => add_texts(mask, comparison, v, s.as_slice()),
-            _ => self.add_values(mask, comparison, Cell::of(literal)),
+            (Cells::UInt8(v), Value::UInt8(n)) => {
+                add_numbers(mask, comparison, run_of(v, from, count), *n)
+            }
+            (Cells::UInt16(v), Value::UInt16(n)) => {
+                add_numbers(mask, comparison, run_of(v, from, count), *n)
+            }
+            (Cells::UInt32(v), Value::UInt32(n)) => {
+                add_numbers(mask, comparison, run_of(v, from, count), *n)
+            }
+            (Cells::UInt64(v), Value::UInt64(n)) => {
+                add_numbers(mask, comparison, run_of(v, from, count), *n)
+            }
+            (Cells::Int8(v), Value::Int8(n)) => {
+                add_numbers(mask, comparison, run_of(v, from, count), *n)
+            }
+            (Cells::Int16(v), Value::Int16(n)) => {
+                add_numbers(mask, comparison, run_of(v, from, count), *n)
+            }
+            (Cells::Int32(v), Value::Int32(n)) => {
+                add_numbers(mask, comparison, run_of(v, from, count), *n)
+            }
+            (Cells::Int64(v), Value::Int64(n)) => {
+                add_numbers(mask, comparison, run_of(v, from, count), *n)
+            }
+            (Cells::Text(v), Value::Text(s)) => add_texts(mask, from, comparison, v, s.as_slice()),
+            _ => self.add_values(mask, from, comparison, Cell::of(literal)),
         }
     }
 
-    /// Adds to a mask the values that compare so with a literal of any type.
-    fn add_values(&self, mask: &mut [bool], comparison: Comparison, literal: Cell)
-        requires { length mask.old ≡ length (cells_of self.now).values }
-        ensures { (f : Value → Bool) → mask.old ≡ map f (cells_of self.now).values
+    /// Adds to a mask of the values from a place on those that compare so with a literal of any type.
+    fn add_values(&self, mask: &mut [bool], from: usize, comparison: Comparison, literal: Cell)
+        requires { from + length mask.old ≤ length (cells_of self.now).values }
+        ensures { (f : Value → Bool)
+            → mask.old ≡ map f (run_of from (length mask.old) (cells_of self.now).values)
             → mask.new ≡ map (λ v. f v || says comparison (value_cmp v (value_of literal.entry)))
-            (cells_of self.now).values }
+            (run_of from (length mask.old) (cells_of self.now).values) }
     {
-        for place in 0..self.len() {
-            mask[place] = mask[place] | says(comparison, cmp_cells(self.at(place), literal));
+        // The places are those of values, so 64 bits count them.
+        let values = self.len();
+        for place in 0..mask.len() {
+            mask[place] = mask[place] | says(comparison, cmp_cells(self.at(from + place), literal));
         }
     }
+}
+
+/// So many items, from a place on.
+fn run_of<T>(items: &[T], from: usize, count: usize) -> &[T]
+    requires { from + count ≤ length items.now }
+    ensures run { result.now ≡ run_of from count items.now }
+    ensures count { length result.now ≡ count }
+{
+    let (_before, rest) = items.split_at(from);
+    let (run, _after) = rest.split_at(count);
+    run
 }
 
 /// Adds to a mask the numbers that compare so with another.
@@ -79,13 +130,22 @@ fn add_numbers<T: Ord + Copy>(mask: &mut [bool], comparison: Comparison, numbers
     }
 }
 
-/// Adds to a mask the texts that compare so with another.
-fn add_texts(mask: &mut [bool], comparison: Comparison, texts: &Strings, literal: &[u8])
-    requires { length mask.old ≡ length texts.now }
-    ensures { (f : List ℕ → Bool) → mask.old ≡ map f texts.now
-        → mask.new ≡ map (λ s. f s || says comparison (slice_cmp nat_cmp s literal.now)) texts.now }
+/// Adds to a mask of the texts from a place on those that compare so with another.
+fn add_texts(
+    mask: &mut [bool],
+    from: usize,
+    comparison: Comparison,
+    texts: &Strings,
+    literal: &[u8],
+)
+    requires { from + length mask.old ≤ length texts.now }
+    ensures { (f : List ℕ → Bool) → mask.old ≡ map f (run_of from (length mask.old) texts.now)
+        → mask.new ≡ map (λ s. f s || says comparison (slice_cmp nat_cmp s literal.now))
+        (run_of from (length mask.old) texts.now) }
 {
-    for place in 0..texts.len() {
-        mask[place] = mask[place] | says(comparison, texts.at(place).cmp(&literal));
+    // The places are those of texts, so 64 bits count them.
+    let count = texts.len();
+    for place in 0..mask.len() {
+        mask[place] = mask[place] | says(comparison, texts.at(from + place).cmp(&literal));
     }
 }

@@ -1,2 +1,4 @@
+pub mod Beside
 pub mod Lying
+pub mod Narrowing
 pub mod Truths

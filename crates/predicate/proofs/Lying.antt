@@ -133,7 +133,7 @@ no_is comparison.GreaterOrEqual lo hi v = refl
 -- ---- several literals, and values of a list
 
 module _ {X : Type 0} (p q : X → Bool) where
-  any_too : ((x : X) → p x ≡ true → q x ≡ true) → (xs : List X) → list_any p xs ≡ true → list_any q xs ≡ true
+  pub any_too : ((x : X) → p x ≡ true → q x ≡ true) → (xs : List X) → list_any p xs ≡ true → list_any q xs ≡ true
   any_too f [] h = h
   any_too f (x ∷ xs) h = by_first (p x) refl h (λ g. any_too f xs g)
     where
@@ -163,13 +163,13 @@ module _ {X : Type 0} (P : X → Type 0) (xs ys : List X) (h : All P (xs ++ ys))
 
 -- ---- tests and conditions
 
-known_yes : (t : Test) (k : Known) (x : Value) → IsKnown k x → meets t x ≡ true → (can_of t k).yes ≡ true
+pub known_yes : (t : Test) (k : Known) (x : Value) → IsKnown k x → meets t x ≡ true → (can_of t k).yes ≡ true
 known_yes t (known.Range lo hi) x h m =
     any_too (λ v. says t.comparison (value_cmp x v)) (yes_within t.comparison lo hi) (λ v s. by_order t.comparison lo hi x v (value_cmp x v) refl h.0 h.1 s) t.literals m
 known_yes t (known.List vs) x h m = any_at (meets t) vs h.0 x h.1 m
 known_yes t known.Unknown x h m = refl
 
-known_no : (t : Test) (k : Known) (x : Value) → IsKnown k x → meets t x ≡ false → (can_of t k).no ≡ true
+pub known_no : (t : Test) (k : Known) (x : Value) → IsKnown k x → meets t x ≡ false → (can_of t k).no ≡ true
 known_no t (known.Range lo hi) x h m =
     none_all (λ v. says t.comparison (value_cmp x v)) (no_within t.comparison lo hi)
     (λ v s. no_is t.comparison lo hi v ∙ by_order (turned_round t.comparison) lo hi x v (value_cmp x v) refl h.0 h.1 (says_not t.comparison (value_cmp x v) s)) t.literals m

@@ -14,7 +14,8 @@ use Rattle.mt_values.specs.declared.expr.Test.{Test}
 use Rattle.mt_values.specs.declared.value.Value.{Value}
 use Rattle.mt_values.specs.declared.value.Value.TheVariants as value
 use Rattle.mt_values.specs.Conditions.{Condition, Always, And, Holds, Not, Or, height, meant, tests_of}
-use Rattle.mt_values.specs.Grid.{Cells, row_at, rows_of}
+use Rattle.mt_values.specs.Grid.{Cells, row_at, rows_within}
+use Rattle.mt_values.specs.Lists.{run_of}
 use Rattle.mt_values.specs.Polish.{ComesTo, joints_of}
 use Rattle.mt_values.specs.Tests.{eval, meets, meets_at, meets_some}
 use Rattle.mt_values.specs.Values.{Row}
@@ -88,15 +89,15 @@ any_value : Value
 any_value = value.UInt8 0
 
 -- the value of a row of columns is that of the column
-value_at : (columns : List Cells) (n k place : ℕ) → All (λ (c : Cells). length c.values ≡ n) columns → k < n
+value_at : (columns : List Cells) (n k place : ℕ) → All (λ (c : Cells). n ≤ length c.values) columns → k < n
     → slice_get (row_at columns k) place ≡ option_and_then (λ (c : Cells). slice_get c.values k) (slice_get columns place)
-value_at [] n k place even below = refl
-value_at (x ∷ xs) n k zero even below =
-    let there = slice_get-get_or x.values k any_value (omega (arith, All-head (λ (c : Cells). length c.values ≡ n) x xs even)) in
+value_at [] n k place long below = refl
+value_at (x ∷ xs) n k zero long below =
+    let there = slice_get-get_or x.values k any_value (omega (arith, below, All-head (λ (c : Cells). n ≤ length c.values) x xs long)) in
     ap (λ o. slice_get (cons_option o (row_at xs k)) 0) there ∙ sym there
-value_at (x ∷ xs) n k (suc place) even below =
-    let there = slice_get-get_or x.values k any_value (omega (arith, All-head (λ (c : Cells). length c.values ≡ n) x xs even)) in
-    ap (λ o. slice_get (cons_option o (row_at xs k)) (suc place)) there ∙ value_at xs n k place (All-tail (λ (c : Cells). length c.values ≡ n) x xs even) below
+value_at (x ∷ xs) n k (suc place) long below =
+    let there = slice_get-get_or x.values k any_value (omega (arith, below, All-head (λ (c : Cells). n ≤ length c.values) x xs long)) in
+    ap (λ o. slice_get (cons_option o (row_at xs k)) (suc place)) there ∙ value_at xs n k place (All-tail (λ (c : Cells). n ≤ length c.values) x xs long) below
 
 map_on_range : {Y : Type 0} (f g : ℕ → Y) (a n : ℕ) → ((k : ℕ) → a ≤ k → k < a + n → f k ≡ g k) → map f (range_with_len a n) ≡ map g (range_with_len a n)
 map_on_range f g a zero e = refl
@@ -106,32 +107,44 @@ map_shift : {Y : Type 0} (f g : ℕ → Y) (e : (k : ℕ) → f (k + 1) ≡ g k)
 map_shift f g e a zero = refl
 map_shift f g e a (suc n) = ap₂ (λ y ys. y ∷ ys) (e a) (map_shift f g e (a + 1) n)
 
-values_at : {Y : Type 0} (h : Option Value → Y) (vs : List Value) → map (λ k. h (slice_get vs k)) (range_with_len 0 (length vs)) ≡ map (λ v. h (Some v)) vs
-values_at h [] = refl
-values_at h (v ∷ vs) =
-    ap (λ ys. h (Some v) ∷ ys) (map_shift (λ k. h (slice_get (v ∷ vs) k)) (λ k. h (slice_get vs k)) (λ k. ap (λ j. h (slice_get (v ∷ vs) j)) (add-one k)) 0 (length vs) ∙ values_at h vs)
+-- the values of a run, place by place
+values_at : {Y : Type 0} (h : Option Value → Y) (from n : ℕ) (vs : List Value) → from + n ≤ length vs → map (λ k. h (slice_get vs k)) (range_with_len from n) ≡ map (λ v. h (Some v)) (run_of from n vs)
+values_at h zero zero vs long = refl
+values_at h zero (suc n) [] long = absurd (omega (arith, long))
+values_at h zero (suc n) (v ∷ vs) long =
+    ap (λ ys. h (Some v) ∷ ys) (map_shift (λ k. h (slice_get (v ∷ vs) k)) (λ k. h (slice_get vs k)) (λ k. ap (λ j. h (slice_get (v ∷ vs) j)) (add-one k)) 0 n ∙ values_at h zero n vs (omega (arith, long)))
+values_at h (suc from) n [] long = absurd (omega (arith, long))
+values_at h (suc from) n (v ∷ vs) long =
+    ap (λ m. map (λ k. h (slice_get (v ∷ vs) k)) (range_with_len m n)) (sym (add-one from))
+    ∙ map_shift (λ k. h (slice_get (v ∷ vs) k)) (λ k. h (slice_get vs k)) (λ k. ap (λ j. h (slice_get (v ∷ vs) j)) (add-one k)) from n
+    ∙ values_at h from n vs (omega (arith, long))
 
-module _ (columns : List Cells) (n : ℕ) (even : All (λ (c : Cells). length c.values ≡ n) columns) (t : Test) where
-  by_places : map (λ row. meets_at row t) (rows_of columns n)
-      ≡ map (λ k. meets_some t (option_and_then (λ (c : Cells). slice_get c.values k) (slice_get columns t.column))) (range_with_len 0 n)
+pub length-rows_within : (columns : List Cells) (from n : ℕ) → length (rows_within columns from n) ≡ n
+length-rows_within columns from n = length-map (range_with_len from n) (row_at columns) ∙ length-range_with_len from n
+
+module _ (columns : List Cells) (from n : ℕ) (long : All (λ (c : Cells). from + n ≤ length c.values) columns) (t : Test) where
+  by_places : map (λ row. meets_at row t) (rows_within columns from n)
+      ≡ map (λ k. meets_some t (option_and_then (λ (c : Cells). slice_get c.values k) (slice_get columns t.column))) (range_with_len from n)
   by_places =
-      map-map (λ row. meets_at row t) (row_at columns) (range_with_len 0 n)
-      ∙ map_on_range (λ k. meets_at (row_at columns k) t) (λ k. meets_some t (option_and_then (λ (c : Cells). slice_get c.values k) (slice_get columns t.column))) 0 n
-      (λ k p q. ap (meets_some t) (value_at columns n k t.column even (omega arith)))
+      map-map (λ row. meets_at row t) (row_at columns) (range_with_len from n)
+      ∙ map_on_range (λ k. meets_at (row_at columns k) t) (λ k. meets_some t (option_and_then (λ (c : Cells). slice_get c.values k) (slice_get columns t.column))) from n
+      (λ k p q. ap (meets_some t) (value_at columns (from + n) k t.column long q))
 
-  pub mask_of_column : (c : Cells) → t.column < length columns → c ≡ get_or columns t.column c → map (meets t) c.values ≡ map (λ row. meets_at row t) (rows_of columns n)
+  -- a column that is there is long enough
+  pub long_column : (c : Cells) → t.column < length columns → c ≡ get_or columns t.column c → from + n ≤ length c.values
+  long_column c within here = subst (λ (x : Cells). from + n ≤ length x.values) (sym here) (long t.column c within)
+
+  pub mask_of_column : (c : Cells) → t.column < length columns → c ≡ get_or columns t.column c → map (meets t) (run_of from n c.values) ≡ map (λ row. meets_at row t) (rows_within columns from n)
   mask_of_column c within here =
       let is : slice_get columns t.column ≡ Some c = slice_get_read columns (length columns) t.column c refl within here in
-      let size : length c.values ≡ n = ap (λ (x : Cells). length x.values) here ∙ even t.column c within in
-      sym (values_at (meets_some t) c.values)
-      ∙ ap (λ m. map (λ k. meets_some t (slice_get c.values k)) (range_with_len 0 m)) size
-      ∙ sym (by_places ∙ ap (λ o. map (λ k. meets_some t (option_and_then (λ (x : Cells). slice_get x.values k) o)) (range_with_len 0 n)) is)
+      sym (values_at (meets_some t) from n c.values (long_column c within here))
+      ∙ sym (by_places ∙ ap (λ o. map (λ k. meets_some t (option_and_then (λ (x : Cells). slice_get x.values k) o)) (range_with_len from n)) is)
 
-  pub mask_of_none : length columns ≤ t.column → replicate n false ≡ map (λ row. meets_at row t) (rows_of columns n)
+  pub mask_of_none : length columns ≤ t.column → replicate n false ≡ map (λ row. meets_at row t) (rows_within columns from n)
   mask_of_none past =
       let is : slice_get columns t.column ≡ None = slice_get_past columns t.column past in
-      all_alike false (range_with_len 0 n) n (sym (length-range_with_len 0 n))
-      ∙ sym (by_places ∙ ap (λ o. map (λ k. meets_some t (option_and_then (λ (x : Cells). slice_get x.values k) o)) (range_with_len 0 n)) is)
+      all_alike false (range_with_len from n) n (sym (length-range_with_len from n))
+      ∙ sym (by_places ∙ ap (λ o. map (λ k. meets_some t (option_and_then (λ (x : Cells). slice_get x.values k) o)) (range_with_len from n)) is)
 
 -- ---- joints
 

@@ -1,5 +1,5 @@
 -- Boxes: what is known of the values of columns, and what a condition may be there (docs/definitions.md, "Boxes").
-use Rattle.std.specs.Prelude.{◌≡◌, ℕ, ◌<◌, Bool, true, false, not, ◌&&◌, ◌||◌, IsTrue, length, slice_get, All, Option, Some, None}
+use Rattle.std.specs.Prelude.{◌≡◌, ℕ, ◌<◌, Bool, true, false, not, ◌&&◌, ◌||◌, IsTrue, [], ◌∷◌, ◌++◌, length, replicate, slice_get, All, Option, Some, None}
 use Rattle.std.specs.List.{list_all, list_any}
 use Rattle.std.specs.Ordering.{is_eq, is_ge, is_gt, is_le, is_lt}
 use Rattle.mt_values.specs.declared.expr.Comparison.{Comparison}
@@ -10,6 +10,8 @@ use Rattle.mt_values.specs.Conditions.{Condition, Meaning, meant, tests_of}
 use Rattle.mt_values.specs.Order.{value_cmp}
 use Rattle.mt_values.specs.Tests.{meets}
 use Rattle.mt_values.specs.Values.{Row}
+use Rattle.predicate.specs.declared.boxes.KnownOf.{KnownOf}
+use Rattle.predicate.specs.declared.boxes.KnownOf.TheVariants as known_of
 use Rattle.predicate.specs.declared.extent.Can.{Can}
 use Rattle.predicate.specs.declared.extent.Extent.{Extent}
 use Rattle.predicate.specs.declared.extent.Known.{Known}
@@ -64,6 +66,15 @@ by_box e = record {
 -- what a condition may be in a box (docs/definitions.md, "Boxes")
 abbrev pub can : Condition Test → Extent → Can
 can c e = meant (by_box e) c
+
+-- the box in which this is known of the column at a place, and nothing of the others (docs/definitions.md, "Boxes")
+abbrev pub only_column : ℕ → Known → Extent
+only_column column k = record { columns = replicate column known.Unknown ++ k ∷ [] }
+
+-- the box in which this is known (docs/definitions.md, "Boxes")
+abbrev pub box_of : KnownOf → Extent
+box_of (known_of.Box e) = e.now
+box_of (known_of.Column column k) = only_column column k.now
 
 -- a value is one of which this is known (docs/definitions.md, "Boxes")
 abbrev pub IsKnown : Known → Value → Type 0

@@ -64,3 +64,7 @@ boxes_of schema partition keys = []
 -- whether each granule is chosen: the condition may be true in its box (docs/definitions.md, "Boxes of granules")
 abbrev pub chosen_in : Schema → Partition → Condition Test → List Row → List Bool
 chosen_in schema partition c keys = map (λ e. (can c e).yes) (boxes_of schema partition keys)
+
+-- whether the rows of each granule are asked: the condition may be false in its box (docs/definitions.md, "Boxes of granules")
+abbrev pub asked_in : Schema → Partition → Condition Test → List Row → List Bool
+asked_in schema partition c keys = map (λ e. (can c e).no) (boxes_of schema partition keys)

@@ -1,3 +1,4 @@
 pub mod Boxes
 pub mod Granules
+pub mod Indexes
 pub mod Masks

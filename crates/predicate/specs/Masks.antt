@@ -4,7 +4,7 @@ use Rattle.std.specs.List.{zip}
 use Rattle.mt_values.specs.declared.expr.Joint.{Joint}
 use Rattle.mt_values.specs.declared.expr.Test.{Test}
 use Rattle.mt_values.specs.Conditions.{Meaning}
-use Rattle.mt_values.specs.Grid.{rows_of}
+use Rattle.mt_values.specs.Grid.{rows_within}
 use Rattle.mt_values.specs.Polish.{ComesTo}
 use Rattle.mt_values.specs.Tests.{meets_at}
 use Rattle.mt_values.specs.Values.{Row}
@@ -20,7 +20,7 @@ one a b = map (λ p. p.0 || p.1) (zip a b)
 
 -- the rows that are asked (docs/architecture.md, "Conditions")
 abbrev pub rows_asked : Asked → List Row
-rows_asked asked = rows_of asked.columns.now asked.rows
+rows_asked asked = rows_within asked.columns.now asked.from asked.rows
 
 -- the truths of rows, as what may be asked (docs/architecture.md, "Conditions")
 abbrev pub by_rows : List Row → Meaning Test (List Bool)

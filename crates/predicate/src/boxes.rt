@@ -4,16 +4,31 @@ ghost use Rattle.std.specs.List.{list_all, list_any};
 ghost use Rattle.mt_values.specs.declared.expr.Joint.{Joint};
 ghost use Rattle.mt_values.specs.Polish.{ComesTo};
 ghost use Rattle.mt_values.specs.Tests.{meets};
-ghost use Rattle.predicate.specs.Boxes.{by_box, can, can_of, can_some, no_within, yes_within};
+ghost use Rattle.predicate.specs.Boxes.{box_of, by_box, can, can_of, can_some, no_within, only_column, yes_within};
 ghost use Rattle.predicate.specs.declared.extent.Can.{Can};
 
 use crate::extent::{Can, Extent, Known};
 use mt_values::{Comparison, Expr, Joint, Stack, Test, Value, cmp_value, meets};
 
+/// What is known of the columns of some rows.
+#[derive(Clone, Copy)]
+enum KnownOf<'a> {
+    /// Of each column what a box says.
+    Box(&'a Extent),
+    /// This of the column at a place, counted from 0, and nothing of the others.
+    Column(u32, &'a Known),
+}
+
 // What no condition is of each row.
 const ALWAYS: Can = Can {
     yes: true,
     no: false,
+};
+
+// What a condition may be where nothing is known.
+const EITHER: Can = Can {
+    yes: true,
+    no: true,
 };
 
 /// Whether the condition may be true of a row of the box. Takes no memory.
@@ -23,38 +38,45 @@ pub fn may_match(condition: &Expr<Test>, extent: &Extent) -> bool
     can(condition, extent).yes
 }
 
+/// Whether the condition may be true of a row of whose values this is known in the column at a place, counted from 0, and nothing
+/// in the others. Takes no memory.
+pub fn may_match_column(condition: &Expr<Test>, column: u32, known: &Known) -> bool
+    ensures { result ≡ (can condition.now (only_column column known.now)).yes }
+{
+    can_by(condition, KnownOf::Column(column, known)).yes
+}
+
 /// What the condition may be of the rows of the box. Takes no memory.
 pub fn can(condition: &Expr<Test>, extent: &Extent) -> Can
     ensures { result ≡ can condition.now extent.now }
 {
+    can_by(condition, KnownOf::Box(extent))
+}
+
+// What the condition may be of rows of which this is known.
+fn can_by(condition: &Expr<Test>, known: KnownOf) -> Can
+    ensures { result ≡ can condition.now (box_of known.entry) }
+{
     let mut tests = condition.tests();
-    let mut answers = Stack::new(Can {
-        yes: true,
-        no: true,
-    });
+    let mut answers = Stack::new(EITHER);
     for joint in condition.joints() {
-        tests = step(extent, tests, *joint, &mut answers);
+        tests = step(known, tests, *joint, &mut answers);
     }
     answers.pop()
 }
 
 // Takes a joint: its answer is put on top, in place of those that it joins. Returns the tests that are left.
-fn step<'a>(
-    extent: &Extent,
-    tests: &'a [Test],
-    joint: Joint,
-    answers: &mut Stack<Can>,
-) -> &'a [Test]
+fn step<'a>(known: KnownOf, tests: &'a [Test], joint: Joint, answers: &mut Stack<Can>) -> &'a [Test]
     requires { (found : Can) × (rest : List Joint)
-        × ComesTo (by_box extent.now) found tests.now answers.old (joint ∷ rest) }
+        × ComesTo (by_box (box_of known)) found tests.now answers.old (joint ∷ rest) }
     ensures { (found : Can) (rest : List Joint)
-        → ComesTo (by_box extent.now) found tests.now answers.old (joint ∷ rest)
-        → ComesTo (by_box extent.now) found result.now answers.new rest }
+        → ComesTo (by_box (box_of known.entry)) found tests.now answers.old (joint ∷ rest)
+        → ComesTo (by_box (box_of known.entry)) found result.now answers.new rest }
 {
     match joint {
         Joint::Always => answers.push(ALWAYS),
         Joint::Test => {
-            answers.push(can_at(&tests[0], extent));
+            answers.push(can_at(&tests[0], known));
             return &tests[1..];
         }
         Joint::Not => {
@@ -84,17 +106,36 @@ fn step<'a>(
     tests
 }
 
+// What a test may be of rows of which this is known.
+fn can_at(test: &Test, known: KnownOf) -> Can
+    ensures { result ≡ can_some test.now
+        (slice_get (box_of known.entry).columns test.now.column) }
+{
+    match known {
+        KnownOf::Box(extent) => can_in(test, extent),
+        KnownOf::Column(column, known) => can_beside(test, column, known),
+    }
+}
+
 // What a test may be of the rows of the box.
-fn can_at(test: &Test, extent: &Extent) -> Can
+fn can_in(test: &Test, extent: &Extent) -> Can
     ensures { result ≡ can_some test.now (slice_get extent.now.columns test.now.column) }
 {
     match extent.columns.as_slice().get(test.column as usize) {
         Some(known) => can_of(test, known),
-        None => Can {
-            yes: true,
-            no: true,
-        },
+        None => EITHER,
     }
+}
+
+// What a test may be where one column alone is known.
+fn can_beside(test: &Test, column: u32, known: &Known) -> Can
+    ensures { result ≡ can_some test.now
+        (slice_get (only_column column known.now).columns test.now.column) }
+{
+    if test.column == column {
+        return can_of(test, known);
+    }
+    EITHER
 }
 
 // What a test may be of the values of which this is known.
@@ -110,10 +151,7 @@ fn can_of(test: &Test, known: &Known) -> Can
             yes: some_meets(test, values.as_slice()),
             no: some_misses(test, values.as_slice()),
         },
-        Known::Unknown => Can {
-            yes: true,
-            no: true,
-        },
+        Known::Unknown => EITHER,
     }
 }
 

@@ -1,7 +1,8 @@
 // What is known of rows that were not read, and what a condition may be of them: docs/definitions.md, "Boxes".
 
-use mt_base::Seq;
+use mt_base::{NoMemory, Seq, Twin};
 use mt_values::Value;
+use std::alloc::Global;
 
 /// What is known of the values of a column.
 #[derive(Drop)]
@@ -12,6 +13,18 @@ pub enum Known {
     List(Seq<Value>),
     /// Nothing.
     Unknown,
+}
+
+impl Twin for Known {
+    fn twin(&self, alloc: Global) -> Result<Self, NoMemory> {
+        match self {
+            Known::Range(least, greatest) => {
+                Ok(Known::Range(least.twin(alloc)?, greatest.twin(alloc)?))
+            }
+            Known::List(values) => Ok(Known::List(values.twin(alloc)?)),
+            Known::Unknown => Ok(Known::Unknown),
+        }
+    }
 }
 
 /// A box: what is known of each column of some rows, in the order of the columns. Nothing is known of the columns after these.

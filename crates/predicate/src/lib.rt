@@ -6,10 +6,10 @@ mod extent;
 mod laws;
 mod masks;
 
-pub use boxes::{can, may_match};
+pub use boxes::{can, may_match, may_match_column};
 pub use extent::{Can, Extent, Known};
 pub use laws::boxes_hide_no_match;
-pub use masks::mask;
+pub use masks::{intersect, mask, mask_within};
 
 #[cfg(test)]
 mod tests;

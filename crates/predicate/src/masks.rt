@@ -1,6 +1,6 @@
 // The truth of a condition on each row of columns: joint by joint, over masks of all rows.
-ghost use Rattle.std.specs.Prelude.{◌≡◌, ◌<◌, ◌∷◌, [], All, Bool, IfOk, List, length, map, not};
-ghost use Rattle.mt_values.specs.Grid.{Cells, rows_of};
+ghost use Rattle.std.specs.Prelude.{◌≡◌, ◌<◌, ◌≤◌, ◌+◌, ◌∷◌, [], All, Bool, IfOk, List, length, map, not};
+ghost use Rattle.mt_values.specs.Grid.{Cells, rows_of, rows_within};
 ghost use Rattle.mt_values.specs.Polish.{ComesTo};
 ghost use Rattle.mt_values.specs.Tests.{eval, meets_at};
 ghost use Rattle.mt_values.specs.declared.expr.Joint.{Joint};
@@ -11,10 +11,11 @@ use mt_values::{ColumnData, Expr, Joint, Test};
 use std::alloc::Global;
 use std::marker::Model;
 
-/// Columns whose rows are asked, and how many rows they have.
+/// Columns of which some rows are asked: so many, from a place on.
 #[derive(Clone, Copy)]
 struct Asked<'a> {
     columns: &'a [ColumnData],
+    from: usize,
     rows: usize,
 }
 
@@ -115,7 +116,29 @@ pub fn mask(
     requires { All (λ (c : Cells). length c.values ≡ rows) columns.now }
     ensures { IfOk result (λ m. m.items ≡ map (eval condition.now) (rows_of columns.now rows)) }
 {
-    let asked = Asked { columns, rows };
+    mask_within(alloc, condition, columns, 0, rows)
+}
+
+/// Whether the condition is true of each of so many rows of the columns, from a place on, counted from 0, in the order of the rows. A
+/// test of a column that is not there is false of each row.
+///
+/// `NoMemory` where an allocation failed.
+pub fn mask_within(
+    alloc: Global,
+    condition: &Expr<Test>,
+    columns: &[ColumnData],
+    from: usize,
+    rows: usize,
+) -> Result<Vec<bool>, NoMemory>
+    requires { All (λ (c : Cells). from + rows ≤ length c.values) columns.now }
+    ensures { IfOk result
+        (λ m. m.items ≡ map (eval condition.now) (rows_within columns.now from rows)) }
+{
+    let asked = Asked {
+        columns,
+        from,
+        rows,
+    };
     let mut tests = condition.tests();
     let mut masks = Masks::new(alloc);
     for joint in condition.joints() {
@@ -134,7 +157,8 @@ fn step<'a>(
     joint: Joint,
     masks: &mut Masks,
 ) -> Result<&'a [Test], NoMemory>
-    requires even { All (λ (c : Cells). length c.values ≡ asked.now.rows) asked.now.columns.now }
+    requires long { All (λ (c : Cells). asked.now.from + asked.now.rows ≤ length c.values)
+        asked.now.columns.now }
     requires joint { MayMask (rows_asked asked.now) tests.now masks.old joint }
     requires masks { AreMasks (rows_asked asked.now) masks.old }
     ensures found { (found : List Bool) (rest : List Joint)
@@ -160,12 +184,13 @@ fn step<'a>(
 ///
 /// `NoMemory` where an allocation failed.
 fn tested(alloc: Global, asked: &Asked, test: &Test) -> Result<Vec<bool>, NoMemory>
-    requires { All (λ (c : Cells). length c.values ≡ asked.now.rows) asked.now.columns.now }
+    requires { All (λ (c : Cells). asked.now.from + asked.now.rows ≤ length c.values)
+        asked.now.columns.now }
     ensures { IfOk result (λ m. m.items ≡ map (λ row. meets_at row test.now)
         (rows_asked asked.now)) }
 {
     match asked.columns.get(test.column as usize) {
-        Some(column) => column.tested(alloc, test),
+        Some(column) => column.tested_within(alloc, test, asked.from, asked.rows),
         None => Ok(vec![in alloc; false; asked.rows]?),
     }
 }
@@ -179,8 +204,8 @@ fn negate(mask: &mut [bool])
     }
 }
 
-/// Leaves the answers true where those of another mask are too.
-fn intersect(mask: &mut [bool], other: &[bool])
+/// Leaves the answers of a mask true where those of another mask are too. Takes no memory.
+pub fn intersect(mask: &mut [bool], other: &[bool])
     requires { length mask.old ≡ length other.now }
     ensures { mask.new ≡ both mask.old other.now }
 {

@@ -3,7 +3,7 @@
 ghost use Rattle.std.specs.Prelude.{◌≡◌, IfOk};
 ghost use Rattle.mt_values.specs.Conditions.{height};
 
-use crate::{Can, Extent, Known, can, mask, may_match};
+use crate::{Can, Extent, Known, can, mask, mask_within, may_match};
 use mt_base::{NoMemory, Seq};
 use mt_values::Comparison::{Equal, Greater, GreaterOrEqual, Less, LessOrEqual, NotEqual};
 use mt_values::{ColType, ColumnData, Comparison, Expr, Test, Value};
@@ -205,6 +205,10 @@ fn rows_are_asked_at_once(rt: HostRuntime) -> Result<(), Fail> {
     assert_eq!(rt;
         mask(alloc, &above, columns.as_slice(), 3)?.as_slice(),
         [true, false, true].as_slice()
+    );
+    assert_eq!(rt;
+        mask_within(alloc, &above, columns.as_slice(), 1, 2)?.as_slice(),
+        [false, true].as_slice()
     );
     let mut elsewhere = test(alloc, 1, Equal, b"\x03")?;
     assert_eq!(rt;
