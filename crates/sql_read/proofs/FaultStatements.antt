@@ -3,11 +3,11 @@ use Rattle.std.proofs.Common.{◌≡◌, ℕ, zero, suc, ◌+◌, Bool, true, fa
 use Rattle.std.specs.List.{list_any}
 use Rattle.mt_values.specs.Conditions.{Condition}
 use Rattle.mt_values.specs.declared.expr.TestText.{TestText}
-use Rattle.mt_values.specs.declared.schema.Column.{Column}
 use Rattle.mt_values.specs.declared.statement.Cause.{Cause}
 use Rattle.mt_values.specs.declared.statement.Cause.TheVariants as cause
 use Rattle.mt_values.specs.declared.statement.Clause.{Clause}
 use Rattle.mt_values.specs.declared.statement.Clause.TheVariants as clause
+use Rattle.mt_values.specs.declared.statement.Element.{Element}
 use Rattle.mt_values.specs.declared.statement.SelectText.{SelectText}
 use Rattle.mt_values.specs.declared.statement.Selected.{Selected}
 use Rattle.mt_values.specs.declared.statement.Selected.TheVariants as selected
@@ -19,15 +19,17 @@ use Rattle.mt_values.specs.declared.token.Placed.{Placed}
 use Rattle.mt_values.specs.declared.token.Symbol.TheVariants as symbol
 use Rattle.mt_values.specs.declared.token.Token.{Token}
 use Rattle.mt_values.specs.declared.token.Token.TheVariants as token
-use Rattle.mt_values.specs.Grammar.{cause_at, is_behind_limit, place_of_first, statement_limit, statement_of, statement_read, tokens_and_end, clause_or_over, clauses, clauses_within, column, create, ends, engine, exactly, explain, format, insert, is_format, is_order_by, is_symbol, is_word, key, keyword, list_of, name, number, one_name, order_by, partition_by, primary_key, same_bytes, select, selection, settings, statement_reader, the, where_part}
+use Rattle.mt_values.specs.Grammar.{cause_at, is_behind_limit, place_of_first, statement_limit, statement_of, statement_read, tokens_and_end, clause_or_over, clauses, clauses_within, create, ends, engine, exactly, explain, format, insert, is_format, is_order_by, is_symbol, is_word, key, keyword, list_of, name, number, one_name, order_by, partition_by, primary_key, same_bytes, select, selection, settings, statement_reader, table_element, the, where_part}
 use Rattle.mt_values.specs.Readers.{Reader, Reading, choose, done, either, expect}
 use Rattle.mt_values.specs.Tokens.{is_keyword}
-use Rattle.sql_read.proofs.Listed.{column_takes, one_name_takes}
+use Rattle.sql_read.proofs.TableElements.{element_takes}
+use Rattle.sql_read.proofs.FaultElements.{element_sound}
+use Rattle.sql_read.proofs.Listed.{one_name_takes}
 use Rattle.sql_read.specs.Places.{GoesOn, DeepFault, FirstFault, LongFault}
 use Rattle.sql_read.proofs.NextClauses.{by_partition, by_primary, by_settings, last_way, no_partition_way, no_primary_way}
 use Rattle.sql_read.proofs.Faults.{Told, done_good}
 use Rattle.sql_read.proofs.FaultConditions.{where_sound}
-use Rattle.sql_read.proofs.FaultTokens.{Begun, a_name, a_number, begun, choose_begun, column_sound, digits_live, ends_begun, keyword_then, names_live, names_then, one_name_sound, passes, passes_live, passing_apart}
+use Rattle.sql_read.proofs.FaultTokens.{Begun, a_name, a_number, begun, choose_begun, digits_live, ends_begun, keyword_then, names_live, names_then, one_name_sound, passes, passes_live, passing_apart}
 use Rattle.sql_read.proofs.FaultParts.{Live, Sound, choose_other_sound, choose_this_sound, ends_sound, list_sound, live_of, symbol_apart}
 
 -- ---- parts, by the token that begins what follows them
@@ -140,13 +142,13 @@ module _ {S : Type 0} (n : ℕ) where
 -- ---- statements, each after its first keyword
 
 module _ (n : ℕ) where
-  columns_sound : (next : List Column → Reader Statement) (u : Token) → ((columns : List Column) → Sound n (next columns) u) → Sound n (expect (the symbol.Open) (λ v. list_of column (λ columns. expect (the symbol.Close) (λ v. next columns)))) (token.Symbol symbol.Open)
-  columns_sound next u sound =
-      passes n (is_symbol symbol.Open) (token.Symbol symbol.Open) refl (λ v. list_of column (λ columns. expect (the symbol.Close) (λ v. next columns))) a_name
-      (list_sound column a_name column_takes column_sound (λ columns. expect (the symbol.Close) (λ v. next columns)) (token.Symbol symbol.Close) refl n
-      (λ columns. passes n (is_symbol symbol.Close) (token.Symbol symbol.Close) refl (λ v. next columns) u (sound columns)))
+  elements_sound : (next : List Element → Reader Statement) (u : Token) → ((elements : List Element) → Sound n (next elements) u) → Sound n (expect (the symbol.Open) (λ v. list_of table_element (λ elements. expect (the symbol.Close) (λ v. next elements)))) (token.Symbol symbol.Open)
+  elements_sound next u sound =
+      passes n (is_symbol symbol.Open) (token.Symbol symbol.Open) refl (λ v. list_of table_element (λ elements. expect (the symbol.Close) (λ v. next elements))) a_name
+      (list_sound table_element a_name element_takes element_sound (λ elements. expect (the symbol.Close) (λ v. next elements)) (token.Symbol symbol.Close) refl n
+      (λ elements. passes n (is_symbol symbol.Close) (token.Symbol symbol.Close) refl (λ v. next elements) u (sound elements)))
 
-  -- what follows the columns of a CREATE
+  -- what follows the elements of a CREATE
   clauses_read : (List Clause → Statement) → Reader Statement
   clauses_read made = expect (keyword (codes "ENGINE")) (λ v. expect (the symbol.Equal) (λ v. engine (clauses (λ cs. ends (made cs)))))
 
@@ -161,16 +163,16 @@ module _ (n : ℕ) where
   -- what follows CREATE
   create_read : List ℕ → Reader Statement
   create_read text =
-      expect (keyword (codes "TABLE")) (λ v. expect name (λ table. expect (the symbol.Open) (λ v. list_of column (λ columns. expect (the symbol.Close) (λ v.
-      clauses_read (λ cs. statement.Create (record { text = text; table = table; columns = columns; clauses = cs })))))))
+      expect (keyword (codes "TABLE")) (λ v. expect name (λ table. expect (the symbol.Open) (λ v. list_of table_element (λ elements. expect (the symbol.Close) (λ v.
+      clauses_read (λ cs. statement.Create (record { text = text; table = table; elements = elements; clauses = cs })))))))
 
   create_read_sound : (text : List ℕ) → Sound n (create_read text) (token.Word (codes "TABLE"))
   unfolding create_read
   create_read_sound text =
-      let columns_then = λ (table : List ℕ) (columns : List Column). clauses_read (λ cs. statement.Create (record { text = text; table = table; columns = columns; clauses = cs })) in
-      let sound = λ (table : List ℕ). columns_sound (columns_then table) (token.Word (codes "ENGINE")) (λ columns. clauses_read_sound (λ cs. statement.Create (record { text = text; table = table; columns = columns; clauses = cs }))) in
-      keyword_then n (codes "TABLE") refl (expect name (λ table. expect (the symbol.Open) (λ v. list_of column (λ columns. expect (the symbol.Close) (λ v. columns_then table columns))))) a_name
-      (names_then n (λ table. expect (the symbol.Open) (λ v. list_of column (λ columns. expect (the symbol.Close) (λ v. columns_then table columns)))) (token.Symbol symbol.Open) sound)
+      let elements_then = λ (table : List ℕ) (elements : List Element). clauses_read (λ cs. statement.Create (record { text = text; table = table; elements = elements; clauses = cs })) in
+      let sound = λ (table : List ℕ). elements_sound (elements_then table) (token.Word (codes "ENGINE")) (λ elements. clauses_read_sound (λ cs. statement.Create (record { text = text; table = table; elements = elements; clauses = cs }))) in
+      keyword_then n (codes "TABLE") refl (expect name (λ table. expect (the symbol.Open) (λ v. list_of table_element (λ elements. expect (the symbol.Close) (λ v. elements_then table elements))))) a_name
+      (names_then n (λ table. expect (the symbol.Open) (λ v. list_of table_element (λ elements. expect (the symbol.Close) (λ v. elements_then table elements)))) (token.Symbol symbol.Open) sound)
 
   -- what follows INSERT
   insert_read : List ℕ → Bool → Reader Statement

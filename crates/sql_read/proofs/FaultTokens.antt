@@ -8,7 +8,7 @@ use Rattle.mt_values.specs.declared.token.Token.{Token}
 use Rattle.mt_values.specs.declared.token.Token.TheVariants as token
 use Rattle.mt_values.specs.declared.value.ColType.{ColType}
 use Rattle.mt_values.specs.declared.value.ColType.TheVariants as type
-use Rattle.mt_values.specs.Grammar.{column, comparison_of, ends, is_symbol, is_word, keyword, name, number, one_name, operator, passing, plain, same_bytes, string, the, type_named}
+use Rattle.mt_values.specs.Grammar.{comparison_of, ends, is_symbol, is_word, keyword, name, number, one_name, operator, passing, plain, same_bytes, string, the, type_named}
 use Rattle.mt_values.specs.Readers.{Reader, choose, done, expect}
 use Rattle.mt_values.specs.Tokens.{is_keyword}
 use Rattle.sql_read.proofs.Faults.{Good, NamesTold, OnlyWrong, done_good, name_names, only_wrong_names, passing_names}
@@ -121,12 +121,6 @@ module _ {S : Type 0} (n : ℕ) where
 
 pub one_name_sound : {S : Type 0} → SoundItem {S = S} one_name a_name
 one_name_sound n next good live = expect_live_sound n name a_name (codes "t") refl name_names next good live
-
-pub column_sound : {S : Type 0} → SoundItem {S = S} column a_name
-column_sound n next good live =
-    sound_fewer (suc n) (column next) a_name
-    (expect_sound (suc n) name a_name (codes "t") refl name_names (λ w. expect plain (λ t. next (record { name = w; col_type = t }))) a_type
-    (λ w. expect_live_sound n plain a_type type.UInt8 refl plain_names (λ t. next (record { name = w; col_type = t })) (λ t. good (record { name = w; col_type = t })) (λ t. live (record { name = w; col_type = t }))))
 
 -- ---- readers that begin with a token, by what they say of it
 

@@ -1,5 +1,7 @@
 pub mod Chains
 pub mod Choices
+pub mod TableElements
+pub mod FaultElements
 pub mod FaultStatements
 pub mod Faults
 pub mod FaultConditions

@@ -5,7 +5,7 @@ use Rattle.mt_values.specs.declared.statement.Statement.{Statement}
 use Rattle.mt_values.specs.declared.token.Placed.{Placed}
 use Rattle.mt_values.specs.declared.token.Symbol.TheVariants as symbol
 use Rattle.mt_values.specs.declared.token.Token.{Token}
-use Rattle.mt_values.specs.Grammar.{is_symbol, the, name, plain, one_name, column}
+use Rattle.mt_values.specs.Grammar.{is_symbol, the, name, one_name}
 use Rattle.mt_values.specs.Readers.{Reader, Test, Part, taken, expect, either, choose, listed_within}
 use Rattle.mt_base.specs.declared.stop.Stop.{Stop}
 use Rattle.mt_base.specs.declared.stop.Stop.TheVariants as stop
@@ -26,11 +26,6 @@ expect_takes test next other (p ∷ ps) same = taken_same (test p.token) next ot
 
 pub one_name_takes : {S : Type 0} → TakesToken {S = S} one_name
 one_name_takes = expect_takes name
-
-pub column_takes : {S : Type 0} → TakesToken {S = S} column
-column_takes next other ts same =
-    expect_takes name (λ n. expect plain (λ t. next (record { name = n; col_type = t }))) (λ n. expect plain (λ t. other (record { name = n; col_type = t }))) ts
-    (λ n us less. expect_takes plain (λ t. next (record { name = n; col_type = t })) (λ t. other (record { name = n; col_type = t })) us (λ t vs fewer. same (record { name = n; col_type = t }) vs (omega arith)))
 
 either_same : {S : Type 0} (c : Bool) (this that other : Reader S) (ts : List Placed) → this ts ≡ that ts → either c this other ts ≡ either c that other ts
 either_same true this that other ts same = same

@@ -1,9 +1,11 @@
 -- The parts of statements (docs/grammar.md, "Statements") that the code reads one by one, each with what may follow it.
 use Rattle.std.specs.Prelude.{ℕ, List, Option, Some, None, codes}
-use Rattle.mt_values.specs.declared.schema.Column.{Column}
 use Rattle.mt_values.specs.declared.statement.Clause.{Clause}
+use Rattle.mt_values.specs.declared.statement.Element.{Element}
+use Rattle.mt_values.specs.declared.statement.KindText.{KindText}
+use Rattle.mt_values.specs.declared.statement.KindText.TheVariants as kind
 use Rattle.mt_values.specs.declared.token.Symbol.TheVariants as symbol
-use Rattle.mt_values.specs.Grammar.{clause_or_over, clauses, column, engine, format, is_word, key, keyword, list_of, name, the}
+use Rattle.mt_values.specs.Grammar.{clause_or_over, clauses, engine, exactly, format, index_kind, is_word, key, keyword, list_of, name, number, table_element, the}
 use Rattle.mt_values.specs.Readers.{Part, choose, expect}
 use Rattle.mt_values.specs.Tokens.{is_keyword}
 
@@ -19,9 +21,21 @@ name_after first second next = expect (keyword first) (λ _. expect (keyword sec
 abbrev pub key_after : {S : Type 0} → List ℕ → List ℕ → Part S (List (List ℕ))
 key_after first second next = expect (keyword first) (λ _. expect (keyword second) (λ _. key next))
 
+-- minmax
+abbrev pub minmax_kind : {S : Type 0} → Part S KindText
+minmax_kind next = expect (exactly (codes "minmax")) (λ _. next kind.MinMax)
+
+-- TYPE kind
+abbrev pub index_type : {S : Type 0} → Part S KindText
+index_type next = expect (keyword (codes "TYPE")) (λ _. index_kind next)
+
+-- GRANULARITY number
+abbrev pub index_granularity : {S : Type 0} → Part S (List ℕ)
+index_granularity next = expect (keyword (codes "GRANULARITY")) (λ _. expect number next)
+
 -- "(" element { "," element } ")"
-abbrev pub created_columns : {S : Type 0} → Part S (List Column)
-created_columns next = expect (the symbol.Open) (λ _. list_of column (λ columns. expect (the symbol.Close) (λ _. next columns)))
+abbrev pub created_elements : {S : Type 0} → Part S (List Element)
+created_elements next = expect (the symbol.Open) (λ _. list_of table_element (λ elements. expect (the symbol.Close) (λ _. next elements)))
 
 -- a clause that came next
 abbrev pub found_clause : {S : Type 0} → Part S Clause → Part S (Option Clause)

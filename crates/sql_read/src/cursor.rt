@@ -178,8 +178,8 @@ impl<'a> Cursor<'a> {
         }
     }
 
-    // Whether the next token is this word as it is written.
-    fn at_exactly(&self, written: &[u8]) -> bool
+    /// Whether the next token is this word as it is written.
+    pub fn at_exactly(&self, written: &[u8]) -> bool
         ensures { result ≡ first_is (is_word (same_bytes written.now)) self.now }
     {
         match self.rest {

@@ -5,6 +5,7 @@ mod blanks;
 mod clauses;
 mod conditions;
 mod cursor;
+mod elements;
 mod escapes;
 mod grammar;
 mod laws;

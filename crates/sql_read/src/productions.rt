@@ -1,14 +1,14 @@
 // The productions of the grammar, each of which takes its tokens from the left.
-ghost use Rattle.std.specs.Prelude.{◌<◌, ◌∷◌, [], Bool, List, OnOk, length};
+ghost use Rattle.std.specs.Prelude.{◌∷◌, [], Bool, List};
 ghost use Rattle.mt_values.specs.declared.token.Placed.{Placed};
-ghost use Rattle.mt_values.specs.Grammar.{column, create, explain, insert, key, list_of, one_name, select, select_text, selection};
-ghost use Rattle.sql_read.specs.Parts.{created_clauses, created_columns, engine_part, inserted_format, key_after, name_after, selected_table};
+ghost use Rattle.mt_values.specs.Grammar.{create, explain, insert, key, list_of, one_name, select, select_text, selection};
+ghost use Rattle.sql_read.specs.Parts.{created_clauses, engine_part, inserted_format, key_after, name_after, selected_table};
 ghost use Rattle.sql_read.specs.Reads.{Ends, IsRead, Reads, ReadsEnd};
 
 use crate::cursor::Cursor;
 use mt_base::{Seq, Stop};
 use mt_values::{
-    Clause, Column, CreateText, InsertText, Name, SelectText, Selected, Slip, Statement, Symbol,
+    Clause, CreateText, InsertText, Name, SelectText, Selected, Slip, Statement, Symbol,
 };
 use std::alloc::Global;
 
@@ -22,30 +22,6 @@ fn only(alloc: Global, name: Name) -> Result<Seq<Name>, Stop<Slip>>
 }
 
 impl Cursor<'_> {
-    // column = name plain
-    fn column(&mut self, alloc: Global) -> Result<Column, Stop<Slip>>
-        ensures read { Reads column self.old result self.new }
-        ensures less { OnOk result (length self.new < length self.old) }
-    {
-        let name = self.name(alloc)?;
-        let col_type = self.plain()?;
-        Ok(Column { name, col_type })
-    }
-
-    // column { "," column }
-    fn columns(&mut self, alloc: Global) -> Result<Seq<Column>, Stop<Slip>>
-        ensures { Reads (list_of column) self.old result self.new }
-    {
-        let mut columns = Seq::new(alloc);
-        'columns: loop {
-            let column = self.column(alloc)?;
-            columns.push(column)?;
-            if !self.skip(Symbol::Comma) {
-                return Ok(columns);
-            }
-        }
-    }
-
     // name { "," name }
     fn names(&mut self, alloc: Global) -> Result<Seq<Name>, Stop<Slip>>
         ensures { Reads (list_of one_name) self.old result self.new }
@@ -134,16 +110,6 @@ impl Cursor<'_> {
         self.key(alloc)
     }
 
-    // "(" element { "," element } ")"
-    fn created_columns(&mut self, alloc: Global) -> Result<Seq<Column>, Stop<Slip>>
-        ensures { Reads created_columns self.old result self.new }
-    {
-        self.symbol(Symbol::Open)?;
-        let columns = self.columns(alloc)?;
-        self.symbol(Symbol::Close)?;
-        Ok(columns)
-    }
-
     // ENGINE "=" engine clauses
     fn created_clauses(&mut self, alloc: Global) -> Result<Seq<Clause>, Stop<Slip>>
         ensures { Reads created_clauses self.old result self.new }
@@ -178,14 +144,14 @@ impl Cursor<'_> {
         ensures { IsRead (create text.now) self.old result self.new }
     {
         let table = self.name_after(alloc, b"CREATE", b"TABLE")?;
-        let columns = self.created_columns(alloc)?;
+        let elements = self.created_elements(alloc)?;
         let clauses = self.created_clauses(alloc)?;
         self.end()?;
         let text = Seq::from_slice(alloc, text)?;
         Ok(Statement::Create(CreateText {
             text,
             table,
-            columns,
+            elements,
             clauses,
         }))
     }
