@@ -10,7 +10,6 @@ use Rattle.mt_values.specs.declared.row_fault.DataFault.TheVariants as data_faul
 use Rattle.mt_values.specs.declared.row_fault.RowFault.{RowFault}
 use Rattle.mt_values.specs.declared.row_fault.RowFault.TheVariants as row_fault
 use Rattle.mt_values.specs.declared.schema.Column.{Column}
-use Rattle.mt_values.specs.declared.schema.KeyOrder.{KeyOrder}
 use Rattle.mt_values.specs.declared.schema.Schema.{Schema}
 use Rattle.mt_values.specs.declared.schema.SchemaFault.{SchemaFault}
 use Rattle.mt_values.specs.declared.schema.SchemaFault.TheVariants as schema_fault
@@ -24,12 +23,14 @@ use Rattle.mt_values.specs.Conditions.{Condition, tests_of}
 use Rattle.mt_values.specs.Rows.{inserted_rows}
 use Rattle.mt_values.specs.Schemas.{schema_fault_as as rule_of}
 use Rattle.mt_values.specs.Values.{Row}
+use Rattle.mt_model.specs.declared.refusal.Bound.{Bound}
 use Rattle.mt_model.specs.declared.refusal.Bound.TheVariants as bound
 use Rattle.mt_model.specs.declared.refusal.Refusal.{Refusal}
 use Rattle.mt_model.specs.declared.refusal.Refusal.TheVariants as refusal
 use Rattle.mt_model.specs.declared.refusal.Room.TheVariants as room
-use Rattle.mt_model.specs.Clauses.{column_place, first_key, first_unknown, mentioned, schema_written}
-use Rattle.mt_model.specs.Reply.{found_or, place_onto, places_of, first_refusal, refusal_of_rules, refusal_of_schema, refusal_of_table, refusal_of_text, too_many_columns, unknown_column, unless_refused, schema_of_text, create_turn, rows_or_refused, rows_for, insert_turn, selected_places}
+use Rattle.mt_values.specs.Grammar.{columns_of}
+use Rattle.mt_model.specs.Clauses.{column_place, first_key, first_unknown, names_of_text, schema_of_create}
+use Rattle.mt_model.specs.Reply.{found_or, place_onto, places_of, first_passed, first_refusal, refusal_of_rules, refusal_of_schema, refusal_of_text, too_many_elements, unknown_column, unless_refused, schema_of_text, create_turn, rows_or_refused, rows_for, insert_turn, selected_places}
 use Rattle.mt_model.specs.Queries.{asked_with, first_alien, place_in, query_for, query_of, query_of_select, refusal_of_condition, refusal_of_test, refusal_of_tests, type_at}
 use Rattle.mt_model.specs.declared.query.Query.{Query}
 use Rattle.mt_values.specs.declared.statement.Statement.{Statement}
@@ -96,19 +97,21 @@ places_tell : (columns : List Column) (names : List (List ℕ)) → Scripted (pl
 places_tell columns [] = tt
 places_tell columns (name ∷ names) = onto_tells (found_or name (column_place columns name)) (places_of columns names) (found_tells name (column_place columns name)) (places_tell columns names)
 
-rules_tell : (columns : List Column) (o : Option SchemaFault) → Tells (option_map (refusal_of_schema columns) o)
-rules_tell columns None = tt
-rules_tell columns (Some schema_fault.NoColumns) = (omega arith, refl)
-rules_tell columns (Some (schema_fault.DoubleColumn place)) = (omega arith, refl)
-rules_tell columns (Some (schema_fault.DoubleKey place)) = (omega arith, refl)
-rules_tell columns (Some (schema_fault.NotPrefix place)) = (omega arith, refl)
-rules_tell columns (Some (schema_fault.PartitionType place)) = (omega arith, refl)
-rules_tell columns (Some schema_fault.Granularity) = (omega arith, refl)
+rules_tell : (schema : Schema) (o : Option SchemaFault) → Tells (option_map (refusal_of_schema schema) o)
+rules_tell schema None = tt
+rules_tell schema (Some schema_fault.NoColumns) = (omega arith, refl)
+rules_tell schema (Some (schema_fault.DoubleColumn place)) = (omega arith, refl)
+rules_tell schema (Some (schema_fault.DoubleIndex place)) = (omega arith, refl)
+rules_tell schema (Some (schema_fault.DoubleKey place)) = (omega arith, refl)
+rules_tell schema (Some (schema_fault.NotPrefix place)) = (omega arith, refl)
+rules_tell schema (Some (schema_fault.PartitionType place)) = (omega arith, refl)
+rules_tell schema (Some schema_fault.Granularity) = (omega arith, refl)
+rules_tell schema (Some (schema_fault.IndexGranularity place)) = (omega arith, refl)
+rules_tell schema (Some (schema_fault.SetSize place)) = (omega arith, refl)
 
-table_tells : (first : KeyOrder) (schema : Schema) → Tells (refusal_of_table first schema)
-table_tells first schema =
-    tells_first (refusal_of_rules first schema) (too_many_columns schema.columns) (rules_tell schema.columns (rule_of first schema))
-    (tells_if (nat_le (length schema.columns) 64) None (Some (refusal.Past bound.Columns)) tt (omega arith, refl))
+bounds_tell : (o : Option Bound) → Tells (option_map refusal.Past o)
+bounds_tell None = tt
+bounds_tell (Some b) = (omega arith, refl)
 
 unless_tells : {X : Type 0} (o : Option Refusal) (x : X) → Tells o → Scripted (unless_refused o x)
 unless_tells None x h = tt
@@ -120,9 +123,11 @@ unknown_tells (Some name) = (omega arith, refl)
 
 text_tells : (c : CreateText) → Scripted (schema_of_text c)
 text_tells c =
-    let schema = schema_written c.columns c.clauses in
+    let schema = schema_of_create c in
+    let first = first_key c.clauses in
     unless_tells (refusal_of_text c) schema
-    (tells_first (unknown_column c) (refusal_of_table (first_key c.clauses) schema) (unknown_tells (first_unknown c.columns (mentioned c.clauses))) (table_tells (first_key c.clauses) schema))
+    (tells_first (unknown_column c) (first_refusal (refusal_of_rules first schema) (too_many_elements c)) (unknown_tells (first_unknown (columns_of c.elements) (names_of_text c)))
+    (tells_first (refusal_of_rules first schema) (too_many_elements c) (rules_tell schema (rule_of first schema)) (bounds_tell (first_passed [] c.elements))))
 
 create_turn_tells : (table : List ℕ) (h : History) → Tells (create_turn table h)
 create_turn_tells table h =

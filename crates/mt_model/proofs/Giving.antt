@@ -1,6 +1,8 @@
 -- The statements that the grammar's readers give.
 use Rattle.std.proofs.Common.{ℕ, ◌+◌, ◌<◌, Bool, true, false, List, [], ◌∷◌, ◌++◌, IfOk, Result, Ok, Err, length, All, arith, zero, suc, length-append, codes}
 use Rattle.std.proofs.lemmas.List.Elements.{All-head, All-tail}
+use Rattle.mt_values.specs.declared.statement.Element.TheVariants as element
+use Rattle.mt_values.specs.declared.statement.KindText.TheVariants as kind_text
 use Rattle.mt_values.specs.declared.statement.InsertText.{InsertText}
 use Rattle.mt_values.specs.declared.statement.SelectText.{SelectText}
 use Rattle.mt_values.specs.declared.statement.Selected.TheVariants as selected
@@ -88,8 +90,25 @@ module _ (T : Token → Type 0) (Good : Statement → Type 0) where
   name_passes : Passes grammar.one_name
   name_passes next each = expect_gives grammar.name next each
 
-  pub column_passes : Passes grammar.column
+  column_passes : Passes grammar.column
   column_passes next each = expect_gives grammar.name _ (λ n. expect_gives grammar.plain _ (λ t. each _))
+
+  kind_passes : Passes grammar.index_kind
+  kind_passes next each =
+      choose_gives (grammar.is_word (grammar.same_bytes (codes "minmax"))) _ _
+      (expect_gives (grammar.exactly (codes "minmax")) _ (λ _. each kind_text.MinMax))
+      (expect_gives (grammar.exactly (codes "set")) _ (λ _. expect_gives (grammar.the symbol.Open) _ (λ _.
+      expect_gives grammar.number _ (λ digits. expect_gives (grammar.the symbol.Close) _ (λ _. each (kind_text.Set digits))))))
+
+  index_passes : Passes grammar.index
+  index_passes next each =
+      expect_gives (grammar.keyword (codes "INDEX")) _ (λ _. expect_gives grammar.name _ (λ n. expect_gives grammar.name _ (λ c.
+      expect_gives (grammar.keyword (codes "TYPE")) _ (λ _. kind_passes _ (λ k.
+      expect_gives (grammar.keyword (codes "GRANULARITY")) _ (λ _. expect_gives grammar.number _ (λ digits.
+      each (element.Index (record { name = n; column = c; kind = k; granularity = digits })))))))))
+
+  pub element_passes : Passes grammar.table_element
+  element_passes next each = choose_gives (grammar.is_word (is_keyword (codes "INDEX"))) (grammar.index next) (grammar.column next) (index_passes next each) (column_passes next each)
 
   pub engine_gives : (next : Reader Statement) → GivesAll next → GivesAll (grammar.engine next)
   engine_gives next each =

@@ -22,7 +22,7 @@ use Rattle.mt_model.proofs.Again.{BeginsText, behind_begins, next_alone}
 use Rattle.mt_model.proofs.Unended.{IsOpen, open_no_ends}
 use Rattle.mt_model.proofs.Words.{IsWordToken, tokens_words, name_says}
 use Rattle.mt_model.proofs.ClauseKeys.{clauses_give}
-use Rattle.mt_model.proofs.Giving.{Gives, GivesAll, expect_says, expect_gives, choose_gives, ends_says, list_gives, column_passes, engine_gives, insert_gives, asking_gives}
+use Rattle.mt_model.proofs.Giving.{Gives, GivesAll, expect_says, expect_gives, choose_gives, ends_says, list_gives, element_passes, engine_gives, insert_gives, asking_gives}
 
 -- ---- what a CREATE says
 
@@ -82,9 +82,9 @@ module _ (text : List ℕ) (terminated : Bool) where
   create_gives : GivesAll Known Read (grammar.create text)
   create_gives =
       expect_gives Known Read _ _ (λ _. expect_gives Known Read _ _ (λ _. expect_says Known Read grammar.name _ IsName (name_is terminated) (λ table named.
-      expect_gives Known Read _ _ (λ _. list_gives Known Read grammar.column _ (column_passes Known Read) (λ columns some. expect_gives Known Read _ _ (λ _.
+      expect_gives Known Read _ _ (λ _. list_gives Known Read grammar.table_element _ (element_passes Known Read) (λ elements some. expect_gives Known Read _ _ (λ _.
       expect_gives Known Read _ _ (λ _. expect_gives Known Read _ _ (λ _. engine_gives Known Read _ (clauses_give Known Read _ (λ clauses keyed.
-      ends_says Known Read (statement.Create (record { text = text; table = table; columns = columns; clauses = clauses })) (λ t h.
+      ends_says Known Read (statement.Create (record { text = text; table = table; elements = elements; clauses = clauses })) (λ t h.
       ok_weaker (λ _. terminated ≡ true) _ (grammar.the symbol.Semicolon t) (λ _ ended. record { is = refl; keys = keyed; named = named; ended = ended }) (close_is terminated t h))))))))))))
 
   reader_gives : (lines : List ℕ) (ended : Bool) → GivesAll Known Read (grammar.statement_reader text lines ended)

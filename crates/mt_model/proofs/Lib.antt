@@ -6,6 +6,7 @@ pub mod Commands
 pub mod ConditionBounds
 pub mod Counting
 pub mod Determined
+pub mod ElementLists
 pub mod Gained
 pub mod Giving
 pub mod Growing
@@ -21,6 +22,7 @@ pub mod Queries
 pub mod Ranges
 pub mod Refused
 pub mod Replies
+pub mod SchemaRefusals
 pub mod Rising
 pub mod SameKeys
 pub mod Sorting

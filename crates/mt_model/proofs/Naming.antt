@@ -3,14 +3,15 @@ use Rattle.std.proofs.Common.{◌≡◌, ℕ, ◌+◌, ◌<◌, ◌≤◌, Bool,
 use Rattle.std.proofs.Math.ListN.{drop_of_length-le}
 use Rattle.std.proofs.lemmas.List.{drop_more, take_more}
 use Rattle.std.proofs.lemmas.List.Elements.{filter_map-append}
-use Rattle.std.specs.List.{cons_option}
+use Rattle.std.specs.List.{cons_option, flat_map}
 use Rattle.std.specs.Option.{IfSome}
 use Rattle.mt_values.specs.declared.schema.Column.{Column}
 use Rattle.mt_values.specs.declared.statement.Clause.{Clause}
 use Rattle.mt_values.specs.declared.statement.Clause.TheVariants as clause
+use Rattle.mt_values.specs.declared.statement.Element.{Element}
 use Rattle.mt_model.specs.declared.refusal.Refusal.{Refusal}
 use Rattle.mt_model.specs.declared.refusal.Refusal.TheVariants as refusal
-use Rattle.mt_model.specs.Clauses.{column_place, first_unknown, given_primary, mentioned, names_of_clause, places_named, primary_names, sorting_names}
+use Rattle.mt_model.specs.Clauses.{column_place, first_unknown, given_primary, indexed_names, mentioned, names_of_clause, names_of_element, places_named, primary_names, sorting_names}
 use Rattle.mt_model.specs.Reply.{found_or, place_onto, places_of}
 
 -- ---- the places of names
@@ -70,21 +71,44 @@ module _ (columns : List Column) where
       by true more is = more is
       by false more is = is
 
-  -- clauses from a place on: the first of them, and the others
-  from_clause : (clauses : List Clause) (i : ℕ) (c : Clause) → i < length clauses → c ≡ get_or clauses i c → mentioned (drop i clauses) ≡ names_of_clause c ++ mentioned (drop (i + 1) clauses)
-  from_clause clauses i c below is = ap mentioned (drop_more clauses i c below) ∙ ap (λ (d : Clause). names_of_clause d ++ mentioned (drop (i + 1) clauses)) (sym is)
+  -- the names of some that come first decide, or else those of the others
+  pub unknown_before : (names others : List (List ℕ)) (found : List ℕ) → Some found ≡ first_unknown columns names → first_unknown columns (names ++ others) ≡ Some found
+  unknown_before names others found there = unknown_here names others found (sym there)
+
+  pub known_before : (names others : List (List ℕ)) → None ≡ first_unknown columns names → first_unknown columns (names ++ others) ≡ first_unknown columns others
+  known_before names others none = unknown_apart names others (sym none)
+
+  module _ {X : Type 0} (names_in : X → List (List ℕ)) (items : List X) (i : ℕ) (x : X) (below : i < length items) (is : x ≡ get_or items i x) where
+    -- items from a place on: the first of them, and the others
+    from_item : flat_map names_in (drop i items) ≡ names_in x ++ flat_map names_in (drop (i + 1) items)
+    from_item = ap (flat_map names_in) (drop_more items i x below) ∙ ap (λ (y : X). names_in y ++ flat_map names_in (drop (i + 1) items)) (sym is)
+
+    -- a name of the item at a place is no column's
+    unknown_there : (found : List ℕ) → Some found ≡ first_unknown columns (names_in x) → first_unknown columns (flat_map names_in (drop i items)) ≡ Some found
+    unknown_there found there = ap (first_unknown columns) from_item ∙ unknown_here (names_in x) (flat_map names_in (drop (i + 1) items)) found (sym there)
+
+    -- each of them is a column's, and the search goes on
+    unknown_later : None ≡ first_unknown columns (names_in x) → first_unknown columns (flat_map names_in (drop (i + 1) items)) ≡ first_unknown columns (flat_map names_in (drop i items))
+    unknown_later none = sym (ap (first_unknown columns) from_item ∙ unknown_apart (names_in x) (flat_map names_in (drop (i + 1) items)) (sym none))
 
   -- a name of the clause at a place is no column's
   pub unknown_at : (clauses : List Clause) (i : ℕ) (c : Clause) (found : List ℕ) → i < length clauses → c ≡ get_or clauses i c → Some found ≡ first_unknown columns (names_of_clause c)
       → first_unknown columns (mentioned (drop i clauses)) ≡ Some found
-  unknown_at clauses i c found below is there =
-      ap (first_unknown columns) (from_clause clauses i c below is) ∙ unknown_here (names_of_clause c) (mentioned (drop (i + 1) clauses)) found (sym there)
+  unknown_at clauses i c found below is there = unknown_there names_of_clause clauses i c below is found there
 
   -- each of them is a column's, and the search goes on
   pub unknown_after : (clauses : List Clause) (i : ℕ) (c : Clause) → i < length clauses → c ≡ get_or clauses i c → None ≡ first_unknown columns (names_of_clause c)
       → first_unknown columns (mentioned (drop (i + 1) clauses)) ≡ first_unknown columns (mentioned (drop i clauses))
-  unknown_after clauses i c below is none =
-      sym (ap (first_unknown columns) (from_clause clauses i c below is) ∙ unknown_apart (names_of_clause c) (mentioned (drop (i + 1) clauses)) (sym none))
+  unknown_after clauses i c below is none = unknown_later names_of_clause clauses i c below is none
+
+  -- the same of elements
+  pub element_unknown_at : (elements : List Element) (i : ℕ) (e : Element) (found : List ℕ) → i < length elements → e ≡ get_or elements i e → Some found ≡ first_unknown columns (names_of_element e)
+      → first_unknown columns (indexed_names (drop i elements)) ≡ Some found
+  element_unknown_at elements i e found below is there = unknown_there names_of_element elements i e below is found there
+
+  pub element_unknown_after : (elements : List Element) (i : ℕ) (e : Element) → i < length elements → e ≡ get_or elements i e → None ≡ first_unknown columns (names_of_element e)
+      → first_unknown columns (indexed_names (drop (i + 1) elements)) ≡ first_unknown columns (indexed_names (drop i elements))
+  element_unknown_after elements i e below is none = unknown_later names_of_element elements i e below is none
 
   -- ---- the places of names, one name after another
 
@@ -114,7 +138,7 @@ module _ (columns : List Column) where
       by true more none = more none
       by false more none = cc
 
-  rest_known : (names others : List (List ℕ)) → first_unknown columns (names ++ others) ≡ None → first_unknown columns others ≡ None
+  pub rest_known : (names others : List (List ℕ)) → first_unknown columns (names ++ others) ≡ None → first_unknown columns others ≡ None
   rest_known names others none = sym (unknown_apart names others (front_known names others none)) ∙ none
 
   -- the names of ORDER BY are columns'

@@ -1,5 +1,5 @@
 -- Which commands may come next: the schema that a CREATE writes is one that a table may have, and the rows of an INSERT are its table's.
-use Rattle.std.proofs.Common.{◌≡◌, ℕ, ◌<◌, ◌≤◌, Bool, true, false, cond, List, [], ◌∷◌, Option, Some, None, Result, Ok, Err, filter, length, All, refl, ap, subst, arith, suc, nat_le, nat_lt, is_some}
+use Rattle.std.proofs.Common.{◌≡◌, ℕ, ◌<◌, Bool, true, false, cond, List, [], ◌∷◌, Option, Some, None, Result, Ok, Err, filter, length, All, refl, ap, subst, arith, suc, nat_lt, is_some}
 use Rattle.std.proofs.lemmas.Bool.{leb-true}
 use Rattle.std.proofs.lemmas.List.Elements.{All-nil, All-cons, All-filter, All-weaker, filter_passes}
 use Rattle.std.proofs.lemmas.List.Quantifiers.{position-Some}
@@ -17,19 +17,21 @@ use Rattle.mt_values.specs.declared.value.ColType.TheVariants.{UInt8}
 use Rattle.mt_values.specs.declared.statement.CreateText.{CreateText}
 use Rattle.mt_values.specs.Values.{AreValues, IsValue, Row, types_of}
 use Rattle.mt_values.specs.Tables.{partition_of, same_partition}
-use Rattle.mt_values.specs.Grammar.{same_bytes}
+use Rattle.mt_values.specs.Grammar.{columns_of, same_bytes}
 use Rattle.mt_values.specs.Grid.{AreRowsOf}
 use Rattle.mt_values.specs.Schemas.{schema_fault_as}
 use Rattle.mt_values.proofs.KeyOrders.{sound_in_any_order}
+use Rattle.mt_model.specs.declared.refusal.Bound.{Bound}
 use Rattle.mt_model.specs.declared.refusal.Bound.TheVariants as bound
 use Rattle.mt_model.specs.declared.refusal.Refusal.{Refusal}
 use Rattle.mt_model.specs.declared.refusal.Refusal.TheVariants as refusal
 use Rattle.mt_model.specs.Commands.{insert_command, rows_in}
 use Rattle.mt_model.specs.History.{History, schema_of, creates, column_types, IsAllowed, IsTableSchema}
 use Rattle.mt_model.proofs.Commands.{partition_is}
-use Rattle.mt_model.specs.Clauses.{NamesKeys, column_place, first_key, first_unknown, mentioned, places_named, primary_names, schema_written, sorting_names}
-use Rattle.mt_model.specs.Reply.{first_refusal, refusal_of_schema, too_many_columns, unless_refused, schema_of_text, create_turn}
-use Rattle.mt_model.proofs.Naming.{primary_known, sorting_known}
+use Rattle.mt_model.specs.Clauses.{NamesKeys, column_place, first_key, first_unknown, indexed_names, mentioned, names_of_text, places_named, primary_names, schema_of_create, sorting_names}
+use Rattle.mt_model.specs.Reply.{first_passed, first_refusal, refusal_of_schema, unless_refused, schema_of_text, create_turn}
+use Rattle.mt_model.proofs.ElementLists.{few_elements, written_few, written_own}
+use Rattle.mt_model.proofs.Naming.{primary_known, rest_known, sorting_known}
 
 -- ---- keys
 
@@ -71,33 +73,31 @@ as_many columns (name ∷ names) none = by (column_place columns name) (as_many 
 
 -- ---- the schema of a CREATE
 
-few_columns : (columns : List Column) → too_many_columns columns ≡ None → length columns ≤ 64
-few_columns columns none = by (nat_le (length columns) 64) refl none
-  where
-    by : (b : Bool) → nat_le (length columns) 64 ≡ b → cond b None (Some (refusal.Past bound.Columns)) ≡ None → length columns ≤ 64
-    by true e none = leb-true (length columns) 64 e
-    by false e none = cc
-
 -- the schema that a CREATE writes is one that a table may have, where each of its keys names a column
 pub schema_is : (c : CreateText) (schema : Schema) → schema_of_text c ≡ Ok schema → NamesKeys c.clauses → IsTableSchema schema
 schema_is c schema is keys =
-    let written = schema_written c.columns c.clauses in
-    given IsTableSchema (schema_of_text c) schema is (by (first_unknown c.columns (mentioned c.clauses)) (schema_fault_as (first_key c.clauses) written) (too_many_columns c.columns) refl refl refl)
+    given IsTableSchema (schema_of_text c) schema is
+    (by (first_unknown (columns_of c.elements) (names_of_text c)) (schema_fault_as (first_key c.clauses) (schema_of_create c)) (first_passed [] c.elements) refl refl refl)
   where
-    by : (o : Option (List ℕ)) (f : Option SchemaFault) (p : Option Refusal) → first_unknown c.columns (mentioned c.clauses) ≡ o → schema_fault_as (first_key c.clauses) (schema_written c.columns c.clauses) ≡ f → too_many_columns c.columns ≡ p
-        → Gives IsTableSchema (unless_refused (first_refusal (option_map refusal.NoColumn o) (first_refusal (option_map (refusal_of_schema c.columns) f) p)) (schema_written c.columns c.clauses))
+    by : (o : Option (List ℕ)) (f : Option SchemaFault) (p : Option Bound) → first_unknown (columns_of c.elements) (names_of_text c) ≡ o → schema_fault_as (first_key c.clauses) (schema_of_create c) ≡ f → first_passed [] c.elements ≡ p
+        → Gives IsTableSchema (unless_refused (first_refusal (option_map refusal.NoColumn o) (first_refusal (option_map (refusal_of_schema (schema_of_create c)) f) (option_map refusal.Past p))) (schema_of_create c))
     by (Some name) f p d e g = tt
     by None (Some fault) p d e g = tt
-    by None None (Some why) d e g = tt
+    by None None (Some passed) d e g = tt
     by None None None d e g =
-        let sorting_long = as_many c.columns (sorting_names c.clauses) (sorting_known c.columns c.clauses d) in
-        let primary_long = as_many c.columns (primary_names c.clauses) (primary_known c.columns c.clauses d) in
+        let columns : List Column = columns_of c.elements in
+        let in_clauses : first_unknown columns (mentioned c.clauses) ≡ None = rest_known columns (indexed_names c.elements) (mentioned c.clauses) d in
+        let sorting_long = as_many columns (sorting_names c.clauses) (sorting_known columns c.clauses in_clauses) in
+        let primary_long = as_many columns (primary_names c.clauses) (primary_known columns c.clauses in_clauses) in
+        let few = few_elements c.elements g in
         record {
-          sound = sound_in_any_order (first_key c.clauses) SortingFirst (schema_written c.columns c.clauses) e;
+          sound = sound_in_any_order (first_key c.clauses) SortingFirst (schema_of_create c) e;
           key = omega (arith, sorting_long, keys.sorting);
           primary = omega (arith, primary_long, keys.primary);
-          own = places_below c.columns (sorting_names c.clauses);
-          few = few_columns c.columns g;
+          own = places_below columns (sorting_names c.clauses);
+          few = few.columns;
+          indexed = written_own columns c.elements;
+          few_indexes = omega (arith, written_few columns c.elements, few.indexes);
         }
 
 -- ---- commands

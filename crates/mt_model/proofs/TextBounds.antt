@@ -1,16 +1,21 @@
 -- Each byte of a string and each part of a list takes something of its text, so the counts that bound their readers cut nothing off.
-use Rattle.std.proofs.Common.{◌≡◌, ℕ, ◌<◌, ◌≤◌, Bool, true, false, cond, ◌==◌, List, [], ◌∷◌, ◌++◌, length, drop, refl, ap, arith, zero, suc, Option, Some, None, Result, Ok, Err, length-drop}
+use Rattle.std.proofs.Common.{◌≡◌, ℕ, ◌<◌, ◌≤◌, Bool, true, false, cond, ◌==◌, List, [], ◌∷◌, ◌++◌, length, drop, refl, ap, arith, zero, suc, Option, Some, None, Result, Ok, Err, codes, length-drop}
 use Rattle.std.specs.Option.{option_and_then}
-use Rattle.mt_values.specs.declared.schema.Column.{Column}
+use Rattle.mt_values.specs.declared.statement.Element.{Element}
+use Rattle.mt_values.specs.declared.statement.Element.TheVariants as element
+use Rattle.mt_values.specs.declared.statement.KindText.{KindText}
+use Rattle.mt_values.specs.declared.statement.KindText.TheVariants as kind_text
 use Rattle.mt_values.specs.declared.statement.Slip.{Slip}
 use Rattle.mt_values.specs.declared.statement.Statement.{Statement}
 use Rattle.mt_values.specs.declared.token.Placed.{Placed}
+use Rattle.mt_values.specs.declared.token.Symbol.TheVariants as symbol
 use Rattle.mt_values.specs.declared.token.Token.{Token}
+use Rattle.mt_values.specs.declared.value.ColType.{ColType}
 use Rattle.mt_values.specs.Escapes.{escape_of}
 use Rattle.mt_values.specs.Lists.{in_front}
-use Rattle.mt_values.specs.Tokens.{begins_with, byte_onto, escape_onto, quote_behind, string_within}
+use Rattle.mt_values.specs.Tokens.{is_keyword, begins_with, byte_onto, escape_onto, quote_behind, string_within}
 use Rattle.mt_values.specs.Readers.{Reader, Test, Part, taken, expect, either, choose, listed_within}
-use Rattle.mt_values.specs.Grammar.{name, plain, one_name, column}
+use Rattle.mt_values.specs.Grammar.{column, exactly, index, index_kind, is_word, keyword, name, number, one_name, plain, same_bytes, set_kind, table_element, the}
 use Rattle.mt_values.specs.Rows.{unescaped_behind, unescaped_within}
 use Rattle.mt_values.proofs.Bounds.{ShorterThan}
 use Rattle.mt_values.proofs.TokenBounds.{escape_shorter}
@@ -59,7 +64,7 @@ texts_same (suc n) (suc m) (b ∷ bs) low high =
     (behind_same (unescaped_within n) (unescaped_within m) (length bs) (escape_of bs) (escape_shorter bs) (λ rest less. texts_same n m rest (omega arith) (omega arith)))
     (ap (λ (o : Option (List ℕ)). in_front o b) (texts_same n m bs (omega arith) (omega arith)))
 
--- ---- lists of names and of columns
+-- ---- lists of names and of elements
 
 -- two readers read alike what is no longer than this
 abbrev pub Alike : ℕ → Reader Statement → Reader Statement → Type 0
@@ -98,18 +103,74 @@ listed_same (suc n) (suc m) more between item front next ts on low high =
     (expect_same between (λ y. listed_within n more between item (front ++ x ∷ []) next) (λ y. listed_within m more between item (front ++ x ∷ []) next) rest
     (λ y last lesser. listed_same n m more between item (front ++ x ∷ []) next last on (omega arith) (omega arith))) refl)
 
+abbrev column_said : List ℕ → ColType → Element
+column_said n t = element.Column (record { name = n; col_type = t })
+
+abbrev index_said : List ℕ → List ℕ → KindText → List ℕ → Element
+index_said n c k digits = element.Index (record { name = n; column = c; kind = k; granularity = digits })
+
+abbrev minmax_kind : Part Statement KindText
+minmax_kind next = expect (exactly (codes "minmax")) (λ _. next kind_text.MinMax)
+
 name_on : ReadsOn one_name
 name_on f g ts same = expect_same name f g ts (λ x rest less. same x rest (omega arith))
 
 column_on : ReadsOn column
 column_on f g ts same =
-    expect_same name (λ n. expect plain (λ t. f (record { name = n; col_type = t }))) (λ n. expect plain (λ t. g (record { name = n; col_type = t }))) ts
-    (λ n rest less. expect_same plain (λ t. f (record { name = n; col_type = t })) (λ t. g (record { name = n; col_type = t })) rest (λ t last lesser. same (record { name = n; col_type = t }) last (omega arith)))
+    expect_same name (λ n. expect plain (λ t. f (column_said n t))) (λ n. expect plain (λ t. g (column_said n t))) ts
+    (λ n rest less. expect_same plain (λ t. f (column_said n t)) (λ t. g (column_said n t)) rest (λ t last lesser. same (column_said n t) last (omega arith)))
+
+minmax_on : ReadsOn minmax_kind
+minmax_on f g ts same = expect_same (exactly (codes "minmax")) (λ u. f kind_text.MinMax) (λ u. g kind_text.MinMax) ts (λ u rest less. same kind_text.MinMax rest (omega arith))
+
+set_on : ReadsOn set_kind
+set_on f g ts same =
+    let closed = λ (h : KindText → Reader Statement) (digits : List ℕ). expect (the symbol.Close) (λ u. h (kind_text.Set digits)) in
+    expect_same (exactly (codes "set")) (λ u. expect (the symbol.Open) (λ v. expect number (closed f))) (λ u. expect (the symbol.Open) (λ v. expect number (closed g))) ts
+    (λ u us less.
+    expect_same (the symbol.Open) (λ v. expect number (closed f)) (λ v. expect number (closed g)) us
+    (λ v vs fewer.
+    expect_same number (closed f) (closed g) vs
+    (λ digits ws least.
+    expect_same (the symbol.Close) (λ u. f (kind_text.Set digits)) (λ u. g (kind_text.Set digits)) ws
+    (λ u xs last. same (kind_text.Set digits) xs (omega arith)))))
+
+kind_on : ReadsOn index_kind
+kind_on f g ts same =
+    choose_same (is_word (same_bytes (codes "minmax"))) (minmax_kind f) (minmax_kind g) (set_kind f) (set_kind g) ts (minmax_on f g ts same) (set_on f g ts same)
+
+-- what follows the names of an index
+abbrev kind_then : List ℕ → List ℕ → (Element → Reader Statement) → Reader Statement
+kind_then n c f = expect (keyword (codes "TYPE")) (λ u. index_kind (λ k. expect (keyword (codes "GRANULARITY")) (λ v. expect number (λ digits. f (index_said n c k digits)))))
+
+then_on : (n c : List ℕ) → ReadsOn (kind_then n c)
+then_on n c f g ts same =
+    let sized = λ (h : Element → Reader Statement) (k : KindText). expect (keyword (codes "GRANULARITY")) (λ v. expect number (λ digits. h (index_said n c k digits))) in
+    expect_same (keyword (codes "TYPE")) (λ u. index_kind (sized f)) (λ u. index_kind (sized g)) ts
+    (λ u us less.
+    kind_on (sized f) (sized g) us
+    (λ k vs most.
+    expect_same (keyword (codes "GRANULARITY")) (λ v. expect number (λ digits. f (index_said n c k digits))) (λ v. expect number (λ digits. g (index_said n c k digits))) vs
+    (λ v ws fewer.
+    expect_same number (λ digits. f (index_said n c k digits)) (λ digits. g (index_said n c k digits)) ws
+    (λ digits xs last. same (index_said n c k digits) xs (omega arith)))))
+
+index_on : ReadsOn index
+index_on f g ts same =
+    expect_same (keyword (codes "INDEX")) (λ u. expect name (λ n. expect name (λ c. kind_then n c f))) (λ u. expect name (λ n. expect name (λ c. kind_then n c g))) ts
+    (λ u us less.
+    expect_same name (λ n. expect name (λ c. kind_then n c f)) (λ n. expect name (λ c. kind_then n c g)) us
+    (λ n vs fewer.
+    expect_same name (λ c. kind_then n c f) (λ c. kind_then n c g) vs
+    (λ c ws least. then_on n c f g ws (λ e xs last. same e xs (omega arith)))))
+
+element_on : ReadsOn table_element
+element_on f g ts same = choose_same (is_word (is_keyword (codes "INDEX"))) (index f) (index g) (column f) (column g) ts (index_on f g ts same) (column_on f g ts same)
 
 pub names_same : {Y : Type 0} (n m : ℕ) (more : Token → Bool) (between : Test Y) (next : List (List ℕ) → Reader Statement) (ts : List Placed) → length ts < n → length ts < m
     → listed_within n more between one_name [] next ts ≡ listed_within m more between one_name [] next ts
 names_same n m more between next ts low high = listed_same n m more between one_name [] next ts name_on low high
 
-pub columns_same : {Y : Type 0} (n m : ℕ) (more : Token → Bool) (between : Test Y) (next : List Column → Reader Statement) (ts : List Placed) → length ts < n → length ts < m
-    → listed_within n more between column [] next ts ≡ listed_within m more between column [] next ts
-columns_same n m more between next ts low high = listed_same n m more between column [] next ts column_on low high
+pub elements_same : {Y : Type 0} (n m : ℕ) (more : Token → Bool) (between : Test Y) (next : List Element → Reader Statement) (ts : List Placed) → length ts < n → length ts < m
+    → listed_within n more between table_element [] next ts ≡ listed_within m more between table_element [] next ts
+elements_same n m more between next ts low high = listed_same n m more between table_element [] next ts element_on low high

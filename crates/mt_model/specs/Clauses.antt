@@ -1,31 +1,19 @@
 -- What the clauses of a CREATE say (docs/definitions.md, "Schemas"; ClickHouse, MergeTree: ORDER BY, PARTITION BY, PRIMARY KEY, index_granularity).
-use Rattle.std.specs.Prelude.{ℕ, ◌+◌, ◌<◌, List, [], ◌∷◌, length, Option, Some, None, if◌then◌else◌, is_some, unwrap_or}
-use Rattle.std.specs.List.{filter_map, flat_map, position}
+use Rattle.std.specs.Prelude.{ℕ, ◌<◌, List, [], ◌∷◌, ◌++◌, length, Option, Some, None, unwrap_or}
+use Rattle.std.specs.List.{flat_map}
 use Rattle.std.specs.Option.{option_and_then}
-use Rattle.mt_base.specs.Limits.{default_granularity, granularity_limit}
+use Rattle.mt_base.specs.Limits.{default_granularity}
 use Rattle.mt_values.specs.declared.schema.Column.{Column}
 use Rattle.mt_values.specs.declared.schema.KeyOrder.{KeyOrder}
 use Rattle.mt_values.specs.declared.schema.KeyOrder.TheVariants.{SortingFirst, PrimaryFirst}
 use Rattle.mt_values.specs.declared.schema.Schema.{Schema}
 use Rattle.mt_values.specs.declared.statement.Clause.{Clause}
 use Rattle.mt_values.specs.declared.statement.Clause.TheVariants as clause
-use Rattle.mt_values.specs.Grammar.{same_bytes}
-use Rattle.mt_values.specs.Rows.{number_within}
-
--- ---- columns by their names
-
--- the place of the column of a name
-abbrev pub column_place : List Column → List ℕ → Option ℕ
-column_place columns name = position (λ (c : Column). same_bytes c.name name) columns
-
--- the first of the names that is no column's (docs/definitions.md, "Schemas")
-abbrev pub first_unknown : List Column → List (List ℕ) → Option (List ℕ)
-first_unknown columns [] = None
-first_unknown columns (name ∷ names) = if is_some (column_place columns name) then first_unknown columns names else Some name
-
--- the places of those of the names that are columns' (docs/definitions.md, "Schemas")
-abbrev pub places_named : List Column → List (List ℕ) → List ℕ
-places_named columns names = filter_map (column_place columns) names
+use Rattle.mt_values.specs.declared.statement.CreateText.{CreateText}
+use Rattle.mt_values.specs.declared.statement.Element.{Element}
+use Rattle.mt_values.specs.Grammar.{columns_of}
+pub use Rattle.mt_model.specs.Columns.{column_place, first_unknown, places_named}
+pub use Rattle.mt_model.specs.Elements.{granularity_said, index_at, indexed_names, indexes_written, kind_written, names_of_element, written_by}
 
 -- ---- what is named, and where
 
@@ -74,18 +62,29 @@ partition_name (c ∷ others) = partition_name others
 -- the rows of a granule: where they are not given, 8192; each number past the bound stands for all of them (ClickHouse, MergeTree: index_granularity)
 abbrev pub granularity_of : List Clause → ℕ
 granularity_of [] = default_granularity
-granularity_of (clause.Granularity digits ∷ others) = number_within (granularity_limit + 1) digits
+granularity_of (clause.Granularity digits ∷ others) = granularity_said digits
 granularity_of (c ∷ others) = granularity_of others
 
--- the schema that the clauses write with these columns, each name a column's (docs/definitions.md, "Schemas")
-abbrev pub schema_written : List Column → List Clause → Schema
-schema_written columns clauses = record {
+-- the schema that elements with these columns, and clauses, write, each name a column's (docs/definitions.md, "Schemas")
+abbrev pub schema_written : List Column → List Element → List Clause → Schema
+schema_written columns elements clauses = record {
   columns = columns;
   key = places_named columns (sorting_names clauses);
   primary = places_named columns (primary_names clauses);
   partition = option_and_then (column_place columns) (partition_name clauses);
   granularity = granularity_of clauses;
+  indexes = indexes_written columns elements;
 }
+
+-- ---- a CREATE
+
+-- the names of columns that a CREATE mentions, in the order of the text (docs/definitions.md, "Schemas")
+abbrev pub names_of_text : CreateText → List (List ℕ)
+names_of_text c = indexed_names c.elements ++ mentioned c.clauses
+
+-- the schema that a CREATE writes, each name a column's (docs/definitions.md, "Schemas")
+abbrev pub schema_of_create : CreateText → Schema
+schema_of_create c = schema_written (columns_of c.elements) c.elements c.clauses
 
 -- each of the two keys names at least one column (docs/definitions.md, "Schemas")
 pub record NamesKeys (clauses : List Clause) : Type 0 where

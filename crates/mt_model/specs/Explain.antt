@@ -8,10 +8,9 @@ use Rattle.mt_values.specs.declared.expr.Test.{Test}
 use Rattle.mt_values.specs.declared.schema.Schema.{Schema}
 use Rattle.mt_values.specs.declared.statement.SelectText.{SelectText}
 use Rattle.mt_values.specs.Conditions.{Condition}
-use Rattle.mt_values.specs.Granules.{mark_keys}
 use Rattle.mt_values.specs.Tables.{same_partition, sorting_cmp}
 use Rattle.mt_values.specs.Values.{Row}
-use Rattle.predicate.specs.Granules.{chosen_in}
+use Rattle.predicate.specs.Indexes.{chosen_of_rows}
 use Rattle.mt_model.specs.declared.counts.Counts.{Counts}
 use Rattle.mt_model.specs.declared.query.Query.{Query}
 use Rattle.mt_model.specs.History.{History, schema_of}
@@ -45,9 +44,9 @@ pub record PortionsStand (h : History) (table : List ℕ) (schema : Schema) (ps 
   pub each : All (PortionStands h table schema) ps
   pub once : (partition : Partition) (n : ℕ) → IsNumberOfInsert table partition n h → count_by (has_number partition n) ps ≡ 1
 
--- which granules of a portion's rows a condition leaves (docs/definitions.md, "Boxes of granules")
+-- which granules of a portion's rows a condition leaves, by their marks and by each skip index of the table (docs/definitions.md, "Boxes of skip indexes")
 abbrev pub chosen_granules : Schema → Condition Test → Portion → List Bool
-chosen_granules schema c p = chosen_in schema p.partition c (mark_keys schema.primary schema.granularity p.rows)
+chosen_granules schema c p = chosen_of_rows schema p.partition c p.rows
 
 -- whether a granule of a portion is chosen (docs/definitions-of-runs.md, "Explained reads")
 abbrev pub is_chosen : Schema → Condition Test → Portion → Bool

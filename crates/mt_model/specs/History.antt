@@ -6,8 +6,9 @@ use Rattle.mt_values.specs.declared.command.Command.{Command}
 use Rattle.mt_values.specs.declared.command.Command.TheVariants as command
 use Rattle.mt_values.specs.declared.command.Insert.{Insert}
 use Rattle.mt_base.specs.declared.partition.Partition.{Partition}
-use Rattle.mt_base.specs.Limits.{column_limit, part_limit, root_table_limit}
+use Rattle.mt_base.specs.Limits.{column_limit, index_limit, part_limit, root_table_limit}
 use Rattle.mt_values.specs.declared.schema.Schema.{Schema}
+use Rattle.mt_values.specs.declared.schema.SkipIndex.{SkipIndex}
 use Rattle.mt_values.specs.Grammar.{same_bytes}
 pub use Rattle.mt_values.specs.Schemas.{column_types}
 use Rattle.mt_values.specs.Schemas.{schema_fault}
@@ -62,14 +63,17 @@ FewInserts h = (table : List ℕ) (partition : Partition) → inserts table part
 abbrev pub entered : History → ℕ → List Command → History
 entered h session commands = h ++ map (λ (c : Command). record { session = session; command = c }) commands
 
--- A schema that a table may have: it breaks no rule of schemas, neither key is empty, the sorting key is made of its own columns, and it has at
--- most 64 columns. So the primary key is made of its own columns too, and a partition column is one of them (docs/definitions.md, "Schemas").
+-- A schema that a table may have: it breaks no rule of schemas, neither key is empty, the sorting key is made of its own columns and so are the
+-- columns of its indexes, and it has at most 64 columns and 8 indexes. So the primary key is made of its own columns too, and a partition column
+-- is one of them (docs/definitions.md, "Schemas").
 pub record IsTableSchema (schema : Schema) : Type 0 where
   pub sound : schema_fault schema ≡ None
   pub key : 0 < length schema.key
   pub primary : 0 < length schema.primary
   pub own : All (λ place. place < length schema.columns) schema.key
   pub few : length schema.columns ≤ column_limit
+  pub indexed : All (λ (index : SkipIndex). index.column < length schema.columns) schema.indexes
+  pub few_indexes : length schema.indexes ≤ index_limit
 
 -- rows of one partition of a table: at least one, each with a value of each column's type and within its range (docs/definitions.md, "Histories")
 pub record IsInsertInto (schema : Schema) (i : Insert) : Type 0 where

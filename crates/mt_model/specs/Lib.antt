@@ -1,7 +1,9 @@
 pub mod Answer
 pub mod Causes
 pub mod Clauses
+pub mod Columns
 pub mod Commands
+pub mod Elements
 pub mod Explain
 pub mod History
 pub mod Live

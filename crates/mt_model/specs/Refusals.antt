@@ -28,15 +28,19 @@ and_name name = 32 ∷ name
 abbrev pub reason_word : Reason → List ℕ
 reason_word reason.NoColumns = codes "no_columns"
 reason_word reason.DoubleColumn = codes "double_column"
+reason_word reason.DoubleIndex = codes "double_index"
 reason_word reason.DoubleKey = codes "double_key"
 reason_word reason.NotPrefix = codes "not_prefix"
 reason_word reason.PartitionType = codes "partition_type"
 reason_word reason.Granularity = codes "granularity"
+reason_word reason.IndexGranularity = codes "granularity"
+reason_word reason.SetSize = codes "set_size"
 
 -- a bound by its name and its greatest number
 abbrev pub bound_text : Bound → List ℕ
 bound_text bound.Tables = codes "tables 64"
 bound_text bound.Columns = codes "columns 64"
+bound_text bound.Indexes = codes "indexes 8"
 bound_text bound.Name = codes "name 64"
 bound_text bound.Statement = codes "statement 1048576"
 bound_text bound.Value = codes "value 1048576"

@@ -3,27 +3,31 @@ use Rattle.std.specs.Prelude.{ℕ, List, [], ◌∷◌, ◌++◌, length, Option
 use Rattle.std.specs.Fmt.{decimal}
 use Rattle.std.specs.List.{concat, range_with_len}
 use Rattle.std.specs.Option.{option_map}
-use Rattle.mt_base.specs.Limits.{column_limit, number_limit, part_limit, table_limit}
+use Rattle.mt_base.specs.Limits.{column_limit, index_limit, number_limit, part_limit, table_limit}
 use Rattle.mt_values.specs.declared.row_fault.DataFault.{DataFault}
 use Rattle.mt_values.specs.declared.schema.Column.{Column}
 use Rattle.mt_values.specs.declared.schema.KeyOrder.{KeyOrder}
 use Rattle.mt_values.specs.declared.schema.Schema.{Schema}
 use Rattle.mt_values.specs.declared.schema.SchemaFault.{SchemaFault}
 use Rattle.mt_values.specs.declared.schema.SchemaFault.TheVariants as fault
+use Rattle.mt_values.specs.declared.schema.SkipIndex.{SkipIndex}
 use Rattle.mt_values.specs.declared.statement.CreateText.{CreateText}
+use Rattle.mt_values.specs.declared.statement.Element.{Element}
 use Rattle.mt_values.specs.declared.statement.InsertText.{InsertText}
 use Rattle.mt_values.specs.declared.statement.Selected.{Selected}
 use Rattle.mt_values.specs.declared.statement.Selected.TheVariants as selected
+use Rattle.mt_values.specs.Grammar.{columns_of, indexes_of}
 use Rattle.mt_values.specs.Values.{Row}
 use Rattle.mt_values.specs.Rows.{inserted_rows}
 use Rattle.mt_values.specs.Schemas.{schema_fault_as}
+use Rattle.mt_model.specs.declared.refusal.Bound.{Bound}
 use Rattle.mt_model.specs.declared.refusal.Bound.TheVariants as bound
 use Rattle.mt_model.specs.declared.refusal.Reason.TheVariants as reason
 use Rattle.mt_model.specs.declared.refusal.Refusal.{Refusal}
 use Rattle.mt_model.specs.declared.refusal.Refusal.TheVariants as refusal
 use Rattle.mt_model.specs.declared.refusal.Room.TheVariants as room
-use Rattle.mt_model.specs.Clauses.{column_place, first_key, first_unknown, mentioned, schema_written}
-use Rattle.mt_model.specs.History.{History, schema_of, creates, column_types}
+use Rattle.mt_model.specs.Clauses.{column_place, first_key, first_unknown, names_of_text, schema_of_create}
+use Rattle.mt_model.specs.History.{History, schema_of, creates, column_types, first_of}
 use Rattle.mt_model.specs.Refusals.{refusal_of_data}
 
 -- after an accepted command, and after an INSERT without rows: the length of the history
@@ -64,48 +68,68 @@ column_name (Some column) = column.name
 abbrev pub name_at : List Column → ℕ → List ℕ
 name_at columns place = column_name (slice_get columns place)
 
--- the refusal of a schema with these columns for the rule that it breaks; no column has the name "-"
-abbrev pub refusal_of_schema : List Column → SchemaFault → Refusal
-refusal_of_schema columns fault.NoColumns = refusal.Schema reason.NoColumns (codes "-")
-refusal_of_schema columns (fault.DoubleColumn place) = refusal.Schema reason.DoubleColumn (name_at columns place)
-refusal_of_schema columns (fault.DoubleKey place) = refusal.Schema reason.DoubleKey (name_at columns place)
-refusal_of_schema columns (fault.NotPrefix place) = refusal.Schema reason.NotPrefix (name_at columns place)
-refusal_of_schema columns (fault.PartitionType place) = refusal.Schema reason.PartitionType (name_at columns place)
-refusal_of_schema columns fault.Granularity = refusal.Schema reason.Granularity (codes "-")
+-- the name of an index, where there is one
+abbrev pub index_name : Option SkipIndex → List ℕ
+index_name None = []
+index_name (Some index) = index.name
+
+-- the name of the index at a place
+abbrev pub index_name_at : List SkipIndex → ℕ → List ℕ
+index_name_at indexes place = index_name (slice_get indexes place)
+
+-- the refusal of a schema for the rule that it breaks; no column has the name "-"
+abbrev pub refusal_of_schema : Schema → SchemaFault → Refusal
+refusal_of_schema schema fault.NoColumns = refusal.Schema reason.NoColumns (codes "-")
+refusal_of_schema schema (fault.DoubleColumn place) = refusal.Schema reason.DoubleColumn (name_at schema.columns place)
+refusal_of_schema schema (fault.DoubleIndex place) = refusal.Schema reason.DoubleIndex (index_name_at schema.indexes place)
+refusal_of_schema schema (fault.DoubleKey place) = refusal.Schema reason.DoubleKey (name_at schema.columns place)
+refusal_of_schema schema (fault.NotPrefix place) = refusal.Schema reason.NotPrefix (name_at schema.columns place)
+refusal_of_schema schema (fault.PartitionType place) = refusal.Schema reason.PartitionType (name_at schema.columns place)
+refusal_of_schema schema fault.Granularity = refusal.Schema reason.Granularity (codes "-")
+refusal_of_schema schema (fault.IndexGranularity place) = refusal.Schema reason.IndexGranularity (index_name_at schema.indexes place)
+refusal_of_schema schema (fault.SetSize place) = refusal.Schema reason.SetSize (index_name_at schema.indexes place)
 
 -- the refusal of a schema for the first rule that it breaks, by which key is written first (docs/definitions.md, "Schemas")
 abbrev pub refusal_of_rules : KeyOrder → Schema → Option Refusal
-refusal_of_rules first schema = option_map (refusal_of_schema schema.columns) (schema_fault_as first schema)
+refusal_of_rules first schema = option_map (refusal_of_schema schema) (schema_fault_as first schema)
 
 -- the first refusal of two
 abbrev pub first_refusal : Option Refusal → Option Refusal → Option Refusal
 first_refusal (Some r) other = Some r
 first_refusal None other = other
 
--- a table has no more columns than its bound
-abbrev pub too_many_columns : List Column → Option Refusal
-too_many_columns columns = if nat_le (length columns) column_limit then None else Some (refusal.Past bound.Columns)
+-- the bound of columns or of indexes that some elements pass (docs/replies.md, "Refusals")
+abbrev pub bound_passed : List Element → Option Bound
+bound_passed elements =
+    if nat_lt column_limit (length (columns_of elements)) then Some bound.Columns
+    else if nat_lt index_limit (length (indexes_of elements)) then Some bound.Indexes
+    else None
 
--- the first refusal of a schema: by its rules, then by the bound of its columns
-abbrev pub refusal_of_table : KeyOrder → Schema → Option Refusal
-refusal_of_table first schema = first_refusal (refusal_of_rules first schema) (too_many_columns schema.columns)
+-- the bound that is passed first in the text, with one of some elements after those before them (docs/replies.md, "Refusals")
+abbrev pub first_passed : List Element → List Element → Option Bound
+first_passed before [] = None
+first_passed before (e ∷ es) = first_of (bound_passed (before ++ e ∷ [])) (first_passed (before ++ e ∷ []) es)
 
 -- what is given, unless it is refused
 abbrev pub unless_refused : {X : Type 0} → Option Refusal → X → Result X Refusal
 unless_refused (Some r) x = Err r
 unless_refused None x = Ok x
 
--- the first name in the clauses, in the order of the text, that is no column's (docs/definitions.md, "Schemas")
+-- the first name of a column in a CREATE, in the order of the text, that is no column's (docs/definitions.md, "Schemas")
 abbrev pub unknown_column : CreateText → Option Refusal
-unknown_column c = option_map refusal.NoColumn (first_unknown c.columns (mentioned c.clauses))
+unknown_column c = option_map refusal.NoColumn (first_unknown (columns_of c.elements) (names_of_text c))
 
--- the first refusal of a CREATE by its text: by its names, then by its schema (docs/definitions.md, "Schemas")
+-- the bound of columns or of indexes that a CREATE passes first in its text (docs/replies.md, "Refusals")
+abbrev pub too_many_elements : CreateText → Option Refusal
+too_many_elements c = option_map refusal.Past (first_passed [] c.elements)
+
+-- the first refusal of a CREATE by its text: by its names, then by the rules of schemas, then by its bounds (docs/definitions.md, "Schemas")
 abbrev pub refusal_of_text : CreateText → Option Refusal
-refusal_of_text c = first_refusal (unknown_column c) (refusal_of_table (first_key c.clauses) (schema_written c.columns c.clauses))
+refusal_of_text c = first_refusal (unknown_column c) (first_refusal (refusal_of_rules (first_key c.clauses) (schema_of_create c)) (too_many_elements c))
 
--- the schema that a CREATE writes: its names are its columns', no rule of schemas is broken, and there are not too many columns
+-- the schema that a CREATE writes: its names are its columns', no rule of schemas is broken, and there are not too many columns and indexes
 abbrev pub schema_of_text : CreateText → Result Schema Refusal
-schema_of_text c = unless_refused (refusal_of_text c) (schema_written c.columns c.clauses)
+schema_of_text c = unless_refused (refusal_of_text c) (schema_of_create c)
 
 -- at its turn: there is no table of its name, and there is room for one more
 abbrev pub create_turn : List ℕ → History → Option Refusal
@@ -123,10 +147,6 @@ rows_or_refused (Err fault) = Err (refusal_of_data fault)
 abbrev pub rows_for : InsertText → Option Schema → Result (List Row) Refusal
 rows_for i None = Err (refusal.NoTable i.table)
 rows_for i (Some schema) = rows_or_refused (inserted_rows (column_types schema) i.lines i.ended)
-
--- the rows that an INSERT adds, if its table is there and its data is their text
-abbrev pub rows_of_insert : InsertText → History → Result (List Row) Refusal
-rows_of_insert i h = rows_for i (schema_of i.table h)
 
 -- At the turn of its next command, by the parts of the partition, the last number of the table, and how many of the statement's commands were
 -- accepted before: the partition has room for a part, and the table a number (docs/replies.md, "Refusals").

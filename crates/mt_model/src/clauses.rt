@@ -3,34 +3,56 @@ ghost use Rattle.std.specs.Prelude.{◌≡◌, ◌<◌, ◌^◌, IfOk, IfSome, l
 ghost use Rattle.std.specs.Option.{option_and_then};
 ghost use Rattle.mt_model.specs.Clauses as said;
 
-use mt_base::{DEFAULT_GRANULARITY, GRANULARITY_LIMIT, NoMemory, Seq, Twin};
-use mt_values::{Clause, Column, CreateText, KeyOrder, Name, Schema, number_within};
+use crate::elements::{granules_of, indexes_written, unknown_among_indexes};
+use mt_base::{DEFAULT_GRANULARITY, NoMemory, Seq};
+use mt_values::{Clause, Column, CreateText, KeyOrder, Name, Schema};
 use std::alloc::Global;
 use std::slice;
 
-/// The schema that a CREATE writes, where each of its names is a column's: its primary key is its sorting key where none is
-/// given, and its granules have 8192 rows where their number isn't.
+/// The schema that a CREATE with these columns writes, where each of its names is a column's: its primary key is its sorting
+/// key where none is given, and its granules have 8192 rows where their number isn't.
 ///
 /// `NoMemory` where an allocation failed.
-pub fn schema_written(alloc: Global, create: &CreateText) -> Result<Schema, NoMemory>
-    requires { length create.now.columns < 2 ^ 32 }
+pub fn schema_written(
+    alloc: Global,
+    columns: Seq<Column>,
+    create: &CreateText,
+) -> Result<Schema, NoMemory>
+    requires { length columns < 2 ^ 32 }
     ensures { IfOk result
-        (λ schema. schema ≡ said.schema_written create.now.columns create.now.clauses) }
+        (λ schema. schema ≡ said.schema_written columns create.now.elements create.now.clauses) }
 {
-    let columns = create.columns.as_slice();
     let clauses = create.clauses.as_slice();
+    let key = places_named(alloc, columns.as_slice(), sorting_names(clauses))?;
+    let primary = places_named(alloc, columns.as_slice(), primary_names(clauses))?;
+    let partition = partition_place(columns.as_slice(), clauses);
+    let indexes = indexes_written(alloc, columns.as_slice(), create.elements.as_slice())?;
     Ok(Schema {
-        columns: create.columns.twin(alloc)?,
-        key: places_named(alloc, columns, sorting_names(clauses))?,
-        primary: places_named(alloc, columns, primary_names(clauses))?,
-        partition: partition_place(columns, clauses),
+        columns,
+        key,
+        primary,
+        partition,
         granularity: granularity_of(clauses),
+        indexes,
     })
 }
 
-/// The first name in the clauses, in the order of the text, that is no column's. Takes no memory.
+/// The first name of a column in a CREATE, in the order of the text, that is none of these: those of its indexes come before
+/// those of its clauses. Takes no memory.
+#[tactic(auto, using(crate::proofs::Naming::unknown_before, crate::proofs::Naming::known_before))]
+pub fn first_unknown<'a>(columns: &[Column], create: &'a CreateText) -> Option<&'a Name>
+    ensures { option_copied result ≡
+        said.first_unknown columns.now (said.names_of_text create.now) }
+{
+    match unknown_among_indexes(columns, create.elements.as_slice()) {
+        Some(name) => Some(name),
+        None => unknown_among_clauses(columns, create.clauses.as_slice()),
+    }
+}
+
+/// The first name in the clauses, in the order of the text, that is no column's.
 #[tactic(auto, using(crate::proofs::Naming::unknown_at, crate::proofs::Naming::unknown_after))]
-pub fn first_unknown<'a>(columns: &[Column], clauses: &'a [Clause]) -> Option<&'a Name>
+fn unknown_among_clauses<'a>(columns: &[Column], clauses: &'a [Clause]) -> Option<&'a Name>
     ensures { option_copied result ≡
         said.first_unknown columns.now (said.mentioned clauses.now) }
 {
@@ -56,7 +78,7 @@ fn unknown_in<'a>(columns: &[Column], clause: &'a Clause) -> Option<&'a Name>
 }
 
 /// The first of the names that is no column's.
-fn unknown_among<'a>(columns: &[Column], names: &'a [Name]) -> Option<&'a Name>
+pub fn unknown_among<'a>(columns: &[Column], names: &'a [Name]) -> Option<&'a Name>
     ensures { option_copied result ≡ said.first_unknown columns.now names.now }
 {
     for name in names {
@@ -125,7 +147,7 @@ fn granularity_of(clauses: &[Clause]) -> u32
 {
     for clause in clauses {
         if let Clause::Granularity(digits) = clause {
-            return number_within(GRANULARITY_LIMIT + 1, digits.as_slice());
+            return granules_of(digits.as_slice());
         }
     }
     DEFAULT_GRANULARITY

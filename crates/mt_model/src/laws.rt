@@ -3,7 +3,6 @@ ghost use Rattle.std.specs.List.{list_any};
 ghost use Rattle.std.specs.Prelude.{◌≡◌, ◌⊎◌, ◌-◌, ◌^◌, ◌<◌, ◌≤◌, ◌++◌, ◌∷◌, [], ℕ, Bool, List, length, take, true, false, All, None, Some, Ok, codes};
 ghost use Rattle.std.specs.List.Sorted.{IsPermutation, IsSorted};
 ghost use Rattle.mt_values.specs.declared.value.ColType.{ColType};
-ghost use Rattle.mt_values.specs.declared.schema.Column.{Column};
 ghost use Rattle.mt_values.specs.declared.schema.Schema.{Schema};
 ghost use Rattle.mt_base.specs.declared.partition.Partition.{Partition};
 ghost use Rattle.mt_values.specs.declared.command.Command.{Command};
@@ -13,7 +12,9 @@ ghost use Rattle.mt_values.specs.declared.command.Insert.{Insert};
 ghost use Rattle.mt_values.specs.declared.expr.Literal.{Literal};
 ghost use Rattle.mt_values.specs.declared.expr.TestText.{TestText};
 ghost use Rattle.mt_values.specs.declared.statement.Clause.{Clause};
+ghost use Rattle.mt_values.specs.declared.schema.SkipIndex.{SkipIndex};
 ghost use Rattle.mt_values.specs.declared.statement.CreateText.{CreateText};
+ghost use Rattle.mt_values.specs.declared.statement.Element.{Element};
 ghost use Rattle.mt_values.specs.declared.statement.SelectText.{SelectText};
 ghost use Rattle.mt_values.specs.declared.statement.Statement.{Statement};
 ghost use Rattle.mt_values.specs.declared.token.Placed.{Placed};
@@ -25,7 +26,7 @@ ghost use Rattle.mt_values.specs.Grid.{AreRowsOf};
 ghost use Rattle.mt_values.specs.Tables.{IsPlain, MayHavePartition, partition_of, sorting_cmp};
 ghost use Rattle.mt_values.specs.Tokens.{string_within, tokens_within};
 ghost use Rattle.mt_values.specs.Readers.{Reader, listed_within};
-ghost use Rattle.mt_values.specs.Grammar.{all_of, clauses_within, column, is_symbol, joined_within, literal, one_name, term_within, the};
+ghost use Rattle.mt_values.specs.Grammar.{all_of, clauses_within, is_symbol, joined_within, literal, one_name, table_element, term_within, the};
 ghost use Rattle.mt_values.specs.Conditions.{Condition, And, Or};
 ghost use Rattle.mt_values.specs.Script.{Item, data_ended_within, data_within, statements_of, statements_within};
 ghost use Rattle.mt_values.specs.Rows.{inserted_rows, row_limit, rows_within, unescaped_within};
@@ -53,10 +54,13 @@ pub fn legal_fronts()
         → IsLegal (h ++ e ∷ []) }
 {}
 
-/// The primary key of a table is made of its own columns, and its partition column is one of them.
+/// The primary key of a table is made of its own columns, and so are the columns of its indexes; its partition column is one
+/// of them.
 pub fn columns_of_tables_are_their_own()
     ensures primary { (schema : Schema) → IsTableSchema schema
         → All (λ place. place < length schema.columns) schema.primary }
+    ensures indexes { (schema : Schema) → IsTableSchema schema
+        → All (λ (x : SkipIndex). x.column < length schema.columns) schema.indexes }
     ensures partition { (schema : Schema) (place : ℕ) → IsTableSchema schema
         → schema.partition ≡ Some place → place < length schema.columns }
 {}
@@ -234,10 +238,10 @@ pub fn bounds_cut_nothing_off()
         listed_within m (is_symbol symbol.Comma) (the symbol.Comma) one_name [] next ts }
 
     // Of values and rows.
-    ensures columns { (n m : ℕ) (next : List Column → Reader Statement) (ts : List Placed)
+    ensures elements { (n m : ℕ) (next : List Element → Reader Statement) (ts : List Placed)
         → length ts < n → length ts < m
-        → listed_within n (is_symbol symbol.Comma) (the symbol.Comma) column [] next ts ≡
-        listed_within m (is_symbol symbol.Comma) (the symbol.Comma) column [] next ts }
+        → listed_within n (is_symbol symbol.Comma) (the symbol.Comma) table_element [] next ts ≡
+        listed_within m (is_symbol symbol.Comma) (the symbol.Comma) table_element [] next ts }
     ensures clauses { (n m : ℕ) (next : List Clause → Reader Statement) (ts : List Placed)
         → 4 ≤ n → 4 ≤ m → clauses_within n [] next ts ≡ clauses_within m [] next ts }
     ensures lines { (n m : ℕ) (text : List ℕ) → length text < n → length text < m

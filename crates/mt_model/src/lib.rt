@@ -3,6 +3,7 @@
 
 mod clauses;
 mod counts;
+mod elements;
 mod laws;
 mod lines;
 mod query;

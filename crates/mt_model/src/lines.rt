@@ -101,10 +101,12 @@ fn reason_text(reason: Reason) -> &'static [u8]
     match reason {
         Reason::NoColumns => b"E05 no_columns",
         Reason::DoubleColumn => b"E05 double_column",
+        Reason::DoubleIndex => b"E05 double_index",
         Reason::DoubleKey => b"E05 double_key",
         Reason::NotPrefix => b"E05 not_prefix",
         Reason::PartitionType => b"E05 partition_type",
-        Reason::Granularity => b"E05 granularity",
+        Reason::Granularity | Reason::IndexGranularity => b"E05 granularity",
+        Reason::SetSize => b"E05 set_size",
     }
 }
 
@@ -115,6 +117,7 @@ fn bound_text(bound: Bound) -> &'static [u8]
     match bound {
         Bound::Tables => b"E12 tables 64",
         Bound::Columns => b"E12 columns 64",
+        Bound::Indexes => b"E12 indexes 8",
         Bound::Name => b"E12 name 64",
         Bound::Statement => b"E12 statement 1048576",
         Bound::Value => b"E12 value 1048576",

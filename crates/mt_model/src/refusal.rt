@@ -8,6 +8,8 @@ pub enum Reason {
     NoColumns,
     /// Two columns have one name.
     DoubleColumn,
+    /// Two indexes have one name.
+    DoubleIndex,
     /// A key names a column twice.
     DoubleKey,
     /// The primary key is no prefix of the sorting key.
@@ -16,6 +18,10 @@ pub enum Reason {
     PartitionType,
     /// A granule has no rows, or too many.
     Granularity,
+    /// A block of an index has no granules, or too many.
+    IndexGranularity,
+    /// A set may have too many values.
+    SetSize,
 }
 
 /// A quantity that has a bound.
@@ -25,6 +31,8 @@ pub enum Bound {
     Tables,
     /// The columns of a table.
     Columns,
+    /// The indexes of a table.
+    Indexes,
     /// The bytes of a name.
     Name,
     /// The bytes of a statement, from its first token up to its semicolon.

@@ -5,47 +5,51 @@ ghost use Rattle.mt_model.specs.declared.refusal.Refusal.TheVariants as refusal;
 ghost use Rattle.mt_model.specs.Reply as reply;
 
 use crate::clauses::{find_column, first_key, first_unknown, schema_written};
-use crate::refusal::{Bound, Reason, Refusal};
-use mt_base::{COLUMN_LIMIT, NoMemory, Seq, Stop, Twin};
-use mt_values::{Column, CreateText, Name, Schema, SchemaFault, Selected, all_places};
+use crate::elements::{bound_passed, columns_of};
+use crate::refusal::{Reason, Refusal};
+use mt_base::{NoMemory, Seq, Stop, Twin};
+use mt_values::{Column, CreateText, Name, Schema, SchemaFault, Selected, SkipIndex, all_places};
 use std::alloc::Global;
 
-/// The schema that a CREATE writes, or the first thing that it is refused for: the first name in its clauses that is no
-/// column's, a rule of schemas that is broken, too many columns.
+/// The schema that a CREATE writes, or the first thing that it is refused for: the first name in it that should be a
+/// column's and is none, a rule of schemas that is broken, too many columns or indexes.
 ///
 /// `Stop::NoMemory` where an allocation failed, and where a place of the columns has no room in the 32 bits of a key's.
+#[tactic(auto, using(crate::proofs::SchemaRefusals::refusals_of_text))]
 pub fn resolve(alloc: Global, create: &CreateText) -> Result<Schema, Stop<Refusal>>
     ensures { Gives (reply.schema_of_text create.now) result }
 {
-    let columns = create.columns.as_slice();
-    let clauses = create.clauses.as_slice();
+    let columns = columns_of(alloc, create.elements.as_slice())?;
     if columns.len() > u32::MAX as usize {
         return Err(Stop::NoMemory);
     }
-    if let Some(name) = first_unknown(columns, clauses) {
+    if let Some(name) = first_unknown(columns.as_slice(), create) {
         return Err(Stop::Refused(Refusal::NoColumn(name.twin(alloc)?)));
     }
-    let schema = schema_written(alloc, create)?;
-    if let Err(fault) = schema.check_as_written(first_key(clauses)) {
-        return Err(Stop::Refused(refusal_of_schema(alloc, columns, fault)?));
+    let schema = schema_written(alloc, columns, create)?;
+    if let Err(fault) = schema.check_as_written(first_key(create.clauses.as_slice())) {
+        return Err(Stop::Refused(refusal_of_schema(alloc, &schema, fault)?));
     }
-    if columns.len() > COLUMN_LIMIT {
-        return Err(Stop::Refused(Refusal::Past(Bound::Columns)));
+    if let Some(bound) = bound_passed(create.elements.as_slice()) {
+        return Err(Stop::Refused(Refusal::Past(bound)));
     }
     Ok(schema)
 }
 
-/// The refusal of a schema with these columns for the rule that it breaks.
+/// The refusal of a schema for the rule that it breaks.
 fn refusal_of_schema(
     alloc: Global,
-    columns: &[Column],
+    schema: &Schema,
     fault: SchemaFault,
 ) -> Result<Refusal, NoMemory>
-    ensures { IfOk result (λ refusal. refusal ≡ reply.refusal_of_schema columns.now fault) }
+    ensures { IfOk result (λ refusal. refusal ≡ reply.refusal_of_schema schema.now fault) }
 {
+    let columns = schema.columns.as_slice();
+    let indexes = schema.indexes.as_slice();
     match fault {
         SchemaFault::NoColumns => of_no_column(alloc, Reason::NoColumns),
         SchemaFault::DoubleColumn(place) => of_column(alloc, columns, Reason::DoubleColumn, place),
+        SchemaFault::DoubleIndex(place) => of_index(alloc, indexes, Reason::DoubleIndex, place),
         SchemaFault::DoubleKey(place) => {
             of_column(alloc, columns, Reason::DoubleKey, place as usize)
         }
@@ -56,6 +60,10 @@ fn refusal_of_schema(
             of_column(alloc, columns, Reason::PartitionType, place as usize)
         }
         SchemaFault::Granularity => of_no_column(alloc, Reason::Granularity),
+        SchemaFault::IndexGranularity(place) => {
+            of_index(alloc, indexes, Reason::IndexGranularity, place)
+        }
+        SchemaFault::SetSize(place) => of_index(alloc, indexes, Reason::SetSize, place),
     }
 }
 
@@ -79,6 +87,30 @@ fn of_column(
 {
     let name = name_at(alloc, columns, place)?;
     Ok(Refusal::Schema(reason, name))
+}
+
+/// The refusal for a rule that is broken at the index at a place.
+fn of_index(
+    alloc: Global,
+    indexes: &[SkipIndex],
+    reason: Reason,
+    place: usize,
+) -> Result<Refusal, NoMemory>
+    ensures { IfOk result
+        (λ found. found ≡ refusal.Schema reason (reply.index_name_at indexes.now place)) }
+{
+    let name = index_name_at(alloc, indexes, place)?;
+    Ok(Refusal::Schema(reason, name))
+}
+
+/// The name of the index at a place; an empty one where there is no such index.
+fn index_name_at(alloc: Global, indexes: &[SkipIndex], place: usize) -> Result<Name, NoMemory>
+    ensures { IfOk result (λ name. name ≡ reply.index_name_at indexes.now place) }
+{
+    match indexes.get(place) {
+        Some(index) => index.name.twin(alloc),
+        None => Ok(Seq::new(alloc)),
+    }
 }
 
 /// The name of the column at a place; an empty one where there is no such column.

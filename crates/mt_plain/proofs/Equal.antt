@@ -7,13 +7,18 @@ use Rattle.mt_values.specs.declared.value.ColType.{ColType}
 use Rattle.mt_values.specs.declared.value.ColType.TheVariants as type
 use Rattle.mt_values.specs.declared.command.Create.{Create}
 use Rattle.mt_values.specs.declared.schema.Column.{Column}
+use Rattle.mt_values.specs.declared.schema.IndexKind.{IndexKind}
+use Rattle.mt_values.specs.declared.schema.IndexKind.TheVariants as kind
 use Rattle.mt_values.specs.declared.schema.Schema.{Schema}
+use Rattle.mt_values.specs.declared.schema.SkipIndex.{SkipIndex}
 use Rattle.mt_values.specs.declared.value.Value.{Value}
 use Rattle.mt_values.specs.declared.value.Value.TheVariants.{UInt8, UInt16, UInt32, UInt64, Int8, Int16, Int32, Int64, Text}
 use Rattle.mt_values.specs.Values.{Row}
 use Rattle.mt_values.specs.contracts.value.ValuePartialEq.TheImpl as values
 use Rattle.mt_values.specs.contracts.value.ColTypePartialEq.TheImpl as types
 use Rattle.mt_values.specs.contracts.schema.ColumnPartialEq.TheImpl as columns
+use Rattle.mt_values.specs.contracts.schema.IndexKindPartialEq.TheImpl as kinds
+use Rattle.mt_values.specs.contracts.schema.SkipIndexPartialEq.TheImpl as indexes
 use Rattle.mt_values.specs.contracts.schema.SchemaPartialEq.TheImpl as schemas
 
 -- two names
@@ -59,6 +64,39 @@ column_same : (x y : Column) → Decides (columns.eq-value.it x y) (x ≡ y)
 column_same x y = Decides-like (pointwise nat_eq x.name y.name && types.eq-value.it x.col_type y.col_type) (λ p. ap₂ (λ (n : List ℕ) (t : ColType). record { name = n; col_type = t }) p.0 p.1) (λ e. (ap (λ (c : Column). c.name) e, ap (λ (c : Column). c.col_type) e))
     (Decides-and (pointwise nat_eq x.name y.name) (types.eq-value.it x.col_type y.col_type) (texts_same x.name y.name) (type_same x.col_type y.col_type))
 
+-- two kinds of indexes
+kind_same : (x y : IndexKind) → Decides (kinds.eq-value.it x y) (x ≡ y)
+kind_same kind.MinMax kind.MinMax = (λ e. refl, λ e. refl)
+kind_same (kind.Set m) (kind.Set n) = Decides-like (nat_eq m n) (ap kind.Set) (λ e. cc) (Decides-eqb m n)
+kind_same x y = (λ e. cc, λ e. cc)
+
+-- indexes with the same fields
+record SameIndexes (x y : SkipIndex) : Type 0 where
+  name : x.name ≡ y.name
+  column : x.column ≡ y.column
+  kind : x.kind ≡ y.kind
+  granularity : x.granularity ≡ y.granularity
+
+one_index : (x y : SkipIndex) → SameIndexes x y → x ≡ y
+one_index x y s =
+    let with : List ℕ → ℕ → IndexKind → ℕ → SkipIndex = λ n c k g. record { name = n; column = c; kind = k; granularity = g } in
+    ap₂ (λ (n : List ℕ) (c : ℕ). with n c x.kind x.granularity) s.name s.column
+    ∙ ap₂ (λ (k : IndexKind) (g : ℕ). with y.name y.column k g) s.kind s.granularity
+
+-- two indexes
+index_same : (x y : SkipIndex) → Decides (indexes.eq-value.it x y) (x ≡ y)
+index_same x y =
+    let names_are = pointwise nat_eq x.name y.name in
+    let columns_are = nat_eq x.column y.column in
+    let kinds_are = kinds.eq-value.it x.kind y.kind in
+    let granules_are = nat_eq x.granularity y.granularity in
+    Decides-like (names_are && (columns_are && (kinds_are && granules_are)))
+    (λ p. one_index x y (record { name = p.0; column = p.1.0; kind = p.1.1.0; granularity = p.1.1.1 }))
+    (λ e. (ap (λ (i : SkipIndex). i.name) e, (ap (λ (i : SkipIndex). i.column) e, (ap (λ (i : SkipIndex). i.kind) e, ap (λ (i : SkipIndex). i.granularity) e))))
+    (Decides-and names_are (columns_are && (kinds_are && granules_are)) (texts_same x.name y.name)
+    (Decides-and columns_are (kinds_are && granules_are) (Decides-eqb x.column y.column)
+    (Decides-and kinds_are granules_are (kind_same x.kind y.kind) (Decides-eqb x.granularity y.granularity))))
+
 -- two places of a partition column, or none
 partition_same : (a b : Option ℕ) → Decides (option_eq nat_eq a b) (a ≡ b)
 partition_same None None = (λ e. refl, λ e. refl)
@@ -73,13 +111,15 @@ record SameFields (x y : Schema) : Type 0 where
   primary : x.primary ≡ y.primary
   partition : x.partition ≡ y.partition
   granularity : x.granularity ≡ y.granularity
+  indexes : x.indexes ≡ y.indexes
 
 one_schema : (x y : Schema) → SameFields x y → x ≡ y
 one_schema x y s =
-    let with : List Column → List ℕ → List ℕ → Option ℕ → ℕ → Schema = λ c k p o g. record { columns = c; key = k; primary = p; partition = o; granularity = g } in
-    ap (λ (c : List Column). with c x.key x.primary x.partition x.granularity) s.columns
-    ∙ (ap₂ (λ (k p : List ℕ). with y.columns k p x.partition x.granularity) s.key s.primary
-    ∙ ap₂ (λ (o : Option ℕ) (g : ℕ). with y.columns y.key y.primary o g) s.partition s.granularity)
+    let with : List Column → List ℕ → List ℕ → Option ℕ → ℕ → List SkipIndex → Schema = λ c k p o g is. record { columns = c; key = k; primary = p; partition = o; granularity = g; indexes = is } in
+    ap (λ (c : List Column). with c x.key x.primary x.partition x.granularity x.indexes) s.columns
+    ∙ (ap₂ (λ (k p : List ℕ). with y.columns k p x.partition x.granularity x.indexes) s.key s.primary
+    ∙ (ap₂ (λ (o : Option ℕ) (g : ℕ). with y.columns y.key y.primary o g x.indexes) s.partition s.granularity
+    ∙ ap (λ (is : List SkipIndex). with y.columns y.key y.primary y.partition y.granularity is) s.indexes))
 
 -- two schemas
 schema_same : (x y : Schema) → Decides (schemas.eq-value.it x y) (x ≡ y)
@@ -89,13 +129,15 @@ schema_same x y =
     let primaries_are = pointwise nat_eq x.primary y.primary in
     let partitions_are = option_eq nat_eq x.partition y.partition in
     let granules_are = nat_eq x.granularity y.granularity in
-    Decides-like (columns_are && (keys_are && (primaries_are && (partitions_are && granules_are))))
-    (λ p. one_schema x y (record { columns = p.0; key = p.1.0; primary = p.1.1.0; partition = p.1.1.1.0; granularity = p.1.1.1.1 }))
-    (λ e. (ap (λ (c : Schema). c.columns) e, (ap (λ (c : Schema). c.key) e, (ap (λ (c : Schema). c.primary) e, (ap (λ (c : Schema). c.partition) e, ap (λ (c : Schema). c.granularity) e)))))
-    (Decides-and columns_are (keys_are && (primaries_are && (partitions_are && granules_are))) (pointwise_decides column_same x.columns y.columns)
-    (Decides-and keys_are (primaries_are && (partitions_are && granules_are)) (texts_same x.key y.key)
-    (Decides-and primaries_are (partitions_are && granules_are) (texts_same x.primary y.primary)
-    (Decides-and partitions_are granules_are (partition_same x.partition y.partition) (Decides-eqb x.granularity y.granularity)))))
+    let indexes_are = pointwise indexes.eq-value.it x.indexes y.indexes in
+    Decides-like (columns_are && (keys_are && (primaries_are && (partitions_are && (granules_are && indexes_are)))))
+    (λ p. one_schema x y (record { columns = p.0; key = p.1.0; primary = p.1.1.0; partition = p.1.1.1.0; granularity = p.1.1.1.1.0; indexes = p.1.1.1.1.1 }))
+    (λ e. (ap (λ (c : Schema). c.columns) e, (ap (λ (c : Schema). c.key) e, (ap (λ (c : Schema). c.primary) e, (ap (λ (c : Schema). c.partition) e, (ap (λ (c : Schema). c.granularity) e, ap (λ (c : Schema). c.indexes) e))))))
+    (Decides-and columns_are (keys_are && (primaries_are && (partitions_are && (granules_are && indexes_are)))) (pointwise_decides column_same x.columns y.columns)
+    (Decides-and keys_are (primaries_are && (partitions_are && (granules_are && indexes_are))) (texts_same x.key y.key)
+    (Decides-and primaries_are (partitions_are && (granules_are && indexes_are)) (texts_same x.primary y.primary)
+    (Decides-and partitions_are (granules_are && indexes_are) (partition_same x.partition y.partition)
+    (Decides-and granules_are indexes_are (Decides-eqb x.granularity y.granularity) (pointwise_decides index_same x.indexes y.indexes))))))
 
 -- two tables to be made, of one name or of two
 pub creates_alike : (x y : Create) (r : Bool) → pointwise nat_eq x.table y.table ≡ true → r ≡ schemas.eq-value.it x.schema y.schema → Decides r (x ≡ y)

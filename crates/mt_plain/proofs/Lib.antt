@@ -1,5 +1,6 @@
 pub mod Coming
 pub mod Equal
+pub mod Indexed
 pub mod Inserting
 pub mod Parting
 pub mod Rows

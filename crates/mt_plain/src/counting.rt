@@ -7,6 +7,7 @@ ghost use Rattle.predicate.specs.Granules as boxes;
 ghost use Rattle.mt_plain.specs.Portions as portions;
 
 use super::boxes::box_between;
+use super::narrowing::narrowed;
 use crate::{Portion, picked_rows};
 use mt_base::{NoMemory, Partition, Twin};
 use mt_model::Counts;
@@ -76,7 +77,7 @@ fn sum(count: u64, more: usize) -> Result<u64, NoMemory>
     }
 }
 
-/// Which granules of a portion's rows a condition leaves.
+/// Which granules of a portion's rows a condition leaves: those that their marks choose, and each skip index of the table.
 fn chosen_granules(
     alloc: Global,
     schema: &Schema,
@@ -86,8 +87,10 @@ fn chosen_granules(
     ensures { IfOk result (λ chosen. chosen.items ≡ explain.chosen_granules schema.now
         condition.now portion.now) }
 {
-    let keys = mark_keys(alloc, schema, portion.rows())?;
-    chosen_in(alloc, schema, portion.partition(), condition, &keys)
+    let rows = portion.rows();
+    let keys = mark_keys(alloc, schema, rows)?;
+    let chosen = chosen_in(alloc, schema, portion.partition(), condition, &keys)?;
+    narrowed(alloc, schema, condition, rows, chosen)
 }
 
 /// Whether each granule is chosen, by the primary keys of their first rows and of the last row of all.
@@ -135,7 +138,7 @@ fn first_rows(alloc: Global, granularity: u32, rows: &[Row]) -> Result<Vec<Row>,
 }
 
 /// How many granules rows are parted into. A granule of no rows, which no legal schema has, is one of all rows.
-fn granules(size: usize, count: usize) -> usize
+pub(crate) fn granules(size: usize, count: usize) -> usize
     ensures { result ≡ granules.granules size count }
 {
     if size == 0 {

@@ -30,7 +30,12 @@ pub fn key_values(alloc: Global, places: &[u32], row: &Row) -> Result<Row, NoMem
 }
 
 /// Adds the value of a row at a place, where there is one.
-fn push_value(alloc: Global, values: &mut Row, row: &Row, place: u32) -> Result<(), NoMemory>
+pub(crate) fn push_value(
+    alloc: Global,
+    values: &mut Row,
+    row: &Row,
+    place: u32,
+) -> Result<(), NoMemory>
     ensures { OnOk result (values.new ≡ values.old ++ key_of (place ∷ []) row.now) }
 {
     if (place as usize) < row.len() {

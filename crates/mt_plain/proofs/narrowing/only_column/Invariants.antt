@@ -1,0 +1,7 @@
+-- the columns so far
+use Rattle.std.proofs.Common.{◌≡◌, replicate}
+use Rattle.predicate.specs.declared.extent.Known.TheVariants as known
+use Rattle.mt_plain.proofs.narrowing.only_column.Given as goal
+
+abbrev pub invariant-loop-place : goal.invariant-loop-place
+invariant-loop-place l = record { columns : l.columns ≡ replicate l._place known.Unknown; kept : l.kept ≡ l.fn.kept }
