@@ -1,4 +1,5 @@
 pub mod Ahead
+pub mod Fronts
 pub mod Marked
 pub mod Numbers
 pub mod OneWay
@@ -6,4 +7,5 @@ pub mod Passing
 pub mod Reading
 pub mod Tested
 pub mod TextParts
+pub mod Wanted
 pub mod Writing

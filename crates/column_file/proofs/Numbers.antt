@@ -76,7 +76,7 @@ number_bytes t (value.Int64 n) other typed = low_bytes 0 8 (cast_unsigned w64 n)
 number_bytes t (value.Text bytes) other typed = absurd (other (sym typed.0))
 
 -- where less is left, none begins
-none_left : (t : ColType) (rest : List ℕ) → t ≢ type.Text → length rest < fewest_bytes t → NoneBegins t rest
+pub none_left : (t : ColType) (rest : List ℕ) → t ≢ type.Text → length rest < fewest_bytes t → NoneBegins t rest
 none_left t rest other few v more typed e = omega (arith, length_number t v other typed, ap length e, length-append (value_bytes v) more)
 
 -- ---- a walk over numbers

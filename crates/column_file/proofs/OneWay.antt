@@ -39,7 +39,7 @@ two_apart m n r s p q e =
     let t = fronts_apart (to_le_bytes w16 m) (to_le_bytes w16 n) r s refl e in
     (sym (from_le_bytes-to_le_bytes_2 m p) ∙ ap (from_le_bytes w16) t.0 ∙ from_le_bytes-to_le_bytes_2 n q, t.1)
 
-four_apart : (m n : ℕ) (r s : List ℕ) → m < 2 ^ 32 → n < 2 ^ 32 → to_le_bytes w32 m ++ r ≡ to_le_bytes w32 n ++ s → (m ≡ n) × (r ≡ s)
+pub four_apart : (m n : ℕ) (r s : List ℕ) → m < 2 ^ 32 → n < 2 ^ 32 → to_le_bytes w32 m ++ r ≡ to_le_bytes w32 n ++ s → (m ≡ n) × (r ≡ s)
 four_apart m n r s p q e =
     let t = fronts_apart (to_le_bytes w32 m) (to_le_bytes w32 n) r s refl e in
     (sym (from_le_bytes-to_le_bytes_4 m p) ∙ ap (from_le_bytes w32) t.0 ∙ from_le_bytes-to_le_bytes_4 n q, t.1)
@@ -50,10 +50,10 @@ eight_apart m n r s p q e =
     (sym (from_le_bytes-to_le_bytes_8 m p) ∙ ap (from_le_bytes w64) t.0 ∙ from_le_bytes-to_le_bytes_8 n q, t.1)
 
 -- signed numbers of one width in two's complement
-same_signed : (w : Width) (y z : ℤ) → FitsSigned w y → FitsSigned w z → cast_unsigned w y ≡ cast_unsigned w z → y ≡ z
+pub same_signed : (w : Width) (y z : ℤ) → FitsSigned w y → FitsSigned w z → cast_unsigned w y ≡ cast_unsigned w z → y ≡ z
 same_signed w y z p q e = sym (to_z-of_z w y p) ∙ ap (cast_signed w) e ∙ to_z-of_z w z q
 
-fits_unsigned : (w : Width) (z : ℤ) → FitsSigned w z → cast_unsigned w z < 2 ^ bits w
+pub fits_unsigned : (w : Width) (z : ℤ) → FitsSigned w z → cast_unsigned w z < 2 ^ bits w
 fits_unsigned w z p = (Fits-of_z p).fits
 
 text_apart : (x y r s : List ℕ) → (leb128 (length x) ++ x) ++ r ≡ (leb128 (length y) ++ y) ++ s → (x ≡ y) × (r ≡ s)
@@ -85,7 +85,7 @@ alike type.Int32 = tt
 alike type.Int64 = tt
 alike type.Text = tt
 
-one_type : (t u : ColType) → t ≡ u → Alike t u
+pub one_type : (t u : ColType) → t ≡ u → Alike t u
 one_type t u e = subst (Alike t) e (alike t)
 
 -- bytes begin with at most one value of a type, and one text follows it

@@ -172,7 +172,7 @@ granule_within values places granularity bytes marks rest granule left w parted 
     subst (AreWithin values) (take_at granule left (length granule) refl) first
 
 -- a number of granules that cover the values, the last of them begun, is the one number of them
-same_count : (a b m n : ℕ) → a ≤ m * b → m * b < a + b → a ≤ n * b → n * b < a + b → m ≡ n
+pub same_count : (a b m n : ℕ) → a ≤ m * b → m * b < a + b → a ≤ n * b → n * b < a + b → m ≡ n
 same_count a b m n p q r s = either (cases_lt m n) (cases_lt n m)
   where
     less : (x y : ℕ) → x < y → a ≤ x * b → y * b < a + b → ⊥

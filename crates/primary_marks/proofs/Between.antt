@@ -1,7 +1,7 @@
 -- Rows that stand between two others in the order of a key: what the keys of these two say of them.
 use Rattle.std.proofs.Common.{◌≡◌, ℕ, ◌<◌, ◌==◌, Bool, true, false, cond, List, [], ◌∷◌, ◌++◌, Some, refl, sym, ap, ap₂, ◌∙◌, subst, slice_get, length}
 use Rattle.std.specs.List.{cons_option}
-use Rattle.std.specs.Ordering.{is_eq, is_le, ordering_reverse, ordering_then}
+use Rattle.std.specs.Ordering.{is_eq, is_le, is_lt, ordering_reverse, ordering_then}
 use Rattle.std.specs.declared.cmp.Ordering.{Ordering}
 use Rattle.std.specs.declared.cmp.Ordering.TheVariants.{Less, Equal, Greater}
 use Rattle.std.proofs.lemmas.Bool.{eqb-true}
@@ -38,6 +38,12 @@ both_le : (o : Ordering) → is_le o ≡ true → is_le (ordering_reverse o) ≡
 both_le Less e f = cc
 both_le Equal e f = refl
 both_le Greater e f = cc
+
+-- what does not stand below stands at or above
+pub not_less : (o : Ordering) → is_lt o ≡ false → is_le (ordering_reverse o) ≡ true
+not_less Less e = cc
+not_less Equal e = refl
+not_less Greater e = refl
 
 -- what lies between two values that are one is that value
 between_same : (a x b : Value) → is_eq (value_cmp a b) ≡ true → is_le (value_cmp a x) ≡ true → is_le (value_cmp x b) ≡ true → (value_cmp a x ≡ Equal) × (value_cmp x b ≡ Equal)

@@ -1,5 +1,5 @@
 -- What is known of granules, place by place.
-use Rattle.std.proofs.Common.{◌≡◌, ℕ, zero, suc, ◌+◌, ◌-◌, ◌<◌, ◌≤◌, ◌==◌, Bool, true, false, cond, List, [], ◌∷◌, ◌++◌, All, IfSome, IfOk, Result, Ok, Err, Some, ◌⊎◌, inl, inr, ◌≢◌, refl, sym, ap, ap₂, ◌∙◌, length, map, drop, slice_get, get_or, option_and_then, subst, arith, add-one}
+use Rattle.std.proofs.Common.{◌≡◌, ℕ, zero, suc, ◌+◌, ◌-◌, ◌<◌, ◌≤◌, ◌==◌, Bool, true, false, cond, List, [], ◌∷◌, ◌++◌, All, IfSome, IfOk, Result, Ok, Err, Some, ◌⊎◌, inl, inr, ◌≢◌, refl, sym, ap, ap₂, ◌∙◌, length, map, drop, slice_get, get_or, option_and_then, option_map, subst, arith, add-one}
 use Rattle.std.specs.List.{range_with_len}
 use Rattle.std.specs.Ordering.{is_eq, is_ne}
 use Rattle.std.specs.declared.cmp.Ordering.{Ordering}
@@ -8,8 +8,8 @@ use Rattle.std.proofs.lemmas.Bool.{eq-eqb}
 use Rattle.std.proofs.lemmas.Bool.Decides.{eqb_tells}
 use Rattle.mt_base.specs.declared.memory.NoMemory.{NoMemory}
 use Rattle.std.proofs.lemmas.List.{drop_all, drop_more}
-use Rattle.std.proofs.lemmas.List.FromFn.{map-range_with_len_more}
-use Rattle.std.proofs.lemmas.Option.{get_or_from_slice_get, slice_get-get_or, slice_get_within}
+use Rattle.std.proofs.lemmas.List.FromFn.{get_or-map-range_with_len, length-map-range_with_len, map-range_with_len_more}
+use Rattle.std.proofs.lemmas.Option.{get_or_from_slice_get, slice_get-get_or, slice_get-map, slice_get_within}
 use Rattle.mt_base.specs.declared.partition.Partition.{Partition}
 use Rattle.mt_values.specs.declared.expr.Test.{Test}
 use Rattle.mt_values.specs.declared.schema.Schema.{Schema}
@@ -18,11 +18,13 @@ use Rattle.mt_values.specs.Conditions.{Condition}
 use Rattle.mt_values.specs.Order.{value_cmp}
 use Rattle.mt_values.specs.Values.{Row}
 use Rattle.predicate.specs.Boxes.{can}
-use Rattle.predicate.specs.Granules.{box_between, boxes_of, chosen_in, key_ranges, known_among, known_at}
+use Rattle.predicate.specs.Granules.{asked_in, box_between, boxes_of, chosen_in, key_ranges, known_among, known_at}
+use Rattle.predicate.specs.declared.extent.Can.{Can}
 use Rattle.predicate.specs.declared.extent.Extent.{Extent}
 use Rattle.predicate.specs.declared.extent.Known.{Known}
 use Rattle.predicate.specs.declared.extent.Known.TheVariants as known
 use Rattle.primary_marks.specs.Choosing.{key_at}
+use Rattle.primary_marks.proofs.KeyRowsOf.{range_item}
 use Rattle.primary_marks.proofs.MarkedRows.{map-map}
 
 -- ---- boxes
@@ -58,12 +60,49 @@ chosen_by_place schema partition c keys =
     ap (map (λ e. (can c e).yes)) (boxes_by_place schema partition keys)
     ∙ map-map (λ e. (can c e).yes) (box_at schema partition keys) (range_with_len 0 (length keys - 1))
 
+-- whether the rows of the granule at a place are asked
+abbrev pub is_asked_at : Schema → Partition → Condition Test → List Row → ℕ → Bool
+is_asked_at schema partition c keys granule = (can c (box_at schema partition keys granule)).no
+
+pub asked_by_place : (schema : Schema) (partition : Partition) (c : Condition Test) (keys : List Row) → asked_in schema partition c keys ≡ map (is_asked_at schema partition c keys) (range_with_len 0 (length keys - 1))
+asked_by_place schema partition c keys =
+    ap (map (λ e. (can c e).no)) (boxes_by_place schema partition keys)
+    ∙ map-map (λ e. (can c e).no) (box_at schema partition keys) (range_with_len 0 (length keys - 1))
+
+-- what the condition may be in the granule at a place
+abbrev pub answer_at : Schema → Partition → Condition Test → List Row → ℕ → Can
+answer_at schema partition c keys granule = can c (box_at schema partition keys granule)
+
+-- the answers, granule by granule
+pub answers_by_place : (schema : Schema) (partition : Partition) (c : Condition Test) (keys : List Row) → map (can c) (boxes_of schema partition keys) ≡ map (answer_at schema partition c keys) (range_with_len 0 (length keys - 1))
+answers_by_place schema partition c keys =
+    ap (map (can c)) (boxes_by_place schema partition keys) ∙ map-map (can c) (box_at schema partition keys) (range_with_len 0 (length keys - 1))
+
 -- one granule more
-pub chosen_more : (schema : Schema) (partition : Partition) (c : Condition Test) (keys : List Row) (k : ℕ) (old new : List Bool) (b : Bool)
-    → old ≡ map (is_chosen_at schema partition c keys) (range_with_len 0 k) → new ≡ old ++ b ∷ [] → b ≡ is_chosen_at schema partition c keys k
-    → new ≡ map (is_chosen_at schema partition c keys) (range_with_len 0 (k + 1))
-chosen_more schema partition c keys k old new b so_far e is =
-    e ∙ ap₂ (λ bs x. bs ++ x ∷ []) so_far is ∙ sym (map-range_with_len_more (is_chosen_at schema partition c keys) 0 k k (omega arith))
+pub answers_more : (schema : Schema) (partition : Partition) (c : Condition Test) (keys : List Row) (k : ℕ) (old new : List Can) (a : Can)
+    → old ≡ map (answer_at schema partition c keys) (range_with_len 0 k) → new ≡ old ++ a ∷ [] → a ≡ answer_at schema partition c keys k
+    → new ≡ map (answer_at schema partition c keys) (range_with_len 0 (k + 1))
+answers_more schema partition c keys k old new a so_far e is =
+    e ∙ ap₂ (λ (xs : List Can) x. xs ++ x ∷ []) so_far is ∙ sym (map-range_with_len_more (answer_at schema partition c keys) 0 k k (omega arith))
+
+-- what is found at a place of what is made of each number
+pub made_at : {X : Type 0} (f : ℕ → X) (n i : ℕ) (x : X) → slice_get (map f (range_with_len 0 n)) i ≡ Some x → (i < n) × (f i ≡ x)
+made_at f n i x e =
+    let within = slice_get_within (map f (range_with_len 0 n)) i x e in
+    let below : i < n = omega (arith, within, length-map-range_with_len f 0 n) in
+    (below, sym (get_or-map-range_with_len f 0 n i i x below (omega arith)) ∙ get_or_from_slice_get (map f (range_with_len 0 n)) i x x e)
+
+-- the box of the granule at a place is that of its two keys
+pub box_there : (schema : Schema) (partition : Partition) (keys : List Row) (granule : ℕ) (e : Extent) → slice_get (boxes_of schema partition keys) granule ≡ Some e
+    → (granule < length keys - 1) × (box_at schema partition keys granule ≡ e)
+box_there schema partition keys granule e is =
+    made_at (box_at schema partition keys) (length keys - 1) granule e (sym (ap (λ bs. slice_get bs granule) (boxes_by_place schema partition keys)) ∙ is)
+
+pub there_box : (schema : Schema) (partition : Partition) (keys : List Row) (granule : ℕ) → granule < length keys - 1 → slice_get (boxes_of schema partition keys) granule ≡ Some (box_at schema partition keys granule)
+there_box schema partition keys granule below =
+    ap (λ bs. slice_get bs granule) (boxes_by_place schema partition keys)
+    ∙ slice_get-map (box_at schema partition keys) (range_with_len 0 (length keys - 1)) granule
+    ∙ ap (option_map (box_at schema partition keys)) (range_item (length keys - 1) granule below)
 
 -- the box of a granule, by what its two keys say
 pub box_is : (schema : Schema) (partition : Partition) (keys : List Row) (granule : ℕ) (ranges : List Known) (e : Extent) → ranges ≡ key_ranges (key_at keys granule) (key_at keys (granule + 1))
@@ -82,7 +121,7 @@ there xs i x e = drop_more xs i x (slice_get_within xs i x e) ∙ ap (λ y. y �
 abbrev pub AgreeUpTo : Row → Row → ℕ → Type 0
 AgreeUpTo a b i = length (key_ranges a b) ≡ i + length (key_ranges (drop i a) (drop i b))
 
-ranges_from : (a b : Row) (i : ℕ) (x y : Value) → slice_get a i ≡ Some x → slice_get b i ≡ Some y
+pub ranges_from : (a b : Row) (i : ℕ) (x y : Value) → slice_get a i ≡ Some x → slice_get b i ≡ Some y
     → key_ranges (drop i a) (drop i b) ≡ known.Range x y ∷ cond (is_eq (value_cmp x y)) (key_ranges (drop (i + 1) a) (drop (i + 1) b)) []
 ranges_from a b i x y e f = ap₂ key_ranges (there a i x e) (there b i y f)
 

@@ -13,7 +13,7 @@ use Rattle.mt_values.specs.Values.{FitsType, Row, type_of, types_of}
 use Rattle.column_file.specs.Spellings.{with_values}
 use Rattle.primary_marks.specs.Columns.{ExplainsValue, GainKey, GainsValue, HaveWanted, IsWantedIn, key_types, wanted_key, with_key}
 use Rattle.primary_marks.specs.KeyFaults.{ExplainsKey}
-use Rattle.primary_marks.proofs.Fronts.{spelled_last}
+use Rattle.column_file.proofs.Fronts.{spelled_last}
 use Rattle.primary_marks.proofs.KeyRows.{length-row_at, slice_get-row_at}
 
 -- ---- value by value

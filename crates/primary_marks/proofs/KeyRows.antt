@@ -16,7 +16,7 @@ use Rattle.mt_values.proofs.Grids.{All-range, length-rows_of, slice_get-rows_of}
 use Rattle.column_file.specs.Marks.{keys_bytes}
 use Rattle.primary_marks.specs.Columns.{HaveKeys}
 use Rattle.primary_marks.specs.Keys.{primary_types}
-use Rattle.primary_marks.proofs.Fronts.{spelled_more}
+use Rattle.column_file.proofs.Fronts.{spelled_more}
 
 any_value : Value
 any_value = value.UInt8 0

@@ -14,7 +14,7 @@ use Rattle.column_file.specs.Marks.{keys_bytes}
 use Rattle.column_file.proofs.OneWay.{value_apart}
 use Rattle.primary_marks.specs.KeyFaults.{ExplainsPrimary, IsKeyStuckAt, IsPrimaryFault, KeysGoOnWrong, wanted_after}
 use Rattle.primary_marks.specs.Keys.{AreMarkKeys, IsKeyOf, IsPrimaryOf, KeyShape, ends_alone, granule_count}
-use Rattle.primary_marks.proofs.Fronts.{AreApart, Longer, even, longer}
+use Rattle.column_file.proofs.Fronts.{AreApart, Longer, even, longer}
 use Rattle.primary_marks.proofs.KeysRead.{granules_some}
 
 -- ---- keys of the same types are told apart

@@ -21,7 +21,7 @@ use Rattle.column_file.specs.Spellings.{with_values}
 use Rattle.primary_marks.specs.Columns.{GainKey, HaveKeys, HaveWanted, key_types, wanted_key, with_key}
 use Rattle.primary_marks.specs.KeyFaults.{ExplainsKey, ExplainsPrimary, IsKeyStuckAt, IsPrimaryFault, wanted_after}
 use Rattle.primary_marks.specs.Keys.{AreMarkKeys, IsKeyOf, IsPrimaryOf, KeyShape, ends_alone, granule_count, key_count, key_shape}
-use Rattle.primary_marks.proofs.Fronts.{spelled_last}
+use Rattle.column_file.proofs.Fronts.{spelled_last}
 use Rattle.primary_marks.proofs.KeyRows.{have_at, row_at-cons}
 use Rattle.primary_marks.proofs.MarkedRows.{map_on_range}
 

@@ -1,6 +1,5 @@
 pub mod Between
 pub mod ColumnStarts
-pub mod Fronts
 pub mod GranuleBoxes
 pub mod KeyReading
 pub mod KeyRows
@@ -8,6 +7,8 @@ pub mod KeyRowsOf
 pub mod KeysOneWay
 pub mod KeysRead
 pub mod MarkedRows
+pub mod Rising
 pub mod SkippedGranules
+pub mod SpanMisses
 pub mod Starts
 pub mod Wanted

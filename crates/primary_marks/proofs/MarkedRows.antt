@@ -63,6 +63,11 @@ pub map-map : {X Y Z : Type 0} (f : Y → Z) (g : X → Y) (xs : List X) → map
 map-map f g [] = refl
 map-map f g (x ∷ xs) = ap (λ zs. f (g x) ∷ zs) (map-map f g xs)
 
+-- one item more
+pub map_more : {X Y : Type 0} (f : X → Y) (xs : List X) (i : ℕ) (x : X) (old new : List Y) → i < length xs → x ≡ get_or xs i x → old ≡ map f (take i xs) → new ≡ old ++ f x ∷ [] → new ≡ map f (take (i + 1) xs)
+map_more f xs i x old new below is so_far e =
+    e ∙ ap₂ (λ ys y. ys ++ f y ∷ []) so_far is ∙ sym (map-append f (take i xs) (get_or xs i x ∷ [])) ∙ ap (map f) (sym (take_more xs i x below))
+
 pub with_final-map : {X Y : Type 0} (f : X → Y) (size : ℕ) (xs : List X) → with_final size (map f xs) ≡ map f (with_final size xs)
 with_final-map f size xs =
     let len = length-map xs f in

@@ -1,4 +1,4 @@
--- Granules that are not chosen hold no row of which the condition is true.
+-- Granules that are not chosen hold no row of which the condition is true, and those that are not asked none of which it is false.
 use Rattle.std.proofs.Common.{◌≡◌, ℕ, suc, ◌+◌, ◌-◌, ◌*◌, ◌^◌, ◌<◌, ◌≤◌, ◌⊎◌, inl, inr, pos, Bool, true, false, cond, nat_eq, nat_lt, List, [], ◌∷◌, ◌++◌, All, Option, Some, None, refl, sym, ap, ap₂, ◌∙◌, subst, length, length-append, length-take, length-drop, map, take, drop, slice_get, get_or, option_map, arith, take-append-drop, drop-drop, subst₂, mul-zero, mul_comm}
 use Rattle.std.proofs.lemmas.Bool.{cases_lt}
 use Rattle.std.specs.Cmp.{IsTotalOrder}
@@ -34,7 +34,7 @@ use Rattle.mt_values.proofs.Grids.{type_at}
 use Rattle.mt_values.proofs.Orders.{value_total}
 use Rattle.mt_values.proofs.RowPartitions.{partition_sound, prefix_sound, unsigned_there}
 use Rattle.predicate.specs.Boxes.{HasColumns, IsKnown, LiesIn, can}
-use Rattle.predicate.specs.Granules.{box_between, chosen_in, key_ranges, known_among, known_at, known_number, known_value, parts_at}
+use Rattle.predicate.specs.Granules.{asked_in, box_between, chosen_in, key_ranges, known_among, known_at, known_number, known_value, parts_at}
 use Rattle.predicate.specs.declared.extent.Known.{Known}
 use Rattle.predicate.specs.declared.extent.Known.TheVariants as known
 use Rattle.predicate.proofs.Lying.{hides}
@@ -43,8 +43,8 @@ use Rattle.mt_values.specs.Granules.{chosen_of}
 use Rattle.std.proofs.lemmas.Grind.{div_ceil_times}
 use Rattle.primary_marks.specs.Choosing.{ArePartOf, key_at}
 use Rattle.primary_marks.specs.Keys.{HasMarks}
-use Rattle.primary_marks.proofs.Between.{known_between, le_by_front}
-use Rattle.primary_marks.proofs.GranuleBoxes.{box_at, chosen_by_place, is_chosen_at}
+use Rattle.primary_marks.proofs.Between.{known_between, le_by_front, not_less}
+use Rattle.primary_marks.proofs.GranuleBoxes.{asked_by_place, box_at, chosen_by_place, is_asked_at, is_chosen_at, made_at}
 use Rattle.primary_marks.proofs.KeyRowsOf.{kept_by_places, no_granules, none_kept, range_item}
 use Rattle.primary_marks.proofs.MarkedRows.{granule_below}
 use Rattle.primary_marks.proofs.KeysRead.{slice_get-push_new, slice_get-push_old}
@@ -102,13 +102,6 @@ number_there columns (Some p) row n i v types sound of here there =
 
 -- ---- a row between two others of its table and partition
 
--- what is found at a place of what is made of each number
-made_at : {X : Type 0} (f : ℕ → X) (n i : ℕ) (x : X) → slice_get (map f (range_with_len 0 n)) i ≡ Some x → (i < n) × (f i ≡ x)
-made_at f n i x e =
-    let within = slice_get_within (map f (range_with_len 0 n)) i x e in
-    let below : i < n = omega (arith, within, length-map-range_with_len f 0 n) in
-    (below, sym (get_or-map-range_with_len f 0 n i i x below (omega arith)) ∙ get_or_from_slice_get (map f (range_with_len 0 n)) i x x e)
-
 module _ (schema : Schema) (partition : Partition) (a row b : Row) (types : types_of row ≡ column_types schema) (sound : partition_fault schema.columns schema.partition ≡ None)
     (ha : HasPlaces schema.primary a) (hr : HasPlaces schema.primary row) (hb : HasPlaces schema.primary b)
     (low : is_le (key_cmp schema.primary a row) ≡ true) (high : is_le (key_cmp schema.primary row b) ≡ true) where
@@ -130,11 +123,6 @@ module _ (schema : Schema) (partition : Partition) (a row b : Row) (types : type
       subst (λ (x : Known). IsKnown x v) found.1 (known_here partition of i v there)
 
 -- ---- rows in order
-
-not_less : (o : Ordering) → is_lt o ≡ false → is_le (ordering_reverse o) ≡ true
-not_less Less e = cc
-not_less Equal e = refl
-not_less Greater e = refl
 
 key_total : (columns : List ℕ) → IsTotalOrder (key_cmp columns)
 key_total columns = on_total (key_of columns) (lists_total value_total)
@@ -233,7 +221,12 @@ chosen_count schema partition c primary g rows large =
     let keys = mark_keys primary g rows in
     ap length (chosen_by_place schema partition c keys) ∙ length-map-range_with_len (is_chosen_at schema partition c keys) 0 (length keys - 1) ∙ keys_count primary g rows large
 
--- ---- rows of granules that are not chosen
+pub asked_count : (schema : Schema) (partition : Partition) (c : Condition Test) (primary : List ℕ) (g : ℕ) (rows : List Row) → 0 < g → length (asked_in schema partition c (mark_keys primary g rows)) ≡ granules g (length rows)
+asked_count schema partition c primary g rows large =
+    let keys = mark_keys primary g rows in
+    ap length (asked_by_place schema partition c keys) ∙ length-map-range_with_len (is_asked_at schema partition c keys) 0 (length keys - 1) ∙ keys_count primary g rows large
+
+-- ---- rows of granules that are not chosen, and of those that are not asked
 
 none_pass : {X : Type 0} (p : X → Bool) (xs : List X) → All (λ x. p x ≡ false) xs → filter p xs ≡ []
 none_pass p [] all = refl
@@ -302,11 +295,37 @@ module _ (schema : Schema) (partition : Partition) (c : Condition Test) (rows : 
       ap (eval c) (get_or-take g (drop (g * granule) rows) k d early ∙ get_or-drop (g * granule) rows k d ∙ get_or_default rows (g * granule + k) d [] below)
       ∙ misses granule (g * granule + k) skipped (omega arith) (omega arith) below)
 
+  -- of each row of a granule that is not asked the condition is true
+  met : (granule i : ℕ) → slice_get (asked_in schema partition c keys) granule ≡ Some false → schema.granularity * granule ≤ i → i < schema.granularity * granule + schema.granularity → i < length rows
+      → eval c (get_or rows i []) ≡ true
+  met granule i sure from to below =
+      let found = made_at (is_asked_at schema partition c keys) (length keys - 1) granule false (sym (ap (λ bs. slice_get bs granule) (asked_by_place schema partition c keys)) ∙ sure) in
+      let few : granule < granules schema.granularity (length rows) = omega (arith, found.0, keys_count schema.primary schema.granularity rows has.granularity) in
+      let columns : HasColumns c (get_or rows i []) = subst (λ n. All (λ (t : Test). t.column < n) (tests_of c)) (sym (row_len i below)) named in
+      let hidden = hides (box_at schema partition keys granule) (get_or rows i []) (lies granule i few from to below) c columns in
+      by (eval c (get_or rows i [])) refl (λ e. hidden.1 e) found.1
+    where
+      by : (b : Bool) → eval c (get_or rows i []) ≡ b → (eval c (get_or rows i []) ≡ false → (can c (box_at schema partition keys granule)).no ≡ true)
+          → (can c (box_at schema partition keys granule)).no ≡ false → b ≡ true
+      by true e shown sure = refl
+      by false e shown sure = sym sure ∙ shown e
+
+  pub sure_meet : (granule : ℕ) → slice_get (asked_in schema partition c keys) granule ≡ Some false → All (λ row. eval c row ≡ true) (take schema.granularity (drop (schema.granularity * granule) rows))
+  sure_meet granule sure =
+      let g = schema.granularity in
+      λ k d within.
+      let size = length-take g (drop (g * granule) rows) in
+      let rest = length-drop (g * granule) rows in
+      let below : g * granule + k < length rows = omega (arith, size, rest, within) in
+      let early : k < g = omega (arith, size, within) in
+      ap (eval c) (get_or-take g (drop (g * granule) rows) k d early ∙ get_or-drop (g * granule) rows k d ∙ get_or_default rows (g * granule + k) d [] below)
+      ∙ met granule (g * granule + k) sure (omega arith) (omega arith) below
+
 -- ---- all granules
 
 module _ {X : Type 0} (p : X → Bool) (g : ℕ) where
   -- of a list without granules in which nothing passes, the same pass
-  chosen_pass : (chosen : List Bool) (xs : List X) → length xs ≤ g * length chosen → ((k : ℕ) → slice_get chosen k ≡ Some false → filter p (take g (drop (g * k) xs)) ≡ [])
+  pub chosen_pass : (chosen : List Bool) (xs : List X) → length xs ≤ g * length chosen → ((k : ℕ) → slice_get chosen k ≡ Some false → filter p (take g (drop (g * k) xs)) ≡ [])
       → filter p (chosen_of g chosen xs) ≡ filter p xs
   chosen_pass [] xs few skipped = ap (filter p) (sym (nil_from_length xs (omega arith)))
   chosen_pass (b ∷ chosen) xs few skipped =

@@ -9,7 +9,7 @@ use Rattle.byte_numbers.specs.declared.faults.FormatFault.TheVariants.{NoMemory,
 use Rattle.byte_numbers.specs.Fronts.{Begins}
 use Rattle.column_file.specs.Marks.{numbers_bytes, places_bytes}
 use Rattle.column_file.proofs.OneWay.{eight_apart}
-use Rattle.primary_marks.proofs.Fronts.{AreApart, Longer, even, longer, spelled_last}
+use Rattle.column_file.proofs.Fronts.{AreApart, Longer, even, longer, spelled_last}
 use Rattle.primary_marks.specs.Places.{AreMarksOf, AreStarts, AreStartsOf, AreStuckAt, BeginStarts, ExplainsMarks, ExplainsStarts, GoOnWrong, IsMarksFault, IsNextStart, NoStartFollows, RiseAbove}
 
 -- ---- what may come next

@@ -3,3 +3,5 @@ pub mod Columns
 pub mod Keys
 pub mod KeyFaults
 pub mod Places
+pub mod Rising
+pub mod Spans

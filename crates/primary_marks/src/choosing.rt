@@ -6,15 +6,24 @@
 ghost use Rattle.std.specs.Prelude.{◌≡◌, ◌<◌, IfOk, Some, length, map, pos, slice_get};
 ghost use Rattle.std.specs.List.{range_with_len};
 ghost use Rattle.mt_values.specs.Literals.{number_value};
-ghost use Rattle.predicate.specs.Granules.{chosen_in, key_ranges, known_among, known_at, known_value, parts_at};
+ghost use Rattle.predicate.specs.Boxes.{can};
+ghost use Rattle.predicate.specs.Granules.{asked_in, chosen_in, key_ranges, known_among, known_at, known_value};
 ghost use Rattle.primary_marks.specs.Choosing.{key_at};
+ghost use Rattle.primary_marks.specs.Spans.{part_boxes};
 
 use crate::marks::Marks;
+use crate::spans::{PartKeys, parts_at, span_of};
 use mt_base::{NoMemory, Partition, Seq};
 use mt_values::{ColType, Expr, Schema, Test, Value, cmp_cells};
-use predicate::{Extent, Known, may_match};
+use predicate::{Can, Extent, Known, can};
 use std::alloc::Global;
 use std::marker::Model;
+
+// What a condition is of a granule that it does not leave: true of no row, and false of some.
+const MISSED: Can = Can {
+    yes: false,
+    no: true,
+};
 
 /// What two keys say of the rows between them: the ranges of the first columns of the primary key. Contracts see the list of them.
 #[derive(Drop)]
@@ -116,14 +125,65 @@ pub fn choose(
     ensures { IfOk result
         (λ v. v.items ≡ chosen_in schema.now partition.now condition.now marks.now) }
 {
-    let granules = marks.granules();
-    let mut chosen = Vec::with_capacity(alloc, granules)?;
-    for granule in 0..granules {
-        let ranges = KeyRanges::between(marks, granule, granule + 1);
-        let extent = box_within(alloc, schema, partition, &ranges)?;
-        chosen.push_reserved(may_match(condition, &extent));
+    let part = PartKeys {
+        schema,
+        partition,
+        marks,
+    };
+    let answers = answers(alloc, &part, condition)?;
+    let mut chosen = Vec::with_capacity(alloc, answers.len())?;
+    for answer in &answers {
+        chosen.push_reserved(answer.yes);
     }
     Ok(chosen)
+}
+
+/// Whether each granule of a partition's part may have a row of which the condition is false, by the primary keys that are kept of
+/// the part. In the others each row meets it.
+///
+/// `NoMemory` where an allocation failed.
+pub fn unsure(
+    alloc: Global,
+    schema: &Schema,
+    partition: &Partition,
+    condition: &Expr<Test>,
+    marks: &Marks,
+) -> Result<Vec<bool>, NoMemory>
+    ensures { IfOk result
+        (λ v. v.items ≡ asked_in schema.now partition.now condition.now marks.now) }
+{
+    let part = PartKeys {
+        schema,
+        partition,
+        marks,
+    };
+    let answers = answers(alloc, &part, condition)?;
+    let mut asked = Vec::with_capacity(alloc, answers.len())?;
+    for answer in &answers {
+        asked.push_reserved(answer.no);
+    }
+    Ok(asked)
+}
+
+/// What the condition may be in the box of each granule. Those outside of its span are not asked.
+///
+/// `NoMemory` where an allocation failed.
+fn answers(alloc: Global, part: &PartKeys, condition: &Expr<Test>) -> Result<Vec<Can>, NoMemory>
+    ensures { IfOk result (λ v. v.items ≡ map (can condition.now) (part_boxes part.now)) }
+{
+    let span = span_of(part, condition);
+    let granules = part.marks.granules();
+    let mut answers = Vec::with_capacity(alloc, granules)?;
+    for granule in 0..granules {
+        if !span.contains(granule) {
+            answers.push_reserved(MISSED);
+            continue;
+        }
+        let ranges = KeyRanges::between(part.marks, granule, granule + 1);
+        let extent = box_within(alloc, part.schema, part.partition, &ranges)?;
+        answers.push_reserved(can(condition, &extent));
+    }
+    Ok(answers)
 }
 
 /// The box of a granule, by what the keys say of it.
@@ -164,16 +224,6 @@ fn known_at(
             *number,
         )),
         _ => ranges.known_among(alloc, schema.primary.as_slice(), place),
-    }
-}
-
-/// Whether this is the place of the partition column.
-fn parts_at(partition: Option<u32>, place: usize) -> bool
-    ensures { result ≡ parts_at partition place }
-{
-    match partition {
-        Some(own) => own as usize == place,
-        None => false,
     }
 }
 

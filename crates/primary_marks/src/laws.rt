@@ -1,5 +1,5 @@
 // What the definitions say of bytes, whichever function reads them. The functions have empty bodies and the laws as their contracts.
-ghost use Rattle.std.specs.Prelude.{◌≡◌, ◌^◌, ◌*◌, ◌<◌, ◌≤◌, ℕ, [], All, List, None, Some, drop, false, filter, length, slice_get, take};
+ghost use Rattle.std.specs.Prelude.{◌≡◌, ◌^◌, ◌*◌, ◌<◌, ◌≤◌, ℕ, [], All, List, None, Some, drop, false, filter, length, slice_get, take, true};
 ghost use Rattle.mt_base.specs.declared.partition.Partition.{Partition};
 ghost use Rattle.mt_values.specs.ColumnBytes.{column_bytes};
 ghost use Rattle.mt_values.specs.Conditions.{Condition, tests_of};
@@ -11,7 +11,7 @@ ghost use Rattle.mt_values.specs.Values.{Row};
 ghost use Rattle.mt_values.specs.declared.expr.Test.{Test};
 ghost use Rattle.mt_values.specs.declared.schema.Schema.{Schema};
 ghost use Rattle.column_file.specs.Marks.{granule_places, granules, mark_keys, marks_bytes, primary_bytes};
-ghost use Rattle.predicate.specs.Granules.{chosen_in};
+ghost use Rattle.predicate.specs.Granules.{asked_in, chosen_in};
 ghost use Rattle.primary_marks.specs.Choosing.{ArePartOf};
 ghost use Rattle.primary_marks.specs.KeyFaults.{IsPrimaryFault};
 ghost use Rattle.primary_marks.specs.Keys.{ArePartRows, HasMarks, IsPrimaryOf, KeyShape, shape_of};
@@ -76,5 +76,21 @@ pub fn skipped_granules_hold_no_match()
     ensures count { (schema : Schema) (partition : Partition) (c : Condition Test)
         (primary : List ℕ) (g : ℕ) (rows : List Row) → 0 < g
         → length (chosen_in schema partition c (mark_keys primary g rows)) ≡ granules g
+        (length rows) }
+{}
+
+/// In granules in whose box the condition can be false of no row each row meets it: of a part of a table whose schema breaks no rule,
+/// and a condition over the table's columns. So it need not be asked of these rows. Each granule has an answer.
+pub fn sure_granules_meet()
+    ensures each { (schema : Schema) (partition : Partition) (c : Condition Test) (rows : List Row)
+        → HasMarks schema → schema_fault schema ≡ None → ArePartOf schema partition rows
+        → All (λ (t : Test). t.column < length schema.columns) (tests_of c) → (granule : ℕ)
+        → slice_get (asked_in schema partition c
+        (mark_keys schema.primary schema.granularity rows)) granule ≡ Some false
+        → All (λ row. eval c row ≡ true) (take schema.granularity
+        (drop (schema.granularity * granule) rows)) }
+    ensures count { (schema : Schema) (partition : Partition) (c : Condition Test)
+        (primary : List ℕ) (g : ℕ) (rows : List Row) → 0 < g
+        → length (asked_in schema partition c (mark_keys primary g rows)) ≡ granules g
         (length rows) }
 {}

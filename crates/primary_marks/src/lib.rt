@@ -7,13 +7,14 @@ mod laws;
 mod marks;
 mod places;
 mod reading;
+mod spans;
 
 pub use building::{build, spell};
 pub use byte_numbers::FormatFault;
-pub use choosing::choose;
+pub use choosing::{choose, unsure};
 pub use laws::{
     keys_are_read_in_one_way, keys_are_those_of_rows, places_are_read_in_one_way,
-    places_of_rows_are_read, skipped_granules_hold_no_match,
+    places_of_rows_are_read, skipped_granules_hold_no_match, sure_granules_meet,
 };
 pub use marks::Marks;
 pub use places::{Places, read_places, spell_places};

@@ -1,12 +1,15 @@
 // The primary keys that are kept of a part's rows.
 ghost use Rattle.std.specs.Prelude.{All, ◌≡◌, ◌-◌, ◌<◌, ◌↔◌, [], IfOk, Some, IsTrue, length, slice_get};
 ghost use Rattle.std.specs.Option.{IfSome, option_and_then};
+ghost use Rattle.std.specs.List.Sorted.{IsSorted};
 ghost use Rattle.mt_values.specs.Cells.{value_of};
 ghost use Rattle.mt_values.specs.Grid.{rows_of};
+ghost use Rattle.mt_values.specs.Order.{value_cmp};
 ghost use Rattle.primary_marks.specs.Columns.{HaveKeys};
+ghost use Rattle.primary_marks.specs.Rising.{FirstRises, RiseByFirst};
 
 use mt_base::{NoMemory, Twin};
-use mt_values::{Cell, ColumnData};
+use mt_values::{Cell, ColumnData, cmp_cells};
 use std::alloc::Global;
 use std::marker::Model;
 
@@ -15,19 +18,23 @@ use std::marker::Model;
 pub struct Marks {
     columns: Vec<ColumnData>,
     keys: usize,
+    /// Whether each key has a first value and none of these is above the next one. Where it is false, nothing is said.
+    rise: bool,
 }
 
 impl Model for Marks {
-    ghost use Rattle.std.specs.Prelude.{List};
+    ghost use Rattle.std.specs.Prelude.{List, IsTrue};
     ghost use Rattle.mt_values.specs.Grid.{rows_of};
     ghost use Rattle.mt_values.specs.Values.{Row};
     ghost use Rattle.primary_marks.specs.Columns.{HaveKeys};
+    ghost use Rattle.primary_marks.specs.Rising.{RiseByFirst};
 
     ghost Value = { List Row };
 
     ghost view = { λ m. rows_of m.columns.items m.keys };
 
-    ghost invariant = { λ m. HaveKeys m.columns.items m.keys };
+    ghost invariant = { λ m. HaveKeys m.columns.items m.keys
+        × (IsTrue m.rise → RiseByFirst (rows_of m.columns.items m.keys)) };
 }
 
 impl Marks {
@@ -36,7 +43,19 @@ impl Marks {
         requires { HaveKeys columns.items keys }
         ensures { result ≡ rows_of columns.items keys }
     {
-        Marks { columns, keys }
+        let rise = first_rises(&columns);
+        Marks {
+            columns,
+            keys,
+            rise,
+        }
+    }
+
+    /// Whether the first values of the keys are known to rise.
+    pub(crate) fn rise(&self) -> bool
+        ensures { IsTrue result → RiseByFirst self.now }
+    {
+        self.rise
     }
 
     /// The number of keys.
@@ -84,9 +103,34 @@ impl Twin for Marks {
         for column in &self.columns {
             columns.push(column_twin(alloc, column)?)?;
         }
-        let keys = self.keys;
-        Ok(Marks { columns, keys })
+        Ok(Marks {
+            columns,
+            keys: self.keys,
+            rise: self.rise,
+        })
     }
+}
+
+/// Whether there is a first column, and none of its values is above the next one.
+fn first_rises(columns: &[ColumnData]) -> bool
+    ensures { IsTrue result → FirstRises columns.now }
+{
+    match columns.first() {
+        Some(column) => rises(column),
+        None => false,
+    }
+}
+
+/// Whether no value of a column is above the next one.
+fn rises(column: &ColumnData) -> bool
+    ensures { IsTrue result → IsSorted value_cmp column.now.values }
+{
+    for place in 1..column.len() {
+        if cmp_cells(column.at(place), column.at(place - 1)).is_lt() {
+            return false;
+        }
+    }
+    true
 }
 
 /// An equal column.

@@ -4,7 +4,7 @@ ghost use Rattle.std.specs.Prelude.{◌≡◌, IfOk};
 ghost use Rattle.mt_values.specs.Conditions.{height};
 ghost use Rattle.primary_marks.specs.Keys.{HasMarks};
 
-use crate::{FormatFault, choose, read, read_places, spell, spell_places};
+use crate::{FormatFault, choose, read, read_places, spell, spell_places, unsure};
 use mt_base::{NoMemory, Partition, Seq};
 use mt_values::{ColType, Column, Comparison, Expr, Schema, Test, Value};
 use std::alloc::Global;
@@ -29,6 +29,7 @@ fn two_columns(alloc: Global) -> Result<Schema, NoMemory>
         primary: Seq::from_slice(alloc, &[0, 1])?,
         partition: None,
         granularity: 2,
+        indexes: Seq::new(alloc),
     })
 }
 
@@ -206,6 +207,7 @@ fn one_column(alloc: Global) -> Result<Schema, NoMemory>
         primary: Seq::from_slice(alloc, &[0])?,
         partition: None,
         granularity: 2,
+        indexes: Seq::new(alloc),
     })
 }
 
@@ -228,6 +230,7 @@ fn parted(alloc: Global) -> Result<Schema, NoMemory>
         primary: Seq::from_slice(alloc, &[1])?,
         partition: Some(0),
         granularity: 2,
+        indexes: Seq::new(alloc),
     })
 }
 
@@ -274,6 +277,22 @@ impl<'a> Asked<'a> {
             Ok(marks) => {
                 let chosen = choose(alloc, &self.schema, &self.partition, condition, &marks)?;
                 Ok(chosen.as_slice() == wanted)
+            }
+            Err(_) => Ok(false),
+        }
+    }
+
+    /// Whether the granules in which a condition is asked are these.
+    fn asks(
+        &self,
+        alloc: Global,
+        condition: &Expr<Test>,
+        wanted: &[bool],
+    ) -> Result<bool, NoMemory> {
+        match read(alloc, &self.schema, self.bytes, self.rows) {
+            Ok(marks) => {
+                let asked = unsure(alloc, &self.schema, &self.partition, condition, &marks)?;
+                Ok(asked.as_slice() == wanted)
             }
             Err(_) => Ok(false),
         }
@@ -415,5 +434,180 @@ fn a_part_without_rows_has_no_granule(rt: HostRuntime) -> Result<(), Fail> {
         rows: 0,
     };
     assert!(rt; part.leaves(alloc, &Expr::always(alloc)?, &[])?);
+    Ok(())
+}
+
+/// A table with one column UInt8, which is its primary key and may part it, and granules of 1 row.
+fn one_byte(alloc: Global, partition: Option<u32>) -> Result<Schema, NoMemory>
+    ensures { IfOk result HasMarks }
+{
+    let mut columns = Seq::new(alloc);
+    columns.push(Column {
+        name: Seq::from_slice(alloc, b"k")?,
+        col_type: ColType::UInt8,
+    })?;
+    Ok(Schema {
+        columns,
+        key: Seq::from_slice(alloc, &[0])?,
+        primary: Seq::from_slice(alloc, &[0])?,
+        partition,
+        granularity: 1,
+        indexes: Seq::new(alloc),
+    })
+}
+
+/// A comparison of the first column with one of some numbers.
+fn test_of(alloc: Global, comparison: Comparison, numbers: &[u8]) -> Result<Expr<Test>, NoMemory>
+    ensures { IfOk result (λ c. height c ≡ 1) }
+{
+    let mut literals = Seq::new(alloc);
+    for number in numbers {
+        literals.push(Value::UInt8(*number))?;
+    }
+    Expr::of(
+        alloc,
+        Test {
+            column: 0,
+            comparison,
+            literals,
+        },
+    )
+}
+
+/// Whether the answers are those of a text that has 1 for each that is true.
+fn are(answers: &[bool], wanted: &[u8]) -> bool {
+    answers.len() == wanted.len()
+        && answers
+            .iter()
+            .zip(wanted.iter())
+            .all(|(answer, digit)| *answer == (*digit == b'1'))
+}
+
+impl<'a> Asked<'a> {
+    /// Whether a condition leaves the granules of the one text, and is asked in those of the other.
+    fn splits(
+        &self,
+        alloc: Global,
+        condition: &Expr<Test>,
+        left: &[u8],
+        asked: &[u8],
+    ) -> Result<bool, NoMemory> {
+        let Ok(marks) = read(alloc, &self.schema, self.bytes, self.rows) else {
+            return Ok(false);
+        };
+        let chosen = choose(alloc, &self.schema, &self.partition, condition, &marks)?;
+        let unsure = unsure(alloc, &self.schema, &self.partition, condition, &marks)?;
+        Ok(are(chosen.as_slice(), left) && are(unsure.as_slice(), asked))
+    }
+}
+
+/// A comparison with numbers, the granules that it leaves, and those in which it is asked.
+#[derive(Clone, Copy, Debug)]
+struct Split<'a> {
+    comparison: Comparison,
+    numbers: &'a [u8],
+    left: &'a [u8],
+    asked: &'a [u8],
+}
+
+/// The first of some comparisons that a part answers otherwise.
+fn first_wrong(alloc: Global, part: &Asked, splits: &[Split]) -> Result<Option<usize>, NoMemory> {
+    for (number, split) in splits.iter().enumerate() {
+        let condition = test_of(alloc, split.comparison, split.numbers)?;
+        if !part.splits(alloc, &condition, split.left, split.asked)? {
+            return Ok(Some(number));
+        }
+    }
+    Ok(None)
+}
+
+/// A comparison and its answers.
+fn case<'a>(
+    comparison: Comparison,
+    numbers: &'a [u8],
+    left: &'a [u8],
+    asked: &'a [u8],
+) -> Split<'a> {
+    Split {
+        comparison,
+        numbers,
+        left,
+        asked,
+    }
+}
+
+#[test]
+fn keys_that_repeat_are_bisected(rt: HostRuntime) -> Result<(), Fail> {
+    let alloc = rt.alloc();
+    // The boxes are from 1 to 2, twice 2 alone, from 2 to 5, 5 alone, from 5 to 7, and 7 alone.
+    let part = Asked {
+        schema: one_byte(alloc, None)?,
+        partition: Partition::Whole,
+        bytes: b"\x01\x02\x02\x02\x05\x05\x07\x07",
+        rows: 7,
+    };
+    let splits = [
+        case(Comparison::Equal, b"\x02", b"1111000", b"1001111"),
+        case(Comparison::Equal, b"\0", b"0000000", b"1111111"),
+        case(Comparison::Equal, b"\x03", b"0001000", b"1111111"),
+        case(Comparison::Equal, b"\x09", b"0000000", b"1111111"),
+        case(Comparison::Equal, b"\x01\x05", b"1001110", b"1111011"),
+        case(Comparison::Equal, b"\x05\x01", b"1001110", b"1111011"),
+        case(Comparison::NotEqual, b"\x02", b"1001111", b"1111000"),
+        case(Comparison::Less, b"\x02", b"1000000", b"1111111"),
+        case(Comparison::LessOrEqual, b"\x05", b"1111110", b"0000011"),
+        case(Comparison::Greater, b"\x02", b"0001111", b"1111000"),
+        case(Comparison::GreaterOrEqual, b"\x07", b"0000011", b"1111110"),
+    ];
+    assert_eq!(rt; first_wrong(alloc, &part, &splits)?, None);
+    Ok(())
+}
+
+#[test]
+fn spans_of_parts_of_a_condition_are_joined(rt: HostRuntime) -> Result<(), Fail> {
+    let alloc = rt.alloc();
+    // As in the test before: NOT (k = 2) AND k < 7, and k = 1 OR k = 7.
+    let part = Asked {
+        schema: one_byte(alloc, None)?,
+        partition: Partition::Whole,
+        bytes: b"\x01\x02\x02\x02\x05\x05\x07\x07",
+        rows: 7,
+    };
+    let mut both = test_of(alloc, Comparison::Equal, &[2])?;
+    both.negate()?;
+    let both = both.and(test_of(alloc, Comparison::Less, &[7])?)?;
+    assert!(rt; part.splits(alloc, &both, b"1001110", b"1111011")?);
+    let one = test_of(alloc, Comparison::Equal, &[1])?;
+    let either = one.or(test_of(alloc, Comparison::Equal, &[7])?)?;
+    assert!(rt; part.splits(alloc, &either, b"1000011", b"1111110")?);
+    Ok(())
+}
+
+#[test]
+fn keys_that_do_not_rise_are_asked_one_by_one(rt: HostRuntime) -> Result<(), Fail> {
+    let alloc = rt.alloc();
+    // The boxes are from 3 to 1, from 1 to 2, and 2 alone.
+    let part = Asked {
+        schema: one_byte(alloc, None)?,
+        partition: Partition::Whole,
+        bytes: b"\x03\x01\x02\x02",
+        rows: 3,
+    };
+    let splits = [
+        case(Comparison::Equal, b"\x01", b"010", b"111"),
+        case(Comparison::Less, b"\x02", b"010", b"011"),
+        case(Comparison::Greater, b"\0", b"111", b"000"),
+        case(Comparison::Greater, b"\x02", b"000", b"011"),
+    ];
+    assert_eq!(rt; first_wrong(alloc, &part, &splits)?, None);
+    // Of the partition column the number alone is known, whatever the keys are.
+    let numbered = Asked {
+        schema: one_byte(alloc, Some(0))?,
+        partition: Partition::Number(7),
+        bytes: b"\x01\x03\x03",
+        rows: 2,
+    };
+    let seven = test_of(alloc, Comparison::Equal, &[7])?;
+    assert!(rt; numbered.splits(alloc, &seven, b"11", b"00")?);
     Ok(())
 }

@@ -2,7 +2,7 @@ use Rattle.std.proofs.Common.{◌≡◌, ◌+◌, ◌*◌, ap, sym, ◌∙◌, a
 use Rattle.std.proofs.lemmas.List.{drop-drop}
 use Rattle.byte_numbers.specs.declared.faults.FormatFault.TheVariants.{Malformed}
 use Rattle.primary_marks.specs.Places.{ExplainsStarts, IsNextStart, NoStartFollows}
-use Rattle.primary_marks.proofs.Fronts.{handed}
+use Rattle.column_file.proofs.Fronts.{handed}
 use Rattle.primary_marks.proofs.Starts.{AreBegun, begun_more, begun_stuck}
 use Rattle.primary_marks.proofs.places.read_numbers.Goals as goal
 

@@ -1,7 +1,7 @@
 use Rattle.std.proofs.Common.{◌≡◌, ◌+◌, ◌*◌, ◌≤◌, ◌∷◌, [], ap, sym, ◌∙◌, subst, arith, length, length-append}
 use Rattle.byte_numbers.specs.declared.faults.FormatFault.TheVariants.{Malformed}
 use Rattle.primary_marks.specs.Places.{ExplainsMarks}
-use Rattle.primary_marks.proofs.Fronts.{handed, handed_on}
+use Rattle.column_file.proofs.Fronts.{handed, handed_on}
 use Rattle.primary_marks.proofs.Starts.{ArePlaced, marks_refused, one_marks, placed_all, placed_explains, placed_more, placed_past, placed_within}
 use Rattle.primary_marks.proofs.places.read_places.Goals as goal
 

@@ -3,7 +3,7 @@ use Rattle.std.proofs.lemmas.List.{drop-drop}
 use Rattle.mt_values.specs.Grid.{Cells}
 use Rattle.primary_marks.specs.Columns.{ExplainsValue, GainsValue, key_types, wanted_key}
 use Rattle.primary_marks.specs.KeyFaults.{ExplainsKey}
-use Rattle.primary_marks.proofs.Fronts.{handed_on}
+use Rattle.column_file.proofs.Fronts.{handed_on}
 use Rattle.primary_marks.proofs.KeyReading.{gone_all, gone_has, gone_next, gone_none, gone_within, gone_wrong}
 use Rattle.primary_marks.proofs.reading.read_key.Goals as goal
 

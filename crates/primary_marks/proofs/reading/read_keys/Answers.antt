@@ -7,7 +7,7 @@ use Rattle.column_file.specs.Marks.{granules}
 use Rattle.primary_marks.specs.Columns.{GainKey, key_types, wanted_key}
 use Rattle.primary_marks.specs.KeyFaults.{ExplainsKey, ExplainsPrimary}
 use Rattle.primary_marks.specs.Keys.{IsPrimaryOf, key_shape}
-use Rattle.primary_marks.proofs.Fronts.{handed, handed_on}
+use Rattle.column_file.proofs.Fronts.{handed, handed_on}
 use Rattle.primary_marks.proofs.KeysRead.{AreKeysRead, IsFinalTurn, all_have, all_len, all_past, all_read, all_spelled, final_turn, final_wrong, granule_wrong, keys_more, keys_within, length-gained, written_back}
 use Rattle.primary_marks.proofs.reading.read_keys.Goals as goal
 

@@ -6,4 +6,4 @@ use Rattle.primary_marks.proofs.marks.Marks.width.Goals as goal
 pub returns : goal.returns
 returns c =
     subst (λ (n : ℕ). All (λ (key : Row). length key ≡ n) c.args.self.now) (sym (c.len.ensures ∙ c.self.inside.columns.ok.0))
-    (seen_width c.self.inside.columns.items c.self.inside.keys c.args.self.now c.self.view_is c.self.invariant)
+    (seen_width c.self.inside.columns.items c.self.inside.keys c.args.self.now c.self.view_is c.self.invariant.0)

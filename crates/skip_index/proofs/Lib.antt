@@ -1,0 +1,10 @@
+pub mod BlocksRead
+pub mod Built
+pub mod Distinct
+pub mod Extremes
+pub mod FileShapes
+pub mod Keeping
+pub mod OneWay
+pub mod Skipped
+pub mod Spread
+pub mod Written

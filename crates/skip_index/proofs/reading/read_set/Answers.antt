@@ -1,0 +1,20 @@
+use Rattle.std.proofs.Common.{ℕ, ◌<◌, ◌^◌, List, drop, subst}
+use Rattle.std.proofs.lemmas.List.{take_rest}
+use Rattle.std.specs.Int.{w32, to_le_bytes}
+use Rattle.byte_numbers.specs.Fronts.{Begins}
+use Rattle.column_file.proofs.Fronts.{handed_on}
+use Rattle.skip_index.specs.Faults.{ExplainsSet}
+use Rattle.skip_index.proofs.BlocksRead.{set_spelled, set_wrong}
+use Rattle.skip_index.proofs.reading.read_set.Goals as goal
+
+pub returns-in_err-values-clause-fault : goal.returns-in_err-values-clause-fault
+returns-in_err-values-clause-fault c =
+    let small : c.in-Some.count < 2 ^ 32 = search in
+    let begins = subst (λ (l : List ℕ). Begins (to_le_bytes w32 c.in-Some.count) 4 l) (take_rest c.args.bytes.now c.args.at) c.in-Some.ensures in
+    handed_on (ExplainsSet c.args.block c.args.limit c.args.at (drop c.args.at c.args.bytes.now)) c.from_residual.result c.in_err-values.field-0.0 c.from_residual.ensures.1
+    (set_wrong c.args.block c.args.limit c.args.at c.args.bytes.now c.in-Some.count c.in_err-values.field-0.0 small begins (c.may_count.ensures.0 c.if-not-may_count.false) c.in_err-values.ensures.fault)
+
+pub returns-clause-spelled : goal.returns-clause-spelled
+returns-clause-spelled c =
+    let begins = subst (λ (l : List ℕ). Begins (to_le_bytes w32 c.in-Some.count) 4 l) (take_rest c.args.bytes.now c.args.at) c.in-Some.ensures in
+    set_spelled c.in_ok-values.values c.in-Some.count c.in_ok-values.size c.args.at c.args.bytes.now c.in_ok-values.ensures.count begins c.in_ok-values.ensures.spelled
