@@ -33,12 +33,13 @@ use Rattle.digest_file.proofs.Manifests.{frame_from_manifest, manifest_first}
 use Rattle.primary_marks.specs.Keys.{IsKeyOf, IsPrimaryOf, KeyShape, ends_alone, granule_count, key_count, shape_of}
 use Rattle.primary_marks.specs.Places.{AreMarksOf, AreStartsOf}
 use Rattle.primary_marks.proofs.KeysOneWay.{keys_apart}
-use Rattle.primary_marks.proofs.Fronts.{even}
+use Rattle.column_file.proofs.Fronts.{even}
 use Rattle.primary_marks.proofs.Starts.{starts_apart}
-use Rattle.part_writer.specs.PartFiles.{content_bytes, content_ids, mark_of}
+use Rattle.part_writer.specs.PartFiles.{content_bytes, content_ids, mark_of, opened_ids}
 use Rattle.part_damage.specs.Marks.{mark_for}
-use Rattle.part_damage.specs.Sound.{FirstDamaged, FirstUnder, FirstUnsound, IsFirstUnlike, IsFirstWithout, IsManifestFor, IsReadable, IsSound, SpellsFile, granule_ids}
+use Rattle.part_damage.specs.Sound.{FirstDamaged, FirstUnder, FirstUnsound, IsFirstUnlike, IsFirstWithout, IsManifestFor, IsReadable, IsSound, SpellsFile}
 use Rattle.part_damage.proofs.Decisions.{Decided, Whole, both, decided, first_key, first_starts, like, whole}
+use Rattle.part_damage.proofs.IndexFiles.{decide_blocks}
 use Rattle.part_damage.proofs.SpelledRows.{rows_spelled}
 
 -- ---- the manifest that bytes are
@@ -153,8 +154,8 @@ decide_manifest_for schema bytes = by (decide_manifest bytes)
 
 -- ---- single files
 
-decide_marked : (manifest : Manifest) (f : FileId) (bytes : List ℕ) → Decided (mark_for manifest f ≡ Some (mark_of bytes))
-decide_marked manifest f bytes = decided (is_marked (mark_for manifest f) bytes) (marked_Decides (mark_for manifest f) bytes)
+decide_marked : (schema : Schema) (manifest : Manifest) (f : FileId) (bytes : List ℕ) → Decided (mark_for schema manifest f ≡ Some (mark_of bytes))
+decide_marked schema manifest f bytes = decided (is_marked (mark_for schema manifest f) bytes) (marked_Decides (mark_for schema manifest f) bytes)
 
 decide_column : (o : Option ColType) (rows : ℕ) (bytes : List ℕ) → Decided (IsSomeAnd o (λ t. Spells t rows bytes))
 decide_column None rows bytes = inr (λ e. absurd e)
@@ -166,11 +167,11 @@ decide_spelled schema rows file.Entry bytes = inr (λ e. absurd e)
 decide_spelled schema rows file.Manifest bytes = inr (λ e. absurd e)
 decide_spelled schema rows file.Marks bytes = inl tt
 decide_spelled schema rows file.Primary bytes = inl tt
-decide_spelled schema rows (file.Skip n) bytes = inr (λ e. absurd e)
+decide_spelled schema rows (file.Skip n) bytes = inl tt
 
 decide_sound : (schema : Schema) (manifest : Manifest) (f : FileId) (bytes : List ℕ) → Decided (IsSound schema manifest f bytes)
 decide_sound schema manifest f bytes =
-    like (λ p. record { marked = p.0; spelled = p.1 }) (λ s. (s.marked, s.spelled)) (both (decide_marked manifest f bytes) (decide_spelled schema manifest.rows f bytes))
+    like (λ p. record { marked = p.0; spelled = p.1 }) (λ s. (s.marked, s.spelled)) (both (decide_marked schema manifest f bytes) (decide_spelled schema manifest.rows f bytes))
 
 decide_places : (columns count : ℕ) (bytes : List ℕ) → Decided ((places : List (List ℕ)) × AreMarksOf columns count bytes places)
 decide_places columns count bytes =
@@ -227,13 +228,15 @@ decide_keys shape bytes = by (whole column_bytes (IsKeyOf shape.types) (keys_apa
 decide_readable : (schema : Schema) (manifest : Manifest) (f : FileId) (bytes : List ℕ) → Decided (IsReadable schema manifest f bytes)
 decide_readable schema manifest file.Marks bytes =
     like (λ p. (p.1.0, record { marked = p.0; are = p.1.1 })) (λ r. (r.1.marked, (r.0, r.1.are)))
-    (both (decide_marked manifest file.Marks bytes) (decide_places (length schema.columns) (granules schema.granularity manifest.rows) bytes))
+    (both (decide_marked schema manifest file.Marks bytes) (decide_places (length schema.columns) (granules schema.granularity manifest.rows) bytes))
 decide_readable schema manifest file.Primary bytes =
     like (λ p. (p.1.0, record { marked = p.0; are = p.1.1 })) (λ r. (r.1.marked, (r.0, r.1.are)))
-    (both (decide_marked manifest file.Primary bytes) (decide_keys (shape_of schema manifest.rows) bytes))
+    (both (decide_marked schema manifest file.Primary bytes) (decide_keys (shape_of schema manifest.rows) bytes))
 decide_readable schema manifest file.Entry bytes = inr (λ e. absurd e)
 decide_readable schema manifest file.Manifest bytes = inr (λ e. absurd e)
-decide_readable schema manifest (file.Skip n) bytes = inr (λ e. absurd e)
+decide_readable schema manifest (file.Skip n) bytes =
+    like (λ p. (p.1.0, record { marked = p.0; are = p.1.1 })) (λ r. (r.1.marked, (r.0, r.1.are)))
+    (both (decide_marked schema manifest (file.Skip n) bytes) (decide_blocks schema n manifest.rows bytes))
 decide_readable schema manifest (file.Column n) bytes = inr (λ e. absurd e)
 
 -- ---- the first file
@@ -251,7 +254,7 @@ module _ (schema : Schema) (files : Files) (manifest : Manifest) where
   decide_unlike none =
       let spelled = rows_spelled schema manifest files none in
       let first = first_without (λ f. bytes_of f files ≡ content_bytes schema spelled.0 f)
-      (λ f. decided (bytes_eq (bytes_of f files) (content_bytes schema spelled.0 f)) (bytes_eq-Decides (bytes_of f files) (content_bytes schema spelled.0 f))) granule_ids in
+      (λ f. decided (bytes_eq (bytes_of f files) (content_bytes schema spelled.0 f)) (bytes_eq-Decides (bytes_of f files) (content_bytes schema spelled.0 f))) (opened_ids schema) in
       (first.0, (spelled.0, spelled.1, first.1))
 
   decide_unsound : (found : Option FileId) × FirstUnsound schema manifest files found
@@ -262,9 +265,9 @@ module _ (schema : Schema) (files : Files) (manifest : Manifest) where
       by (None, none) = let unlike = decide_unlike none in (unlike.0, inr (none, unlike.1))
 
   decide_under : (found : Option FileId) × FirstUnder schema manifest files found
-  decide_under = by (first_without (λ g. IsReadable schema manifest g (bytes_of g files)) (λ g. decide_readable schema manifest g (bytes_of g files)) granule_ids)
+  decide_under = by (first_without (λ g. IsReadable schema manifest g (bytes_of g files)) (λ g. decide_readable schema manifest g (bytes_of g files)) (opened_ids schema))
     where
-      by : ((found : Option FileId) × IsFirstWithout (λ g. IsReadable schema manifest g (bytes_of g files)) granule_ids found) → (found : Option FileId) × FirstUnder schema manifest files found
+      by : ((found : Option FileId) × IsFirstWithout (λ g. IsReadable schema manifest g (bytes_of g files)) (opened_ids schema) found) → (found : Option FileId) × FirstUnder schema manifest files found
       by (Some f, first) = (Some f, inl (f, first, refl))
       by (None, none) = (decide_unsound.0, inr (none, decide_unsound.1))
 

@@ -19,7 +19,7 @@ use Rattle.column_file.proofs.OneWay.{eight_apart, value_apart}
 use Rattle.column_file.proofs.Tested.{FirstIs, first_is}
 use Rattle.primary_marks.specs.Keys.{IsKeyOf}
 use Rattle.primary_marks.specs.Places.{AreStarts, AreStartsOf, RiseAbove}
-use Rattle.primary_marks.proofs.Fronts.{AreApart, even}
+use Rattle.column_file.proofs.Fronts.{AreApart, even}
 
 -- it holds, or it does not
 abbrev pub Decided : Type 0 → Type 0

@@ -1,3 +1,4 @@
 pub mod Deciding
 pub mod Decisions
+pub mod IndexFiles
 pub mod SpelledRows

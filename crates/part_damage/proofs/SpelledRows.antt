@@ -158,7 +158,7 @@ rows_spelled schema manifest files none = rows_of_columns schema manifest.rows f
     each : (n : ℕ) (t : ColType) → slice_get (column_types schema) n ≡ Some t → Spells t manifest.rows (bytes_of (file.Column n) files)
     each n t here =
         let below : n < length (column_types schema) = slice_get_within (column_types schema) n t here in
-        let sound = all_have (λ g. IsSound schema manifest g (bytes_of g files)) (content_ids schema) none (n + 2) (file.Column n) (content_at schema n (omega (arith, types_length schema))) in
+        let sound = all_have (λ g. IsSound schema manifest g (bytes_of g files)) (content_ids schema) none (n + length schema.indexes + 2) (file.Column n) (content_at schema n (omega (arith, types_length schema))) in
         subst (λ (o : Option ColType). IsSomeAnd o (λ u. Spells u manifest.rows (bytes_of (file.Column n) files))) here sound.spelled
 
 -- ---- one list of rows

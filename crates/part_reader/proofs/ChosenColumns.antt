@@ -37,7 +37,7 @@ use Rattle.part_reader.specs.Faults.{ExplainsEach, IsNoDamage, fault_after}
 use Rattle.part_reader.specs.Granules.{ExplainsChosen, ExplainsRun, GainsChosen, HoldsValues, IsChosenRun, IsRunAdded, IsRunRead, IsSpanOf, IsSpanRead, PartColumn, chosen_count, chosen_of, column_in, place_of, rows_in, values_in}
 use Rattle.part_reader.specs.Parts.{HoldsAt, with_columns}
 use Rattle.part_reader.proofs.ChosenItems.{chosen_run, chosen_skip, column_chosen, count_run, run_length, run_since}
-use Rattle.part_reader.proofs.ComparedColumns.{mapped_at}
+use Rattle.part_reader.proofs.SameLists.{mapped_at}
 use Rattle.part_reader.proofs.Holding.{AreTyped, columns_held, columns_within, each_typed, misread_explained, type_there}
 
 -- ---- a run of a column that holds values
@@ -63,7 +63,7 @@ module _ (c : PartColumn) (t : ColType) (values : List Value) (h : HoldsValues c
       ap (λ (o : Option (List ℕ)). option_and_then (λ (column : List ℕ). slice_get column k) o) h.places ∙ mapped_at (granule_start g values) n k (omega (arith, within, same))
 
   -- the bytes of a run spell its values
-  run_is : (run : Run) (span : Span) (bytes : List ℕ) → IsSpanOf c.loaded.places c.number run span → IsSpanRead c span bytes → IsSpelling t (rows_in c.loaded run) bytes (run_of g run.first run.count values)
+  pub run_is : (run : Run) (span : Span) (bytes : List ℕ) → IsSpanOf c.loaded.places c.number run span → IsSpanRead c span bytes → IsSpelling t (rows_in c.loaded run) bytes (run_of g run.first run.count values)
   run_is run span bytes at read =
       let whole : IsSpelling t (length values) (bytes_of (file.Column c.number) h.files) values = subst (λ n. IsSpelling t n (bytes_of (file.Column c.number) h.files) values) (sym counted) h.spelled in
       let own = run_spelled t values (bytes_of (file.Column c.number) h.files) g run.first run.count whole in
@@ -87,7 +87,7 @@ module _ (c : PartColumn) (t : ColType) (values : List Value) (h : HoldsValues c
 
 -- what is said of bytes of a run that go wrong
 pub run_explained : (c : PartColumn) (run : Run) (t : ColType) (span : Span) (rows : ℕ) (bytes seen shown : List ℕ) (error : FormatFault) (why : PartFault) → IsSpanOf c.loaded.places c.number run span → IsSpanRead c span bytes → rows ≡ rows_in c.loaded run → seen ≡ bytes → shown ≡ bytes
-    → Explains t rows seen error → why ≡ fault_after span.start c.loaded.manifest (file.Column c.number) shown error → ExplainsRun c run t why
+    → Explains t rows seen error → why ≡ fault_after span.start c.loaded (file.Column c.number) shown error → ExplainsRun c run t why
 run_explained c run t span rows bytes seen shown format.NoMemory why at read many same alike wrong is = subst (ExplainsRun c run t) (sym is) tt
 run_explained c run t span rows bytes seen shown (format.Malformed place) why at read many same alike wrong is =
     subst (ExplainsRun c run t) (sym is)
@@ -96,7 +96,7 @@ run_explained c run t span rows bytes seen shown (format.Malformed place) why at
       span_is = at;
       bytes = bytes;
       read = read;
-      misread = misread_explained (values_in c run t) span.start bytes seen shown place (fault_after span.start c.loaded.manifest (file.Column c.number) shown (format.Malformed place)) same alike (subst (λ n. IsFirstFault t n seen place) many wrong) refl;
+      misread = misread_explained (values_in c run t) span.start bytes seen shown place (fault_after span.start c.loaded (file.Column c.number) shown (format.Malformed place)) same alike (subst (λ n. IsFirstFault t n seen place) many wrong) refl;
     }))
 
 -- ---- run after run
@@ -164,7 +164,7 @@ module _ (c : PartColumn) (chosen : List Bool) where
 
 module _ {F : Type 0} (files_of : F → Option Files) (schema : Schema) (part : Part F) (places : List ℕ) (rows : List Row) (h : HoldsAt files_of schema part (map file.Column places) rows) where
   -- each holds its values
-  held_column : (place : ℕ) (t : ColType) → slice_get (column_types schema) place ≡ Some t → bytes_of (file.Column place) h.files ≡ column_bytes (column_of place rows) → HoldsValues (column_in files_of part place) t (column_of place rows)
+  pub held_column : (place : ℕ) (t : ColType) → slice_get (column_types schema) place ≡ Some t → bytes_of (file.Column place) h.files ≡ column_bytes (column_of place rows) → HoldsValues (column_in files_of part place) t (column_of place rows)
   held_column place t here held =
       let below : place < length (column_types schema) = slice_get_within (column_types schema) place t here in
       subst (λ (l : Loaded). HoldsValues (record { told = files_of part.dir; loaded = l; number = place }) t (column_of place rows)) (sym h.loaded_is)

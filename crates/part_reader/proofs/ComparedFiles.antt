@@ -36,8 +36,8 @@ compared_alone schema loaded (file.Skip n) bytes agreed other is = is
 compared_alone schema loaded (file.Column n) bytes agreed other is = absurd (other n refl)
 
 -- bytes that have their mark and spell no values of the column
-pub column_misspelled : (schema : Schema) (manifest : Manifest) (n : ℕ) (bytes : List ℕ) (mark : FileMark) (e : FormatFault) → mark ≡ mark_of bytes → mark_for manifest (file.Column n) ≡ Some (mark_of bytes) → n < length schema.columns
-    → IfSome (slice_get (column_types schema) n) (λ t. Explains t manifest.rows bytes e) → ExplainsBytes manifest (file.Column n) (GoesWrongAlone schema manifest.rows (file.Column n) bytes) bytes (fault_of (file.Column n) mark e)
+pub column_misspelled : (schema : Schema) (manifest : Manifest) (n : ℕ) (bytes : List ℕ) (mark : FileMark) (e : FormatFault) → mark ≡ mark_of bytes → mark_for schema manifest (file.Column n) ≡ Some (mark_of bytes) → n < length schema.columns
+    → IfSome (slice_get (column_types schema) n) (λ t. Explains t manifest.rows bytes e) → ExplainsBytes (mark_for schema manifest (file.Column n)) (file.Column n) (GoesWrongAlone schema manifest.rows (file.Column n) bytes) bytes (fault_of (file.Column n) mark e)
 column_misspelled schema manifest n bytes mark format.NoMemory is marked below why = tt
 column_misspelled schema manifest n bytes mark (format.Malformed place) is marked below why =
     (refl, is, subst (λ (o : Option FileMark). IsRefused o (GoesWrongAlone schema manifest.rows (file.Column n) bytes) bytes place mark) (sym marked) (is, inr (refl, wrong)))
@@ -53,21 +53,21 @@ column_misspelled schema manifest n bytes mark (format.Malformed place) is marke
         subst (λ (o : Option ColType). IsSomeAnd o (λ u. IsFirstFault u manifest.rows bytes place)) (sym here)
         (subst (λ (o : Option ColType). IfSome o (λ u. Explains u manifest.rows bytes (format.Malformed place))) here why)
 
-module _ (told : Option Files) (manifest : Manifest) (f : FileId) (WrongAt : List ℕ → ℕ → Type 0) (bytes : List ℕ) (read : ForSome told (λ files. bytes ≡ bytes_of f files)) where
-  explained : (fault : PartFault) → ExplainsBytes manifest f (WrongAt bytes) bytes fault → ExplainsFile told manifest f WrongAt fault
+module _ (told : Option Files) (marked : Option FileMark) (f : FileId) (WrongAt : List ℕ → ℕ → Type 0) (bytes : List ℕ) (read : ForSome told (λ files. bytes ≡ bytes_of f files)) where
+  explained : (fault : PartFault) → ExplainsBytes marked f (WrongAt bytes) bytes fault → ExplainsFile told marked f WrongAt fault
   explained Fault why = tt
   explained NoMemory why = tt
   explained (Damaged g place wanted found) why = record { bytes = bytes; read = read; explained = why }
 
-  pub file_explained : {T : Type 0} (R : T → Type 0) (result : Result T PartFault) → MatchResult result R (ExplainsBytes manifest f (WrongAt bytes) bytes) → IfErr result (ExplainsFile told manifest f WrongAt)
+  pub file_explained : {T : Type 0} (R : T → Type 0) (result : Result T PartFault) → MatchResult result R (ExplainsBytes marked f (WrongAt bytes) bytes) → IfErr result (ExplainsFile told marked f WrongAt)
   file_explained R (Ok x) is = tt
   file_explained R (Err e) is = explained e is
 
-  pub file_read : {T : Type 0} (R : T → List ℕ → Type 0) (result : Result T PartFault) → MatchResult result (λ x. R x bytes) (ExplainsBytes manifest f (WrongAt bytes) bytes) → IfOk result (λ x. IsReadAs told f (R x))
+  pub file_read : {T : Type 0} (R : T → List ℕ → Type 0) (result : Result T PartFault) → MatchResult result (λ x. R x bytes) (ExplainsBytes marked f (WrongAt bytes) bytes) → IfOk result (λ x. IsReadAs told f (R x))
   file_read R (Ok x) is = record { bytes = bytes; read = read; are = is }
   file_read R (Err e) is = tt
 
   -- bytes that are there are no fault of the disk
-  pub no_fault : {T : Type 0} (R : T → Type 0) (result : Result T PartFault) → MatchResult result R (ExplainsBytes manifest f (WrongAt bytes) bytes) → IsErrOf result Fault → ⊥
+  pub no_fault : {T : Type 0} (R : T → Type 0) (result : Result T PartFault) → MatchResult result R (ExplainsBytes marked f (WrongAt bytes) bytes) → IsErrOf result Fault → ⊥
   no_fault R (Ok x) is e = absurd cc
-  no_fault R (Err why) is e = let same : why ≡ Fault = cc in subst (ExplainsBytes manifest f (WrongAt bytes) bytes) same is
+  no_fault R (Err why) is e = let same : why ≡ Fault = cc in subst (ExplainsBytes marked f (WrongAt bytes) bytes) same is

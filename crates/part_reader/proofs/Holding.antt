@@ -1,5 +1,5 @@
 -- Parts that hold rows: the files that were written are theirs, and nothing of them is damaged.
-use Rattle.std.proofs.Common.{◌≡◌, ℕ, zero, suc, ◌+◌, ◌<◌, List, [], ◌∷◌, Option, Some, refl, sym, ap, ◌∙◌, subst, length, map, get_or, slice_get, filter_map, All, arith, IsSomeAnd, MatchOption}
+use Rattle.std.proofs.Common.{◌≡◌, ℕ, zero, suc, ◌+◌, ◌<◌, ◌⊎◌, inl, inr, List, [], ◌∷◌, Option, Some, refl, sym, ap, ◌∙◌, subst, length, map, get_or, slice_get, filter_map, All, arith, IsSomeAnd, MatchOption}
 use Rattle.std.specs.List.{AllZip, cons_option}
 use Rattle.std.specs.Option.{ForSome, option_map}
 use Rattle.std.proofs.lemmas.List.{length-map, get_or-map}
@@ -27,7 +27,7 @@ use Rattle.column_file.proofs.OneWay.{no_spelling}
 use Rattle.digest_file.specs.Spellings.{IsManifestOf}
 use Rattle.part_writer.specs.PartFiles.{IsContent, all_synced, content_bytes, content_ids, files_of_part, loaded_of, manifest_of, mark_of, with_bytes}
 use Rattle.part_writer.specs.declared.loaded.Loaded.{Loaded}
-use Rattle.part_writer.proofs.Contents.{all_content, column_is, content_all, mark_at}
+use Rattle.part_writer.proofs.Contents.{IsColumnAt, all_content, content_all, mark_at, numbered_is}
 use Rattle.part_writer.proofs.Folders.{bytes_at, content_held, manifest_held, sealed_bytes}
 use Rattle.part_reader.specs.declared.reading.PartFault.{PartFault}
 use Rattle.part_reader.specs.declared.reading.PartFault.TheVariants.{Fault, NoMemory, Damaged}
@@ -39,15 +39,20 @@ use Rattle.part_damage.proofs.SpelledRows.{column_spelled}
 
 -- ---- the marks of a manifest
 
--- the mark of a file stands at its place
-pub mark_placed : (schema : Schema) (manifest : Manifest) (i : ℕ) (f : FileId) → slice_get (content_ids schema) i ≡ Some f → mark_for manifest f ≡ slice_get manifest.files i
-mark_placed schema manifest zero f here = ap (mark_for manifest) (sym (same_Some file.Marks f here))
-mark_placed schema manifest (suc zero) f here = ap (mark_for manifest) (sym (same_Some file.Primary f here))
-mark_placed schema manifest (suc (suc i)) f here =
-    let up : i + 2 ≡ suc (suc i) = omega arith in
-    ap (mark_for manifest) (column_is schema i f here).0 ∙ ap (slice_get manifest.files) up
+-- the mark of a file that has a number
+numbered_mark : (schema : Schema) (manifest : Manifest) (i : ℕ) (f : FileId) → ((f ≡ file.Skip i) × (i < length schema.indexes)) ⊎ IsColumnAt schema i f → mark_for schema manifest f ≡ slice_get manifest.files (suc (suc i))
+numbered_mark schema manifest i f (inl skip) = let up : i + 2 ≡ suc (suc i) = omega arith in ap (mark_for schema manifest) skip.0 ∙ ap (slice_get manifest.files) up
+numbered_mark schema manifest i f (inr column) =
+    let up : column.number + length schema.indexes + 2 ≡ suc (suc i) = omega (arith, column.place_is) in
+    ap (mark_for schema manifest) column.file_is ∙ ap (slice_get manifest.files) up
 
-pub mark_held : (schema : Schema) (rows : List Row) (f : FileId) → IsContent schema f → mark_for (manifest_of schema rows) f ≡ Some (mark_of (content_bytes schema rows f))
+-- the mark of a file stands at its place
+pub mark_placed : (schema : Schema) (manifest : Manifest) (i : ℕ) (f : FileId) → slice_get (content_ids schema) i ≡ Some f → mark_for schema manifest f ≡ slice_get manifest.files i
+mark_placed schema manifest zero f here = ap (mark_for schema manifest) (sym (same_Some file.Marks f here))
+mark_placed schema manifest (suc zero) f here = ap (mark_for schema manifest) (sym (same_Some file.Primary f here))
+mark_placed schema manifest (suc (suc i)) f here = numbered_mark schema manifest i f (numbered_is schema i f here)
+
+pub mark_held : (schema : Schema) (rows : List Row) (f : FileId) → IsContent schema f → mark_for schema (manifest_of schema rows) f ≡ Some (mark_of (content_bytes schema rows f))
 mark_held schema rows f is =
     let there = content_all schema f is in
     mark_placed schema (manifest_of schema rows) there.0 f there.1 ∙ mark_at schema rows there.0 f there.1
@@ -150,7 +155,7 @@ no_damage told files schema rows w damage known held counted typed fit here d =
     (column_spelled (column_types schema) rows w.number w.col_type w.count d.bytes here typed fit counted (d.read files known ∙ held))
 
 pub sound_part : {F : Type 0} (files_of : F → Option Files) (schema : Schema) (part : Part F) (places : List ℕ) (rows : List Row) (columns : List Cells) (fault : PartFault) → HoldsAt files_of schema part (map file.Column places) rows
-    → map (λ (c : Cells). c.col_type) columns ≡ filter_map (slice_get (column_types schema)) places → ExplainsEach (ExplainsColumn (files_of part.dir) part.loaded.manifest) places columns fault → IsNoDamage fault
+    → map (λ (c : Cells). c.col_type) columns ≡ filter_map (slice_get (column_types schema)) places → ExplainsEach (ExplainsColumn (files_of part.dir) part.loaded) places columns fault → IsNoDamage fault
 sound_part files_of schema part places rows columns Fault h typed why = tt
 sound_part files_of schema part places rows columns NoMemory h typed why = tt
 sound_part files_of schema part places rows columns (Damaged f place wanted found) h typed why =
@@ -159,24 +164,24 @@ sound_part files_of schema part places rows columns (Damaged f place wanted foun
     (columns_held files_of schema part places rows h why.at 0 (slice_get_within places why.at why.number why.number_is)) in
     let here : slice_get (column_types schema) why.number ≡ Some why.column.col_type =
     type_there (column_types schema) places columns why.at why.number why.column (each_typed (column_types schema) places columns (columns_within files_of schema part places rows h) typed) why.number_is why.column_is in
-    let w : WantedValues = record { manifest = part.loaded.manifest; number = why.number; col_type = why.column.col_type; count = part.loaded.manifest.rows } in
+    let w : WantedValues = record { loaded = part.loaded; number = why.number; col_type = why.column.col_type; count = part.loaded.manifest.rows } in
     absurd (no_damage (files_of part.dir) h.files schema rows w (Damaged f place wanted found) h.files_are held (ap (λ (l : Loaded). l.manifest.rows) h.loaded_is) h.typed h.encodable here why.explained)
 
 -- ---- what is said of bytes that go wrong
 
 pub misread_explained : (w : WantedValues) (start : ℕ) (bytes seen shown : List ℕ) (place : ℕ) (why : PartFault) → seen ≡ bytes → shown ≡ bytes → IsFirstFault w.col_type w.count seen place
-    → why ≡ fault_after start w.manifest (file.Column w.number) shown (format.Malformed place) → IsMisread w start bytes why
+    → why ≡ fault_after start w.loaded (file.Column w.number) shown (format.Malformed place) → IsMisread w start bytes why
 misread_explained w start bytes seen shown place why same alike wrong is = record {
   place = place;
   wrong = subst (λ bs. IsFirstFault w.col_type w.count bs place) same wrong;
-  fault_is = is ∙ ap (λ bs. fault_after start w.manifest (file.Column w.number) bs (format.Malformed place)) alike;
+  fault_is = is ∙ ap (λ bs. fault_after start w.loaded (file.Column w.number) bs (format.Malformed place)) alike;
 }
 
 -- of a file that was read whole
-pub column_explained : (told : Option Files) (manifest : Manifest) (number : ℕ) (t : ColType) (bytes seen shown : List ℕ) (error : FormatFault) (why : PartFault) → ForSome told (λ files. bytes ≡ bytes_of (file.Column number) files) → seen ≡ bytes → shown ≡ bytes
-    → Explains t manifest.rows seen error → why ≡ fault_after 0 manifest (file.Column number) shown error → ExplainsColumn told manifest number t why
-column_explained told manifest number t bytes seen shown format.NoMemory why read same alike wrong is = subst (ExplainsColumn told manifest number t) (sym is) tt
-column_explained told manifest number t bytes seen shown (format.Malformed place) why read same alike wrong is =
-    let w : WantedValues = record { manifest = manifest; number = number; col_type = t; count = manifest.rows } in
-    subst (ExplainsColumn told manifest number t) (sym is)
-    (record { bytes = bytes; read = read; misread = misread_explained w 0 bytes seen shown place (fault_after 0 manifest (file.Column number) shown (format.Malformed place)) same alike wrong refl })
+pub column_explained : (told : Option Files) (loaded : Loaded) (number : ℕ) (t : ColType) (bytes seen shown : List ℕ) (error : FormatFault) (why : PartFault) → ForSome told (λ files. bytes ≡ bytes_of (file.Column number) files) → seen ≡ bytes → shown ≡ bytes
+    → Explains t loaded.manifest.rows seen error → why ≡ fault_after 0 loaded (file.Column number) shown error → ExplainsColumn told loaded number t why
+column_explained told loaded number t bytes seen shown format.NoMemory why read same alike wrong is = subst (ExplainsColumn told loaded number t) (sym is) tt
+column_explained told loaded number t bytes seen shown (format.Malformed place) why read same alike wrong is =
+    let w : WantedValues = record { loaded = loaded; number = number; col_type = t; count = loaded.manifest.rows } in
+    subst (ExplainsColumn told loaded number t) (sym is)
+    (record { bytes = bytes; read = read; misread = misread_explained w 0 bytes seen shown place (fault_after 0 loaded (file.Column number) shown (format.Malformed place)) same alike wrong refl })

@@ -16,7 +16,7 @@ use Rattle.mt_values.proofs.Grids.{length-column_of, slice_get-column_of}
 use Rattle.column_file.specs.Marks.{mark_keys, with_final}
 use Rattle.primary_marks.proofs.KeyRows.{length-found}
 use Rattle.primary_marks.proofs.MarkedRows.{All-with_final, with_final-map}
-use Rattle.part_reader.proofs.HeldRows.{same_list}
+use Rattle.part_reader.proofs.SameLists.{same_list}
 
 any_value : Value
 any_value = value.UInt8 0

@@ -10,8 +10,11 @@ pub mod FilePieces
 pub mod Gaining
 pub mod HeldRows
 pub mod Holding
+pub mod IndexedBlocks
 pub mod KeptColumns
 pub mod MarkedValues
 pub mod NumberMarks
 pub mod Opened
+pub mod PickedValues
+pub mod SameLists
 pub mod SoundRows

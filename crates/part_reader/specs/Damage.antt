@@ -1,5 +1,5 @@
 -- What a fault says of a part that is opened or checked (docs/formats.md, "Parts").
-use Rattle.std.specs.Prelude.{◌≡◌, ◌≢◌, ◌⊎◌, ℕ, List, length, take, slice_get, Option, Some, IsSomeAnd, ⊤}
+use Rattle.std.specs.Prelude.{◌≡◌, ◌≢◌, ◌<◌, ◌⊎◌, ℕ, List, length, take, slice_get, Option, Some, IsSomeAnd, ⊤}
 use Rattle.std.specs.Option.{ForSome}
 use Rattle.mt_values.specs.declared.manifest.Manifest.{Manifest}
 use Rattle.mt_base.specs.declared.name.FileId.{FileId}
@@ -15,14 +15,16 @@ use Rattle.column_file.specs.Marks.{granules}
 use Rattle.primary_marks.specs.KeyFaults.{IsPrimaryFault}
 use Rattle.primary_marks.specs.Keys.{shape_of}
 use Rattle.primary_marks.specs.Places.{IsMarksFault}
-use Rattle.part_writer.specs.PartFiles.{content_ids, loaded_of, mark_of}
+use Rattle.part_writer.specs.PartFiles.{content_ids, indexes_of, loaded_of, mark_of, opened_ids, skip_ids}
 use Rattle.part_writer.specs.declared.loaded.Loaded.{Loaded}
+use Rattle.skip_index.specs.Faults.{IsIndexFault}
+use Rattle.skip_index.specs.Files.{shape_of as index_shape}
 use Rattle.part_reader.specs.declared.reading.PartFault.{PartFault}
 use Rattle.part_reader.specs.declared.reading.PartFault.TheVariants.{Fault, NoMemory, Damaged}
 use Rattle.part_reader.specs.declared.reading.TheConstants.{NO_MARK}
 use Rattle.part_reader.specs.Faults.{ExplainsFile}
 use Rattle.part_damage.specs.Marks.{mark_for}
-use Rattle.part_damage.specs.Sound.{AreChecked, AreRowsRead, IsManifestFor, IsReadAs, IsReadable}
+use Rattle.part_damage.specs.Sound.{AreChecked, AreReadAs, AreRowsRead, IsManifestFor, IsReadAs, IsReadable}
 
 -- where the number of files stands in a manifest: after 4 first bytes, 2 of the version and 8 of the number of rows
 abbrev pub count_place : ℕ
@@ -56,21 +58,30 @@ ExplainsManifestFile told schema (Damaged f place wanted found) = IsManifestDama
 abbrev pub GoesWrongAt : Schema → ℕ → FileId → List ℕ → ℕ → Type 0
 GoesWrongAt schema rows file.Marks bytes place = IsMarksFault (length schema.columns) (granules schema.granularity rows) bytes place
 GoesWrongAt schema rows file.Primary bytes place = IsPrimaryFault (shape_of schema rows) bytes place
+GoesWrongAt schema rows (file.Skip n) bytes place = IsIndexFault (index_shape schema n rows) bytes place
 GoesWrongAt schema rows (file.Column n) bytes place = IsSomeAnd (slice_get (column_types schema) n) (λ t. IsWrongAt t rows bytes place)
 GoesWrongAt schema rows f bytes place = ⊥
 
--- the files of granules that come before this one were read, under this manifest
-abbrev pub AreReadBefore : Option Files → Schema → Manifest → FileId → Type 0
-AreReadBefore told schema manifest file.Primary = IsReadAs told file.Marks (λ bytes. IsReadable schema manifest file.Marks bytes)
-AreReadBefore told schema manifest f = f ≡ file.Marks
+-- of the files that are read where a part is opened, one is damaged under this manifest, and those before it were read
+pub record IsOpenedFault (told : Option Files) (schema : Schema) (manifest : Manifest) (fault : PartFault) : Type 0 where
+  pub place : ℕ
+  pub file : FileId
+  pub file_is : slice_get (opened_ids schema) place ≡ Some file
+  pub before : AreReadAs told (IsReadable schema manifest) (take place (opened_ids schema))
+  pub explained : ExplainsFile told (mark_for schema manifest file) file (GoesWrongAt schema manifest.rows file) fault
 
--- damage of a file of granules is told under a manifest that was read, and those before it were read
+-- one of the files of skip indexes is damaged under this manifest, and those before it were read
+pub record IsSkipFault (told : Option Files) (schema : Schema) (manifest : Manifest) (fault : PartFault) : Type 0 where
+  pub number : ℕ
+  pub below : number < length schema.indexes
+  pub before : AreReadAs told (IsReadable schema manifest) (take number (skip_ids schema))
+  pub explained : ExplainsFile told (mark_for schema manifest (file.Skip number)) (file.Skip number) (GoesWrongAt schema manifest.rows (file.Skip number)) fault
+
+-- damage of a file of granules or of a skip index is told under a manifest that was read
 pub record IsGranuleDamage (told : Option Files) (schema : Schema) (damage : PartFault) : Type 0 where
   pub manifest : Manifest
   pub opened : IsReadAs told file.Manifest (λ bytes. IsManifestFor schema bytes manifest)
-  pub damaged : FileId
-  pub before : AreReadBefore told schema manifest damaged
-  pub explained : ExplainsFile told manifest damaged (GoesWrongAt schema manifest.rows damaged) damage
+  pub damaged : IsOpenedFault told schema manifest damage
 
 -- what a fault says of a part that was opened
 abbrev pub ExplainsOpening : Option Files → Schema → PartFault → Type 0
@@ -79,7 +90,7 @@ ExplainsOpening told schema NoMemory = ⊤
 ExplainsOpening told schema (Damaged f place wanted found) =
     IsManifestDamage told schema (Damaged f place wanted found) ⊎ IsGranuleDamage told schema (Damaged f place wanted found)
 
--- The bytes go wrong at the place by themselves. What a file of granules has in it is compared with all columns.
+-- The bytes go wrong at the place by themselves. What a file of granules or of a skip index has in it is compared with the columns.
 abbrev pub GoesWrongAlone : Schema → ℕ → FileId → List ℕ → ℕ → Type 0
 GoesWrongAlone schema rows (file.Column n) bytes place = GoesWrongAt schema rows (file.Column n) bytes place
 GoesWrongAlone schema rows f bytes place = ⊥
@@ -90,20 +101,26 @@ pub record IsUnsoundFault (told : Option Files) (schema : Schema) (manifest : Ma
   pub file : FileId
   pub file_is : slice_get (content_ids schema) place ≡ Some file
   pub before : AreChecked told schema manifest (take place (content_ids schema))
-  pub explained : ExplainsFile told manifest file (GoesWrongAlone schema manifest.rows file) fault
+  pub explained : ExplainsFile told (mark_for schema manifest file) file (GoesWrongAlone schema manifest.rows file) fault
 
--- what is kept of a part is not that of rows: the places, or else the keys
+-- what is kept of these skip indexes of a part is that of rows
+abbrev pub AreKeptOf : Schema → List Row → Loaded → (ℕ → Type 0) → Type 0
+AreKeptOf schema rows loaded These = (n : ℕ) → These n → slice_get loaded.indexes n ≡ slice_get (indexes_of schema rows) n
+
+-- what is kept of a part is not that of rows: the places, or else the keys, or else the skip index with this number
 abbrev pub IsKeptUnlike : Schema → List Row → Loaded → FileId → Type 0
 IsKeptUnlike schema rows loaded file.Marks = loaded.places ≢ (loaded_of schema rows).places
 IsKeptUnlike schema rows loaded file.Primary = (loaded.places ≡ (loaded_of schema rows).places) × (loaded.marks ≢ (loaded_of schema rows).marks)
+IsKeptUnlike schema rows loaded (file.Skip n) =
+    (loaded.places ≡ (loaded_of schema rows).places) × (loaded.marks ≡ (loaded_of schema rows).marks) × AreKeptOf schema rows loaded (λ k. k < n) × (slice_get loaded.indexes n ≢ slice_get (indexes_of schema rows) n)
 IsKeptUnlike schema rows loaded f = ⊥
 
--- damage of a file of granules, which is not that of the rows that the files of the columns spell
+-- damage of a file of granules or of a skip index, which is not that of the rows that the files of the columns spell
 abbrev pub IsUnlikeDamage : Schema → List Row → Loaded → PartFault → Type 0
 IsUnlikeDamage schema rows loaded Fault = ⊥
 IsUnlikeDamage schema rows loaded NoMemory = ⊥
 IsUnlikeDamage schema rows loaded (Damaged f place wanted found) =
-    IsKeptUnlike schema rows loaded f × (place ≡ 0) × (mark_for loaded.manifest f ≡ Some wanted) × (found ≡ wanted)
+    IsKeptUnlike schema rows loaded f × (place ≡ 0) × (mark_for schema loaded.manifest f ≡ Some wanted) × (found ≡ wanted)
 
 -- no file is damaged by itself, and what is kept of the part is not that of the rows
 pub record IsUnlikeFault (told : Option Files) (schema : Schema) (loaded : Loaded) (fault : PartFault) : Type 0 where

@@ -2,7 +2,6 @@
 use Rattle.std.specs.Prelude.{◌≡◌, ◌≢◌, ◌⊎◌, ℕ, ◌+◌, ◌^◌, ◌<◌, List, slice_get, Option, Some, None, ⊤}
 use Rattle.std.specs.Option.{ForSome}
 use Rattle.mt_values.specs.declared.manifest.FileMark.{FileMark}
-use Rattle.mt_values.specs.declared.manifest.Manifest.{Manifest}
 use Rattle.mt_base.specs.declared.name.FileId.{FileId}
 use Rattle.mt_base.specs.declared.name.FileId.TheVariants as file
 use Rattle.mt_values.specs.declared.value.ColType.{ColType}
@@ -14,6 +13,7 @@ use Rattle.byte_numbers.specs.declared.faults.FormatFault.{FormatFault}
 use Rattle.byte_numbers.specs.declared.faults.FormatFault.TheVariants as format
 use Rattle.column_file.specs.Faults.{IsFirstFault}
 use Rattle.part_writer.specs.PartFiles.{mark_of}
+use Rattle.part_writer.specs.declared.loaded.Loaded.{Loaded}
 use Rattle.part_damage.specs.Marks.{mark_for}
 use Rattle.part_reader.specs.declared.reading.PartFault.{PartFault}
 use Rattle.part_reader.specs.declared.reading.PartFault.TheVariants.{Fault, NoMemory, Damaged}
@@ -41,48 +41,47 @@ IsRefused None WrongAt bytes place wanted = (wanted ≡ NO_MARK) × (place ≡ 0
 IsRefused (Some mark) WrongAt bytes place wanted =
     (wanted ≡ mark) × (((mark ≢ mark_of bytes) × (place ≡ 0)) ⊎ ((mark ≡ mark_of bytes) × WrongAt place))
 
--- what a fault says of the bytes of a file, which go wrong at some places
-abbrev pub ExplainsBytes : Manifest → FileId → (ℕ → Type 0) → List ℕ → PartFault → Type 0
-ExplainsBytes manifest f WrongAt bytes Fault = ⊥
-ExplainsBytes manifest f WrongAt bytes NoMemory = ⊤
-ExplainsBytes manifest f WrongAt bytes (Damaged g place wanted found) =
-    (g ≡ f) × (found ≡ mark_of bytes) × IsRefused (mark_for manifest f) WrongAt bytes place wanted
+-- what a fault says of the bytes of a file, which go wrong at some places; the manifest has this mark of it, or none
+abbrev pub ExplainsBytes : Option FileMark → FileId → (ℕ → Type 0) → List ℕ → PartFault → Type 0
+ExplainsBytes marked f WrongAt bytes Fault = ⊥
+ExplainsBytes marked f WrongAt bytes NoMemory = ⊤
+ExplainsBytes marked f WrongAt bytes (Damaged g place wanted found) = (g ≡ f) × (found ≡ mark_of bytes) × IsRefused marked WrongAt bytes place wanted
 
 -- damage is told of bytes that were read: those of the file, where the folder tells
-pub record IsDamage (told : Option Files) (manifest : Manifest) (f : FileId) (WrongAt : List ℕ → ℕ → Type 0) (damage : PartFault) : Type 0 where
+pub record IsDamage (told : Option Files) (marked : Option FileMark) (f : FileId) (WrongAt : List ℕ → ℕ → Type 0) (damage : PartFault) : Type 0 where
   pub bytes : List ℕ
   pub read : ForSome told (λ files. bytes ≡ bytes_of f files)
-  pub explained : ExplainsBytes manifest f (WrongAt bytes) bytes damage
+  pub explained : ExplainsBytes marked f (WrongAt bytes) bytes damage
 
--- what a fault says of a file that was read
-abbrev pub ExplainsFile : Option Files → Manifest → FileId → (List ℕ → ℕ → Type 0) → PartFault → Type 0
-ExplainsFile told manifest f WrongAt Fault = ⊤
-ExplainsFile told manifest f WrongAt NoMemory = ⊤
-ExplainsFile told manifest f WrongAt (Damaged g place wanted found) = IsDamage told manifest f WrongAt (Damaged g place wanted found)
+-- what a fault says of a file that was read, of which the manifest has this mark, or none
+abbrev pub ExplainsFile : Option Files → Option FileMark → FileId → (List ℕ → ℕ → Type 0) → PartFault → Type 0
+ExplainsFile told marked f WrongAt Fault = ⊤
+ExplainsFile told marked f WrongAt NoMemory = ⊤
+ExplainsFile told marked f WrongAt (Damaged g place wanted found) = IsDamage told marked f WrongAt (Damaged g place wanted found)
 
 -- ---- values that are read without a comparison of marks
 
--- what is called wanted of a file: the mark that the manifest has of it, or none
-abbrev pub wanted_of : Manifest → FileId → FileMark
-wanted_of manifest f = or_none (mark_for manifest f)
+-- what is called wanted of a file: the mark that the part's manifest has of it, or none
+abbrev pub wanted_of : Loaded → FileId → FileMark
+wanted_of loaded f = or_none (mark_for loaded.schema loaded.manifest f)
   where
     or_none : Option FileMark → FileMark
     or_none (Some mark) = mark
     or_none None = NO_MARK
 
 -- what an error says of bytes that were read from a place of a file
-abbrev pub fault_after : ℕ → Manifest → FileId → List ℕ → FormatFault → PartFault
-fault_after start manifest f bytes format.NoMemory = NoMemory
-fault_after start manifest f bytes (format.Malformed place) = Damaged f (start + place) (wanted_of manifest f) (mark_of bytes)
+abbrev pub fault_after : ℕ → Loaded → FileId → List ℕ → FormatFault → PartFault
+fault_after start loaded f bytes format.NoMemory = NoMemory
+fault_after start loaded f bytes (format.Malformed place) = Damaged f (start + place) (wanted_of loaded f) (mark_of bytes)
 
 -- the place of an error in the file is one that 64 bits count
 abbrev pub FitsAfter : ℕ → FormatFault → Type 0
 FitsAfter start format.NoMemory = ⊤
 FitsAfter start (format.Malformed place) = start + place < 2 ^ 64
 
--- values of a part's column that were to be read: the part's manifest, the column's number, their type, and how many
+-- values of a part's column that were to be read: what is kept of the part, the column's number, their type, and how many
 pub record WantedValues : Type 0 where
-  pub manifest : Manifest
+  pub loaded : Loaded
   pub number : ℕ
   pub col_type : ColType
   pub count : ℕ
@@ -91,7 +90,7 @@ pub record WantedValues : Type 0 where
 pub record IsMisread (w : WantedValues) (start : ℕ) (bytes : List ℕ) (fault : PartFault) : Type 0 where
   pub place : ℕ
   pub wrong : IsFirstFault w.col_type w.count bytes place
-  pub fault_is : fault ≡ fault_after start w.manifest (file.Column w.number) bytes (format.Malformed place)
+  pub fault_is : fault ≡ fault_after start w.loaded (file.Column w.number) bytes (format.Malformed place)
 
 -- these bytes were read, those of the whole file where the folder tells, and go wrong as a spelling of the values
 pub record IsColumnDamage (told : Option Files) (w : WantedValues) (fault : PartFault) : Type 0 where
@@ -100,11 +99,11 @@ pub record IsColumnDamage (told : Option Files) (w : WantedValues) (fault : Part
   pub misread : IsMisread w 0 bytes fault
 
 -- what a fault says of the part's column with this number, of which a value of this type was to be read for each row
-abbrev pub ExplainsColumn : Option Files → Manifest → ℕ → ColType → PartFault → Type 0
-ExplainsColumn told manifest number t Fault = ⊤
-ExplainsColumn told manifest number t NoMemory = ⊤
-ExplainsColumn told manifest number t (Damaged f place wanted found) =
-    IsColumnDamage told (record { manifest = manifest; number = number; col_type = t; count = manifest.rows }) (Damaged f place wanted found)
+abbrev pub ExplainsColumn : Option Files → Loaded → ℕ → ColType → PartFault → Type 0
+ExplainsColumn told loaded number t Fault = ⊤
+ExplainsColumn told loaded number t NoMemory = ⊤
+ExplainsColumn told loaded number t (Damaged f place wanted found) =
+    IsColumnDamage told (record { loaded = loaded; number = number; col_type = t; count = loaded.manifest.rows }) (Damaged f place wanted found)
 
 -- the fault is one of these columns, each of which was read from its place as one of its type
 pub record ExplainsEach (Explains : ℕ → ColType → PartFault → Type 0) (places : List ℕ) (columns : List Cells) (fault : PartFault) : Type 0 where

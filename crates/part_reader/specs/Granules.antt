@@ -1,9 +1,8 @@
 -- Which granules of a part are read, and what its columns say of them (docs/formats.md, "Parts").
-use Rattle.std.specs.Prelude.{◌≡◌, ℕ, ◌+◌, ◌-◌, ◌*◌, ◌≤◌, ◌⊎◌, min, Bool, true, false, List, [], ◌∷◌, ◌++◌, length, take, drop, replicate, slice_get, slice_range, Option, Some, ⊤}
+use Rattle.std.specs.Prelude.{◌≡◌, ℕ, ◌+◌, ◌-◌, ◌*◌, ◌≤◌, ◌⊎◌, min, Bool, true, List, ◌++◌, length, take, replicate, slice_get, slice_range, Option, Some, ⊤}
 use Rattle.std.specs.List.{range_with_len}
 use Rattle.std.specs.Option.{ForSome, option_and_then}
 use Rattle.mt_base.specs.declared.name.FileId.TheVariants as file
-use Rattle.mt_values.specs.declared.manifest.Manifest.{Manifest}
 use Rattle.mt_values.specs.declared.value.ColType.{ColType}
 use Rattle.mt_values.specs.declared.value.Value.{Value}
 use Rattle.mt_values.specs.Grid.{Cells}
@@ -73,12 +72,12 @@ IsRunAdded c run old new = ((run.count ≡ 0) × (new ≡ old)) ⊎ IsRunRead c 
 -- ---- damage
 
 -- what is said of the places where they have no such run
-abbrev pub no_run : Manifest → PartFault
-no_run manifest = Damaged file.Marks 0 (wanted_of manifest file.Marks) (wanted_of manifest file.Marks)
+abbrev pub no_run : Loaded → PartFault
+no_run loaded = Damaged file.Marks 0 (wanted_of loaded file.Marks) (wanted_of loaded file.Marks)
 
 -- the values of a run that were to be read: one of the type for each row
 abbrev pub values_in : PartColumn → Run → ColType → WantedValues
-values_in c run t = record { manifest = c.loaded.manifest; number = c.number; col_type = t; count = rows_in c.loaded run }
+values_in c run t = record { loaded = c.loaded; number = c.number; col_type = t; count = rows_in c.loaded run }
 
 -- the bytes of a run were read, and go wrong as a spelling of its values
 pub record IsRunDamage (c : PartColumn) (run : Run) (t : ColType) (fault : PartFault) : Type 0 where
@@ -91,7 +90,7 @@ pub record IsRunDamage (c : PartColumn) (run : Run) (t : ColType) (fault : PartF
 -- the places that are kept have no such run
 pub record IsRunless (c : PartColumn) (run : Run) (fault : PartFault) : Type 0 where
   pub none : (span : Span) → IsSpanOf c.loaded.places c.number run span → ⊥
-  pub fault_is : fault ≡ no_run c.loaded.manifest
+  pub fault_is : fault ≡ no_run c.loaded
 
 -- what a fault says of a run of a column that was read as one of this type
 abbrev pub ExplainsRun : PartColumn → Run → ColType → PartFault → Type 0

@@ -5,4 +5,5 @@ pub mod DamagedFile
 pub mod Faults
 pub mod Granules
 pub mod Parts
+pub mod Picks
 pub mod Sound

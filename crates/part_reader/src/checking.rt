@@ -1,11 +1,12 @@
 // A part checked: its files are compared with its manifest and with each other, and no value of them is kept.
-ghost use Rattle.std.specs.Prelude.{◌≡◌, ◌≤◌, List, IfErr, IfOk, IsErrOf, MatchResult, OnOk, None, Some};
+ghost use Rattle.std.specs.Prelude.{◌≡◌, ◌≤◌, ◌<◌, ◌&&◌, ℕ, List, IfErr, IfOk, IsErrOf, MatchResult, OnOk, None, Some, length, slice_get};
 ghost use Rattle.mt_outside.specs.Causes.{Rose};
 ghost use Rattle.mt_outside.specs.Files.{Files};
 ghost use Rattle.mt_values.specs.Values.{Row};
 ghost use Rattle.mt_values.specs.declared.manifest.FileMark.{FileMark};
-ghost use Rattle.part_writer.specs.PartFiles.{IsContent, loaded_of};
+ghost use Rattle.part_writer.specs.PartFiles.{IsContent, indexes_of, loaded_of};
 ghost use Rattle.primary_marks.specs.Keys.{HasMarks};
+ghost use Rattle.part_writer.specs.PartFiles.{HasIndexes};
 ghost use Rattle.part_reader.specs.Compared.{IsCompared};
 ghost use Rattle.part_reader.specs.Damage.{ExplainsCheck, GoesWrongAlone, Tells};
 ghost use Rattle.part_reader.specs.DamagedFile.{damaged_file};
@@ -24,20 +25,24 @@ use part_writer::{Loaded, content_count, content_file};
 use std::alloc::Global;
 
 /// Nothing, where each file of which the part's manifest has a mark has it, the files of the columns spell as many rows as the manifest
-/// says, and what is kept of `marks.bin` and `primary.bin` is that of these rows. The files are read whole, one after another in the
-/// order of the format, and none is kept. Whether the rows are sorted is not asked.
+/// says, and what is kept of `marks.bin`, `primary.bin` and the files of skip indexes is that of these rows. The files are read whole, one
+/// after another in the order of the format, and none is kept. Beside a column that has skip indexes the values of one block are in memory.
+/// Whether the rows are sorted is not asked.
 ///
-/// `Damaged` at the first file that has another mark or, of a column, spells no values; where there is none, at `marks.bin` or else
-/// `primary.bin` that is not that of the rows. It is never so where the folder and what is kept hold rows. `Fault` only where the arm's
+/// `Damaged` at the first file that has another mark or, of a column, spells no values; where there is none, at `marks.bin`, or else
+/// `primary.bin`, or else the first file of a skip index that is not that of the rows. It is never so where the folder and what is kept hold rows. `Fault` only where the arm's
 /// count rose in this call; `NoMemory` where an allocation failed, or a file's place does not fit 32 bits.
 pub fn check_part<R: Arm>(alloc: Global, part: &Part<R::Dir>, arm: &mut R) -> Result<(), PartFault>
-    requires { HasMarks part.now.loaded.schema }
+    requires marks { HasMarks part.now.loaded.schema }
+    requires indexes { HasIndexes part.now.loaded.schema }
 
     // What was read, and what is told of damage.
     ensures checked { let schema = part.now.loaded.schema in OnOk result ((rows : List Row)
         × AreRowsRead (R.Dir.files part.now.dir) schema part.now.loaded.manifest rows
         × (part.now.loaded.places ≡ (loaded_of schema rows).places)
-        × (part.now.loaded.marks ≡ (loaded_of schema rows).marks)) }
+        × (part.now.loaded.marks ≡ (loaded_of schema rows).marks)
+        × ((n : ℕ) → n < length schema.indexes
+        → slice_get part.now.loaded.indexes n ≡ slice_get (indexes_of schema rows) n)) }
     ensures damaged { IfErr result
         (ExplainsCheck (R.Dir.files part.now.dir) part.now.loaded.schema part.now.loaded) }
     ensures file { let schema = part.now.loaded.schema in
@@ -73,7 +78,7 @@ pub fn check_part<R: Arm>(alloc: Global, part: &Part<R::Dir>, arm: &mut R) -> Re
     }
     match agreed.unlike() {
         None => Ok(()),
-        Some(file) => Err(unlike_rows(&part.loaded.manifest, file)),
+        Some(file) => Err(unlike_rows(schema, &part.loaded.manifest, file)),
     }
 }
 
@@ -88,11 +93,13 @@ fn check_file<R: Arm>(
     arm: &mut R,
 ) -> Result<Agreement, PartFault>
     requires marks { HasMarks schema.now }
+    requires indexes { HasIndexes schema.now }
     requires content { IsContent schema.now file }
     ensures compared { IfOk result (λ agreed. IsReadAs (R.Dir.files part.now.dir) file
         (λ bytes. IsCompared schema.now part.now.loaded file bytes agreed)) }
-    ensures damaged { IfErr result (ExplainsFile (R.Dir.files part.now.dir) part.now.loaded.manifest
-        file (GoesWrongAlone schema.now part.now.loaded.manifest.rows file)) }
+    ensures damaged { IfErr result (ExplainsFile (R.Dir.files part.now.dir)
+        (mark_for schema.now part.now.loaded.manifest file) file
+        (GoesWrongAlone schema.now part.now.loaded.manifest.rows file)) }
 
     // What the arm is then, and its count of faults.
     ensures tells { R.tells arm.new ≡ R.tells arm.old }
@@ -116,12 +123,13 @@ fn check_bytes(
     bytes: &[u8],
 ) -> Result<Agreement, PartFault>
     requires marks { HasMarks schema.now }
+    requires indexes { HasIndexes schema.now }
     requires content { IsContent schema.now file }
     ensures { MatchResult result (IsCompared schema.now loaded.now file bytes.now)
-        (ExplainsBytes loaded.now.manifest file
+        (ExplainsBytes (mark_for schema.now loaded.now.manifest file) file
         (GoesWrongAlone schema.now loaded.now.manifest.rows file bytes.now) bytes.now) }
 {
-    let mark = mark_found(&loaded.manifest, file, bytes)?;
+    let mark = mark_found(schema, &loaded.manifest, file, bytes)?;
     let FileId::Column(number) = file else {
         return Ok(Agreement::whole());
     };
@@ -131,12 +139,12 @@ fn check_bytes(
     }
 }
 
-/// The damage of a file of granules that is not that of the rows which the files of the columns spell.
-fn unlike_rows(manifest: &Manifest, file: FileId) -> PartFault
-    ensures { (mark : FileMark) → mark_for manifest.now file ≡ Some mark
+/// The damage of a file of granules or of a skip index that is not that of the rows which the files of the columns spell.
+fn unlike_rows(schema: &Schema, manifest: &Manifest, file: FileId) -> PartFault
+    ensures { (mark : FileMark) → mark_for schema.now manifest.now file ≡ Some mark
         → result ≡ PartFault.Damaged file 0 mark mark }
 {
-    let mark = mark_at(manifest, file).unwrap_or(NO_MARK);
+    let mark = mark_at(schema, manifest, file).unwrap_or(NO_MARK);
     PartFault::Damaged {
         file,
         place: 0,

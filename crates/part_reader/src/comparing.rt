@@ -12,8 +12,10 @@ ghost use Rattle.mt_values.specs.Grid.{column_of};
 ghost use Rattle.mt_values.specs.Schemas.{column_types};
 ghost use Rattle.mt_values.specs.Values.{type_of};
 ghost use Rattle.primary_marks.specs.Keys.{HasMarks};
-ghost use Rattle.part_reader.specs.Compared.{AreBegun, AreMarksIn, IsColumnCompared, unlike_file};
+ghost use Rattle.part_reader.specs.Compared.{AreBegun, AreMarksIn, IsColumnCompared, both_agree, first_of, unlike_file, whole};
+ghost use Rattle.part_writer.specs.PartFiles.{HasIndexes};
 
+use crate::indexed::{ColumnFile, unlike_index};
 use column_file::{FormatFault, cell_at, end_at};
 use mt_base::Seq;
 use mt_values::{Cell, ColType, ColumnData, FileId, Schema, cmp_cells};
@@ -21,38 +23,39 @@ use part_writer::Loaded;
 use primary_marks::Marks;
 use std::alloc::Global;
 
-/// Whether the places and the keys that are kept of a part are those of the columns gone over.
+/// Whether the places, the keys and the skip indexes that are kept of a part are those of the columns gone over.
 #[derive(Clone, Copy)]
 pub struct Agreement {
     pub places: bool,
     pub keys: bool,
+    /// The number of the first skip index that is not, counted from 0; none where each is.
+    pub index: Option<u32>,
 }
 
 impl Agreement {
-    /// Both are.
+    /// All are.
     pub fn whole() -> Self
-        ensures { result ≡ record { places = true; keys = true } }
+        ensures { result ≡ whole }
     {
         Agreement {
             places: true,
             keys: true,
+            index: None,
         }
     }
 
     /// Of these columns and of those.
     pub fn and(self, other: Agreement) -> Self
-        ensures { result ≡ record {
-          places = self.places && other.places;
-          keys = self.keys && other.keys;
-        } }
+        ensures { result ≡ both_agree self other }
     {
         Agreement {
             places: self.places && other.places,
             keys: self.keys && other.keys,
+            index: first_of(self.index, other.index),
         }
     }
 
-    /// The file that says what is not that of the columns, `marks.bin` before `primary.bin`; none where both are.
+    /// The file that says what is not that of the columns, in the order of the format; none where each is.
     pub fn unlike(self) -> Option<FileId>
         ensures { result ≡ unlike_file self }
     {
@@ -62,7 +65,21 @@ impl Agreement {
         if !self.keys {
             return Some(FileId::Primary);
         }
-        None
+        match self.index {
+            Some(number) => Some(FileId::Skip(number)),
+            None => None,
+        }
+    }
+}
+
+/// The lesser of two numbers, where there is one.
+fn first_of(a: Option<u32>, b: Option<u32>) -> Option<u32>
+    ensures { result ≡ first_of a b }
+{
+    match (a, b) {
+        (None, _) => b,
+        (Some(_), None) => a,
+        (Some(own), Some(other)) => Some(own.min(other)),
     }
 }
 
@@ -84,6 +101,7 @@ pub fn compare_column(
     bytes: &[u8],
 ) -> Result<Agreement, FormatFault>
     requires marks { HasMarks schema.now }
+    requires indexes { HasIndexes schema.now }
     requires column { number < length schema.now.columns }
     ensures { MatchResult result (IsColumnCompared schema.now loaded.now number bytes.now)
         (λ e. IfSome (slice_get (column_types schema.now) number)
@@ -92,6 +110,13 @@ pub fn compare_column(
     let col_type = schema.columns.at(number as usize).col_type;
     let rows = loaded.manifest.rows as usize;
     let found = marks_in(alloc, col_type, bytes, rows, schema.granularity)?;
+    let column = ColumnFile {
+        number,
+        col_type,
+        bytes,
+        count: rows,
+    };
+    let index = unlike_index(alloc, loaded, schema, &column)?;
     Ok(Agreement {
         places: are_places(loaded, number as usize, &found.starts),
         keys: are_keys(
@@ -100,6 +125,7 @@ pub fn compare_column(
             number,
             &found.firsts,
         ),
+        index,
     })
 }
 
@@ -332,10 +358,12 @@ pub fn shape(loaded: &Loaded, schema: &Schema) -> Agreement
         ↔ (length loaded.now.places ≡ length schema.now.columns) }
     ensures keys { IsTrue result.keys
         ↔ All (λ key. length key ≡ length schema.now.primary) loaded.now.marks }
+    ensures index { result.index ≡ None }
 {
     Agreement {
         places: loaded.places.len() == schema.columns.len(),
         keys: have_width(&loaded.marks, schema.primary.len()),
+        index: None,
     }
 }
 

@@ -28,6 +28,7 @@ fn loaded_twin(alloc: Global, loaded: &Loaded) -> Result<Loaded, NoMemory>
         manifest: manifest_twin(alloc, &loaded.manifest)?,
         marks: loaded.marks.twin(alloc)?,
         places: loaded.places.twin(alloc)?,
+        indexes: loaded.indexes.twin(alloc)?,
     })
 }
 

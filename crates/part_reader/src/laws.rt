@@ -13,6 +13,7 @@ ghost use Rattle.sha2.specs.Sha256.{sha256};
 ghost use Rattle.digest_file.specs.Spellings.{IsManifestOf};
 ghost use Rattle.part_writer.specs.PartFiles.{all_synced, content_ids, files_of_part, loaded_of, manifest_of};
 ghost use Rattle.primary_marks.specs.Keys.{HasMarks};
+ghost use Rattle.part_writer.specs.PartFiles.{HasIndexes};
 ghost use Rattle.part_reader.specs.declared.reading.Part.{Part};
 ghost use Rattle.part_reader.specs.DamagedFile.{damaged_file};
 ghost use Rattle.part_damage.specs.Marks.{mark_for};
@@ -32,13 +33,14 @@ pub fn parts_hold_what_was_written<D: Dir>()
         → D.files part.dir ≡ Some files → part.loaded ≡ loaded_of schema rows
         → FolderHolds schema rows files → PartHolds D.files schema part rows }
     ensures loaded { (schema : Schema) (rows : List Row) (files : Files) → HasMarks schema
-        → FolderHolds schema rows files → IsLoadedOf schema files (loaded_of schema rows) }
+        → HasIndexes schema → FolderHolds schema rows files
+        → IsLoadedOf schema files (loaded_of schema rows) }
     ensures columns { (schema : Schema) (part : Part D) (places : List ℕ) (rows : List Row)
         → PartHolds D.files schema part rows → All (λ place. place < length schema.columns) places
         → HoldsAt D.files schema part (map file.Column places) rows }
     ensures marks { (schema : Schema) (manifest : Manifest) (place : ℕ) (f : FileId)
         → slice_get (content_ids schema) place ≡ Some f
-        → mark_for manifest f ≡ slice_get manifest.files place }
+        → mark_for schema manifest f ≡ slice_get manifest.files place }
 {}
 
 /// The function of a part's first damaged file gives what the relation says, which is one file or none; none where the folder holds rows.
@@ -51,14 +53,14 @@ pub fn damage_is_one_file()
         (found : Option FileId) → IsManifestFor schema (bytes_of file.Manifest files) manifest
         → FirstUnder schema manifest files found → damaged_file schema files ≡ found }
     ensures written { (schema : Schema) (files : Files) (rows : List Row) → HasMarks schema
-        → FolderHolds schema rows files → damaged_file schema files ≡ None }
+        → HasIndexes schema → FolderHolds schema rows files → damaged_file schema files ≡ None }
 {}
 
 /// A part of which no file is damaged holds rows. A part holds one list of rows at most, and then no file of which its manifest has a mark
 /// is damaged.
 pub fn sound_parts_hold_rows<D: Dir>()
     ensures some { (schema : Schema) (part : Part D) (files : Files) → HasMarks schema
-        → D.files part.dir ≡ Some files → IsLoadedOf schema files part.loaded
+        → HasIndexes schema → D.files part.dir ≡ Some files → IsLoadedOf schema files part.loaded
         → damaged_file schema files ≡ None → (rows : List Row)
         × PartHolds D.files schema part rows }
     ensures one { (schema : Schema) (part : Part D) (x y : List Row)

@@ -7,9 +7,11 @@ mod copies;
 mod cut_rows;
 mod files;
 mod granules;
+mod indexed;
 mod laws;
 mod marked;
 mod opening;
+mod picked_rows;
 mod reading;
 mod runs;
 
@@ -19,5 +21,6 @@ pub use files::{Span, read_file};
 pub use granules::{add_granules, count_chosen, read_granules};
 pub use laws::{damage_is_one_file, parts_hold_what_was_written, sound_parts_hold_rows};
 pub use opening::open_part;
+pub use picked_rows::add_granules_where;
 pub use reading::{NO_MARK, Part, PartFault, read_columns};
 pub use runs::Run;

@@ -1,5 +1,5 @@
-// A part opened: the manifest that lies in its folder, and where its granules begin.
-ghost use Rattle.std.specs.Prelude.{◌≡◌, ◌≢◌, ◌≤◌, ℕ, List, IfErr, IfOk, IsErrOf, MatchResult, OnOk, Some};
+// A part opened: the manifest that lies in its folder, where its granules begin, and what its skip indexes keep.
+ghost use Rattle.std.specs.Prelude.{◌≡◌, ◌≢◌, ◌≤◌, ◌<◌, ℕ, List, IfErr, IfOk, IsErrOf, MatchResult, OnOk, Some, length};
 ghost use Rattle.mt_outside.specs.Causes.{Rose};
 ghost use Rattle.mt_outside.specs.Files.{Files, bytes_of};
 ghost use Rattle.mt_values.specs.declared.manifest.Manifest.{Manifest};
@@ -8,11 +8,14 @@ ghost use Rattle.mt_values.specs.Values.{Row};
 ghost use Rattle.part_writer.specs.PartFiles.{loaded_of, mark_of};
 ghost use Rattle.part_writer.specs.declared.loaded.Loaded.{Loaded};
 ghost use Rattle.primary_marks.specs.Keys.{HasMarks};
-ghost use Rattle.part_reader.specs.Damage.{ExplainsManifest, ExplainsManifestFile, ExplainsOpening, GoesWrongAt, Tells};
+ghost use Rattle.part_writer.specs.PartFiles.{HasIndexes};
+ghost use Rattle.skip_index.specs.declared.index.Index.{Index};
+ghost use Rattle.part_damage.specs.Marks.{mark_for};
+ghost use Rattle.part_reader.specs.Damage.{ExplainsManifest, ExplainsManifestFile, ExplainsOpening, GoesWrongAt, IsSkipFault, Tells};
 ghost use Rattle.part_reader.specs.DamagedFile.{damaged_file};
 ghost use Rattle.part_reader.specs.Faults.{ExplainsBytes, ExplainsFile, IsNoDamage};
 ghost use Rattle.part_reader.specs.Parts.{FolderHolds};
-ghost use Rattle.part_damage.specs.Sound.{AreKeysUnder, AreMarksUnder, IsLoadedOf, IsManifestFor, IsOpened, IsReadAs};
+ghost use Rattle.part_damage.specs.Sound.{AreBlocksUnder, AreIndexes, AreKeysUnder, AreMarksUnder, IsLoadedOf, IsManifestFor, IsOpened, IsReadAs};
 ghost use Rattle.part_reader.specs.declared.reading.TheConstants.{NO_MARK};
 
 use crate::files::read_file;
@@ -20,30 +23,32 @@ use crate::marked::{mark_found, misspelled};
 use crate::reading::{NO_MARK, Part, PartFault};
 use column_file::FormatFault;
 use digest_file::{mark_of, read_manifest};
-use mt_base::Twin;
+use mt_base::{Seq, Twin};
 use mt_outside::Arm;
 use mt_values::{FileId, Manifest, Schema};
 use part_writer::{Loaded, content_count};
 use primary_marks::{Marks, Places, read, read_places};
+use skip_index::{Index, read as read_index};
 use std::alloc::Global;
 
 /// Where the number of files stands in the bytes of a manifest: after `MTP1`, two bytes of the version and eight of the number of rows.
 const COUNT_PLACE: u64 = 14;
 
-/// The part of a table with this folder, and what is kept of it: the schema of the table, its manifest, and what its `marks.bin` and
-/// `primary.bin` say. Each of the three files is read whole, in this order.
+/// The part of a table with this folder, and what is kept of it: the schema of the table, its manifest, and what its `marks.bin`, its
+/// `primary.bin` and the files of its skip indexes say. Each of these files is read whole, in this order.
 ///
 /// `Damaged` at the first of them that is not as it has to be: where `manifest.bin` is no manifest, at its first fault, or one that has
 /// not as many marks as the part has other files, at the place of that number; where another does not have its mark, at 0, or is none,
 /// at its first fault. It is never so where the folder holds rows. `Fault` only where the arm's count rose in this call; `NoMemory`
-/// where an allocation failed.
+/// where an allocation failed, or the number of a skip index does not fit 32 bits.
 pub fn open_part<R: Arm>(
     alloc: Global,
     dir: R::Dir,
     schema: &Schema,
     arm: &mut R,
 ) -> Result<Part<R::Dir>, PartFault>
-    requires { HasMarks schema.now }
+    requires marks { HasMarks schema.now }
+    requires indexes { HasIndexes schema.now }
 
     // What is read.
     ensures dir { IfOk result (λ p. p.dir ≡ dir) }
@@ -73,6 +78,7 @@ pub fn open_part<R: Arm>(
     let manifest = open_manifest(alloc, &dir, schema, arm)?;
     let places = open_marks(alloc, &dir, schema, &manifest, arm)?;
     let marks = open_keys(alloc, &dir, schema, &manifest, arm)?;
+    let indexes = open_indexes(alloc, &dir, schema, &manifest, arm)?;
     let Ok(schema) = schema.twin(alloc) else {
         return Err(PartFault::NoMemory);
     };
@@ -81,6 +87,7 @@ pub fn open_part<R: Arm>(
         manifest,
         marks,
         places,
+        indexes,
     };
     Ok(Part::of(dir, loaded))
 }
@@ -125,7 +132,8 @@ fn open_marks<R: Arm>(
     ensures spelled { (files : Files) (places : List (List ℕ)) → R.Dir.files dir.now ≡ Some files
         → AreMarksUnder schema.now manifest.now (bytes_of file.Marks files) places
         → MatchResult result (λ found. found ≡ places) IsNoDamage }
-    ensures damaged { IfErr result (ExplainsFile (R.Dir.files dir.now) manifest.now file.Marks
+    ensures damaged { IfErr result (ExplainsFile (R.Dir.files dir.now)
+        (mark_for schema.now manifest.now file.Marks) file.Marks
         (GoesWrongAt schema.now manifest.now.rows file.Marks)) }
 
     // What the arm is then, and its count of faults.
@@ -153,10 +161,11 @@ fn places_in(
     ensures spelled { (places : List (List ℕ))
         → AreMarksUnder schema.now manifest.now bytes.now places
         → MatchResult result (λ found. found ≡ places) IsNoDamage }
-    ensures damaged { IfErr result (ExplainsBytes manifest.now file.Marks
+    ensures damaged { IfErr result (ExplainsBytes
+        (mark_for schema.now manifest.now file.Marks) file.Marks
         (GoesWrongAt schema.now manifest.now.rows file.Marks bytes.now) bytes.now) }
 {
-    let mark = mark_found(manifest, FileId::Marks, bytes)?;
+    let mark = mark_found(schema, manifest, FileId::Marks, bytes)?;
     let granules = manifest.rows.div_ceil(u64::from(schema.granularity));
     match read_places(alloc, schema.columns.len(), granules, bytes) {
         Ok(places) => Ok(places),
@@ -180,7 +189,8 @@ fn open_keys<R: Arm>(
     ensures spelled { (files : Files) (keys : List Row) → R.Dir.files dir.now ≡ Some files
         → AreKeysUnder schema.now manifest.now (bytes_of file.Primary files) keys
         → MatchResult result (λ found. found ≡ keys) IsNoDamage }
-    ensures damaged { IfErr result (ExplainsFile (R.Dir.files dir.now) manifest.now file.Primary
+    ensures damaged { IfErr result (ExplainsFile (R.Dir.files dir.now)
+        (mark_for schema.now manifest.now file.Primary) file.Primary
         (GoesWrongAt schema.now manifest.now.rows file.Primary)) }
 
     // What the arm is then, and its count of faults.
@@ -206,13 +216,114 @@ fn keys_in(
     ensures read { IfOk result (AreKeysUnder schema.now manifest.now bytes.now) }
     ensures spelled { (keys : List Row) → AreKeysUnder schema.now manifest.now bytes.now keys
         → MatchResult result (λ found. found ≡ keys) IsNoDamage }
-    ensures damaged { IfErr result (ExplainsBytes manifest.now file.Primary
+    ensures damaged { IfErr result (ExplainsBytes
+        (mark_for schema.now manifest.now file.Primary) file.Primary
         (GoesWrongAt schema.now manifest.now.rows file.Primary bytes.now) bytes.now) }
 {
-    let mark = mark_found(manifest, FileId::Primary, bytes)?;
+    let mark = mark_found(schema, manifest, FileId::Primary, bytes)?;
     match read(alloc, schema, bytes, manifest.rows) {
         Ok(marks) => Ok(marks),
         Err(error) => Err(misspelled(FileId::Primary, mark, error)),
+    }
+}
+
+/// What the files of the skip indexes in a folder say, in their order.
+///
+/// The errors are those of `open_part`.
+fn open_indexes<R: Arm>(
+    alloc: Global,
+    dir: &R::Dir,
+    schema: &Schema,
+    manifest: &Manifest,
+    arm: &mut R,
+) -> Result<Seq<Index>, PartFault>
+    requires { HasIndexes schema.now }
+    ensures read { IfOk result (AreIndexes schema.now (λ n index.
+        IsReadAs (R.Dir.files dir.now) (file.Skip n)
+        (λ bytes. AreBlocksUnder schema.now manifest.now n bytes index))) }
+    ensures spelled { (files : Files) (indexes : List Index) → R.Dir.files dir.now ≡ Some files
+        → AreIndexes schema.now (λ n index. AreBlocksUnder schema.now manifest.now n
+        (bytes_of (file.Skip n) files) index) indexes
+        → MatchResult result (λ found. found ≡ indexes) IsNoDamage }
+    ensures damaged { IfErr result (IsSkipFault (R.Dir.files dir.now) schema.now manifest.now) }
+
+    // What the arm is then, and its count of faults.
+    ensures tells { R.tells arm.new ≡ R.tells arm.old }
+    ensures later { R.failed arm.old ≤ R.failed arm.new }
+    ensures fault { IsErrOf result PartFault.Fault → Rose (R.failed arm.old) (R.failed arm.new) }
+    ensures calm { (IsErrOf result PartFault.Fault → ⊥) → R.failed arm.new ≡ R.failed arm.old }
+{
+    let mut indexes = Seq::new(alloc);
+    for place in 0..schema.indexes.len() {
+        // No file has a number past these.
+        if place > u32::MAX as usize {
+            return Err(PartFault::NoMemory);
+        }
+        let index = open_index(alloc, dir, schema, manifest, place as u32, arm)?;
+        let Ok(()) = indexes.push(index) else {
+            return Err(PartFault::NoMemory);
+        };
+    }
+    Ok(indexes)
+}
+
+/// What the file of the skip index with this number in a folder says.
+///
+/// The errors are those of `open_part`.
+fn open_index<R: Arm>(
+    alloc: Global,
+    dir: &R::Dir,
+    schema: &Schema,
+    manifest: &Manifest,
+    number: u32,
+    arm: &mut R,
+) -> Result<Index, PartFault>
+    requires indexes { HasIndexes schema.now }
+    requires number { number < length schema.now.indexes }
+    ensures read { IfOk result (λ index. IsReadAs (R.Dir.files dir.now) (file.Skip number)
+        (λ bytes. AreBlocksUnder schema.now manifest.now number bytes index)) }
+    ensures spelled { (files : Files) (index : Index) → R.Dir.files dir.now ≡ Some files
+        → AreBlocksUnder schema.now manifest.now number (bytes_of (file.Skip number) files) index
+        → MatchResult result (λ found. found ≡ index) IsNoDamage }
+    ensures damaged { IfErr result (ExplainsFile (R.Dir.files dir.now)
+        (mark_for schema.now manifest.now (file.Skip number)) (file.Skip number)
+        (GoesWrongAt schema.now manifest.now.rows (file.Skip number))) }
+
+    // What the arm is then, and its count of faults.
+    ensures tells { R.tells arm.new ≡ R.tells arm.old }
+    ensures later { R.failed arm.old ≤ R.failed arm.new }
+    ensures fault { IsErrOf result PartFault.Fault → Rose (R.failed arm.old) (R.failed arm.new) }
+    ensures calm { (IsErrOf result PartFault.Fault → ⊥) → R.failed arm.new ≡ R.failed arm.old }
+{
+    let bytes = read_file(alloc, arm, dir, FileId::Skip(number))?;
+    index_in(alloc, schema, manifest, number, &bytes)
+}
+
+/// What the bytes of the file of the skip index with this number say.
+///
+/// The errors are as those of `places_in`.
+fn index_in(
+    alloc: Global,
+    schema: &Schema,
+    manifest: &Manifest,
+    number: u32,
+    bytes: &[u8],
+) -> Result<Index, PartFault>
+    requires indexes { HasIndexes schema.now }
+    requires number { number < length schema.now.indexes }
+    ensures read { IfOk result (AreBlocksUnder schema.now manifest.now number bytes.now) }
+    ensures spelled { (index : Index)
+        → AreBlocksUnder schema.now manifest.now number bytes.now index
+        → MatchResult result (λ found. found ≡ index) IsNoDamage }
+    ensures damaged { IfErr result (ExplainsBytes
+        (mark_for schema.now manifest.now (file.Skip number)) (file.Skip number)
+        (GoesWrongAt schema.now manifest.now.rows (file.Skip number) bytes.now) bytes.now) }
+{
+    let file = FileId::Skip(number);
+    let mark = mark_found(schema, manifest, file, bytes)?;
+    match read_index(alloc, schema, number, bytes, manifest.rows) {
+        Ok(index) => Ok(index),
+        Err(error) => Err(misspelled(file, mark, error)),
     }
 }
 

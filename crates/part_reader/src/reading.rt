@@ -64,7 +64,7 @@ pub enum PartFault {
     /// A file that was opened or checked does not have the mark that the manifest has of it, or the manifest has none of it. The place
     /// is 0 then. Or its bytes, or those of granules, are no spelling of what such a file has in it: from this place of the file on,
     /// counted from 0, they go wrong.
-    /// Or it is `marks.bin` or `primary.bin`, and not that of the rows which the files of the columns spell. The place is 0 then.
+    /// Or it is `marks.bin`, `primary.bin` or a file of a skip index, and not that of the rows which the files of the columns spell. The place is 0 then.
     /// Or it is `manifest.bin`, and its bytes are no manifest with a mark of each other file: at this place they go wrong,
     /// or the number of files stands.
     #[error("a file of the part is damaged at byte {place}")]
@@ -132,7 +132,7 @@ pub fn read_columns<R: Arm>(
     ensures types { OnOk result (map (λ (c : Cells). c.col_type) columns.new ≡ map
         (λ (c : Cells). c.col_type) columns.old) }
     ensures damaged { IfErr result (ExplainsEach (ExplainsColumn (R.Dir.files part.now.dir)
-        part.now.loaded.manifest) places.now columns.old) }
+        part.now.loaded) places.now columns.old) }
 
     // What the arm is then, and its count of faults.
     ensures tells { R.tells arm.new ≡ R.tells arm.old }
@@ -159,17 +159,17 @@ fn read_column<R: Arm>(
     ensures read { OnOk result (IsRead (R.Dir.files part.now.dir) part.now.loaded.manifest number
         column.old column.new) }
     ensures damaged { IfErr result (ExplainsColumn (R.Dir.files part.now.dir)
-        part.now.loaded.manifest number column.old.col_type) }
+        part.now.loaded number column.old.col_type) }
     ensures tells { R.tells arm.new ≡ R.tells arm.old }
     ensures later { R.failed arm.old ≤ R.failed arm.new }
     ensures fault { IsErrOf result PartFault.Fault → Rose (R.failed arm.old) (R.failed arm.new) }
     ensures calm { (IsErrOf result PartFault.Fault → ⊥) → R.failed arm.new ≡ R.failed arm.old }
 {
-    let manifest = &part.loaded.manifest;
+    let loaded = &part.loaded;
     let file = FileId::Column(number);
     let bytes = read_file(alloc, arm, &part.dir, file)?;
-    match decode_onto(column, &bytes, manifest.rows as usize) {
+    match decode_onto(column, &bytes, loaded.manifest.rows as usize) {
         Ok(()) => Ok(()),
-        Err(error) => Err(misread(manifest, file, 0, &bytes, error)),
+        Err(error) => Err(misread(loaded, file, 0, &bytes, error)),
     }
 }

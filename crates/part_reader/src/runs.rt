@@ -9,7 +9,7 @@ use crate::marked::{misread, wanted_of};
 use crate::reading::{Part, PartFault};
 use column_file::decode_onto;
 use mt_outside::Arm;
-use mt_values::{ColumnData, FileId, Manifest};
+use mt_values::{ColumnData, FileId};
 use part_writer::Loaded;
 use primary_marks::Places;
 use std::alloc::Global;
@@ -50,22 +50,22 @@ pub fn add_run<R: Arm>(
     if run.count == 0 {
         return Ok(());
     }
-    let manifest = &part.loaded.manifest;
-    let Some(span) = span_of(&part.loaded.places, number, run) else {
-        return Err(unplaced(manifest));
+    let loaded = &part.loaded;
+    let Some(span) = span_of(&loaded.places, number, run) else {
+        return Err(unplaced(loaded));
     };
     let file = FileId::Column(number);
     let bytes = read_span(alloc, arm, &part.dir, file, span)?;
-    match decode_onto(column, &bytes, row_count(&part.loaded, run)) {
+    match decode_onto(column, &bytes, row_count(loaded, run)) {
         Ok(()) => Ok(()),
-        Err(error) => Err(misread(manifest, file, span.start, &bytes, error)),
+        Err(error) => Err(misread(loaded, file, span.start, &bytes, error)),
     }
 }
 
 /// The places of a column's file between which the bytes of a run stand, by the places that are kept.
 ///
 /// `None` where these have no such run.
-fn span_of(places: &Places, number: u32, run: Run) -> Option<Span>
+pub fn span_of(places: &Places, number: u32, run: Run) -> Option<Span>
     requires { run.first + run.count < 2 ^ 64 }
     ensures { MatchOption result ((span : Span) → IsSpanOf places.now number run span → ⊥)
         (IsSpanOf places.now number run) }
@@ -94,10 +94,10 @@ pub fn row_count(loaded: &Loaded, run: Run) -> usize
 }
 
 /// What is said where the places that are kept have no run that was to be read.
-fn unplaced(manifest: &Manifest) -> PartFault
-    ensures { result ≡ no_run manifest.now }
+pub fn unplaced(loaded: &Loaded) -> PartFault
+    ensures { result ≡ no_run loaded.now }
 {
-    let mark = wanted_of(manifest, FileId::Marks);
+    let mark = wanted_of(loaded, FileId::Marks);
     PartFault::Damaged {
         file: FileId::Marks,
         place: 0,

@@ -1,6 +1,8 @@
 // What is kept of a part in memory.
+use mt_base::Seq;
 use mt_values::{Manifest, Schema};
 use primary_marks::{Marks, Places};
+use skip_index::Index;
 
 /// What is kept of a part in memory, beside its folder.
 #[derive(Drop)]
@@ -12,4 +14,6 @@ pub struct Loaded {
     pub marks: Marks,
     /// Where its granules begin in the files of its columns, and the lengths of these.
     pub places: Places,
+    /// What its skip indexes keep of its blocks, in the order of the schema.
+    pub indexes: Seq<Index>,
 }

@@ -11,6 +11,7 @@ ghost use Rattle.digest_file.specs.Spellings.{IsManifestOf};
 ghost use Rattle.stage_dir.specs.Stages.{IsIntact, has_file, settled, written};
 ghost use Rattle.part_writer.specs.PartFiles.{all_synced, content_ids, files_of_part, loaded_of, mark_of};
 ghost use Rattle.primary_marks.specs.Keys.{HasMarks};
+ghost use Rattle.part_writer.specs.PartFiles.{HasIndexes};
 
 use crate::content::{content_count, content_file};
 use crate::encoding::{Contents, encode_contents};
@@ -43,6 +44,7 @@ pub fn write_part<R: Arm>(
     order: &[u32],
 ) -> Result<SealedPart<R::Stage>, DiskError>
     requires marks { HasMarks schema.now }
+    requires indexes { HasIndexes schema.now }
     requires types { block.now.types ≡ column_types schema.now }
     requires places { All (λ place. place < length block.now.rows) order.now }
     requires few { length (content_ids schema.now) < 2 ^ 32 }
@@ -110,6 +112,7 @@ fn fill<S: Stage>(
     requires intact { IsIntact stage.old }
     requires empty { stage.old.names ≡ [] }
     requires marks { HasMarks schema.now }
+    requires indexes { HasIndexes schema.now }
     requires types { block.now.types ≡ column_types schema.now }
     requires places { All (λ place. place < length block.now.rows) order.now }
     requires few { length (content_ids schema.now) < 2 ^ 32 }
@@ -141,13 +144,19 @@ fn fill<S: Stage>(
     let manifest = Manifest { rows, files };
     let bytes = manifest_bytes(alloc, &manifest)?;
     write_file(stage, FileId::Manifest, &bytes)?;
-    let Contents { marks, places, .. } = contents;
+    let Contents {
+        marks,
+        places,
+        indexes,
+        ..
+    } = contents;
     let schema = schema.twin(alloc)?;
     Ok(Loaded {
         schema,
         manifest,
         marks,
         places,
+        indexes,
     })
 }
 

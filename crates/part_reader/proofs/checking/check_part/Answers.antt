@@ -1,16 +1,17 @@
-use Rattle.std.proofs.Common.{◌≡◌, ◌∙◌, Some, None, arith, get_or, refl, sym, inl, List}
+use Rattle.std.proofs.Common.{◌≡◌, ◌∙◌, ℕ, Option, Some, None, arith, get_or, refl, subst, sym, inl, List}
 use Rattle.mt_base.specs.declared.name.FileId.TheVariants as file
 use Rattle.mt_outside.specs.Files.{Files}
 use Rattle.mt_values.specs.Values.{Row}
 use Rattle.part_writer.specs.PartFiles.{content_ids}
 use Rattle.part_writer.proofs.Contents.{content_known, content_length, content_there}
 use Rattle.part_reader.specs.declared.reading.PartFault.TheVariants.{Fault}
+use Rattle.part_reader.specs.Compared.{IsFirstFailing}
 use Rattle.part_reader.specs.Damage.{ExplainsCheck, Tells}
 use Rattle.part_reader.specs.DamagedFile.{damaged_file}
 use Rattle.part_reader.specs.Faults.{IsNoDamage}
 use Rattle.part_damage.specs.Sound.{FirstUnsound, IsLoadedOf}
 use Rattle.part_reader.proofs.CheckedParts.{check_told, file_under, held_sound, is_like, kept_unsound, no_check_fault, unlike_fault}
-use Rattle.part_reader.proofs.ComparedColumns.{AreRowsCompared, counted_compared, gone_over_more, gone_over_none}
+use Rattle.part_reader.proofs.ComparedColumns.{AreRowsCompared, IsIndexKept, counted_compared, gone_over_more, gone_over_none}
 use Rattle.part_reader.proofs.Damages.{error_handed_on}
 use Rattle.part_reader.proofs.Gaining.{handed_on}
 use Rattle.part_reader.proofs.HeldRows.{unsound_rows}
@@ -38,7 +39,7 @@ returns-then-place-clause-damaged g c =
 
 pub loop-place-init : goal.loop-place-init
 loop-place-init g c = record {
-  gone = gone_over_none (g.R.Dir.Dir.files c.args.part.now.dir) c.args.part.now.loaded.schema c.args.part.now.loaded c.shape-agreed.result c.shape-agreed.ensures.places c.shape-agreed.ensures.keys;
+  gone = gone_over_none (g.R.Dir.Dir.files c.args.part.now.dir) c.args.part.now.loaded.schema c.args.part.now.loaded c.shape-agreed.result c.shape-agreed.ensures.places c.shape-agreed.ensures.keys c.shape-agreed.ensures.index;
   few = omega arith;
   tells = refl;
   count = refl;
@@ -72,43 +73,48 @@ pub returns-in_err-check_file-clause-file : goal.returns-in_err-check_file-claus
 returns-in_err-check_file-clause-file g c = λ files known is.
     let schema = c.args.part.now.loaded.schema in
     error_handed_on (λ _. damaged_file schema files ≡ None) (Tells (λ found. damaged_file schema files ≡ found)) c.from_residual.result c.in_err-check_file.field-0.0 c.from_residual.ensures.1
-    (check_told (g.R.Dir.Dir.files c.args.part.now.dir) files schema c.args.part.now.loaded c.requires known is c.in_err-check_file.field-0.0 (fault_of g c))
+    (check_told (g.R.Dir.Dir.files c.args.part.now.dir) files schema c.args.part.now.loaded c.requires.marks c.requires.indexes known is c.in_err-check_file.field-0.0 (fault_of g c))
 
 pub returns-in_err-check_file-clause-sound : goal.returns-in_err-check_file-clause-sound
 returns-in_err-check_file-clause-sound g c = λ rows holds.
     handed_on IsNoDamage c.from_residual.result c.in_err-check_file.field-0.0 c.from_residual.ensures.1
     (held_sound g.R.Dir.Dir.files c.args.part.now.loaded.schema c.args.part.now rows holds c.in_err-check_file.field-0.0 (fault_of g c))
 
+-- where none fails, it holds at each place
+kept_all : (Holds : ℕ → Type 0) (o : Option ℕ) → o ≡ None → IsFirstFailing Holds o → (n : ℕ) → Holds n
+kept_all Holds o none first = subst (IsFirstFailing Holds) none first
+
 -- at the end all files are compared
 rows_found : (g : Over) (c : goal.In-None g) → (rows : List Row) × AreRowsCompared (g.R.Dir.Dir.files c.args.part.now.dir) c.args.part.now.loaded.schema c.args.part.now.loaded c.loop-place.agreed rows
 rows_found g c =
-    counted_compared (g.R.Dir.Dir.files c.args.part.now.dir) c.args.part.now.loaded.schema c.args.part.now.loaded c.loop-place.agreed c.requires c.loop-place.place c.content_count-place-end.result c.content_count-place-end.ensures (omega arith) (omega arith)
+    counted_compared (g.R.Dir.Dir.files c.args.part.now.dir) c.args.part.now.loaded.schema c.args.part.now.loaded c.loop-place.agreed c.requires.marks c.requires.indexes c.loop-place.place c.content_count-place-end.result c.content_count-place-end.ensures (omega arith) (omega arith)
     c.loop-place.invariant.few c.loop-place.invariant.gone
 
 pub returns-in-None-clause-checked : goal.returns-in-None-clause-checked
 returns-in-None-clause-checked g c =
     let found = rows_found g c in
-    let like = is_like c.loop-place.agreed.places c.loop-place.agreed.keys (sym c.unlike.ensures ∙ c.in-None.is) in
-    (found.0, found.1.read, found.1.places.0 like.0, found.1.keys.0 like.1)
+    let like = is_like c.loop-place.agreed.places c.loop-place.agreed.keys c.loop-place.agreed.index (sym c.unlike.ensures ∙ c.in-None.is) in
+    (found.0, found.1.read, found.1.places.0 like.0, found.1.keys.0 like.1, kept_all (IsIndexKept c.args.part.now.loaded.schema c.args.part.now.loaded found.0) c.loop-place.agreed.index like.2 found.1.index)
 
 -- and no file is unsound where what is kept is that of the rows
 unsound : (g : Over) (c : goal.In-None g) (files : Files) → g.R.Dir.Dir.files c.args.part.now.dir ≡ Some files → IsLoadedOf c.args.part.now.loaded.schema files c.args.part.now.loaded → FirstUnsound c.args.part.now.loaded.schema c.args.part.now.loaded.manifest files None
 unsound g c files known is =
     let found = rows_found g c in
-    let like = is_like c.loop-place.agreed.places c.loop-place.agreed.keys (sym c.unlike.ensures ∙ c.in-None.is) in
-    kept_unsound (g.R.Dir.Dir.files c.args.part.now.dir) files c.args.part.now.loaded.schema c.args.part.now.loaded c.requires known is found.0 found.1.read (found.1.places.0 like.0) (found.1.keys.0 like.1)
+    let like = is_like c.loop-place.agreed.places c.loop-place.agreed.keys c.loop-place.agreed.index (sym c.unlike.ensures ∙ c.in-None.is) in
+    kept_unsound (g.R.Dir.Dir.files c.args.part.now.dir) files c.args.part.now.loaded.schema c.args.part.now.loaded c.requires.marks c.requires.indexes known is found.0 found.1.read (found.1.places.0 like.0) (found.1.keys.0 like.1)
+    (kept_all (IsIndexKept c.args.part.now.loaded.schema c.args.part.now.loaded found.0) c.loop-place.agreed.index like.2 found.1.index)
 
 pub returns-in-None-clause-file : goal.returns-in-None-clause-file
 returns-in-None-clause-file g c = λ files known is.
-    file_under (g.R.Dir.Dir.files c.args.part.now.dir) files c.args.part.now.loaded.schema c.args.part.now.loaded c.requires known is None (unsound g c files known is)
+    file_under (g.R.Dir.Dir.files c.args.part.now.dir) files c.args.part.now.loaded.schema c.args.part.now.loaded c.requires.marks c.requires.indexes known is None (unsound g c files known is)
 
 pub returns-in-None-clause-held : goal.returns-in-None-clause-held
-returns-in-None-clause-held g c = λ files known is. unsound_rows g.R.Dir.Dir.files c.args.part.now.loaded.schema c.args.part.now files c.requires known is (unsound g c files known is)
+returns-in-None-clause-held g c = λ files known is. unsound_rows g.R.Dir.Dir.files c.args.part.now.loaded.schema c.args.part.now files c.requires.marks c.requires.indexes known is (unsound g c files known is)
 
 -- and where what is kept is not that of the rows
 rows_unlike : (g : Over) (c : goal.After-unlike_rows g) → (rows : List Row) × AreRowsCompared (g.R.Dir.Dir.files c.args.part.now.dir) c.args.part.now.loaded.schema c.args.part.now.loaded c.loop-place.agreed rows
 rows_unlike g c =
-    counted_compared (g.R.Dir.Dir.files c.args.part.now.dir) c.args.part.now.loaded.schema c.args.part.now.loaded c.loop-place.agreed c.requires c.loop-place.place c.content_count-place-end.result c.content_count-place-end.ensures (omega arith) (omega arith)
+    counted_compared (g.R.Dir.Dir.files c.args.part.now.dir) c.args.part.now.loaded.schema c.args.part.now.loaded c.loop-place.agreed c.requires.marks c.requires.indexes c.loop-place.place c.content_count-place-end.result c.content_count-place-end.ensures (omega arith) (omega arith)
     c.loop-place.invariant.few c.loop-place.invariant.gone
 
 -- what is told of a file of granules
@@ -122,7 +128,7 @@ returns-in-Some-unlike-clause-damaged g c = unlike_of g c
 
 pub returns-in-Some-unlike-clause-file : goal.returns-in-Some-unlike-clause-file
 returns-in-Some-unlike-clause-file g c = λ files known is.
-    check_told (g.R.Dir.Dir.files c.args.part.now.dir) files c.args.part.now.loaded.schema c.args.part.now.loaded c.requires known is c.unlike_rows.result (unlike_of g c)
+    check_told (g.R.Dir.Dir.files c.args.part.now.dir) files c.args.part.now.loaded.schema c.args.part.now.loaded c.requires.marks c.requires.indexes known is c.unlike_rows.result (unlike_of g c)
 
 pub returns-in-Some-unlike-clause-sound : goal.returns-in-Some-unlike-clause-sound
 returns-in-Some-unlike-clause-sound g c = λ rows holds. held_sound g.R.Dir.Dir.files c.args.part.now.loaded.schema c.args.part.now rows holds c.unlike_rows.result (unlike_of g c)

@@ -22,5 +22,6 @@ returns c =
         places = subst (λ (ps : List ℕ). (c.are_places.result ≡ true) ↔ (slice_get loaded.places c.args.number ≡ Some ps)) m.starts c.are_places.ensures;
         keys = subst (λ (vs : List Value). (c.are_keys.result ≡ true) ↔ ((place : ℕ) → slice_get schema.primary place ≡ Some c.args.number → column_of place loaded.marks ≡ vs)) m.firsts
             (subst (λ (ps : List ℕ). (c.are_keys.result ≡ true) ↔ ((place : ℕ) → slice_get ps place ≡ Some c.args.number → column_of place loaded.marks ≡ c.in_ok-found.found.firsts.values)) c.as_slice.ensures c.are_keys.ensures);
+        index = c.in_ok-index.ensures.found m.values m.spelling;
       };
     }

@@ -1,4 +1,3 @@
-use Rattle.std.proofs.Common.{ap, arith}
 use Rattle.mt_values.specs.Cells.{value_of}
 use Rattle.part_reader.proofs.NumberMarks.{number_found, number_there}
 use Rattle.part_reader.proofs.comparing.number_at.Goals as goal

@@ -13,4 +13,4 @@ pub returns-clause-opened : goal.returns-clause-opened
 returns-clause-opened c = λ schema files manifest found is under. file_is schema files found (inl (manifest, is, under))
 
 pub returns-clause-written : goal.returns-clause-written
-returns-clause-written c = λ schema files rows has written. file_is schema files None (written_undamaged schema files rows has written)
+returns-clause-written c = λ schema files rows has kept written. file_is schema files None (written_undamaged schema files rows has kept written)

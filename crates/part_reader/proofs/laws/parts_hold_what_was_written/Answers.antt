@@ -9,7 +9,7 @@ pub returns-clause-written : goal.returns-clause-written
 returns-clause-written g c = λ schema part rows files told loaded folder. written_holds g.D.Dir.files schema part rows files told loaded folder
 
 pub returns-clause-loaded : goal.returns-clause-loaded
-returns-clause-loaded g c = λ schema rows files has folder. written_loaded schema files rows folder has
+returns-clause-loaded g c = λ schema rows files has kept folder. written_loaded schema files rows folder has kept
 
 pub returns-clause-columns : goal.returns-clause-columns
 returns-clause-columns g c = λ schema part places rows holds below. holds_at g.D.Dir.files schema part rows places holds below

@@ -4,7 +4,7 @@ use Rattle.part_reader.proofs.HeldRows.{held_unsound, one_held, undamaged_rows}
 use Rattle.part_reader.proofs.laws.sound_parts_hold_rows.Goals as goal
 
 pub returns-clause-some : goal.returns-clause-some
-returns-clause-some g c = λ schema part files has known is none. undamaged_rows g.D.Dir.files schema part files has known is (file_told schema files None none)
+returns-clause-some g c = λ schema part files has kept known is none. undamaged_rows g.D.Dir.files schema part files has kept known is (file_told schema files None none)
 
 pub returns-clause-one : goal.returns-clause-one
 returns-clause-one g c = one_held g.D.Dir.files

@@ -25,7 +25,7 @@ loop-number-preserved g c =
     }
 
 -- the fault is that of the column that was read last
-fault_of : (g : Over) (c : goal.After-from_residual g) → ExplainsEach (ExplainsColumn (g.R.Dir.Dir.files c.args.part.now.dir) c.args.part.now.loaded.manifest) c.args.places.now c.args.columns.now c.in_err-read_column.field-0.0
+fault_of : (g : Over) (c : goal.After-from_residual g) → ExplainsEach (ExplainsColumn (g.R.Dir.Dir.files c.args.part.now.dir) c.args.part.now.loaded) c.args.places.now c.args.columns.now c.in_err-read_column.field-0.0
 fault_of g c =
     let olds = c.args.columns.now in
     let i = c.loop-number.number in
@@ -45,7 +45,7 @@ fault_of g c =
 
 pub returns-in_err-read_column-clause-damaged : goal.returns-in_err-read_column-clause-damaged
 returns-in_err-read_column-clause-damaged g c =
-    handed_on (ExplainsEach (ExplainsColumn (g.R.Dir.Dir.files c.args.part.now.dir) c.args.part.now.loaded.manifest) c.args.places.now c.args.columns.now) c.from_residual.result c.in_err-read_column.field-0.0 c.from_residual.ensures.1
+    handed_on (ExplainsEach (ExplainsColumn (g.R.Dir.Dir.files c.args.part.now.dir) c.args.part.now.loaded) c.args.places.now c.args.columns.now) c.from_residual.result c.in_err-read_column.field-0.0 c.from_residual.ensures.1
     (fault_of g c)
 
 pub returns-in_err-read_column-clause-sound : goal.returns-in_err-read_column-clause-sound

@@ -1,4 +1,4 @@
-use Rattle.std.proofs.Common.{ap, min, ◌-◌, ◌^◌, ◌∙◌, arith}
+use Rattle.std.proofs.Common.{arith}
 use Rattle.part_writer.proofs.Contents.{content_length}
 use Rattle.part_writer.proofs.content.content_count.Goals as goal
 

@@ -1,11 +1,10 @@
-use Rattle.std.proofs.Common.{◌≡◌, ℕ, ◌<◌, List, [], ◌∷◌, ◌++◌, All, ap, ap₂, sym, ◌∙◌, length, map, arith, zero-add}
-use Rattle.std.specs.List.{range_with_len}
+use Rattle.std.proofs.Common.{◌≡◌, ℕ, List, [], ◌∷◌, ◌++◌, ap, ap₂, sym, ◌∙◌, length, arith, zero-add}
 use Rattle.std.proofs.lemmas.List.{length-map}
 use Rattle.std.proofs.lemmas.List.FromFn.{map-range_with_len_more}
 use Rattle.mt_values.specs.ColumnBytes.{column_bytes}
 use Rattle.mt_values.specs.declared.schema.Column.{Column}
 use Rattle.mt_values.specs.Grid.{column_of, picked}
-use Rattle.mt_values.specs.Values.{FitsType, Row}
+use Rattle.mt_values.specs.Values.{Row}
 use Rattle.column_file.specs.Granules.{marks_of}
 use Rattle.part_writer.proofs.Filling.{fits_below, picked_typed, rows_fit}
 use Rattle.part_writer.proofs.encoding.encode_columns.Goals as goal

@@ -1,4 +1,4 @@
-use Rattle.std.proofs.Common.{◌≡◌, ℕ, ◌+◌, ◌<◌, ◌≤◌, ◌++◌, ◌∷◌, [], List, Some, length, refl, sym, ap, ap₂, ◌∙◌, subst, arith, map, take}
+use Rattle.std.proofs.Common.{◌≡◌, ℕ, ◌+◌, ◌≤◌, ◌++◌, ◌∷◌, [], List, length, refl, sym, ap, ap₂, ◌∙◌, subst, arith, map, take}
 use Rattle.std.specs.Option.{option_map}
 use Rattle.std.proofs.lemmas.List.{length-map, length-take-le, take_all}
 use Rattle.mt_values.specs.declared.manifest.FileMark.{FileMark}
@@ -19,6 +19,9 @@ use Rattle.part_writer.proofs.writing.fill.Given.{Over}
 
 pub overflow_cast-count : goal.overflow_cast-count
 overflow_cast-count g c = omega (arith, c.requires.few, c.content_count-count.ensures)
+
+pub encode_contents-requires-clause-few : goal.encode_contents-requires-clause-few
+encode_contents-requires-clause-few g c = omega (arith, c.requires.few, content_length c.args.schema.now)
 
 pub unreachable-requires : goal.unreachable-requires
 unreachable-requires g c =
@@ -92,8 +95,9 @@ returns-clause-files g c =
 pub returns-clause-loaded : goal.returns-clause-loaded
 returns-clause-loaded g c =
     loaded_done c.args.schema.now c.in_ok-schema.schema (picked c.args.block.now.rows c.args.order.now) (record { rows = length c.args.order.now; files = c.loop-place.files }) c.in_ok-contents.contents.marks c.in_ok-contents.contents.places
-    c.in_ok-schema.ensures
+    c.in_ok-contents.contents.indexes c.in_ok-schema.ensures
     (manifest_is g (goal.at.returns-clause-loaded g c).After-write_file (all_over g (goal.at.returns-clause-loaded g c).After-loop-place)) c.in_ok-contents.ensures.marks c.in_ok-contents.ensures.places
+    c.in_ok-contents.ensures.indexes
 
 pub returns-clause-readable : goal.returns-clause-readable
 returns-clause-readable g c =
