@@ -19,7 +19,7 @@ use Rattle.part_reader.proofs.CutRows.{chosen_every}
 use Rattle.column_file.specs.Spellings.{with_values}
 use Rattle.mt_outside.specs.Files.{Files}
 use Rattle.final_fold.specs.declared.asking.Task.{Task}
-use Rattle.final_fold.specs.Asked.{met_rows}
+use Rattle.final_fold.specs.Asked.{AreSure, met_rows}
 use Rattle.final_fold.specs.Matches.{granules_met, mask_met}
 use Rattle.final_fold.specs.Scans.{values_at}
 use Rattle.final_fold.proofs.Granules.{met_where, where_filter}
@@ -81,7 +81,7 @@ values_there rows (p ∷ ps) (c ∷ cs) (suc at) place column are p_is c_is =
 
 -- the rows of a part that meet the condition, where the part holds rows
 abbrev pub AreMetRows : {F : Type 0} → (F → Option Files) → Task F → List Row → Type 0
-AreMetRows files_of task met = (rows : List Row) × PartHolds files_of task.wanted.schema.now task.part.now rows × (met ≡ met_rows task rows)
+AreMetRows files_of task met = (rows : List Row) × PartHolds files_of task.wanted.schema.now task.part.now rows × AreSure task rows × (met ≡ met_rows task rows)
 
 -- a column got values: as many for each, and where the rows are known those at its place
 pub record GainsRows (IsRead : List Row → Type 0) (count place : ℕ) (old new : Cells) : Type 0 where

@@ -2,6 +2,9 @@ pub mod Asks
 pub mod Explained
 pub mod Gains
 pub mod Granules
+pub mod Joining
+pub mod Making
 pub mod Picking
 pub mod Renamed
 pub mod Scanning
+pub mod Sure

@@ -1,15 +1,12 @@
 -- A condition over the values of the columns that its tests name.
-use Rattle.std.proofs.Common.{◌≡◌, ◌≢◌, ℕ, zero, suc, ◌+◌, ◌<◌, ◌⊎◌, inl, inr, true, false, not, ◌&&◌, ◌||◌, cond, List, [], ◌∷◌, ◌++◌, Some, refl, sym, ap, ap₂, ◌∙◌, length, length-append, map, get_or, slice_get, take, All, arith, option_and_then}
+use Rattle.std.proofs.Common.{◌≡◌, ◌≢◌, ℕ, zero, suc, ◌+◌, ◌<◌, ◌⊎◌, inl, inr, true, false, not, ◌&&◌, ◌||◌, cond, List, [], ◌∷◌, ◌++◌, Some, refl, sym, ap, ap₂, ◌∙◌, length, map, get_or, slice_get, take, All, arith, option_and_then}
 use Rattle.std.specs.List.{AllPairs, filter}
 use Rattle.std.proofs.Math.Dec.{eqb}
 use Rattle.std.proofs.lemmas.Bool.Decides.{eqb_tells}
 use Rattle.std.proofs.lemmas.List.Elements.{All-cons, All-head, All-nil, All-tail}
 use Rattle.std.proofs.lemmas.Option.{get_or_from_slice_get, same_Some, slice_get_within}
-use Rattle.mt_values.specs.declared.expr.Joint.{Joint}
-use Rattle.mt_values.specs.declared.expr.Joint.TheVariants as joint
 use Rattle.mt_values.specs.declared.expr.Test.{Test}
 use Rattle.mt_values.specs.Conditions.{Condition, Always, And, Holds, Not, Or, map_tests, tests_of}
-use Rattle.mt_values.specs.Polish.{joints_of}
 use Rattle.mt_values.specs.Order.{key_of}
 use Rattle.mt_values.specs.Tests.{eval, meets_at, meets_some}
 use Rattle.mt_values.specs.Values.{Row}
@@ -95,32 +92,7 @@ moved_more (q ∷ qs) (u ∷ us) (suc i) p t even within p_is t_is =
     let next : suc i + 1 ≡ suc (i + 1) = omega arith in
     ap (λ n. moved_to (take n (q ∷ qs)) (take n (u ∷ us))) next ∙ ap (λ (ts : List Test). record u { column = q } ∷ ts) (moved_more qs us i p t (omega (arith, even)) (omega (arith, within)) p_is t_is)
 
--- ---- no condition
-
-joints_some : {T : Type 0} (c : Condition T) → 0 < length (joints_of c)
-joints_some Always = omega arith
-joints_some (Holds t) = omega arith
-joints_some (Not c) = omega (arith, length-append (joints_of c) (joint.Not ∷ []))
-joints_some (And a b) = omega (arith, length-append (joints_of a ++ joints_of b) (joint.And ∷ []), length-append (joints_of a) (joints_of b))
-joints_some (Or a b) = omega (arith, length-append (joints_of a ++ joints_of b) (joint.Or ∷ []), length-append (joints_of a) (joints_of b))
-
--- its joint stands alone
-pub always_alone : {T : Type 0} (c : Condition T) (joints : List Joint) → joints ≡ joints_of c → length joints ≡ 1 → get_or joints 0 joint.Always ≡ joint.Always → c ≡ Always
-always_alone Always joints are one first = refl
-always_alone (Holds t) joints are one first =
-    let same : joint.Test ≡ joint.Always = sym (ap (λ (js : List Joint). get_or js 0 joint.Always) are) ∙ first in
-    cc
-always_alone (Not c) joints are one first =
-    let some = joints_some c in
-    absurd (omega (arith, some, one, ap length are, length-append (joints_of c) (joint.Not ∷ [])))
-always_alone (And a b) joints are one first =
-    let some = joints_some b in
-    absurd (omega (arith, some, one, ap length are, length-append (joints_of a ++ joints_of b) (joint.And ∷ []), length-append (joints_of a) (joints_of b)))
-always_alone (Or a b) joints are one first =
-    let some = joints_some b in
-    absurd (omega (arith, some, one, ap length are, length-append (joints_of a ++ joints_of b) (joint.Or ∷ []), length-append (joints_of a) (joints_of b)))
-
--- without one all rows are kept
+-- all rows are kept where a test is true of each
 pub all_kept : {X : Type 0} (xs : List X) → filter (λ x. true) xs ≡ xs
 all_kept [] = refl
 all_kept (x ∷ xs) = ap (λ ys. x ∷ ys) (all_kept xs)

@@ -1,6 +1,6 @@
 -- Which rows meet a condition, and in which granules they are (docs/architecture.md, "The way of a SELECT").
 use Rattle.std.specs.Prelude.{◌≡◌, ℕ, Bool, true, false, cond, List, [], ◌∷◌, ◌++◌, length, map, take, drop, slice_get, All, Option, Some}
-use Rattle.std.specs.List.{AllZip, filter, list_any}
+use Rattle.std.specs.List.{AllZip, filter, zip}
 use Rattle.column_file.specs.Marks.{granules}
 use Rattle.mt_values.specs.declared.expr.Test.{Test}
 use Rattle.mt_values.specs.Conditions.{Condition}
@@ -20,7 +20,8 @@ use Rattle.part_set.specs.declared.kept.Kept.{Kept}
 use Rattle.final_fold.specs.declared.asking.Task.{Task}
 use Rattle.final_fold.specs.declared.asking.Wanted.{Wanted}
 use Rattle.final_fold.specs.declared.found.Matches.{Matches}
-use Rattle.final_fold.specs.Asked.{chosen_rows, named}
+pub use Rattle.final_fold.specs.Asked.{some_true}
+use Rattle.final_fold.specs.Asked.{AreSure, MeetUnasked, chosen_rows, named}
 use Rattle.final_fold.specs.Scans.{HaveTypes, values_at}
 
 -- the rows that meet a condition, in order (ClickHouse, SELECT: WHERE)
@@ -37,13 +38,14 @@ abbrev pub HoldEachMatch : Wanted → List (List Bool) → List (List Row) → T
 HoldEachMatch w chosen rows =
     AllZip (λ (c : List Bool) (r : List Row). matching w.condition.now (chosen_of w.schema.now.granularity c r) ≡ matching w.condition.now r) chosen rows
 
+-- where a conjunct is not asked in a chosen granule of a part, each row of the granule meets it
+abbrev pub MeetWhereUnasked : Wanted → List (List Bool) → List (List (List Bool)) → List (List Row) → Type 0
+MeetWhereUnasked w chosen asked rows =
+    AllZip (λ p r. MeetUnasked w.schema.now.granularity p.0 w.conjuncts.now p.1 r) (zip chosen asked) rows
+
 -- how many answers of a mask are true
 abbrev pub count_true : List Bool → ℕ
 count_true mask = length (where_true mask mask)
-
--- whether an answer is true
-abbrev pub some_true : List Bool → Bool
-some_true mask = list_any (λ b. b) mask
 
 -- of the chosen granules those with a row for which the mask of their rows is true
 abbrev pub granules_met : ℕ → List Bool → List Bool → List Bool
@@ -57,14 +59,14 @@ mask_met g [] mask = []
 mask_met g (true ∷ chosen) mask = cond (some_true (take g mask)) (take g mask) [] ++ mask_met g chosen (drop g mask)
 mask_met g (false ∷ chosen) mask = mask_met g chosen mask
 
--- the columns of the condition as they are in the chosen granules, and which rows of these meet it
+-- the columns of the conjuncts that are asked, as they are in the chosen granules, and which rows of these meet the condition
 pub record AreMatches {F : Type 0} (files_of : F → Option Files) (task : Task F) (m : Matches) : Type 0 where
   pub types : HaveTypes task.wanted.schema.now task.plan.now.asked.items m.columns.items
   pub even : All (λ (c : Cells). length c.values ≡ length m.mask.items) m.columns.items
   pub count : length m.mask.items ≡ chosen_count task.part.now.loaded.schema.granularity task.chosen.now task.part.now.loaded.manifest.rows
   pub granules : m.granules.items ≡ granules_met task.part.now.loaded.schema.granularity task.chosen.now m.mask.items
   pub kept : m.kept.items ≡ mask_met task.part.now.loaded.schema.granularity task.chosen.now m.mask.items
-  pub mask : (rows : List Row) → PartHolds files_of task.wanted.schema.now task.part.now rows → m.mask.items ≡ map (eval task.wanted.condition.now) (chosen_rows task rows)
+  pub mask : (rows : List Row) → PartHolds files_of task.wanted.schema.now task.part.now rows → AreSure task rows → m.mask.items ≡ map (eval task.wanted.condition.now) (chosen_rows task rows)
   pub values : (rows : List Row) → PartHolds files_of task.wanted.schema.now task.part.now rows
       → map (λ (c : Cells). c.values) m.columns.items ≡ values_at (chosen_rows task rows) task.plan.now.asked.items
 

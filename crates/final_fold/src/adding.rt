@@ -1,29 +1,25 @@
 // The rows of one part that meet a condition, added to columns.
-ghost use Rattle.std.specs.Prelude.{◌≡◌, ◌≤◌, ◌+◌, ◌∷◌, [], ℕ, All, IfErr, IfOk, IsErrOf, List, MatchOption, OnOk, Some, length, map, slice_get};
+ghost use Rattle.std.specs.Prelude.{◌≡◌, ◌≤◌, ◌+◌, ℕ, All, IfErr, IfOk, IsErrOf, List, MatchOption, OnOk, Some, length, map, slice_get};
 ghost use Rattle.std.specs.List.{Contains as HasItem};
-ghost use Rattle.mt_base.specs.declared.name.FileId.TheVariants as file;
 ghost use Rattle.mt_outside.specs.Causes.{Rose};
 ghost use Rattle.mt_values.specs.Grid.{Cells, column_of};
-ghost use Rattle.mt_values.specs.declared.schema.Schema.{Schema};
 ghost use Rattle.mt_values.specs.Schemas.{column_types};
 ghost use Rattle.mt_values.specs.Values.{Row};
 ghost use Rattle.column_file.specs.Marks.{granules};
 ghost use Rattle.column_file.specs.Spellings.{with_values};
 ghost use Rattle.part_reader.specs.Faults.{IsNoDamage};
-ghost use Rattle.part_reader.specs.Granules.{ExplainsChosen, chosen_count, chosen_of, column_in};
-ghost use Rattle.part_reader.specs.Parts.{HoldsAt, PartHolds, with_columns};
-ghost use Rattle.final_fold.specs.Asked.{IsTask, chosen_rows, met_rows};
+ghost use Rattle.part_reader.specs.Parts.{PartHolds, with_columns};
+ghost use Rattle.final_fold.specs.Asked.{AreSure, IsTask, chosen_rows, met_rows};
 ghost use Rattle.final_fold.specs.Matches.{AreMatches, ExplainsAsked, count_true};
 ghost use Rattle.final_fold.specs.Scans.{HaveTypes};
 
-use crate::asking::{Task, is_always};
+use crate::asking::Task;
 use crate::counts::count_true;
 use crate::found::{Matches, find_matches};
 use mt_outside::Arm;
-use mt_values::{ColType, ColumnData};
-use part_reader::{Part, PartFault, add_granules, count_chosen};
+use mt_values::ColumnData;
+use part_reader::{PartFault, add_granules, add_granules_where, count_chosen};
 use std::alloc::Global;
-use std::slice;
 
 /// Adds the rows of a part's chosen granules that meet the condition to columns: of each the values at the wanted places. Returns
 /// how many there are.
@@ -43,10 +39,12 @@ pub(crate) fn add_part<R: Arm>(
     // What the columns get.
     ensures values { (rows : List Row)
         → PartHolds R.Dir.files task.now.wanted.schema.now task.now.part.now rows
+        → AreSure task.now rows
         → OnOk result (columns.new ≡ with_columns (met_rows task.now rows)
         task.now.wanted.places.now columns.old) }
     ensures counted { (rows : List Row)
         → PartHolds R.Dir.files task.now.wanted.schema.now task.now.part.now rows
+        → AreSure task.now rows
         → IfOk result (λ count. count ≡ length (met_rows task.now rows)) }
     ensures even { (n : ℕ) → All (λ (c : Cells). length c.values ≡ n) columns.old
         → IfOk result (λ count. All (λ (c : Cells). length c.values ≡ n + count) columns.new) }
@@ -68,13 +66,13 @@ pub(crate) fn add_part<R: Arm>(
     ensures fault { IsErrOf result PartFault.Fault → Rose (R.failed arm.old) (R.failed arm.new) }
     ensures calm { (IsErrOf result PartFault.Fault → ⊥) → R.failed arm.new ≡ R.failed arm.old }
 {
-    if is_always(task.wanted.condition) {
+    if task.plan.sieves.is_empty() {
         return add_chosen(alloc, arm, task, columns);
     }
     add_matching(alloc, arm, task, columns)
 }
 
-/// Adds all rows of the chosen granules, where there is no condition.
+/// Adds all rows of the chosen granules, where no conjunct is asked.
 ///
 /// The errors are those of `add_part`.
 fn add_chosen<R: Arm>(
@@ -128,8 +126,8 @@ fn add_chosen<R: Arm>(
     Ok(count)
 }
 
-/// Adds the rows of the chosen granules that meet the condition: the columns that it names are read first, and then the others in the
-/// granules that have such a row.
+/// Adds the rows of the chosen granules that meet the condition: the columns of the conjuncts that are asked are read first, and then
+/// the others in the granules that have such a row.
 ///
 /// The errors are those of `add_part`.
 fn add_matching<R: Arm>(
@@ -144,10 +142,12 @@ fn add_matching<R: Arm>(
     // What the columns get.
     ensures values { (rows : List Row)
         → PartHolds R.Dir.files task.now.wanted.schema.now task.now.part.now rows
+        → AreSure task.now rows
         → OnOk result (columns.new ≡ with_columns (met_rows task.now rows)
         task.now.wanted.places.now columns.old) }
     ensures counted { (rows : List Row)
         → PartHolds R.Dir.files task.now.wanted.schema.now task.now.part.now rows
+        → AreSure task.now rows
         → IfOk result (λ count. count ≡ length (met_rows task.now rows)) }
     ensures even { (n : ℕ) → All (λ (c : Cells). length c.values ≡ n) columns.old
         → IfOk result (λ count. All (λ (c : Cells). length c.values ≡ n + count) columns.new) }
@@ -176,8 +176,8 @@ fn add_matching<R: Arm>(
     Ok(count_true(&matches.mask))
 }
 
-/// Adds the values that the rows which meet the condition have at a place to a column. A column that the condition names is not read
-/// again; another one is read in the granules that have such a row.
+/// Adds the values that the rows which meet the condition have at a place to a column. A column that was read to ask the
+/// condition is not read again; another one is read in the granules that have such a row, and what other rows have is not kept.
 ///
 /// The errors are those of `add_part`.
 fn add_column<R: Arm>(
@@ -197,6 +197,7 @@ fn add_column<R: Arm>(
     // What the column gets.
     ensures values { (rows : List Row)
         → PartHolds R.Dir.files task.now.wanted.schema.now task.now.part.now rows
+        → AreSure task.now rows
         → OnOk result (column.new ≡ with_values column.old
         (column_of place (met_rows task.now rows))) }
     ensures even { OnOk result (length column.new.values
@@ -218,18 +219,15 @@ fn add_column<R: Arm>(
     ensures calm { (IsErrOf result PartFault.Fault → ⊥) → R.failed arm.new ≡ R.failed arm.old }
 {
     let Some(at) = position_of(task.plan.asked.as_slice(), place) else {
-        let own = read_column(
+        return add_granules_where(
             alloc,
             arm,
             task.part,
             &matches.granules,
+            &matches.kept,
             place,
-            column.col_type(),
-        )?;
-        let Ok(()) = column.add_where(&own, &matches.kept) else {
-            return Err(PartFault::NoMemory);
-        };
-        return Ok(());
+            column,
+        );
     };
     let Ok(()) = column.add_where(&matches.columns[at], &matches.mask) else {
         return Err(PartFault::NoMemory);
@@ -243,53 +241,4 @@ fn position_of(asked: &[u32], place: u32) -> Option<usize>
         (λ at. slice_get asked.now at ≡ Some place) }
 {
     asked.iter().position(|column| *column == place)
-}
-
-/// The values of a part's column with this number, in the chosen granules, read as values of this type.
-///
-/// The errors are those of `add_granules`.
-fn read_column<R: Arm>(
-    alloc: Global,
-    arm: &mut R,
-    part: &Part<R::Dir>,
-    chosen: &[bool],
-    number: u32,
-    col_type: ColType,
-) -> Result<ColumnData, PartFault>
-    // What is read.
-    ensures values { (schema : Schema) (rows : List Row)
-        → HoldsAt R.Dir.files schema part.now (file.Column number ∷ []) rows
-        → slice_get (column_types schema) number ≡ Some col_type
-        → IfOk result (λ column. column.values ≡ column_of number
-        (chosen_of part.now.loaded.schema.granularity chosen.now rows)) }
-    ensures count { IfOk result (λ column. length column.values ≡ chosen_count
-        part.now.loaded.schema.granularity chosen.now part.now.loaded.manifest.rows) }
-    ensures typed { IfOk result (λ column. column.col_type ≡ col_type) }
-
-    // What a fault says.
-    ensures sound { (schema : Schema) (rows : List Row)
-        → HoldsAt R.Dir.files schema part.now (file.Column number ∷ []) rows
-        → slice_get (column_types schema) number ≡ Some col_type
-        → length chosen.now ≡ granules schema.granularity (length rows)
-        → IfErr result IsNoDamage }
-    ensures damaged { IfErr result
-        (ExplainsChosen (column_in R.Dir.files part.now number) chosen.now col_type) }
-
-    // What the arm is then, and its count of faults.
-    ensures tells { R.tells arm.new ≡ R.tells arm.old }
-    ensures later { R.failed arm.old ≤ R.failed arm.new }
-    ensures fault { IsErrOf result PartFault.Fault → Rose (R.failed arm.old) (R.failed arm.new) }
-    ensures calm { (IsErrOf result PartFault.Fault → ⊥) → R.failed arm.new ≡ R.failed arm.old }
-{
-    let mut column = ColumnData::new(alloc, col_type);
-    let places = slice::from_ref(&number);
-    add_granules(
-        alloc,
-        arm,
-        part,
-        chosen,
-        places,
-        slice::from_mut(&mut column),
-    )?;
-    Ok(column)
 }

@@ -1,4 +1,4 @@
-// Which rows of a part's chosen granules meet a condition, by the columns that its tests name.
+// Which rows of a part's chosen granules meet a condition, by the columns of the conjuncts that are asked.
 ghost use Rattle.std.specs.Prelude.{◌≡◌, ◌≤◌, IfErr, IfOk, IsErrOf, List, length};
 ghost use Rattle.column_file.specs.Marks.{granules};
 ghost use Rattle.mt_outside.specs.Causes.{Rose};
@@ -10,17 +10,17 @@ ghost use Rattle.final_fold.specs.Matches.{AreMatches, ExplainsAsked, granules_m
 
 use crate::asking::Task;
 use crate::counts::some_true;
+use crate::sifting::{Read, sifted};
 use mt_base::NoMemory;
 use mt_outside::Arm;
 use mt_values::ColumnData;
 use part_reader::{PartFault, add_granules, count_chosen, empty_columns};
-use predicate::mask;
 use std::alloc::Global;
 
 /// What the condition is of the rows of a part's chosen granules.
 #[derive(Drop)]
 pub(crate) struct Matches {
-    /// The columns that its tests name, with the values of these rows.
+    /// The columns that the conjuncts name which are asked, with the values of these rows.
     pub columns: Vec<ColumnData>,
     /// Whether each of these rows meets it.
     pub mask: Vec<bool>,
@@ -37,8 +37,8 @@ pub(crate) struct Met {
     pub kept: Vec<bool>,
 }
 
-/// Asks the condition of the rows of a part's chosen granules. Of the part the columns that its tests name are read, each once, and
-/// in these granules alone.
+/// Asks the condition of the rows of a part's chosen granules, each conjunct where it is asked. Of the part the columns are read that
+/// the conjuncts name which are asked somewhere, each once, and in the chosen granules alone.
 ///
 /// The errors are those of `add_granules`, and `NoMemory` where 32 bits can't count the rows.
 pub(crate) fn find_matches<R: Arm>(
@@ -72,10 +72,16 @@ pub(crate) fn find_matches<R: Arm>(
         return Err(PartFault::NoMemory);
     };
     add_granules(alloc, arm, part, task.chosen, asked, &mut columns)?;
-    let Ok(answers) = mask(alloc, &task.plan.condition, &columns, rows) else {
+    let granularity = part.loaded.schema.granularity;
+    let read = Read {
+        columns: &columns,
+        rows,
+        chosen: task.chosen,
+        granularity,
+    };
+    let Ok(answers) = sifted(alloc, &read, &task.plan.sieves) else {
         return Err(PartFault::NoMemory);
     };
-    let granularity = part.loaded.schema.granularity;
     let Ok(met) = granules_met(alloc, granularity, task.chosen, &answers) else {
         return Err(PartFault::NoMemory);
     };

@@ -7,6 +7,7 @@ mod counts;
 mod found;
 mod matches;
 mod picked;
+mod sifting;
 
 pub use asking::Wanted;
 pub use counts::count_rows;

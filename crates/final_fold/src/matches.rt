@@ -5,7 +5,7 @@ ghost use Rattle.mt_values.specs.Grid.{Cells};
 ghost use Rattle.mt_values.specs.Values.{Row};
 ghost use Rattle.part_reader.specs.Faults.{IsNoDamage};
 ghost use Rattle.final_fold.specs.Asked.{IsWanted};
-ghost use Rattle.final_fold.specs.Matches.{ExplainsMatches, HoldEachMatch, SayOfEach, matching};
+ghost use Rattle.final_fold.specs.Matches.{ExplainsMatches, HoldEachMatch, MeetWhereUnasked, SayOfEach, matching};
 ghost use Rattle.final_fold.specs.Scans.{HaveTypes, PartsHold, joined_rows, rows_kept, values_at};
 
 use crate::adding::add_part;
@@ -19,8 +19,9 @@ use part_set::Kept;
 use std::alloc::Global;
 
 /// Adds the rows of a table's parts that meet a condition to columns, part by part: of each the values at the wanted places. Of a
-/// part the granules alone are read that are chosen: the columns that the condition names first, each once, and the others in the
-/// granules that have a row which meets it. Returns how many rows were added.
+/// part the granules alone are read that are chosen: first the columns of the conjuncts that are asked somewhere in it, each once, and
+/// then the others in the granules that have a row which meets the condition. In the chosen granules in which a conjunct is not asked
+/// each row is taken to meet it. Returns how many rows were added.
 ///
 /// The name of the part of which a column could not be read, and why: `Damaged` where its bytes in some chosen granules are damaged,
 /// never where the parts hold rows of the table, and it is said of each of their granules whether it is chosen; `Fault` only where the
@@ -31,23 +32,27 @@ pub fn add_matches<R: Arm>(
     arm: &mut R,
     parts: &[Kept<Part<R::Dir>>],
     chosen: &[Seq<bool>],
+    asked: &[Seq<Seq<bool>>],
     wanted: &Wanted,
     columns: &mut [ColumnData],
 ) -> Result<usize, (PartName, PartFault)>
     requires wanted { IsWanted wanted.now }
     requires columns { HaveTypes wanted.now.schema.now wanted.now.places.now columns.old }
     requires chosen { length chosen.now ≡ length parts.now }
+    requires asked { length asked.now ≡ length parts.now }
 
     // What the columns get.
     ensures values { (rows : List (List Row))
         → PartsHold R.Dir.files wanted.now.schema.now parts.now rows
         → HoldEachMatch wanted.now chosen.now rows
+        → MeetWhereUnasked wanted.now chosen.now asked.now rows
         → map (λ (c : Cells). c.values) columns.old ≡ values_at [] wanted.now.places.now
         → OnOk result (map (λ (c : Cells). c.values) columns.new ≡ values_at
         (matching wanted.now.condition.now (joined_rows rows)) wanted.now.places.now) }
     ensures counted { (rows : List (List Row))
         → PartsHold R.Dir.files wanted.now.schema.now parts.now rows
         → HoldEachMatch wanted.now chosen.now rows
+        → MeetWhereUnasked wanted.now chosen.now asked.now rows
         → IfOk result (λ count. count ≡ length
         (matching wanted.now.condition.now (joined_rows rows))) }
     ensures even { All (λ (c : Cells). length c.values ≡ 0) columns.old
@@ -71,17 +76,16 @@ pub fn add_matches<R: Arm>(
     ensures calm_err { IfErr result
         (λ e. (e.1 ≡ PartFault.Fault → ⊥) → R.failed arm.new ≡ R.failed arm.old) }
 {
-    let Some(first) = parts.first() else {
-        return Ok(0);
-    };
-    let Ok(plan) = make_plan(alloc, wanted) else {
-        return Err((first.name, PartFault::NoMemory));
-    };
     let mut count: usize = 0;
     for (number, kept) in parts.iter().enumerate() {
+        let own = asked[number].as_slice();
+        let Ok(plan) = make_plan(alloc, wanted, own) else {
+            return Err((kept.name, PartFault::NoMemory));
+        };
         let task = Task {
             part: &kept.part,
             chosen: chosen[number].as_slice(),
+            asked: own,
             wanted: *wanted,
             plan: &plan,
         };

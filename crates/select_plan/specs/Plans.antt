@@ -1,22 +1,38 @@
--- Which granules of a table's parts are read, and how many they are (docs/definitions.md, "Boxes of granules").
-use Rattle.std.specs.Prelude.{Bool, List, length, map}
+-- Which granules of a table's parts are read, and how many they are (docs/definitions.md, "Boxes of granules", "Boxes of skip indexes").
+use Rattle.std.specs.Prelude.{[], Bool, List, fold, length, map}
 use Rattle.std.specs.List.{count_by, list_any, sum_by}
 use Rattle.mt_values.specs.declared.expr.Test.{Test}
 use Rattle.mt_values.specs.declared.schema.Schema.{Schema}
-use Rattle.mt_values.specs.Conditions.{Condition}
+use Rattle.mt_values.specs.Conditions.{Condition, conjuncts_of}
 use Rattle.mt_model.specs.declared.counts.Counts.{Counts}
 use Rattle.part_reader.specs.declared.reading.Part.{Part}
 use Rattle.part_set.specs.declared.kept.Kept.{Kept}
 use Rattle.part_set.specs.declared.kept.Snap.{Snap}
-use Rattle.predicate.specs.Granules.{chosen_in}
+use Rattle.predicate.specs.Granules.{asked_in, chosen_in}
+use Rattle.predicate.specs.Masks.{both}
+use Rattle.skip_index.specs.declared.index.Index.{Index}
+use Rattle.skip_index.specs.Choosing.{chosen_by}
 
--- which granules of a part are read: those in whose box the condition may be true (docs/definitions.md, "Boxes of granules")
+-- which granules of a part are read: those that its marks choose, and of these the ones that each of its skip indexes leaves (docs/definitions.md, "Boxes of skip indexes")
 abbrev pub planned_part : {F : Type 0} → Schema → Condition Test → Kept (Part F) → List Bool
-planned_part schema c k = chosen_in schema k.name.partition c k.part.loaded.marks
+planned_part schema c k =
+    fold both (chosen_in schema k.name.partition c k.part.loaded.marks) (map (λ (index : Index). chosen_by index c []) k.part.loaded.indexes)
 
 -- the same of each part of a pinned table (docs/definitions.md, "Boxes of granules")
 abbrev pub planned : {F : Type 0} → Snap (Part F) → Condition Test → List (List Bool)
 planned {F} snap c = map (λ (k : Kept (Part F)). planned_part snap.schema c k) snap.parts.items
+
+-- in which granules of a part a conjunct of a condition is asked: of those that are read the ones in whose box it may be false (docs/definitions.md, "Boxes of granules")
+abbrev pub asked_of : {F : Type 0} → Schema → Condition Test → Kept (Part F) → Condition Test → List Bool
+asked_of schema c k d = both (asked_in schema k.name.partition d k.part.loaded.marks) (planned_part schema c k)
+
+-- the same of each conjunct (docs/definitions.md, "Boxes of granules")
+abbrev pub asked_part : {F : Type 0} → Schema → Condition Test → Kept (Part F) → List (List Bool)
+asked_part schema c k = map (asked_of schema c k) (conjuncts_of c)
+
+-- the same of each part of a pinned table (docs/definitions.md, "Boxes of granules")
+abbrev pub asked_over : {F : Type 0} → Snap (Part F) → Condition Test → List (List (List Bool))
+asked_over {F} snap c = map (λ (k : Kept (Part F)). asked_part snap.schema c k) snap.parts.items
 
 -- how many parts and granules there are, and how many of them are read (docs/definitions-of-runs.md, "Explained reads")
 abbrev pub counts_over : List (List Bool) → Counts

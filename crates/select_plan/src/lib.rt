@@ -3,6 +3,8 @@
 
 mod choosing;
 mod counting;
+mod laws;
 
 pub use choosing::plan;
 pub use counting::Plan;
+pub use laws::granules_are_read_where_each_box_may_match;

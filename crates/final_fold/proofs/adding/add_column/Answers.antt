@@ -1,12 +1,12 @@
-use Rattle.std.proofs.Common.{◌≡◌, ◌∙◌, ◌+◌, Some, ap, arith, length, length-append, refl, slice_get, subst, sym}
+use Rattle.std.proofs.Common.{◌≡◌, ◌∙◌, ◌+◌, Some, ap, ap₂, arith, length, length-append, refl, slice_get, subst, sym}
 use Rattle.std.proofs.lemmas.Option.{slice_get_read, slice_get_within}
 use Rattle.mt_values.specs.Grid.{Cells, column_of}
 use Rattle.mt_values.specs.Lists.{where_true}
 use Rattle.column_file.specs.Spellings.{with_values}
-use Rattle.part_reader.specs.Faults.{IsNoDamage}
-use Rattle.part_reader.specs.Granules.{chosen_count, chosen_of}
-use Rattle.part_reader.proofs.Gaining.{handed_on}
-use Rattle.final_fold.specs.Matches.{AreAmong, ExplainsAsked}
+use Rattle.part_reader.specs.Granules.{ExplainsChosen, chosen_count, chosen_of, column_in}
+use Rattle.part_reader.proofs.PickedValues.{on_err, on_ok}
+use Rattle.final_fold.specs.Asked.{met_rows}
+use Rattle.final_fold.specs.Matches.{AreAmong, ExplainsAsked, count_true}
 use Rattle.final_fold.proofs.Asks.{kept_count, kept_even, known_even, known_rows, known_type, met_granules, one_held, read_rows}
 use Rattle.final_fold.proofs.Explained.{one_explained}
 use Rattle.final_fold.proofs.Granules.{met_chosen, where_count}
@@ -15,47 +15,46 @@ use Rattle.final_fold.proofs.adding.add_column.Goals as goal
 use Rattle.final_fold.proofs.adding.add_column.Goals.{After-index}
 use Rattle.final_fold.proofs.adding.add_column.Given.{Over}
 
-pub returns-in_err-own-clause-sound : goal.returns-in_err-own-clause-sound
-returns-in_err-own-clause-sound g c = λ rows holds counted.
-    let task = c.args.task.now in
-    handed_on IsNoDamage c.from_residual.result c.in_err-own.field-0.0 c.from_residual.ensures.1
-    (c.in_err-own.ensures.sound task.wanted.schema.now rows (one_held g.R.Dir.Dir.files task c.requires.task rows holds c.args.place c.args.column.now.col_type c.requires.column) (c.requires.column ∙ ap Some (sym c.col_type.ensures))
-    (ap length c.deref.ensures.value ∙ met_granules g.R.Dir.Dir.files c.args.task.now c.requires.task c.args.matches.now c.requires.matches ∙ counted))
-
-pub returns-in_err-own-clause-damaged : goal.returns-in_err-own-clause-damaged
-returns-in_err-own-clause-damaged g c =
-    let task = c.args.task.now in
-    let m = c.args.matches.now in
-    let among : AreAmong c.deref.result.now task.chosen.now = subst (λ cs. AreAmong cs task.chosen.now) (sym (c.deref.ensures.value ∙ c.requires.matches.granules)) (met_chosen task.part.now.loaded.schema.granularity task.chosen.now m.mask.items) in
-    handed_on (ExplainsAsked g.R.Dir.Dir.files task.part.now task.chosen.now task.wanted) c.from_residual.result c.in_err-own.field-0.0 c.from_residual.ensures.1
-    (one_explained g.R.Dir.Dir.files task.part.now task.chosen.now task.wanted c.deref.result.now c.args.place c.col_type.result c.in_err-own.field-0.0 among c.requires.listed (c.requires.column ∙ ap Some (sym c.col_type.ensures)) c.in_err-own.ensures.damaged)
-
-pub add_where-requires-clause-even : goal.add_where-requires-clause-even
-add_where-requires-clause-even g c =
+-- a column that was not asked
+pub add_granules_where-requires-clause-even : goal.add_granules_where-requires-clause-even
+add_granules_where-requires-clause-even g c κs within =
     ap length c.deref-in_default.ensures.value
-    ∙ kept_even g.R.Dir.Dir.files c.args.task.now c.requires.task c.args.matches.now c.requires.matches c.in_ok-own.own.values
-    (c.in_ok-own.ensures.count ∙ ap (λ cs. chosen_count c.args.task.now.part.now.loaded.schema.granularity cs c.args.task.now.part.now.loaded.manifest.rows) c.deref.ensures.value)
+    ∙ kept_even g.R.Dir.Dir.files c.args.task.now c.requires.task c.args.matches.now c.requires.matches
+    ∙ ap (λ cs. chosen_count c.args.task.now.part.now.loaded.schema.granularity cs c.args.task.now.part.now.loaded.manifest.rows) (sym c.deref.ensures.value)
 
 pub returns-in_default-clause-values : goal.returns-in_default-clause-values
-returns-in_default-clause-values g c = λ rows holds.
+returns-in_default-clause-values g c = λ rows holds sure.
     let task = c.args.task.now in
-    let read = c.in_ok-own.ensures.values task.wanted.schema.now rows (one_held g.R.Dir.Dir.files task c.requires.task rows holds c.args.place c.args.column.now.col_type c.requires.column) (c.requires.column ∙ ap Some (sym c.col_type.ensures)) in
-    c.in-Ok.ensures
-    ∙ ap (with_values c.args.column.now)
-    (ap (λ m. where_true m c.in_ok-own.own.values) c.deref-in_default.ensures.value
-    ∙ read_rows g.R.Dir.Dir.files task c.requires.task c.args.matches.now c.requires.matches rows holds c.args.place c.args.column.now.col_type c.requires.column c.in_ok-own.own.values
-    (read ∙ ap (λ cs. column_of c.args.place (chosen_of task.part.now.loaded.schema.granularity cs rows)) c.deref.ensures.value))
+    let held = one_held g.R.Dir.Dir.files task c.requires.task rows holds c.args.place c.args.column.now.col_type c.requires.column in
+    let size = task.part.now.loaded.schema.granularity in
+    let same : where_true c.deref-in_default.result.now (column_of c.args.place (chosen_of size c.deref.result.now rows)) ≡ column_of c.args.place (met_rows task rows) =
+    ap₂ (λ m cs. where_true m (column_of c.args.place (chosen_of size cs rows))) c.deref-in_default.ensures.value c.deref.ensures.value
+    ∙ read_rows g.R.Dir.Dir.files task c.requires.task c.args.matches.now c.requires.matches rows holds c.args.place c.args.column.now.col_type c.requires.column sure (column_of c.args.place (chosen_of size c.args.matches.now.granules.items rows)) refl in
+    on_ok c.add_granules_where.result (λ e. e ∙ ap (with_values c.args.column.now) same) (c.add_granules_where.ensures.values task.wanted.schema.now rows held c.requires.column)
 
 pub returns-in_default-clause-even : goal.returns-in_default-clause-even
 returns-in_default-clause-even g c =
-    let even = kept_even g.R.Dir.Dir.files c.args.task.now c.requires.task c.args.matches.now c.requires.matches c.in_ok-own.own.values
-    (c.in_ok-own.ensures.count ∙ ap (λ cs. chosen_count c.args.task.now.part.now.loaded.schema.granularity cs c.args.task.now.part.now.loaded.manifest.rows) c.deref.ensures.value) in
-    ap (λ (x : Cells). length x.values) c.in-Ok.ensures
-    ∙ length-append c.args.column.now.values (where_true c.deref-in_default.result.now c.in_ok-own.own.values)
+    on_ok c.add_granules_where.result
+    (λ e.
+    e
     ∙ ap (λ n. length c.args.column.now.values + n)
-    (ap (λ m. length (where_true m c.in_ok-own.own.values)) c.deref-in_default.ensures.value
-    ∙ kept_count g.R.Dir.Dir.files c.args.task.now c.requires.task c.args.matches.now c.requires.matches c.in_ok-own.own.values even)
+    (ap count_true c.deref-in_default.ensures.value ∙ kept_count g.R.Dir.Dir.files c.args.task.now c.requires.task c.args.matches.now c.requires.matches)) c.add_granules_where.ensures.count
 
+pub returns-in_default-clause-sound : goal.returns-in_default-clause-sound
+returns-in_default-clause-sound g c = λ rows holds counted.
+    let task = c.args.task.now in
+    c.add_granules_where.ensures.sound task.wanted.schema.now rows (one_held g.R.Dir.Dir.files task c.requires.task rows holds c.args.place c.args.column.now.col_type c.requires.column) c.requires.column
+    (ap length c.deref.ensures.value ∙ met_granules g.R.Dir.Dir.files task c.requires.task c.args.matches.now c.requires.matches ∙ counted)
+
+pub returns-in_default-clause-damaged : goal.returns-in_default-clause-damaged
+returns-in_default-clause-damaged g c =
+    let task = c.args.task.now in
+    let m = c.args.matches.now in
+    let among : AreAmong c.deref.result.now task.chosen.now = subst (λ cs. AreAmong cs task.chosen.now) (sym (c.deref.ensures.value ∙ c.requires.matches.granules)) (met_chosen task.part.now.loaded.schema.granularity task.chosen.now m.mask.items) in
+    on_err (ExplainsChosen (column_in g.R.Dir.Dir.files task.part.now c.args.place) c.deref.result.now c.args.column.now.col_type) (ExplainsAsked g.R.Dir.Dir.files task.part.now task.chosen.now task.wanted) c.add_granules_where.result
+    (λ e why. one_explained g.R.Dir.Dir.files task.part.now task.chosen.now task.wanted c.deref.result.now c.args.place c.args.column.now.col_type e among c.requires.listed c.requires.column why) c.add_granules_where.ensures.damaged
+
+-- one that was asked
 pub index-requires : goal.index-requires
 index-requires g c =
     let task = c.args.task.now in
@@ -75,29 +74,29 @@ here g c =
 position : (g : Over) (c : After-index g) → slice_get c.args.task.now.plan.now.asked.items c.in-Some.at ≡ Some c.args.place
 position g c = ap (λ ps. slice_get ps c.in-Some.at) (sym c.as_slice.ensures.value) ∙ c.in-Some.ensures
 
-pub add_where-requires-2-clause-same : goal.add_where-requires-2-clause-same
-add_where-requires-2-clause-same g c =
-    let d = (goal.at.add_where-requires-2-clause-same g c).After-index in
+pub add_where-requires-clause-same : goal.add_where-requires-clause-same
+add_where-requires-clause-same g c =
+    let d = (goal.at.add_where-requires-clause-same g c).After-index in
     known_type g.R.Dir.Dir.files c.args.task.now c.requires.task c.args.matches.now c.requires.matches c.in-Some.at c.args.place c.index.result.now c.args.column.now.col_type (position g d) (here g d) c.requires.column
 
-pub add_where-requires-2-clause-even : goal.add_where-requires-2-clause-even
-add_where-requires-2-clause-even g c =
-    let d = (goal.at.add_where-requires-2-clause-even g c).After-index in
+pub add_where-requires-clause-even : goal.add_where-requires-clause-even
+add_where-requires-clause-even g c =
+    let d = (goal.at.add_where-requires-clause-even g c).After-index in
     ap length c.deref-2.ensures.value
     ∙ sym (known_even g.R.Dir.Dir.files c.args.task.now c.requires.task c.args.matches.now c.requires.matches c.in-Some.at c.index.result.now (here g d))
 
 pub returns-clause-values : goal.returns-clause-values
-returns-clause-values g c = λ rows holds.
+returns-clause-values g c = λ rows holds sure.
     let d = (goal.at.returns-clause-values g c).After-index in
-    c.in-Ok-add_where.ensures
+    c.in-Ok.ensures
     ∙ ap (with_values c.args.column.now)
     (ap (λ m. where_true m c.index.result.now.values) c.deref-2.ensures.value
-    ∙ known_rows g.R.Dir.Dir.files c.args.task.now c.requires.task c.args.matches.now c.requires.matches rows holds c.args.place c.args.column.now.col_type c.requires.column c.in-Some.at c.index.result.now (position g d) (here g d))
+    ∙ known_rows g.R.Dir.Dir.files c.args.task.now c.requires.task c.args.matches.now c.requires.matches rows holds c.args.place c.args.column.now.col_type c.requires.column sure c.in-Some.at c.index.result.now (position g d) (here g d))
 
 pub returns-clause-even : goal.returns-clause-even
 returns-clause-even g c =
     let d = (goal.at.returns-clause-even g c).After-index in
-    ap (λ (x : Cells). length x.values) c.in-Ok-add_where.ensures
+    ap (λ (x : Cells). length x.values) c.in-Ok.ensures
     ∙ length-append c.args.column.now.values (where_true c.deref-2.result.now c.index.result.now.values)
     ∙ ap (λ n. length c.args.column.now.values + n)
     (ap (λ m. length (where_true m c.index.result.now.values)) c.deref-2.ensures.value

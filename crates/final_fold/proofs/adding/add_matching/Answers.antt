@@ -62,7 +62,7 @@ loop-number-preserved g c =
           (record {
             col_type = e.type_stays;
             even = e.even;
-            values = λ met are. e.values are.0 are.1 ∙ ap (λ rs. with_values old (column_of (get_or places i 0) rs)) (sym are.2);
+            values = λ met are. e.values are.0 are.1 are.2 ∙ ap (λ rs. with_values old (column_of (get_or places i 0) rs)) (sym are.3);
           });
       rest = rest_more olds c.loop-number.columns _ i c.add_column.new.column c.loop-number.invariant.rest refl;
       tells = e.tells ∙ c.loop-number.invariant.tells;
@@ -70,7 +70,7 @@ loop-number-preserved g c =
     }
 
 pub returns-clause-values : goal.returns-clause-values
-returns-clause-values g c = λ rows holds.
+returns-clause-values g c = λ rows holds sure.
     let task = c.args.task.now in
     let w = task.wanted in
     let olds = c.args.columns.now in
@@ -78,13 +78,13 @@ returns-clause-values g c = λ rows holds.
     let long = have_many w.schema.now places olds c.requires.task.wanted.places c.requires.columns in
     let read = AreMetRows g.R.Dir.Dir.files task in
     let count = count_true c.in_ok-matches.matches.mask.items in
-    gained_rows read count (met_rows task rows) places olds c.loop-number.columns (rows, holds, refl)
+    gained_rows read count (met_rows task rows) places olds c.loop-number.columns (rows, holds, sure, refl)
     (read_all (GainsRows read count) places olds c.loop-number.columns c.loop-number.number c.loop-number-test.false (omega (arith, long, c.loop-number.auto.columns)) long c.loop-number.invariant.gained)
 
 pub returns-clause-counted : goal.returns-clause-counted
-returns-clause-counted g c = λ rows holds.
+returns-clause-counted g c = λ rows holds sure.
     let task = c.args.task.now in
-    c.count_true.ensures ∙ ap count_true (c.deref.ensures.value ∙ c.in_ok-matches.ensures.found.mask rows holds)
+    c.count_true.ensures ∙ ap count_true (c.deref.ensures.value ∙ c.in_ok-matches.ensures.found.mask rows holds sure)
     ∙ count_filter (eval task.wanted.condition.now) (chosen_rows task rows)
 
 pub returns-clause-even : goal.returns-clause-even

@@ -1,11 +1,9 @@
 use Rattle.std.proofs.Common.{◌≡◌, ◌∙◌, [], List, All, ap, filter_map, length, map, slice_get, subst, sym, zero-add}
 use Rattle.std.proofs.lemmas.List.{length-map, with_items_is}
 use Rattle.mt_base.specs.declared.name.FileId.TheVariants as file
-use Rattle.mt_values.specs.Grid.{Cells, rows_of}
+use Rattle.mt_values.specs.Grid.{Cells}
 use Rattle.mt_values.specs.Schemas.{column_types}
-use Rattle.mt_values.specs.Tests.{eval}
 use Rattle.mt_values.specs.Values.{Row}
-use Rattle.mt_values.proofs.Grids.{length-rows_of}
 use Rattle.part_reader.specs.Faults.{ExplainsEach, IsNoDamage}
 use Rattle.part_reader.specs.Granules.{ExplainsChosen, column_in}
 use Rattle.part_reader.specs.Parts.{HoldsAt, PartHolds, with_columns}
@@ -14,7 +12,8 @@ use Rattle.part_reader.proofs.Gaining.{handed_on}
 use Rattle.part_reader.proofs.Holding.{holds_at}
 use Rattle.final_fold.specs.Asked.{chosen_rows}
 use Rattle.final_fold.specs.Matches.{ExplainsAsked, granules_met, mask_met}
-use Rattle.final_fold.proofs.Asks.{mask_is, values_are}
+use Rattle.final_fold.specs.Sieves.{PassesUnasked, passes_all}
+use Rattle.final_fold.proofs.Asks.{mask_is, sieves_sure, values_are}
 use Rattle.final_fold.proofs.Explained.{asked_explained}
 use Rattle.final_fold.proofs.found.find_matches.Goals as goal
 use Rattle.final_fold.proofs.found.find_matches.Goals.{After-add_granules, After-deref}
@@ -63,8 +62,8 @@ all_even g c =
     subst (λ (cs : List Cells). All (λ (x : Cells). length x.values ≡ c.in-Some.rows) cs) (sym (lent_back g c))
     (subst (λ m. All (λ (x : Cells). length x.values ≡ m) c.add_granules.new.columns) (zero-add _ ∙ sym c.in-Some.ensures.rows) (c.in_ok-add_granules.ensures.even 0 none))
 
-pub mask-requires : goal.mask-requires
-mask-requires g c = all_even g c
+pub sifted-requires : goal.sifted-requires
+sifted-requires g c = all_even g ((goal.at.sifted-requires g c).After-deref)
 
 pub returns-clause-found : goal.returns-clause-found
 returns-clause-found g c =
@@ -75,9 +74,8 @@ returns-clause-found g c =
     let same = c.as_slice-asked.ensures.value in
     let olds = c.deref_mut.result.now in
     let columns = c.deref.result.now in
-    let answers = c.in-Ok-mask.answers.items in
-    let many : length answers ≡ c.in-Some.rows =
-    ap length c.in-Ok-mask.ensures ∙ length-map (rows_of columns c.in-Some.rows) (eval task.plan.now.condition) ∙ length-rows_of columns c.in-Some.rows in
+    let answers = c.in-Ok-sifted.answers.items in
+    let many : length answers ≡ c.in-Some.rows = c.in-Ok-sifted.ensures.count in
     let empty : map (λ (x : Cells). x.values) olds ≡ map (λ place. []) asked =
     ap (map (λ (x : Cells). x.values)) c.deref_mut.ensures.value ∙ c.in-Ok.ensures.empty ∙ ap (map (λ place. [])) same in
     let items = sym c.deref.ensures.value in
@@ -88,12 +86,17 @@ returns-clause-found g c =
       even = subst (λ (cs : List Cells). All (λ (x : Cells). length x.values ≡ length answers) cs) (sym items)
           (subst (λ n. All (λ (x : Cells). length x.values ≡ n) columns) (sym many) (all_even g d));
       count = many ∙ c.in-Some.ensures.rows;
-      granules = c.in-Ok-granules_met.ensures.granules ∙ ap (granules_met task.part.now.loaded.schema.granularity task.chosen.now) c.deref-2.ensures.value;
-      kept = c.in-Ok-granules_met.ensures.kept ∙ ap (mask_met task.part.now.loaded.schema.granularity task.chosen.now) c.deref-2.ensures.value;
-      mask = λ rows holds.
+      granules = c.in-Ok-granules_met.ensures.granules ∙ ap (granules_met task.part.now.loaded.schema.granularity task.chosen.now) c.deref-3.ensures.value;
+      kept = c.in-Ok-granules_met.ensures.kept ∙ ap (mask_met task.part.now.loaded.schema.granularity task.chosen.now) c.deref-3.ensures.value;
+      mask = λ rows holds sure.
           let read = c.in_ok-add_granules.ensures.values task.wanted.schema.now rows (asked_held g before rows holds) (asked_typed g before) in
-          mask_is g.R.Dir.Dir.files task c.requires rows holds answers c.in-Some.rows olds columns c.in-Some.ensures.rows empty
-          (lent_back g d ∙ read ∙ ap (λ ps. with_columns (chosen_rows task rows) ps olds) same) c.in-Ok-mask.ensures;
+          let are : columns ≡ with_columns (chosen_rows task rows) asked olds = lent_back g d ∙ read ∙ ap (λ ps. with_columns (chosen_rows task rows) ps olds) same in
+          let granularity = task.part.now.loaded.schema.granularity in
+          mask_is g.R.Dir.Dir.files task c.requires rows holds c.in-Some.rows olds columns c.in-Some.ensures.rows empty are sure answers
+          (c.in-Ok-sifted.ensures.passed
+          (subst (All (PassesUnasked granularity task.chosen.now columns c.in-Some.rows)) (sym c.deref-2.ensures.value)
+          (sieves_sure g.R.Dir.Dir.files task c.requires rows holds c.in-Some.rows olds columns c.in-Some.ensures.rows empty are sure))
+          ∙ ap (passes_all columns c.in-Some.rows) c.deref-2.ensures.value);
       values = λ rows holds.
           let read = c.in_ok-add_granules.ensures.values task.wanted.schema.now rows (asked_held g before rows holds) (asked_typed g before) in
           ap (map (λ (x : Cells). x.values)) items

@@ -2,16 +2,16 @@
 use Rattle.std.proofs.Common.{◌≡◌, ◌≤◌, [], All, List, length, map, take}
 use Rattle.mt_values.specs.Grid.{Cells}
 use Rattle.mt_values.specs.Values.{Row}
-use Rattle.final_fold.specs.Matches.{HoldEachMatch, matching}
+use Rattle.final_fold.specs.Matches.{HoldEachMatch, MeetWhereUnasked, matching}
 use Rattle.final_fold.specs.Scans.{PartsHold, joined_rows, rows_kept, values_at}
 use Rattle.final_fold.proofs.matches.add_matches.Given as goal
 
 abbrev pub invariant-loop-number : goal.invariant-loop-number
 invariant-loop-number g l = record {
-  values : (rows : List (List Row)) → PartsHold g.R.Dir.Dir.files l.wanted.schema.now l.parts rows → HoldEachMatch l.wanted l.chosen rows
+  values : (rows : List (List Row)) → PartsHold g.R.Dir.Dir.files l.wanted.schema.now l.parts rows → HoldEachMatch l.wanted l.chosen rows → MeetWhereUnasked l.wanted l.chosen l.asked rows
       → map (λ (c : Cells). c.values) l.initial.columns ≡ values_at [] l.wanted.places.now
       → map (λ (c : Cells). c.values) l.columns ≡ values_at (matching l.wanted.condition.now (joined_rows (take l.number rows))) l.wanted.places.now;
-  counted : (rows : List (List Row)) → PartsHold g.R.Dir.Dir.files l.wanted.schema.now l.parts rows → HoldEachMatch l.wanted l.chosen rows
+  counted : (rows : List (List Row)) → PartsHold g.R.Dir.Dir.files l.wanted.schema.now l.parts rows → HoldEachMatch l.wanted l.chosen rows → MeetWhereUnasked l.wanted l.chosen l.asked rows
       → l.count ≡ length (matching l.wanted.condition.now (joined_rows (take l.number rows)));
   types : map (λ (c : Cells). c.col_type) l.columns ≡ map (λ (c : Cells). c.col_type) l.initial.columns;
   even : All (λ (c : Cells). length c.values ≡ 0) l.initial.columns → All (λ (c : Cells). length c.values ≡ l.count) l.columns;

@@ -1,0 +1,48 @@
+-- The plan of a condition without a test has one answer for all granules.
+use Rattle.std.proofs.Common.{◌≡◌, ℕ, ◌-◌, ◌/◌, Bool, List, [], length, map, min, replicate, sym, ap, ◌∙◌}
+use Rattle.std.specs.List.{fold, range_with_len}
+use Rattle.std.proofs.lemmas.List.{nil_from_length}
+use Rattle.std.proofs.lemmas.List.FromFn.{length-range_with_len}
+use Rattle.mt_values.specs.declared.expr.Test.{Test}
+use Rattle.mt_values.specs.declared.schema.Schema.{Schema}
+use Rattle.mt_values.specs.Conditions.{Condition, tests_of}
+use Rattle.part_reader.specs.declared.reading.Part.{Part}
+use Rattle.part_set.specs.declared.kept.Kept.{Kept}
+use Rattle.predicate.specs.Boxes.{can}
+use Rattle.predicate.specs.Granules.{chosen_in}
+use Rattle.predicate.specs.Masks.{both}
+use Rattle.predicate.specs.declared.extent.Can.{Can}
+use Rattle.predicate.specs.declared.extent.Extent.{Extent}
+use Rattle.primary_marks.proofs.GranuleBoxes.{chosen_by_place, is_chosen_at}
+use Rattle.select_plan.specs.Plans.{planned_part}
+use Rattle.predicate.proofs.Narrowing.{alike, narrowed_alike, untested}
+use Rattle.skip_index.specs.declared.index.Index.{Index}
+use Rattle.skip_index.specs.Choosing.{block_box, chosen_by}
+
+-- a condition of no tests has none
+pub no_tests : (c : Condition Test) → length (tests_of c) ≡ 0 → tests_of c ≡ []
+no_tests c none = nil_from_length (tests_of c) none
+
+module _ (c : Condition Test) (e : Extent) (none : tests_of c ≡ []) where
+  abbrev answer : Bool
+  answer = (can c e).yes
+
+  one : (b : Extent) → (can c b).yes ≡ answer
+  one b = ap (λ (k : Can). k.yes) (untested c b e none)
+
+  by_index : (index : Index) → chosen_by index c [] ≡ replicate index.granules answer
+  by_index index =
+      alike (λ granule. (can c (block_box index [] (granule / index.span))).yes) answer (range_with_len 0 index.granules) (λ granule. one (block_box index [] (granule / index.span)))
+      ∙ ap (λ n. replicate n answer) (length-range_with_len 0 index.granules)
+
+  pub planned_alike : {F : Type 0} (schema : Schema) (k : Kept (Part F))
+      → replicate (fold (λ (n : ℕ) (index : Index). min n index.granules) (length k.part.loaded.marks - 1) k.part.loaded.indexes) answer ≡ planned_part schema c k
+  planned_alike schema k =
+      let marks = k.part.loaded.marks in
+      let n : ℕ = length marks - 1 in
+      let first : chosen_in schema k.name.partition c marks ≡ replicate n answer =
+      chosen_by_place schema k.name.partition c marks
+      ∙ alike (is_chosen_at schema k.name.partition c marks) answer (range_with_len 0 n) (λ granule. one _)
+      ∙ ap (λ m. replicate m answer) (length-range_with_len 0 n) in
+      sym (ap (λ (chosen : List Bool). fold both chosen (map (λ (index : Index). chosen_by index c []) k.part.loaded.indexes)) first
+      ∙ narrowed_alike (λ (index : Index). chosen_by index c []) (λ (index : Index). index.granules) answer n k.part.loaded.indexes by_index)
