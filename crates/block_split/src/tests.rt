@@ -32,6 +32,7 @@ fn table(alloc: Global) -> Result<Schema, NoMemory>
         primary: Seq::from_slice(alloc, [1].as_slice())?,
         partition: Some(0),
         granularity: 8192,
+        indexes: Seq::new(alloc),
     })
 }
 

@@ -1,4 +1,4 @@
--- What a run leaves for a crash, and what it did to the annals (docs/definitions.md, "Crashes").
+-- What a run leaves for a crash, and what it did to the annals (docs/crashes.md, "What a run leaves").
 use Rattle.std.specs.Prelude.{◌≡◌, ◌⊎◌, ℕ, List, ◌∷◌, ◌++◌, length, All, Option, None, Some}
 use Rattle.mt_values.specs.declared.annals.Noted.{Noted}
 use Rattle.mt_values.specs.declared.command.Command.{Command}

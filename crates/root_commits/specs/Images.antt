@@ -1,4 +1,4 @@
--- What a crash may leave of a disk alone, whatever is known of annals (docs/definitions.md, "Crashes").
+-- What a crash may leave of a disk alone, whatever is known of annals (docs/crashes.md, "What a crash may leave").
 use Rattle.std.specs.Prelude.{◌≡◌, ◌≢◌, ◌⊎◌, ℕ, Option, Result, Some}
 use Rattle.std.specs.Result.{MatchResult}
 use Rattle.mt_outside.specs.Disk.{Names, Since, Told}

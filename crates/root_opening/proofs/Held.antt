@@ -20,6 +20,7 @@ use Rattle.root_store.specs.Damage.{DamagedAt}
 use Rattle.root_store.specs.Soundness.{HasSoundParts, HoldsRows, IsSoundStore}
 use Rattle.root_store.specs.Stores.{StoreOf}
 use Rattle.root_store.proofs.Items.{map_item}
+use Rattle.root_store.proofs.TableIndexes.{has_indexes}
 use Rattle.root_store.proofs.TableMarks.{has_marks}
 
 module _ {F : Type 0} (files_of : F → Option Files) where
@@ -42,5 +43,5 @@ module _ {F : Type 0} (files_of : F → Option Files) where
     where
       by : (table : List ℕ) (t : Table) (part : Kept (Part F)) (files : Files) → IsTableSchema t.schema → files_of part.part.dir ≡ Some files → IsLoadedOf t.schema files part.part.loaded → ((f : FileId) → damaged_file t.schema files ≡ Some f → ⊥) → (found : Option FileId) → damaged_file t.schema files ≡ found
           → HoldsRows files_of t.schema part
-      by table t part files schema told loaded none None is = undamaged_rows files_of t.schema part.part files (has_marks t.schema schema) told loaded (file_told t.schema files None is)
+      by table t part files schema told loaded none None is = undamaged_rows files_of t.schema part.part files (has_marks t.schema schema) (has_indexes t.schema schema) told loaded (file_told t.schema files None is)
       by table t part files schema told loaded none (Some f) is = absurd (none f is)

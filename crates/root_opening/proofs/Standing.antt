@@ -61,6 +61,7 @@ use Rattle.root_store.proofs.InOrder.{core_order, pairs_head, pairs_tail}
 use Rattle.root_store.proofs.Items.{counted_one, item_either, map_item, mapped, one_counts, unfiltered}
 use Rattle.root_store.proofs.Orphaned.{no_orphan, of_core}
 use Rattle.root_store.proofs.Readings.{one_reading}
+use Rattle.root_store.proofs.TableIndexes.{has_indexes}
 use Rattle.root_store.proofs.TableMarks.{has_marks}
 use Rattle.root_store.proofs.Tabled.{never_below, table_here}
 use Rattle.root_store.proofs.Undamaged.{folders_agree}
@@ -215,7 +216,8 @@ module _ {F : Type 0} (files_of : F → Option Files) (names : Names) (h : Histo
         let there : files_at (root_text (root.Part (part_of table k))) names ≡ Some folder.files = subst (λ (p : TablePart). files_at (root_text (root.Part p)) names ≡ Some folder.files) c.name_is folder.there in
         let files_are : folder.files ≡ is.files = same_some folder.files is.files (sym there ∙ is.there) in
         let holds = subst (λ (x : Schema). FolderHolds x c.core.rows is.files) same (subst (FolderHolds c.there.schema c.core.rows) files_are folder.holds) in
-        let written = written_loaded schema is.files c.core.rows holds (has_marks schema (legal_schema table h schema s.legal schema_is)) in
+        let legal = legal_schema table h schema s.legal schema_is in
+        let written = written_loaded schema is.files c.core.rows holds (has_marks schema legal) (has_indexes schema legal) in
         let loaded : k.part.loaded ≡ loaded_of schema c.core.rows = one_loaded schema is.files k.part.loaded (loaded_of schema c.core.rows) is.loaded written in
         let core : c.core ≡ core_part table k c.core.rows = λ i. record { table = (c.name_is i).table; name = (c.name_is i).name; rows = c.core.rows } in
         record {

@@ -1,5 +1,5 @@
 -- A root that stands for a history has no damaged file.
-use Rattle.std.proofs.Common.{◌≡◌, ℕ, ◌-◌, ◌<◌, List, ◌++◌, Option, Some, None, length, refl, sym, ap, ◌∙◌, subst, inl, inr, arith, codes, length-append}
+use Rattle.std.proofs.Common.{◌≡◌, ℕ, List, ◌++◌, Option, Some, None, length, refl, sym, ap, ◌∙◌, subst, inl, inr, arith, codes, length-append}
 use Rattle.std.proofs.lemmas.List.Elements.{All-contains}
 use Rattle.std.specs.Int.{w32, to_le_bytes}
 use Rattle.std.specs.List.{Contains as HasItem}
@@ -34,6 +34,7 @@ use Rattle.root_store.proofs.EntriesOf.{entry_known, table_entry}
 use Rattle.root_store.proofs.EntryReads.{one_schema}
 use Rattle.root_store.proofs.Orphaned.{of_core}
 use Rattle.root_store.proofs.Readings.{item_at}
+use Rattle.root_store.proofs.TableIndexes.{has_indexes}
 use Rattle.root_store.proofs.TableMarks.{has_marks}
 
 -- ---- entries
@@ -101,10 +102,10 @@ module _ (names : Names) (h : History) (s : Stands names h) where
       let here : files_at (root_text (root.Part part)) names ≡ Some folder.files = subst (λ (p : TablePart). files_at (root_text (root.Part p)) names ≡ Some folder.files) c.name_is folder.there in
       let files_are : folder.files ≡ files = same_some folder.files files (sym here ∙ at) in
       let holds = subst (λ (x : Schema). FolderHolds x c.core.rows files) same (subst (FolderHolds c.there.schema c.core.rows) files_are folder.holds) in
-      let has = has_marks schema (legal_schema part.table h schema s.legal (known ∙ ap Some same)) in
+      let legal = legal_schema part.table h schema s.legal (known ∙ ap Some same) in
       elim bad [
         | inl other ↦ other.0 (may part schema visible (known ∙ ap Some same))
-        | inr file ↦ none_some (damaged_file schema files) f (file_is schema files None (written_undamaged schema files c.core.rows has holds)) file.1
+        | inr file ↦ none_some (damaged_file schema files) f (file_is schema files None (written_undamaged schema files c.core.rows (has_marks schema legal) (has_indexes schema legal) holds)) file.1
       ]
 
   sound : (n : RootName) (files : Files) (f : FileId) → HasItem s.read n → files_at (root_text n) names ≡ Some files → IsDamaged names s.read n files f → ⊥

@@ -1,4 +1,4 @@
--- What a crash leaves of a root while commands are added to it (docs/definitions.md, "Crashes").
+-- What a crash leaves of a root while commands are added to it (docs/crashes.md, "Which lists of commands a crash leaves").
 use Rattle.std.specs.Prelude.{◌≡◌, ◌⊎◌, ℕ, ◌+◌, ◌≤◌, List, [], ◌∷◌, ◌++◌, length, take, slice_get, Option, Some, None}
 use Rattle.std.specs.Option.{ForSome}
 use Rattle.mt_values.specs.declared.annals.Noted.{Noted}

@@ -1,4 +1,4 @@
--- Which roots stand for a history (docs/definitions.md, "Roots").
+-- Which roots stand for a history (docs/crashes.md, "Roots").
 use Rattle.std.specs.Prelude.{◌≡◌, ◌↔◌, ℕ, List, map, All, Some, None}
 use Rattle.std.specs.List.{Contains as HasItem}
 use Rattle.mt_values.specs.declared.command.Entry.{Entry}
@@ -42,7 +42,7 @@ abbrev pub IsOfEntry : RootName → Type 0
 IsOfEntry (root.Create table) = Unit {0}
 IsOfEntry (root.Part part) = ⊥
 
--- The names of a root, with their files, stand for a history (docs/definitions.md, "Roots"). Each name is one of the grammar, and none is of
+-- The names of a root, with their files, stand for a history (docs/crashes.md, "Roots"). Each name is one of the grammar, and none is of
 -- a mutated part. The entries are exactly those of the history's commands that have one, each of which reads as its command. The visible
 -- parts hold rows with which they stand for the history.
 pub record Stands (names : Names) (h : History) : Type 0 where

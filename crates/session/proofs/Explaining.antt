@@ -17,11 +17,10 @@ use Rattle.mt_model.specs.Queries.{query_of}
 use Rattle.part_history.specs.Parts.{portion_of}
 use Rattle.part_reader.specs.declared.reading.Part.{Part}
 use Rattle.part_set.specs.declared.kept.Kept.{Kept}
-use Rattle.part_writer.specs.declared.loaded.Loaded.{Loaded}
-use Rattle.predicate.specs.Granules.{chosen_in}
 use Rattle.root_store.specs.Stores.{core_parts}
 use Rattle.select_plan.specs.Plans.{counts_over, planned_part}
 use Rattle.final_fold.specs.Scans.{PartsHold}
+use Rattle.session.proofs.Planned.{planned_is}
 
 -- a sum over what becomes of each item is a sum over the items
 sum_map : {X Y : Type 0} (f : Y → ℕ) (g : X → Y) (xs : List X) → sum_by f (map g xs) ≡ sum_by (λ x. f (g x)) xs
@@ -55,7 +54,7 @@ module _ {F : Type 0} (files_of : F → Option Files) (schema : Schema) (c : Con
   plan_is (k ∷ kept) [] h = absurd h
   plan_is (k ∷ kept) (r ∷ rows) h =
       ap₂ (λ (b : List Bool) (bs : List (List Bool)). b ∷ bs)
-      (ap (λ (l : Loaded). chosen_in schema k.name.partition c l.marks) h.0.loaded_is)
+      (planned_is schema c r k h.0.loaded_is)
       (plan_is kept rows h.1)
 
 -- an EXPLAIN's answer, from the portions of its table

@@ -8,6 +8,7 @@ pub mod Kept
 pub mod Matching
 pub mod Inserting
 pub mod Picking
+pub mod Planned
 pub mod Progressing
 pub mod Running
 pub mod SealedParts

@@ -26,7 +26,7 @@ pub record IsAskedOf {F : Type 0} (snap : Snap (Part F)) (query : Query) (wanted
   pub places : All (HasItem query.places) wanted.places.now
 
 -- The reply tells of damage: of a part of the table, and of a file of it. What was read there of a column that the SELECT names, in granules
--- that its plan chooses, is no spelling of a value of the column's type for each of their rows (docs/replies.md, "Faults").
+-- that its plan chooses, is no spelling of a value of the column's type for each of their rows, or no such granules are kept (docs/replies.md, "Faults").
 pub record TellsOfDamage {F : Type 0} (files_of : F → Option Files) (snap : Snap (Part F)) (text : SelectText) (reply : List ℕ) : Type 0 where
   pub query : Query
   pub asked : query_of snap.schema.columns text ≡ Ok query

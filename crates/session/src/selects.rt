@@ -30,7 +30,7 @@ use shared_store::Engine;
 use std::alloc::Global;
 
 /// The rows of a pinned table that meet a SELECT's condition, of its columns. Of a part the granules alone are read that the plan
-/// chooses; a column is read once, however often it is named.
+/// chooses, and a conjunct is asked where the plan says; a column is read once, however often it is named.
 ///
 /// `NoMemory` where an allocation failed; the arm's count stays.
 fn read_matches<R: Arm>(
@@ -62,19 +62,23 @@ fn read_matches<R: Arm>(
 {
     let planned = plan(alloc, snap, query)?;
     let picked = pick_columns(alloc, snap.schema.columns.len(), query.places.as_slice())?;
+    let conjuncts = planned.conjuncts.as_slice();
     let wanted = Wanted {
         schema: &snap.schema,
         condition: &query.condition,
+        conjuncts,
         places: picked.read.as_slice(),
     };
     let mut columns = empty_columns(alloc, &snap.schema, wanted.places)?;
     let failed = failed_line(alloc)?;
     let parts = snap.parts.as_slice();
+    let asked = planned.asked.as_slice();
     match add_matches(
         alloc,
         arm,
         parts,
         planned.parts.as_slice(),
+        asked,
         &wanted,
         &mut columns,
     ) {

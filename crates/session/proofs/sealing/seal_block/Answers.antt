@@ -4,6 +4,7 @@ use Rattle.mt_values.specs.Grid.{picked}
 use Rattle.mt_values.proofs.Grids.{places_below}
 use Rattle.part_writer.specs.PartFiles.{all_synced, files_of_part, loaded_of}
 use Rattle.part_writer.proofs.Contents.{content_length}
+use Rattle.root_store.proofs.TableIndexes.{has_indexes}
 use Rattle.root_store.proofs.TableMarks.{has_marks}
 use Rattle.session.proofs.SealedParts.{sealed_of}
 use Rattle.session.proofs.sealing.seal_block.Goals as goal
@@ -15,8 +16,11 @@ write_part-requires-clause-places g c κs within =
 pub write_part-requires-clause-marks : goal.write_part-requires-clause-marks
 write_part-requires-clause-marks g c κs within = has_marks c.args.schema.now c.requires.schema
 
+pub write_part-requires-clause-indexes : goal.write_part-requires-clause-indexes
+write_part-requires-clause-indexes g c κs within = has_indexes c.args.schema.now c.requires.schema
+
 pub write_part-requires-clause-few : goal.write_part-requires-clause-few
-write_part-requires-clause-few g c κs within = omega (arith, content_length c.args.schema.now, c.requires.schema.few)
+write_part-requires-clause-few g c κs within = omega (arith, content_length c.args.schema.now, c.requires.schema.few, c.requires.schema.few_indexes)
 
 pub returns-clause-sealed : goal.returns-clause-sealed
 returns-clause-sealed g c = λ tells.

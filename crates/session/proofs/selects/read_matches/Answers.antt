@@ -2,10 +2,10 @@ use Rattle.std.proofs.lemmas.Result.{IfOk-weaker}
 use Rattle.std.proofs.Common.{◌≡◌, ◌<◌, ◌∙◌, ℕ, Bool, List, Some, length, map, slice_get, sym, ap, ap₂, refl, subst, inl, All}
 use Rattle.std.proofs.lemmas.List.{length-map}
 use Rattle.std.proofs.lemmas.List.Elements.{All-filter, All-map}
-use Rattle.std.specs.List.{AllZip, Contains as HasItem}
+use Rattle.std.specs.List.{AllZip, Contains as HasItem, zip as pairs}
 use Rattle.mt_values.specs.declared.expr.Test.{Test}
 use Rattle.mt_values.specs.declared.schema.Column.{Column}
-use Rattle.mt_values.specs.Conditions.{tests_of}
+use Rattle.mt_values.specs.Conditions.{Condition, conjuncts_of, tests_of}
 use Rattle.mt_values.specs.Granules.{chosen_of, granules}
 use Rattle.mt_values.specs.Grid.{Cells, grid_of, rows_of}
 use Rattle.mt_values.specs.Order.{key_of}
@@ -17,7 +17,8 @@ use Rattle.part_reader.specs.declared.reading.Part.{Part}
 use Rattle.part_reader.specs.Faults.{IsNoDamage}
 use Rattle.part_reader.proofs.CutRows.{empty_even, empty_many, lent_back, projected, typed_have_all}
 use Rattle.part_set.specs.declared.kept.Kept.{Kept}
-use Rattle.select_plan.specs.Plans.{planned}
+use Rattle.select_plan.specs.Plans.{asked_over, planned}
+use Rattle.final_fold.specs.Asked.{MeetUnasked}
 use Rattle.final_fold.specs.Matches.{matching}
 use Rattle.final_fold.specs.Scans.{ArePlacesOf, PartsHold, joined_rows, values_at}
 use Rattle.final_fold.proofs.Picking.{shown_within}
@@ -31,7 +32,7 @@ use Rattle.replies.proofs.Refusing.{select_failed}
 use Rattle.root_store.proofs.TableMarks.{has_marks}
 use Rattle.session.proofs.Asking.{query_is, query_places, tests_below}
 use Rattle.session.proofs.Damaged.{all_hold, tells_of_damage}
-use Rattle.session.proofs.Matching.{plans_count, plans_hold}
+use Rattle.session.proofs.Matching.{plans_count, plans_hold, plans_sure}
 use Rattle.session.proofs.Picking.{rows_shown}
 use Rattle.session.proofs.Selecting.{read_below, selected_below, selects}
 use Rattle.session.proofs.SelectStanding.{snap_held, snap_schema}
@@ -65,6 +66,7 @@ add_matches-requires-clause-wanted g c κs within =
     let read = c.in_ok-picked.picked.read.items in
     record {
       tests = All-map (λ place. place < length schema.columns) (λ (t : Test). t.column) (tests_of q.condition) (tests_below schema.columns text q c.requires.query);
+      conjuncts = c.as_slice-conjuncts.ensures.value ∙ c.in_ok-planned.ensures.conjuncts;
       places = read_below schema text.columns q.places read c.as_slice-2.result.now (query_places schema.columns text q c.requires.query)
           (subst (λ (ps : List ℕ). All (HasItem ps) read) c.as_slice.ensures c.in_ok-picked.ensures.selected) c.as_slice-2.ensures.value;
     }
@@ -108,9 +110,15 @@ returns-in-Ok-clause-answers g c = λ kept store stands pinned.
     let held = snap_held files (history kept) store stands text.table snap pinned in
     let there = snap_schema files (history kept) store stands text.table snap pinned in
     let hold = subst (λ (ps : List (Kept (Part _))). PartsHold files schema ps held.rows) (sym c.as_slice-parts.ensures.value) held.hold in
-    let plan_is : c.as_slice-3.result.now ≡ planned snap q.condition = c.as_slice-3.ensures.value ∙ c.in_ok-planned.ensures in
+    let plan_is : c.as_slice-3.result.now ≡ planned snap q.condition = c.as_slice-3.ensures.value ∙ c.in_ok-planned.ensures.parts in
     let each = subst (λ (ch : List (List Bool)). AllZip (λ (b : List Bool) (r : List Row). matching q.condition (chosen_of schema.granularity b r) ≡ matching q.condition r) ch held.rows) (sym plan_is)
     (plans_hold files schema q.condition (history kept) text.table c.requires.table there (tests_below schema.columns text q c.requires.query) snap.parts.items held.rows stands.legal held.hold held.stand) in
+    let asked_is : c.as_slice-asked.result.now ≡ asked_over snap q.condition = c.as_slice-asked.ensures.value ∙ c.in_ok-planned.ensures.asked in
+    let conjuncts_are : c.as_slice-conjuncts.result.now ≡ conjuncts_of q.condition = c.as_slice-conjuncts.ensures.value ∙ c.in_ok-planned.ensures.conjuncts in
+    let sure = subst (λ (ds : List (Condition Test)). AllZip (λ (p : List Bool × List (List Bool)) (r : List Row). MeetUnasked schema.granularity p.0 ds p.1 r) (pairs c.as_slice-3.result.now c.as_slice-asked.result.now) held.rows) (sym conjuncts_are)
+    (subst (λ (ch : List (List Bool)). AllZip (λ (p : List Bool × List (List Bool)) (r : List Row). MeetUnasked schema.granularity p.0 (conjuncts_of q.condition) p.1 r) (pairs ch c.as_slice-asked.result.now) held.rows) (sym plan_is)
+    (subst (λ (gs : List (List (List Bool))). AllZip (λ (p : List Bool × List (List Bool)) (r : List Row). MeetUnasked schema.granularity p.0 (conjuncts_of q.condition) p.1 r) (pairs (planned snap q.condition) gs) held.rows) (sym asked_is)
+    (plans_sure files schema q.condition (history kept) text.table c.requires.table there (tests_below schema.columns text q c.requires.query) snap.parts.items held.rows stands.legal held.hold held.stand))) in
     let picked = c.in_ok-picked.picked in
     let read = c.as_slice-2.result.now in
     let within = read_below schema text.columns q.places picked.read.items read (query_places schema.columns text q c.requires.query)
@@ -121,8 +129,8 @@ returns-in-Ok-clause-answers g c = λ kept store stands pinned.
     let all = joined_rows held.rows in
     let rows = matching q.condition all in
     let empty = ap (map (λ (x : Cells). x.values)) lent ∙ c.in_ok-columns.ensures.empty in
-    let values : map (λ (x : Cells). x.values) new ≡ values_at rows read = c.in-Ok.ensures.values held.rows hold each empty in
-    let count : c.in-Ok.rows ≡ length rows = c.in-Ok.ensures.counted held.rows hold each in
+    let values : map (λ (x : Cells). x.values) new ≡ values_at rows read = c.in-Ok.ensures.values held.rows hold each sure empty in
+    let count : c.in-Ok.rows ≡ length rows = c.in-Ok.ensures.counted held.rows hold each sure in
     let many : length new ≡ length items =
     sym (length-map new (λ (x : Cells). x.col_type)) ∙ ap length c.in-Ok.ensures.types ∙ length-map c.deref_mut.result.now (λ (x : Cells). x.col_type) ∙ ap length lent in
     let back = lent_back items new c.in_ok-columns.columns.len many (ap length (sym lent) ∙ c.deref_mut.ensures.len) in
@@ -172,7 +180,7 @@ returns-clause-answers g c = λ kept store stands pinned.
     let q = c.args.query.now in
     let held = snap_held files (history kept) store stands c.args.text.now.table snap pinned in
     let hold = subst (λ (ps : List (Kept (Part _))). PartsHold files schema ps held.rows) (sym c.as_slice-parts.ensures.value) held.hold in
-    let plan_is : c.as_slice-3.result.now ≡ planned snap q.condition = c.as_slice-3.ensures.value ∙ c.in_ok-planned.ensures in
+    let plan_is : c.as_slice-3.result.now ≡ planned snap q.condition = c.as_slice-3.ensures.value ∙ c.in_ok-planned.ensures.parts in
     let said = subst (λ (ch : List (List Bool)). AllZip (λ (b : List Bool) (r : List Row). length b ≡ granules schema.granularity (length r)) ch held.rows) (sym plan_is)
     (plans_count files schema q.condition snap.parts.items held.rows (has_marks schema c.requires.table).granularity held.hold) in
     absurd (subst IsNoDamage c.in-Err-default-Damaged.field-0-1-is (c.in-Err-default-Damaged.ensures.sound held.rows hold said))
@@ -185,7 +193,7 @@ returns-clause-undamaged g c = λ sound.
     let q = c.args.query.now in
     let held = all_hold files schema snap.parts.items sound in
     let hold = subst (λ (ps : List (Kept (Part _))). PartsHold files schema ps held.0) (sym c.as_slice-parts.ensures.value) held.1 in
-    let plan_is : c.as_slice-3.result.now ≡ planned snap q.condition = c.as_slice-3.ensures.value ∙ c.in_ok-planned.ensures in
+    let plan_is : c.as_slice-3.result.now ≡ planned snap q.condition = c.as_slice-3.ensures.value ∙ c.in_ok-planned.ensures.parts in
     let said = subst (λ (ch : List (List Bool)). AllZip (λ (b : List Bool) (r : List Row). length b ≡ granules schema.granularity (length r)) ch held.0) (sym plan_is)
     (plans_count files schema q.condition snap.parts.items held.0 (has_marks schema c.requires.table).granularity held.1) in
     absurd (subst IsNoDamage c.in-Err-default-Damaged.field-0-1-is (c.in-Err-default-Damaged.ensures.sound held.0 hold said))
@@ -196,7 +204,7 @@ returns-clause-damaged g c =
     let text = c.args.text.now in
     let snap = c.args.snap.now in
     let q = c.args.query.now in
-    let plan_is : c.as_slice-3.result.now ≡ planned snap q.condition = c.as_slice-3.ensures.value ∙ c.in_ok-planned.ensures in
+    let plan_is : c.as_slice-3.result.now ≡ planned snap q.condition = c.as_slice-3.ensures.value ∙ c.in_ok-planned.ensures.parts in
     let selected = subst (λ (ps : List ℕ). All (HasItem ps) c.as_slice-2.result.now) c.as_slice.ensures
     (subst (All (HasItem c.as_slice.result.now)) (sym c.as_slice-2.ensures.value) c.in_ok-picked.ensures.selected) in
     IfOk-weaker c.damaged.result _ _ (λ line is bad.

@@ -1,5 +1,4 @@
 use Rattle.std.proofs.Common.{ℕ, ap, subst, sym}
-use Rattle.mt_model.specs.History.{History}
 use Rattle.root_commits.specs.Commits.{IsSealedEntry, StandsWhere}
 use Rattle.root_commits.specs.Images.{LeavesEither, LeavesOne}
 use Rattle.root_commits.specs.Turns.{turn_of_create, with_entry}

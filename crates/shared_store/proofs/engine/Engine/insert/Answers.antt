@@ -1,14 +1,10 @@
 use Rattle.std.proofs.Common.{◌≡◌, Some, ℕ, ap, subst, sym}
-use Rattle.mt_values.specs.Annals.{Told}
-use Rattle.mt_model.specs.History.{History, IsInsertInto}
-use Rattle.table_core.specs.Core.{Core}
-use Rattle.root_commits.specs.Commits.{EntersSealed, IsSealedOf, SameStore, StandsWhere, insert_into, partition_of_block}
+use Rattle.root_commits.specs.Commits.{EntersSealed, IsSealedOf, StandsWhere, partition_of_block}
 use Rattle.root_commits.specs.Events.{IsAccepted, accept_of_block}
 use Rattle.root_commits.specs.Images.{LeavesEither, LeavesOne}
 use Rattle.root_commits.specs.Turns.{storage, turn_of_part, with_entry}
 use Rattle.root_store.specs.Cores.{ShowsCore}
 use Rattle.root_store.specs.Crashes.{KeepsThroughCrashes}
-use Rattle.root_store.specs.declared.store.Table.{Table as Made}
 use Rattle.root_store.specs.Soundness.{HasSoundParts, RootStands}
 use Rattle.root_store.specs.Stores.{CoreStands, table_at}
 use Rattle.shared_store.specs.Engines.{Opened}
