@@ -236,13 +236,26 @@ class Reader:
             self.fault()
         self.wants(b";")
 
+    def element(self):
+        """A column, or an index: its name, its column, the most values of a set, and the granules of a block."""
+        if self.kind != "word" or not self.takes(b"INDEX"):
+            return "column", self.name(), self.one_of([*BITS, b"String"])
+        name, column, most = self.name(), self.name(), None
+        self.wants(b"TYPE")
+        if self.one_of([b"minmax", b"set"]) == b"set":
+            self.wants(b"(")
+            most = self.number()
+            self.wants(b")")
+        self.wants(b"GRANULARITY")
+        return "index", name, column, most, self.number()
+
     def create(self):
         self.wants(b"TABLE")
-        create = {"table": self.name(), "columns": [], "clauses": {}}
+        create = {"table": self.name(), "clauses": {}}
         self.wants(b"(")
-        create["columns"].append((self.name(), self.one_of([*BITS, b"String"])))
+        create["elements"] = [self.element()]
         while self.takes(b","):
-            create["columns"].append((self.name(), self.one_of([*BITS, b"String"])))
+            create["elements"].append(self.element())
         self.wants(b")", b"ENGINE", b"=")
         self.one_of([b"MergeTree"])
         if self.takes(b"("):
@@ -329,16 +342,22 @@ def first_double(names):
 
 def schema_of(create):
     """The schema of a CREATE."""
-    columns, clauses = create["columns"], create["clauses"]
+    elements, clauses = create["elements"], create["clauses"]
+    columns = [element[1:] for element in elements if element[0] == "column"]
+    indexes = [element[1:] for element in elements if element[0] == "index"]
     names = [name for name, _ in columns]
+    for _, column, _, _ in indexes:
+        if column not in names:
+            raise Refused(b"E04 " + column)
     for clause, value in clauses.items():
         for name in value if clause != b"SETTINGS" else []:
             if name not in names:
                 raise Refused(b"E04 " + name)
     sorting, primary = clauses[b"ORDER"], clauses.get(b"PRIMARY", clauses[b"ORDER"])
     parting = clauses.get(b"PARTITION", [None])[0]
-    doubles = [first_double(names)] + [first_double(clauses[each]) for each in clauses if each in (b"ORDER", b"PRIMARY")]
-    for reason, name in zip([b"column", b"key", b"key"], doubles):
+    doubles = [first_double(names), first_double([index[0] for index in indexes])]
+    doubles += [first_double(clauses[each]) for each in clauses if each in (b"ORDER", b"PRIMARY")]
+    for reason, name in zip([b"column", b"index", b"key", b"key"], doubles):
         if name is not None:
             raise Refused(b"E05 double_" + reason + b" " + name)
     for place, name in enumerate(primary):
@@ -348,8 +367,17 @@ def schema_of(create):
         raise Refused(b"E05 partition_type " + parting)
     if not 1 <= clauses.get(b"SETTINGS", 8192) <= 65536:
         raise Refused(b"E05 granularity -")
-    if len(columns) > 64:
-        raise Refused(b"E12 columns 64")
+    for name, _, _, granules in indexes:
+        if not 1 <= granules <= 65536:
+            raise Refused(b"E05 granularity " + name)
+    for name, _, most, _ in indexes:
+        if most is not None and most > 4294967295:
+            raise Refused(b"E05 set_size " + name)
+    kinds = [element[0] for element in elements]
+    for size in range(len(kinds) + 1):
+        for kind, bound, text in (("column", 64, b"columns 64"), ("index", 8, b"indexes 8")):
+            if kinds[:size].count(kind) > bound:
+                raise Refused(b"E12 " + text)
     place = names.index
     return {
         "columns": columns,
@@ -358,6 +386,7 @@ def schema_of(create):
         "primary": [place(name) for name in primary],
         "partition": None if parting is None else place(parting),
         "granularity": clauses.get(b"SETTINGS", 8192),
+        "indexes": [(place(column), most, granules) for _, column, most, granules in indexes],
     }
 
 
@@ -440,11 +469,14 @@ def may_be(sign, low, high, literal):
 
 
 def can(condition, box):
-    """Whether a condition may be true, and whether it may be false, in a box of a range or nothing for each column."""
+    """Whether a condition may be true, and whether it may be false, in a box of a range, a set of values or nothing for each column."""
     if condition[0] == "test":
         _, place, sign, literals = condition
         if box[place] is None:
             return True, True
+        if isinstance(box[place], set):
+            truths = [any(COMPARED[sign](value, literal) for literal in literals) for value in box[place]]
+            return any(truths), not all(truths)
         low, high = box[place]
         yes = any(may_be(sign, low, high, literal) for literal in literals)
         return yes, all(may_be(OTHER[sign], low, high, literal) for literal in literals)
@@ -464,6 +496,23 @@ def box_of(schema, partition, first, last):
             break
     if schema["partition"] is not None:
         box[schema["partition"]] = partition, partition
+    return box
+
+
+def kept_of(values, most):
+    """What an index keeps of the values of a block: their range, or each of them; nothing of more than the most values of a set."""
+    if most is None:
+        return min(values), max(values)
+    return set(values) if len(set(values)) <= (most or 4294967295) else None
+
+
+def index_box(schema, index, rows, start):
+    """The box of the block of an index in which the row at a place is."""
+    place, most, granules = index
+    size = schema["granularity"] * granules
+    first = start // size * size
+    box = [None] * len(schema["columns"])
+    box[place] = kept_of([row[place] for row in rows[first:first + size]], most)
     return box
 
 
@@ -539,8 +588,11 @@ class Store:
             size = schema["granularity"]
             starts = range(0, len(rows), size)
             ends = [rows[start] for start in starts][1:] + rows[-1:]
-            boxes = [box_of(schema, partition, rows[start], end) for start, end in zip(starts, ends)]
-            chosen.append([can(condition, box)[0] for box in boxes])
+            boxes = [[box_of(schema, partition, rows[start], end)] for start, end in zip(starts, ends)]
+            for index in schema["indexes"]:
+                for start, own in zip(starts, boxes):
+                    own.append(index_box(schema, index, rows, start))
+            chosen.append([all(can(condition, box)[0] for box in own) for own in boxes])
             for start, is_chosen in zip(starts, chosen[-1]):
                 assert is_chosen or not any(meets(condition, row) for row in rows[start:start + size])
         told = sum(map(any, chosen)), len(parts), sum(map(sum, chosen)), sum(map(len, chosen)), self.length

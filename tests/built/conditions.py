@@ -2,8 +2,8 @@
 """Asks the built program random conditions over random tables, and compares its replies with those that `tests/answers.py` works out.
 
 The one word is the number of rounds, 20 if it is left out. A round is in a new folder, outside the repository: a first run makes two tables
-of the same rows, of which one has a random key, primary key, partition column and size of granules, and the other none of these; it inserts
-in one to three INSERTs. A second run over the folder has 60 SELECTs with a condition over each table, and an EXPLAIN of it. So a round shows
+of the same rows, of which one has a random key, primary key, partition column and size of granules, and random skip indexes, and the other
+none of these; it inserts in one to three INSERTs. A second run over the folder has 60 SELECTs with a condition over each table, and an EXPLAIN of it. So a round shows
 rows that are found however the table is parted, and numbers of granules. It prints its seed, and takes one from SEED; where a round differs
 it prints the script that shows it, and the status is 1. Where MERGETREE is set, it is the program that is run.
 """
@@ -55,13 +55,23 @@ def condition(chance, depth):
     return " ".join(terms)
 
 
+def elements(chance):
+    """The columns, with up to three skip indexes among them."""
+    listed = COLUMNS.split(", ")
+    for number in range(chance.choice([0, 1, 2, 3])):
+        kind = chance.choice(["minmax", f"set({chance.randint(0, 4)})"])
+        index = f"INDEX x{number} {chance.choice('pkvs')} TYPE {kind} GRANULARITY {chance.randint(1, 3)}"
+        listed.insert(chance.randint(0, len(listed)), index)
+    return ", ".join(listed)
+
+
 def tables(chance):
     """A script that makes the two tables, and inserts the same rows into both."""
     key = chance.choice(KEYS)
     columns = key.split(", ")
     parting = chance.choice(["", " PARTITION BY p", " PARTITION BY k"])
     primary = chance.choice(["", f" PRIMARY KEY ({', '.join(columns[:chance.randint(1, len(columns))])})"])
-    create = f"CREATE TABLE t ({COLUMNS}) ENGINE = MergeTree{parting} ORDER BY ({key}){primary}"
+    create = f"CREATE TABLE t ({elements(chance)}) ENGINE = MergeTree{parting} ORDER BY ({key}){primary}"
     script = f"{create} SETTINGS index_granularity = {chance.randint(1, 5)};\nCREATE TABLE u ({COLUMNS}) ENGINE = MergeTree ORDER BY i;\n"
     row = 0
     for _ in range(chance.randint(1, 3)):

@@ -7,8 +7,8 @@ until there are no more (`refuse.c`, loaded into the program by LD_PRELOAD); in 
   insert   two INSERTs over three partitions and a SELECT, over a folder with a table that has parts
   open     no statement, over a folder with two tables that have parts
   select   two SELECTs, over the same
-  where    SELECTs with conditions and an EXPLAIN, over a folder with a table that has parts
-Wanted are (docs/replies.md, "Statuses")
+  where    SELECTs with conditions and EXPLAINs, over a folder with a table that has parts
+The table has two skip indexes. Wanted are (docs/replies.md, "Statuses")
   of the run            status 6, and the replies to the first statements, whole; all replies and status 0 where the program did without
                         what was refused
   of the next run       status 0, and the rows of the first n commands; n is as many as were answered, and of the statement at which memory
@@ -31,7 +31,8 @@ import tempfile
 HERE = pathlib.Path(__file__).resolve().parent
 PROGRAM = os.environ.get("MERGETREE", str(HERE / "../../bin/mergetree"))
 MOST = 5000
-TABLE = "CREATE TABLE t (p UInt8, a UInt16, s String) ENGINE = MergeTree PARTITION BY p ORDER BY a;\n"
+INDEXES = "INDEX i s TYPE set(9) GRANULARITY 1, INDEX j a TYPE minmax GRANULARITY 2"
+TABLE = f"CREATE TABLE t (p UInt8, a UInt16, s String, {INDEXES}) ENGINE = MergeTree PARTITION BY p ORDER BY a;\n"
 OTHER = "CREATE TABLE u (a UInt16) ENGINE = MergeTree ORDER BY a;\nINSERT INTO u;\n4\n3\n\\.\n"
 
 # A statement of a script: its text, the rows of t that each of its commands adds, and its reply where it is neither OK nor all rows of t.
@@ -56,6 +57,7 @@ ASKED = [
     Statement("SELECT s FROM t WHERE a > 7 AND NOT p = 3;\n", [], b"ROWS 1 PREFIX 3\nrow 0\n"),
     Statement("SELECT p FROM t WHERE s IN ('row 1', 'row 2') OR (a = 9 AND s < 'x');\n", [], b"ROWS 3 PREFIX 3\n1\n1\n3\n"),
     Statement("EXPLAIN SELECT s FROM t WHERE p = 3;\n", [], b"PARTS 1/2 GRANULES 1/2 PREFIX 3\n"),
+    Statement("EXPLAIN SELECT a FROM t WHERE s = 'row 1';\n", [], b"PARTS 1/2 GRANULES 1/2 PREFIX 3\n"),
 ]
 SWEEPS = {
     "new": Sweep([], [CREATE, insert(2, 1, 2, 3), SELECT]),

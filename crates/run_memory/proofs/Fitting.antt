@@ -1,10 +1,11 @@
 -- Events over tables of numbers may run, one after another.
 use Rattle.std.proofs.Common.{◌≡◌, ◌<◌, ℕ, Bool, true, false, cond, List, [], ◌∷◌, ◌++◌, Some, None, All, arith, length, refl, sym, subst, inl, inr}
 use Rattle.std.specs.List.{AllByRecursion}
-use Rattle.std.proofs.lemmas.List.Elements.{All-from_recursion, recursion_from_All}
+use Rattle.std.proofs.lemmas.List.Elements.{All-from_recursion, All-nil, recursion_from_All}
 use Rattle.mt_values.specs.declared.command.Command.{Command}
 use Rattle.mt_values.specs.declared.command.Command.TheVariants as command
 use Rattle.mt_values.specs.declared.schema.Schema.{Schema}
+use Rattle.mt_values.specs.declared.schema.SkipIndex.{SkipIndex}
 use Rattle.mt_values.specs.Grammar.{same_bytes}
 use Rattle.mt_model.specs.History.{History, IsInsertInto, IsTableSchema, first_of, schema_by, schema_of}
 use Rattle.table_core.specs.declared.event.Accept.{Accept}
@@ -55,6 +56,8 @@ of_numbers_is_table = record {
   primary = omega arith;
   own = All-from_recursion (λ (place : ℕ). place < length of_numbers.columns) (0 ∷ []) (omega arith, tt);
   few = omega arith;
+  indexed = All-nil (λ (index : SkipIndex). index.column < length of_numbers.columns);
+  few_indexes = omega arith;
 }
 
 parted_is_table : IsTableSchema parted
@@ -64,6 +67,8 @@ parted_is_table = record {
   primary = omega arith;
   own = All-from_recursion (λ (place : ℕ). place < length parted.columns) (1 ∷ []) (omega arith, tt);
   few = omega arith;
+  indexed = All-nil (λ (index : SkipIndex). index.column < length parted.columns);
+  few_indexes = omega arith;
 }
 
 -- each table of the events has a schema that a table may have

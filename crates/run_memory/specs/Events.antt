@@ -19,6 +19,7 @@ of_numbers = record {
   primary = 0 ∷ [];
   partition = None;
   granularity = default_granularity;
+  indexes = [];
 }
 
 -- the schema of a table with several partitions: columns `p` and `a` of type UInt8, which are the partition column and the key (docs/testing.md, "Cases: `run_cases`")
@@ -29,6 +30,7 @@ parted = record {
   primary = 1 ∷ [];
   partition = Some 0;
   granularity = default_granularity;
+  indexes = [];
 }
 
 -- whether a table has several partitions: whether its name begins with a `p` (docs/testing.md, "Cases: `run_cases`")

@@ -55,6 +55,7 @@ impl Answer {
             primary: Seq::new(self.alloc),
             partition: None,
             granularity: DEFAULT_GRANULARITY,
+            indexes: Seq::new(self.alloc),
         }
     }
 

@@ -6,13 +6,17 @@ use crate::text::first_word;
 use digest_file::mark_of;
 use disk_mem::MemDir;
 use mt_base::{NoMemory, Partition, Rows, Seq, Twin};
-use mt_values::{Cell, ColType, Column, ColumnData, Manifest, Name, Schema};
+use mt_values::{
+    Cell, ColType, Column, ColumnData, IndexKind, Manifest, Name, Schema, SkipIndex, Value,
+};
 use part_history::CorePart;
 use part_name::{PartName, text};
 use part_reader::Part;
 use part_set::{Kept, PartSet, Snap};
 use part_writer::Loaded;
+use predicate::Known;
 use primary_marks::Marks;
+use skip_index::Index;
 use std::alloc::Global;
 
 // The name of the part that the first INSERT into a table makes.
@@ -46,7 +50,8 @@ fn kept_part(alloc: Global, first: u8, second: u8) -> Result<Kept<CorePart>, NoM
     Ok(Kept { name, part })
 }
 
-// The schema of a number `a` and a text `s`, with the sorting key `s, a`, the primary key `s`, the partition column `a` and granules of three rows.
+// The schema of a number `a` and a text `s`, with the sorting key `s, a`, the primary key `s`, the partition column `a`, granules of three rows
+// and a skip index `i` of `s`.
 fn two_columns(alloc: Global) -> Result<Schema, NoMemory> {
     let mut columns = Seq::new(alloc);
     let name = Seq::from_slice(alloc, b"a")?;
@@ -61,6 +66,34 @@ fn two_columns(alloc: Global) -> Result<Schema, NoMemory> {
         primary: Seq::from_slice(alloc, &[1])?,
         partition: Some(0),
         granularity: 3,
+        indexes: one_index(alloc)?,
+    })
+}
+
+// A skip index `i` of the second column: a set of two values, over blocks of four granules.
+fn one_index(alloc: Global) -> Result<Seq<SkipIndex>, NoMemory> {
+    let mut indexes = Seq::new(alloc);
+    indexes.push(SkipIndex {
+        name: Seq::from_slice(alloc, b"i")?,
+        column: 1,
+        kind: IndexKind::Set(2),
+        granularity: 4,
+    })?;
+    Ok(indexes)
+}
+
+// What is kept of that index: of one block a text, of another one nothing.
+fn two_blocks(alloc: Global) -> Result<Index, NoMemory> {
+    let mut values = Seq::new(alloc);
+    values.push(Value::Text(Seq::from_slice(alloc, b"x")?))?;
+    let mut blocks = Seq::new(alloc);
+    blocks.push(Known::List(values))?;
+    blocks.push(Known::Unknown)?;
+    Ok(Index {
+        column: 1,
+        span: 4,
+        granules: 5,
+        blocks,
     })
 }
 
@@ -84,8 +117,8 @@ fn two_keys(alloc: Global) -> Result<Marks, NoMemory> {
     Ok(Marks::of_columns(columns, 2))
 }
 
-// The part of a folder with this many rows, whose manifest has the marks of all its files. Two keys are kept of it, and of each file that
-// it is one granule.
+// The part of a folder with this many rows, whose manifest has the marks of all its files. Two keys and two blocks of a skip index are kept
+// of it, and of each file that it is one granule.
 fn stored_part(alloc: Global, rows: u64, dir: MemDir) -> Result<Part<MemDir>, NoMemory> {
     let mut files = Seq::new(alloc);
     let mut places = Seq::new(alloc);
@@ -94,11 +127,14 @@ fn stored_part(alloc: Global, rows: u64, dir: MemDir) -> Result<Part<MemDir>, No
         files.push(mark)?;
         places.push(Seq::from_slice(alloc, &[0, mark.size])?)?;
     }
+    let mut indexes = Seq::new(alloc);
+    indexes.push(two_blocks(alloc)?)?;
     let loaded = Loaded {
         schema: two_columns(alloc)?,
         manifest: Manifest { rows, files },
         marks: two_keys(alloc)?,
         places,
+        indexes,
     };
     Ok(Part::of(dir, loaded))
 }
@@ -129,7 +165,8 @@ impl Answer {
         }
     }
 
-    // Prints the columns of a schema, the places in them of its keys and of its partition column, where it has one, and the rows of a granule.
+    // Prints the columns of a schema, the places in them of its keys and of its partition column, where it has one, the rows of a granule,
+    // and its skip indexes.
     fn schema(&mut self, schema: &Schema) {
         self.columns(schema.columns.as_slice());
         self.places("key", schema.key.as_slice());
@@ -139,6 +176,22 @@ impl Answer {
         }
         self.put(", granularity ");
         self.number(u64::from(schema.granularity));
+        for index in schema.indexes.as_slice() {
+            self.index(index);
+        }
+    }
+
+    // Prints a skip index: its name, the place of its column, its kind and the granules of a block.
+    fn index(&mut self, index: &SkipIndex) {
+        self.put(", index ");
+        self.escaped(index.name.as_slice());
+        self.places(" of", &[index.column]);
+        self.put(" ");
+        let kind = index.kind;
+        let put = write!(self.text, "{kind:?}").is_ok();
+        self.note(put);
+        self.put(" granularity ");
+        self.number(u64::from(index.granularity));
     }
 
     // Prints the name of a part.
@@ -160,7 +213,8 @@ impl Answer {
         self.lines_of(kept.part.rows.as_slice());
     }
 
-    // Prints the schema that is kept of a part, the places of its granules in each file, and the number of its keys.
+    // Prints the schema that is kept of a part, the places of its granules in each file, the number of its keys, and of each skip index how many
+    // blocks of how many granules it has.
     fn loaded(&mut self, loaded: &Loaded) {
         self.schema(&loaded.schema);
         for starts in loaded.places.as_slice() {
@@ -172,6 +226,12 @@ impl Answer {
         }
         self.put(", keys ");
         self.number(loaded.marks.len() as u64);
+        for index in loaded.indexes.as_slice() {
+            self.put(", blocks ");
+            self.number(index.blocks.len() as u64);
+            self.put(" of granules ");
+            self.number(index.granules as u64);
+        }
     }
 
     // Prints a part of a disk: what is kept of it, its number of rows, the marks of its manifest, and the bytes of the files of its folder.

@@ -44,6 +44,7 @@ pub fn numbers_schema(alloc: Global) -> Result<Schema, NoMemory>
         primary: key_of(alloc, 0)?,
         partition: None,
         granularity: DEFAULT_GRANULARITY,
+        indexes: Seq::new(alloc),
     })
 }
 
@@ -60,6 +61,7 @@ fn parted_schema(alloc: Global) -> Result<Schema, NoMemory>
         primary: key_of(alloc, 1)?,
         partition: Some(0),
         granularity: DEFAULT_GRANULARITY,
+        indexes: Seq::new(alloc),
     })
 }
 
