@@ -1,0 +1,12 @@
+pub mod Aggregated
+pub mod AllRows
+pub mod Alternating
+pub mod Bits
+pub mod Kept
+pub mod Merging
+pub mod Newest
+pub mod OneRow
+pub mod OneSign
+pub mod OneSum
+pub mod Summed
+pub mod Wrapping
