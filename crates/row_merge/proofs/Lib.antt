@@ -1,0 +1,5 @@
+pub mod Folds
+pub mod Keys
+pub mod Lent
+pub mod Merges
+pub mod Sorted

@@ -1,0 +1,48 @@
+use Rattle.std.proofs.Common.{◌≡◌, ◌+◌, ◌-◌, ◌∙◌, ◌++◌, ◌∷◌, [], All, List, ap, append-nil, arith, drop, length, subst, sym, take}
+use Rattle.std.specs.Borrow.{Bor}
+use Rattle.std.proofs.lemmas.List.{drop_all}
+use Rattle.std.proofs.lemmas.List.Elements.{All-cons}
+use Rattle.mt_values.specs.Order.{HasPlaces, key_cmp, key_of}
+use Rattle.mt_values.specs.Values.{Row}
+use Rattle.row_merge.specs.Merged.{IsFoldOf, rows_of}
+use Rattle.row_merge.proofs.Folds.{added, fold_none, keys_go_on}
+use Rattle.row_merge.proofs.Lent.{all_at, all_back, all_front, rest_is}
+use Rattle.row_merge.proofs.Sorted.{how_many}
+use Rattle.row_merge.proofs.folding.fold_keys.Goals as goal
+
+pub loop-at-preserved : goal.loop-at-preserved
+loop-at-preserved g c = record {
+  within = omega (arith, c.count_up_to-count.ensures.within, c.loop-at.invariant.within, ap length later_is);
+  folds = λ apart ordered takes rest h.
+      let rule = c.args.rule.now in
+      let places = c.args.places.now in
+      let rows = c.args.rows.now in
+      let at = c.loop-at.at in
+      let count = c.count_up_to-count.result in
+      let first = c.index-rows-at.result in
+      let left = c.in_ok-left.left.items in
+      let some = first.now ∷ rows_of (take count (drop (at + 1) rows)) in
+      let has_places = all_at (HasPlaces places) rows at first (omega arith) c.index-rows-at.is ordered.whole in
+      let later_have = all_back (HasPlaces places) rows (at + 1) ordered.whole in
+      let counted = c.count_up_to-count.ensures.count has_places (subst (λ (lent : List (Bor Row)). All (HasPlaces places) (rows_of lent)) (sym later_is) later_have) in
+      let taken = All-cons (g.Q.RowRule.takes rule) first.now (rows_of (take count (drop (at + 1) rows))) (all_at (g.Q.RowRule.takes rule) rows at first (omega arith) c.index-rows-at.is takes)
+      (all_front (g.Q.RowRule.takes rule) (drop (at + 1) rows) count (all_back (g.Q.RowRule.takes rule) rows (at + 1) takes)) in
+      let ran : g.Q.RowRule.run rule some left =
+      subst (λ (lent : List (Bor Row)). All (g.Q.RowRule.takes rule) (first.now ∷ rows_of (take count lent)) → g.Q.RowRule.run rule (first.now ∷ rows_of (take count lent)) left) later_is c.in_ok-left.ensures taken in
+      subst (IsFoldOf places (g.Q.RowRule.run rule) (rows_of rows)) (added c.loop-at.out.items left c.append.new.self.items rest c.in_ok-append.ensures.items)
+      (c.loop-at.invariant.folds apart ordered takes (left ++ rest)
+      (keys_go_on places (g.Q.RowRule.run rule) rows at count first left rest (omega arith) c.index-rows-at.is ordered.sorted
+      (counted ∙ ap (λ (lent : List (Bor Row)). how_many (key_cmp places) first.now (rows_of lent)) later_is) ran
+      (λ all. g.met.Q.RowRule.keeps rule places (key_of places first.now) some left apart (omega arith) taken all ran) h));
+}
+  where
+    later_is : take (length c.args.rows.now - (c.loop-at.at + 1)) (drop (c.loop-at.at + 1) c.args.rows.now) ≡ drop (c.loop-at.at + 1) c.args.rows.now
+    later_is = rest_is c.args.rows.now (c.loop-at.at + 1) (omega arith)
+
+pub returns : goal.returns
+returns g c = λ apart ordered takes.
+    let run = g.Q.RowRule.run c.args.rule.now in
+    let places = c.args.places.now in
+    let none : drop c.loop-at.at c.args.rows.now ≡ [] = drop_all c.loop-at.at c.args.rows.now (omega arith) in
+    subst (IsFoldOf places run (rows_of c.args.rows.now)) (append-nil c.loop-at.out.items)
+    (c.loop-at.invariant.folds apart ordered takes [] (subst (λ (rows : List (Bor Row)). IsFoldOf places run (rows_of rows) []) (sym none) (fold_none places run)))
