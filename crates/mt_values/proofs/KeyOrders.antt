@@ -4,7 +4,8 @@ use Rattle.mt_values.specs.declared.schema.KeyOrder.{KeyOrder}
 use Rattle.mt_values.specs.declared.schema.KeyOrder.TheVariants.{SortingFirst, PrimaryFirst}
 use Rattle.mt_values.specs.declared.schema.Schema.{Schema}
 use Rattle.mt_values.specs.declared.schema.SchemaFault.{SchemaFault}
-use Rattle.mt_values.specs.Schemas.{column_fault, empty_fault, fault_or, granularity_fault, index_fault, index_granularity_fault, key_fault, keys_fault, partition_fault, prefix_fault, schema_fault_as, set_size_fault}
+use Rattle.mt_values.specs.Schemas.{column_fault, empty_fault, engine_fault, fault_or, granularity_fault, index_fault, index_granularity_fault, key_fault, keys_fault, partition_fault, prefix_fault, schema_fault_as, set_size_fault}
+use Rattle.mt_values.specs.Engines.{summed_places}
 use Rattle.mt_values.proofs.RowPartitions.{none_before, none_after}
 
 swapped : (x y : Option SchemaFault) → fault_or x y ≡ None → fault_or y x ≡ None
@@ -26,14 +27,16 @@ weaker (Some f) y z none next = cc
 pub sound_in_any_order : (first other : KeyOrder) (schema : Schema) → schema_fault_as first schema ≡ None → schema_fault_as other schema ≡ None
 sound_in_any_order first other schema none =
     let sizes = fault_or (granularity_fault schema.granularity) (fault_or (index_granularity_fault schema.indexes) (fault_or (set_size_fault schema.indexes) None)) in
-    let rest = fault_or (prefix_fault schema.key schema.primary) (fault_or (partition_fault schema.columns schema.partition) sizes) in
+    let rest = fault_or (prefix_fault schema.key schema.primary) (fault_or (partition_fault schema.columns schema.partition) (fault_or (engine_fault schema) sizes)) in
     let keys = keys_fault first schema.key schema.primary in
     let keys_too = keys_fault other schema.key schema.primary in
-    let indexed = fault_or (index_fault schema.indexes) (fault_or keys rest) in
-    let indexed_too = fault_or (index_fault schema.indexes) (fault_or keys_too rest) in
+    let list = key_fault (summed_places schema.engine) in
+    let indexed = fault_or (index_fault schema.indexes) (fault_or list (fault_or keys rest)) in
+    let indexed_too = fault_or (index_fault schema.indexes) (fault_or list (fault_or keys_too rest)) in
     weaker (empty_fault schema.columns) (fault_or (column_fault schema.columns) indexed) (fault_or (column_fault schema.columns) indexed_too) none
     (λ none. weaker (column_fault schema.columns) indexed indexed_too none
-    (λ none. weaker (index_fault schema.indexes) (fault_or keys rest) (fault_or keys_too rest) none
+    (λ none. weaker (index_fault schema.indexes) (fault_or list (fault_or keys rest)) (fault_or list (fault_or keys_too rest)) none
+    (λ none. weaker list (fault_or keys rest) (fault_or keys_too rest) none
     (λ none.
     let free : keys_too ≡ None = keys_free first other schema.key schema.primary (none_before keys rest none) in
-    rw free (none_after keys rest none))))
+    rw free (none_after keys rest none)))))

@@ -17,6 +17,8 @@ pub mod RowPartitions
 pub mod RowValueAt
 pub mod RowValues
 pub mod ScriptBounds
+pub mod SortingPlaces
 pub mod Texts
 pub mod TokenBounds
 pub mod Wheres
+pub mod WholeKeys

@@ -8,7 +8,8 @@ use Rattle.mt_values.specs.declared.schema.SchemaFault.{SchemaFault}
 use Rattle.mt_values.specs.declared.schema.SchemaFault.TheVariants as fault
 use Rattle.mt_values.specs.declared.value.Value.{Value}
 use Rattle.mt_values.specs.declared.value.Value.TheVariants as value
-use Rattle.mt_values.specs.Schemas.{column_fault, column_types, empty_fault, fault_or, granularity_fault, index_fault, index_granularity_fault, is_unsigned, is_unsigned_column, keys_fault, partition_fault, prefix_fault, schema_fault, set_size_fault}
+use Rattle.mt_values.specs.Engines.{is_unsigned, summed_places, type_fault, version_place}
+use Rattle.mt_values.specs.Schemas.{column_fault, column_types, empty_fault, engine_fault, fault_or, function_fault, granularity_fault, index_fault, index_granularity_fault, is_unsigned_column, key_fault, keys_fault, partition_fault, prefix_fault, schema_fault, set_size_fault, sign_fault, sum_fault}
 use Rattle.mt_values.specs.Tables.{IsPartitionBy, MayHavePartition, number_at, number_in, numbers_of, numbers_of_column, partition_by_column, partition_of}
 use Rattle.mt_values.specs.Values.{FitsType, IsValue, Row, type_of, types_of}
 
@@ -61,12 +62,15 @@ pub none_after : (a b : Option SchemaFault) → fault_or a b ≡ None → b ≡ 
 none_after None b none = none
 none_after (Some f) b none = cc
 
--- where no rule is broken, neither is that for the primary key, nor that for the partition column
+-- where no rule is broken, neither is that for the primary key, nor that for the partition column, nor any of the engine
 module _ (schema : Schema) (sound : schema_fault schema ≡ None) where
-  abbrev after_partition : Option SchemaFault
-  after_partition =
+  abbrev after_engine : Option SchemaFault
+  after_engine =
       fault_or (granularity_fault schema.granularity)
       (fault_or (index_granularity_fault schema.indexes) (fault_or (set_size_fault schema.indexes) None))
+
+  abbrev after_partition : Option SchemaFault
+  after_partition = fault_or (engine_fault schema) after_engine
 
   abbrev after_prefix : Option SchemaFault
   after_prefix = fault_or (partition_fault schema.columns schema.partition) after_partition
@@ -74,8 +78,11 @@ module _ (schema : Schema) (sound : schema_fault schema ≡ None) where
   abbrev after_keys : Option SchemaFault
   after_keys = fault_or (prefix_fault schema.key schema.primary) after_prefix
 
+  abbrev after_list : Option SchemaFault
+  after_list = fault_or (keys_fault SortingFirst schema.key schema.primary) after_keys
+
   abbrev after_indexes : Option SchemaFault
-  after_indexes = fault_or (keys_fault SortingFirst schema.key schema.primary) after_keys
+  after_indexes = fault_or (key_fault (summed_places schema.engine)) after_list
 
   abbrev after_columns : Option SchemaFault
   after_columns = fault_or (index_fault schema.indexes) after_indexes
@@ -83,22 +90,28 @@ module _ (schema : Schema) (sound : schema_fault schema ≡ None) where
   keys_sound : after_keys ≡ None
   keys_sound =
       none_after (keys_fault SortingFirst schema.key schema.primary) after_keys
+      (none_after (key_fault (summed_places schema.engine)) after_list
       (none_after (index_fault schema.indexes) after_indexes
       (none_after (column_fault schema.columns) after_columns
-      (none_after (empty_fault schema.columns) (fault_or (column_fault schema.columns) after_columns) sound)))
+      (none_after (empty_fault schema.columns) (fault_or (column_fault schema.columns) after_columns) sound))))
 
   pub prefix_sound : prefix_fault schema.key schema.primary ≡ None
   prefix_sound = none_before (prefix_fault schema.key schema.primary) after_prefix keys_sound
 
-  pub partition_sound : partition_fault schema.columns schema.partition ≡ None
-  partition_sound =
-      none_before (partition_fault schema.columns schema.partition) after_partition
-      (none_after (prefix_fault schema.key schema.primary) after_prefix keys_sound)
+  partition_on : after_prefix ≡ None
+  partition_on = none_after (prefix_fault schema.key schema.primary) after_prefix keys_sound
 
-  sizes_sound : after_partition ≡ None
-  sizes_sound =
-      none_after (partition_fault schema.columns schema.partition) after_partition
-      (none_after (prefix_fault schema.key schema.primary) after_prefix keys_sound)
+  pub partition_sound : partition_fault schema.columns schema.partition ≡ None
+  partition_sound = none_before (partition_fault schema.columns schema.partition) after_partition partition_on
+
+  engine_on : after_partition ≡ None
+  engine_on = none_after (partition_fault schema.columns schema.partition) after_partition partition_on
+
+  pub engine_sound : engine_fault schema ≡ None
+  engine_sound = none_before (engine_fault schema) after_engine engine_on
+
+  sizes_sound : after_engine ≡ None
+  sizes_sound = none_after (engine_fault schema) after_engine engine_on
 
   pub granularity_sound : granularity_fault schema.granularity ≡ None
   granularity_sound =
@@ -115,6 +128,12 @@ module _ (schema : Schema) (sound : schema_fault schema ≡ None) where
   sets_sound =
       none_before (set_size_fault schema.indexes) None
       (none_after (index_granularity_fault schema.indexes) (fault_or (set_size_fault schema.indexes) None) index_sizes_sound)
+
+  -- a version breaks no rule of its type
+  pub version_sound : type_fault is_unsigned fault.VersionType schema.columns (version_place schema.engine) ≡ None
+  version_sound =
+      none_before (type_fault is_unsigned fault.VersionType schema.columns (version_place schema.engine))
+      (fault_or (sign_fault schema) (fault_or (sum_fault schema) (fault_or (function_fault schema) None))) engine_sound
 
 -- a partition column that breaks no rule is unsigned
 pub unsigned_there : (columns : List Column) (place : ℕ) → partition_fault columns (Some place) ≡ None → is_unsigned_column (slice_get columns place) ≡ true

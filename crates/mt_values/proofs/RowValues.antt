@@ -24,7 +24,8 @@ use Rattle.mt_values.specs.declared.row_fault.RowFault.TheVariants as row_fault
 use Rattle.mt_values.specs.Escapes.{escape_byte, escape_of, hex_byte, hex_digit, hex_pair}
 use Rattle.mt_values.specs.Grid.{AreRowsOf}
 use Rattle.mt_values.specs.Lists.{in_front}
-use Rattle.mt_values.specs.Rows.{at_field, digits_up_to, fields_from, inserted_rows, minus, number_of, onto_first, or_not_of_type, row_limit, row_of_fields, row_of_line, row_onto, rows_behind, rows_within, signed_below, text_of, unescaped, unescaped_behind, unescaped_within, unsigned_up_to, value_of_field, value_onto}
+use Rattle.mt_values.specs.Engines.{keeps_sign}
+use Rattle.mt_values.specs.Rows.{at_field, digits_up_to, fields_from, inserted_rows, minus, number_of, onto_first, or_not_of_type, row_limit, row_of_fields, row_of_line, row_onto, rows_behind, rows_within, signed_below, signed_row_of_line, text_of, unescaped, unescaped_behind, unescaped_within, unsigned_up_to, value_of_field, value_onto, with_sign}
 use Rattle.mt_values.specs.Script.{line_from, onto, takes_next}
 use Rattle.mt_values.specs.Values.{Row, AreValues, IsValue, type_of, types_of}
 
@@ -293,37 +294,67 @@ rows_onto P (Err fault) rows is are = tt
 rows_onto P (Ok row) (Err fault) is are = tt
 rows_onto P (Ok row) (Ok rows) is are = All-cons P row rows is are
 
-rows_by : (P : Row → Type 0) (Q : List ℕ → Type 0) (f : ℕ → List ℕ → Result (List Row) DataFault) (types : List ColType) (ended : Bool) (count : ℕ) (o : Option (List ℕ × List ℕ)) →
-    ((text : List ℕ) → Q text → IfOk (row_of_line types (count + 1) text) P) → IfSome o (λ found. Q found.0 × Q found.1) → ((text : List ℕ) → Q text → IfOk (f (count + 1) text) (All P)) →
-    IfOk (rows_behind f types ended count o) (All P)
-rows_by P Q f types true count None row parts more = All-nil P
-rows_by P Q f types false count None row parts more = tt
-rows_by P Q f types ended count (Some found) row parts more = many (nat_le row_limit count)
+rows_by : (P : Row → Type 0) (Q : List ℕ → Type 0) (f : ℕ → List ℕ → Result (List Row) DataFault) (types : List ColType) (sign : Option ℕ) (ended : Bool) (count : ℕ) (o : Option (List ℕ × List ℕ)) →
+    ((text : List ℕ) → Q text → IfOk (signed_row_of_line types sign (count + 1) text) P) → IfSome o (λ found. Q found.0 × Q found.1) → ((text : List ℕ) → Q text → IfOk (f (count + 1) text) (All P)) →
+    IfOk (rows_behind f types sign ended count o) (All P)
+rows_by P Q f types sign true count None row parts more = All-nil P
+rows_by P Q f types sign false count None row parts more = tt
+rows_by P Q f types sign ended count (Some found) row parts more = many (nat_le row_limit count)
   where
-    many : (full : Bool) → IfOk (cond full (Err data_fault.TooMany) (row_onto (row_of_line types (count + 1) found.0) (f (count + 1) found.1))) (All P)
+    many : (full : Bool) → IfOk (cond full (Err data_fault.TooMany) (row_onto (signed_row_of_line types sign (count + 1) found.0) (f (count + 1) found.1))) (All P)
     many true = tt
-    many false = rows_onto P (row_of_line types (count + 1) found.0) (f (count + 1) found.1) (row found.0 parts.0) (more found.1 parts.1)
+    many false = rows_onto P (signed_row_of_line types sign (count + 1) found.0) (f (count + 1) found.1) (row found.0 parts.0) (more found.1 parts.1)
 
-rows_values : (n : ℕ) (types : List ColType) (ended : Bool) (count : ℕ) (lines : List ℕ) → AreBytes lines → IfOk (rows_within n types ended count lines) AreValues
-rows_values zero types ended count lines are = All-nil (All IsValue)
-rows_values (suc n) types ended count lines are =
-    rows_by (All IsValue) AreBytes (rows_within n types ended) types ended count (line_from false lines) (λ text is. row_values types (count + 1) text is) (line_bytes false lines are)
-    (λ text is. rows_values n types ended (count + 1) text is)
+-- what holds of the row of a line holds of it where its sign is asked too
+signed_holds : (P : Row → Type 0) (sign : Option ℕ) (line : ℕ) (row : Result Row RowFault) → IfOk row P → IfOk (with_sign sign line row) P
+signed_holds P sign line (Err fault) is = tt
+signed_holds P sign line (Ok row) is = by (keeps_sign sign row)
+  where
+    by : (keeps : Bool) → IfOk (cond keeps (Ok row) (Err (row_fault.Sign line))) P
+    by true = is
+    by false = tt
+
+rows_values : (n : ℕ) (types : List ColType) (sign : Option ℕ) (ended : Bool) (count : ℕ) (lines : List ℕ) → AreBytes lines → IfOk (rows_within n types sign ended count lines) AreValues
+rows_values zero types sign ended count lines are = All-nil (All IsValue)
+rows_values (suc n) types sign ended count lines are =
+    rows_by (All IsValue) AreBytes (rows_within n types sign ended) types sign ended count (line_from false lines)
+    (λ text is. signed_holds (All IsValue) sign (count + 1) (row_of_line types (count + 1) text) (row_values types (count + 1) text is)) (line_bytes false lines are)
+    (λ text is. rows_values n types sign ended (count + 1) text is)
 
 -- the values of the rows that data adds are ones that their columns may hold
-pub inserted_values : (types : List ColType) (lines : List ℕ) (ended : Bool) → AreBytes lines → IfOk (inserted_rows types lines ended) AreValues
-inserted_values types lines ended are = rows_values (length lines + 1) types ended 0 lines are
+pub inserted_values : (types : List ColType) (sign : Option ℕ) (lines : List ℕ) (ended : Bool) → AreBytes lines → IfOk (inserted_rows types sign lines ended) AreValues
+inserted_values types sign lines ended are = rows_values (length lines + 1) types sign ended 0 lines are
 
 any_parts : (o : Option (List ℕ × List ℕ)) → IfSome o (λ found. Unit {0} × Unit {0})
 any_parts None = tt
 any_parts (Some found) = (tt, tt)
 
-rows_typed : (n : ℕ) (types : List ColType) (ended : Bool) (count : ℕ) (lines : List ℕ) → IfOk (rows_within n types ended count lines) (AreRowsOf types)
-rows_typed zero types ended count lines = All-nil (λ row. types_of row ≡ types)
-rows_typed (suc n) types ended count lines =
-    rows_by (λ row. types_of row ≡ types) (λ text. Unit {0}) (rows_within n types ended) types ended count (line_from false lines) (λ text is. row_typed types (count + 1) text) (any_parts (line_from false lines))
-    (λ text is. rows_typed n types ended (count + 1) text)
+rows_typed : (n : ℕ) (types : List ColType) (sign : Option ℕ) (ended : Bool) (count : ℕ) (lines : List ℕ) → IfOk (rows_within n types sign ended count lines) (AreRowsOf types)
+rows_typed zero types sign ended count lines = All-nil (λ row. types_of row ≡ types)
+rows_typed (suc n) types sign ended count lines =
+    rows_by (λ row. types_of row ≡ types) (λ text. Unit {0}) (rows_within n types sign ended) types sign ended count (line_from false lines)
+    (λ text is. signed_holds (λ row. types_of row ≡ types) sign (count + 1) (row_of_line types (count + 1) text) (row_typed types (count + 1) text)) (any_parts (line_from false lines))
+    (λ text is. rows_typed n types sign ended (count + 1) text)
 
 -- they are rows of the columns' types
-pub inserted_typed : (types : List ColType) (lines : List ℕ) (ended : Bool) → IfOk (inserted_rows types lines ended) (AreRowsOf types)
-inserted_typed types lines ended = rows_typed (length lines + 1) types ended 0 lines
+pub inserted_typed : (types : List ColType) (sign : Option ℕ) (lines : List ℕ) (ended : Bool) → IfOk (inserted_rows types sign lines ended) (AreRowsOf types)
+inserted_typed types sign lines ended = rows_typed (length lines + 1) types sign ended 0 lines
+
+signed_row : (sign : Option ℕ) (line : ℕ) (row : Result Row RowFault) → IfOk (with_sign sign line row) (λ r. keeps_sign sign r ≡ true)
+signed_row sign line (Err fault) = tt
+signed_row sign line (Ok row) = by (keeps_sign sign row) refl
+  where
+    by : (keeps : Bool) → keeps_sign sign row ≡ keeps → IfOk (cond keeps (Ok row) (Err (row_fault.Sign line))) (λ r. keeps_sign sign r ≡ true)
+    by true e = e
+    by false e = tt
+
+rows_signed : (n : ℕ) (types : List ColType) (sign : Option ℕ) (ended : Bool) (count : ℕ) (lines : List ℕ) → IfOk (rows_within n types sign ended count lines) (All (λ row. keeps_sign sign row ≡ true))
+rows_signed zero types sign ended count lines = All-nil (λ row. keeps_sign sign row ≡ true)
+rows_signed (suc n) types sign ended count lines =
+    rows_by (λ row. keeps_sign sign row ≡ true) (λ text. Unit {0}) (rows_within n types sign ended) types sign ended count (line_from false lines)
+    (λ text is. signed_row sign (count + 1) (row_of_line types (count + 1) text)) (any_parts (line_from false lines))
+    (λ text is. rows_signed n types sign ended (count + 1) text)
+
+-- each has the sign 1 or -1, where the table has a sign
+pub inserted_signed : (types : List ColType) (sign : Option ℕ) (lines : List ℕ) (ended : Bool) → IfOk (inserted_rows types sign lines ended) (All (λ row. keeps_sign sign row ≡ true))
+inserted_signed types sign lines ended = rows_signed (length lines + 1) types sign ended 0 lines

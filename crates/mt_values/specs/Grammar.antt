@@ -19,6 +19,10 @@ use Rattle.mt_values.specs.declared.statement.Cause.{Cause}
 use Rattle.mt_values.specs.declared.statement.Cause.TheVariants as cause
 use Rattle.mt_values.specs.declared.statement.Clause.{Clause}
 use Rattle.mt_values.specs.declared.statement.Clause.TheVariants as clause
+use Rattle.mt_values.specs.declared.engine.Aggregate.{Aggregate}
+use Rattle.mt_values.specs.declared.engine.Aggregate.TheVariants as aggregate
+use Rattle.mt_values.specs.declared.statement.EngineText.{EngineText}
+use Rattle.mt_values.specs.declared.statement.EngineText.TheVariants as engine_text
 use Rattle.mt_values.specs.declared.statement.Element.{Element}
 use Rattle.mt_values.specs.declared.statement.Element.TheVariants as element
 use Rattle.mt_values.specs.declared.statement.IndexText.{IndexText}
@@ -167,9 +171,43 @@ joined_by k join item next = item (λ x. joined_from k join item x next)
 abbrev pub one_name : {S : Type 0} → Part S (List ℕ)
 one_name next = expect name next
 
+-- a function as it is written
+abbrev pub function_named : List ℕ → Result Aggregate Slip
+function_named word =
+    if same_bytes word (codes "any") then Ok aggregate.Any
+    else if same_bytes word (codes "anyLast") then Ok aggregate.AnyLast
+    else if same_bytes word (codes "min") then Ok aggregate.Min
+    else if same_bytes word (codes "max") then Ok aggregate.Max
+    else if same_bytes word (codes "sum") then Ok aggregate.Sum
+    else if same_bytes word (codes "groupBitAnd") then Ok aggregate.BitAnd
+    else if same_bytes word (codes "groupBitOr") then Ok aggregate.BitOr
+    else if same_bytes word (codes "groupBitXor") then Ok aggregate.BitXor
+    else Err slip.Wrong
+
+abbrev pub function : Test Aggregate
+function (token.Word w) = function_named w
+function (token.Number n) = Err slip.Wrong
+function (token.Text t) = Err slip.Wrong
+function (token.Symbol s) = Err slip.Wrong
+function token.Stray = Err slip.Wrong
+
+-- SimpleAggregateFunction "(" function "," plain ")"
+abbrev pub aggregated_type : {S : Type 0} → Part S (ColType × Option Aggregate)
+aggregated_type next =
+    expect (exactly (codes "SimpleAggregateFunction")) (λ _. expect (the symbol.Open) (λ _. expect function (λ f.
+    expect (the symbol.Comma) (λ _. expect plain (λ t. expect (the symbol.Close) (λ _. next (t, Some f)))))))
+
+-- plain
+abbrev pub plain_type : {S : Type 0} → Part S (ColType × Option Aggregate)
+plain_type next = expect plain (λ t. next (t, None))
+
+-- type = plain | SimpleAggregateFunction "(" function "," plain ")"
+abbrev pub column_type : {S : Type 0} → Part S (ColType × Option Aggregate)
+column_type next = choose (is_word (same_bytes (codes "SimpleAggregateFunction"))) (aggregated_type next) (plain_type next)
+
 -- column = name type
 abbrev pub column : {S : Type 0} → Part S Element
-column next = expect name (λ n. expect plain (λ t. next (element.Column (record { name = n; col_type = t }))))
+column next = expect name (λ n. column_type (λ t. next (element.Column (record { name = n; col_type = t.0; function = t.1 }))))
 
 -- set "(" number ")"
 abbrev pub set_kind : {S : Type 0} → Part S KindText
@@ -208,18 +246,68 @@ index_in (element.Index i) = Some i
 abbrev pub indexes_of : List Element → List IndexText
 indexes_of elements = filter_map index_in elements
 
--- engine = MergeTree [ "(" ")" ]
-abbrev pub engine : {S : Type 0} → Reader S → Reader S
-engine next =
-    expect (exactly (codes "MergeTree")) (λ _.
-    choose (is_symbol symbol.Open) (expect (the symbol.Open) (λ _. expect (the symbol.Close) (λ _. next))) next)
-
 -- key = name | "(" name { "," name } ")"
 abbrev pub key : {S : Type 0} → Part S (List (List ℕ))
 key next =
     choose (is_symbol symbol.Open)
     (expect (the symbol.Open) (λ _. list_of one_name (λ names. expect (the symbol.Close) (λ _. next names))))
     (expect name (λ n. next (n ∷ [])))
+
+-- what stands between parentheses
+abbrev pub enclosed : {S X : Type 0} → Part S X → Part S X
+enclosed inner next = expect (the symbol.Open) (λ _. inner (λ x. expect (the symbol.Close) (λ _. next x)))
+
+-- [ "(" [ x ] ")" ], where what is not there is told by a value
+abbrev pub optional : {S X : Type 0} → X → Part S X → Part S X
+optional none inner next =
+    choose (is_symbol symbol.Open)
+    (expect (the symbol.Open) (λ _. choose (is_symbol symbol.Close) (expect (the symbol.Close) (λ _. next none)) (inner (λ x. expect (the symbol.Close) (λ _. next x)))))
+    (next none)
+
+-- [ "(" ")" ]
+abbrev pub no_arguments : {S : Type 0} → EngineText → Part S EngineText
+no_arguments e next = choose (is_symbol symbol.Open) (expect (the symbol.Open) (λ _. expect (the symbol.Close) (λ _. next e))) (next e)
+
+-- MergeTree [ "(" ")" ]
+abbrev pub plain_engine : {S : Type 0} → Part S EngineText
+plain_engine next = expect (exactly (codes "MergeTree")) (λ _. no_arguments engine_text.Plain next)
+
+-- AggregatingMergeTree [ "(" ")" ]
+abbrev pub aggregating_engine : {S : Type 0} → Part S EngineText
+aggregating_engine next = expect (exactly (codes "AggregatingMergeTree")) (λ _. no_arguments engine_text.Aggregating next)
+
+-- a name, where there is one
+abbrev pub some_name : {S : Type 0} → Part S (Option (List ℕ))
+some_name next = expect name (λ n. next (Some n))
+
+-- ReplacingMergeTree [ "(" [ name ] ")" ]
+abbrev pub replacing_engine : {S : Type 0} → Part S EngineText
+replacing_engine next = expect (exactly (codes "ReplacingMergeTree")) (λ _. optional None some_name (λ version. next (engine_text.Replacing version)))
+
+-- SummingMergeTree [ "(" [ key ] ")" ]
+abbrev pub summing_engine : {S : Type 0} → Part S EngineText
+summing_engine next = expect (exactly (codes "SummingMergeTree")) (λ _. optional [] key (λ names. next (engine_text.Summing names)))
+
+-- CollapsingMergeTree "(" name ")"
+abbrev pub collapsing_engine : {S : Type 0} → Part S EngineText
+collapsing_engine next = expect (exactly (codes "CollapsingMergeTree")) (λ _. enclosed one_name (λ sign. next (engine_text.Collapsing sign)))
+
+-- name "," name
+abbrev pub two_names : {S : Type 0} → Part S (List ℕ × List ℕ)
+two_names next = expect name (λ m. expect (the symbol.Comma) (λ _. expect name (λ n. next (m, n))))
+
+-- VersionedCollapsingMergeTree "(" name "," name ")"
+abbrev pub versioned_engine : {S : Type 0} → Part S EngineText
+versioned_engine next = expect (exactly (codes "VersionedCollapsingMergeTree")) (λ _. enclosed two_names (λ names. next (engine_text.Versioned names.0 names.1)))
+
+-- engine = one of the six
+unfoldable pub engine : {S : Type 0} → Part S EngineText
+engine next =
+    choose (is_word (same_bytes (codes "ReplacingMergeTree"))) (replacing_engine next)
+    (choose (is_word (same_bytes (codes "SummingMergeTree"))) (summing_engine next)
+    (choose (is_word (same_bytes (codes "CollapsingMergeTree"))) (collapsing_engine next)
+    (choose (is_word (same_bytes (codes "VersionedCollapsingMergeTree"))) (versioned_engine next)
+    (choose (is_word (same_bytes (codes "AggregatingMergeTree"))) (aggregating_engine next) (plain_engine next)))))
 
 -- order_by = ORDER BY key
 abbrev pub order_by : {S : Type 0} → Part S Clause
@@ -412,8 +500,8 @@ abbrev pub create : List ℕ → Reader Statement
 create text =
     expect (keyword (codes "CREATE")) (λ _. expect (keyword (codes "TABLE")) (λ _. expect name (λ table.
     expect (the symbol.Open) (λ _. list_of table_element (λ elements. expect (the symbol.Close) (λ _.
-    expect (keyword (codes "ENGINE")) (λ _. expect (the symbol.Equal) (λ _. engine (clauses (λ cs.
-    ends (statement.Create (record { text = text; table = table; elements = elements; clauses = cs }))))))))))))
+    expect (keyword (codes "ENGINE")) (λ _. expect (the symbol.Equal) (λ _. engine (λ e. clauses (λ cs.
+    ends (statement.Create (record { text = text; table = table; elements = elements; engine = e; clauses = cs }))))))))))))
 
 -- insert = INSERT INTO name [ FORMAT format ]
 abbrev pub insert : List ℕ → Bool → Reader Statement

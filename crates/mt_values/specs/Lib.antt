@@ -3,6 +3,7 @@ pub mod Cells
 pub mod ColumnBytes
 pub mod Columns
 pub mod Conditions
+pub mod Engines
 pub mod Escapes
 pub mod Grammar
 pub mod Granules

@@ -15,6 +15,7 @@ use Rattle.mt_values.specs.declared.row_fault.FieldFault.TheVariants as field_fa
 use Rattle.mt_values.specs.declared.row_fault.RowFault.{RowFault}
 use Rattle.mt_values.specs.declared.row_fault.RowFault.TheVariants as row_fault
 use Rattle.mt_values.specs.Values.{Row}
+use Rattle.mt_values.specs.Engines.{keeps_sign}
 use Rattle.mt_values.specs.Escapes.{escape_of}
 use Rattle.mt_values.specs.Lists.{in_front}
 use Rattle.mt_values.specs.Script.{line_from, takes_next}
@@ -133,6 +134,15 @@ row_of_line types line text =
     if length (fields_from false text) == length types then row_of_fields line 1 types (fields_from false text)
     else Err (row_fault.Fields line (length (fields_from false text)) (length types))
 
+-- a row whose sign, where its table has one, is 1 or -1 (ClickHouse, CollapsingMergeTree: sign; docs/engines.md, "CollapsingMergeTree")
+abbrev pub with_sign : Option ℕ → ℕ → Result Row RowFault → Result Row RowFault
+with_sign sign line (Err fault) = Err fault
+with_sign sign line (Ok row) = if keeps_sign sign row then Ok row else Err (row_fault.Sign line)
+
+-- the row of a table that a line is, or why it is none; its sign is asked after its fields (docs/grammar.md, "Data")
+abbrev pub signed_row_of_line : List ColType → Option ℕ → ℕ → List ℕ → Result Row RowFault
+signed_row_of_line types sign line text = with_sign sign line (row_of_line types line text)
+
 -- ---- data
 
 abbrev pub row_onto : Result Row RowFault → Result (List Row) DataFault → Result (List Row) DataFault
@@ -141,17 +151,17 @@ row_onto (Ok row) (Err fault) = Err fault
 row_onto (Ok row) (Ok rows) = Ok (row ∷ rows)
 
 -- the rows that data goes on with after so many, by its first line and what the rest gives
-abbrev pub rows_behind : (ℕ → List ℕ → Result (List Row) DataFault) → List ColType → Bool → ℕ → Option (List ℕ × List ℕ) → Result (List Row) DataFault
-rows_behind more types ended count None = if ended then Ok [] else Err (data_fault.Unended count)
-rows_behind more types ended count (Some found) =
+abbrev pub rows_behind : (ℕ → List ℕ → Result (List Row) DataFault) → List ColType → Option ℕ → Bool → ℕ → Option (List ℕ × List ℕ) → Result (List Row) DataFault
+rows_behind more types sign ended count None = if ended then Ok [] else Err (data_fault.Unended count)
+rows_behind more types sign ended count (Some found) =
     if nat_le row_limit count then Err data_fault.TooMany
-    else row_onto (row_of_line types (count + 1) found.0) (more (count + 1) found.1)
+    else row_onto (signed_row_of_line types sign (count + 1) found.0) (more (count + 1) found.1)
 
 -- At most so many rows of data, after so many. What no line feed ends is no row. The first faulty line decides.
-abbrev pub rows_within : ℕ → List ColType → Bool → ℕ → List ℕ → Result (List Row) DataFault
-rows_within zero types ended count lines = Ok []
-rows_within (suc n) types ended count lines = rows_behind (rows_within n types ended) types ended count (line_from false lines)
+abbrev pub rows_within : ℕ → List ColType → Option ℕ → Bool → ℕ → List ℕ → Result (List Row) DataFault
+rows_within zero types sign ended count lines = Ok []
+rows_within (suc n) types sign ended count lines = rows_behind (rows_within n types sign ended) types sign ended count (line_from false lines)
 
--- the rows that an INSERT adds, or why its data is refused; the flag says that the line came which ends data
-abbrev pub inserted_rows : List ColType → List ℕ → Bool → Result (List Row) DataFault
-inserted_rows types lines ended = rows_within (length lines + 1) types ended 0 lines
+-- the rows that an INSERT adds to a table whose sign, where it has one, is at this place, or why its data is refused; the flag says that the line came which ends data
+abbrev pub inserted_rows : List ColType → Option ℕ → List ℕ → Bool → Result (List Row) DataFault
+inserted_rows types sign lines ended = rows_within (length lines + 1) types sign ended 0 lines

@@ -1,5 +1,5 @@
 -- The types of a schema's columns, and which rule it breaks first.
-use Rattle.std.specs.Prelude.{ℕ, ◌+◌, List, [], ◌∷◌, ◌++◌, Option, Some, None, Bool, true, false, not, ◌&&◌, if◌then◌else◌, map, nat_eq, nat_le, nat_lt, slice_get}
+use Rattle.std.specs.Prelude.{ℕ, ◌+◌, List, [], ◌∷◌, ◌++◌, Option, Some, None, Bool, false, not, ◌&&◌, if◌then◌else◌, map, nat_eq, nat_le, nat_lt}
 use Rattle.std.specs.List.{list_any, position}
 use Rattle.std.specs.Option.{option_map}
 use Rattle.std.specs.Cmp.Lexicographic.{pointwise}
@@ -14,7 +14,8 @@ use Rattle.mt_values.specs.declared.schema.SchemaFault.{SchemaFault}
 use Rattle.mt_values.specs.declared.schema.SchemaFault.TheVariants as fault
 use Rattle.mt_values.specs.declared.schema.SkipIndex.{SkipIndex}
 use Rattle.mt_values.specs.declared.value.ColType.{ColType}
-use Rattle.mt_values.specs.declared.value.ColType.TheVariants as type
+use Rattle.mt_values.specs.Engines.{aggregate_engine_fault, aggregate_key_fault, first_place, has_type_that, is_kept_apart, is_misfit, is_not_numeric, is_of_signs, nothing_fault, sign_key_fault, sign_place, summed_places, type_fault, version_place}
+pub use Rattle.mt_values.specs.Engines.{is_unsigned}
 
 -- the types of a table's columns, in order
 abbrev pub column_types : Schema → List ColType
@@ -74,23 +75,13 @@ prefix_fault key [] = None
 prefix_fault [] (column ∷ columns) = Some (fault.NotPrefix column)
 prefix_fault (own ∷ key) (column ∷ columns) = if nat_eq own column then prefix_fault key columns else Some (fault.NotPrefix column)
 
--- the type's numbers have no sign (docs/definitions.md, "Schemas")
-abbrev pub is_unsigned : ColType → Bool
-is_unsigned type.UInt8 = true
-is_unsigned type.UInt16 = true
-is_unsigned type.UInt32 = true
-is_unsigned type.UInt64 = true
-is_unsigned t = false
-
 -- a column that is there has unsigned numbers (docs/definitions.md, "Schemas")
 abbrev pub is_unsigned_column : Option Column → Bool
-is_unsigned_column None = false
-is_unsigned_column (Some column) = is_unsigned column.col_type
+is_unsigned_column column = has_type_that is_unsigned column
 
 -- the partition column is not unsigned (ClickHouse, MergeTree: PARTITION BY; docs/definitions.md, "Schemas")
 abbrev pub partition_fault : List Column → Option ℕ → Option SchemaFault
-partition_fault columns None = None
-partition_fault columns (Some place) = if is_unsigned_column (slice_get columns place) then None else Some (fault.PartitionType place)
+partition_fault columns place = type_fault is_unsigned fault.PartitionType columns place
 
 -- the rows of a granule are not from 1 to 65536 (ClickHouse, MergeTree: index_granularity; docs/definitions.md, "Schemas")
 abbrev pub granularity_fault : ℕ → Option SchemaFault
@@ -127,12 +118,36 @@ abbrev pub first_fault : List (Option SchemaFault) → Option SchemaFault
 first_fault [] = None
 first_fault (found ∷ others) = fault_or found (first_fault others)
 
--- the first rule that the schema breaks, by which key is written first (docs/definitions.md, "Schemas")
+-- a sign has the type Int8, and is neither in the sorting key nor the partition column (docs/engines.md, "Columns")
+abbrev pub sign_fault : Schema → Option SchemaFault
+sign_fault schema =
+    fault_or (type_fault is_of_signs fault.SignType schema.columns (sign_place schema.engine))
+    (sign_key_fault schema.key schema.partition (sign_place schema.engine))
+
+-- the columns to be summed have numbers, and are neither in the sorting key nor the partition column; there is one at least (docs/engines.md, "Columns")
+abbrev pub sum_fault : Schema → Option SchemaFault
+sum_fault schema =
+    first_fault (first_place (is_not_numeric schema.columns) fault.SumType (summed_places schema.engine)
+    ∷ first_place (is_kept_apart schema.key schema.partition) fault.SumKey (summed_places schema.engine) ∷ nothing_fault schema.engine ∷ [])
+
+-- columns with a function stand in AggregatingMergeTree alone and outside key and partition, and each function takes its column's type (docs/engines.md, "Columns")
+abbrev pub function_fault : Schema → Option SchemaFault
+function_fault schema =
+    first_fault (aggregate_engine_fault schema.engine schema.columns ∷ aggregate_key_fault 0 schema.key schema.partition schema.columns
+    ∷ option_map fault.AggregateType (position is_misfit schema.columns) ∷ [])
+
+-- the first rule of its engine that the schema breaks (docs/engines.md, "Columns")
+abbrev pub engine_fault : Schema → Option SchemaFault
+engine_fault schema =
+    first_fault (type_fault is_unsigned fault.VersionType schema.columns (version_place schema.engine) ∷ sign_fault schema
+    ∷ sum_fault schema ∷ function_fault schema ∷ [])
+
+-- The first rule that the schema breaks, by which key is written first. The list of an engine comes before both in the text (docs/definitions.md, "Schemas").
 abbrev pub schema_fault_as : KeyOrder → Schema → Option SchemaFault
 schema_fault_as first schema =
-    first_fault (empty_fault schema.columns ∷ column_fault schema.columns ∷ index_fault schema.indexes
+    first_fault (empty_fault schema.columns ∷ column_fault schema.columns ∷ index_fault schema.indexes ∷ key_fault (summed_places schema.engine)
     ∷ keys_fault first schema.key schema.primary ∷ prefix_fault schema.key schema.primary ∷ partition_fault schema.columns schema.partition
-    ∷ granularity_fault schema.granularity ∷ index_granularity_fault schema.indexes ∷ set_size_fault schema.indexes ∷ [])
+    ∷ engine_fault schema ∷ granularity_fault schema.granularity ∷ index_granularity_fault schema.indexes ∷ set_size_fault schema.indexes ∷ [])
 
 -- the first rule that the schema breaks, the sorting key tried first (docs/definitions.md, "Schemas")
 abbrev pub schema_fault : Schema → Option SchemaFault

@@ -1,5 +1,5 @@
 -- What a schema says of its table's rows: their order, and the partition of each (ClickHouse, MergeTree: ORDER BY, PARTITION BY).
-use Rattle.std.specs.Prelude.{ℕ, ◌<◌, ◌^◌, Bool, true, false, nat_eq, List, Option, Some, None, slice_get}
+use Rattle.std.specs.Prelude.{ℕ, ◌<◌, ◌^◌, Bool, true, false, nat_eq, List, ◌++◌, Option, Some, None, slice_get}
 use Rattle.std.specs.declared.cmp.Ordering.{Ordering}
 use Rattle.mt_base.specs.declared.partition.Partition.{Partition}
 use Rattle.mt_base.specs.declared.partition.Partition.TheVariants.{Whole, Number}
@@ -11,10 +11,11 @@ use Rattle.mt_values.specs.declared.value.Value.{Value}
 use Rattle.mt_values.specs.declared.value.Value.TheVariants as value
 use Rattle.mt_values.specs.Values.{Row}
 use Rattle.mt_values.specs.Order.{key_cmp}
+use Rattle.mt_values.specs.Engines.{added_version, keeps_sign, sign_place}
 
--- the columns by which a table's rows are ordered: those of its key (docs/definitions.md, "Order")
+-- the columns by which a table's rows are ordered: those of its key, and then the version where a versioned collapsing table's key lacks it (docs/definitions.md, "Order")
 abbrev pub sorting_columns : Schema → List ℕ
-sorting_columns schema = schema.key
+sorting_columns schema = schema.key ++ added_version schema.engine schema.key
 
 -- the order of a table's rows (docs/definitions.md, "Order")
 abbrev pub sorting_cmp : Schema → Row → Row → Ordering
@@ -72,6 +73,10 @@ same_partition Whole Whole = true
 same_partition (Number m) (Number n) = nat_eq m n
 same_partition a b = false
 
--- merges of the table fold no rows: so it is of each table, as long as a schema names no engine (ClickHouse, MergeTree)
+-- merges of the table fold no rows: so it is of each table, as long as nothing merges (docs/engines.md, "Merges")
 abbrev pub IsPlain : Schema → Type 0
 IsPlain schema = Unit {0}
+
+-- the sign of a table's row is 1 or -1, where the table has a sign (ClickHouse, CollapsingMergeTree: sign; docs/engines.md, "Columns")
+abbrev pub has_sign : Schema → Row → Bool
+has_sign schema row = keeps_sign (sign_place schema.engine) row

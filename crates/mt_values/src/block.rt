@@ -147,14 +147,16 @@ impl Block {
         places_of(alloc, &pairs)
     }
 
-    /// The places of the rows, from 0, in the order by the sorting key.
+    /// The places of the rows, from 0, in the table's order: by the sorting key, and then by the version where a versioned
+    /// collapsing table's key lacks it.
     ///
     /// `NoMemory` where there was none for the places.
     pub fn key_order(&self, alloc: Global, schema: &Schema) -> Result<Vec<u32>, NoMemory>
         requires { All (λ place. place < length self.now.types) (sorting_columns schema.now) }
         ensures { IfOk result (λ v. IsOrderBy (sorting_columns schema.now) self.now.rows v.items) }
     {
-        self.order_by(alloc, schema.key.as_slice())
+        let places = schema.sorting_places(alloc)?;
+        self.order_by(alloc, places.as_slice())
     }
 }
 

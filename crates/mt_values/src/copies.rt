@@ -1,5 +1,5 @@
 // Equal copies of what tables are made of.
-use crate::{ColType, Column, IndexKind, Schema, SkipIndex, Test, Value};
+use crate::{Aggregate, ColType, Column, Engine, IndexKind, Schema, SkipIndex, Test, Value};
 use mt_base::{NoMemory, Twin};
 use std::alloc::Global;
 
@@ -30,6 +30,7 @@ impl Twin for Column {
         Ok(Column {
             name: self.name.twin(alloc)?,
             col_type: self.col_type,
+            function: self.function,
         })
     }
 }
@@ -55,6 +56,7 @@ impl Twin for Schema {
     fn twin(&self, alloc: Global) -> Result<Self, NoMemory> {
         Ok(Schema {
             columns: self.columns.twin(alloc)?,
+            engine: self.engine.twin(alloc)?,
             key: self.key.twin(alloc)?,
             primary: self.primary.twin(alloc)?,
             partition: self.partition,
@@ -71,5 +73,27 @@ impl Twin for Test {
             comparison: self.comparison,
             literals: self.literals.twin(alloc)?,
         })
+    }
+}
+
+impl Twin for Engine {
+    fn twin(&self, alloc: Global) -> Result<Self, NoMemory> {
+        match self {
+            Engine::Plain => Ok(Engine::Plain),
+            Engine::Replacing(version) => Ok(Engine::Replacing(*version)),
+            Engine::Summing(places) => Ok(Engine::Summing(places.twin(alloc)?)),
+            Engine::Collapsing(sign) => Ok(Engine::Collapsing(*sign)),
+            Engine::Versioned { sign, version } => Ok(Engine::Versioned {
+                sign: *sign,
+                version: *version,
+            }),
+            Engine::Aggregating => Ok(Engine::Aggregating),
+        }
+    }
+}
+
+impl Twin for Aggregate {
+    fn twin(&self, _alloc: Global) -> Result<Self, NoMemory> {
+        Ok(*self)
     }
 }

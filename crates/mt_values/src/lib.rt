@@ -10,6 +10,8 @@ mod command;
 mod conjuncts;
 mod copies;
 mod digits;
+mod engine;
+mod engine_columns;
 mod eval;
 mod expr;
 mod filtering;
@@ -35,6 +37,8 @@ pub use column::ColumnData;
 pub use command::{Command, Create, Entry, Insert};
 pub use conjuncts::conjuncts_are_the_condition;
 pub use digits::number_within;
+pub use engine::{Aggregate, Engine};
+pub use engine_columns::{is_kept_apart, is_numeric, summable_places};
 pub use eval::{meets, meets_at};
 pub use expr::{Comparison, Expr, Joint, Literal, LiteralText, MOST_TRUTHS, Test, TestText};
 pub use literal::literal_value;
@@ -51,8 +55,8 @@ pub use script::Place;
 pub use sorting::{all_places, cmp_cells};
 pub use stack::Stack;
 pub use statement::{
-    Cause, Clause, CreateText, Element, IndexText, InsertText, KindText, SelectText, Selected,
-    Slip, Statement,
+    Cause, Clause, CreateText, Element, EngineText, IndexText, InsertText, KindText, SelectText,
+    Selected, Slip, Statement,
 };
 pub use token::{Placed, Symbol, Token};
 pub use value::{ColType, Row, Value};

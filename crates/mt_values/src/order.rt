@@ -17,13 +17,29 @@ pub fn cmp_value(a: &Value, b: &Value) -> Ordering
     cmp_cells(Cell::of(a), Cell::of(b))
 }
 
-/// The order of two rows by the sorting key.
+/// The order of two rows of a table: by the sorting key, and then by the version where a versioned collapsing table's key lacks it.
 pub fn cmp_key(schema: &Schema, a: &Row, b: &Row) -> Ordering
     requires first { HasPlaces (sorting_columns schema.now) a.now }
     requires second { HasPlaces (sorting_columns schema.now) b.now }
     ensures { result ≡ sorting_cmp schema.now a.now b.now }
 {
-    for place in schema.key.as_slice() {
+    let found = cmp_by(schema.key.as_slice(), a, b);
+    if found.is_ne() {
+        return found;
+    }
+    match schema.added_version() {
+        Some(version) => cmp_value(a.at(version as usize), b.at(version as usize)),
+        None => Ordering::Equal,
+    }
+}
+
+/// The order of two rows by the values at these places.
+fn cmp_by(places: &[u32], a: &Row, b: &Row) -> Ordering
+    requires first { HasPlaces places.now a.now }
+    requires second { HasPlaces places.now b.now }
+    ensures { result ≡ key_cmp places.now a.now b.now }
+{
+    for place in places {
         let found = cmp_value(a.at(*place as usize), b.at(*place as usize));
         if found.is_ne() {
             return found;

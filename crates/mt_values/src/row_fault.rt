@@ -25,6 +25,10 @@ pub enum RowFault {
     },
     /// A field is a text of more bytes than a text may have, and each field before it is of its column's type.
     Value,
+    /// Each field is of its column's type, and the sign is neither 1 nor -1.
+    Sign {
+        line: usize,
+    },
 }
 
 /// Why data is not the rows of an INSERT.

@@ -1,4 +1,4 @@
-// The columns of a table, its keys, its partition column, the size of its granules and its skip indexes.
+// The columns of a table, its engine, its keys, its partition column, the size of its granules and its skip indexes.
 ghost use Rattle.std.specs.Prelude.{◌≡◌, ◌∷◌, [], None, Some, IfOk, MatchResult, nat_eq};
 ghost use Rattle.std.specs.Cmp.Lexicographic.{pointwise};
 ghost use Rattle.std.specs.List.{list_any, position};
@@ -7,13 +7,13 @@ ghost use Rattle.mt_values.specs.declared.schema.KeyOrder.TheVariants.{SortingFi
 ghost use Rattle.mt_values.specs.declared.schema.Schema.{Schema};
 ghost use Rattle.mt_values.specs.Schemas.{
   column_fault,
+  engine_fault,
   first_fault,
   granularity_fault,
   has_large_set,
   has_no_span,
   index_fault,
   index_granularity_fault,
-  is_unsigned,
   key_fault,
   keys_fault,
   partition_fault,
@@ -23,7 +23,8 @@ ghost use Rattle.mt_values.specs.Schemas.{
   set_size_fault,
 };
 
-use crate::{ColType, Name};
+use crate::engine_columns::{engine_fault, is_unsigned_at};
+use crate::{Aggregate, ColType, Engine, Name};
 use mt_base::{GRANULARITY_LIMIT, NoMemory, SET_LIMIT, Seq};
 use std::alloc::Global;
 
@@ -32,6 +33,8 @@ use std::alloc::Global;
 pub struct Column {
     pub name: Name,
     pub col_type: ColType,
+    /// The function of SimpleAggregateFunction, where the column is one.
+    pub function: Option<Aggregate>,
 }
 
 /// What a skip index keeps of the values of a block.
@@ -54,10 +57,12 @@ pub struct SkipIndex {
     pub granularity: u32,
 }
 
-/// The columns of a table, in order, and which of them, by their places from 0, are its keys and its partition column.
+/// The columns of a table, in order, its engine, and which columns, by their places from 0, are its keys and its partition column.
 #[derive(Debug, Drop, PartialEq, Eq)]
 pub struct Schema {
     pub columns: Seq<Column>,
+    /// What merges do with the rows of one key.
+    pub engine: Engine,
     /// The sorting key.
     pub key: Seq<u32>,
     /// The primary key.
@@ -79,12 +84,30 @@ pub enum SchemaFault {
     DoubleColumn(usize),
     /// The skip index at this place, from 0, has the name of an earlier one.
     DoubleIndex(usize),
-    /// A key names the column at this place a second time.
+    /// A key, or the list of an engine, names the column at this place a second time.
     DoubleKey(u32),
     /// The primary key has the column at this place where the sorting key has another one or none.
     NotPrefix(u32),
     /// The partition column, at this place, is not unsigned.
     PartitionType(u32),
+    /// The version, at this place, is not unsigned.
+    VersionType(u32),
+    /// The sign, at this place, is not of the type Int8.
+    SignType(u32),
+    /// The sign, at this place, is in the sorting key or the partition column.
+    SignKey(u32),
+    /// The column at this place is to be summed and has no numbers.
+    SumType(u32),
+    /// The column at this place is to be summed, and is in the sorting key or the partition column.
+    SumKey(u32),
+    /// There is no column to sum.
+    NothingToSum,
+    /// The column at this place has a function, and the engine folds none.
+    AggregateEngine(usize),
+    /// The column at this place has a function, and is in the sorting key or the partition column.
+    AggregateKey(usize),
+    /// The column at this place has a function that does not take its type.
+    AggregateType(usize),
     /// The rows of a granule are none, or more than a granule may have.
     Granularity,
     /// The granules of a block of the skip index at this place are none, or more than a block may have.
@@ -127,22 +150,37 @@ impl Schema {
         if let Some(fault) = double_index(self.indexes.as_slice()) {
             return Err(fault);
         }
+        if let Some(fault) = double_key(self.engine.summed_places()) {
+            return Err(fault);
+        }
         if let Some(fault) = double_mention(first, self.key.as_slice(), self.primary.as_slice()) {
             return Err(fault);
         }
         if let Some(fault) = not_prefix(self.key.as_slice(), self.primary.as_slice()) {
             return Err(fault);
         }
-        if let Some(fault) = partition_type(self.columns.as_slice(), self.partition) {
-            return Err(fault);
-        }
-        if let Some(fault) = granularity(self.granularity) {
-            return Err(fault);
-        }
-        match sizes_of_indexes(self.indexes.as_slice()) {
+        match self.fault_of_roles() {
             Some(fault) => Err(fault),
             None => Ok(()),
         }
+    }
+
+    /// The first fault of the partition column, of the columns of the engine, or of the sizes of granules and indexes.
+    fn fault_of_roles(&self) -> Option<SchemaFault>
+        ensures { result ≡ first_fault (partition_fault self.now.columns self.now.partition
+            ∷ engine_fault self.now ∷ granularity_fault self.now.granularity
+            ∷ index_granularity_fault self.now.indexes ∷ set_size_fault self.now.indexes ∷ []) }
+    {
+        if let Some(fault) = partition_type(self.columns.as_slice(), self.partition) {
+            return Some(fault);
+        }
+        if let Some(fault) = engine_fault(self) {
+            return Some(fault);
+        }
+        if let Some(fault) = granularity(self.granularity) {
+            return Some(fault);
+        }
+        sizes_of_indexes(self.indexes.as_slice())
     }
 
     /// The types of the columns, in order.
@@ -241,20 +279,10 @@ fn partition_type(columns: &[Column], partition: Option<u32>) -> Option<SchemaFa
     ensures { result ≡ partition_fault columns.now partition }
 {
     let place = partition?;
-    match columns.get(place as usize) {
-        Some(column) if is_unsigned(column.col_type) => None,
-        _ => Some(SchemaFault::PartitionType(place)),
+    if is_unsigned_at(columns, place) {
+        return None;
     }
-}
-
-/// Whether the type's numbers have no sign.
-fn is_unsigned(col_type: ColType) -> bool
-    ensures { result ≡ is_unsigned col_type }
-{
-    match col_type {
-        ColType::UInt8 | ColType::UInt16 | ColType::UInt32 | ColType::UInt64 => true,
-        _ => false,
-    }
+    Some(SchemaFault::PartitionType(place))
 }
 
 /// The fault of granules of no rows, or of more rows than a granule may have.

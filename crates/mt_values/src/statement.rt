@@ -45,6 +45,7 @@ pub struct CreateText {
     pub table: Name,
     /// Its columns and indexes, in the order of the text.
     pub elements: Seq<Element>,
+    pub engine: EngineText,
     /// Its clauses, in the order of the text.
     pub clauses: Seq<Clause>,
 }
@@ -72,6 +73,21 @@ pub enum KindText {
     MinMax,
     /// The digits of the number of values at most.
     Set(Bytes),
+}
+
+/// The engine of a CREATE TABLE. Its names are as they were written.
+#[derive(Drop)]
+pub enum EngineText {
+    Plain,
+    /// The column of the version, where there is one.
+    Replacing(Option<Name>),
+    /// The columns of the list; none where there is no list.
+    Summing(Seq<Name>),
+    /// The column of the sign.
+    Collapsing(Name),
+    /// The columns of the sign and of the version.
+    Versioned { sign: Name, version: Name },
+    Aggregating,
 }
 
 /// A clause of a CREATE TABLE. Its names are as they were written.

@@ -1,4 +1,4 @@
-use Rattle.std.proofs.Common.{◌≡◌, ◌∙◌, ◌+◌, ◌<◌, ◌≤◌, ◌||◌, false, ap, arith, get_or, length, set, slice_get, sym, Some}
+use Rattle.std.proofs.Common.{◌≡◌, ◌∙◌, ◌<◌, ◌≤◌, ◌||◌, false, ap, arith, get_or, length, set, slice_get, sym, Some}
 use Rattle.std.proofs.lemmas.Option.{get_or_from_slice_get}
 use Rattle.mt_values.specs.Cells.{value_of}
 use Rattle.mt_values.specs.Columns.{cells_of}

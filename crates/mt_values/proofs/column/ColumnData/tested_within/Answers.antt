@@ -1,4 +1,4 @@
-use Rattle.std.proofs.Common.{◌≡◌, ◌∙◌, ◌≤◌, ◌||◌, ◌+◌, ap, arith, length, map, subst, sym, take}
+use Rattle.std.proofs.Common.{◌≡◌, ◌∙◌, ◌||◌, ◌+◌, ap, arith, length, map, sym, take}
 use Rattle.std.proofs.lemmas.List.{length-map, take_all, with_items_is}
 use Rattle.mt_values.specs.Columns.{cells_of}
 use Rattle.mt_values.specs.Grid.{Cells}
