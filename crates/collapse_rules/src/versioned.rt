@@ -1,7 +1,7 @@
 // VersionedCollapsingMergeTree: pairs of different sign are deleted, whatever their order (docs/engines.md, "VersionedCollapsingMergeTree").
 ghost use Rattle.std.specs.Prelude.{◌≡◌, []};
-ghost use Rattle.rule_law.specs.Rules.{Folds, HasSign, Run};
-ghost use Rattle.rule_law.specs.declared.engine.Engine.TheVariants as engine;
+ghost use Rattle.mt_model.specs.Rules.{Folds, HasSign, Run};
+ghost use Rattle.mt_values.specs.declared.engine.Engine.TheVariants as engine;
 ghost use Rattle.mt_values.specs.Order.{key_of};
 ghost use Rattle.rule_law.proofs.Kept.{versioned_keeps};
 ghost use Rattle.rule_law.proofs.OneSign.{versioned_law};

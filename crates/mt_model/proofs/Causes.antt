@@ -12,7 +12,6 @@ use Rattle.mt_values.specs.declared.row_fault.RowFault.TheVariants as row_fault
 use Rattle.mt_values.specs.declared.schema.Column.{Column}
 use Rattle.mt_values.specs.declared.schema.Schema.{Schema}
 use Rattle.mt_values.specs.declared.schema.SchemaFault.{SchemaFault}
-use Rattle.mt_values.specs.declared.schema.SchemaFault.TheVariants as schema_fault
 use Rattle.mt_values.specs.declared.statement.Cause.{Cause}
 use Rattle.mt_values.specs.declared.statement.Cause.TheVariants as cause
 use Rattle.mt_values.specs.declared.statement.Selected.{Selected}
@@ -20,6 +19,7 @@ use Rattle.mt_values.specs.declared.statement.Selected.TheVariants as selected
 use Rattle.mt_values.specs.declared.expr.Literal.{Literal}
 use Rattle.mt_values.specs.declared.expr.TestText.{TestText}
 use Rattle.mt_values.specs.Conditions.{Condition, tests_of}
+use Rattle.mt_values.specs.Engines.{sign_place}
 use Rattle.mt_values.specs.Rows.{inserted_rows}
 use Rattle.mt_values.specs.Schemas.{schema_fault_as as rule_of}
 use Rattle.mt_values.specs.Values.{Row}
@@ -52,13 +52,17 @@ use Rattle.mt_model.proofs.Refused.{code_of_line}
 
 -- ---- what a script is refused for
 
+-- a number of those that say so: up to 14, and 18
+abbrev pub IsOfScript : ℕ → Type 0
+IsOfScript m = (m ≤ 14) ⊎ (m ≡ 18)
+
 -- the script is the cause, and not the outside
 abbrev pub OfScript : Refusal → Type 0
-OfScript r = code r ≤ 14
+OfScript r = IsOfScript (code r)
 
 -- so it is, and the line counts no command
 abbrev pub OfText : Refusal → Type 0
-OfText r = (code r ≤ 14) × (accepted_by r ≡ 0)
+OfText r = OfScript r × (accepted_by r ≡ 0)
 
 -- where it is refused, the script is the cause
 abbrev Scripted : {A : Type 0} → Result A Refusal → Type 0
@@ -85,7 +89,7 @@ tells_first None p h k = k
 tells_first (Some why) p h k = h
 
 found_tells : (name : List ℕ) (o : Option ℕ) → Scripted (found_or name o)
-found_tells name None = (omega arith, refl)
+found_tells name None = (inl (omega arith), refl)
 found_tells name (Some place) = tt
 
 onto_tells : (r : Result ℕ Refusal) (rest : Result (List ℕ) Refusal) → Scripted r → Scripted rest → Scripted (place_onto r rest)
@@ -99,19 +103,11 @@ places_tell columns (name ∷ names) = onto_tells (found_or name (column_place c
 
 rules_tell : (schema : Schema) (o : Option SchemaFault) → Tells (option_map (refusal_of_schema schema) o)
 rules_tell schema None = tt
-rules_tell schema (Some schema_fault.NoColumns) = (omega arith, refl)
-rules_tell schema (Some (schema_fault.DoubleColumn place)) = (omega arith, refl)
-rules_tell schema (Some (schema_fault.DoubleIndex place)) = (omega arith, refl)
-rules_tell schema (Some (schema_fault.DoubleKey place)) = (omega arith, refl)
-rules_tell schema (Some (schema_fault.NotPrefix place)) = (omega arith, refl)
-rules_tell schema (Some (schema_fault.PartitionType place)) = (omega arith, refl)
-rules_tell schema (Some schema_fault.Granularity) = (omega arith, refl)
-rules_tell schema (Some (schema_fault.IndexGranularity place)) = (omega arith, refl)
-rules_tell schema (Some (schema_fault.SetSize place)) = (omega arith, refl)
+rules_tell schema (Some broken) = (inl (omega arith), refl)
 
 bounds_tell : (o : Option Bound) → Tells (option_map refusal.Past o)
 bounds_tell None = tt
-bounds_tell (Some b) = (omega arith, refl)
+bounds_tell (Some b) = (inl (omega arith), refl)
 
 unless_tells : {X : Type 0} (o : Option Refusal) (x : X) → Tells o → Scripted (unless_refused o x)
 unless_tells None x h = tt
@@ -119,7 +115,7 @@ unless_tells (Some why) x h = h
 
 unknown_tells : (o : Option (List ℕ)) → Tells (option_map refusal.NoColumn o)
 unknown_tells None = tt
-unknown_tells (Some name) = (omega arith, refl)
+unknown_tells (Some name) = (inl (omega arith), refl)
 
 text_tells : (c : CreateText) → Scripted (schema_of_text c)
 text_tells c =
@@ -131,22 +127,23 @@ text_tells c =
 
 create_turn_tells : (table : List ℕ) (h : History) → Tells (create_turn table h)
 create_turn_tells table h =
-    tells_if (is_some (schema_of table h)) (Some (refusal.TableExists table)) (cond (nat_lt (creates h) 64) None (Some (refusal.Past bound.Tables))) (omega arith, refl)
-    (tells_if (nat_lt (creates h) 64) None (Some (refusal.Past bound.Tables)) tt (omega arith, refl))
+    tells_if (is_some (schema_of table h)) (Some (refusal.TableExists table)) (cond (nat_lt (creates h) 64) None (Some (refusal.Past bound.Tables))) (inl (omega arith), refl)
+    (tells_if (nat_lt (creates h) 64) None (Some (refusal.Past bound.Tables)) tt (inl (omega arith), refl))
 
 row_tells : (fault : RowFault) → OfText (refusal_of_row fault)
-row_tells (row_fault.Fields line found wanted) = (omega arith, refl)
-row_tells (row_fault.Field line field) = (omega arith, refl)
-row_tells row_fault.Value = (omega arith, refl)
+row_tells (row_fault.Fields line found wanted) = (inl (omega arith), refl)
+row_tells (row_fault.Field line field) = (inl (omega arith), refl)
+row_tells row_fault.Value = (inl (omega arith), refl)
+row_tells (row_fault.Sign line) = (inr refl, refl)
 
 data_tells : (fault : DataFault) → OfText (refusal_of_data fault)
 data_tells (data_fault.Row fault) = row_tells fault
-data_tells data_fault.TooMany = (omega arith, refl)
-data_tells (data_fault.Unended rows) = (omega arith, refl)
+data_tells data_fault.TooMany = (inl (omega arith), refl)
+data_tells (data_fault.Unended rows) = (inl (omega arith), refl)
 
 rows_tell : (i : InsertText) (o : Option Schema) → Scripted (rows_for i o)
-rows_tell i None = (omega arith, refl)
-rows_tell i (Some schema) = by (inserted_rows (column_types schema) i.lines i.ended)
+rows_tell i None = (inl (omega arith), refl)
+rows_tell i (Some schema) = by (inserted_rows (column_types schema) (sign_place schema.engine) i.lines i.ended)
   where
     by : (r : Result (List Row) DataFault) → Scripted (rows_or_refused r)
     by (Ok rows) = tt
@@ -156,8 +153,8 @@ full_tells : (parts drawn accepted : ℕ) (why : Refusal) → insert_turn parts 
 full_tells parts drawn accepted why is = by (nat_le 3000 parts) (nat_le 4294967295 drawn) is
   where
     by : (b c : Bool) → cond b (Some (refusal.Full room.Parts accepted)) (cond c (Some (refusal.Full room.Numbers accepted)) None) ≡ Some why → OfScript why
-    by true c e = let same : refusal.Full room.Parts accepted ≡ why = cc in subst OfScript same (omega arith)
-    by false true e = let same : refusal.Full room.Numbers accepted ≡ why = cc in subst OfScript same (omega arith)
+    by true c e = let same : refusal.Full room.Parts accepted ≡ why = cc in subst OfScript same (inl (omega arith))
+    by false true e = let same : refusal.Full room.Numbers accepted ≡ why = cc in subst OfScript same (inl (omega arith))
     by false false e = cc
 
 -- a turn that refuses does so for what the script says
@@ -171,7 +168,7 @@ selected_tells columns (selected.Named names) = places_tell columns names
 
 literal_tells : (column : List ℕ) (o : Option Literal) → Tells (option_map (λ (l : Literal). refusal.Literal column l.at) o)
 literal_tells column None = tt
-literal_tells column (Some l) = (omega arith, refl)
+literal_tells column (Some l) = (inl (omega arith), refl)
 
 tests_tell : (columns : List Column) (ts : List TestText) → Tells (refusal_of_tests columns ts)
 tests_tell columns [] = tt
@@ -191,7 +188,7 @@ query_tells : (columns : List Column) (s : SelectText) → Scripted (query_of co
 query_tells columns s = asked_tells columns s.condition (selected_places columns s.columns) (selected_tells columns s.columns)
 
 select_tells : (t : SelectText) (o : Option Schema) → Scripted (query_for t o)
-select_tells t None = (omega arith, refl)
+select_tells t None = (inl (omega arith), refl)
 select_tells t (Some schema) = query_tells schema.columns t
 
 asking_tells : (r : Result Query Refusal) → Scripted r → Scripted (no_commands r)
@@ -211,7 +208,7 @@ commands_tell h (statement.Insert i) = by (schema_of i.table h)
     of_rows schema (Ok rows) t = tt
 
     by : (o : Option Schema) → Scripted (commands_for i o)
-    by None = (omega arith, refl)
+    by None = (inl (omega arith), refl)
     by (Some schema) = of_rows schema (rows_for i (Some schema)) (rows_tell i (Some schema))
 commands_tell h (statement.Select t) = asking_tells (query_of_select t h) (select_tells t (schema_of t.table h))
 commands_tell h (statement.Explain t) = asking_tells (query_of_select t h) (select_tells t (schema_of t.table h))
@@ -231,22 +228,22 @@ pub query_is_cause : (columns : List Column) (s : SelectText) (why : Refusal) �
 query_is_cause columns s why is = (scripted (query_of columns s) why is (query_tells columns s)).0
 
 pub cause_tells : (why : Cause) → OfText (refusal_of_cause why)
-cause_tells (cause.Grammar place) = (omega arith, refl)
-cause_tells cause.LongStatement = (omega arith, refl)
-cause_tells cause.LongName = (omega arith, refl)
-cause_tells cause.TooDeep = (omega arith, refl)
+cause_tells (cause.Grammar place) = (inl (omega arith), refl)
+cause_tells cause.LongStatement = (inl (omega arith), refl)
+cause_tells cause.LongName = (inl (omega arith), refl)
+cause_tells cause.TooDeep = (inl (omega arith), refl)
 
 -- ---- what a reply says of the outside
 
 -- the script is the cause of the reply, or the disk's count rose
 abbrev Blames : Outside → List ℕ → Type 0
-Blames n reply = (code_of reply ≤ 14) ⊎ ((code_of reply ≤ 17) × HasRisen n n.ended)
+Blames n reply = IsOfScript (code_of reply) ⊎ ((code_of reply ≤ 17) × HasRisen n n.ended)
 
 by_script : (n : Outside) (why : Refusal) (reply : List ℕ) → reply ≡ refusal_line why → OfScript why → Blames n reply
-by_script n why reply is few = let e : code_of reply ≡ code why = ap code_of is ∙ code_of_line why in inl (omega arith)
+by_script n why reply is few = let e : code_of reply ≡ code why = ap code_of is ∙ code_of_line why in inl (subst IsOfScript (sym e) few)
 
 by_none : (n : Outside) (reply is : List ℕ) → reply ≡ is → code_of is ≡ 0 → Blames n reply
-by_none n reply is same none = let e : code_of reply ≡ 0 = ap code_of same ∙ none in inl (omega arith)
+by_none n reply is same none = let e : code_of reply ≡ 0 = ap code_of same ∙ none in inl (inl (omega arith))
 
 by_outside : (n : Outside) (why : Refusal) (reply : List ℕ) → reply ≡ refusal_line why → code why ≤ 17 → HasRisen n n.ended → Blames n reply
 by_outside n why reply is few rose = let e : code_of reply ≡ code why = ap code_of is ∙ code_of_line why in inr (omega arith, rose)
@@ -275,21 +272,14 @@ takes_blames n h s (Ok (statement.Explain t)) from to reply (inl (r, a)) = by_no
 takes_blames n h s (Ok (statement.Explain t)) from to reply (inr (why, is, r)) = by_script n why reply r.line (select_is_cause (take to h) t why is).0
 takes_blames n h s (Err why) from to reply r = by_script n (refusal_of_cause why) reply r.line (cause_tells why).0
 
--- a refusal that tells of the outside comes only where the count rose
-pub outside_rose : (n : Outside) (h : History) (s : ℕ) (st : Result Statement Cause) (from to : ℕ) (reply : List ℕ) → Takes n h s st from to reply → 14 < code_of reply → HasRisen n n.ended
-outside_rose n h s st from to reply t many = by (takes_blames n h s st from to reply t)
-  where
-    by : Blames n reply → HasRisen n n.ended
-    by (inl few) = absurd (omega arith)
-    by (inr (few, rose)) = rose
-
 -- a count that stands where it stood at opening, below its type's end, has not risen
 pub still_calm : (n : Outside) → n.ended ≡ n.opened → n.ended < 2 ^ 64 - 1 → HasRisen n n.ended → ⊥
 still_calm n still below rose = omega arith
 
-numbered : (m : ℕ) → m ≤ 14 → (m ≡ 0) ⊎ ((nat_le 1 m && nat_le m 14 || (m == 18)) ≡ true)
-numbered zero few = inl refl
-numbered (suc m) few = inr (test (suc m) (omega arith) few)
+numbered : (m : ℕ) → IsOfScript m → (m ≡ 0) ⊎ ((nat_le 1 m && nat_le m 14 || (m == 18)) ≡ true)
+numbered m (inr is) = inr (ap (λ (k : ℕ). nat_le 1 k && nat_le k 14 || (k == 18)) is)
+numbered zero (inl few) = inl refl
+numbered (suc m) (inl few) = inr (test (suc m) (omega arith) few)
   where
     test : (k : ℕ) → 0 < k → k ≤ 14 → (nat_le 1 k && nat_le k 14 || (k == 18)) ≡ true
     test k some few = grind (arith, nat_tests)
@@ -302,19 +292,36 @@ told_of_script n h s st from to reply still below t = by (takes_blames n h s st 
     by (inl few) = numbered (code_of reply) few
     by (inr (few, rose)) = absurd (still_calm n still below rose)
 
-not_damage : (m : ℕ) → m < 18 → (m == 19) ≡ false
+-- a reply that has a number and is no refusal for what the script says comes only where the count rose
+pub outside_rose : (n : Outside) (h : History) (s : ℕ) (st : Result Statement Cause) (from to : ℕ) (reply : List ℕ) → Takes n h s st from to reply → 0 < code_of reply → is_refusal reply ≡ false → HasRisen n n.ended
+outside_rose n h s st from to reply t some other = by (takes_blames n h s st from to reply t)
+  where
+    of_number : (code_of reply ≡ 0) ⊎ (is_refusal reply ≡ true) → HasRisen n n.ended
+    of_number (inl none) = absurd (omega arith)
+    of_number (inr refuses) = absurd (false≢true (sym other ∙ refuses))
+
+    by : Blames n reply → HasRisen n n.ended
+    by (inl few) = of_number (numbered (code_of reply) few)
+    by (inr (few, rose)) = rose
+
+not_damage : (m : ℕ) → m < 19 → (m == 19) ≡ false
 not_damage m few = grind (arith, nat_tests)
 
 -- where the script is the cause, the line does not tell of damage
 pub undamaged_line : (why : Refusal) → OfScript why → is_damage (refusal_line why) ≡ false
-undamaged_line why few = let e : code_of (refusal_line why) ≡ code why = code_of_line why in not_damage (code_of (refusal_line why)) (omega (arith, e, few))
+undamaged_line why few = let e : code_of (refusal_line why) ≡ code why = code_of_line why in by few e
+  where
+    by : IsOfScript (code why) → code_of (refusal_line why) ≡ code why → is_damage (refusal_line why) ≡ false
+    by (inl low) e = not_damage (code_of (refusal_line why)) (omega (arith, e, low))
+    by (inr is) e = not_damage (code_of (refusal_line why)) (omega (arith, e, is))
 
 -- no reply tells of damage
 pub never_damaged : (n : Outside) (h : History) (s : ℕ) (st : Result Statement Cause) (from to : ℕ) (reply : List ℕ) → Takes n h s st from to reply → is_damage reply ≡ false
 never_damaged n h s st from to reply t = not_damage (code_of reply) (by (takes_blames n h s st from to reply t))
   where
-    by : Blames n reply → code_of reply < 18
-    by (inl few) = omega arith
+    by : Blames n reply → code_of reply < 19
+    by (inl (inl few)) = omega arith
+    by (inl (inr is)) = omega arith
     by (inr (few, rose)) = omega arith
 
 -- ---- refusals have causes

@@ -10,7 +10,7 @@ use Rattle.mt_values.specs.declared.schema.Schema.{Schema}
 use Rattle.mt_values.specs.declared.statement.SelectText.{SelectText}
 use Rattle.mt_values.specs.Values.{Row}
 use Rattle.mt_values.specs.Order.{key_of, key_cmp, row_cmp, IsExact}
-use Rattle.mt_values.specs.Tables.{IsPlain, partition_of, same_partition, sorting_cmp}
+use Rattle.mt_values.specs.Tables.{IsPlain, partition_of, same_partition, sorting_cmp, sorting_columns}
 use Rattle.mt_values.specs.Printing.{line}
 use Rattle.mt_values.specs.Tests.{eval}
 use Rattle.mt_values.proofs.Orders.{value_total, value_exact}
@@ -27,7 +27,7 @@ pub key_total : (places : List ℕ) → IsTotalOrder (key_cmp places)
 key_total places = on_total (key_of places) (lists_total value_total)
 
 pub sorting_total : (schema : Schema) → IsTotalOrder (sorting_cmp schema)
-sorting_total schema = key_total schema.key
+sorting_total schema = key_total (sorting_columns schema)
 
 pub row_total : IsTotalOrder row_cmp
 row_total = lists_total value_total

@@ -218,7 +218,7 @@ written_few columns (element.Index x ∷ elements) = by (column_place columns x.
     by (Some place) rest = omega (arith, rest)
 
 any_column : Column
-any_column = record { name = []; col_type = UInt8 }
+any_column = record { name = []; col_type = UInt8; function = None }
 
 -- the column of each is one of the columns
 pub written_own : (columns : List Column) (elements : List Element) → All (λ (x : SkipIndex). x.column < length columns) (indexes_written columns elements)

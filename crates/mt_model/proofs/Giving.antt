@@ -1,7 +1,9 @@
 -- The statements that the grammar's readers give.
-use Rattle.std.proofs.Common.{ℕ, ◌+◌, ◌<◌, Bool, true, false, List, [], ◌∷◌, ◌++◌, IfOk, Result, Ok, Err, length, All, arith, zero, suc, length-append, codes}
+use Rattle.std.proofs.Common.{ℕ, ◌+◌, ◌<◌, Bool, true, false, List, [], ◌∷◌, ◌++◌, IfOk, None, Some, Result, Ok, Err, length, All, arith, zero, suc, length-append, codes}
 use Rattle.std.proofs.lemmas.List.Elements.{All-head, All-tail}
 use Rattle.mt_values.specs.declared.statement.Element.TheVariants as element
+use Rattle.mt_values.specs.declared.statement.EngineText.{EngineText}
+use Rattle.mt_values.specs.declared.statement.EngineText.TheVariants as engine_text
 use Rattle.mt_values.specs.declared.statement.KindText.TheVariants as kind_text
 use Rattle.mt_values.specs.declared.statement.InsertText.{InsertText}
 use Rattle.mt_values.specs.declared.statement.SelectText.{SelectText}
@@ -18,7 +20,7 @@ use Rattle.mt_values.specs.Conditions.{Condition, Always, And, Holds, Not, Or}
 use Rattle.mt_values.specs.declared.expr.Comparison.TheVariants as comparison
 use Rattle.mt_values.specs.declared.expr.LiteralText.TheVariants as literal_text
 use Rattle.mt_values.specs.declared.expr.TestText.{TestText}
-use Rattle.mt_values.specs.Grammar.{term_within}
+use Rattle.mt_values.specs.Grammar.{engine, term_within}
 use Rattle.mt_values.specs.Grammar as grammar
 
 any_ok : {X : Type 0} (r : Result X Slip) → IfOk r (λ _. Unit {0})
@@ -90,8 +92,15 @@ module _ (T : Token → Type 0) (Good : Statement → Type 0) where
   name_passes : Passes grammar.one_name
   name_passes next each = expect_gives grammar.name next each
 
+  type_passes : Passes grammar.column_type
+  type_passes next each =
+      choose_gives (grammar.is_word (grammar.same_bytes (codes "SimpleAggregateFunction"))) _ _
+      (expect_gives (grammar.exactly (codes "SimpleAggregateFunction")) _ (λ _. expect_gives (grammar.the symbol.Open) _ (λ _. expect_gives grammar.function _ (λ f.
+      expect_gives (grammar.the symbol.Comma) _ (λ _. expect_gives grammar.plain _ (λ t. expect_gives (grammar.the symbol.Close) _ (λ _. each (t, Some f))))))))
+      (expect_gives grammar.plain _ (λ t. each (t, None)))
+
   column_passes : Passes grammar.column
-  column_passes next each = expect_gives grammar.name _ (λ n. expect_gives grammar.plain _ (λ t. each _))
+  column_passes next each = expect_gives grammar.name _ (λ n. type_passes _ (λ t. each (element.Column (record { name = n; col_type = t.0; function = t.1 }))))
 
   kind_passes : Passes grammar.index_kind
   kind_passes next each =
@@ -110,12 +119,6 @@ module _ (T : Token → Type 0) (Good : Statement → Type 0) where
   pub element_passes : Passes grammar.table_element
   element_passes next each = choose_gives (grammar.is_word (is_keyword (codes "INDEX"))) (grammar.index next) (grammar.column next) (index_passes next each) (column_passes next each)
 
-  pub engine_gives : (next : Reader Statement) → GivesAll next → GivesAll (grammar.engine next)
-  engine_gives next each =
-      expect_gives (grammar.exactly (codes "MergeTree")) _ (λ _.
-      choose_gives (grammar.is_symbol symbol.Open) _ next
-      (expect_gives (grammar.the symbol.Open) _ (λ _. expect_gives (grammar.the symbol.Close) (λ _. next) (λ _. each))) each)
-
   pub key_gives : (next : List (List ℕ) → Reader Statement) → ((names : List (List ℕ)) → 0 < length names → GivesAll (next names)) → GivesAll (grammar.key next)
   key_gives next each =
       choose_gives (grammar.is_symbol symbol.Open) _ _
@@ -123,6 +126,49 @@ module _ (T : Token → Type 0) (Good : Statement → Type 0) where
       list_gives grammar.one_name (λ names. expect (grammar.the symbol.Close) (λ _. next names)) name_passes
       (λ names some. expect_gives (grammar.the symbol.Close) (λ _. next names) (λ _. each names some))))
       (expect_gives grammar.name (λ n. next (n ∷ [])) (λ n. each (n ∷ []) (omega arith)))
+
+  -- ---- engines
+
+  no_arguments_give : (e : EngineText) (next : EngineText → Reader Statement) → GivesAll (next e) → GivesAll (grammar.no_arguments e next)
+  no_arguments_give e next each =
+      choose_gives (grammar.is_symbol symbol.Open) _ _ (expect_gives (grammar.the symbol.Open) _ (λ _. expect_gives (grammar.the symbol.Close) (λ _. next e) (λ _. each))) each
+
+  optional_gives : {X : Type 0} (none : X) (inner : Part Statement X) (next : X → Reader Statement) → Passes inner → ((x : X) → GivesAll (next x)) → GivesAll (grammar.optional none inner next)
+  optional_gives none inner next passes each =
+      choose_gives (grammar.is_symbol symbol.Open) _ _
+      (expect_gives (grammar.the symbol.Open) _ (λ _.
+      choose_gives (grammar.is_symbol symbol.Close) _ _ (expect_gives (grammar.the symbol.Close) (λ _. next none) (λ _. each none))
+      (passes (λ x. expect (grammar.the symbol.Close) (λ _. next x)) (λ x. expect_gives (grammar.the symbol.Close) (λ _. next x) (λ _. each x)))))
+      (each none)
+
+  enclosed_gives : {X : Type 0} (inner : Part Statement X) (next : X → Reader Statement) → Passes inner → ((x : X) → GivesAll (next x)) → GivesAll (grammar.enclosed inner next)
+  enclosed_gives inner next passes each =
+      expect_gives (grammar.the symbol.Open) _ (λ _.
+      passes (λ x. expect (grammar.the symbol.Close) (λ _. next x)) (λ x. expect_gives (grammar.the symbol.Close) (λ _. next x) (λ _. each x)))
+
+  some_name_passes : Passes grammar.some_name
+  some_name_passes next each = expect_gives grammar.name _ (λ n. each (Some n))
+
+  two_names_pass : Passes grammar.two_names
+  two_names_pass next each = expect_gives grammar.name _ (λ m. expect_gives (grammar.the symbol.Comma) _ (λ _. expect_gives grammar.name _ (λ n. each (m, n))))
+
+  key_passes : Passes grammar.key
+  key_passes next each = key_gives next (λ names some. each names)
+
+  pub engine_gives : (next : EngineText → Reader Statement) → ((e : EngineText) → GivesAll (next e)) → GivesAll (grammar.engine next)
+  unfolding engine
+  engine_gives next each =
+      choose_gives (grammar.is_word (grammar.same_bytes (codes "ReplacingMergeTree"))) _ _
+      (expect_gives (grammar.exactly (codes "ReplacingMergeTree")) _ (λ _. optional_gives None grammar.some_name _ some_name_passes (λ version. each (engine_text.Replacing version))))
+      (choose_gives (grammar.is_word (grammar.same_bytes (codes "SummingMergeTree"))) _ _
+      (expect_gives (grammar.exactly (codes "SummingMergeTree")) _ (λ _. optional_gives [] grammar.key _ key_passes (λ names. each (engine_text.Summing names))))
+      (choose_gives (grammar.is_word (grammar.same_bytes (codes "CollapsingMergeTree"))) _ _
+      (expect_gives (grammar.exactly (codes "CollapsingMergeTree")) _ (λ _. enclosed_gives grammar.one_name _ name_passes (λ sign. each (engine_text.Collapsing sign))))
+      (choose_gives (grammar.is_word (grammar.same_bytes (codes "VersionedCollapsingMergeTree"))) _ _
+      (expect_gives (grammar.exactly (codes "VersionedCollapsingMergeTree")) _ (λ _. enclosed_gives grammar.two_names _ two_names_pass (λ names. each (engine_text.Versioned names.0 names.1))))
+      (choose_gives (grammar.is_word (grammar.same_bytes (codes "AggregatingMergeTree"))) _ _
+      (expect_gives (grammar.exactly (codes "AggregatingMergeTree")) _ (λ _. no_arguments_give engine_text.Aggregating next (each engine_text.Aggregating)))
+      (expect_gives (grammar.exactly (codes "MergeTree")) _ (λ _. no_arguments_give engine_text.Plain next (each engine_text.Plain)))))))
 
   pub insert_gives : (lines : List ℕ) (ended : Bool) → ((i : InsertText) → Good (statement.Insert i)) → GivesAll (grammar.insert lines ended)
   insert_gives lines ended good =

@@ -83,8 +83,8 @@ module _ (text : List ℕ) (terminated : Bool) where
   create_gives =
       expect_gives Known Read _ _ (λ _. expect_gives Known Read _ _ (λ _. expect_says Known Read grammar.name _ IsName (name_is terminated) (λ table named.
       expect_gives Known Read _ _ (λ _. list_gives Known Read grammar.table_element _ (element_passes Known Read) (λ elements some. expect_gives Known Read _ _ (λ _.
-      expect_gives Known Read _ _ (λ _. expect_gives Known Read _ _ (λ _. engine_gives Known Read _ (clauses_give Known Read _ (λ clauses keyed.
-      ends_says Known Read (statement.Create (record { text = text; table = table; elements = elements; clauses = clauses })) (λ t h.
+      expect_gives Known Read _ _ (λ _. expect_gives Known Read _ _ (λ _. engine_gives Known Read _ (λ e. clauses_give Known Read _ (λ clauses keyed.
+      ends_says Known Read (statement.Create (record { text = text; table = table; elements = elements; engine = e; clauses = clauses })) (λ t h.
       ok_weaker (λ _. terminated ≡ true) _ (grammar.the symbol.Semicolon t) (λ _ ended. record { is = refl; keys = keyed; named = named; ended = ended }) (close_is terminated t h))))))))))))
 
   reader_gives : (lines : List ℕ) (ended : Bool) → GivesAll Known Read (grammar.statement_reader text lines ended)

@@ -6,7 +6,9 @@ use Rattle.mt_values.specs.declared.schema.Column.{Column}
 use Rattle.mt_values.specs.declared.schema.Schema.{Schema}
 use Rattle.mt_values.specs.declared.schema.SchemaFault.TheVariants as fault
 use Rattle.mt_values.specs.Schemas.{is_unsigned_column, partition_fault, prefix_fault}
+use Rattle.mt_values.specs.Tables.{sorting_columns}
 use Rattle.mt_values.proofs.RowPartitions.{partition_sound, prefix_sound, unsigned_there}
+use Rattle.mt_values.proofs.SortingPlaces.{sorting_within}
 use Rattle.mt_model.specs.History.{IsTableSchema}
 
 -- what holds of each column of a key holds of each of its prefix
@@ -23,6 +25,10 @@ of_prefix P (own ∷ key) (column ∷ columns) sound each = by (nat_eq own colum
 
 pub primary_own : (schema : Schema) → IsTableSchema schema → All (λ place. place < length schema.columns) schema.primary
 primary_own schema table = of_prefix (λ place. place < length schema.columns) schema.key schema.primary (prefix_sound schema table.sound) table.own
+
+-- so are the columns by which rows are sorted
+pub sorting_own : (schema : Schema) → IsTableSchema schema → All (λ place. place < length schema.columns) (sorting_columns schema)
+sorting_own schema table = sorting_within schema table.sound table.own
 
 unsigned_below : (columns : List Column) (place : ℕ) → is_unsigned_column (slice_get columns place) ≡ true → place < length columns
 unsigned_below [] place is = cc

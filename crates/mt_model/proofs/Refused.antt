@@ -19,4 +19,5 @@ code_of_line (refusal.Unended rows) = refl
 code_of_line refusal.Failed = refl
 code_of_line (refusal.Unsettled accepted) = refl
 code_of_line (refusal.Stopped opened now accepted) = refl
+code_of_line (refusal.Sign line) = refl
 code_of_line (refusal.Damaged table part file) = refl

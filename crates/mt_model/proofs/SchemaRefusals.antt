@@ -23,9 +23,9 @@ module _ (c : CreateText) (columns : List Column) (columns_are : columns ≡ col
   pub no_column_refused : (name : List ℕ) → Some name ≡ first_unknown columns (names_of_text c) → schema_of_text c ≡ Err (refusal.NoColumn name)
   no_column_refused name found = name_decides (Some name) found
 
-  module _ (known : None ≡ first_unknown columns (names_of_text c)) (schema : Schema) (written : schema ≡ schema_written columns c.elements c.clauses) where
+  module _ (known : None ≡ first_unknown columns (names_of_text c)) (schema : Schema) (written : schema ≡ schema_written columns c) where
     whole : schema_of_create c ≡ schema
-    whole = sym (written ∙ ap (λ (cs : List Column). schema_written cs c.elements c.clauses) columns_are)
+    whole = sym (written ∙ ap (λ (cs : List Column). schema_written cs c) columns_are)
 
     -- by the first rule that is broken
     rule_decides : (f : Option SchemaFault) → schema_fault_as (first_key c.clauses) schema ≡ f → schema_of_text c ≡ unless_refused (first_refusal (option_map (refusal_of_schema schema) f) (too_many_elements c)) schema

@@ -1,5 +1,5 @@
 -- Which commands may come next: the schema that a CREATE writes is one that a table may have, and the rows of an INSERT are its table's.
-use Rattle.std.proofs.Common.{◌≡◌, ℕ, ◌<◌, Bool, true, false, cond, List, [], ◌∷◌, Option, Some, None, Result, Ok, Err, filter, length, All, refl, ap, subst, arith, suc, nat_lt, is_some}
+use Rattle.std.proofs.Common.{◌≡◌, ℕ, ◌<◌, Bool, true, false, cond, List, [], ◌∷◌, ◌++◌, Option, Some, None, Result, Ok, Err, filter, length, All, refl, ap, subst, arith, suc, nat_lt, is_some}
 use Rattle.std.proofs.lemmas.Bool.{leb-true}
 use Rattle.std.proofs.lemmas.List.Elements.{All-nil, All-cons, All-filter, All-weaker, filter_passes}
 use Rattle.std.proofs.lemmas.List.Quantifiers.{position-Some}
@@ -16,7 +16,7 @@ use Rattle.mt_values.specs.declared.schema.SchemaFault.{SchemaFault}
 use Rattle.mt_values.specs.declared.value.ColType.TheVariants.{UInt8}
 use Rattle.mt_values.specs.declared.statement.CreateText.{CreateText}
 use Rattle.mt_values.specs.Values.{AreValues, IsValue, Row, types_of}
-use Rattle.mt_values.specs.Tables.{partition_of, same_partition}
+use Rattle.mt_values.specs.Tables.{has_sign, partition_of, same_partition}
 use Rattle.mt_values.specs.Grammar.{columns_of, same_bytes}
 use Rattle.mt_values.specs.Grid.{AreRowsOf}
 use Rattle.mt_values.specs.Schemas.{schema_fault_as}
@@ -28,7 +28,7 @@ use Rattle.mt_model.specs.declared.refusal.Refusal.TheVariants as refusal
 use Rattle.mt_model.specs.Commands.{insert_command, rows_in}
 use Rattle.mt_model.specs.History.{History, schema_of, creates, column_types, IsAllowed, IsTableSchema}
 use Rattle.mt_model.proofs.Commands.{partition_is}
-use Rattle.mt_model.specs.Clauses.{NamesKeys, column_place, first_key, first_unknown, indexed_names, mentioned, names_of_text, places_named, primary_names, schema_of_create, sorting_names}
+use Rattle.mt_model.specs.Clauses.{NamesKeys, column_place, first_key, first_unknown, indexed_names, mentioned, names_of_engine, names_of_text, places_named, primary_names, schema_of_create, sorting_names}
 use Rattle.mt_model.specs.Reply.{first_passed, first_refusal, refusal_of_schema, unless_refused, schema_of_text, create_turn}
 use Rattle.mt_model.proofs.ElementLists.{few_elements, written_few, written_own}
 use Rattle.mt_model.proofs.Naming.{primary_known, rest_known, sorting_known}
@@ -50,7 +50,7 @@ pub itself_same : (a : List ℕ) → same_bytes a a ≡ true
 itself_same a = (pointwise_decides Decides-eqb a a).1 refl
 
 any_column : Column
-any_column = record { name = []; col_type = UInt8 }
+any_column = record { name = []; col_type = UInt8; function = None }
 
 -- the places of names are below the number of columns
 places_below : (columns : List Column) (names : List (List ℕ)) → All (λ place. place < length columns) (places_named columns names)
@@ -86,7 +86,7 @@ schema_is c schema is keys =
     by None None (Some passed) d e g = tt
     by None None None d e g =
         let columns : List Column = columns_of c.elements in
-        let in_clauses : first_unknown columns (mentioned c.clauses) ≡ None = rest_known columns (indexed_names c.elements) (mentioned c.clauses) d in
+        let in_clauses : first_unknown columns (mentioned c.clauses) ≡ None = rest_known columns (names_of_engine c.engine) (mentioned c.clauses) (rest_known columns (indexed_names c.elements) (names_of_engine c.engine ++ mentioned c.clauses) d) in
         let sorting_long = as_many columns (sorting_names c.clauses) (sorting_known columns c.clauses in_clauses) in
         let primary_long = as_many columns (primary_names c.clauses) (primary_known columns c.clauses in_clauses) in
         let few = few_elements c.elements g in
@@ -118,9 +118,9 @@ create_allowed c h schema is turn keys =
     (free.0, omega arith, schema_is c schema is keys)
 
 -- so is the command that adds to a table those of some rows that are of a partition, where there are any
-pub command_allowed : (h : History) (table : List ℕ) (schema : Schema) (rows : List Row) (partition : Partition) → schema_of table h ≡ Some schema → 0 < length (rows_in schema partition rows) → AreRowsOf (column_types schema) rows → AreValues rows
+pub command_allowed : (h : History) (table : List ℕ) (schema : Schema) (rows : List Row) (partition : Partition) → schema_of table h ≡ Some schema → 0 < length (rows_in schema partition rows) → AreRowsOf (column_types schema) rows → AreValues rows → All (λ (row : Row). has_sign schema row ≡ true) rows
     → IsAllowed h (insert_command schema table rows partition)
-command_allowed h table schema rows partition there some typed values =
+command_allowed h table schema rows partition there some typed values signed =
     let own : Row → Bool = λ (row : Row). same_partition (partition_of schema row) partition in (
       schema,
       there,
@@ -129,6 +129,7 @@ command_allowed h table schema rows partition there some typed values =
         types = refl;
         rows = All-filter own (λ (row : Row). types_of row ≡ column_types schema) rows typed;
         values = All-filter own (λ (row : Row). All IsValue row) rows values;
+        signed = All-filter own (λ (row : Row). has_sign schema row ≡ true) rows signed;
         own = All-weaker (λ (row : Row). own row ≡ true) (λ (row : Row). partition_of schema row ≡ partition) (λ row is. partition_is (partition_of schema row) partition is) (filter own rows) (filter_passes own rows);
       },
     )

@@ -1,6 +1,7 @@
 -- Each byte of a string and each part of a list takes something of its text, so the counts that bound their readers cut nothing off.
 use Rattle.std.proofs.Common.{◌≡◌, ℕ, ◌<◌, ◌≤◌, Bool, true, false, cond, ◌==◌, List, [], ◌∷◌, ◌++◌, length, drop, refl, ap, arith, zero, suc, Option, Some, None, Result, Ok, Err, codes, length-drop}
 use Rattle.std.specs.Option.{option_and_then}
+use Rattle.mt_values.specs.declared.engine.Aggregate.{Aggregate}
 use Rattle.mt_values.specs.declared.statement.Element.{Element}
 use Rattle.mt_values.specs.declared.statement.Element.TheVariants as element
 use Rattle.mt_values.specs.declared.statement.KindText.{KindText}
@@ -15,7 +16,7 @@ use Rattle.mt_values.specs.Escapes.{escape_of}
 use Rattle.mt_values.specs.Lists.{in_front}
 use Rattle.mt_values.specs.Tokens.{is_keyword, begins_with, byte_onto, escape_onto, quote_behind, string_within}
 use Rattle.mt_values.specs.Readers.{Reader, Test, Part, taken, expect, either, choose, listed_within}
-use Rattle.mt_values.specs.Grammar.{column, exactly, index, index_kind, is_word, keyword, name, number, one_name, plain, same_bytes, set_kind, table_element, the}
+use Rattle.mt_values.specs.Grammar.{aggregated_type, column, column_type, exactly, function, index, index_kind, is_word, keyword, name, number, one_name, plain, plain_type, same_bytes, set_kind, table_element, the}
 use Rattle.mt_values.specs.Rows.{unescaped_behind, unescaped_within}
 use Rattle.mt_values.proofs.Bounds.{ShorterThan}
 use Rattle.mt_values.proofs.TokenBounds.{escape_shorter}
@@ -103,8 +104,8 @@ listed_same (suc n) (suc m) more between item front next ts on low high =
     (expect_same between (λ y. listed_within n more between item (front ++ x ∷ []) next) (λ y. listed_within m more between item (front ++ x ∷ []) next) rest
     (λ y last lesser. listed_same n m more between item (front ++ x ∷ []) next last on (omega arith) (omega arith))) refl)
 
-abbrev column_said : List ℕ → ColType → Element
-column_said n t = element.Column (record { name = n; col_type = t })
+abbrev column_said : List ℕ → ColType × Option Aggregate → Element
+column_said n t = element.Column (record { name = n; col_type = t.0; function = t.1 })
 
 abbrev index_said : List ℕ → List ℕ → KindText → List ℕ → Element
 index_said n c k digits = element.Index (record { name = n; column = c; kind = k; granularity = digits })
@@ -115,10 +116,42 @@ minmax_kind next = expect (exactly (codes "minmax")) (λ _. next kind_text.MinMa
 name_on : ReadsOn one_name
 name_on f g ts same = expect_same name f g ts (λ x rest less. same x rest (omega arith))
 
+plain_type_on : ReadsOn plain_type
+plain_type_on f g ts same = expect_same plain (λ t. f (t, None)) (λ t. g (t, None)) ts (λ t rest less. same (t, None) rest (omega arith))
+
+-- what follows the parenthesis of a function's type
+abbrev function_then : (ColType × Option Aggregate → Reader Statement) → Reader Statement
+function_then f = expect function (λ k. expect (the symbol.Comma) (λ u. expect plain (λ t. expect (the symbol.Close) (λ v. f (t, Some k)))))
+
+function_on : ReadsOn function_then
+function_on f g ts same =
+    let closed = λ (h : ColType × Option Aggregate → Reader Statement) (k : Aggregate) (t : ColType). expect (the symbol.Close) (λ v. h (t, Some k)) in
+    let typed = λ (h : ColType × Option Aggregate → Reader Statement) (k : Aggregate). expect (the symbol.Comma) (λ u. expect plain (closed h k)) in
+    expect_same function (typed f) (typed g) ts
+    (λ k us less.
+    expect_same (the symbol.Comma) (λ u. expect plain (closed f k)) (λ u. expect plain (closed g k)) us
+    (λ u vs fewer.
+    expect_same plain (closed f k) (closed g k) vs
+    (λ t ws least.
+    expect_same (the symbol.Close) (λ v. f (t, Some k)) (λ v. g (t, Some k)) ws
+    (λ v xs last. same (t, Some k) xs (omega arith)))))
+
+aggregated_on : ReadsOn aggregated_type
+aggregated_on f g ts same =
+    expect_same (exactly (codes "SimpleAggregateFunction")) (λ u. expect (the symbol.Open) (λ v. function_then f)) (λ u. expect (the symbol.Open) (λ v. function_then g)) ts
+    (λ u us less.
+    expect_same (the symbol.Open) (λ v. function_then f) (λ v. function_then g) us
+    (λ v vs fewer. function_on f g vs (λ t ws most. same t ws (omega arith))))
+
+type_on : ReadsOn column_type
+type_on f g ts same =
+    choose_same (is_word (same_bytes (codes "SimpleAggregateFunction"))) (aggregated_type f) (aggregated_type g) (plain_type f) (plain_type g) ts
+    (aggregated_on f g ts same) (plain_type_on f g ts same)
+
 column_on : ReadsOn column
 column_on f g ts same =
-    expect_same name (λ n. expect plain (λ t. f (column_said n t))) (λ n. expect plain (λ t. g (column_said n t))) ts
-    (λ n rest less. expect_same plain (λ t. f (column_said n t)) (λ t. g (column_said n t)) rest (λ t last lesser. same (column_said n t) last (omega arith)))
+    expect_same name (λ n. column_type (λ t. f (column_said n t))) (λ n. column_type (λ t. g (column_said n t))) ts
+    (λ n rest less. type_on (λ t. f (column_said n t)) (λ t. g (column_said n t)) rest (λ t last most. same (column_said n t) last (omega arith)))
 
 minmax_on : ReadsOn minmax_kind
 minmax_on f g ts same = expect_same (exactly (codes "minmax")) (λ u. f kind_text.MinMax) (λ u. g kind_text.MinMax) ts (λ u rest less. same kind_text.MinMax rest (omega arith))

@@ -13,7 +13,7 @@ use Rattle.mt_values.specs.Grammar.{same_bytes}
 pub use Rattle.mt_values.specs.Schemas.{column_types}
 use Rattle.mt_values.specs.Schemas.{schema_fault}
 use Rattle.mt_values.specs.Grid.{AreRowsOf}
-use Rattle.mt_values.specs.Tables.{IsPlain, partition_of, same_partition}
+use Rattle.mt_values.specs.Tables.{IsPlain, has_sign, partition_of, same_partition}
 use Rattle.mt_values.specs.Values.{Row, AreValues}
 
 -- the accepted commands of all tables, each with its session, in the order in which they were accepted
@@ -75,13 +75,14 @@ pub record IsTableSchema (schema : Schema) : Type 0 where
   pub indexed : All (λ (index : SkipIndex). index.column < length schema.columns) schema.indexes
   pub few_indexes : length schema.indexes ≤ index_limit
 
--- rows of one partition of a table: at least one, each with a value of each column's type and within its range (docs/definitions.md, "Histories")
+-- rows of one partition of a table: at least one, each with a value of each column's type and within its range, and with a sign of 1 or -1 where the table has one (docs/definitions.md, "Histories")
 pub record IsInsertInto (schema : Schema) (i : Insert) : Type 0 where
   pub some : 0 < length i.block.rows
   pub types : i.block.types ≡ column_types schema
   pub rows : AreRowsOf (column_types schema) i.block.rows
   pub values : AreValues i.block.rows
   pub own : All (λ (row : Row). partition_of schema row ≡ i.partition) i.block.rows
+  pub signed : All (λ (row : Row). has_sign schema row ≡ true) i.block.rows
 
 -- a command that may come after a history
 abbrev pub IsAllowed : History → Command → Type 0

@@ -5,6 +5,7 @@ pub mod Columns
 pub mod Commands
 pub mod Elements
 pub mod Explain
+pub mod Folding
 pub mod History
 pub mod Live
 pub mod Numbers
@@ -13,6 +14,7 @@ pub mod Partial
 pub mod Queries
 pub mod Refusals
 pub mod Reply
+pub mod Rules
 pub mod Script
 pub mod Session
 pub mod Written

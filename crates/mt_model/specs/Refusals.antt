@@ -32,6 +32,15 @@ reason_word reason.DoubleIndex = codes "double_index"
 reason_word reason.DoubleKey = codes "double_key"
 reason_word reason.NotPrefix = codes "not_prefix"
 reason_word reason.PartitionType = codes "partition_type"
+reason_word reason.VersionType = codes "version_type"
+reason_word reason.SignType = codes "sign_type"
+reason_word reason.SignKey = codes "sign_key"
+reason_word reason.SumType = codes "sum_type"
+reason_word reason.SumKey = codes "sum_key"
+reason_word reason.NothingToSum = codes "nothing_to_sum"
+reason_word reason.AggregateEngine = codes "aggregate_engine"
+reason_word reason.AggregateKey = codes "aggregate_key"
+reason_word reason.AggregateType = codes "aggregate_type"
 reason_word reason.Granularity = codes "granularity"
 reason_word reason.IndexGranularity = codes "granularity"
 reason_word reason.SetSize = codes "set_size"
@@ -67,6 +76,7 @@ refusal_text (refusal.Unended rows) = codes "E13" ++ and_number rows
 refusal_text refusal.Failed = codes "E15"
 refusal_text (refusal.Unsettled accepted) = codes "E16" ++ and_number accepted
 refusal_text (refusal.Stopped opened now accepted) = codes "E17" ++ and_number opened ++ and_number now ++ and_number accepted
+refusal_text (refusal.Sign line) = codes "E18" ++ and_number line
 refusal_text (refusal.Damaged table part file) = codes "E19" ++ and_name table ++ and_name part ++ and_name file
 
 abbrev pub refusal_line : Refusal → List ℕ
@@ -88,6 +98,7 @@ code (refusal.Unended rows) = 13
 code refusal.Failed = 15
 code (refusal.Unsettled accepted) = 16
 code (refusal.Stopped opened now accepted) = 17
+code (refusal.Sign line) = 18
 code (refusal.Damaged table part file) = 19
 
 -- how many of its statement's commands a refusal says were accepted (docs/definitions-of-runs.md, "Replies and refusals")
@@ -124,6 +135,7 @@ abbrev pub refusal_of_row : RowFault → Refusal
 refusal_of_row (row_fault.Fields line found wanted) = refusal.Fields line found wanted
 refusal_of_row (row_fault.Field line field) = refusal.Field line field
 refusal_of_row row_fault.Value = refusal.Past bound.Value
+refusal_of_row (row_fault.Sign line) = refusal.Sign line
 
 abbrev pub refusal_of_data : DataFault → Refusal
 refusal_of_data (data_fault.Row fault) = refusal_of_row fault

@@ -16,12 +16,14 @@ use Rattle.mt_values.specs.declared.statement.Element.{Element}
 use Rattle.mt_values.specs.declared.statement.InsertText.{InsertText}
 use Rattle.mt_values.specs.declared.statement.Selected.{Selected}
 use Rattle.mt_values.specs.declared.statement.Selected.TheVariants as selected
+use Rattle.mt_values.specs.Engines.{sign_place}
 use Rattle.mt_values.specs.Grammar.{columns_of, indexes_of}
 use Rattle.mt_values.specs.Values.{Row}
 use Rattle.mt_values.specs.Rows.{inserted_rows}
 use Rattle.mt_values.specs.Schemas.{schema_fault_as}
 use Rattle.mt_model.specs.declared.refusal.Bound.{Bound}
 use Rattle.mt_model.specs.declared.refusal.Bound.TheVariants as bound
+use Rattle.mt_model.specs.declared.refusal.Reason.{Reason}
 use Rattle.mt_model.specs.declared.refusal.Reason.TheVariants as reason
 use Rattle.mt_model.specs.declared.refusal.Refusal.{Refusal}
 use Rattle.mt_model.specs.declared.refusal.Refusal.TheVariants as refusal
@@ -77,17 +79,51 @@ index_name (Some index) = index.name
 abbrev pub index_name_at : List SkipIndex → ℕ → List ℕ
 index_name_at indexes place = index_name (slice_get indexes place)
 
--- the refusal of a schema for the rule that it breaks; no column has the name "-"
+-- the reason of a refusal for the rule that a schema breaks (docs/replies.md, "Refusals")
+abbrev pub reason_of : SchemaFault → Reason
+reason_of fault.NoColumns = reason.NoColumns
+reason_of (fault.DoubleColumn place) = reason.DoubleColumn
+reason_of (fault.DoubleIndex place) = reason.DoubleIndex
+reason_of (fault.DoubleKey place) = reason.DoubleKey
+reason_of (fault.NotPrefix place) = reason.NotPrefix
+reason_of (fault.PartitionType place) = reason.PartitionType
+reason_of (fault.VersionType place) = reason.VersionType
+reason_of (fault.SignType place) = reason.SignType
+reason_of (fault.SignKey place) = reason.SignKey
+reason_of (fault.SumType place) = reason.SumType
+reason_of (fault.SumKey place) = reason.SumKey
+reason_of fault.NothingToSum = reason.NothingToSum
+reason_of (fault.AggregateEngine place) = reason.AggregateEngine
+reason_of (fault.AggregateKey place) = reason.AggregateKey
+reason_of (fault.AggregateType place) = reason.AggregateType
+reason_of fault.Granularity = reason.Granularity
+reason_of (fault.IndexGranularity place) = reason.IndexGranularity
+reason_of (fault.SetSize place) = reason.SetSize
+
+-- the name of the column or index at which a schema breaks a rule; no column has the name "-" (docs/replies.md, "Refusals")
+abbrev pub name_of_fault : Schema → SchemaFault → List ℕ
+name_of_fault schema fault.NoColumns = codes "-"
+name_of_fault schema (fault.DoubleColumn place) = name_at schema.columns place
+name_of_fault schema (fault.DoubleIndex place) = index_name_at schema.indexes place
+name_of_fault schema (fault.DoubleKey place) = name_at schema.columns place
+name_of_fault schema (fault.NotPrefix place) = name_at schema.columns place
+name_of_fault schema (fault.PartitionType place) = name_at schema.columns place
+name_of_fault schema (fault.VersionType place) = name_at schema.columns place
+name_of_fault schema (fault.SignType place) = name_at schema.columns place
+name_of_fault schema (fault.SignKey place) = name_at schema.columns place
+name_of_fault schema (fault.SumType place) = name_at schema.columns place
+name_of_fault schema (fault.SumKey place) = name_at schema.columns place
+name_of_fault schema fault.NothingToSum = codes "-"
+name_of_fault schema (fault.AggregateEngine place) = name_at schema.columns place
+name_of_fault schema (fault.AggregateKey place) = name_at schema.columns place
+name_of_fault schema (fault.AggregateType place) = name_at schema.columns place
+name_of_fault schema fault.Granularity = codes "-"
+name_of_fault schema (fault.IndexGranularity place) = index_name_at schema.indexes place
+name_of_fault schema (fault.SetSize place) = index_name_at schema.indexes place
+
+-- the refusal of a schema for the rule that it breaks (docs/replies.md, "Refusals")
 abbrev pub refusal_of_schema : Schema → SchemaFault → Refusal
-refusal_of_schema schema fault.NoColumns = refusal.Schema reason.NoColumns (codes "-")
-refusal_of_schema schema (fault.DoubleColumn place) = refusal.Schema reason.DoubleColumn (name_at schema.columns place)
-refusal_of_schema schema (fault.DoubleIndex place) = refusal.Schema reason.DoubleIndex (index_name_at schema.indexes place)
-refusal_of_schema schema (fault.DoubleKey place) = refusal.Schema reason.DoubleKey (name_at schema.columns place)
-refusal_of_schema schema (fault.NotPrefix place) = refusal.Schema reason.NotPrefix (name_at schema.columns place)
-refusal_of_schema schema (fault.PartitionType place) = refusal.Schema reason.PartitionType (name_at schema.columns place)
-refusal_of_schema schema fault.Granularity = refusal.Schema reason.Granularity (codes "-")
-refusal_of_schema schema (fault.IndexGranularity place) = refusal.Schema reason.IndexGranularity (index_name_at schema.indexes place)
-refusal_of_schema schema (fault.SetSize place) = refusal.Schema reason.SetSize (index_name_at schema.indexes place)
+refusal_of_schema schema broken = refusal.Schema (reason_of broken) (name_of_fault schema broken)
 
 -- the refusal of a schema for the first rule that it breaks, by which key is written first (docs/definitions.md, "Schemas")
 abbrev pub refusal_of_rules : KeyOrder → Schema → Option Refusal
@@ -146,7 +182,7 @@ rows_or_refused (Err fault) = Err (refusal_of_data fault)
 
 abbrev pub rows_for : InsertText → Option Schema → Result (List Row) Refusal
 rows_for i None = Err (refusal.NoTable i.table)
-rows_for i (Some schema) = rows_or_refused (inserted_rows (column_types schema) i.lines i.ended)
+rows_for i (Some schema) = rows_or_refused (inserted_rows (column_types schema) (sign_place schema.engine) i.lines i.ended)
 
 -- At the turn of its next command, by the parts of the partition, the last number of the table, and how many of the statement's commands were
 -- accepted before: the partition has room for a part, and the table a number (docs/replies.md, "Refusals").

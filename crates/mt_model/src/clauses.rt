@@ -5,7 +5,9 @@ ghost use Rattle.mt_model.specs.Clauses as said;
 
 use crate::elements::{granules_of, indexes_written, unknown_among_indexes};
 use mt_base::{DEFAULT_GRANULARITY, NoMemory, Seq};
-use mt_values::{Clause, Column, CreateText, KeyOrder, Name, Schema};
+use mt_values::{
+    Clause, Column, CreateText, Engine, EngineText, KeyOrder, Name, Schema, summable_places,
+};
 use std::alloc::Global;
 use std::slice;
 
@@ -20,15 +22,23 @@ pub fn schema_written(
 ) -> Result<Schema, NoMemory>
     requires { length columns < 2 ^ 32 }
     ensures { IfOk result
-        (λ schema. schema ≡ said.schema_written columns create.now.elements create.now.clauses) }
+        (λ schema. schema ≡ said.schema_written columns create.now) }
 {
     let clauses = create.clauses.as_slice();
     let key = places_named(alloc, columns.as_slice(), sorting_names(clauses))?;
     let primary = places_named(alloc, columns.as_slice(), primary_names(clauses))?;
     let partition = partition_place(columns.as_slice(), clauses);
+    let engine = engine_written(
+        alloc,
+        columns.as_slice(),
+        key.as_slice(),
+        partition,
+        &create.engine,
+    )?;
     let indexes = indexes_written(alloc, columns.as_slice(), create.elements.as_slice())?;
     Ok(Schema {
         columns,
+        engine,
         key,
         primary,
         partition,
@@ -37,16 +47,39 @@ pub fn schema_written(
     })
 }
 
-/// The first name of a column in a CREATE, in the order of the text, that is none of these: those of its indexes come before
-/// those of its clauses. Takes no memory.
+/// The first name of a column in a CREATE, in the order of the text, that is none of these: those of its indexes come first,
+/// then those of its engine, then those of its clauses. Takes no memory.
 #[tactic(auto, using(crate::proofs::Naming::unknown_before, crate::proofs::Naming::known_before))]
 pub fn first_unknown<'a>(columns: &[Column], create: &'a CreateText) -> Option<&'a Name>
     ensures { option_copied result ≡
         said.first_unknown columns.now (said.names_of_text create.now) }
 {
-    match unknown_among_indexes(columns, create.elements.as_slice()) {
+    if let Some(name) = unknown_among_indexes(columns, create.elements.as_slice()) {
+        return Some(name);
+    }
+    match unknown_in_engine(columns, &create.engine) {
         Some(name) => Some(name),
         None => unknown_among_clauses(columns, create.clauses.as_slice()),
+    }
+}
+
+/// The first name that an engine mentions that is no column's.
+#[tactic(auto, using(crate::proofs::Naming::unknown_before, crate::proofs::Naming::known_before))]
+fn unknown_in_engine<'a>(columns: &[Column], engine: &'a EngineText) -> Option<&'a Name>
+    ensures { option_copied result ≡
+        said.first_unknown columns.now (said.names_of_engine engine.now) }
+{
+    match engine {
+        EngineText::Plain | EngineText::Aggregating | EngineText::Replacing(None) => None,
+        EngineText::Replacing(Some(version)) => unknown_among(columns, slice::from_ref(version)),
+        EngineText::Summing(names) => unknown_among(columns, names.as_slice()),
+        EngineText::Collapsing(sign) => unknown_among(columns, slice::from_ref(sign)),
+        EngineText::Versioned { sign, version } => {
+            match unknown_among(columns, slice::from_ref(sign)) {
+                Some(name) => Some(name),
+                None => unknown_among(columns, slice::from_ref(version)),
+            }
+        }
     }
 }
 
@@ -151,6 +184,68 @@ fn granularity_of(clauses: &[Clause]) -> u32
         }
     }
     DEFAULT_GRANULARITY
+}
+
+/// The engine that a text writes, over columns with this sorting key and partition column, each of its names a column's.
+///
+/// `NoMemory` where an allocation failed.
+fn engine_written(
+    alloc: Global,
+    columns: &[Column],
+    key: &[u32],
+    partition: Option<u32>,
+    engine: &EngineText,
+) -> Result<Engine, NoMemory>
+    requires { length columns.now < 2 ^ 32 }
+    ensures { IfOk result
+        (λ e. e ≡ said.engine_written columns.now key.now partition engine.now) }
+{
+    Ok(match engine {
+        EngineText::Plain => Engine::Plain,
+        EngineText::Replacing(None) => Engine::Replacing(None),
+        EngineText::Replacing(Some(version)) => {
+            Engine::Replacing(find_column(columns, version).map(|place| place as u32))
+        }
+        EngineText::Summing(names) => {
+            Engine::Summing(places_summed(alloc, columns, key, partition, names.as_slice())?)
+        }
+        EngineText::Collapsing(sign) => Engine::Collapsing(place_named(columns, sign)),
+        EngineText::Versioned { sign, version } => Engine::Versioned {
+            sign: place_named(columns, sign),
+            version: place_named(columns, version),
+        },
+        EngineText::Aggregating => Engine::Aggregating,
+    })
+}
+
+/// The places of the columns that are summed: those of the list, or where it is not given those of numbers that neither key nor
+/// partition has.
+fn places_summed(
+    alloc: Global,
+    columns: &[Column],
+    key: &[u32],
+    partition: Option<u32>,
+    names: &[Name],
+) -> Result<Seq<u32>, NoMemory>
+    requires { length columns.now < 2 ^ 32 }
+    ensures { IfOk result
+        (λ places. places ≡ said.places_summed columns.now key.now partition names.now) }
+{
+    if names.is_empty() {
+        return summable_places(alloc, columns, key, partition);
+    }
+    places_named(alloc, columns, names)
+}
+
+/// The place of a column of this name; 0 where there is none.
+fn place_named(columns: &[Column], name: &Name) -> u32
+    requires { length columns.now < 2 ^ 32 }
+    ensures { result ≡ said.place_named columns.now name.now }
+{
+    match find_column(columns, name) {
+        Some(place) => place as u32,
+        None => 0,
+    }
 }
 
 /// The places of those of the names that are columns'.

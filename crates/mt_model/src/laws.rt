@@ -1,6 +1,6 @@
 // Laws of the definitions: what follows from them, whatever a program does. Each function has an empty body and the law as its contract.
 ghost use Rattle.std.specs.List.{list_any};
-ghost use Rattle.std.specs.Prelude.{◌≡◌, ◌⊎◌, ◌-◌, ◌^◌, ◌<◌, ◌≤◌, ◌++◌, ◌∷◌, [], ℕ, Bool, List, length, take, true, false, All, None, Some, Ok, codes};
+ghost use Rattle.std.specs.Prelude.{◌≡◌, ◌⊎◌, ◌-◌, ◌^◌, ◌<◌, ◌≤◌, ◌++◌, ◌∷◌, [], ℕ, Bool, List, Option, length, take, true, false, All, None, Some, Ok, codes};
 ghost use Rattle.std.specs.List.Sorted.{IsPermutation, IsSorted};
 ghost use Rattle.mt_values.specs.declared.value.ColType.{ColType};
 ghost use Rattle.mt_values.specs.declared.schema.Schema.{Schema};
@@ -23,12 +23,13 @@ ghost use Rattle.mt_base.specs.declared.partition.Partition.TheVariants.{Number}
 ghost use Rattle.mt_values.specs.declared.value.Value.TheVariants.{UInt8};
 ghost use Rattle.mt_values.specs.Values.{AreValues, IsValue, Row, types_of};
 ghost use Rattle.mt_values.specs.Grid.{AreRowsOf};
-ghost use Rattle.mt_values.specs.Tables.{IsPlain, MayHavePartition, partition_of, sorting_cmp};
+ghost use Rattle.mt_values.specs.Tables.{IsPlain, MayHavePartition, partition_of, sorting_cmp, sorting_columns};
 ghost use Rattle.mt_values.specs.Tokens.{string_within, tokens_within};
 ghost use Rattle.mt_values.specs.Readers.{Reader, listed_within};
 ghost use Rattle.mt_values.specs.Grammar.{all_of, clauses_within, is_symbol, joined_within, literal, one_name, table_element, term_within, the};
 ghost use Rattle.mt_values.specs.Conditions.{Condition, And, Or};
 ghost use Rattle.mt_values.specs.Script.{Item, data_ended_within, data_within, statements_of, statements_within};
+ghost use Rattle.mt_values.specs.Engines.{keeps_sign};
 ghost use Rattle.mt_values.specs.Rows.{inserted_rows, row_limit, rows_within, unescaped_within};
 ghost use Rattle.mt_model.specs.Causes.{MeetsCause, NoneMeetsCause};
 ghost use Rattle.mt_model.specs.declared.counts.Counts.{Counts};
@@ -54,9 +55,11 @@ pub fn legal_fronts()
         → IsLegal (h ++ e ∷ []) }
 {}
 
-/// The primary key of a table is made of its own columns, and so are the columns of its indexes; its partition column is one
-/// of them.
+/// The columns by which a table's rows are sorted are its own, and so are those of its primary key and of its indexes; its
+/// partition column is one of them.
 pub fn columns_of_tables_are_their_own()
+    ensures sorting { (schema : Schema) → IsTableSchema schema
+        → All (λ place. place < length schema.columns) (sorting_columns schema) }
     ensures primary { (schema : Schema) → IsTableSchema schema
         → All (λ place. place < length schema.columns) schema.primary }
     ensures indexes { (schema : Schema) → IsTableSchema schema
@@ -135,15 +138,20 @@ pub fn creates_are_allowed()
         → IsAllowed h (command.Create (record { table = c.table; schema = schema })) }
 {}
 
-/// The rows that data is read as have a value of each column's type, within the type's range where the data is bytes, and
-/// are not too many.
+/// The rows that data is read as have a value of each column's type, within the type's range where the data is bytes, and a
+/// sign of 1 or -1 where the table has one, and are not too many.
 pub fn rows_are_of_their_table()
-    ensures types { (types : List ColType) (lines : List ℕ) (ended : Bool) (rows : List Row)
-        → inserted_rows types lines ended ≡ Ok rows → AreRowsOf types rows }
-    ensures values { (types : List ColType) (lines : List ℕ) (ended : Bool) (rows : List Row)
-        → All (λ b. b < 2 ^ 8) lines → inserted_rows types lines ended ≡ Ok rows → AreValues rows }
-    ensures few { (types : List ColType) (lines : List ℕ) (ended : Bool) (rows : List Row)
-        → inserted_rows types lines ended ≡ Ok rows → length rows ≤ row_limit }
+    ensures types { (types : List ColType) (sign : Option ℕ) (lines : List ℕ) (ended : Bool)
+        (rows : List Row) → inserted_rows types sign lines ended ≡ Ok rows → AreRowsOf types rows }
+    ensures values { (types : List ColType) (sign : Option ℕ) (lines : List ℕ) (ended : Bool)
+        (rows : List Row) → All (λ b. b < 2 ^ 8) lines
+        → inserted_rows types sign lines ended ≡ Ok rows → AreValues rows }
+    ensures signs { (types : List ColType) (sign : Option ℕ) (lines : List ℕ) (ended : Bool)
+        (rows : List Row) → inserted_rows types sign lines ended ≡ Ok rows
+        → All (λ row. keeps_sign sign row ≡ true) rows }
+    ensures few { (types : List ColType) (sign : Option ℕ) (lines : List ℕ) (ended : Bool)
+        (rows : List Row) → inserted_rows types sign lines ended ≡ Ok rows
+        → length rows ≤ row_limit }
 {}
 
 /// The line of each refusal begins with its number, and no other reply has one.
@@ -162,12 +170,12 @@ pub fn refused_statements_add_what_they_count()
         × (length done ≡ accepted_by why) × AddsOnly h session done from to }
 {}
 
-/// A reply tells of a fault of the outside only where the disk's count rose. Where it did not, and stands below its type's
-/// end, a statement is accepted or refused for what the script says. No reply tells of damage.
+/// A reply that has a number and is no refusal for what the script says comes only where the disk's count rose. Where it did
+/// not, and stands below its type's end, a statement is accepted or refused for what the script says. No reply tells of damage.
 pub fn faults_are_of_the_outside()
     ensures risen { (n : Outside) (h : History) (session : ℕ) (statement : Item) (from to : ℕ)
-        (reply : List ℕ) → Takes n h session statement from to reply → 14 < code_of reply
-        → HasRisen n n.ended }
+        (reply : List ℕ) → Takes n h session statement from to reply → 0 < code_of reply
+        → is_refusal reply ≡ false → HasRisen n n.ended }
     ensures still { (n : Outside) → n.ended ≡ n.opened → n.ended < 2 ^ 64 - 1 → HasRisen n n.ended
         → ⊥ }
     ensures calm { (n : Outside) (h : History) (session : ℕ) (statement : Item) (from to : ℕ)
@@ -248,9 +256,10 @@ pub fn bounds_cut_nothing_off()
         → data_within n text ≡ data_within m text }
     ensures ends { (n m : ℕ) (text : List ℕ) → length text < n → length text < m
         → data_ended_within n text ≡ data_ended_within m text }
-    ensures rows { (n m : ℕ) (types : List ColType) (ended : Bool) (count : ℕ) (lines : List ℕ)
-        → length lines < n → length lines < m
-        → rows_within n types ended count lines ≡ rows_within m types ended count lines }
+    ensures rows { (n m : ℕ) (types : List ColType) (sign : Option ℕ) (ended : Bool) (count : ℕ)
+        (lines : List ℕ) → length lines < n → length lines < m
+        → rows_within n types sign ended count lines
+        ≡ rows_within m types sign ended count lines }
     ensures texts { (n m : ℕ) (text : List ℕ) → length text < n → length text < m
         → unescaped_within n text ≡ unescaped_within m text }
 

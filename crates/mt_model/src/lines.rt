@@ -90,6 +90,7 @@ fn refusal_text(alloc: Global, refusal: &Refusal) -> Result<Vec<u8>, NoMemory>
             now,
             accepted,
         } => numbered_thrice(alloc, b"E17", *opened, *now, *accepted as u64),
+        Refusal::Sign { line } => numbered(alloc, b"E18", *line as u64),
         Refusal::Damaged { table, part, file } => damaged(alloc, table, part, file),
     }
 }
@@ -105,6 +106,15 @@ fn reason_text(reason: Reason) -> &'static [u8]
         Reason::DoubleKey => b"E05 double_key",
         Reason::NotPrefix => b"E05 not_prefix",
         Reason::PartitionType => b"E05 partition_type",
+        Reason::VersionType => b"E05 version_type",
+        Reason::SignType => b"E05 sign_type",
+        Reason::SignKey => b"E05 sign_key",
+        Reason::SumType => b"E05 sum_type",
+        Reason::SumKey => b"E05 sum_key",
+        Reason::NothingToSum => b"E05 nothing_to_sum",
+        Reason::AggregateEngine => b"E05 aggregate_engine",
+        Reason::AggregateKey => b"E05 aggregate_key",
+        Reason::AggregateType => b"E05 aggregate_type",
         Reason::Granularity | Reason::IndexGranularity => b"E05 granularity",
         Reason::SetSize => b"E05 set_size",
     }

@@ -10,12 +10,30 @@ pub enum Reason {
     DoubleColumn,
     /// Two indexes have one name.
     DoubleIndex,
-    /// A key names a column twice.
+    /// A key, or the list of an engine, names a column twice.
     DoubleKey,
     /// The primary key is no prefix of the sorting key.
     NotPrefix,
     /// The partition column is not unsigned.
     PartitionType,
+    /// The version is not unsigned.
+    VersionType,
+    /// The sign is not of the type Int8.
+    SignType,
+    /// The sign is in the sorting key or the partition column.
+    SignKey,
+    /// A column to be summed has no numbers.
+    SumType,
+    /// A column to be summed is in the sorting key or the partition column.
+    SumKey,
+    /// There is no column to sum.
+    NothingToSum,
+    /// A column has a function, and the engine folds none.
+    AggregateEngine,
+    /// A column with a function is in the sorting key or the partition column.
+    AggregateKey,
+    /// A column's function does not take its type.
+    AggregateType,
     /// A granule has no rows, or too many.
     Granularity,
     /// A block of an index has no granules, or too many.
@@ -103,6 +121,10 @@ pub enum Refusal {
         now: u64,
         accepted: usize,
     },
+    /// The sign of a row is neither 1 nor -1. Lines count from 1.
+    Sign {
+        line: usize,
+    },
     /// A file of a part has another size or digest than was written, or its bytes are not of its format.
     Damaged {
         table: Name,
@@ -154,6 +176,7 @@ impl Refusal {
             },
             RowFault::Field { line, field } => Refusal::Field { line, field },
             RowFault::Value => Refusal::Past(Bound::Value),
+            RowFault::Sign { line } => Refusal::Sign { line },
         }
     }
 
@@ -177,6 +200,7 @@ impl Refusal {
             Refusal::Failed => 15,
             Refusal::Unsettled { .. } => 16,
             Refusal::Stopped { .. } => 17,
+            Refusal::Sign { .. } => 18,
             Refusal::Damaged { .. } => 19,
         }
     }

@@ -46,24 +46,52 @@ fn refusal_of_schema(
 {
     let columns = schema.columns.as_slice();
     let indexes = schema.indexes.as_slice();
+    let reason = reason_of(fault);
     match fault {
-        SchemaFault::NoColumns => of_no_column(alloc, Reason::NoColumns),
-        SchemaFault::DoubleColumn(place) => of_column(alloc, columns, Reason::DoubleColumn, place),
-        SchemaFault::DoubleIndex(place) => of_index(alloc, indexes, Reason::DoubleIndex, place),
-        SchemaFault::DoubleKey(place) => {
-            of_column(alloc, columns, Reason::DoubleKey, place as usize)
+        SchemaFault::NoColumns | SchemaFault::NothingToSum | SchemaFault::Granularity => {
+            of_no_column(alloc, reason)
         }
-        SchemaFault::NotPrefix(place) => {
-            of_column(alloc, columns, Reason::NotPrefix, place as usize)
-        }
-        SchemaFault::PartitionType(place) => {
-            of_column(alloc, columns, Reason::PartitionType, place as usize)
-        }
-        SchemaFault::Granularity => of_no_column(alloc, Reason::Granularity),
-        SchemaFault::IndexGranularity(place) => {
-            of_index(alloc, indexes, Reason::IndexGranularity, place)
-        }
-        SchemaFault::SetSize(place) => of_index(alloc, indexes, Reason::SetSize, place),
+        SchemaFault::DoubleKey(place)
+        | SchemaFault::NotPrefix(place)
+        | SchemaFault::PartitionType(place)
+        | SchemaFault::VersionType(place)
+        | SchemaFault::SignType(place)
+        | SchemaFault::SignKey(place)
+        | SchemaFault::SumType(place)
+        | SchemaFault::SumKey(place) => of_column(alloc, columns, reason, place as usize),
+        SchemaFault::DoubleColumn(place)
+        | SchemaFault::AggregateEngine(place)
+        | SchemaFault::AggregateKey(place)
+        | SchemaFault::AggregateType(place) => of_column(alloc, columns, reason, place),
+        SchemaFault::DoubleIndex(place)
+        | SchemaFault::IndexGranularity(place)
+        | SchemaFault::SetSize(place) => of_index(alloc, indexes, reason, place),
+    }
+}
+
+/// The reason of a refusal for the rule that a schema breaks.
+fn reason_of(fault: SchemaFault) -> Reason
+    ensures { result ≡ reply.reason_of fault }
+{
+    match fault {
+        SchemaFault::NoColumns => Reason::NoColumns,
+        SchemaFault::DoubleColumn(_) => Reason::DoubleColumn,
+        SchemaFault::DoubleIndex(_) => Reason::DoubleIndex,
+        SchemaFault::DoubleKey(_) => Reason::DoubleKey,
+        SchemaFault::NotPrefix(_) => Reason::NotPrefix,
+        SchemaFault::PartitionType(_) => Reason::PartitionType,
+        SchemaFault::VersionType(_) => Reason::VersionType,
+        SchemaFault::SignType(_) => Reason::SignType,
+        SchemaFault::SignKey(_) => Reason::SignKey,
+        SchemaFault::SumType(_) => Reason::SumType,
+        SchemaFault::SumKey(_) => Reason::SumKey,
+        SchemaFault::NothingToSum => Reason::NothingToSum,
+        SchemaFault::AggregateEngine(_) => Reason::AggregateEngine,
+        SchemaFault::AggregateKey(_) => Reason::AggregateKey,
+        SchemaFault::AggregateType(_) => Reason::AggregateType,
+        SchemaFault::Granularity => Reason::Granularity,
+        SchemaFault::IndexGranularity(_) => Reason::IndexGranularity,
+        SchemaFault::SetSize(_) => Reason::SetSize,
     }
 }
 

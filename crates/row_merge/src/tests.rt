@@ -1,7 +1,7 @@
 // What no clause says: that calls come to an answer, of no inputs, of empty ones and of up to five; the answers were worked by hand.
 use crate::merge_sorted;
 use mt_base::{NoMemory, Seq};
-use mt_values::{ColType, Column, Row, Schema, Value};
+use mt_values::{ColType, Column, Engine, Row, Schema, Value};
 use rule_law::RowRule;
 use rule_replacing::{PlainRule, ReplacingRule};
 use std::alloc::Global;
@@ -27,13 +27,16 @@ fn table(alloc: Global) -> Result<Schema, NoMemory> {
     columns.push(Column {
         name: Seq::from_slice(alloc, b"k")?,
         col_type: ColType::UInt8,
+        function: None,
     })?;
     columns.push(Column {
         name: Seq::from_slice(alloc, b"v")?,
         col_type: ColType::UInt8,
+        function: None,
     })?;
     Ok(Schema {
         columns,
+        engine: Engine::Plain,
         key: Seq::from_slice(alloc, &[0])?,
         primary: Seq::from_slice(alloc, &[0])?,
         partition: None,

@@ -6,15 +6,15 @@ use Rattle.std.proofs.lemmas.List.Elements.{All-nil, All-cons, All-push, All-wea
 use Rattle.std.specs.Cmp.{IsStrictWeakOrder}
 use Rattle.std.specs.Int.{int_rem_euclid, int_wrap}
 use Rattle.std.specs.Ordering.{is_lt}
-use Rattle.rule_law.specs.declared.engine.Aggregate.{Aggregate}
-use Rattle.rule_law.specs.declared.engine.Aggregate.TheVariants as aggregate
+use Rattle.mt_values.specs.declared.engine.Aggregate.{Aggregate}
+use Rattle.mt_values.specs.declared.engine.Aggregate.TheVariants as aggregate
 use Rattle.mt_values.specs.declared.value.ColType.{ColType}
 use Rattle.mt_values.specs.declared.value.ColType.TheVariants as type
 use Rattle.mt_values.specs.declared.value.Value.{Value}
 use Rattle.mt_values.specs.declared.value.Value.TheVariants as value
 use Rattle.mt_values.specs.Order.{rank_of, value_cmp}
 use Rattle.mt_values.specs.Values.{FitsType, type_of}
-use Rattle.rule_law.specs.Rules.{IsAggregateOf, IsBest, integer_of, total, wrapped_as}
+use Rattle.mt_model.specs.Rules.{IsAggregateOf, IsBest, integer_of, total, wrapped_as}
 use Rattle.rule_aggregating.specs.Folded.{FoldsIn, plus}
 use Rattle.rule_law.proofs.Aggregated.{aggregate_type, greater_order, less_order, passes_not}
 use Rattle.rule_law.proofs.OneSign.{total_after}

@@ -4,13 +4,13 @@ use Rattle.std.proofs.lemmas.List.{drop_all, get_or-map, get_or-set_other, lengt
 use Rattle.std.proofs.lemmas.List.Elements.{filter_map-append}
 use Rattle.std.proofs.lemmas.Bool.{cases_lt}
 use Rattle.std.specs.List.{All}
-use Rattle.rule_law.specs.declared.engine.Aggregate.{Aggregate}
+use Rattle.mt_values.specs.declared.engine.Aggregate.{Aggregate}
 use Rattle.mt_values.specs.declared.value.ColType.{ColType}
 use Rattle.mt_values.specs.declared.value.ColType.TheVariants as type
 use Rattle.mt_values.specs.declared.value.Value.{Value}
 use Rattle.mt_values.specs.Grid.{column_of}
 use Rattle.mt_values.specs.Values.{FitsType, Row, type_of, types_of}
-use Rattle.rule_law.specs.Rules.{AreAggregatesFrom, IsAggregateOf}
+use Rattle.mt_model.specs.Rules.{AreAggregatesFrom, IsAggregateOf}
 use Rattle.rule_aggregating.specs.Folded.{FoldsAt, FoldsIn, any_value}
 use Rattle.rule_aggregating.proofs.OneMore.{one_value}
 use Rattle.rule_law.proofs.Aggregated.{TakesRow, aggregate_at, aggregates_at_all, aggregates_length, column_of_one, column_typed, function_at, taken_types}

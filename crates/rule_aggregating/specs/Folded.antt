@@ -1,15 +1,10 @@
 -- One row more, folded into the values that are kept (docs/engines.md, "AggregatingMergeTree").
 use Rattle.std.specs.Prelude.{◌≡◌, ◌<◌, ℕ, List, [], ◌∷◌, ◌++◌, All, None, Option, get_or, if◌then◌else◌, length, nat_eq, ◌+ℤ◌}
-use Rattle.rule_law.specs.declared.engine.Aggregate.{Aggregate}
+use Rattle.mt_values.specs.declared.engine.Aggregate.{Aggregate}
 use Rattle.mt_values.specs.declared.value.Value.{Value}
-use Rattle.mt_values.specs.declared.value.Value.TheVariants as value
-use Rattle.mt_values.specs.Order.{rank_of}
 use Rattle.mt_values.specs.Values.{Row, type_of}
-use Rattle.rule_law.specs.Rules.{IsAggregateOf, function_or_first, integer_of, wrapped_as}
-
--- any value, for places past the end of a row
-abbrev pub any_value : Value
-any_value = value.UInt8 0
+pub use Rattle.rule_law.specs.Added.{any_value, plus}
+use Rattle.mt_model.specs.Rules.{IsAggregateOf, function_or_first, integer_of, wrapped_as}
 
 -- where the one is what a function makes of some values, the last is what it makes of them and of one value more of their type (docs/engines.md, "AggregatingMergeTree")
 abbrev pub FoldsIn : Aggregate → Value → Value → Value → Type 0
@@ -20,7 +15,3 @@ FoldsIn function kept more after = (values : List Value) → All (λ v. type_of 
 abbrev pub FoldsAt : List (Option Aggregate) → Row → Row → Row → ℕ → Type 0
 FoldsAt functions kept row after place = place < length functions → place < length row
     → FoldsIn (function_or_first (get_or functions place None)) (get_or kept place any_value) (get_or row place any_value) (get_or after place any_value)
-
--- a value with the number of another of its type added, wrapped at its width (docs/engines.md, "Sums")
-abbrev pub plus : Value → Value → Value
-plus v w = if nat_eq (rank_of v) (rank_of w) then wrapped_as v (integer_of v +ℤ integer_of w) else v

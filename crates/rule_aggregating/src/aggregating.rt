@@ -1,14 +1,14 @@
 // AggregatingMergeTree: one row of a key stays, each value by the function of its column (docs/engines.md, "AggregatingMergeTree").
 ghost use Rattle.std.specs.Prelude.{◌≡◌, All, None, Some, length, slice_get};
-ghost use Rattle.rule_law.specs.Rules.{AreAggregatesFrom, Folds, Run};
+ghost use Rattle.mt_model.specs.Rules.{AreAggregatesFrom, Folds, Run};
 ghost use Rattle.mt_values.specs.Values.{types_of};
-ghost use Rattle.rule_law.specs.declared.engine.Engine.TheVariants as engine;
+ghost use Rattle.mt_values.specs.declared.engine.Engine.TheVariants as engine;
 ghost use Rattle.rule_law.proofs.Aggregated.{aggregating_keeps, aggregating_law};
 
 use crate::folding::{fold_row, read_number};
 use mt_base::{NoMemory, Seq, Twin};
-use mt_values::{ColType, Row, Value};
-use rule_law::{Aggregate, RowRule};
+use mt_values::{Aggregate, ColType, Row, Value};
+use rule_law::RowRule;
 use std::alloc::Global;
 
 /// The rule of AggregatingMergeTree.

@@ -1,12 +1,12 @@
 // One row more, folded into the values that are kept, each by the function of its column.
 ghost use Rattle.std.specs.Prelude.{◌≡◌, ◌<◌, ℕ, None, OnOk, bit_and, bit_or, bit_xor, get_or, length, set};
 ghost use Rattle.mt_values.specs.Values.{FitsType};
-ghost use Rattle.rule_law.specs.Rules.{function_or_first, joined_bits};
-ghost use Rattle.rule_aggregating.specs.Folded.{FoldsAt, FoldsIn, any_value, plus};
+ghost use Rattle.mt_model.specs.Rules.{function_or_first, joined_bits};
+ghost use Rattle.rule_aggregating.specs.Folded.{FoldsAt, FoldsIn, any_value};
 
 use mt_base::{NoMemory, Twin};
-use mt_values::{Row, Value, cmp_value};
-use rule_law::Aggregate;
+use mt_values::{Aggregate, Row, Value, cmp_value};
+use rule_law::add_number;
 use std::alloc::Global;
 
 /// Folds the values of a row into those that are kept.
@@ -125,24 +125,6 @@ pub(crate) fn read_number(value: &Value)
             let _number = *number;
         }
         Value::Text(_) => {}
-    }
-}
-
-/// Adds the number of a value of the same type, which wraps at its width; a text stays as it is.
-#[tactic(auto, using(std::proofs::lemmas::Int::wraps))]
-fn add_number(sum: &mut Value, value: &Value)
-    ensures { sum.new ≡ plus sum.old value.now }
-{
-    match (sum, value) {
-        (Value::UInt8(m), Value::UInt8(n)) => *m = m.wrapping_add(*n),
-        (Value::UInt16(m), Value::UInt16(n)) => *m = m.wrapping_add(*n),
-        (Value::UInt32(m), Value::UInt32(n)) => *m = m.wrapping_add(*n),
-        (Value::UInt64(m), Value::UInt64(n)) => *m = m.wrapping_add(*n),
-        (Value::Int8(m), Value::Int8(n)) => *m = m.wrapping_add(*n),
-        (Value::Int16(m), Value::Int16(n)) => *m = m.wrapping_add(*n),
-        (Value::Int32(m), Value::Int32(n)) => *m = m.wrapping_add(*n),
-        (Value::Int64(m), Value::Int64(n)) => *m = m.wrapping_add(*n),
-        _ => {}
     }
 }
 

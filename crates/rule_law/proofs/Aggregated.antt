@@ -12,9 +12,9 @@ use Rattle.std.proofs.lemmas.List.{drop_all, get_or-append-add, length-map}
 use Rattle.std.proofs.lemmas.List.Elements.{All-nil, All-cons, All-head, All-tail, All-append, All-same, All-weaker, All-contains, Contains-append_cases, Contains-append_left, Contains-append_right, filter_map-append}
 use Rattle.std.proofs.lemmas.List.MinMax.{ranks_by, IsStrictWeakOrder-flip}
 use Rattle.std.proofs.lemmas.Option.{get_or_from_slice_get, slice_get-get_or, slice_get-map, slice_get_within}
-use Rattle.rule_law.specs.declared.engine.Aggregate.{Aggregate}
-use Rattle.rule_law.specs.declared.engine.Aggregate.TheVariants as aggregate
-use Rattle.rule_law.specs.declared.engine.Engine.TheVariants as engine
+use Rattle.mt_values.specs.declared.engine.Aggregate.{Aggregate}
+use Rattle.mt_values.specs.declared.engine.Aggregate.TheVariants as aggregate
+use Rattle.mt_values.specs.declared.engine.Engine.TheVariants as engine
 use Rattle.mt_values.specs.declared.value.ColType.{ColType}
 use Rattle.mt_values.specs.declared.value.ColType.TheVariants as type
 use Rattle.mt_values.specs.declared.value.Value.{Value}
@@ -23,8 +23,8 @@ use Rattle.mt_values.specs.Grid.{column_of, AreRowsOf}
 use Rattle.mt_values.specs.Order.{key_of, value_cmp}
 use Rattle.mt_values.specs.Values.{Row, type_of, types_of}
 use Rattle.mt_values.proofs.Orders.{value_total}
-use Rattle.rule_law.specs.Folding.{Merges, ComesFrom, Leaves}
-use Rattle.rule_law.specs.Rules.{AreAggregatesFrom, Folds, IsAggregateOf, IsBest, LeavesAggregates, Run, function_or_first, integer_of, joined_bits, total, wrapped_as}
+use Rattle.mt_model.specs.Folding.{Merges, ComesFrom, Leaves}
+use Rattle.mt_model.specs.Rules.{AreAggregatesFrom, Folds, IsAggregateOf, IsBest, LeavesAggregates, Run, function_or_first, integer_of, joined_bits, total, wrapped_as}
 use Rattle.rule_law.proofs.Bits.{all_bits, fold_type, joined_within, odd_bits, some_bits}
 use Rattle.rule_law.proofs.Merging.{law_of_merges, leaves_run}
 use Rattle.rule_law.proofs.OneSign.{total_after}

@@ -1,9 +1,9 @@
 -- Merges of MergeTree leave all rows.
 use Rattle.std.proofs.Common.{◌≡◌, ◌<◌, List, [], ◌++◌, length, refl, sym, ap, ◌∙◌}
 use Rattle.mt_values.specs.Values.{Row}
-use Rattle.rule_law.specs.declared.engine.Engine.TheVariants as engine
-use Rattle.rule_law.specs.Folding.{Merges, ComesFrom, Leaves}
-use Rattle.rule_law.specs.Rules.{Folds, Run}
+use Rattle.mt_values.specs.declared.engine.Engine.TheVariants as engine
+use Rattle.mt_model.specs.Folding.{Merges, ComesFrom, Leaves}
+use Rattle.mt_model.specs.Rules.{Folds, Run}
 use Rattle.rule_law.proofs.Merging.{function_leaves, leaves_function, law_of_merges}
 
 -- a merge leaves the rows as they are

@@ -4,9 +4,9 @@ use Rattle.std.specs.Ordering.{int_eq}
 use Rattle.mt_values.specs.declared.value.Value.{Value}
 use Rattle.mt_values.specs.declared.value.Value.TheVariants as value
 use Rattle.mt_values.specs.Values.{Row}
-use Rattle.rule_law.specs.declared.engine.Engine.TheVariants as engine
-use Rattle.rule_law.specs.Folding.{Merges, ComesFrom, Leaves}
-use Rattle.rule_law.specs.Rules.{Folds, FoldsAs, Run, alternate, alternate_from, collapsed, ends_with_state, first_of, is_cancel, is_sign, is_state, last_of, left_of_signs}
+use Rattle.mt_values.specs.declared.engine.Engine.TheVariants as engine
+use Rattle.mt_model.specs.Folding.{Merges, ComesFrom, Leaves}
+use Rattle.mt_model.specs.Rules.{Folds, FoldsAs, Run, alternate, alternate_from, collapsed, ends_with_state, first_of, is_cancel, is_sign, is_state, last_of, left_of_signs}
 use Rattle.rule_law.proofs.Merging.{function_leaves, leaves_function, law_of_merges}
 use Rattle.rule_law.proofs.Newest.{last_after}
 

@@ -9,7 +9,7 @@ use Rattle.std.specs.List.{fold, reduce}
 use Rattle.mt_values.specs.declared.value.Value.{Value}
 use Rattle.mt_values.specs.declared.value.Value.TheVariants as value
 use Rattle.mt_values.specs.Values.{type_of}
-use Rattle.rule_law.specs.Rules.{joined_bits}
+use Rattle.mt_model.specs.Rules.{joined_bits}
 
 -- ---- numbers
 

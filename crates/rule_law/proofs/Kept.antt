@@ -3,8 +3,8 @@ use Rattle.std.proofs.Common.{◌≡◌, ℕ, Bool, true, false, nat_lt, List, [
 use Rattle.std.specs.List.{All}
 use Rattle.std.proofs.lemmas.List.Elements.{All-append, All-cons, All-filter, All-head, All-nil, All-same, All-tail, All-take}
 use Rattle.mt_values.specs.Values.{Row}
-use Rattle.rule_law.specs.declared.engine.Engine.TheVariants as engine
-use Rattle.rule_law.specs.Rules.{IsSublist, Run, collapsed, ends_with_state, first_of, is_cancel, is_state, last_of}
+use Rattle.mt_values.specs.declared.engine.Engine.TheVariants as engine
+use Rattle.mt_model.specs.Rules.{IsSublist, Run, collapsed, ends_with_state, first_of, is_cancel, is_state, last_of}
 
 module _ (P : Row → Type 0) where
   -- the row after some others is one of them

@@ -1,7 +1,7 @@
 -- Merges at any times, and what the fold of the rest leaves.
 use Rattle.std.proofs.Common.{◌≡◌, ℕ, zero, suc, ◌<◌, List, [], ◌∷◌, length, sym, ◌∙◌, subst, arith}
 use Rattle.mt_values.specs.Values.{Row}
-use Rattle.rule_law.specs.Folding.{Merges, MergesTimes, ComesFrom, Leaves}
+use Rattle.mt_model.specs.Folding.{Merges, MergesTimes, ComesFrom, Leaves}
 
 -- what at least one row leaves is what its run leaves
 pub leaves_run : (run : List Row → List Row → Type 0) (rows out : List Row) → 0 < length rows → Leaves run rows out → run rows out

@@ -3,7 +3,7 @@ use Rattle.std.proofs.Common.{◌≡◌, ℕ, ◌<◌, ◌≤◌, Bool, true, fa
 use Rattle.std.specs.List.{All}
 use Rattle.std.proofs.lemmas.List.Elements.{All-head, All-tail}
 use Rattle.mt_values.specs.Values.{Row}
-use Rattle.rule_law.specs.Rules.{LeavesLast, LeavesNewest, last_of, version_at}
+use Rattle.mt_model.specs.Rules.{LeavesLast, LeavesNewest, last_of, version_at}
 
 -- ---- the last row
 

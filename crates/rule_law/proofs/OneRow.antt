@@ -3,9 +3,9 @@ use Rattle.std.proofs.Common.{◌≡◌, ℕ, ◌<◌, ◌≤◌, Bool, true, fa
 use Rattle.std.specs.List.{All}
 use Rattle.std.proofs.lemmas.List.Elements.{All-nil, All-cons, All-append, All-push}
 use Rattle.mt_values.specs.Values.{Row}
-use Rattle.rule_law.specs.declared.engine.Engine.TheVariants as engine
-use Rattle.rule_law.specs.Folding.{Merges, ComesFrom, Leaves}
-use Rattle.rule_law.specs.Rules.{Folds, Run, LeavesLast, LeavesNewest, last_of, version_at}
+use Rattle.mt_values.specs.declared.engine.Engine.TheVariants as engine
+use Rattle.mt_model.specs.Folding.{Merges, ComesFrom, Leaves}
+use Rattle.mt_model.specs.Rules.{Folds, Run, LeavesLast, LeavesNewest, last_of, version_at}
 use Rattle.rule_law.proofs.Merging.{function_leaves, leaves_function, law_of_merges}
 use Rattle.rule_law.proofs.Newest.{last_after, last_is, last_leaves, newest_from, newest_of, newest_is, within_drops}
 

@@ -5,9 +5,9 @@ use Rattle.std.proofs.lemmas.List.Elements.{All-nil, filter_map-append}
 use Rattle.mt_values.specs.declared.value.Value.{Value}
 use Rattle.mt_values.specs.Grid.{column_of}
 use Rattle.mt_values.specs.Values.{Row}
-use Rattle.rule_law.specs.declared.engine.Engine.TheVariants as engine
-use Rattle.rule_law.specs.Folding.{Merges, ComesFrom, Leaves}
-use Rattle.rule_law.specs.Rules.{Folds, Run, IsSublist, LeavesOneSign, integer_of, is_state, total}
+use Rattle.mt_values.specs.declared.engine.Engine.TheVariants as engine
+use Rattle.mt_model.specs.Folding.{Merges, ComesFrom, Leaves}
+use Rattle.mt_model.specs.Rules.{Folds, Run, IsSublist, LeavesOneSign, integer_of, is_state, total}
 use Rattle.rule_law.proofs.Merging.{law_of_merges}
 
 -- ---- some of the items of a list

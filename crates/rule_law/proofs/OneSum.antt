@@ -4,12 +4,12 @@ use Rattle.std.specs.List.{All}
 use Rattle.std.proofs.lemmas.List.Elements.{All-append, All-cons, All-head, All-nil, All-same, All-tail}
 use Rattle.mt_values.specs.declared.value.ColType.{ColType}
 use Rattle.mt_values.specs.declared.value.Value.{Value}
-use Rattle.rule_law.specs.declared.engine.Engine.TheVariants as engine
+use Rattle.mt_values.specs.declared.engine.Engine.TheVariants as engine
 use Rattle.mt_values.specs.Grid.{column_of}
 use Rattle.mt_values.specs.Order.{key_of}
 use Rattle.mt_values.specs.Values.{Row, type_of, types_of}
-use Rattle.rule_law.specs.Folding.{Merges, ComesFrom, Leaves}
-use Rattle.rule_law.specs.Rules.{Folds, Run, LeavesSums, are_zero, is_one_of, total, with_sums}
+use Rattle.mt_model.specs.Folding.{Merges, ComesFrom, Leaves}
+use Rattle.mt_model.specs.Rules.{Folds, Run, LeavesSums, are_zero, is_one_of, total, with_sums}
 use Rattle.rule_law.proofs.Merging.{law_of_merges}
 use Rattle.rule_law.proofs.OneSign.{column_total}
 use Rattle.rule_law.proofs.Wrapping.{number_among, number_as, wrapped_alike}

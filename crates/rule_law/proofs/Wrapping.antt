@@ -9,7 +9,7 @@ use Rattle.mt_values.specs.declared.value.ColType.TheVariants as type
 use Rattle.mt_values.specs.declared.value.Value.{Value}
 use Rattle.mt_values.specs.declared.value.Value.TheVariants as value
 use Rattle.mt_values.specs.Values.{type_of}
-use Rattle.rule_law.specs.Rules.{integer_of, low_bits, wrapped_as}
+use Rattle.mt_model.specs.Rules.{integer_of, low_bits, wrapped_as}
 
 -- ---- the lowest bits of a sum
 

@@ -2,10 +2,10 @@
 //! within the engine's rule.
 #![tactic(auto)]
 
-mod engine;
+mod adding;
 mod reading;
 mod rule;
 
-pub use engine::{Aggregate, Engine};
+pub use adding::add_number;
 pub use reading::version_of;
 pub use rule::RowRule;

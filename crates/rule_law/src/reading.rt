@@ -1,6 +1,6 @@
 // The numbers that rules read in rows.
 ghost use Rattle.std.specs.Prelude.{◌≡◌};
-ghost use Rattle.rule_law.specs.Rules.{version_at};
+ghost use Rattle.mt_model.specs.Rules.{version_at};
 
 use mt_values::{Row, Value};
 

@@ -1,6 +1,6 @@
 // The rule of an engine, as merges and reads with FINAL call it (docs/engines.md, "Merges").
 ghost use Rattle.std.specs.Prelude.{◌≡◌, ◌<◌, ◌++◌, ◌∷◌, [], ℕ, All, IfOk, List, OnOk, length};
-ghost use Rattle.rule_law.specs.Folding.{ComesFrom, Leaves};
+ghost use Rattle.mt_model.specs.Folding.{ComesFrom, Leaves};
 ghost use Rattle.mt_values.specs.Order.{key_of};
 ghost use Rattle.mt_values.specs.Values.{Row};
 ghost use Rattle.mt_values.specs.declared.value.Value.{Value};

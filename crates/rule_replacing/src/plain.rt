@@ -1,7 +1,7 @@
 // MergeTree: all rows of a key stay, in their order (docs/engines.md, "MergeTree").
 ghost use Rattle.std.specs.Prelude.{◌≡◌, []};
-ghost use Rattle.rule_law.specs.Rules.{Folds, Run};
-ghost use Rattle.rule_law.specs.declared.engine.Engine.TheVariants as engine;
+ghost use Rattle.mt_model.specs.Rules.{Folds, Run};
+ghost use Rattle.mt_values.specs.declared.engine.Engine.TheVariants as engine;
 ghost use Rattle.mt_values.specs.Order.{key_of};
 ghost use Rattle.rule_law.proofs.AllRows.{plain_law};
 ghost use Rattle.rule_law.proofs.Kept.{plain_keeps};

@@ -2,11 +2,10 @@
 use Rattle.std.specs.Prelude.{◌≡◌, ◌+◌, ℕ, pos, ◌+ℤ◌, Bool, if◌then◌else◌, nat_eq, List, [], ◌∷◌, ◌++◌, Option, None, Some, slice_get}
 use Rattle.std.specs.Ordering.{int_eq}
 use Rattle.mt_values.specs.declared.value.Value.{Value}
-use Rattle.mt_values.specs.declared.value.Value.TheVariants as value
 use Rattle.mt_values.specs.Grid.{column_of}
-use Rattle.mt_values.specs.Order.{rank_of}
 use Rattle.mt_values.specs.Values.{Row}
-use Rattle.rule_law.specs.Rules.{integer_of, is_one_of, total, with_sums, wrapped_as}
+pub use Rattle.rule_law.specs.Added.{any_value, plus}
+use Rattle.mt_model.specs.Rules.{integer_of, is_one_of, total, with_sums, wrapped_as}
 
 -- one of the rows, with the sums of all of them in its summed columns (docs/engines.md, "SummingMergeTree")
 pub record HasSums (places : List ℕ) (rows : List Row) (sums : Row) : Type 0 where
@@ -15,14 +14,6 @@ pub record HasSums (places : List ℕ) (rows : List Row) (sums : Row) : Type 0 w
   pub later : List Row
   pub rows_are : rows ≡ earlier ++ carried ∷ later
   pub sums_are : sums ≡ with_sums places rows carried
-
--- any value, for places past the end of a row
-abbrev pub any_value : Value
-any_value = value.UInt8 0
-
--- a value with the number of another of its type added, wrapped at its width (docs/engines.md, "Sums")
-abbrev pub plus : Value → Value → Value
-plus v w = if nat_eq (rank_of v) (rank_of w) then wrapped_as v (integer_of v +ℤ integer_of w) else v
 
 -- the same of a value that another row may have (docs/engines.md, "Sums")
 abbrev pub plus_found : Value → Option Value → Value

@@ -1,10 +1,11 @@
 // The sums of rows in some of their columns, which wrap at each column's width (docs/engines.md, "Sums").
 ghost use Rattle.std.specs.Prelude.{◌≡◌, ◌<◌, ◌∷◌, [], get_or, length, set, pos};
 ghost use Rattle.std.specs.Ordering.{int_eq};
-ghost use Rattle.rule_law.specs.Rules.{are_zero, integer_of, is_one_of, summed, with_sums, wrapped_as};
-ghost use Rattle.rule_summing.specs.Summed.{added_at, any_value, changed_from, is_zero_at, plus};
+ghost use Rattle.mt_model.specs.Rules.{are_zero, integer_of, is_one_of, summed, with_sums, wrapped_as};
+ghost use Rattle.rule_summing.specs.Summed.{added_at, any_value, changed_from, is_zero_at};
 
 use mt_values::{Row, Value};
+use rule_law::add_number;
 
 /// Sets the sums to those of no rows, which are 0, in the columns at these places alone.
 pub(crate) fn clear_row(sums: &mut [Value], places: &[u32])
@@ -63,24 +64,6 @@ fn add_at(sums: &mut [Value], places: &[u32], row: &Row, place: usize)
     };
     if has_place(places, place) {
         add_number(&mut sums[place], value);
-    }
-}
-
-/// Adds the number of a value of the same type, which wraps at its width; a text stays as it is.
-#[tactic(auto, using(std::proofs::lemmas::Int::wraps))]
-fn add_number(sum: &mut Value, value: &Value)
-    ensures { sum.new ≡ plus sum.old value.now }
-{
-    match (sum, value) {
-        (Value::UInt8(m), Value::UInt8(n)) => *m = m.wrapping_add(*n),
-        (Value::UInt16(m), Value::UInt16(n)) => *m = m.wrapping_add(*n),
-        (Value::UInt32(m), Value::UInt32(n)) => *m = m.wrapping_add(*n),
-        (Value::UInt64(m), Value::UInt64(n)) => *m = m.wrapping_add(*n),
-        (Value::Int8(m), Value::Int8(n)) => *m = m.wrapping_add(*n),
-        (Value::Int16(m), Value::Int16(n)) => *m = m.wrapping_add(*n),
-        (Value::Int32(m), Value::Int32(n)) => *m = m.wrapping_add(*n),
-        (Value::Int64(m), Value::Int64(n)) => *m = m.wrapping_add(*n),
-        _ => {}
     }
 }
 

@@ -1,6 +1,6 @@
 // Sorted inputs of rows of one table.
 use mt_base::{NoMemory, Seq};
-use mt_values::{ColType, Column, Row, Schema, Value};
+use mt_values::{ColType, Column, Engine, Row, Schema, Value};
 use std::alloc::Global;
 
 /// How many rows there are, in how many inputs, and how many of them have one key.
@@ -30,10 +30,12 @@ pub fn schema(alloc: Global) -> Result<Schema, NoMemory> {
         list.push(Column {
             name: Seq::new(alloc),
             col_type,
+            function: None,
         })?;
     }
     Ok(Schema {
         columns: list,
+        engine: Engine::Plain,
         key: Seq::from_slice(alloc, &[0])?,
         primary: Seq::from_slice(alloc, &[0])?,
         partition: None,

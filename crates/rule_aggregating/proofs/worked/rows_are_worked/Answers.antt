@@ -1,12 +1,12 @@
 use Rattle.std.proofs.Common.{◌≡◌, ℕ, Bool, true, false, List, [], ◌∷◌, ◌++◌, refl, sym, ap, ◌∙◌, arith, length, length-append}
 use Rattle.std.proofs.lemmas.List.Elements.{All-cons, All-nil}
 use Rattle.std.specs.Ordering.{is_lt}
-use Rattle.rule_law.specs.declared.engine.Aggregate.TheVariants as aggregate
+use Rattle.mt_values.specs.declared.engine.Aggregate.TheVariants as aggregate
 use Rattle.mt_values.specs.declared.value.Value.{Value}
 use Rattle.mt_values.specs.declared.value.Value.TheVariants.{Text, UInt8}
 use Rattle.mt_values.specs.Order.{value_cmp}
 use Rattle.mt_values.specs.Values.{Row}
-use Rattle.rule_law.specs.Rules.{IsAggregateOf}
+use Rattle.mt_model.specs.Rules.{IsAggregateOf}
 use Rattle.rule_aggregating.proofs.worked.rows_are_worked.Goals as goal
 
 passed : Value → Value → Bool

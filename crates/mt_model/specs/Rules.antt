@@ -3,17 +3,18 @@ use Rattle.std.specs.Prelude.{◌≡◌, ◌⊎◌, ◌&&◌, ◌+◌, ◌^◌, 
 use Rattle.std.specs.Int.{int_rem_euclid, int_wrap, w8, w16, w32, w64}
 use Rattle.std.specs.List.{list_all, list_any, reduce}
 use Rattle.std.specs.Ordering.{int_eq, is_lt}
-use Rattle.rule_law.specs.declared.engine.Aggregate.{Aggregate}
-use Rattle.rule_law.specs.declared.engine.Aggregate.TheVariants as aggregate
-use Rattle.rule_law.specs.declared.engine.Engine.{Engine}
-use Rattle.rule_law.specs.declared.engine.Engine.TheVariants as engine
+use Rattle.mt_values.specs.declared.engine.Aggregate.{Aggregate}
+use Rattle.mt_values.specs.declared.engine.Aggregate.TheVariants as aggregate
+use Rattle.mt_values.specs.declared.engine.Engine.{Engine}
+use Rattle.mt_values.specs.declared.engine.Engine.TheVariants as engine
 use Rattle.mt_values.specs.declared.value.Value.{Value}
 use Rattle.mt_values.specs.declared.value.Value.TheVariants as value
+pub use Rattle.mt_values.specs.Engines.{is_sign}
 use Rattle.mt_values.specs.Grid.{column_of}
 use Rattle.mt_values.specs.Order.{value_cmp}
 use Rattle.mt_values.specs.Tables.{number_at}
 use Rattle.mt_values.specs.Values.{Row}
-use Rattle.rule_law.specs.Folding.{LeavesLater}
+use Rattle.mt_model.specs.Folding.{LeavesLater}
 
 -- ---- numbers in columns
 
@@ -106,12 +107,6 @@ pub record LeavesSums (places : List ℕ) (rows out : List Row) : Type 0 where
   pub out_is : out ≡ (if are_zero places (with_sums places rows carried) then [] else with_sums places rows carried ∷ [])
 
 -- ---- CollapsingMergeTree
-
--- whether a value is this sign; a sign's column has the type Int8 (docs/engines.md, "CollapsingMergeTree")
-abbrev pub is_sign : ℤ → Option Value → Bool
-is_sign sign None = false
-is_sign sign (Some (value.Int8 z)) = int_eq z sign
-is_sign sign (Some v) = false
 
 -- a state row has the sign 1 (ClickHouse, CollapsingMergeTree: sign, "1 is a state row"; docs/engines.md, "CollapsingMergeTree")
 abbrev pub is_state : ℕ → Row → Bool
