@@ -1,21 +1,30 @@
 -- Parts of a statement, read one after another.
-use Rattle.std.proofs.Common.{◌≡◌, List, Result, Ok, Err, ◌∙◌}
+use Rattle.std.proofs.Common.{◌≡◌, Bool, true, false, List, Result, Ok, Err, ◌∙◌}
 use Rattle.std.specs.Result.{IsErrAnd}
 use Rattle.std.proofs.lemmas.Result.{err_from_is_err_and}
 use Rattle.mt_values.specs.declared.statement.Slip.{Slip}
 use Rattle.mt_values.specs.declared.statement.Statement.{Statement}
 use Rattle.mt_values.specs.declared.token.Placed.{Placed}
+use Rattle.mt_values.specs.declared.token.Token.{Token}
 use Rattle.mt_values.specs.Grammar.{ends}
-use Rattle.mt_values.specs.Readers.{Reader, Part}
+use Rattle.mt_values.specs.Readers.{Reader, Part, choose}
 use Rattle.mt_base.specs.declared.stop.Stop.{Stop}
 use Rattle.mt_base.specs.declared.stop.Stop.TheVariants as stop
-use Rattle.sql_read.specs.Reads.{Ends, IsRead, Reads, ReadsEnd}
+use Rattle.sql_read.specs.Reads.{Ends, IsRead, Reads, ReadsEnd, first_is}
+use Rattle.sql_read.proofs.Choices.{choose_other, choose_this}
 
 -- the rest of a part is read by another part
 pub reads_rest : {X : Type 0} (whole part : Part Statement X) (from mid : List Placed) → ((next : X → Reader Statement) → whole next from ≡ part next mid) → (r : Result X (Stop Slip)) (to : List Placed) → Reads part mid r to → Reads whole from r to
 reads_rest whole part from mid along (Ok x) to read = λ next. along next ∙ read next
 reads_rest whole part from mid along (Err (stop.Refused s)) to read = λ next. along next ∙ read next
 reads_rest whole part from mid along (Err stop.NoMemory) to read = tt
+
+-- a part that is one of two is read by the one that the next token chooses
+pub reads_this : {X : Type 0} (test : Token → Bool) (this other : Part Statement X) (from : List Placed) → first_is test from ≡ true → (r : Result X (Stop Slip)) (to : List Placed) → Reads this from r to → Reads (λ next. choose test (this next) (other next)) from r to
+reads_this test this other from here r to read = reads_rest (λ next. choose test (this next) (other next)) this from from (λ next. choose_this test (this next) (other next) from here) r to read
+
+pub reads_other : {X : Type 0} (test : Token → Bool) (this other : Part Statement X) (from : List Placed) → first_is test from ≡ false → (r : Result X (Stop Slip)) (to : List Placed) → Reads other from r to → Reads (λ next. choose test (this next) (other next)) from r to
+reads_other test this other from none r to read = reads_rest (λ next. choose test (this next) (other next)) other from from (λ next. choose_other test (this next) (other next) from none) r to read
 
 stops : {X Z : Type 0} (whole : Part Statement X) (part : Part Statement Z) (follow : (X → Reader Statement) → Z → Reader Statement) (from mid : List Placed) →
     ((next : X → Reader Statement) → whole next from ≡ part (follow next) mid) → (e : Stop Slip) (to : List Placed) → Reads part mid (Err e) to → Reads whole from (Err e) to

@@ -1,28 +1,61 @@
 -- The elements of a CREATE tell their first faults.
-use Rattle.std.proofs.Common.{◌≡◌, ℕ, suc, Bool, true, false, ◌||◌, List, refl, ◌∙◌, sym, codes}
+use Rattle.std.proofs.Common.{◌≡◌, ℕ, suc, Bool, true, false, ◌||◌, List, Option, Some, None, refl, ◌∙◌, sym, codes}
+use Rattle.mt_values.specs.declared.engine.Aggregate.{Aggregate}
+use Rattle.mt_values.specs.declared.engine.Aggregate.TheVariants as aggregate
 use Rattle.mt_values.specs.declared.statement.Element.{Element}
 use Rattle.mt_values.specs.declared.statement.KindText.{KindText}
 use Rattle.mt_values.specs.declared.statement.KindText.TheVariants as kind
 use Rattle.mt_values.specs.declared.token.Symbol.TheVariants as symbol
 use Rattle.mt_values.specs.declared.token.Token.{Token}
 use Rattle.mt_values.specs.declared.token.Token.TheVariants as token
-use Rattle.mt_values.specs.declared.value.ColType.TheVariants as type
-use Rattle.mt_values.specs.Grammar.{column, index, index_kind, is_reserved, is_symbol, is_word, keyword, name, number, plain, same_bytes, set_kind, table_element, the}
+use Rattle.mt_values.specs.declared.value.ColType.{ColType}
+use Rattle.mt_values.specs.Grammar.{aggregated_type, column, column_type, function, index, index_kind, is_reserved, is_symbol, is_word, keyword, name, number, plain, plain_type, same_bytes, set_kind, table_element, the}
 use Rattle.mt_values.specs.Readers.{Reader, expect}
 use Rattle.mt_values.specs.Tokens.{is_keyword}
 use Rattle.sql_read.specs.Parts.{index_granularity, index_type, minmax_kind}
-use Rattle.sql_read.proofs.TableElements.{column_said, index_said}
+use Rattle.sql_read.proofs.TableElements.{aggregated_end, column_said, index_said}
 use Rattle.sql_read.proofs.Faults.{name_names, passing_names}
-use Rattle.sql_read.proofs.FaultParts.{Apart, Live, Sound, SoundItem, choose_other_sound, choose_this_sound, expect_live_sound, expect_sound, live_of, sound_fewer}
-use Rattle.sql_read.proofs.FaultTokens.{a_name, a_number, a_type, digits_live, keyword_then, names_then, passes, passes_live, passing_apart, plain_names}
+use Rattle.sql_read.proofs.FaultParts.{Apart, Live, Sound, SoundItem, choose_other_sound, choose_this_sound, expect_sound, live_of, sound_fewer}
+use Rattle.sql_read.proofs.FaultTokens.{a_name, a_number, a_type, choose_begun, digits_live, function_names, keyword_then, names_then, passes, passes_live, passing_apart, types_begun, types_live, word_begun}
 
 -- ---- columns
 
+-- the word that begins the type of a column that is folded
+abbrev aggregated_word : Token
+aggregated_word = token.Word (codes "SimpleAggregateFunction")
+
+module _ {S : Type 0} (n : ℕ) (next : ColType × Option Aggregate → Reader S) (live : (t : ColType × Option Aggregate) → Live n (next t)) where
+  -- what follows the type in the parentheses, the name of a function, and the word
+  abbrev type_end : Aggregate → ColType → Reader S
+  type_end a t = expect (the symbol.Close) (λ v. next (t, Some a))
+
+  abbrev function_then : Reader S
+  function_then = expect (the symbol.Open) (λ v. expect function (aggregated_end next))
+
+  type_end_live : (a : Aggregate) (t : ColType) → Live n (type_end a t)
+  type_end_live a t =
+      live_of n (type_end a t) (token.Symbol symbol.Close) (passes_live n (is_symbol symbol.Close) (token.Symbol symbol.Close) refl (λ v. next (t, Some a)) (live (t, Some a)))
+
+  aggregated_end_sound : (a : Aggregate) → Sound n (aggregated_end next a) (token.Symbol symbol.Comma)
+  aggregated_end_sound a =
+      passes n (is_symbol symbol.Comma) (token.Symbol symbol.Comma) refl (λ v. expect plain (type_end a)) a_type (types_live n (type_end a) (type_end_live a))
+
+  function_then_sound : Sound n function_then (token.Symbol symbol.Open)
+  function_then_sound =
+      passes n (is_symbol symbol.Open) (token.Symbol symbol.Open) refl (λ v. expect function (aggregated_end next)) (token.Word (codes "any"))
+      (sound_fewer n (expect function (aggregated_end next)) (token.Word (codes "any"))
+      (expect_sound n function (token.Word (codes "any")) aggregate.Any refl function_names (aggregated_end next) (token.Symbol symbol.Comma) aggregated_end_sound))
+
+  type_sound : Sound n (column_type next) a_type
+  type_sound =
+      let aggregated = word_begun n (codes "SimpleAggregateFunction") refl function_then (token.Symbol symbol.Open) function_then_sound in
+      let plains = types_begun n (λ t. next (t, None)) (λ t. live (t, None)) in
+      (choose_begun n (is_word (same_bytes (codes "SimpleAggregateFunction"))) (aggregated_type next) (plain_type next) aggregated_word a_type refl aggregated plains).sound
+
 column_sound : {S : Type 0} → SoundItem {S = S} column a_name
 column_sound n next good live =
-    sound_fewer (suc n) (column next) a_name
-    (expect_sound (suc n) name a_name (codes "t") refl name_names (λ w. expect plain (λ t. next (column_said w t))) a_type
-    (λ w. expect_live_sound n plain a_type type.UInt8 refl plain_names (λ t. next (column_said w t)) (λ t. good (column_said w t)) (λ t. live (column_said w t))))
+    expect_sound n name a_name (codes "t") refl name_names (λ w. column_type (λ t. next (column_said w t))) a_type
+    (λ w. type_sound n (λ t. next (column_said w t)) (λ t. record { good = good (column_said w t); goes_on = live (column_said w t) }))
 
 -- ---- indexes
 

@@ -8,6 +8,7 @@ use Rattle.mt_values.specs.declared.statement.Cause.TheVariants as cause
 use Rattle.mt_values.specs.declared.statement.Clause.{Clause}
 use Rattle.mt_values.specs.declared.statement.Clause.TheVariants as clause
 use Rattle.mt_values.specs.declared.statement.Element.{Element}
+use Rattle.mt_values.specs.declared.statement.EngineText.{EngineText}
 use Rattle.mt_values.specs.declared.statement.SelectText.{SelectText}
 use Rattle.mt_values.specs.declared.statement.Selected.{Selected}
 use Rattle.mt_values.specs.declared.statement.Selected.TheVariants as selected
@@ -24,34 +25,18 @@ use Rattle.mt_values.specs.Readers.{Reader, Reading, choose, done, either, expec
 use Rattle.mt_values.specs.Tokens.{is_keyword}
 use Rattle.sql_read.proofs.TableElements.{element_takes}
 use Rattle.sql_read.proofs.FaultElements.{element_sound}
+use Rattle.sql_read.proofs.FaultEngines.{engine_sound, key_sound}
 use Rattle.sql_read.proofs.Listed.{one_name_takes}
 use Rattle.sql_read.specs.Places.{GoesOn, DeepFault, FirstFault, LongFault}
 use Rattle.sql_read.proofs.NextClauses.{by_partition, by_primary, by_settings, last_way, no_partition_way, no_primary_way}
 use Rattle.sql_read.proofs.Faults.{Told, done_good}
 use Rattle.sql_read.proofs.FaultConditions.{where_sound}
-use Rattle.sql_read.proofs.FaultTokens.{Begun, a_name, a_number, begun, choose_begun, digits_live, ends_begun, keyword_then, names_live, names_then, one_name_sound, passes, passes_live, passing_apart}
-use Rattle.sql_read.proofs.FaultParts.{Live, Sound, choose_other_sound, choose_this_sound, ends_sound, list_sound, live_of, symbol_apart}
+use Rattle.sql_read.proofs.FaultTokens.{Begun, a_name, a_number, begun, choose_begun, digits_live, ends_begun, keyword_then, names_live, names_then, one_name_sound, passes, passing_apart}
+use Rattle.sql_read.proofs.FaultParts.{Live, Sound, choose_this_sound, ends_sound, list_sound, live_of, symbol_apart}
 
 -- ---- parts, by the token that begins what follows them
 
 module _ {S : Type 0} (n : ℕ) where
-  engine_sound : (next : Reader S) (u : Token) → is_symbol symbol.Open u ≡ false → Sound n next u → Sound n (engine next) (token.Word (codes "MergeTree"))
-  engine_sound next u no_open sound =
-      let close = passes n (is_symbol symbol.Close) (token.Symbol symbol.Close) refl (λ v. next) u sound in
-      let open_ = passes n (is_symbol symbol.Open) (token.Symbol symbol.Open) refl (λ v. expect (the symbol.Close) (λ v. next)) (token.Symbol symbol.Close) close in
-      passes n (is_word (same_bytes (codes "MergeTree"))) (token.Word (codes "MergeTree")) refl (λ v. choose (is_symbol symbol.Open) (expect (the symbol.Open) (λ v. expect (the symbol.Close) (λ v. next))) next) u
-      (choose_other_sound n (is_symbol symbol.Open) (expect (the symbol.Open) (λ v. expect (the symbol.Close) (λ v. next))) next u no_open open_.good open_.shallow sound
-      (symbol_apart n symbol.Open (expect (the symbol.Open) (λ v. expect (the symbol.Close) (λ v. next)))) (symbol_apart n symbol.Open next))
-
-  key_sound : (next : List (List ℕ) → Reader S) → ((names : List (List ℕ)) → Live n (next names)) → Sound n (key next) (token.Symbol symbol.Open)
-  key_sound next live =
-      let close = λ (names : List (List ℕ)). passes_live n (is_symbol symbol.Close) (token.Symbol symbol.Close) refl (λ v. next names) (live names) in
-      let names = list_sound one_name a_name one_name_takes one_name_sound (λ names. expect (the symbol.Close) (λ v. next names)) (token.Symbol symbol.Close) refl n close in
-      let open_ = passes n (is_symbol symbol.Open) (token.Symbol symbol.Open) refl (λ v. list_of one_name (λ names. expect (the symbol.Close) (λ v. next names))) a_name names in
-      let one = names_live n (λ w. next (w ∷ [])) (λ w. live (w ∷ [])) in
-      choose_this_sound n (is_symbol symbol.Open) (expect (the symbol.Open) (λ v. list_of one_name (λ names. expect (the symbol.Close) (λ v. next names)))) (expect name (λ w. next (w ∷ []))) (token.Symbol symbol.Open) a_name refl open_ one
-      (symbol_apart n symbol.Open (expect (the symbol.Open) (λ v. list_of one_name (λ names. expect (the symbol.Close) (λ v. next names))))) (symbol_apart n symbol.Open (expect name (λ w. next (w ∷ []))))
-
   selection_sound : (next : Selected → Reader S) (u : Token) → is_symbol symbol.Comma u ≡ false → ((c : Selected) → Sound n (next c) u) → Sound n (selection next) (token.Symbol symbol.Star)
   selection_sound next u no_comma sound =
       let star = passes n (is_symbol symbol.Star) (token.Symbol symbol.Star) refl (λ v. next selected.All) u (sound selected.All) in
@@ -149,28 +134,29 @@ module _ (n : ℕ) where
       (λ elements. passes n (is_symbol symbol.Close) (token.Symbol symbol.Close) refl (λ v. next elements) u (sound elements)))
 
   -- what follows the elements of a CREATE
-  clauses_read : (List Clause → Statement) → Reader Statement
-  clauses_read made = expect (keyword (codes "ENGINE")) (λ v. expect (the symbol.Equal) (λ v. engine (clauses (λ cs. ends (made cs)))))
+  engine_read : (EngineText → List Clause → Statement) → Reader Statement
+  engine_read made = expect (keyword (codes "ENGINE")) (λ v. expect (the symbol.Equal) (λ v. engine (λ e. clauses (λ cs. ends (made e cs)))))
 
-  clauses_read_sound : (made : List Clause → Statement) → Sound n (clauses_read made) (token.Word (codes "ENGINE"))
-  unfolding clauses_read
-  clauses_read_sound made =
-      let all = clauses_sound n (λ cs. ends (made cs)) (λ cs. ends_begun n (made cs)) in
-      let merge_tree = engine_sound n (clauses (λ cs. ends (made cs))) (token.Word (codes "ORDER")) refl all in
-      keyword_then n (codes "ENGINE") refl (expect (the symbol.Equal) (λ v. engine (clauses (λ cs. ends (made cs))))) (token.Symbol symbol.Equal)
-      (passes n (is_symbol symbol.Equal) (token.Symbol symbol.Equal) refl (λ v. engine (clauses (λ cs. ends (made cs)))) (token.Word (codes "MergeTree")) merge_tree)
+  engine_read_sound : (made : EngineText → List Clause → Statement) → Sound n (engine_read made) (token.Word (codes "ENGINE"))
+  unfolding engine_read
+  engine_read_sound made =
+      let all = λ (e : EngineText). clauses_sound n (λ cs. ends (made e cs)) (λ cs. ends_begun n (made e cs)) in
+      let engines = engine_sound n (token.Word (codes "ORDER")) refl (λ e. clauses (λ cs. ends (made e cs))) all in
+      keyword_then n (codes "ENGINE") refl (expect (the symbol.Equal) (λ v. engine (λ e. clauses (λ cs. ends (made e cs))))) (token.Symbol symbol.Equal)
+      (passes n (is_symbol symbol.Equal) (token.Symbol symbol.Equal) refl (λ v. engine (λ e. clauses (λ cs. ends (made e cs)))) (token.Word (codes "MergeTree")) engines)
 
   -- what follows CREATE
   create_read : List ℕ → Reader Statement
   create_read text =
       expect (keyword (codes "TABLE")) (λ v. expect name (λ table. expect (the symbol.Open) (λ v. list_of table_element (λ elements. expect (the symbol.Close) (λ v.
-      clauses_read (λ cs. statement.Create (record { text = text; table = table; elements = elements; clauses = cs })))))))
+      engine_read (λ e cs. statement.Create (record { text = text; table = table; elements = elements; engine = e; clauses = cs })))))))
 
   create_read_sound : (text : List ℕ) → Sound n (create_read text) (token.Word (codes "TABLE"))
   unfolding create_read
   create_read_sound text =
-      let elements_then = λ (table : List ℕ) (elements : List Element). clauses_read (λ cs. statement.Create (record { text = text; table = table; elements = elements; clauses = cs })) in
-      let sound = λ (table : List ℕ). elements_sound (elements_then table) (token.Word (codes "ENGINE")) (λ elements. clauses_read_sound (λ cs. statement.Create (record { text = text; table = table; elements = elements; clauses = cs }))) in
+      let made = λ (table : List ℕ) (elements : List Element) (e : EngineText) (cs : List Clause). statement.Create (record { text = text; table = table; elements = elements; engine = e; clauses = cs }) in
+      let elements_then = λ (table : List ℕ) (elements : List Element). engine_read (made table elements) in
+      let sound = λ (table : List ℕ). elements_sound (elements_then table) (token.Word (codes "ENGINE")) (λ elements. engine_read_sound (made table elements)) in
       keyword_then n (codes "TABLE") refl (expect name (λ table. expect (the symbol.Open) (λ v. list_of table_element (λ elements. expect (the symbol.Close) (λ v. elements_then table elements))))) a_name
       (names_then n (λ table. expect (the symbol.Open) (λ v. list_of table_element (λ elements. expect (the symbol.Close) (λ v. elements_then table elements)))) (token.Symbol symbol.Open) sound)
 
@@ -234,7 +220,7 @@ module _ (n : ℕ) where
       (begun n (codes "SELECT") refl (select_read made) (token.Symbol symbol.Star) (select_read_sound made))
 
   statement_sound : (text lines : List ℕ) (ended : Bool) → Sound n (statement_reader text lines ended) (token.Word (codes "SELECT"))
-  unfolding create_read insert_read clauses_read
+  unfolding create_read insert_read engine_read
   statement_sound text lines ended =
       let by_create = is_word (is_keyword (codes "CREATE")) in
       let by_insert = is_word (is_keyword (codes "INSERT")) in

@@ -1,5 +1,6 @@
 -- Single tokens of the grammar, and what follows them, tell their first faults.
 use Rattle.std.proofs.Common.{◌≡◌, ℕ, suc, Bool, true, false, cond, List, Result, Ok, Err, refl, arith, ap, codes}
+use Rattle.mt_values.specs.declared.engine.Aggregate.TheVariants as aggregate
 use Rattle.mt_values.specs.declared.statement.Slip.{Slip}
 use Rattle.mt_values.specs.declared.statement.Slip.TheVariants as slip
 use Rattle.mt_values.specs.declared.token.Symbol.{Symbol}
@@ -8,30 +9,31 @@ use Rattle.mt_values.specs.declared.token.Token.{Token}
 use Rattle.mt_values.specs.declared.token.Token.TheVariants as token
 use Rattle.mt_values.specs.declared.value.ColType.{ColType}
 use Rattle.mt_values.specs.declared.value.ColType.TheVariants as type
-use Rattle.mt_values.specs.Grammar.{comparison_of, ends, is_symbol, is_word, keyword, name, number, one_name, operator, passing, plain, same_bytes, string, the, type_named}
-use Rattle.mt_values.specs.Readers.{Reader, choose, done, expect}
+use Rattle.mt_values.specs.Grammar.{comparison_of, ends, exactly, function, function_named, is_symbol, is_word, keyword, name, number, one_name, operator, passing, plain, same_bytes, string, the, type_named}
+use Rattle.mt_values.specs.Readers.{Reader, Test, choose, done, expect}
 use Rattle.mt_values.specs.Tokens.{is_keyword}
 use Rattle.sql_read.proofs.Faults.{Good, NamesTold, OnlyWrong, done_good, name_names, only_wrong_names, passing_names}
-use Rattle.sql_read.proofs.FaultParts.{Apart, Live, Sound, SoundItem, Unnamed, choose_other_sound, choose_unnamed, ends_sound, expect_live_sound, expect_sound, live_of, passing_unnamed, sound_fewer, unnamed_apart}
+use Rattle.sql_read.proofs.FaultParts.{Apart, Live, Sound, SoundItem, Unnamed, choose_other_sound, choose_unnamed, ends_sound, expect_live_sound, expect_sound, expect_unnamed, live_of, passing_unnamed, sound_fewer, unnamed_apart}
 
-type_or : (c : Bool) (t : ColType) (r : Result ColType Slip) (s : Slip) → (r ≡ Err s → s ≡ slip.Wrong) → cond c (Ok t) r ≡ Err s → s ≡ slip.Wrong
-type_or true t r s wrong e = cc
-type_or false t r s wrong e = wrong e
+-- a choice of what a word says, which else is wrong
+said_or : {X : Type 0} (c : Bool) (x : X) (r : Result X Slip) (s : Slip) → (r ≡ Err s → s ≡ slip.Wrong) → cond c (Ok x) r ≡ Err s → s ≡ slip.Wrong
+said_or true x r s wrong e = cc
+said_or false x r s wrong e = wrong e
 
-no_type : (s : Slip) → ◌≡◌ {A = Result ColType Slip} (Err slip.Wrong) (Err s) → s ≡ slip.Wrong
-no_type s e = cc
+none_said : {X : Type 0} (s : Slip) → ◌≡◌ {A = Result X Slip} (Err slip.Wrong) (Err s) → s ≡ slip.Wrong
+none_said s e = cc
 
 type_named_wrong : (w : List ℕ) (s : Slip) → type_named w ≡ Err s → s ≡ slip.Wrong
 type_named_wrong w s =
-    type_or (same_bytes w (codes "UInt8")) type.UInt8 _ s
-    (type_or (same_bytes w (codes "UInt16")) type.UInt16 _ s
-    (type_or (same_bytes w (codes "UInt32")) type.UInt32 _ s
-    (type_or (same_bytes w (codes "UInt64")) type.UInt64 _ s
-    (type_or (same_bytes w (codes "Int8")) type.Int8 _ s
-    (type_or (same_bytes w (codes "Int16")) type.Int16 _ s
-    (type_or (same_bytes w (codes "Int32")) type.Int32 _ s
-    (type_or (same_bytes w (codes "Int64")) type.Int64 _ s
-    (type_or (same_bytes w (codes "String")) type.Text (Err slip.Wrong) s (no_type s)))))))))
+    said_or (same_bytes w (codes "UInt8")) type.UInt8 _ s
+    (said_or (same_bytes w (codes "UInt16")) type.UInt16 _ s
+    (said_or (same_bytes w (codes "UInt32")) type.UInt32 _ s
+    (said_or (same_bytes w (codes "UInt64")) type.UInt64 _ s
+    (said_or (same_bytes w (codes "Int8")) type.Int8 _ s
+    (said_or (same_bytes w (codes "Int16")) type.Int16 _ s
+    (said_or (same_bytes w (codes "Int32")) type.Int32 _ s
+    (said_or (same_bytes w (codes "Int64")) type.Int64 _ s
+    (said_or (same_bytes w (codes "String")) type.Text (Err slip.Wrong) s (none_said s)))))))))
 
 plain_wrong : OnlyWrong plain
 plain_wrong (token.Word w) s e = type_named_wrong w s e
@@ -42,6 +44,27 @@ plain_wrong token.Stray s e = cc
 
 pub plain_names : NamesTold plain
 plain_names = only_wrong_names plain plain_wrong
+
+function_named_wrong : (w : List ℕ) (s : Slip) → function_named w ≡ Err s → s ≡ slip.Wrong
+function_named_wrong w s =
+    said_or (same_bytes w (codes "any")) aggregate.Any _ s
+    (said_or (same_bytes w (codes "anyLast")) aggregate.AnyLast _ s
+    (said_or (same_bytes w (codes "min")) aggregate.Min _ s
+    (said_or (same_bytes w (codes "max")) aggregate.Max _ s
+    (said_or (same_bytes w (codes "sum")) aggregate.Sum _ s
+    (said_or (same_bytes w (codes "groupBitAnd")) aggregate.BitAnd _ s
+    (said_or (same_bytes w (codes "groupBitOr")) aggregate.BitOr _ s
+    (said_or (same_bytes w (codes "groupBitXor")) aggregate.BitXor (Err slip.Wrong) s (none_said s))))))))
+
+function_wrong : OnlyWrong function
+function_wrong (token.Word w) s e = function_named_wrong w s e
+function_wrong (token.Number d) s e = cc
+function_wrong (token.Text t) s e = cc
+function_wrong (token.Symbol y) s e = cc
+function_wrong token.Stray s e = cc
+
+pub function_names : NamesTold function
+function_names = only_wrong_names function function_wrong
 
 number_wrong : OnlyWrong number
 number_wrong (token.Word w) s e = cc
@@ -82,11 +105,18 @@ operator_wrong token.Stray s e = cc
 pub operator_names : NamesTold operator
 operator_names = only_wrong_names operator operator_wrong
 
-pub operator_short : (t : Token) → operator t ≡ Err slip.LongName → ⊥
-operator_short t e = apart (operator_wrong t slip.LongName e)
+-- a test that only refuses says of no token that it is too long a name
+wrong_short : {X : Type 0} (test : Test X) → OnlyWrong test → (t : Token) → test t ≡ Err slip.LongName → ⊥
+wrong_short test wrong t e = apart (wrong t slip.LongName e)
   where
     apart : slip.LongName ≡ slip.Wrong → ⊥
     apart e = cc
+
+pub operator_short : (t : Token) → operator t ≡ Err slip.LongName → ⊥
+operator_short = wrong_short operator operator_wrong
+
+pub plain_short : (t : Token) → plain t ≡ Err slip.LongName → ⊥
+plain_short = wrong_short plain plain_wrong
 
 -- a name, a number and a type that begin statements below
 abbrev pub a_name : Token
@@ -112,6 +142,9 @@ module _ {S : Type 0} (n : ℕ) where
 
   pub digits_live : (next : List ℕ → Reader S) → ((digits : List ℕ) → Live n (next digits)) → Sound n (expect number next) a_number
   digits_live next live = sound_fewer n (expect number next) a_number (expect_live_sound n number a_number (codes "1") refl number_names next (λ d. (live d).good) (λ d. (live d).goes_on))
+
+  pub types_live : (next : ColType → Reader S) → ((t : ColType) → Live n (next t)) → Sound n (expect plain next) a_type
+  types_live next live = sound_fewer n (expect plain next) a_type (expect_live_sound n plain a_type type.UInt8 refl plain_names next (λ t. (live t).good) (λ t. (live t).goes_on))
 
   pub names_then : (next : List ℕ → Reader S) (u : Token) → ((w : List ℕ) → Sound n (next w) u) → Sound n (expect name next) a_name
   names_then next u sound = sound_fewer n (expect name next) a_name (expect_sound n name a_name (codes "t") refl name_names next u sound)
@@ -143,12 +176,23 @@ module _ {S : Type 0} (n : ℕ) where
   pub begun_live : (k : List ℕ) → is_keyword k k ≡ true → (next : Reader S) → Live n next → Begun n (expect (keyword k) (λ v. next)) (token.Word k)
   begun_live k is next live = record { sound = passes_live n (is_word (is_keyword k)) (token.Word k) is (λ v. next) live; unnamed = keyword_unnamed k next live.good }
 
+  -- a word as it is written, and then what follows it
+  pub word_begun : (w : List ℕ) → same_bytes w w ≡ true → (next : Reader S) (u : Token) → Sound n next u → Begun n (expect (exactly w) (λ v. next)) (token.Word w)
+  word_begun w is next u sound = record {
+    sound = passes n (is_word (same_bytes w)) (token.Word w) is (λ v. next) u sound;
+    unnamed = λ p ps less e. passing_unnamed n (is_word (same_bytes w)) (λ v. next) sound.good p ps (omega arith) e;
+  }
+
   -- a symbol, and then what follows it
   pub symbol_begun : (s : Symbol) → is_symbol s (token.Symbol s) ≡ true → (next : Reader S) → Live n next → Begun n (expect (the s) (λ v. next)) (token.Symbol s)
   symbol_begun s is next live = record {
     sound = passes_live n (is_symbol s) (token.Symbol s) is (λ v. next) live;
     unnamed = λ p ps less e. passing_unnamed n (is_symbol s) (λ v. next) live.good p ps (omega arith) e;
   }
+
+  -- a type, and then what follows it
+  pub types_begun : (next : ColType → Reader S) → ((t : ColType) → Live n (next t)) → Begun n (expect plain next) a_type
+  types_begun next live = record { sound = types_live n next live; unnamed = λ p ps less e. expect_unnamed n plain plain_short next (λ t. (live t).good) p ps (omega arith) e }
 
   pub begun_fewer : (read : Reader S) (t : Token) → Begun (suc n) read t → Begun n read t
   begun_fewer read t b = record { sound = sound_fewer n read t b.sound; unnamed = λ p ps less e. b.unnamed p ps (omega arith) e }

@@ -1,7 +1,9 @@
 pub mod Chains
 pub mod Choices
 pub mod TableElements
+pub mod EngineWays
 pub mod FaultElements
+pub mod FaultEngines
 pub mod FaultStatements
 pub mod Faults
 pub mod FaultConditions

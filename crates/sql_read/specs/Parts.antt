@@ -2,16 +2,13 @@
 use Rattle.std.specs.Prelude.{ℕ, List, Option, Some, None, codes}
 use Rattle.mt_values.specs.declared.statement.Clause.{Clause}
 use Rattle.mt_values.specs.declared.statement.Element.{Element}
+use Rattle.mt_values.specs.declared.statement.EngineText.{EngineText}
 use Rattle.mt_values.specs.declared.statement.KindText.{KindText}
 use Rattle.mt_values.specs.declared.statement.KindText.TheVariants as kind
 use Rattle.mt_values.specs.declared.token.Symbol.TheVariants as symbol
-use Rattle.mt_values.specs.Grammar.{clause_or_over, clauses, engine, exactly, format, index_kind, is_word, key, keyword, list_of, name, number, table_element, the}
-use Rattle.mt_values.specs.Readers.{Part, choose, expect}
+use Rattle.mt_values.specs.Grammar.{clause_or_over, engine, exactly, format, index_kind, is_symbol, is_word, key, keyword, list_of, name, number, table_element, the}
+use Rattle.mt_values.specs.Readers.{Part, Reader, choose, expect}
 use Rattle.mt_values.specs.Tokens.{is_keyword}
-
--- MergeTree [ "(" ")" ]
-abbrev pub engine_part : {S : Type 0} → Part S (Unit {0})
-engine_part next = engine (next tt)
 
 -- two keywords and a name, as CREATE TABLE name
 abbrev pub name_after : {S : Type 0} → List ℕ → List ℕ → Part S (List ℕ)
@@ -45,9 +42,20 @@ found_clause part next = part (λ c. next (Some c))
 abbrev pub next_clause : {S : Type 0} → List Clause → Part S (Option Clause)
 next_clause seen next = clause_or_over seen (λ c. next (Some c)) (next None)
 
--- ENGINE "=" engine clauses
-abbrev pub created_clauses : {S : Type 0} → Part S (List Clause)
-created_clauses next = expect (keyword (codes "ENGINE")) (λ _. expect (the symbol.Equal) (λ _. engine (clauses next)))
+-- ENGINE "=" engine
+abbrev pub created_engine : {S : Type 0} → Part S EngineText
+created_engine next = expect (keyword (codes "ENGINE")) (λ _. expect (the symbol.Equal) (λ _. engine next))
+
+-- [ "(" ")" ]
+abbrev pub empty_arguments : {S : Type 0} → Part S (Unit {0})
+empty_arguments next = choose (is_symbol symbol.Open) (expect (the symbol.Open) (λ _. expect (the symbol.Close) next)) (next tt)
+
+-- [ "(" [ what is given first ] ], where else what is given second follows
+abbrev pub argument_or : {S : Type 0} → Reader S → Reader S → Reader S
+argument_or argument none =
+    choose (is_symbol symbol.Open)
+    (expect (the symbol.Open) (λ _. choose (is_symbol symbol.Close) (expect (the symbol.Close) (λ _. none)) argument))
+    none
 
 -- [ FORMAT format ]
 abbrev pub inserted_format : {S : Type 0} → Part S (Unit {0})

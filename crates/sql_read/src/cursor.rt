@@ -1,13 +1,13 @@
 // What is left of a statement's tokens, read from the left.
 ghost use Rattle.std.specs.Prelude.{◌≡◌, ◌<◌, ◌≤◌, Bool, length, OnOk, codes};
 ghost use Rattle.mt_values.specs.declared.token.Token.{Token};
-ghost use Rattle.mt_values.specs.Grammar.{comparison_of, exactly, fits_name, format, is_format, is_reserved, is_symbol, is_text, is_word, keyword, name, number, operator, passing, plain, same_bytes, string, the, type_named};
+ghost use Rattle.mt_values.specs.Grammar.{comparison_of, exactly, fits_name, format, function, function_named, is_format, is_reserved, is_symbol, is_text, is_word, keyword, name, number, operator, passing, plain, same_bytes, string, the, type_named};
 ghost use Rattle.mt_values.specs.Readers.{expect, place_of_next};
 ghost use Rattle.mt_values.specs.Tokens.{is_keyword};
 ghost use Rattle.sql_read.specs.Reads.{Reads, Skips, first_is};
 
 use mt_base::{NAME_LIMIT, Stop, Twin};
-use mt_values::{Bytes, ColType, Comparison, Name, Placed, Slip, Symbol, Token};
+use mt_values::{Aggregate, Bytes, ColType, Comparison, Name, Placed, Slip, Symbol, Token};
 use std::alloc::Global;
 use std::marker::Model;
 
@@ -98,6 +98,37 @@ fn type_named(word: &[u8]) -> Result<ColType, Slip>
     }
     if same_bytes(word, b"String") {
         return Ok(ColType::Text);
+    }
+    Err(Slip::Wrong)
+}
+
+// The function that is written so.
+fn function_named(word: &[u8]) -> Result<Aggregate, Slip>
+    ensures { result ≡ function_named word.now }
+{
+    if same_bytes(word, b"any") {
+        return Ok(Aggregate::Any);
+    }
+    if same_bytes(word, b"anyLast") {
+        return Ok(Aggregate::AnyLast);
+    }
+    if same_bytes(word, b"min") {
+        return Ok(Aggregate::Min);
+    }
+    if same_bytes(word, b"max") {
+        return Ok(Aggregate::Max);
+    }
+    if same_bytes(word, b"sum") {
+        return Ok(Aggregate::Sum);
+    }
+    if same_bytes(word, b"groupBitAnd") {
+        return Ok(Aggregate::BitAnd);
+    }
+    if same_bytes(word, b"groupBitOr") {
+        return Ok(Aggregate::BitOr);
+    }
+    if same_bytes(word, b"groupBitXor") {
+        return Ok(Aggregate::BitXor);
     }
     Err(Slip::Wrong)
 }
@@ -319,6 +350,26 @@ impl<'a> Cursor<'a> {
             Ok(col_type) => {
                 self.rest = more;
                 Ok(col_type)
+            }
+            Err(slip) => Err(Stop::Refused(slip)),
+        }
+    }
+
+    /// Takes the function of a column that is folded.
+    pub fn function(&mut self) -> Result<Aggregate, Stop<Slip>>
+        ensures read { Reads (expect function) self.old result self.new }
+        ensures less { OnOk result (length self.new < length self.old) }
+    {
+        let [first, more @ ..] = self.rest else {
+            return Err(Stop::Refused(Slip::Wrong));
+        };
+        let Token::Word(word) = &first.token else {
+            return Err(Stop::Refused(Slip::Wrong));
+        };
+        match function_named(word.as_slice()) {
+            Ok(function) => {
+                self.rest = more;
+                Ok(function)
             }
             Err(slip) => Err(Stop::Refused(slip)),
         }

@@ -2,24 +2,62 @@
 //
 // INDEX is no name, so the first token of an element says which it is.
 ghost use Rattle.std.specs.Prelude.{◌<◌, OnOk, length};
-ghost use Rattle.mt_values.specs.Grammar.{column, index, index_kind, list_of, set_kind, table_element};
+ghost use Rattle.mt_values.specs.Grammar.{aggregated_type, column, column_type, index, index_kind, list_of, plain_type, set_kind, table_element};
 ghost use Rattle.sql_read.specs.Parts.{created_elements, index_granularity, index_type, minmax_kind};
 ghost use Rattle.sql_read.specs.Reads.{Reads};
 
 use crate::cursor::Cursor;
 use mt_base::{Seq, Stop};
-use mt_values::{Bytes, Column, Element, IndexText, KindText, Slip, Symbol};
+use mt_values::{Aggregate, Bytes, ColType, Column, Element, IndexText, KindText, Slip, Symbol};
 use std::alloc::Global;
 
 impl Cursor<'_> {
+    // plain
+    fn plain_type(&mut self) -> Result<(ColType, Option<Aggregate>), Stop<Slip>>
+        ensures read { Reads plain_type self.old result self.new }
+        ensures less { OnOk result (length self.new < length self.old) }
+    {
+        let col_type = self.plain()?;
+        Ok((col_type, None))
+    }
+
+    // SimpleAggregateFunction "(" function "," plain ")"
+    fn aggregated_type(&mut self) -> Result<(ColType, Option<Aggregate>), Stop<Slip>>
+        ensures read { Reads aggregated_type self.old result self.new }
+        ensures less { OnOk result (length self.new < length self.old) }
+    {
+        self.exactly(b"SimpleAggregateFunction")?;
+        self.symbol(Symbol::Open)?;
+        let function = self.function()?;
+        self.symbol(Symbol::Comma)?;
+        let col_type = self.plain()?;
+        self.symbol(Symbol::Close)?;
+        Ok((col_type, Some(function)))
+    }
+
+    // type = plain | SimpleAggregateFunction "(" function "," plain ")"
+    fn column_type(&mut self) -> Result<(ColType, Option<Aggregate>), Stop<Slip>>
+        ensures read { Reads column_type self.old result self.new }
+        ensures less { OnOk result (length self.new < length self.old) }
+    {
+        if self.at_exactly(b"SimpleAggregateFunction") {
+            return self.aggregated_type();
+        }
+        self.plain_type()
+    }
+
     // column = name type
     fn column(&mut self, alloc: Global) -> Result<Element, Stop<Slip>>
         ensures read { Reads column self.old result self.new }
         ensures less { OnOk result (length self.new < length self.old) }
     {
         let name = self.name(alloc)?;
-        let col_type = self.plain()?;
-        Ok(Element::Column(Column { name, col_type }))
+        let (col_type, function) = self.column_type()?;
+        Ok(Element::Column(Column {
+            name,
+            col_type,
+            function,
+        }))
     }
 
     // minmax
@@ -131,7 +169,7 @@ impl Cursor<'_> {
 mod tests {
     use crate::script::{Next, next_statement};
     use mt_base::NoMemory;
-    use mt_values::{Cause, ColType, Element, IndexText, KindText, Statement};
+    use mt_values::{Aggregate, Cause, ColType, Element, IndexText, KindText, Statement};
     use std::alloc::Global;
     use std::test::Fail;
 
@@ -141,7 +179,7 @@ mod tests {
     const BACK: &str = ") ENGINE = MergeTree ORDER BY a;";
 
     // Texts with the elements that they are read as, or with the place of their fault.
-    const TEXTS: [(&str, &str); 24] = [
+    const TEXTS: [(&str, &str); 53] = [
         ("a UInt8", "a;"),
         (
             "a UInt8, INDEX i a TYPE minmax GRANULARITY 1",
@@ -188,6 +226,59 @@ mod tests {
         ("INDEX i a TYPE set(1, 2) GRANULARITY 1", "at 20"),
         ("INDEX i a TYPE minmax", "at 21"),
         ("INDEX i a TYPE minmax GRANULARITY 1 2", "at 36"),
+        // columns that are folded, by each function
+        ("a SimpleAggregateFunction(any, UInt8)", "a any;"),
+        ("a SimpleAggregateFunction(anyLast, UInt8)", "a anyLast;"),
+        ("a SimpleAggregateFunction(min, UInt8)", "a min;"),
+        ("a SimpleAggregateFunction(max, UInt8)", "a max;"),
+        ("a SimpleAggregateFunction(sum, UInt8)", "a sum;"),
+        (
+            "a SimpleAggregateFunction(groupBitAnd, UInt8)",
+            "a groupBitAnd;",
+        ),
+        (
+            "a SimpleAggregateFunction(groupBitOr, UInt8)",
+            "a groupBitOr;",
+        ),
+        (
+            "a SimpleAggregateFunction(groupBitXor, UInt8)",
+            "a groupBitXor;",
+        ),
+        (
+            "a SimpleAggregateFunction(sum, Int64), b UInt8",
+            "a sum of another type;b;",
+        ),
+        (
+            "a SimpleAggregateFunction\n( max,String )",
+            "a max of another type;",
+        ),
+        // they are no keywords
+        (
+            "SimpleAggregateFunction SimpleAggregateFunction(min, UInt8), any UInt8",
+            "SimpleAggregateFunction min;any;",
+        ),
+        // faults within a type
+        ("a", "at 1"),
+        ("a uint8", "at 2"),
+        ("a simpleaggregatefunction(sum, UInt8)", "at 2"),
+        ("a AggregateFunction(sum, UInt8)", "at 2"),
+        ("a SimpleAggregateFunction", "at 25"),
+        ("a SimpleAggregateFunction UInt8", "at 26"),
+        ("a SimpleAggregateFunction()", "at 26"),
+        ("a SimpleAggregateFunction(sums, UInt8)", "at 26"),
+        ("a SimpleAggregateFunction(Sum, UInt8)", "at 26"),
+        ("a SimpleAggregateFunction(anylast, UInt8)", "at 26"),
+        ("a SimpleAggregateFunction(UInt8, sum)", "at 26"),
+        ("a SimpleAggregateFunction(sum)", "at 29"),
+        ("a SimpleAggregateFunction(sum UInt8)", "at 30"),
+        ("a SimpleAggregateFunction(sum,)", "at 30"),
+        ("a SimpleAggregateFunction(sum, uint8)", "at 31"),
+        (
+            "a SimpleAggregateFunction(sum, SimpleAggregateFunction(sum, UInt8))",
+            "at 31",
+        ),
+        ("a SimpleAggregateFunction(sum, UInt8, UInt8)", "at 36"),
+        ("a SimpleAggregateFunction(sum, UInt8", "at 38"),
     ];
 
     // An index in words.
@@ -207,11 +298,28 @@ mod tests {
         Ok(())
     }
 
+    // A function as it is written, after a space.
+    fn word_of(function: Aggregate) -> &'static [u8] {
+        match function {
+            Aggregate::Any => b" any",
+            Aggregate::AnyLast => b" anyLast",
+            Aggregate::Min => b" min",
+            Aggregate::Max => b" max",
+            Aggregate::Sum => b" sum",
+            Aggregate::BitAnd => b" groupBitAnd",
+            Aggregate::BitOr => b" groupBitOr",
+            Aggregate::BitXor => b" groupBitXor",
+        }
+    }
+
     // An element in words, and a semicolon.
     fn put_element(out: &mut Vec<u8>, element: &Element) -> Result<(), NoMemory> {
         match element {
             Element::Column(column) => {
                 out.extend_from_slice(column.name.as_slice())?;
+                if let Some(function) = column.function {
+                    out.extend_from_slice(word_of(function))?;
+                }
                 if column.col_type != ColType::UInt8 {
                     out.extend_from_slice(b" of another type")?;
                 }

@@ -175,17 +175,23 @@ mod tests {
         ("SELECT a FROM t EXPLAIN;", "at 16"),
     ];
 
-    // The columns, the table and the columns that are tested, in words.
-    fn put_asked(out: &mut Vec<u8>, asked: &SelectText) -> Result<(), NoMemory> {
-        match &asked.columns {
-            Selected::All => out.extend_from_slice(b" *")?,
-            Selected::Named(names) => {
-                for name in names.as_slice() {
-                    out.push(b' ')?;
-                    out.extend_from_slice(name.as_slice())?;
-                }
-            }
+    // What is selected, in words.
+    fn put_selected(out: &mut Vec<u8>, columns: &Selected) -> Result<(), NoMemory> {
+        let Selected::Named(names) = columns else {
+            out.extend_from_slice(b" *")?;
+            return Ok(());
+        };
+        for name in names.as_slice() {
+            out.push(b' ')?;
+            out.extend_from_slice(name.as_slice())?;
         }
+        Ok(())
+    }
+
+    // A word, and then the columns, the table and the columns that are tested.
+    fn put_asked(out: &mut Vec<u8>, word: &[u8], asked: &SelectText) -> Result<(), NoMemory> {
+        out.extend_from_slice(word)?;
+        put_selected(out, &asked.columns)?;
         out.extend_from_slice(b" from ")?;
         out.extend_from_slice(asked.table.as_slice())?;
         for (index, test) in asked.condition.tests().iter().enumerate() {
@@ -195,23 +201,24 @@ mod tests {
         Ok(())
     }
 
+    // What a statement asks for.
+    fn put_statement(out: &mut Vec<u8>, statement: &Statement) -> Result<(), NoMemory> {
+        match statement {
+            Statement::Select(asked) => put_asked(out, b"select", asked),
+            Statement::Explain(asked) => put_asked(out, b"explain", asked),
+            _ => Ok(()),
+        }
+    }
+
     // What a text asks for, or the place of its fault.
     fn read(alloc: Global, text: &str) -> Result<Vec<u8>, NoMemory> {
         let mut out = Vec::new(alloc);
-        let next = next_statement(alloc, text.as_bytes(), true);
-        match &next {
-            Next::Found(Statement::Select(asked), _) => {
-                out.extend_from_slice(b"select")?;
-                put_asked(&mut out, asked)?;
-            }
-            Next::Found(Statement::Explain(asked), _) => {
-                out.extend_from_slice(b"explain")?;
-                put_asked(&mut out, asked)?;
-            }
+        match next_statement(alloc, text.as_bytes(), true) {
+            Next::Found(statement, _) => put_statement(&mut out, &statement)?,
             Next::Refused(Cause::Grammar(place), _) => {
                 out.extend_from_slice(format!(in alloc; "at {place}")?.as_bytes())?;
             }
-            _ => out.extend_from_slice(b"neither")?,
+            _ => {}
         }
         Ok(out)
     }

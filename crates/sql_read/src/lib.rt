@@ -6,6 +6,7 @@ mod clauses;
 mod conditions;
 mod cursor;
 mod elements;
+mod engines;
 mod escapes;
 mod grammar;
 mod laws;

@@ -2,14 +2,12 @@
 ghost use Rattle.std.specs.Prelude.{◌∷◌, [], Bool, List};
 ghost use Rattle.mt_values.specs.declared.token.Placed.{Placed};
 ghost use Rattle.mt_values.specs.Grammar.{create, explain, insert, key, list_of, one_name, select, select_text, selection};
-ghost use Rattle.sql_read.specs.Parts.{created_clauses, engine_part, inserted_format, key_after, name_after, selected_table};
+ghost use Rattle.sql_read.specs.Parts.{inserted_format, key_after, name_after, selected_table};
 ghost use Rattle.sql_read.specs.Reads.{Ends, IsRead, Reads, ReadsEnd};
 
 use crate::cursor::Cursor;
 use mt_base::{Seq, Stop};
-use mt_values::{
-    Clause, CreateText, InsertText, Name, SelectText, Selected, Slip, Statement, Symbol,
-};
+use mt_values::{CreateText, InsertText, Name, SelectText, Selected, Slip, Statement, Symbol};
 use std::alloc::Global;
 
 // The list of one name.
@@ -36,8 +34,8 @@ impl Cursor<'_> {
         }
     }
 
-    // key = name | "(" name { "," name } ")"
-    fn key(&mut self, alloc: Global) -> Result<Seq<Name>, Stop<Slip>>
+    /// key = name | "(" name { "," name } ")"
+    pub fn key(&mut self, alloc: Global) -> Result<Seq<Name>, Stop<Slip>>
         ensures { Reads key self.old result self.new }
     {
         if self.skip(Symbol::Open) {
@@ -47,17 +45,6 @@ impl Cursor<'_> {
         }
         let name = self.name(alloc)?;
         only(alloc, name)
-    }
-
-    // engine = MergeTree [ "(" ")" ]
-    fn engine(&mut self) -> Result<(), Stop<Slip>>
-        ensures { Reads engine_part self.old result self.new }
-    {
-        self.exactly(b"MergeTree")?;
-        if !self.skip(Symbol::Open) {
-            return Ok(());
-        }
-        self.symbol(Symbol::Close)
     }
 
     // selected = "*" | name { "," name }
@@ -110,16 +97,6 @@ impl Cursor<'_> {
         self.key(alloc)
     }
 
-    // ENGINE "=" engine clauses
-    fn created_clauses(&mut self, alloc: Global) -> Result<Seq<Clause>, Stop<Slip>>
-        ensures { Reads created_clauses self.old result self.new }
-    {
-        self.keyword(b"ENGINE")?;
-        self.symbol(Symbol::Equal)?;
-        self.engine()?;
-        self.clauses(alloc)
-    }
-
     // [ FORMAT format ], and the statement's end
     fn inserted_format(&mut self) -> Result<(), Stop<Slip>>
         ensures { ReadsEnd inserted_format self.old result self.new }
@@ -145,13 +122,15 @@ impl Cursor<'_> {
     {
         let table = self.name_after(alloc, b"CREATE", b"TABLE")?;
         let elements = self.created_elements(alloc)?;
-        let clauses = self.created_clauses(alloc)?;
+        let engine = self.created_engine(alloc)?;
+        let clauses = self.clauses(alloc)?;
         self.end()?;
         let text = Seq::from_slice(alloc, text)?;
         Ok(Statement::Create(CreateText {
             text,
             table,
             elements,
+            engine,
             clauses,
         }))
     }

@@ -1,20 +1,34 @@
-use Rattle.std.proofs.Common.{◌∙◌, true, false}
-use Rattle.mt_values.specs.declared.token.Symbol.TheVariants as symbol
-use Rattle.mt_values.specs.Grammar.{is_symbol, the}
-use Rattle.mt_values.specs.Readers.{expect}
-use Rattle.sql_read.specs.Parts.{engine_part}
-use Rattle.sql_read.specs.Reads.{Skips}
-use Rattle.sql_read.proofs.Chains.{reads_rest}
+use Rattle.std.proofs.Common.{◌∙◌, sym}
+use Rattle.sql_read.proofs.EngineWays.{reads_aggregating, reads_collapsing, reads_plain, reads_replacing, reads_summing, reads_versioned}
 use Rattle.sql_read.proofs.cursor.Cursor.engine.Goals as goal
 
-pub returns-then-not-skip : goal.returns-then-not-skip
-returns-then-not-skip c =
-    let none : Skips (is_symbol symbol.Open) c.exactly.new.self false c.skip.new.self = rw c.if-not-skip.true at c.skip.ensures.way in
-    λ next. c.in_ok-exactly.ensures.read _ ∙ none (λ u. expect (the symbol.Close) (λ v. next tt)) (next tt)
+pub returns-then-at_exactly : goal.returns-then-at_exactly
+returns-then-at_exactly c =
+    reads_replacing c.args.self.now c.replacing_engine.result c.replacing_engine.new.self (sym c.at_exactly.ensures ∙ c.if-at_exactly.true) c.replacing_engine.ensures
+
+pub returns-then-at_exactly-2 : goal.returns-then-at_exactly-2
+returns-then-at_exactly-2 c =
+    reads_summing c.args.self.now c.summing_engine.result c.summing_engine.new.self (sym c.at_exactly.ensures ∙ c.if-at_exactly.false)
+    (sym c.at_exactly-2.ensures ∙ c.if-at_exactly-2.true) c.summing_engine.ensures
+
+pub returns-then-at_exactly-3 : goal.returns-then-at_exactly-3
+returns-then-at_exactly-3 c =
+    reads_collapsing c.args.self.now c.collapsing_engine.result c.collapsing_engine.new.self (sym c.at_exactly.ensures ∙ c.if-at_exactly.false)
+    (sym c.at_exactly-2.ensures ∙ c.if-at_exactly-2.false) (sym c.at_exactly-3.ensures ∙ c.if-at_exactly-3.true) c.collapsing_engine.ensures
+
+pub returns-then-at_exactly-4 : goal.returns-then-at_exactly-4
+returns-then-at_exactly-4 c =
+    reads_versioned c.args.self.now c.versioned_engine.result c.versioned_engine.new.self (sym c.at_exactly.ensures ∙ c.if-at_exactly.false)
+    (sym c.at_exactly-2.ensures ∙ c.if-at_exactly-2.false) (sym c.at_exactly-3.ensures ∙ c.if-at_exactly-3.false) (sym c.at_exactly-4.ensures ∙ c.if-at_exactly-4.true) c.versioned_engine.ensures
+
+pub returns-then-at_exactly-5 : goal.returns-then-at_exactly-5
+returns-then-at_exactly-5 c =
+    reads_aggregating c.args.self.now c.aggregating_engine.result c.aggregating_engine.new.self (sym c.at_exactly.ensures ∙ c.if-at_exactly.false)
+    (sym c.at_exactly-2.ensures ∙ c.if-at_exactly-2.false) (sym c.at_exactly-3.ensures ∙ c.if-at_exactly-3.false) (sym c.at_exactly-4.ensures ∙ c.if-at_exactly-4.false)
+    (sym c.at_exactly-5.ensures ∙ c.if-at_exactly-5.true) c.aggregating_engine.ensures
 
 pub returns : goal.returns
 returns c =
-    let opens : Skips (is_symbol symbol.Open) c.exactly.new.self true c.skip.new.self = rw c.if-not-skip.false at c.skip.ensures.way in
-    reads_rest engine_part (expect (the symbol.Close)) c.args.self.now c.skip.new.self
-    (λ next. c.in_ok-exactly.ensures.read _ ∙ opens (λ u. expect (the symbol.Close) (λ v. next tt)) (next tt))
-    c.symbol.result c.symbol.new.self c.symbol.ensures.read
+    reads_plain c.args.self.now c.plain_engine.result c.plain_engine.new.self (sym c.at_exactly.ensures ∙ c.if-at_exactly.false)
+    (sym c.at_exactly-2.ensures ∙ c.if-at_exactly-2.false) (sym c.at_exactly-3.ensures ∙ c.if-at_exactly-3.false) (sym c.at_exactly-4.ensures ∙ c.if-at_exactly-4.false)
+    (sym c.at_exactly-5.ensures ∙ c.if-at_exactly-5.false) c.plain_engine.ensures
