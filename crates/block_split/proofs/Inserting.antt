@@ -11,7 +11,7 @@ use Rattle.mt_values.specs.declared.schema.Schema.{Schema}
 use Rattle.mt_values.specs.declared.value.ColType.{ColType}
 use Rattle.mt_values.specs.Grid.{AreRowsOf, Grid}
 use Rattle.mt_values.specs.Schemas.{column_types, is_unsigned_column, partition_fault, schema_fault}
-use Rattle.mt_values.specs.Tables.{partition_of, same_partition}
+use Rattle.mt_values.specs.Tables.{has_sign, partition_of, same_partition}
 use Rattle.mt_values.specs.Values.{AreValues, IsValue, Row, types_of}
 use Rattle.mt_values.proofs.RowPartitions.{partition_sound, unsigned_there}
 use Rattle.mt_model.specs.Commands.{insert_command, partitions_of, rows_in}
@@ -62,7 +62,7 @@ all_of_map : {X Y : Type 0} (P : Y → Type 0) (f : X → Y) (xs : List X) → A
 all_of_map P f [] are = All-nil (λ x. P (f x))
 all_of_map P f (x ∷ xs) are = All-cons (λ x. P (f x)) x xs (All-head P (f x) (map f xs) are) (all_of_map P f xs (All-tail P (f x) (map f xs) are))
 
-module _ (schema : Schema) (table : List ℕ) (rows : List Row) (typed : AreRowsOf (column_types schema) rows) (values : AreValues rows) where
+module _ (schema : Schema) (table : List ℕ) (rows : List Row) (typed : AreRowsOf (column_types schema) rows) (values : AreValues rows) (signed : All (λ (row : Row). has_sign schema row ≡ true) rows) where
   abbrev Comes : Partition × List Row → Type 0
   Comes x = IsInsertInto schema (record { table = table; partition = x.0; block = record { types = column_types schema; rows = x.1 } })
 
@@ -74,6 +74,7 @@ module _ (schema : Schema) (table : List ℕ) (rows : List Row) (typed : AreRows
         types = refl;
         rows = All-filter test (λ (row : Row). types_of row ≡ column_types schema) rows typed;
         values = All-filter test (λ (row : Row). All IsValue row) rows values;
+        signed = All-filter test (λ (row : Row). has_sign schema row ≡ true) rows signed;
         own = All-weaker (λ (row : Row). test row ≡ true) (λ (row : Row). partition_of schema row ≡ p) (λ row is. partition_is (partition_of schema row) p is) (rows_in schema p rows) (filter_passes test rows);
       }
 
@@ -87,12 +88,12 @@ module _ (schema : Schema) (table : List ℕ) (rows : List Row) (typed : AreRows
       let b = get_or blocks k d in
       let here : Comes (partition_rows b) = all_of_map Comes partition_rows blocks (subst (All Comes) (sym split) all_come) k d below in
       let same : b.block.types ≡ column_types schema = types k d below in
-      record { some = here.some; types = same; rows = here.rows; values = here.values; own = here.own }
+      record { some = here.some; types = same; rows = here.rows; values = here.values; own = here.own; signed = here.signed }
 
-pub are_inserts : (schema : Schema) (table : List ℕ) (block : Grid) (blocks : List PartitionBlock) → block.types ≡ column_types schema → AreRowsOf block.types block.rows → AreValues block.rows → IsSplit schema block blocks
-    → All (λ (b : PartitionBlock). IsInsertInto schema (insert_of table b)) blocks
-are_inserts schema table block blocks types typed values is =
-    blocks_come schema table block.rows (subst (λ ts. AreRowsOf ts block.rows) types typed) values blocks is.rows
+pub are_inserts : (schema : Schema) (table : List ℕ) (block : Grid) (blocks : List PartitionBlock) → block.types ≡ column_types schema → AreRowsOf block.types block.rows → AreValues block.rows → All (λ (row : Row). has_sign schema row ≡ true) block.rows
+    → IsSplit schema block blocks → All (λ (b : PartitionBlock). IsInsertInto schema (insert_of table b)) blocks
+are_inserts schema table block blocks types typed values signed is =
+    blocks_come schema table block.rows (subst (λ ts. AreRowsOf ts block.rows) types typed) values signed blocks is.rows
     (All-weaker (λ (b : PartitionBlock). b.block.types ≡ block.types) (λ (b : PartitionBlock). b.block.types ≡ column_types schema) (λ b same. same ∙ types) blocks is.types)
 
 -- ---- the partition column

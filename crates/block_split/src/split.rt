@@ -1,7 +1,8 @@
 // A block split by the partitions of its table. What has one partition alone is handed on as it is.
-ghost use Rattle.std.specs.Prelude.{◌≡◌, ◌<◌, All, IfOk, List, None, Some, length, map, ℕ};
+ghost use Rattle.std.specs.Prelude.{◌≡◌, ◌<◌, All, IfOk, List, None, Some, length, map, true, ℕ};
 ghost use Rattle.mt_model.specs.History.{IsInsertInto};
 ghost use Rattle.mt_values.specs.Schemas.{column_types, schema_fault};
+ghost use Rattle.mt_values.specs.Tables.{has_sign};
 ghost use Rattle.mt_values.specs.Values.{AreValues};
 ghost use Rattle.mt_values.specs.declared.schema.Schema.{Schema as TableSchema};
 ghost use Rattle.block_split.specs.Split.{IsSplit, insert_of, partition_rows, split_rows};
@@ -28,6 +29,7 @@ pub fn split_block(
         (λ v. map partition_rows v.items ≡ split_rows schema.now block.rows) }
     ensures types { IfOk result (λ v. All (λ b. b.block.types ≡ block.types) v.items) }
     ensures inserts { (table : List ℕ) → AreValues block.rows
+        → All (λ row. has_sign schema.now row ≡ true) block.rows
         → IfOk result (λ v. All (λ b. IsInsertInto schema.now (insert_of table b)) v.items) }
 {
     // Reading the length shows that the rows keep to the types of the columns.

@@ -6,7 +6,7 @@ ghost use Rattle.mt_values.specs.declared.value.ColType.TheVariants as type;
 
 use crate::split_block;
 use mt_base::{NoMemory, Partition, Seq};
-use mt_values::{Block, Cell, ColType, Column, ColumnData, Schema};
+use mt_values::{Block, Cell, ColType, Column, ColumnData, Engine, Schema};
 use std::alloc::Global;
 use std::test::Fail;
 
@@ -21,13 +21,16 @@ fn table(alloc: Global) -> Result<Schema, NoMemory>
     columns.push(Column {
         name: Seq::from_slice(alloc, b"a".as_slice())?,
         col_type: ColType::UInt32,
+        function: None,
     })?;
     columns.push(Column {
         name: Seq::from_slice(alloc, b"b".as_slice())?,
         col_type: ColType::UInt32,
+        function: None,
     })?;
     Ok(Schema {
         columns,
+        engine: Engine::Plain,
         key: Seq::from_slice(alloc, [1].as_slice())?,
         primary: Seq::from_slice(alloc, [1].as_slice())?,
         partition: Some(0),

@@ -5,7 +5,7 @@ use Rattle.std.proofs.lemmas.List.{drop_min}
 use Rattle.std.specs.List.{prefix_len, list_all}
 use Rattle.mt_values.specs.Tokens.{is_space}
 use Rattle.mt_values.specs.Grammar.{statement_of}
-use Rattle.mt_values.specs.Script.{is_line_byte, line_rest, behind_line, data_of, data_ended, with_line_rest, refused_behind}
+use Rattle.mt_values.specs.Script.{Data, Item, is_line_byte, line_rest, behind_line, data_of, data_ended, with_line_rest, refused_behind}
 use Rattle.data_lines.specs.declared.lines.Extent.{Extent}
 use Rattle.data_lines.specs.Sections.{data_in}
 
@@ -14,6 +14,14 @@ start_is_behind : (behind : List ℕ) (line start : ℕ) → line ≡ prefix_len
 start_is_behind behind line start line_is start_is =
     ap (λ n. drop n behind) start_is ∙ (drop_min (line + 1) behind ∙ ap (λ n. drop (n + 1) behind) line_is)
 
+-- the rest of a line and the data after it are read as one, whatever reads the data
+read_same : (read : List ℕ → Bool → Item) (place : ℕ) (behind rest : List ℕ) (line lines : ℕ) (e : Extent) (d : Data) → line ≡ prefix_len is_line_byte behind → d ≡ data_in rest e → lines ≡ e.lines →
+    (if list_all is_space (take line behind) then read (take lines rest) e.ended
+    else refused_behind (place + prefix_len is_space (take line behind)) (read (take lines rest) e.ended))
+    ≡ (if list_all is_space (line_rest behind) then read d.lines d.ended
+    else refused_behind (place + prefix_len is_space (line_rest behind)) (read d.lines d.ended))
+read_same read place behind rest line lines e d line_is d_is lines_is = rw (d_is, lines_is, line_is) refl
+
 -- what an INSERT with its data is
 pub inserted_said : (text behind : List ℕ) (line start lines : ℕ) (e : Extent) → line ≡ prefix_len is_line_byte behind → start ≡ min (line + 1) (length behind) → data_in (drop start behind) e ≡ data_of (drop start behind) → lines ≡ e.lines →
     (if list_all is_space (take line behind) then statement_of text true (take lines (drop start behind)) e.ended
@@ -21,7 +29,7 @@ pub inserted_said : (text behind : List ℕ) (line start lines : ℕ) (e : Exten
     ≡ with_line_rest text (line_rest behind) (data_of (behind_line behind))
 inserted_said text behind line start lines e line_is start_is data_is lines_is =
     let d : data_of (behind_line behind) ≡ data_in (drop start behind) e = ap data_of (sym (start_is_behind behind line start line_is start_is)) ∙ sym data_is in
-    rw (d, lines_is, line_is) refl
+    read_same (statement_of text true) (length text + 1) behind (drop start behind) line lines e (data_of (behind_line behind)) line_is d lines_is
 
 passed_by : (c : Bool) (n m : ℕ) (r : Bool) → (n < m → r ≡ false) → cond c (1 + n) 0 < 1 + m → (c && r) ≡ false
 passed_by true n m r more less = more (omega arith)

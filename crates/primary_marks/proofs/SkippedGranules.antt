@@ -1,5 +1,5 @@
 -- Granules that are not chosen hold no row of which the condition is true, and those that are not asked none of which it is false.
-use Rattle.std.proofs.Common.{◌≡◌, ℕ, suc, ◌+◌, ◌-◌, ◌*◌, ◌^◌, ◌<◌, ◌≤◌, ◌⊎◌, inl, inr, pos, Bool, true, false, cond, nat_eq, nat_lt, List, [], ◌∷◌, ◌++◌, All, Option, Some, None, refl, sym, ap, ap₂, ◌∙◌, subst, length, length-append, length-take, length-drop, map, take, drop, slice_get, get_or, option_map, arith, take-append-drop, drop-drop, subst₂, mul-zero, mul_comm}
+use Rattle.std.proofs.Common.{◌≡◌, ℕ, suc, ◌+◌, ◌-◌, ◌*◌, ◌^◌, ◌<◌, ◌≤◌, ◌⊎◌, inl, inr, pos, Bool, true, false, cond, nat_eq, nat_lt, List, [], ◌∷◌, ◌++◌, All, Option, Some, None, refl, sym, ap, ap₂, ◌∙◌, subst, append_assoc, length, length-append, length-take, length-drop, map, take, drop, slice_get, get_or, option_map, arith, take-append-drop, drop-drop, subst₂, mul-zero, mul_comm}
 use Rattle.std.proofs.lemmas.Bool.{cases_lt}
 use Rattle.std.specs.Cmp.{IsTotalOrder}
 use Rattle.std.specs.Cmp.Lexicographic.{lists_total}
@@ -27,7 +27,8 @@ use Rattle.mt_values.specs.Conditions.{Condition, tests_of}
 use Rattle.mt_values.specs.Literals.{number_value}
 use Rattle.mt_values.specs.Order.{HasPlaces, key_cmp, key_of, value_cmp}
 use Rattle.mt_values.specs.Schemas.{column_types, is_unsigned, is_unsigned_column, partition_fault, prefix_fault, schema_fault}
-use Rattle.mt_values.specs.Tables.{number_at, number_in, partition_by_column, partition_of}
+use Rattle.mt_values.specs.Engines.{added_version}
+use Rattle.mt_values.specs.Tables.{number_at, number_in, partition_by_column, partition_of, sorting_columns}
 use Rattle.mt_values.specs.Tests.{eval}
 use Rattle.mt_values.specs.Values.{Row, type_of, types_of}
 use Rattle.mt_values.proofs.Grids.{type_at}
@@ -252,8 +253,10 @@ module _ (schema : Schema) (partition : Partition) (c : Condition Test) (rows : 
   primary_le : (i j : ℕ) → i ≤ j → j < length rows → is_le (key_cmp schema.primary (get_or rows i []) (get_or rows j [])) ≡ true
   primary_le i j up below =
       let parted = begun_by schema.key schema.primary (prefix_sound schema sound) in
-      le_by_front schema.primary parted.0 (get_or rows i []) (get_or rows j []) (reaches i (omega arith)) (reaches j below)
-      (subst (λ ks. is_le (key_cmp ks (get_or rows i []) (get_or rows j [])) ≡ true) parted.1 (rise schema.key rows part.rising i j up below))
+      let added = added_version schema.engine schema.key in
+      let whole : sorting_columns schema ≡ schema.primary ++ (parted.0 ++ added) = ap (λ ks. ks ++ added) parted.1 ∙ append_assoc schema.primary parted.0 added in
+      le_by_front schema.primary (parted.0 ++ added) (get_or rows i []) (get_or rows j []) (reaches i (omega arith)) (reaches j below)
+      (subst (λ ks. is_le (key_cmp ks (get_or rows i []) (get_or rows j [])) ≡ true) whole (rise (sorting_columns schema) rows part.rising i j up below))
 
   -- a row of a granule lies in its box
   lies : (granule i : ℕ) → granule < granules schema.granularity (length rows) → schema.granularity * granule ≤ i → i < schema.granularity * granule + schema.granularity → i < length rows

@@ -6,7 +6,7 @@ ghost use Rattle.primary_marks.specs.Keys.{HasMarks};
 
 use crate::{FormatFault, choose, read, read_places, spell, spell_places, unsure};
 use mt_base::{NoMemory, Partition, Seq};
-use mt_values::{ColType, Column, Comparison, Expr, Schema, Test, Value};
+use mt_values::{ColType, Column, Comparison, Engine, Expr, Schema, Test, Value};
 use std::alloc::Global;
 use std::test::Fail;
 
@@ -18,13 +18,16 @@ fn two_columns(alloc: Global) -> Result<Schema, NoMemory>
     columns.push(Column {
         name: Seq::from_slice(alloc, b"a")?,
         col_type: ColType::UInt8,
+        function: None,
     })?;
     columns.push(Column {
         name: Seq::from_slice(alloc, b"s")?,
         col_type: ColType::Text,
+        function: None,
     })?;
     Ok(Schema {
         columns,
+        engine: Engine::Plain,
         key: Seq::from_slice(alloc, &[0, 1])?,
         primary: Seq::from_slice(alloc, &[0, 1])?,
         partition: None,
@@ -200,9 +203,11 @@ fn one_column(alloc: Global) -> Result<Schema, NoMemory>
     columns.push(Column {
         name: Seq::from_slice(alloc, b"k")?,
         col_type: ColType::UInt64,
+        function: None,
     })?;
     Ok(Schema {
         columns,
+        engine: Engine::Plain,
         key: Seq::from_slice(alloc, &[0])?,
         primary: Seq::from_slice(alloc, &[0])?,
         partition: None,
@@ -219,13 +224,16 @@ fn parted(alloc: Global) -> Result<Schema, NoMemory>
     columns.push(Column {
         name: Seq::from_slice(alloc, b"p")?,
         col_type: ColType::UInt8,
+        function: None,
     })?;
     columns.push(Column {
         name: Seq::from_slice(alloc, b"k")?,
         col_type: ColType::UInt8,
+        function: None,
     })?;
     Ok(Schema {
         columns,
+        engine: Engine::Plain,
         key: Seq::from_slice(alloc, &[1])?,
         primary: Seq::from_slice(alloc, &[1])?,
         partition: Some(0),
@@ -445,9 +453,11 @@ fn one_byte(alloc: Global, partition: Option<u32>) -> Result<Schema, NoMemory>
     columns.push(Column {
         name: Seq::from_slice(alloc, b"k")?,
         col_type: ColType::UInt8,
+        function: None,
     })?;
     Ok(Schema {
         columns,
+        engine: Engine::Plain,
         key: Seq::from_slice(alloc, &[0])?,
         primary: Seq::from_slice(alloc, &[0])?,
         partition,

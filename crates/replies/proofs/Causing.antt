@@ -1,11 +1,12 @@
 -- The causes of replies that say that the outside failed.
-use Rattle.std.proofs.Common.{◌≡◌, ℕ, ◌<◌, ◌≤◌, List, refl, sym, ap, ◌∙◌, arith}
+use Rattle.std.proofs.Common.{◌≡◌, ℕ, ◌<◌, List, refl, sym, ap, ◌∙◌, arith, inl, inr}
 use Rattle.mt_outside.specs.declared.disk.DiskError.{DiskError}
 use Rattle.mt_outside.specs.declared.disk.DiskError.TheVariants as failure
 use Rattle.mt_outside.specs.Causes.{Rose}
 use Rattle.mt_model.specs.declared.refusal.Refusal.{Refusal}
 use Rattle.mt_model.specs.declared.refusal.Refusal.TheVariants as refusal
 use Rattle.mt_model.specs.Refusals.{code, code_of, refusal_line}
+use Rattle.mt_model.proofs.Causes.{OfScript}
 use Rattle.mt_model.proofs.Refused.{code_of_line}
 use Rattle.replies.specs.Causes.{HasCauses, SaysStopped}
 use Rattle.replies.specs.Lines.{IsLineOfStage}
@@ -26,8 +27,9 @@ module _ (opened disk_old disk_new arm_old arm_new : ℕ) (reply : List ℕ) whe
   says_line why is first second third = says (code why) (ap code_of is ∙ code_of_line why) first second third
 
   -- a refusal for what the script says, and a reply that is none
-  pub says_script : (why : Refusal) → reply ≡ refusal_line why → code why ≤ 14 → HasCauses opened disk_old disk_new arm_old arm_new reply
-  says_script why is few = says_line why is (λ no. absurd (omega arith)) (λ no. absurd (omega arith)) (λ no. absurd (omega arith))
+  pub says_script : (why : Refusal) → reply ≡ refusal_line why → OfScript why → HasCauses opened disk_old disk_new arm_old arm_new reply
+  says_script why is (inl few) = says_line why is (λ no. absurd (omega arith)) (λ no. absurd (omega arith)) (λ no. absurd (omega arith))
+  says_script why is (inr sign) = says_line why is (λ no. absurd (omega arith)) (λ no. absurd (omega arith)) (λ no. absurd (omega arith))
 
   pub says_answer : (is : List ℕ) → reply ≡ is → code_of is ≡ 0 → HasCauses opened disk_old disk_new arm_old arm_new reply
   says_answer is same none = says 0 (ap code_of same ∙ none) (λ no. cc) (λ no. cc) (λ no. cc)

@@ -26,6 +26,7 @@ pub data_line : (why : DataFault) → is_damage (refusal_line (refusal_of_data w
 data_line (data_fault.Row (row_fault.Fields line found wanted)) = refl
 data_line (data_fault.Row (row_fault.Field line field)) = refl
 data_line (data_fault.Row row_fault.Value) = refl
+data_line (data_fault.Row (row_fault.Sign line)) = refl
 data_line data_fault.TooMany = refl
 data_line (data_fault.Unended rows) = refl
 

@@ -12,15 +12,18 @@ use Rattle.mt_values.specs.declared.statement.InsertText.{InsertText}
 use Rattle.mt_values.specs.declared.statement.Statement.TheVariants as statement
 use Rattle.mt_values.specs.declared.value.ColType.{ColType}
 use Rattle.mt_values.specs.Grid.{Grid}
+use Rattle.mt_values.specs.Engines.{sign_place}
 use Rattle.mt_values.specs.Rows.{inserted_rows}
+use Rattle.mt_values.specs.Tables.{has_sign}
 use Rattle.mt_values.specs.Values.{Row}
 use Rattle.mt_model.specs.declared.refusal.Refusal.TheVariants as refusal
 use Rattle.mt_model.specs.declared.refusal.Room.TheVariants as room
 use Rattle.mt_model.specs.Commands.{commands_for, commands_of, commands_of_rows, insert_command, insert_commands, partitions_of, rows_in}
 use Rattle.mt_model.specs.History.{History, IsInsertInto, first_of, schema_of, column_types}
-use Rattle.mt_model.specs.Refusals.{code, refusal_of_data}
+use Rattle.mt_model.specs.Refusals.{refusal_of_data}
 use Rattle.mt_model.specs.Reply.{rows_or_refused, insert_turn}
-use Rattle.mt_model.proofs.Causes.{commands_are_cause}
+use Rattle.mt_model.proofs.Causes.{OfScript, commands_are_cause}
+use Rattle.mt_model.proofs.Ranges.{inserted_signed}
 use Rattle.mt_model.proofs.Tables.{itself_same}
 use Rattle.root_commits.specs.Commits.{insert_into, insert_of_block, partition_of_block}
 use Rattle.block_split.specs.declared.blocks.PartitionBlock.{PartitionBlock}
@@ -118,14 +121,18 @@ module _ (i : InsertText) where
   no_such_table h missing = ap (commands_for i) missing
 
   module _ (schema : Schema) where
-    pub rows_refused : (fault : DataFault) → inserted_rows (column_types schema) i.lines i.ended ≡ Err fault → commands_for i (Some schema) ≡ Err (refusal_of_data fault)
+    pub rows_refused : (fault : DataFault) → inserted_rows (column_types schema) (sign_place schema.engine) i.lines i.ended ≡ Err fault → commands_for i (Some schema) ≡ Err (refusal_of_data fault)
     rows_refused fault is = ap (λ r. commands_of_rows schema i.table (rows_or_refused r)) is
 
-    pub no_rows : inserted_rows (column_types schema) i.lines i.ended ≡ Ok [] → commands_for i (Some schema) ≡ Ok []
+    pub no_rows : inserted_rows (column_types schema) (sign_place schema.engine) i.lines i.ended ≡ Ok [] → commands_for i (Some schema) ≡ Ok []
     no_rows is = ap (λ r. commands_of_rows schema i.table (rows_or_refused r)) is
 
-    pub rows_give : (rows : List Row) → inserted_rows (column_types schema) i.lines i.ended ≡ Ok rows → commands_for i (Some schema) ≡ Ok (insert_commands schema i.table rows)
+    pub rows_give : (rows : List Row) → inserted_rows (column_types schema) (sign_place schema.engine) i.lines i.ended ≡ Ok rows → commands_for i (Some schema) ≡ Ok (insert_commands schema i.table rows)
     rows_give rows is = ap (λ r. commands_of_rows schema i.table (rows_or_refused r)) is
+
+    -- each row has a sign, where the table has one
+    pub rows_signed : (rows : List Row) → inserted_rows (column_types schema) (sign_place schema.engine) i.lines i.ended ≡ Ok rows → All (λ (row : Row). has_sign schema row ≡ true) rows
+    rows_signed rows is = inserted_signed (column_types schema) (sign_place schema.engine) i.lines i.ended rows is
 
 -- rows have a command
 pub some_commands : (schema : Schema) (table : List ℕ) (rows : List Row) → 0 < length rows → 0 < length (insert_commands schema table rows)
@@ -133,7 +140,7 @@ some_commands schema table [] none = absurd (omega arith)
 some_commands schema table (row ∷ rows) some = omega arith
 
 -- data that is refused is refused for what it says
-pub data_is_cause : (i : InsertText) (schema : Schema) (fault : DataFault) → inserted_rows (column_types schema) i.lines i.ended ≡ Err fault → code (refusal_of_data fault) ≤ 14
+pub data_is_cause : (i : InsertText) (schema : Schema) (fault : DataFault) → inserted_rows (column_types schema) (sign_place schema.engine) i.lines i.ended ≡ Err fault → OfScript (refusal_of_data fault)
 data_is_cause i schema fault is =
     let made : Entry = record { session = 0; command = command.Create (record { table = i.table; schema = schema }) } in
     let there : schema_of i.table (made ∷ []) ≡ Some schema = ap (λ (b : Bool). first_of (cond b (Some schema) None) None) (itself_same i.table) in

@@ -5,6 +5,7 @@ use Rattle.mt_values.specs.declared.schema.Schema.{Schema}
 use Rattle.mt_values.specs.declared.value.ColType.{ColType}
 use Rattle.mt_values.specs.Grid.{AreRowsOf, Grid, IsOrderBy, picked}
 use Rattle.mt_values.specs.Manifests.{manifest_bytes}
+use Rattle.mt_values.specs.Tables.{sorting_columns}
 use Rattle.mt_values.specs.Values.{FitsType, Row}
 use Rattle.mt_values.proofs.Grids.{AreRowsOf-picked}
 use Rattle.mt_outside.specs.Files.{Files}
@@ -16,12 +17,12 @@ use Rattle.part_writer.specs.PartFiles.{all_synced, files_of_part, loaded_of}
 use Rattle.root_commits.specs.Commits.{IsSealedOf, part_rows}
 use Rattle.session.proofs.Selecting.{ordered_is_sorted}
 
-module _ (schema : Schema) (block : Grid) (order : List ℕ) (types : block.types ≡ column_types schema) (by : IsOrderBy schema.key block.rows order) (typed : AreRowsOf block.types block.rows) where
+module _ (schema : Schema) (block : Grid) (order : List ℕ) (types : block.types ≡ column_types schema) (by : IsOrderBy (sorting_columns schema) block.rows order) (typed : AreRowsOf block.types block.rows) where
   abbrev chosen : List Row
   chosen = picked block.rows order
 
   sorted_are : chosen ≡ part_rows schema block
-  sorted_are = ordered_is_sorted schema.key block.rows order by
+  sorted_are = ordered_is_sorted (sorting_columns schema) block.rows order by
 
   -- the files of the rows in the order of the key are those of the block's part
   pub sealed_of : (sealed : Option Files) (loaded : Loaded) → sealed ≡ Some (all_synced (files_of_part schema chosen)) → loaded ≡ loaded_of schema chosen
@@ -29,7 +30,7 @@ module _ (schema : Schema) (block : Grid) (order : List ℕ) (types : block.type
   sealed_of sealed loaded is kept fit readable =
       let same : loaded ≡ loaded_of schema (part_rows schema block) = kept ∙ ap (loaded_of schema) sorted_are in
       let typed_rows : AreRowsOf (column_types schema) (part_rows schema block) =
-      subst (AreRowsOf (column_types schema)) sorted_are (subst (λ (ts : List ColType). AreRowsOf ts chosen) types (AreRowsOf-picked block.types schema.key block.rows order by typed)) in
+      subst (AreRowsOf (column_types schema)) sorted_are (subst (λ (ts : List ColType). AreRowsOf ts chosen) types (AreRowsOf-picked block.types (sorting_columns schema) block.rows order by typed)) in
       record {
         files = all_synced (files_of_part schema (part_rows schema block));
         sealed_are = is ∙ ap (λ (rows : List Row). Some (all_synced (files_of_part schema rows))) sorted_are;

@@ -259,7 +259,7 @@ refused_says opened before disk arm_old arm_new accepted table refused.Disk repl
 refused_says opened before disk arm_old arm_new accepted table (refused.Stopped o n) reply line risen rose =
     says_stopped opened before disk arm_old arm_new reply accepted
     (line ∙ (ap (λ k. refusal_line (refusal.Stopped k n accepted)) risen.0 ∙ ap (λ k. refusal_line (refusal.Stopped opened k accepted)) risen.1)) risen.2
-refused_says opened before disk arm_old arm_new accepted table refused.Exists reply line risen rose = says_script opened before disk arm_old arm_new reply (refusal.TableExists table) line (omega arith)
-refused_says opened before disk arm_old arm_new accepted table (refused.Limit limit.Tables) reply line risen rose = says_script opened before disk arm_old arm_new reply (refusal.Past bound.Tables) line (omega arith)
-refused_says opened before disk arm_old arm_new accepted table (refused.Limit limit.Parts) reply line risen rose = says_script opened before disk arm_old arm_new reply (refusal.Full room.Parts accepted) line (omega arith)
-refused_says opened before disk arm_old arm_new accepted table (refused.Limit limit.Numbers) reply line risen rose = says_script opened before disk arm_old arm_new reply (refusal.Full room.Numbers accepted) line (omega arith)
+refused_says opened before disk arm_old arm_new accepted table refused.Exists reply line risen rose = says_script opened before disk arm_old arm_new reply (refusal.TableExists table) line (inl (omega arith))
+refused_says opened before disk arm_old arm_new accepted table (refused.Limit limit.Tables) reply line risen rose = says_script opened before disk arm_old arm_new reply (refusal.Past bound.Tables) line (inl (omega arith))
+refused_says opened before disk arm_old arm_new accepted table (refused.Limit limit.Parts) reply line risen rose = says_script opened before disk arm_old arm_new reply (refusal.Full room.Parts accepted) line (inl (omega arith))
+refused_says opened before disk arm_old arm_new accepted table (refused.Limit limit.Numbers) reply line risen rose = says_script opened before disk arm_old arm_new reply (refusal.Full room.Numbers accepted) line (inl (omega arith))

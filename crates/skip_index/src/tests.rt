@@ -12,8 +12,8 @@ ghost use Rattle.skip_index.specs.Blocks.{HasIndex};
 use crate::{FormatFault, build, choose, read, spell};
 use mt_base::{NoMemory, Seq};
 use mt_values::{
-    Block, Cell, ColType, Column, ColumnData, Comparison, Expr, IndexKind, Schema, SkipIndex, Test,
-    Value, all_places,
+    Block, Cell, ColType, Column, ColumnData, Comparison, Engine, Expr, IndexKind, Schema,
+    SkipIndex, Test, Value, all_places,
 };
 use std::alloc::Global;
 use std::test::Fail;
@@ -28,6 +28,7 @@ fn table(alloc: Global, col_type: ColType, kind: IndexKind) -> Result<Schema, No
     columns.push(Column {
         name: Seq::from_slice(alloc, b"v")?,
         col_type,
+        function: None,
     })?;
     let mut indexes = Seq::new(alloc);
     indexes.push(SkipIndex {
@@ -38,6 +39,7 @@ fn table(alloc: Global, col_type: ColType, kind: IndexKind) -> Result<Schema, No
     })?;
     Ok(Schema {
         columns,
+        engine: Engine::Plain,
         key: Seq::from_slice(alloc, &[0])?,
         primary: Seq::from_slice(alloc, &[0])?,
         partition: None,

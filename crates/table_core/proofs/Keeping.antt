@@ -20,12 +20,14 @@ use Rattle.mt_values.specs.declared.value.ColType.{ColType}
 use Rattle.mt_values.specs.Grammar.{same_bytes}
 use Rattle.mt_values.specs.Grid.{IsOrderBy, picked}
 use Rattle.mt_values.specs.Order.{key_cmp}
+use Rattle.mt_values.specs.Tables.{sorting_columns}
 use Rattle.mt_values.specs.Values.{Row}
 use Rattle.mt_values.proofs.Grids.{filter_map_more}
 use Rattle.mt_model.specs.History.{History, IsAllowed, IsInsertInto, IsLegal, IsLegalAfter, IsTableSchema, creates, entered, first_of, is_create, schema_by, schema_of}
 use Rattle.mt_model.specs.Live.{sorted}
 use Rattle.mt_model.proofs.Determined.{key_total}
 use Rattle.mt_model.proofs.Histories.{numbered_more, schema_kept, schema_more}
+use Rattle.mt_model.proofs.OwnColumns.{sorting_own}
 use Rattle.mt_model.proofs.SameKeys.{stable_is_sorted}
 use Rattle.mt_model.proofs.Tables.{itself_same, same_is}
 use Rattle.part_history.specs.declared.part.CorePart.{CorePart}
@@ -373,12 +375,12 @@ module _ (old new : Store) (session : ℕ) (i : Insert) (place number : ℕ) (is
             (subst (λ (x : History). All (TableKept x) (s.front ++ grown ∷ s.back)) (sym entries) (All-from_recursion (TableKept (h ++ e ∷ [])) (s.front ++ grown ∷ s.back) all));
       }
 
--- the key of a table is made of the columns of the rows that come into it
-pub key_fits : (h : History) (t : List ℕ) (schema : Schema) (i : Insert) → IsLegal h → schema_of t h ≡ Some schema → IsInsertInto schema i → All (λ place. place < length i.block.types) schema.key
+-- the columns by which a table is sorted are ones of the rows that come into it
+pub key_fits : (h : History) (t : List ℕ) (schema : Schema) (i : Insert) → IsLegal h → schema_of t h ≡ Some schema → IsInsertInto schema i → All (λ place. place < length i.block.types) (sorting_columns schema)
 key_fits h t schema i legal is into =
-    let own = (legal_schema t h schema legal is).own in
+    let own = sorting_own schema (legal_schema t h schema legal is) in
     let count : length i.block.types ≡ length schema.columns = ap (λ (ts : List ColType). length ts) into.types ∙ length-map schema.columns (λ (c : Column). c.col_type) in
-    All-weaker (λ p. p < length schema.columns) (λ p. p < length i.block.types) (λ p lt. omega (arith, count, lt)) schema.key own
+    All-weaker (λ p. p < length schema.columns) (λ p. p < length i.block.types) (λ p lt. omega (arith, count, lt)) (sorting_columns schema) own
 
 -- ---- a snapshot
 
@@ -418,12 +420,12 @@ ordered_is_sorted : (key : List ℕ) (rows : List Row) (order : List ℕ) → Is
 ordered_is_sorted key rows order by = stable_is_sorted (key_cmp key) (key_total key) rows (picked rows order) by.rising by.stable
 
 -- the part that an INSERT makes
-pub part_made : (schema : Schema) (number : ℕ) (i : Insert) (table : List ℕ) (rows : List Row) (order : List ℕ) → table ≡ i.table → rows ≡ picked i.block.rows order → IsOrderBy schema.key i.block.rows order
+pub part_made : (schema : Schema) (number : ℕ) (i : Insert) (table : List ℕ) (rows : List Row) (order : List ℕ) → table ≡ i.table → rows ≡ picked i.block.rows order → IsOrderBy (sorting_columns schema) i.block.rows order
     → record { table = table; name = record { partition = i.partition; min_block = number; max_block = number; level = 0; mutation = None }; rows = rows } ≡ part_of_insert schema number i
 part_made schema number i table rows order named are by = λ j. record {
   table = named j;
   name = record { partition = i.partition; min_block = number; max_block = number; level = 0; mutation = None };
-  rows = (are ∙ ordered_is_sorted schema.key i.block.rows order by) j;
+  rows = (are ∙ ordered_is_sorted (sorting_columns schema) i.block.rows order by) j;
 }
 
 -- the row at one place more

@@ -1,3 +1,4 @@
 pub mod DataRows
 pub mod PushedRows
 pub mod ReadAgain
+pub mod SignedRows

@@ -44,7 +44,7 @@ row_at_before n k (c ∷ cs) (v ∷ vs) below even len =
     (row_at_before n k cs vs below (All-tail (λ (x : Cells). length x.values ≡ n) c cs even) (omega arith))
 
 -- the new one
-row_at_last : (n : ℕ) (columns : List Cells) (row : Row) → AreEven columns n → length row ≡ length columns → row_at (with_row_last columns row) n ≡ row
+pub row_at_last : (n : ℕ) (columns : List Cells) (row : Row) → AreEven columns n → length row ≡ length columns → row_at (with_row_last columns row) n ≡ row
 row_at_last n [] [] even len = refl
 row_at_last n [] (v ∷ vs) even len = absurd (omega arith)
 row_at_last n (c ∷ cs) [] even len = absurd (omega arith)

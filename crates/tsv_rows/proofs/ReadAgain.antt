@@ -1,5 +1,5 @@
 -- Rows that were printed are read again.
-use Rattle.std.proofs.Common.{◌≡◌, ◌≢◌, ℕ, suc, ◌+◌, ◌-◌, ◌*◌, ◌/◌, ◌%◌, ◌^◌, ◌<◌, ◌≤◌, ℤ, pos, negsuc, Bool, true, false, not, cond, ◌&&◌, ◌==◌, List, [], ◌∷◌, ◌++◌, length, map, flat_map, All, Option, Some, None, Ok, nat_le, refl, sym, ap, ap₂, subst, ◌∙◌, arith, append_assoc, append-nil, codes}
+use Rattle.std.proofs.Common.{◌≡◌, ◌≢◌, ℕ, suc, ◌+◌, ◌-◌, ◌*◌, ◌/◌, ◌%◌, ◌^◌, ◌<◌, ◌≤◌, ℤ, pos, negsuc, Bool, true, false, not, cond, ◌&&◌, ◌==◌, List, [], ◌∷◌, ◌++◌, length, map, flat_map, All, Option, Some, None, Ok, Err, nat_le, refl, sym, ap, ap₂, subst, ◌∙◌, arith, append_assoc, append-nil, codes}
 use Rattle.std.proofs.lemmas.Bool.Decides.{nat_tests}
 use Rattle.std.proofs.lemmas.Fmt.{decimal_by_steps}
 use Rattle.std.proofs.lemmas.List.{length-map}
@@ -12,6 +12,7 @@ use Rattle.std.specs.Cmp.Lexicographic.{same_text}
 use Rattle.std.specs.Fmt.{decimal, signed_decimal}
 use Rattle.std.specs.List.{list_all}
 use Rattle.std.specs.Option.{option_map, option_and_then}
+use Rattle.mt_values.specs.declared.row_fault.DataFault.TheVariants as data_fault
 use Rattle.mt_values.specs.declared.value.ColType.{ColType}
 use Rattle.mt_values.specs.declared.value.Value.{Value}
 use Rattle.mt_values.specs.declared.value.Value.TheVariants as value
@@ -19,12 +20,14 @@ use Rattle.mt_values.specs.Escapes.{escape_of}
 use Rattle.mt_values.specs.Grid.{AreRowsOf}
 use Rattle.mt_values.specs.Lists.{in_front}
 use Rattle.mt_values.specs.Printing.{escaped, field, fields, line}
-use Rattle.mt_values.specs.Rows.{digits_up_to, fields_from, inserted_rows, minus, number_of, onto_first, row_limit, row_of_fields, row_of_line, rows_behind, signed_below, text_limit, text_of, unescaped, unescaped_behind, unsigned_up_to, value_of_field}
+use Rattle.mt_values.specs.Engines.{keeps_sign}
+use Rattle.mt_values.specs.Rows.{digits_up_to, fields_from, inserted_rows, minus, number_of, onto_first, row_limit, row_of_fields, row_of_line, row_onto, rows_behind, signed_below, signed_row_of_line, text_limit, text_of, unescaped, unescaped_behind, unsigned_up_to, value_of_field}
 use Rattle.mt_values.specs.Script.{ends_data, line_from, onto}
 use Rattle.mt_values.specs.Values.{AreValues, IsValue, Row, type_of, types_of}
 use Rattle.mt_values.proofs.Fronts.{parted, parted_none}
 use Rattle.mt_values.proofs.RowBounds.{rows_after, rows_after_step}
 use Rattle.tsv_fields.proofs.Unescaping.{unescaped_escape, unescaped_plain}
+use Rattle.tsv_rows.proofs.SignedRows.{signed_row}
 
 -- ---- numbers
 
@@ -271,12 +274,17 @@ values_again : (number place : ℕ) (row : Row) → All IsValue row → row_of_f
 values_again number place [] are = refl
 values_again number place (v ∷ vs) are = rw (value_again v (All-head IsValue v vs are), values_again number (place + 1) vs (All-tail IsValue v vs are)) refl
 
--- a printed line is its row
-pub row_again : (types : List ColType) (row : Row) (number : ℕ) → types_of row ≡ types → All IsValue row → 0 < length row → row_of_line types number (fields row) ≡ Ok row
+-- a printed line is its row, whatever its sign
+row_again : (types : List ColType) (row : Row) (number : ℕ) → types_of row ≡ types → All IsValue row → 0 < length row → row_of_line types number (fields row) ≡ Ok row
 row_again types row number typed are some =
     let same : (length (map field row) == length (types_of row)) ≡ true =
     let one = length-map row field in let two = length-map row type_of in grind (arith, nat_tests) in
     subst (λ ts. row_of_line ts number (fields row) ≡ Ok row) typed (rw (fields_again row are some, same) (values_again number 1 row are))
+
+-- and so is that of a row whose sign is 1 or -1
+pub signed_row_again : (types : List ColType) (sign : Option ℕ) (row : Row) (number : ℕ) → types_of row ≡ types → All IsValue row → 0 < length row → keeps_sign sign row ≡ true
+    → signed_row_of_line types sign number (fields row) ≡ Ok row
+signed_row_again types sign row number typed are some keeps = signed_row types sign number (fields row) row (row_again types row number typed are some) keeps
 
 -- ---- the line that ends data
 
@@ -309,19 +317,21 @@ data_again row are = by (ends_data (fields row)) refl
 
 -- ---- rows of data
 
-after_again : (types : List ColType) (count : ℕ) (rows : List Row) → AreRowsOf types rows → AreValues rows → 0 < length types → count + length rows ≤ row_limit →
-    rows_after types true count (flat_map line rows) ≡ Ok rows
-after_again types count [] typed are some few = rows_after_step types true count []
-after_again types count (row ∷ rows) typed are some few =
-    let one : types_of row ≡ types = All-head (λ r. types_of r ≡ types) row rows typed in
-    let values : All IsValue row = All-head (All IsValue) row rows are in
-    let size : length row ≡ length types = sym (length-map row type_of) ∙ ap length one in
-    let room : nat_le row_limit count ≡ false = grind (arith, nat_tests) in
-    rows_after_step types true count (flat_map line (row ∷ rows)) ∙ ap (rows_behind (rows_after types true) types true count) (line_again row (flat_map line rows) values)
-    ∙ rw
-    (room, row_again types row (count + 1) one values (omega arith), after_again types (count + 1) rows (All-tail (λ r. types_of r ≡ types) row rows typed) (All-tail (All IsValue) row rows are) some (omega arith))
-    refl
+module _ (types : List ColType) (sign : Option ℕ) (some : 0 < length types) where
+  after_again : (count : ℕ) (rows : List Row) → AreRowsOf types rows → AreValues rows → All (λ row. keeps_sign sign row ≡ true) rows → count + length rows ≤ row_limit →
+      rows_after types sign true count (flat_map line rows) ≡ Ok rows
+  after_again count [] typed are signed few = rows_after_step types sign true count []
+  after_again count (row ∷ rows) typed are signed few =
+      let one : types_of row ≡ types = All-head (λ r. types_of r ≡ types) row rows typed in
+      let values : All IsValue row = All-head (All IsValue) row rows are in
+      let keeps : keeps_sign sign row ≡ true = All-head (λ r. keeps_sign sign r ≡ true) row rows signed in
+      let size : length row ≡ length types = sym (length-map row type_of) ∙ ap length one in
+      let room : nat_le row_limit count ≡ false = grind (arith, nat_tests) in
+      let more = after_again (count + 1) rows (All-tail (λ r. types_of r ≡ types) row rows typed) (All-tail (All IsValue) row rows are) (All-tail (λ r. keeps_sign sign r ≡ true) row rows signed) (omega arith) in
+      rows_after_step types sign true count (flat_map line (row ∷ rows)) ∙ ap (rows_behind (rows_after types sign true) types sign true count) (line_again row (flat_map line rows) values)
+      ∙ ap (λ b. cond b (Err data_fault.TooMany) (row_onto (signed_row_of_line types sign (count + 1) (fields row)) (rows_after types sign true (count + 1) (flat_map line rows)))) room
+      ∙ ap₂ row_onto (signed_row_again types sign row (count + 1) one values (omega arith) keeps) more
 
--- the lines of rows are the data of these rows
-pub rows_again : (types : List ColType) (rows : List Row) → AreRowsOf types rows → AreValues rows → 0 < length types → length rows ≤ row_limit → inserted_rows types (flat_map line rows) true ≡ Ok rows
-rows_again types rows typed are some few = after_again types 0 rows typed are some (omega arith)
+  -- the lines of rows are the data of these rows
+  pub rows_again : (rows : List Row) → AreRowsOf types rows → AreValues rows → All (λ row. keeps_sign sign row ≡ true) rows → length rows ≤ row_limit → inserted_rows types sign (flat_map line rows) true ≡ Ok rows
+  rows_again rows typed are signed few = after_again 0 rows typed are signed (omega arith)

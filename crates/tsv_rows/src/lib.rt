@@ -3,6 +3,8 @@
 
 mod laws;
 mod rows;
+mod signs;
+mod tests;
 
 pub use laws::printed_rows_are_read;
 pub use rows::{read_row, read_rows};

@@ -1,10 +1,12 @@
 // From lines to rows: one row, and the lines of an INSERT's data as a block.
 ghost use Rattle.std.specs.Prelude.{◌≡◌, [], All, IfErr, IfOk, Ok, map};
-ghost use Rattle.mt_values.specs.Rows.{at_field, inserted_rows, row_of_line, value_of_field};
+ghost use Rattle.mt_values.specs.Engines.{sign_place};
+ghost use Rattle.mt_values.specs.Rows.{at_field, inserted_rows, row_of_line, signed_row_of_line, value_of_field};
 ghost use Rattle.mt_values.specs.Values.{AreValues, IsValue};
 ghost use Rattle.mt_values.specs.Schemas.{column_types};
 ghost use Rattle.mt_base.specs.Stops.{Refuses};
 
+use crate::signs::keeps_sign;
 use mt_base::{NoMemory, ROW_LIMIT, Seq, Stop};
 use mt_values::{Block, ColType, ColumnData, DataFault, Row, RowFault, Schema, Value};
 use std::alloc::Global;
@@ -30,11 +32,8 @@ fn read_value(
     }
 }
 
-/// The row that a line is, or why it is none. The line stands without its line feed, and counts from 1.
-///
-/// `Stop::NoMemory` where an allocation failed. A fault is that of the number of fields, or else of the first faulty
-/// field from the left.
-pub fn read_row(
+// The row of a line's fields, whatever its sign, or why it is none.
+fn read_fields(
     alloc: Global,
     schema: &Schema,
     text: &[u8],
@@ -61,6 +60,29 @@ pub fn read_row(
     Ok(row)
 }
 
+/// The row that a line is, or why it is none. The line stands without its line feed, and counts from 1.
+///
+/// `Stop::NoMemory` where an allocation failed. A fault is that of the number of fields, or else of the first faulty
+/// field from the left, or else of the sign.
+pub fn read_row(
+    alloc: Global,
+    schema: &Schema,
+    text: &[u8],
+    line: usize,
+) -> Result<Row, Stop<RowFault>>
+    ensures row { IfOk result (λ row. signed_row_of_line (column_types schema.now)
+        (sign_place schema.now.engine) line text.now ≡ Ok row) }
+    ensures refused { IfErr result (Refuses (signed_row_of_line (column_types schema.now)
+        (sign_place schema.now.engine) line text.now)) }
+    ensures values { IfOk result (All IsValue) }
+{
+    let row = read_fields(alloc, schema, text, line)?;
+    if !schema.has_sign(&row) {
+        return Err(Stop::Refused(RowFault::Sign { line }));
+    }
+    Ok(row)
+}
+
 // Columns of these types, without values.
 fn empty_columns(alloc: Global, types: &[ColType]) -> Result<Vec<ColumnData>, NoMemory>
     ensures { IfOk result
@@ -74,20 +96,23 @@ fn empty_columns(alloc: Global, types: &[ColType]) -> Result<Vec<ColumnData>, No
     )
 }
 
-/// The rows of an INSERT's data, read straight into columns, or why the data is refused. `ended` says that the line
-/// came which ends data. The first faulty line decides, and of its faults that of the number of its fields comes first.
+/// The rows of an INSERT's data, read straight into columns, or why the data is refused. `sign` is the place of the sign's
+/// column, from 0, where the table has one; where there is no such column no row has a sign. `ended` says that the line
+/// came which ends data. The first faulty line decides, and of its faults that of the number of its fields, then that
+/// of the first faulty field from the left, then that of the sign.
 ///
 /// `Stop::NoMemory` where an allocation failed.
 pub fn read_rows(
     alloc: Global,
     types: &[ColType],
+    sign: Option<u32>,
     lines: &[u8],
     ended: bool,
 ) -> Result<Block, Stop<DataFault>>
-    ensures rows { IfOk result (λ b. inserted_rows types.now lines.now ended ≡ Ok b.rows) }
+    ensures rows { IfOk result (λ b. inserted_rows types.now sign lines.now ended ≡ Ok b.rows) }
     ensures types { IfOk result (λ b. b.types ≡ types.now) }
     ensures values { IfOk result (λ b. AreValues b.rows) }
-    ensures refused { IfErr result (Refuses (inserted_rows types.now lines.now ended)) }
+    ensures refused { IfErr result (Refuses (inserted_rows types.now sign lines.now ended)) }
 {
     let mut columns = empty_columns(alloc, types)?;
     let mut ends = Vec::new(alloc);
@@ -103,6 +128,9 @@ pub fn read_rows(
             Ok(()) => {}
             Err(Stop::Refused(fault)) => return Err(Stop::Refused(DataFault::Row(fault))),
             Err(Stop::NoMemory) => return Err(Stop::NoMemory),
+        }
+        if !keeps_sign(columns.as_slice(), sign, count) {
+            return Err(Stop::Refused(DataFault::Row(RowFault::Sign { line: count + 1 })));
         }
         count += 1;
         at += len + 1;

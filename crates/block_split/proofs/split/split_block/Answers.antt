@@ -26,11 +26,11 @@ returns-in-None-clause-types c =
     (c.split_whole.ensures c.args.schema.now c.in-None.is)
 
 pub returns-in-None-clause-inserts : goal.returns-in-None-clause-inserts
-returns-in-None-clause-inserts c = λ table values.
+returns-in-None-clause-inserts c = λ table values signed.
     IfOk-weaker c.split_whole.result
     (λ (v : Vec PartitionBlock Global). IsSplit c.args.schema.now c.args.block v.items)
     (λ (v : Vec PartitionBlock Global). All (λ (b : PartitionBlock). IsInsertInto c.args.schema.now (insert_of table b)) v.items)
-    (λ v is. are_inserts c.args.schema.now table c.args.block v.items c.requires.types c.len-rows.ensures.typed values is)
+    (λ v is. are_inserts c.args.schema.now table c.args.block v.items c.requires.types c.len-rows.ensures.typed values signed is)
     (c.split_whole.ensures c.args.schema.now c.in-None.is)
 
 pub returns-in-Some-clause-blocks : goal.returns-in-Some-clause-blocks
@@ -50,9 +50,9 @@ returns-in-Some-clause-types c =
     (c.split_by.ensures c.args.schema.now c.in-Some.is)
 
 pub returns-in-Some-clause-inserts : goal.returns-in-Some-clause-inserts
-returns-in-Some-clause-inserts c = λ table values.
+returns-in-Some-clause-inserts c = λ table values signed.
     IfOk-weaker c.split_by.result
     (λ (v : Vec PartitionBlock Global). IsSplit c.args.schema.now c.args.block v.items)
     (λ (v : Vec PartitionBlock Global). All (λ (b : PartitionBlock). IsInsertInto c.args.schema.now (insert_of table b)) v.items)
-    (λ v is. are_inserts c.args.schema.now table c.args.block v.items c.requires.types c.len-rows.ensures.typed values is)
+    (λ v is. are_inserts c.args.schema.now table c.args.block v.items c.requires.types c.len-rows.ensures.typed values signed is)
     (c.split_by.ensures c.args.schema.now c.in-Some.is)

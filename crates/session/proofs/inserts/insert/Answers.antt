@@ -1,11 +1,12 @@
 use Rattle.std.proofs.lemmas.Result.{IfErr-weaker, IfOk-weaker}
 use Rattle.std.proofs.lemmas.List.Elements.{All-weaker}
-use Rattle.std.proofs.Common.{◌≡◌, ◌<◌, ℕ, All, Bool, List, [], Option, Some, Ok, Err, true, false, IsSome, length, refl, sym, ap, ◌∙◌, subst, arith, IfOk}
+use Rattle.std.proofs.Common.{◌≡◌, ◌<◌, ℕ, All, Bool, List, [], Option, Some, Ok, Err, true, false, IsSome, length, refl, sym, ap, ◌∙◌, subst, arith, inl, IfOk}
 use Rattle.mt_base.specs.Stops.{Refuses}
 use Rattle.block_split.specs.declared.blocks.PartitionBlock.{PartitionBlock}
 use Rattle.mt_values.specs.declared.row_fault.DataFault.{DataFault}
 use Rattle.mt_values.specs.declared.schema.Schema.{Schema}
 use Rattle.mt_values.specs.declared.statement.Statement.TheVariants as statement
+use Rattle.mt_values.specs.Engines.{sign_place}
 use Rattle.mt_values.specs.Rows.{inserted_rows}
 use Rattle.mt_values.specs.Values.{Row}
 use Rattle.mt_model.specs.declared.refusal.Refusal.TheVariants as refusal
@@ -27,7 +28,7 @@ use Rattle.shared_store.specs.Engines.{schema_kept}
 use Rattle.replies.specs.Causes.{HasCauses}
 use Rattle.session.specs.Turns.{IsRowsFor, in_turn}
 use Rattle.session.proofs.Progressing.{none_sealed}
-use Rattle.session.proofs.Inserting.{data_is_cause, no_rows, no_such_table, not_empty, parts_come, parts_give, rows_give, rows_refused, some_commands}
+use Rattle.session.proofs.Inserting.{data_is_cause, no_rows, no_such_table, not_empty, parts_come, parts_give, rows_give, rows_refused, rows_signed, some_commands}
 use Rattle.session.proofs.Kept.{kept_as, none_kept}
 use Rattle.session.proofs.Standing.{no_table, table_schema}
 use Rattle.session.proofs.inserts.insert.Goals as goal
@@ -56,7 +57,7 @@ returns-in-Err-Refused-clause-answers g c = λ kept tells knows.
     let here = c.args.engine.now in
     let table = kept_as (table_at here.store text.table) c.in-Some.schema (sym c.in-Some.is ∙ c.in_ok-schema.ensures.schema) in
     let there = table_schema g.F.Dir.files (history kept) here.store knows.stands text.table table.made table.there in
-    let read = subst (Refuses (inserted_rows (column_types c.in-Some.schema) text.lines text.ended)) c.in-Err-Refused.field-0-is c.in-Err-Refused.ensures.refused in
+    let read = subst (Refuses (inserted_rows (column_types c.in-Some.schema) (sign_place c.in-Some.schema.engine) text.lines text.ended)) c.in-Err-Refused.field-0-is c.in-Err-Refused.ensures.refused in
     let fault = c.in-Err-Refused.fault in
     answers_kept g.F.Dir.files kept (Ok (statement.Insert text)) here (g.R.Arm.failed c.args.arm.now) c.data_line.result (λ reply. reply ≡ refusal_line (refusal_of_data fault)) knows
     (subst (λ (f : DataFault). IfOk c.data_line.result (λ line. line ≡ refusal_line (refusal_of_data f))) c.in-Err-Refused.fault-is c.data_line.ensures)
@@ -117,9 +118,10 @@ commit_parts-requires-clause-there g c κs within =
 pub commit_parts-requires-clause-rows : goal.commit_parts-requires-clause-rows
 commit_parts-requires-clause-rows g c κs within = λ schema has.
     let name = c.args.text.now.table in
+    let signed = rows_signed c.args.text.now c.in-Some.schema c.in-Ok.block.rows c.in-Ok.ensures.rows in
     let same = one_schema (schema_kept (table_at c.args.engine.now.store name)) c.in-Some.schema schema (sym c.in_ok-schema.ensures.schema ∙ c.in-Some.is) has in
     subst (λ (s : Schema). All (IsRowsFor s name) (in_turn c.in-Ok-seal_blocks.parts.items)) same
-    (parts_come c.in-Some.schema name c.in-Ok.block.rows c.in_ok-blocks.blocks.items c.in-Ok-seal_blocks.parts.items c.in-Ok-seal_blocks.ensures.blocks (c.in_ok-blocks.ensures.inserts name c.in-Ok.ensures.values))
+    (parts_come c.in-Some.schema name c.in-Ok.block.rows c.in_ok-blocks.blocks.items c.in-Ok-seal_blocks.parts.items c.in-Ok-seal_blocks.ensures.blocks (c.in_ok-blocks.ensures.inserts name c.in-Ok.ensures.values signed))
 
 pub commit_parts-requires-clause-unchanged : goal.commit_parts-requires-clause-unchanged
 commit_parts-requires-clause-unchanged g c κs within = c.in_ok-unchanged.ensures ∙ ap ok_line c.look.ensures
@@ -135,7 +137,7 @@ returns-clause-answers g c = λ kept tells knows.
     let table = kept_as (table_at here.store text.table) schema (sym c.in-Some.is ∙ c.in_ok-schema.ensures.schema) in
     let there = table_schema g.F.Dir.files (history kept) here.store knows.stands text.table table.made table.there ∙ ap Some (sym table.same) in
     let types = All-weaker (λ (b : PartitionBlock). b.block.types ≡ block.types) (λ (b : PartitionBlock). b.block.types ≡ column_types schema) (λ b same. same ∙ c.in-Ok.ensures.types) blocks c.in_ok-blocks.ensures.types in
-    let same = parts_give schema text.table block.rows blocks parts c.in-Ok-seal_blocks.ensures.blocks c.in_ok-blocks.ensures.blocks types (c.in_ok-blocks.ensures.inserts text.table c.in-Ok.ensures.values) in
+    let same = parts_give schema text.table block.rows blocks parts c.in-Ok-seal_blocks.ensures.blocks c.in_ok-blocks.ensures.blocks types (c.in_ok-blocks.ensures.inserts text.table c.in-Ok.ensures.values (rows_signed text schema block.rows c.in-Ok.ensures.rows)) in
     let gives = ap (commands_for text) there ∙ (rows_give text schema block.rows c.in-Ok.ensures.rows ∙ ap Ok (sym same)) in
     c.commit_parts.ensures.answers kept schema text knows (sym c.in_ok-schema.ensures.schema ∙ c.in-Some.is) (c.in-Ok-seal_blocks.ensures.sealed tells) gives
 
@@ -149,7 +151,7 @@ pub returns-in_default-clause-causes : goal.returns-in_default-clause-causes
 returns-in_default-clause-causes g c =
     let disk = c.args.engine.now.storage.failed in
     let arm = g.R.Arm.failed c.args.arm.now in
-    IfOk-weaker c.no_table_line.result _ _ (λ line is. says_script c.args.engine.now.store.opened disk disk arm arm line (refusal.NoTable c.args.text.now.table) is (omega arith)) c.no_table_line.ensures
+    IfOk-weaker c.no_table_line.result _ _ (λ line is. says_script c.args.engine.now.store.opened disk disk arm arm line (refusal.NoTable c.args.text.now.table) is (inl (omega arith))) c.no_table_line.ensures
 
 pub returns-in-Err-Refused-clause-causes : goal.returns-in-Err-Refused-clause-causes
 returns-in-Err-Refused-clause-causes g c =
@@ -157,7 +159,7 @@ returns-in-Err-Refused-clause-causes g c =
     let disk = c.args.engine.now.storage.failed in
     let arm = g.R.Arm.failed c.args.arm.now in
     let schema = c.in-Some.schema in
-    let read = subst (Refuses (inserted_rows (column_types schema) text.lines text.ended)) c.in-Err-Refused.field-0-is c.in-Err-Refused.ensures.refused in
+    let read = subst (Refuses (inserted_rows (column_types schema) (sign_place schema.engine) text.lines text.ended)) c.in-Err-Refused.field-0-is c.in-Err-Refused.ensures.refused in
     let fault = c.in-Err-Refused.fault in
     IfOk-weaker c.data_line.result _ _ (λ line is. says_script c.args.engine.now.store.opened disk disk arm arm line (refusal_of_data fault) is (data_is_cause text schema fault read))
     (subst (λ (f : DataFault). IfOk c.data_line.result (λ line. line ≡ refusal_line (refusal_of_data f))) c.in-Err-Refused.fault-is c.data_line.ensures)

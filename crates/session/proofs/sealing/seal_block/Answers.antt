@@ -1,4 +1,10 @@
-use Rattle.std.proofs.Common.{◌<◌, List, ℕ, Some, All, length, sym, ap, ◌∙◌, subst, arith}
+use Rattle.std.proofs.Common.{◌≡◌, ◌<◌, List, ℕ, Some, All, length, sym, ap, ◌∙◌, subst, arith}
+use Rattle.std.proofs.lemmas.List.{length-map}
+use Rattle.std.proofs.lemmas.List.Elements.{All-weaker}
+use Rattle.mt_values.specs.declared.schema.Column.{Column}
+use Rattle.mt_values.specs.declared.value.ColType.{ColType}
+use Rattle.mt_values.specs.Tables.{sorting_columns}
+use Rattle.mt_model.proofs.OwnColumns.{sorting_own}
 use Rattle.mt_values.specs.Values.{FitsType, Row}
 use Rattle.mt_values.specs.Grid.{picked}
 use Rattle.mt_values.proofs.Grids.{places_below}
@@ -9,9 +15,16 @@ use Rattle.root_store.proofs.TableMarks.{has_marks}
 use Rattle.session.proofs.SealedParts.{sealed_of}
 use Rattle.session.proofs.sealing.seal_block.Goals as goal
 
+pub key_order-requires : goal.key_order-requires
+key_order-requires g c κs within =
+    let schema = c.args.schema.now in
+    let types = c.args.block.now.types in
+    let count : length types ≡ length schema.columns = ap (λ (ts : List ColType). length ts) c.requires.types ∙ length-map schema.columns (λ (column : Column). column.col_type) in
+    All-weaker (λ p. p < length schema.columns) (λ p. p < length types) (λ p lt. omega (arith, count, lt)) (sorting_columns schema) (sorting_own schema c.requires.schema) κs within
+
 pub write_part-requires-clause-places : goal.write_part-requires-clause-places
 write_part-requires-clause-places g c κs within =
-    subst (All (λ place. place < length c.args.block.now.rows)) (sym c.deref.ensures.value) (places_below c.args.schema.now.key c.args.block.now.rows c.in_ok-order.order.items c.in_ok-order.ensures)
+    subst (All (λ place. place < length c.args.block.now.rows)) (sym c.deref.ensures.value) (places_below (sorting_columns c.args.schema.now) c.args.block.now.rows c.in_ok-order.order.items c.in_ok-order.ensures)
 
 pub write_part-requires-clause-marks : goal.write_part-requires-clause-marks
 write_part-requires-clause-marks g c κs within = has_marks c.args.schema.now c.requires.schema

@@ -1,7 +1,8 @@
 use Rattle.std.proofs.lemmas.Result.{IfOk-weaker}
-use Rattle.std.proofs.Common.{◌≡◌, ◌≤◌, IfOk, Err, Ok, sym, ap, ◌∙◌, subst, arith}
+use Rattle.std.proofs.Common.{◌≡◌, inl, IfOk, Err, Ok, sym, ap, ◌∙◌, subst, arith}
 use Rattle.mt_model.specs.declared.refusal.Refusal.{Refusal}
-use Rattle.mt_model.specs.Refusals.{code, is_damage, refusal_line, refusal_of_cause}
+use Rattle.mt_model.specs.Refusals.{is_damage, refusal_line, refusal_of_cause}
+use Rattle.mt_model.proofs.Causes.{OfScript}
 use Rattle.session.specs.Answers.{AcceptsNothing, Answers}
 use Rattle.root_store.specs.Soundness.{HasSoundParts}
 use Rattle.shared_store.specs.Engines.{GoesOn, GoesThroughCrashes, Opened}
@@ -101,11 +102,11 @@ returns-in-Err-clause-causes g c =
     IfOk-weaker c.refused.result _ _
     (λ line is. says_script here.store.opened here.storage.failed here.storage.failed arm arm line (refusal_of_cause cause) (is ∙ ap refusal_line c.of_cause.ensures) (text_code cause)) c.refused.ensures
   where
-    text_code : (cause : Cause) → code (refusal_of_cause cause) ≤ 14
-    text_code (cause.Grammar place) = omega arith
-    text_code cause.LongStatement = omega arith
-    text_code cause.LongName = omega arith
-    text_code cause.TooDeep = omega arith
+    text_code : (cause : Cause) → OfScript (refusal_of_cause cause)
+    text_code (cause.Grammar place) = inl (omega arith)
+    text_code cause.LongStatement = inl (omega arith)
+    text_code cause.LongName = inl (omega arith)
+    text_code cause.TooDeep = inl (omega arith)
 
 -- the reply does not tell of damage
 pub returns-in-Err-clause-undamaged : goal.returns-in-Err-clause-undamaged

@@ -1,5 +1,6 @@
 use Rattle.std.proofs.Common.{◌≡◌, ◌+◌, ◌<◌, ◌≤◌, All, is_some, length, refl, sym, ap, ◌∙◌, subst, arith}
 use Rattle.indexmap.specs.IndexMap.{set_value_at}
+use Rattle.mt_values.specs.Tables.{sorting_columns}
 use Rattle.table_core.specs.declared.store.Table.{Table}
 use Rattle.mt_model.specs.Numbers.{numbered}
 use Rattle.part_history.specs.Entered.{part_of_insert}
@@ -29,7 +30,7 @@ part_of_insert-requires c =
     let insert = c.args.insert in
     let here = c.in-Some.ensures.there in
     let there = schema_here store c.requires.store insert.table c.in-Some.place here in
-    subst (λ (t : Table). All (λ place. place < length insert.block.types) t.schema.key) (sym (read_here store c.requires.store insert.table c.in-Some.place here c.index-table.result.now c.index-table.ensures))
+    subst (λ (t : Table). All (λ place. place < length insert.block.types) (sorting_columns t.schema)) (sym (read_here store c.requires.store insert.table c.in-Some.place here c.index-table.result.now c.index-table.ensures))
     (key_fits store.entries.items insert.table here.here.1.schema insert c.requires.store.core.legal there (c.requires.rows here.here.1.schema there))
 
 pub enter_part-requires-clause-order : goal.enter_part-requires-clause-order

@@ -1,5 +1,6 @@
 use Rattle.std.proofs.Common.{◌<◌, All, length, sym, ap, ◌∙◌, subst}
 use Rattle.mt_values.specs.Grid.{picked}
+use Rattle.mt_values.specs.Tables.{sorting_columns}
 use Rattle.mt_values.proofs.Grids.{places_below}
 use Rattle.table_core.proofs.Keeping.{part_made}
 use Rattle.table_core.proofs.steps.part_of_insert.Goals as goal
@@ -7,7 +8,7 @@ use Rattle.table_core.proofs.steps.part_of_insert.Goals as goal
 pub rows_at-requires : goal.rows_at-requires
 rows_at-requires c =
     let rows = c.args.insert.now.block.rows in
-    subst (All (λ place. place < length rows)) (sym c.deref.ensures.value) (places_below c.args.schema.now.key rows c.in_ok-order.order.items c.in_ok-order.ensures)
+    subst (All (λ place. place < length rows)) (sym c.deref.ensures.value) (places_below (sorting_columns c.args.schema.now) rows c.in_ok-order.order.items c.in_ok-order.ensures)
 
 pub returns : goal.returns
 returns c =

@@ -5,7 +5,7 @@ use Rattle.tsv_rows.proofs.rows.read_rows.Given as goal
 
 abbrev pub invariant-lines : goal.invariant-lines
 invariant-lines l = record {
-  kept : KeepLines l.types l.lines l.ended (drop l.at l.lines) l.columns.items l.count;
+  kept : KeepLines (record { types = l.types; sign = l.sign; lines = l.lines; ended = l.ended }) (drop l.at l.lines) l.columns.items l.count;
   within : l.at ≤ length l.lines;
 }
 

@@ -1,6 +1,4 @@
-use Rattle.std.proofs.Common.{◌≡◌, Err, ap, sym, ◌∙◌}
 use Rattle.std.proofs.lemmas.Result.{err_from_is_err_and}
-use Rattle.mt_values.specs.Rows.{at_field, fault_of_field}
 use Rattle.tsv_rows.proofs.rows.read_value.Goals as goal
 
 -- out of memory

@@ -1,4 +1,4 @@
-use Rattle.std.proofs.Common.{◌≡◌, ◌≢◌, refl, ◌∙◌, ◌<◌, ◌^◌, Some, Ok, Err, List, ℕ, All, Result, ◌+◌, drop, sym, ap, ap₂, false, map, length, get_or, slice_get, arith}
+use Rattle.std.proofs.Common.{◌≡◌, ◌≢◌, ◌∙◌, ◌<◌, ◌^◌, Some, Ok, Err, List, ℕ, All, Result, ◌+◌, drop, sym, ap, ap₂, false, map, length, get_or, slice_get, arith}
 use Rattle.std.proofs.lemmas.List.{length-map}
 use Rattle.std.proofs.lemmas.List.Elements.{All-from_get_or}
 use Rattle.std.proofs.lemmas.Option.{slice_get-get_or, slice_get-map}
@@ -17,8 +17,8 @@ use Rattle.mt_values.proofs.RowValues.{AreBytes, if_ok, row_values}
 use Rattle.tsv_fields.specs.Fields.{EndFields}
 use Rattle.tsv_fields.proofs.LineRows.{fronted_ok, other_count, same_count, row_begin, row_miscounted, row_more, row_faulty, row_whole}
 use Rattle.tsv_fields.proofs.Marking.{whole_marked}
-use Rattle.tsv_rows.proofs.rows.read_row.Goals as goal
-use Rattle.tsv_rows.proofs.rows.read_row.Goals.{After-len, After-read_value, After-drop-ends-2}
+use Rattle.tsv_rows.proofs.rows.read_fields.Goals as goal
+use Rattle.tsv_rows.proofs.rows.read_fields.Goals.{After-len, After-read_value, After-drop-ends-2}
 
 -- out of memory says nothing of the line
 pub returns-in_err-mark_fields : goal.returns-in_err-mark_fields

@@ -3,7 +3,7 @@ use Rattle.std.proofs.Common.{◌≡◌, ◌+◌, false, map, drop}
 use Rattle.mt_values.specs.declared.schema.Column.{Column}
 use Rattle.mt_values.specs.Rows.{fields_from, row_of_fields, row_of_line}
 use Rattle.tsv_fields.proofs.LineRows.{fronted_ok}
-use Rattle.tsv_rows.proofs.rows.read_row.Given as goal
+use Rattle.tsv_rows.proofs.rows.read_fields.Given as goal
 
 abbrev pub invariant-loop-place : goal.invariant-loop-place
 invariant-loop-place l =
