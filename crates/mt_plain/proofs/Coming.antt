@@ -9,7 +9,7 @@ use Rattle.mt_values.specs.declared.schema.Schema.{Schema}
 use Rattle.mt_values.specs.declared.value.ColType.{ColType}
 use Rattle.mt_values.specs.declared.statement.CreateText.{CreateText}
 use Rattle.mt_values.specs.Grid.{AreRowsOf}
-use Rattle.mt_values.specs.Tables.{partition_of, same_partition}
+use Rattle.mt_values.specs.Tables.{has_sign, partition_of, same_partition}
 use Rattle.mt_values.specs.Values.{Row, AreValues, types_of}
 use Rattle.mt_model.specs.Clauses.{NamesKeys}
 use Rattle.mt_model.specs.Commands.{create_commands, insert_command, insert_commands, partitions_of, rows_in}
@@ -39,10 +39,11 @@ own_fewer schema partition (row ∷ rows) = by (own_fewer schema partition rows)
     by fewer true = omega arith
     by fewer false = omega arith
 
-pub inserts_come : (h : History) (table : List ℕ) (schema : Schema) (rows : List Row) → schema_of table h ≡ Some schema → AreRowsOf (column_types schema) rows → AreValues rows → All (MayFollow h) (insert_commands schema table rows)
-inserts_come h table schema rows there typed values =
+pub inserts_come : (h : History) (table : List ℕ) (schema : Schema) (rows : List Row) → schema_of table h ≡ Some schema → AreRowsOf (column_types schema) rows → AreValues rows → All (λ (row : Row). has_sign schema row ≡ true) rows
+    → All (MayFollow h) (insert_commands schema table rows)
+inserts_come h table schema rows there typed values signed =
     All-map (MayFollow h) (insert_command schema table rows) (partitions_of schema rows)
-    (All-weaker (λ (p : Partition). 0 < length (rows_in schema p rows)) (λ (p : Partition). MayFollow h (insert_command schema table rows p)) (λ p some. command_allowed h table schema rows p there some typed values) (partitions_of schema rows) (have_rows schema rows))
+    (All-weaker (λ (p : Partition). 0 < length (rows_in schema p rows)) (λ (p : Partition). MayFollow h (insert_command schema table rows p)) (λ p some. command_allowed h table schema rows p there some typed values signed) (partitions_of schema rows) (have_rows schema rows))
 
 pub creates_come : (h : History) (c : CreateText) (cs : List Command) → create_commands c.table (schema_of_text c) ≡ Ok cs → NamesKeys c.clauses → All (MayFollow h) cs
 creates_come h c cs is keys = by (schema_of_text c) refl is

@@ -6,6 +6,10 @@ use Rattle.std.proofs.lemmas.Bool.Decides.{Decides-eqb, Decides-int_eq, Decides-
 use Rattle.mt_values.specs.declared.value.ColType.{ColType}
 use Rattle.mt_values.specs.declared.value.ColType.TheVariants as type
 use Rattle.mt_values.specs.declared.command.Create.{Create}
+use Rattle.mt_values.specs.declared.engine.Aggregate.{Aggregate}
+use Rattle.mt_values.specs.declared.engine.Aggregate.TheVariants as aggregate
+use Rattle.mt_values.specs.declared.engine.Engine.{Engine}
+use Rattle.mt_values.specs.declared.engine.Engine.TheVariants as engine
 use Rattle.mt_values.specs.declared.schema.Column.{Column}
 use Rattle.mt_values.specs.declared.schema.IndexKind.{IndexKind}
 use Rattle.mt_values.specs.declared.schema.IndexKind.TheVariants as kind
@@ -16,6 +20,8 @@ use Rattle.mt_values.specs.declared.value.Value.TheVariants.{UInt8, UInt16, UInt
 use Rattle.mt_values.specs.Values.{Row}
 use Rattle.mt_values.specs.contracts.value.ValuePartialEq.TheImpl as values
 use Rattle.mt_values.specs.contracts.value.ColTypePartialEq.TheImpl as types
+use Rattle.mt_values.specs.contracts.engine.AggregatePartialEq.TheImpl as aggregates
+use Rattle.mt_values.specs.contracts.engine.EnginePartialEq.TheImpl as engines
 use Rattle.mt_values.specs.contracts.schema.ColumnPartialEq.TheImpl as columns
 use Rattle.mt_values.specs.contracts.schema.IndexKindPartialEq.TheImpl as kinds
 use Rattle.mt_values.specs.contracts.schema.SkipIndexPartialEq.TheImpl as indexes
@@ -60,9 +66,46 @@ type_same x y = (λ e. cc, λ e. cc)
 pub types_same : (a b : List ColType) → Decides (pointwise types.eq-value.it a b) (a ≡ b)
 types_same a b = pointwise_decides type_same a b
 
+-- two functions of columns, or none
+aggregate_same : (x y : Aggregate) → Decides (aggregates.eq-value.it x y) (x ≡ y)
+aggregate_same aggregate.Any aggregate.Any = (λ e. refl, λ e. refl)
+aggregate_same aggregate.AnyLast aggregate.AnyLast = (λ e. refl, λ e. refl)
+aggregate_same aggregate.Min aggregate.Min = (λ e. refl, λ e. refl)
+aggregate_same aggregate.Max aggregate.Max = (λ e. refl, λ e. refl)
+aggregate_same aggregate.Sum aggregate.Sum = (λ e. refl, λ e. refl)
+aggregate_same aggregate.BitAnd aggregate.BitAnd = (λ e. refl, λ e. refl)
+aggregate_same aggregate.BitOr aggregate.BitOr = (λ e. refl, λ e. refl)
+aggregate_same aggregate.BitXor aggregate.BitXor = (λ e. refl, λ e. refl)
+aggregate_same x y = (λ e. cc, λ e. cc)
+
+function_same : (a b : Option Aggregate) → Decides (option_eq aggregates.eq-value.it a b) (a ≡ b)
+function_same None None = (λ e. refl, λ e. refl)
+function_same None (Some f) = (λ e. cc, λ e. cc)
+function_same (Some f) None = (λ e. cc, λ e. cc)
+function_same (Some f) (Some g) = Decides-like (aggregates.eq-value.it f g) (ap Some) (λ e. cc) (aggregate_same f g)
+
+-- columns with the same fields
+record SameColumns (x y : Column) : Type 0 where
+  name : x.name ≡ y.name
+  col_type : x.col_type ≡ y.col_type
+  function : x.function ≡ y.function
+
+one_column : (x y : Column) → SameColumns x y → x ≡ y
+one_column x y s =
+    let with : List ℕ → ColType → Option Aggregate → Column = λ n t f. record { name = n; col_type = t; function = f } in
+    ap₂ (λ (n : List ℕ) (t : ColType). with n t x.function) s.name s.col_type
+    ∙ ap (λ (f : Option Aggregate). with y.name y.col_type f) s.function
+
 column_same : (x y : Column) → Decides (columns.eq-value.it x y) (x ≡ y)
-column_same x y = Decides-like (pointwise nat_eq x.name y.name && types.eq-value.it x.col_type y.col_type) (λ p. ap₂ (λ (n : List ℕ) (t : ColType). record { name = n; col_type = t }) p.0 p.1) (λ e. (ap (λ (c : Column). c.name) e, ap (λ (c : Column). c.col_type) e))
-    (Decides-and (pointwise nat_eq x.name y.name) (types.eq-value.it x.col_type y.col_type) (texts_same x.name y.name) (type_same x.col_type y.col_type))
+column_same x y =
+    let names_are = pointwise nat_eq x.name y.name in
+    let types_are = types.eq-value.it x.col_type y.col_type in
+    let functions_are = option_eq aggregates.eq-value.it x.function y.function in
+    Decides-like (names_are && (types_are && functions_are))
+    (λ p. one_column x y (record { name = p.0; col_type = p.1.0; function = p.1.1 }))
+    (λ e. (ap (λ (c : Column). c.name) e, (ap (λ (c : Column). c.col_type) e, ap (λ (c : Column). c.function) e)))
+    (Decides-and names_are (types_are && functions_are) (texts_same x.name y.name)
+    (Decides-and types_are functions_are (type_same x.col_type y.col_type) (function_same x.function y.function)))
 
 -- two kinds of indexes
 kind_same : (x y : IndexKind) → Decides (kinds.eq-value.it x y) (x ≡ y)
@@ -104,9 +147,22 @@ partition_same None (Some n) = (λ e. cc, λ e. cc)
 partition_same (Some m) None = (λ e. cc, λ e. cc)
 partition_same (Some m) (Some n) = Decides-like (nat_eq m n) (ap Some) (λ e. cc) (Decides-eqb m n)
 
+-- two engines
+engine_same : (x y : Engine) → Decides (engines.eq-value.it x y) (x ≡ y)
+engine_same engine.Plain engine.Plain = (λ e. refl, λ e. refl)
+engine_same (engine.Replacing m) (engine.Replacing n) = Decides-like (option_eq nat_eq m n) (ap engine.Replacing) (λ e. cc) (partition_same m n)
+engine_same (engine.Summing m) (engine.Summing n) = Decides-like (pointwise nat_eq m n) (ap engine.Summing) (λ e. cc) (texts_same m n)
+engine_same (engine.Collapsing m) (engine.Collapsing n) = Decides-like (nat_eq m n) (ap engine.Collapsing) (λ e. cc) (Decides-eqb m n)
+engine_same (engine.Versioned m v) (engine.Versioned n w) =
+    Decides-like (nat_eq m n && nat_eq v w) (λ p. ap₂ engine.Versioned p.0 p.1) (λ e. (cc, cc))
+    (Decides-and (nat_eq m n) (nat_eq v w) (Decides-eqb m n) (Decides-eqb v w))
+engine_same engine.Aggregating engine.Aggregating = (λ e. refl, λ e. refl)
+engine_same x y = (λ e. cc, λ e. cc)
+
 -- schemas with the same fields
 record SameFields (x y : Schema) : Type 0 where
   columns : x.columns ≡ y.columns
+  engine : x.engine ≡ y.engine
   key : x.key ≡ y.key
   primary : x.primary ≡ y.primary
   partition : x.partition ≡ y.partition
@@ -115,29 +171,32 @@ record SameFields (x y : Schema) : Type 0 where
 
 one_schema : (x y : Schema) → SameFields x y → x ≡ y
 one_schema x y s =
-    let with : List Column → List ℕ → List ℕ → Option ℕ → ℕ → List SkipIndex → Schema = λ c k p o g is. record { columns = c; key = k; primary = p; partition = o; granularity = g; indexes = is } in
-    ap (λ (c : List Column). with c x.key x.primary x.partition x.granularity x.indexes) s.columns
-    ∙ (ap₂ (λ (k p : List ℕ). with y.columns k p x.partition x.granularity x.indexes) s.key s.primary
-    ∙ (ap₂ (λ (o : Option ℕ) (g : ℕ). with y.columns y.key y.primary o g x.indexes) s.partition s.granularity
-    ∙ ap (λ (is : List SkipIndex). with y.columns y.key y.primary y.partition y.granularity is) s.indexes))
+    let with : List Column → Engine → List ℕ → List ℕ → Option ℕ → ℕ → List SkipIndex → Schema = λ c e k p o g is. record { columns = c; engine = e; key = k; primary = p; partition = o; granularity = g; indexes = is } in
+    ap₂ (λ (c : List Column) (e : Engine). with c e x.key x.primary x.partition x.granularity x.indexes) s.columns s.engine
+    ∙ (ap₂ (λ (k p : List ℕ). with y.columns y.engine k p x.partition x.granularity x.indexes) s.key s.primary
+    ∙ (ap₂ (λ (o : Option ℕ) (g : ℕ). with y.columns y.engine y.key y.primary o g x.indexes) s.partition s.granularity
+    ∙ ap (λ (is : List SkipIndex). with y.columns y.engine y.key y.primary y.partition y.granularity is) s.indexes))
 
 -- two schemas
 schema_same : (x y : Schema) → Decides (schemas.eq-value.it x y) (x ≡ y)
 schema_same x y =
     let columns_are = pointwise columns.eq-value.it x.columns y.columns in
+    let engines_are = engines.eq-value.it x.engine y.engine in
     let keys_are = pointwise nat_eq x.key y.key in
     let primaries_are = pointwise nat_eq x.primary y.primary in
     let partitions_are = option_eq nat_eq x.partition y.partition in
     let granules_are = nat_eq x.granularity y.granularity in
     let indexes_are = pointwise indexes.eq-value.it x.indexes y.indexes in
-    Decides-like (columns_are && (keys_are && (primaries_are && (partitions_are && (granules_are && indexes_are)))))
-    (λ p. one_schema x y (record { columns = p.0; key = p.1.0; primary = p.1.1.0; partition = p.1.1.1.0; granularity = p.1.1.1.1.0; indexes = p.1.1.1.1.1 }))
-    (λ e. (ap (λ (c : Schema). c.columns) e, (ap (λ (c : Schema). c.key) e, (ap (λ (c : Schema). c.primary) e, (ap (λ (c : Schema). c.partition) e, (ap (λ (c : Schema). c.granularity) e, ap (λ (c : Schema). c.indexes) e))))))
-    (Decides-and columns_are (keys_are && (primaries_are && (partitions_are && (granules_are && indexes_are)))) (pointwise_decides column_same x.columns y.columns)
+    let rest_are = keys_are && (primaries_are && (partitions_are && (granules_are && indexes_are))) in
+    Decides-like (columns_are && (engines_are && rest_are))
+    (λ p. one_schema x y (record { columns = p.0; engine = p.1.0; key = p.1.1.0; primary = p.1.1.1.0; partition = p.1.1.1.1.0; granularity = p.1.1.1.1.1.0; indexes = p.1.1.1.1.1.1 }))
+    (λ e. (ap (λ (c : Schema). c.columns) e, (ap (λ (c : Schema). c.engine) e, (ap (λ (c : Schema). c.key) e, (ap (λ (c : Schema). c.primary) e, (ap (λ (c : Schema). c.partition) e, (ap (λ (c : Schema). c.granularity) e, ap (λ (c : Schema). c.indexes) e)))))))
+    (Decides-and columns_are (engines_are && rest_are) (pointwise_decides column_same x.columns y.columns)
+    (Decides-and engines_are rest_are (engine_same x.engine y.engine)
     (Decides-and keys_are (primaries_are && (partitions_are && (granules_are && indexes_are))) (texts_same x.key y.key)
     (Decides-and primaries_are (partitions_are && (granules_are && indexes_are)) (texts_same x.primary y.primary)
     (Decides-and partitions_are (granules_are && indexes_are) (partition_same x.partition y.partition)
-    (Decides-and granules_are indexes_are (Decides-eqb x.granularity y.granularity) (pointwise_decides index_same x.indexes y.indexes))))))
+    (Decides-and granules_are indexes_are (Decides-eqb x.granularity y.granularity) (pointwise_decides index_same x.indexes y.indexes)))))))
 
 -- two tables to be made, of one name or of two
 pub creates_alike : (x y : Create) (r : Bool) → pointwise nat_eq x.table y.table ≡ true → r ≡ schemas.eq-value.it x.schema y.schema → Decides r (x ≡ y)

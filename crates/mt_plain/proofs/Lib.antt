@@ -1,10 +1,17 @@
+pub mod Aggregating
 pub mod Coming
 pub mod Equal
+pub mod Exactly
+pub mod Folded
 pub mod Indexed
 pub mod Inserting
+pub mod Merging
+pub mod Newest
 pub mod Parting
 pub mod Rows
+pub mod Signs
 pub mod Standing
 pub mod Steps
+pub mod Summing
 pub mod Tallying
 pub mod Turning

@@ -1,4 +1,5 @@
 pub mod Once
 pub mod Order
+pub mod Outcomes
 pub mod Plain
 pub mod Portions

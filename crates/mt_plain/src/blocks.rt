@@ -50,7 +50,7 @@ fn same_types(a: &[ColType], b: &[ColType]) -> bool
 }
 
 /// Whether two lists of rows are one.
-fn same_rows(a: &[Row], b: &[Row]) -> bool
+pub(crate) fn same_rows(a: &[Row], b: &[Row]) -> bool
     ensures { (result ≡ true) ↔ (a.now ≡ b.now) }
 {
     a == b

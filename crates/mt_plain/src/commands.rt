@@ -50,8 +50,9 @@ pub fn insert_commands(
         return Err(Stop::Refused(Refusal::NoTable(insert.table.twin(alloc)?)));
     };
     let types = schema.types(alloc)?;
+    let sign = schema.engine.sign_place();
     let lines = insert.lines.as_slice();
-    let block = match read_rows(alloc, types.as_slice(), lines, insert.ended) {
+    let block = match read_rows(alloc, types.as_slice(), sign, lines, insert.ended) {
         Ok(block) => block,
         Err(Stop::Refused(fault)) => return Err(Stop::Refused(Refusal::of_data(fault))),
         Err(Stop::NoMemory) => return Err(Stop::NoMemory),

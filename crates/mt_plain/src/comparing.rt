@@ -12,7 +12,7 @@ use std::cmp::Ordering;
 /// What rows are sorted by.
 #[derive(Clone, Copy)]
 pub enum Order<'a> {
-    /// The order of a table's rows, by its sorting key.
+    /// The order of a table's rows: by its sorting key, and then by the version that a key may lack.
     Table(&'a Schema),
     /// All values, from left to right.
     Whole,
@@ -24,9 +24,9 @@ pub fn compare(alloc: Global, order: Order, a: &Row, b: &Row) -> Result<Ordering
 {
     match order {
         Order::Table(schema) => {
-            let places = schema.key.as_slice();
-            let first = key_values(alloc, places, a)?;
-            let second = key_values(alloc, places, b)?;
+            let places = schema.sorting_places(alloc)?;
+            let first = key_values(alloc, places.as_slice(), a)?;
+            let second = key_values(alloc, places.as_slice(), b)?;
             Ok(cmp_rows(&first, &second))
         }
         Order::Whole => Ok(cmp_rows(a, b)),

@@ -1,11 +1,10 @@
 // What skip indexes keep of rows, block by block.
 ghost use Rattle.std.specs.Prelude.{◌≡◌, IfOk, OnOk, fold};
 ghost use Rattle.std.specs.List.{list_any};
-ghost use Rattle.mt_values.specs.Grid.{column_of};
 ghost use Rattle.predicate.specs.Indexes as indexes;
 
+use crate::columns::values_at;
 use crate::counting::granules;
-use crate::keys::push_value;
 use mt_base::{NoMemory, SET_LIMIT, Seq, Twin};
 use mt_values::{IndexKind, Row, Schema, SkipIndex, Value, cmp_value};
 use predicate::Known;
@@ -24,7 +23,7 @@ pub fn blocks_kept(
     ensures { IfOk result
         (λ kept. kept.items ≡ indexes.blocks_kept schema.now index.now rows.now) }
 {
-    let column = values_at(alloc, index.column, rows)?;
+    let column = values_at(alloc, index.column as usize, rows)?;
     let values = column.as_slice();
     let size = schema.granularity as usize * index.granularity as usize;
     let mut kept = Vec::new(alloc);
@@ -33,18 +32,6 @@ pub fn blocks_kept(
         kept.push(kept_of(alloc, index.kind, &rest[..size.min(rest.len())])?)?;
     }
     Ok(kept)
-}
-
-/// The values that rows have at a place, row by row.
-#[tactic(auto, using(crate::proofs::Indexed::column_more))]
-fn values_at(alloc: Global, place: u32, rows: &[Row]) -> Result<Row, NoMemory>
-    ensures { IfOk result (λ values. values ≡ column_of place rows.now) }
-{
-    let mut values = Seq::new(alloc);
-    for row in rows {
-        push_value(alloc, &mut values, row, place)?;
-    }
-    Ok(values)
 }
 
 /// What a skip index of a kind keeps of the values of a block.

@@ -24,7 +24,7 @@ pub fn key_values(alloc: Global, places: &[u32], row: &Row) -> Result<Row, NoMem
 {
     let mut values = Seq::new(alloc);
     for place in places {
-        push_value(alloc, &mut values, row, *place)?;
+        push_value(alloc, &mut values, row, *place as usize)?;
     }
     Ok(values)
 }
@@ -34,12 +34,12 @@ pub(crate) fn push_value(
     alloc: Global,
     values: &mut Row,
     row: &Row,
-    place: u32,
+    place: usize,
 ) -> Result<(), NoMemory>
     ensures { OnOk result (values.new ≡ values.old ++ key_of (place ∷ []) row.now) }
 {
-    if (place as usize) < row.len() {
-        values.push(row.at(place as usize).twin(alloc)?)
+    if place < row.len() {
+        values.push(row.at(place).twin(alloc)?)
     } else {
         Ok(())
     }

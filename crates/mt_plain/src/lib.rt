@@ -1,26 +1,34 @@
 //! The plain program: what the definitions say, done the slow and plain way over small inputs.
 #![tactic(auto)]
 
+mod aggregates;
 mod blocks;
 mod boxes;
 mod checking;
+mod collapsing;
+mod columns;
 mod commands;
 mod comparing;
 mod counting;
 mod entries;
 mod explaining;
+mod folding;
 mod indexes;
 mod keys;
 mod lines;
 mod live;
+mod merges;
 mod narrowing;
 mod partitions;
 mod portions;
 mod printing;
+mod replacing;
 mod replies;
+mod rules;
 mod running;
 mod selecting;
 mod sorting;
+mod sums;
 mod tables;
 mod turns;
 
@@ -31,13 +39,16 @@ pub use comparing::{Order, compare};
 pub use counting::counts;
 pub use entries::enter;
 pub use explaining::explained;
+pub use folding::folds;
 pub use keys::{key_values, picked_rows};
 pub use lines::lines_of;
 pub use live::live_rows;
+pub use merges::merged;
 pub use partitions::{partitions_of, rows_in, same_partition};
 pub use portions::{Portion, portions_of};
 pub use printing::all_lines;
 pub use replies::rows_reply;
+pub use rules::{Rows, runs};
 pub use running::{Outcome, run, step};
 pub use selecting::answer;
 pub use sorting::sorted_rows;

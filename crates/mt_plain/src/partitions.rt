@@ -19,7 +19,7 @@ fn partition_of(schema: &Schema, row: &Row) -> Partition
 }
 
 /// The number of the value at a place; 0 where it is none of an unsigned type.
-fn number_at(row: &[Value], place: usize) -> u64
+pub(crate) fn number_at(row: &[Value], place: usize) -> u64
     ensures { result ≡ tables.number_at (slice_get row.now place) }
 {
     match row.get(place) {

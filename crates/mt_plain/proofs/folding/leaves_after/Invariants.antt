@@ -1,0 +1,10 @@
+-- none so far leaves it
+use Rattle.std.proofs.Common.{List, take}
+use Rattle.std.specs.List.{Contains}
+use Rattle.mt_values.specs.Values.{Row}
+use Rattle.mt_model.specs.Folding.{Leaves}
+use Rattle.mt_model.specs.Rules.{Run}
+use Rattle.mt_plain.proofs.folding.leaves_after.Given as goal
+
+abbrev pub invariant-loop-list : goal.invariant-loop-list
+invariant-loop-list l = (m : List Row) → Contains (take l.list-index l.list-items) m → Leaves (Run l.engine l.functions) m l.out → ⊥

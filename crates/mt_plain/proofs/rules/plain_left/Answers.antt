@@ -1,0 +1,7 @@
+use Rattle.std.proofs.Common.{ap, ◌∷◌, [], List, ◌∙◌}
+use Rattle.mt_values.specs.Values.{Row}
+use Rattle.mt_plain.proofs.Exactly.{exactly_itself}
+use Rattle.mt_plain.proofs.rules.plain_left.Goals as goal
+
+pub returns : goal.returns
+returns c = exactly_itself c.in_ok-outs.outs.items c.args.rows.now (c.in_ok-outs.ensures ∙ ap (λ (r : List Row). r ∷ []) c.in_ok-own.ensures)

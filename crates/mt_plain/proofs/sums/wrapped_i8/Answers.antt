@@ -1,0 +1,12 @@
+use Rattle.std.proofs.Common.{ap, ◌∙◌, ℤ, w8}
+use Rattle.std.proofs.lemmas.Int.{to_z-of_z}
+use Rattle.std.specs.Int.{cast_signed, int_wrap}
+use Rattle.mt_model.specs.Rules.{low_bits}
+use Rattle.mt_plain.proofs.Summing.{signed_low}
+use Rattle.mt_plain.proofs.sums.wrapped_i8.Goals as goal
+
+pub returns : goal.returns
+unfolding int_wrap
+returns c =
+    signed_low w8 c.args.number c.cast_signed.result
+    (c.cast_signed.ensures ∙ ap (cast_signed w8) c.wrapped_u8.ensures ∙ ap (λ (z : ℤ). cast_signed w8 (low_bits 8 z)) (to_z-of_z _ c.args.number c.ranges.number))

@@ -1,0 +1,91 @@
+// What FINAL may leave of rows of one key (docs/engines.md, "FINAL").
+ghost use Rattle.std.specs.Prelude.{◌≡◌, IfOk, IsTrue, length, ◌↔◌};
+ghost use Rattle.mt_model.specs.Folding.{Leaves};
+ghost use Rattle.mt_model.specs.Rules.{Folds, Run, is_settled};
+ghost use Rattle.mt_plain.specs.Outcomes.{FoldsWithin, LeavesAfter};
+
+use crate::collapsing::alternate;
+use crate::merges::{is_among, merged};
+use crate::rules::{Rows, runs};
+use mt_base::NoMemory;
+use mt_values::{Aggregate, Engine, Row};
+use std::alloc::Global;
+
+/// Whether FINAL may leave these rows of others of one key, after at most as many merges as there are of those.
+///
+/// `NoMemory` where an allocation failed, or where a sum needs more than 128 bits.
+pub fn folds(
+    alloc: Global,
+    engine: &Engine,
+    functions: &[Option<Aggregate>],
+    rows: &[Row],
+    out: &[Row],
+) -> Result<bool, NoMemory>
+    ensures exact { IfOk result (λ may. IsTrue may
+        ↔ FoldsWithin (length rows.now) engine.now functions.now rows.now out.now) }
+    ensures sound { IfOk result (λ may. IsTrue may
+        → Folds engine.now functions.now rows.now out.now) }
+{
+    if is_settled(engine, rows) {
+        return Ok(is_among(&runs(alloc, engine, functions, rows)?, out));
+    }
+    for times in 0..rows.len() + 1 {
+        if leaves_after(alloc, engine, functions, rows, times, out)? {
+            return Ok(true);
+        }
+    }
+    Ok(false)
+}
+
+/// Whether merges at any times leave the fold as it is.
+fn is_settled(engine: &Engine, rows: &[Row]) -> bool
+    ensures { result ≡ is_settled engine.now rows.now }
+{
+    match engine {
+        Engine::Collapsing(sign) => alternate(*sign, rows),
+        _ => true,
+    }
+}
+
+/// Whether these rows may be left of others after exactly this many merges and a fold of the rest.
+///
+/// `NoMemory` where an allocation failed, or where a sum needs more than 128 bits.
+fn leaves_after(
+    alloc: Global,
+    engine: &Engine,
+    functions: &[Option<Aggregate>],
+    rows: &[Row],
+    times: usize,
+    out: &[Row],
+) -> Result<bool, NoMemory>
+    ensures { IfOk result (λ may. IsTrue may
+        ↔ LeavesAfter times (Run engine.now functions.now) rows.now out.now) }
+{
+    let lists = merged(alloc, engine, functions, rows, times)?;
+    for list in &lists {
+        if leaves(alloc, engine, functions, list.as_slice(), out)? {
+            return Ok(true);
+        }
+    }
+    Ok(false)
+}
+
+/// Whether a fold of rows may leave these: of no rows none.
+///
+/// `NoMemory` where an allocation failed, or where a sum needs more than 128 bits.
+fn leaves(
+    alloc: Global,
+    engine: &Engine,
+    functions: &[Option<Aggregate>],
+    rows: &[Row],
+    out: &[Row],
+) -> Result<bool, NoMemory>
+    ensures { IfOk result (λ may. IsTrue may
+        ↔ Leaves (Run engine.now functions.now) rows.now out.now) }
+{
+    if rows.is_empty() {
+        return Ok(out.is_empty());
+    }
+    let outs = runs(alloc, engine, functions, rows)?;
+    Ok(is_among(&outs, out))
+}
