@@ -19,6 +19,9 @@ HERE = os.path.dirname(os.path.realpath(__file__))
 CASES = os.path.join(HERE, "..", "crates", "run_cases")
 BUILT = os.path.join(HERE, "built", "cases")
 BITS = {b"UInt8": 8, b"UInt16": 16, b"UInt32": 32, b"UInt64": 64, b"Int8": 8, b"Int16": 16, b"Int32": 32, b"Int64": 64}
+FUNCTIONS = [b"any", b"anyLast", b"min", b"max", b"sum", b"groupBitAnd", b"groupBitOr", b"groupBitXor"]
+PLAIN, REPLACING, SUMMING = b"MergeTree", b"ReplacingMergeTree", b"SummingMergeTree"
+COLLAPSING, VERSIONED, AGGREGATING = b"CollapsingMergeTree", b"VersionedCollapsingMergeTree", b"AggregatingMergeTree"
 BLANKS = b" \t\r\n"
 RESERVED = {b"AND", b"OR", b"NOT", b"IN", b"FROM", b"FINAL", b"WHERE", b"INDEX"}
 ESCAPES = {ord("b"): 8, ord("f"): 12, ord("r"): 13, ord("n"): 10, ord("t"): 9, ord("0"): 0, ord("a"): 7, ord("v"): 11}
@@ -236,10 +239,24 @@ class Reader:
             self.fault()
         self.wants(b";")
 
+    def column_type(self):
+        """The type of a column, and its function, where it is a SimpleAggregateFunction."""
+        types = [*BITS, b"String"]
+        if self.kind != "word" or self.said != b"SimpleAggregateFunction":
+            return self.one_of(types), None
+        self.next()
+        self.wants(b"(")
+        function = self.one_of(FUNCTIONS)
+        self.wants(b",")
+        kind = self.one_of(types)
+        self.wants(b")")
+        return kind, function
+
     def element(self):
-        """A column, or an index: its name, its column, the most values of a set, and the granules of a block."""
+        """A column: its name, its type and its function; or an index: its name, its column, the most values of a set, and the granules
+        of a block."""
         if self.kind != "word" or not self.takes(b"INDEX"):
-            return "column", self.name(), self.one_of([*BITS, b"String"])
+            return "column", self.name(), *self.column_type()
         name, column, most = self.name(), self.name(), None
         self.wants(b"TYPE")
         if self.one_of([b"minmax", b"set"]) == b"set":
@@ -249,6 +266,24 @@ class Reader:
         self.wants(b"GRANULARITY")
         return "index", name, column, most, self.number()
 
+    def engine(self):
+        """An engine, and the columns that it names."""
+        engine, names = self.one_of([PLAIN, REPLACING, SUMMING, COLLAPSING, VERSIONED, AGGREGATING]), []
+        if engine in (COLLAPSING, VERSIONED):
+            self.wants(b"(")
+            names.append(self.name())
+            if engine == VERSIONED:
+                self.wants(b",")
+                names.append(self.name())
+            self.wants(b")")
+        elif self.takes(b"(") and not self.takes(b")"):
+            if engine == REPLACING:
+                names.append(self.name())
+            elif engine == SUMMING:
+                names += self.key()
+            self.wants(b")")
+        return engine, names
+
     def create(self):
         self.wants(b"TABLE")
         create = {"table": self.name(), "clauses": {}}
@@ -257,9 +292,7 @@ class Reader:
         while self.takes(b","):
             create["elements"].append(self.element())
         self.wants(b")", b"ENGINE", b"=")
-        self.one_of([b"MergeTree"])
-        if self.takes(b"("):
-            self.wants(b")")
+        create["engine"] = self.engine()
         create["at"] = self.place
         self.clauses(create)
         return "create", create
@@ -340,60 +373,115 @@ def first_double(names):
     return next((name for place, name in enumerate(names) if name in names[:place]), None)
 
 
+def parts_of(create):
+    """Parts of a CREATE: its columns by their names, each with its type and its function, its indexes, its engine with the columns that it
+    names, its sorting key, its primary key and its partition column."""
+    columns = {element[1]: element[2:] for element in create["elements"] if element[0] == "column"}
+    indexes = [element[1:] for element in create["elements"] if element[0] == "index"]
+    clauses = create["clauses"]
+    sorting = clauses[b"ORDER"]
+    return columns, indexes, *create["engine"], sorting, clauses.get(b"PRIMARY", sorting), clauses.get(b"PARTITION", [None])[0]
+
+
+def summed_of(create):
+    """The names of the columns that a CREATE has summed: those of its list, or all that may be, where it has none."""
+    columns, _, engine, named, sorting, _, parting = parts_of(create)
+    if engine != SUMMING or named:
+        return named if engine == SUMMING else []
+    return [name for name, (kind, _) in columns.items() if kind in BITS and name not in sorting and name != parting]
+
+
+def engine_reasons(create):
+    """The reasons of an engine to refuse a CREATE, in the order in which they are tried, each with the name that is told, which is nothing
+    where the CREATE is right by it."""
+    columns, _, engine, named, sorting, _, parting = parts_of(create)
+    first = lambda names: next(iter(names), None)
+    apart = lambda name: name in sorting or name == parting
+    versions = named if engine == REPLACING else named[1:] if engine == VERSIONED else []
+    signs = named[:1] if engine in (COLLAPSING, VERSIONED) else []
+    summed = summed_of(create)
+    functions = {name: function for name, (_, function) in columns.items() if function}
+    yield "version_type", first(name for name in versions if not columns[name][0].startswith(b"U"))
+    yield "sign_type", first(name for name in signs if columns[name][0] != b"Int8")
+    yield "sign_key", first(name for name in signs if apart(name))
+    yield "sum_type", first(name for name in summed if columns[name][0] not in BITS)
+    yield "sum_key", first(name for name in summed if apart(name))
+    yield "nothing_to_sum", b"-" if engine == SUMMING and not summed else None
+    yield "aggregate_engine", first(functions) if engine != AGGREGATING else None
+    yield "aggregate_key", first(name for name in functions if apart(name))
+    yield "aggregate_type", first(name for name, function in functions.items() if not takes_type(function, columns[name][0]))
+
+
+def takes_type(function, kind):
+    """Whether a function takes values of a type."""
+    if function == b"sum":
+        return kind in (b"Int64", b"UInt64")
+    return not function.startswith(b"groupBit") or kind.startswith(b"U")
+
+
+def schema_reasons(create):
+    """All reasons to refuse a CREATE, as those of its engine."""
+    columns, indexes, engine, named, sorting, primary, parting = parts_of(create)
+    clauses = create["clauses"]
+    yield "double_column", first_double([element[1] for element in create["elements"] if element[0] == "column"])
+    yield "double_index", first_double([index[0] for index in indexes])
+    for key in [named if engine == SUMMING else []] + [clauses[each] for each in clauses if each in (b"ORDER", b"PRIMARY")]:
+        yield "double_key", first_double(key)
+    yield "not_prefix", next((name for place, name in enumerate(primary) if sorting[place:place + 1] != [name]), None)
+    yield "partition_type", parting if parting is not None and not columns[parting][0].startswith(b"U") else None
+    yield from engine_reasons(create)
+    yield "granularity", None if 1 <= clauses.get(b"SETTINGS", 8192) <= 65536 else b"-"
+    yield "granularity", next((index[0] for index in indexes if not 1 <= index[3] <= 65536), None)
+    yield "set_size", next((index[0] for index in indexes if index[2] is not None and index[2] > 4294967295), None)
+
+
 def schema_of(create):
     """The schema of a CREATE."""
-    elements, clauses = create["elements"], create["clauses"]
-    columns = [element[1:] for element in elements if element[0] == "column"]
-    indexes = [element[1:] for element in elements if element[0] == "index"]
-    names = [name for name, _ in columns]
-    for _, column, _, _ in indexes:
-        if column not in names:
-            raise Refused(b"E04 " + column)
-    for clause, value in clauses.items():
-        for name in value if clause != b"SETTINGS" else []:
-            if name not in names:
-                raise Refused(b"E04 " + name)
-    sorting, primary = clauses[b"ORDER"], clauses.get(b"PRIMARY", clauses[b"ORDER"])
-    parting = clauses.get(b"PARTITION", [None])[0]
-    doubles = [first_double(names), first_double([index[0] for index in indexes])]
-    doubles += [first_double(clauses[each]) for each in clauses if each in (b"ORDER", b"PRIMARY")]
-    for reason, name in zip([b"column", b"index", b"key", b"key"], doubles):
+    columns, indexes, engine, named, sorting, primary, parting = parts_of(create)
+    clauses = create["clauses"]
+    for name in [index[1] for index in indexes] + named + [name for each in clauses if each != b"SETTINGS" for name in clauses[each]]:
+        if name not in columns:
+            raise Refused(b"E04 " + name)
+    for reason, name in schema_reasons(create):
         if name is not None:
-            raise Refused(b"E05 double_" + reason + b" " + name)
-    for place, name in enumerate(primary):
-        if sorting[place:place + 1] != [name]:
-            raise Refused(b"E05 not_prefix " + name)
-    if parting is not None and not dict(columns)[parting].startswith(b"U"):
-        raise Refused(b"E05 partition_type " + parting)
-    if not 1 <= clauses.get(b"SETTINGS", 8192) <= 65536:
-        raise Refused(b"E05 granularity -")
-    for name, _, _, granules in indexes:
-        if not 1 <= granules <= 65536:
-            raise Refused(b"E05 granularity " + name)
-    for name, _, most, _ in indexes:
-        if most is not None and most > 4294967295:
-            raise Refused(b"E05 set_size " + name)
-    kinds = [element[0] for element in elements]
+            raise Refused(b"E05 " + reason.encode() + b" " + name)
+    kinds = [element[0] for element in create["elements"]]
     for size in range(len(kinds) + 1):
         for kind, bound, text in (("column", 64, b"columns 64"), ("index", 8, b"indexes 8")):
             if kinds[:size].count(kind) > bound:
                 raise Refused(b"E12 " + text)
-    place = names.index
+    names = list(columns)
+    places = lambda found: [names.index(name) for name in found]
     return {
-        "columns": columns,
+        "columns": [(name, *column) for name, column in columns.items()],
         "names": names,
-        "sorting": [place(name) for name in sorting],
-        "primary": [place(name) for name in primary],
-        "partition": None if parting is None else place(parting),
+        "engine": (engine, places(summed_of(create) if engine == SUMMING else named)),
+        "sorting": places(sorting),
+        "primary": places(primary),
+        "partition": None if parting is None else names.index(parting),
         "granularity": clauses.get(b"SETTINGS", 8192),
-        "indexes": [(place(column), most, granules) for _, column, most, granules in indexes],
+        "index_names": [index[0] for index in indexes],
+        "indexes": [(names.index(column), most, granules) for _, column, most, granules in indexes],
     }
+
+
+def order_of(schema):
+    """The places of the columns by which a part's rows are sorted: those of the sorting key, and the version of an engine that has versions
+    and signs, where the key lacks it."""
+    engine, named = schema["engine"]
+    return schema["sorting"] + [place for place in named[1:] if engine == VERSIONED and place not in schema["sorting"]]
+
+
+def has_sign(schema, row):
+    """Whether a row's sign, where its table has one, is 1 or -1."""
+    engine, named = schema["engine"]
+    return engine not in (COLLAPSING, VERSIONED) or row[named[0]] in (1, -1)
 
 
 def rows_of(schema, data):
     """The rows of an INSERT's data."""
     lines, is_ended = data
-    kinds = [kind for _, kind in schema["columns"]]
+    kinds = [kind for _, kind, _ in schema["columns"]]
     rows = []
     for number, line in enumerate(lines, 1):
         if number > MOST_ROWS:
@@ -411,6 +499,8 @@ def rows_of(schema, data):
                 raise Refused(f"E08 {number} {field}")
             if isinstance(value, bytes) and len(value) > MOST_BYTES:
                 raise Refused(b"E12 value 1048576")
+        if not has_sign(schema, row):
+            raise Refused(f"E18 {number}")
         rows.append(row)
     if not is_ended:
         raise Refused(f"E13 {len(rows)}")
@@ -544,7 +634,7 @@ class Store:
         for accepted, (partition, rows) in enumerate(groups.items()):
             if sum(part[0] == partition for part in parts) == 3000:
                 raise Refused(f"E12 parts 3000 {accepted}")
-            parts.append((partition, sorted(rows, key=lambda row: [row[place] for place in schema["sorting"]])))
+            parts.append((partition, sorted(rows, key=lambda row: [row[place] for place in order_of(schema)])))
             self.commands.append((table, partition, rows))
         return f"OK {self.length}\n".encode()
 
@@ -634,6 +724,32 @@ def shown(replies):
     return b'"' + b"".join(names.get(byte) or plain(byte) for byte in replies) + b'"'
 
 
+SHOWN_TYPES = {b"String": b"Text"}
+SHOWN_FUNCTIONS = dict(zip(FUNCTIONS, [b"Any", b"AnyLast", b"Min", b"Max", b"Sum", b"BitAnd", b"BitOr", b"BitXor"]))
+SHOWN_ENGINES = {
+    PLAIN: b"plain", REPLACING: b"replacing", SUMMING: b"summing",
+    COLLAPSING: b"collapsing", VERSIONED: b"versioned", AGGREGATING: b"aggregating",
+}  # fmt: skip
+
+
+def schema_shown(schema):
+    """A schema as a directive shows it."""
+    placed = lambda word, places: b" ".join([word, *(b"%d" % place for place in places)])
+    shown_columns = []
+    for name, kind, function in schema["columns"]:
+        words = [name, SHOWN_TYPES.get(kind, kind)] + ([SHOWN_FUNCTIONS[function]] if function else [])
+        shown_columns.append(b" ".join(words))
+    engine, places = schema["engine"]
+    shown_parts = [placed(SHOWN_ENGINES[engine], places), placed(b"key", schema["sorting"]), placed(b"primary", schema["primary"])]
+    if schema["partition"] is not None:
+        shown_parts.append(placed(b"partition", [schema["partition"]]))
+    shown_parts.append(b"granularity %d" % schema["granularity"])
+    for name, (place, most, granules) in zip(schema["index_names"], schema["indexes"]):
+        kind = b"MinMax" if most is None else b"Set(%d)" % most
+        shown_parts.append(b"index %s of %d %s granularity %d" % (name, place, kind, granules))
+    return b", ".join(shown_columns + shown_parts)
+
+
 class Bench:
     """What directives come to, where no fault, damage or crash is set up."""
 
@@ -673,12 +789,16 @@ class Bench:
         elif word == b"named":
             name, _, script = rest.partition(b" ")
             self.named[name] = bytes_of(script)
+        elif word == b"twin" and rest.startswith(b"schema "):
+            made = Store()
+            made.run(bytes_of(rest[len(b"schema "):]))
+            return b"  %s: %s and %s" % (self.case, *[schema_shown(made.commands[0][1])] * 2)
         elif word == b"allows":
             return b"  %s: %s" % (self.case, b"true" if self.allows(rest) else b"false")
         elif word == b"names" and self.left is not None:
             names = self.left.names()
             return b"  %s: %d names%s" % (self.case, len(names), b"".join(b" " + shown(name) for name in names))
-        elif word not in (b"case", b"script", b"add", b"repeat", b"names", b"left", b"bytes", b"#", b""):
+        elif word not in (b"case", b"script", b"add", b"repeat", b"names", b"left", b"bytes", b"twin", b"#", b""):
             self.store = self.left = None
         return None
 

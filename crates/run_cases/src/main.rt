@@ -66,9 +66,24 @@
 //!   insert adds a row of each number;
 //! - `pin LENGTH NUMBER NUMBER`: what is pinned of a table with one part of two rows, at a length of the history: the schema, the part and
 //!   the length;
-//! - `twin KIND ..`: a value and its twins: `number NUMBER` (of 8, of 32 and of 64 bits), `name BYTES`, `type TYPE`, `schema`,
-//!   `row TYPE LINE`, `part NUMBER NUMBER` (what is kept of a part of two rows), or `stored ROWS NAME`: a part with that many rows, of a
-//!   folder that the last run left.
+//! - `twin KIND ..`: a value and its twins: `number NUMBER` (of 8, of 32 and of 64 bits), `name BYTES`, `type TYPE`, `schema SCRIPT` (of
+//!   the first table that a script makes), `row TYPE LINE`, `part NUMBER NUMBER` (what is kept of a part of two rows), or
+//!   `stored ROWS NAME`: a part with that many rows, of a folder that the last run left.
+//!
+//! What engines' rules leave, of rows of small tables: `plain`, `replacing`, `replacing-version`, `summing`, `collapsing`, `versioned` or
+//! `aggregating`. A row is written in letters, one for each column of the table: the key, for `versioned` also the version; then for
+//! `replacing-version` a version, for `summing` two numbers, for `collapsing` and `versioned` a sign, `+` or `-`; then the mark, which tells
+//! rows apart. For `aggregating` a letter for each function follows the key. A digit of a column that is summed is that many quarters of
+//! all numbers of its type, so that sums wrap at 4. Commas stand between rows, and `-` for no row.
+//!
+//! - `fold TABLE LIST ..`: what the rule's three calls leave of each list of rows of one key. The key is not written; a mark may be left out
+//!   that is the row's place, and equal letters of `aggregating` are written once. After a list may stand `=` and results, with bars between
+//!   them, and `*` for the mark of any of the rows: then what is left is to be one of these, and is printed only where it is none. How many
+//!   lists there were is printed, with how many rows, and how many rows were left;
+//! - `merge TABLE INPUTS ..`: the same of merges of sorted inputs, with slashes between them. The rows have their keys;
+//! - `random SEED COUNT TABLE`: what comes of that many random lists of up to six rows of one key, cut into up to four runs, which are merged
+//!   in every order: how many merges there were, how many different results FINAL gave at the end of them, and how many results of merges or
+//!   of FINAL, which is asked after each merge, may not be.
 #![tactic(auto)]
 
 use disk_mem::{MemSource, OpenGate};

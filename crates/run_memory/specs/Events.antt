@@ -1,6 +1,7 @@
 -- Events over tables of numbers: each of them may come, whatever came before.
 use Rattle.std.specs.Prelude.{◌≡◌, ℕ, List, [], ◌∷◌, Bool, false, None, Some, codes, if◌then◌else◌, nat_eq}
 use Rattle.mt_base.specs.Limits.{default_granularity}
+use Rattle.mt_values.specs.declared.engine.Engine.TheVariants as engine
 use Rattle.mt_values.specs.declared.schema.Schema.{Schema}
 use Rattle.mt_values.specs.declared.value.ColType.TheVariants as type
 use Rattle.mt_model.specs.History.{IsInsertInto}
@@ -14,7 +15,8 @@ use Rattle.table_core.specs.declared.event.Event.TheVariants as event
 -- the schema of a table with one partition: one column `a` of type UInt8, which is the key (docs/testing.md, "Cases: `run_cases`")
 abbrev pub of_numbers : Schema
 of_numbers = record {
-  columns = record { name = codes "a"; col_type = type.UInt8 } ∷ [];
+  columns = record { name = codes "a"; col_type = type.UInt8; function = None } ∷ [];
+  engine = engine.Plain;
   key = 0 ∷ [];
   primary = 0 ∷ [];
   partition = None;
@@ -25,7 +27,8 @@ of_numbers = record {
 -- the schema of a table with several partitions: columns `p` and `a` of type UInt8, which are the partition column and the key (docs/testing.md, "Cases: `run_cases`")
 abbrev pub parted : Schema
 parted = record {
-  columns = record { name = codes "p"; col_type = type.UInt8 } ∷ record { name = codes "a"; col_type = type.UInt8 } ∷ [];
+  columns = record { name = codes "p"; col_type = type.UInt8; function = None } ∷ record { name = codes "a"; col_type = type.UInt8; function = None } ∷ [];
+  engine = engine.Plain;
   key = 1 ∷ [];
   primary = 1 ∷ [];
   partition = Some 0;

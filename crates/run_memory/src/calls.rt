@@ -3,7 +3,7 @@ use crate::answer::Answer;
 use crate::text::first_word;
 use column_file::{FormatFault, decode_column, decode_granule};
 use mt_base::{DEFAULT_GRANULARITY, NoMemory, Seq};
-use mt_values::{Block, ColType, Column, Row, Schema, Value};
+use mt_values::{Block, ColType, Column, Engine, Row, Schema, Value};
 use std::alloc::Global;
 use tsv_rows::{read_row, write_row};
 
@@ -48,9 +48,17 @@ impl Answer {
     fn schema_of(&mut self, col_type: ColType) -> Schema {
         let name = Seq::new(self.alloc);
         let mut columns = Vec::new(self.alloc);
-        self.push(&mut columns, Column { name, col_type });
+        self.push(
+            &mut columns,
+            Column {
+                name,
+                col_type,
+                function: None,
+            },
+        );
         Schema {
             columns: Seq::of(columns),
+            engine: Engine::Plain,
             key: Seq::new(self.alloc),
             primary: Seq::new(self.alloc),
             partition: None,

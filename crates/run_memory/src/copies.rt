@@ -7,7 +7,8 @@ use digest_file::mark_of;
 use disk_mem::MemDir;
 use mt_base::{NoMemory, Partition, Rows, Seq, Twin};
 use mt_values::{
-    Cell, ColType, Column, ColumnData, IndexKind, Manifest, Name, Schema, SkipIndex, Value,
+    Aggregate, Cell, ColType, Column, ColumnData, Engine, IndexKind, Manifest, Name, Schema,
+    SkipIndex, Value,
 };
 use part_history::CorePart;
 use part_name::{PartName, text};
@@ -50,18 +51,24 @@ fn kept_part(alloc: Global, first: u8, second: u8) -> Result<Kept<CorePart>, NoM
     Ok(Kept { name, part })
 }
 
+// A column without a function, whose name is one letter.
+fn plain_column(alloc: Global, letter: u8, col_type: ColType) -> Result<Column, NoMemory> {
+    Ok(Column {
+        name: Seq::from_slice(alloc, &[letter])?,
+        col_type,
+        function: None,
+    })
+}
+
 // The schema of a number `a` and a text `s`, with the sorting key `s, a`, the primary key `s`, the partition column `a`, granules of three rows
 // and a skip index `i` of `s`.
 fn two_columns(alloc: Global) -> Result<Schema, NoMemory> {
     let mut columns = Seq::new(alloc);
-    let name = Seq::from_slice(alloc, b"a")?;
-    let col_type = ColType::UInt8;
-    columns.push(Column { name, col_type })?;
-    let name = Seq::from_slice(alloc, b"s")?;
-    let col_type = ColType::Text;
-    columns.push(Column { name, col_type })?;
+    columns.push(plain_column(alloc, b'a', ColType::UInt8)?)?;
+    columns.push(plain_column(alloc, b's', ColType::Text)?)?;
     Ok(Schema {
         columns,
+        engine: Engine::Plain,
         key: Seq::from_slice(alloc, &[1, 0])?,
         primary: Seq::from_slice(alloc, &[1])?,
         partition: Some(0),
@@ -146,14 +153,37 @@ impl Answer {
         self.note(put);
     }
 
-    // Prints columns, each by its name and its type.
+    // Prints the function of a column.
+    fn function(&mut self, function: Aggregate) {
+        let put = write!(self.text, " {function:?}").is_ok();
+        self.note(put);
+    }
+
+    // Prints columns, each by its name, its type and, where it has one, its function.
     fn columns(&mut self, columns: &[Column]) {
         for column in columns {
             self.escaped(column.name.as_slice());
             self.put(" ");
             self.col_type(column.col_type);
+            if let Some(function) = column.function {
+                self.function(function);
+            }
             self.put(", ");
         }
+    }
+
+    // Prints an engine, and the places of the columns that it names.
+    fn engine(&mut self, engine: &Engine) {
+        match engine {
+            Engine::Plain => self.put("plain"),
+            Engine::Replacing(None) => self.put("replacing"),
+            Engine::Replacing(Some(version)) => self.places("replacing", &[*version]),
+            Engine::Summing(places) => self.places("summing", places.as_slice()),
+            Engine::Collapsing(sign) => self.places("collapsing", &[*sign]),
+            Engine::Versioned { sign, version } => self.places("versioned", &[*sign, *version]),
+            Engine::Aggregating => self.put("aggregating"),
+        }
+        self.put(", ");
     }
 
     // Prints a word, and places of columns after it.
@@ -165,10 +195,11 @@ impl Answer {
         }
     }
 
-    // Prints the columns of a schema, the places in them of its keys and of its partition column, where it has one, the rows of a granule,
-    // and its skip indexes.
+    // Prints the columns of a schema, its engine, the places in the columns of its keys and of its partition column, where it has one, the
+    // rows of a granule, and its skip indexes.
     fn schema(&mut self, schema: &Schema) {
         self.columns(schema.columns.as_slice());
+        self.engine(&schema.engine);
         self.places("key", schema.key.as_slice());
         self.places(", primary", schema.primary.as_slice());
         if let Some(place) = schema.partition {
@@ -316,14 +347,17 @@ impl Answer {
         }
     }
 
-    // Prints the schema of two columns, of which the second comes first in the key, and its twin.
-    fn twin_schema(&mut self) {
-        let schema = two_columns(self.alloc);
-        if let Some(schema) = self.given(schema) {
-            self.schema(&schema);
-            if let Some(twin) = self.twin_of(&schema) {
-                self.schema(&twin);
+    // Prints the schema that the CREATE of a script makes, and its twin.
+    fn twin_schema(&mut self, rest: &str) {
+        let script = self.bytes_of(rest);
+        match self.schema_made(&script) {
+            Some(schema) => {
+                self.schema(&schema);
+                if let Some(twin) = self.twin_of(&schema) {
+                    self.schema(&twin);
+                }
             }
+            None => self.fail("no table is made"),
         }
     }
 
@@ -380,7 +414,7 @@ impl Answer {
             "number" => self.twin_number(rest),
             "name" => self.twin_name(rest),
             "type" => self.twin_type(rest),
-            "schema" => self.twin_schema(),
+            "schema" => self.twin_schema(rest),
             "row" => self.twin_row(rest),
             "part" => self.twin_part(rest),
             "stored" => self.twin_stored(left, rest),

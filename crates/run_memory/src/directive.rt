@@ -56,6 +56,9 @@ impl Bench {
             "core" => self.answer.core(rest),
             "pin" => self.answer.pin(rest),
             "twin" => self.answer.twin(&self.left, rest),
+            "fold" => self.answer.rules(rest, false),
+            "merge" => self.answer.rules(rest, true),
+            "random" => self.answer.random(rest),
             _ => return false,
         }
         self.answer.put("\n");

@@ -1,5 +1,5 @@
 // The core of the store as a machine: a list of events, and what each of them gives.
-ghost use Rattle.std.specs.Prelude.{◌≡◌, ◌∷◌, [], All, IfOk, IfSome};
+ghost use Rattle.std.specs.Prelude.{◌≡◌, ◌∷◌, [], All, IfOk, IfSome, None};
 ghost use Rattle.mt_values.specs.declared.value.ColType.TheVariants as types;
 ghost use Rattle.mt_values.specs.declared.value.Value.TheVariants as value;
 ghost use Rattle.mt_model.specs.History.{IsInsertInto};
@@ -8,19 +8,22 @@ ghost use Rattle.run_memory.specs.Events.{Fits, FitsAccept, FitsCrash, event_sch
 use crate::answer::Answer;
 use crate::text::first_word;
 use mt_base::{DEFAULT_GRANULARITY, NoMemory, Partition, Seq};
-use mt_values::{Block, ColType, Column, Create, Insert, Name, Row, Schema, Value};
+use mt_values::{Block, ColType, Column, Create, Engine, Insert, Name, Row, Schema, Value};
 use std::alloc::Global;
 use table_core::{Accept, Crash, Event, Guard, Outcome, run};
 
 // A column of type UInt8, whose name is one letter.
 fn number_column(alloc: Global, letter: u8) -> Result<Column, NoMemory>
     ensures { IfOk result (λ column. column
-        ≡ record { name = letter ∷ []; col_type = types.UInt8 }) }
+        ≡ record { name = letter ∷ []; col_type = types.UInt8; function = None }) }
 {
     let mut name = Seq::new(alloc);
     name.push(letter)?;
-    let col_type = ColType::UInt8;
-    Ok(Column { name, col_type })
+    Ok(Column {
+        name,
+        col_type: ColType::UInt8,
+        function: None,
+    })
 }
 
 // The key of the column at a place alone.
@@ -40,6 +43,7 @@ pub fn numbers_schema(alloc: Global) -> Result<Schema, NoMemory>
     columns.push(number_column(alloc, b'a')?)?;
     Ok(Schema {
         columns,
+        engine: Engine::Plain,
         key: key_of(alloc, 0)?,
         primary: key_of(alloc, 0)?,
         partition: None,
@@ -57,6 +61,7 @@ fn parted_schema(alloc: Global) -> Result<Schema, NoMemory>
     columns.push(number_column(alloc, b'a')?)?;
     Ok(Schema {
         columns,
+        engine: Engine::Plain,
         key: key_of(alloc, 1)?,
         primary: key_of(alloc, 1)?,
         partition: Some(0),

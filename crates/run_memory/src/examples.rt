@@ -1,10 +1,11 @@
 // Scripts with what they may print and the histories that they may leave, as the plain program's definitions say.
 use crate::answer::Answer;
 use crate::text::first_word;
-use mt_base::NoMemory;
+use mt_base::{NoMemory, Twin};
 use mt_plain::{allows, run};
-use mt_values::{Cause, Statement};
+use mt_values::{Cause, Command, Entry, Schema, Statement};
 use sql_read::{Next, next_statement};
+use std::alloc::Global;
 
 /// No script that the plain program runs has more statements.
 const MOST_STATEMENTS: u32 = 64;
@@ -21,6 +22,16 @@ fn named<'a>(examples: &'a [Example], name: &str) -> Option<&'a [u8]> {
     for example in examples {
         if example.name.as_slice() == name.as_bytes() {
             return Some(&example.script);
+        }
+    }
+    None
+}
+
+// The schema of the first table that is made.
+fn first_schema(alloc: Global, history: &[Entry]) -> Option<Schema> {
+    for entry in history {
+        if let Command::Create(create) = &entry.command {
+            return create.schema.twin(alloc).ok();
         }
     }
     None
@@ -50,6 +61,13 @@ impl Answer {
             Ok(plain) => self.told(status, &plain.history, &plain.out),
             Err(_) => self.note(false),
         }
+    }
+
+    /// The schema of the first table that the plain program makes by a script.
+    pub fn schema_made(&mut self, script: &[u8]) -> Option<Schema> {
+        let statements = self.statements(script);
+        let plain = run(self.alloc, &statements).ok()?;
+        first_schema(self.alloc, &plain.history)
     }
 
     /// Keeps a script under a name.

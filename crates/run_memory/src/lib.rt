@@ -1,6 +1,6 @@
 //! Cases of runs: how their lines are read, what is set up for a run, the roots that it begins with, the outside in memory and what a crash
 //! may leave of it, and what is printed of a line; scripts with what the definitions allow of them, calls that no run makes, the core
-//! as a machine of events, and copies of what is kept. What runs a script stands outside, as a `Machine`.
+//! as a machine of events, the rules of engines over small tables, and copies of what is kept. What runs a script stands outside, as a `Machine`.
 #![tactic(auto)]
 
 mod answer;
@@ -12,9 +12,13 @@ mod directive;
 mod events;
 mod examples;
 mod filling;
+mod held;
 mod left;
+mod random;
 mod root;
+mod rules;
 mod setting;
+mod small;
 mod text;
 
 pub use answer::Answer;

@@ -1,0 +1,34 @@
+SELECT * FROM s;
+SELECT * FROM r;
+SELECT * FROM c;
+SELECT * FROM v;
+SELECT * FROM a;
+EXPLAIN SELECT * FROM w WHERE k = 2;
+INSERT INTO s;
+1	1
+\.
+INSERT INTO r;
+1	5	b
+\.
+INSERT INTO c;
+1	30	0
+\.
+INSERT INTO c;
+1	30	-1
+\.
+INSERT INTO v;
+1	7	1	1
+\.
+INSERT INTO v;
+1	7	1	1
+1	7	2	1
+\.
+INSERT INTO a;
+1	2	y	8
+\.
+CREATE TABLE c (k UInt8, v UInt8, sign Int8) ENGINE = CollapsingMergeTree(sign) ORDER BY k;
+SELECT * FROM s;
+SELECT * FROM r;
+SELECT * FROM c;
+SELECT * FROM v;
+SELECT * FROM a;

@@ -1,0 +1,7 @@
+CREATE TABLE c (k UInt8, v UInt8, sign Int8) ENGINE = CollapsingMergeTree(sign) ORDER BY k;
+INSERT INTO c;
+1	10	1
+1	20	1
+1	30	-1
+\.
+SELECT * FROM c;
