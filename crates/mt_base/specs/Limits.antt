@@ -21,6 +21,10 @@ part_limit = 3000
 abbrev pub number_limit : ℕ
 number_limit = 4294967295
 
+-- a part has no greater level than this
+abbrev pub level_limit : ℕ
+level_limit = 4294967295
+
 -- an INSERT has no more rows than this
 abbrev pub row_limit : ℕ
 row_limit = 1048576

@@ -15,6 +15,9 @@ pub const PART_LIMIT: usize = 3000;
 /// The commands of a table have no greater number than this.
 pub const NUMBER_LIMIT: u32 = 4_294_967_295;
 
+/// A part has no greater level than this.
+pub const LEVEL_LIMIT: u32 = 4_294_967_295;
+
 /// An INSERT has no more rows than this.
 pub const ROW_LIMIT: usize = 1_048_576;
 

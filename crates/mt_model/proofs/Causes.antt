@@ -37,14 +37,15 @@ use Rattle.mt_values.specs.declared.statement.Statement.{Statement}
 use Rattle.mt_values.specs.declared.statement.Statement.TheVariants as statement
 use Rattle.mt_values.specs.declared.statement.CreateText.{CreateText}
 use Rattle.mt_values.specs.declared.statement.InsertText.{InsertText}
+use Rattle.mt_values.specs.declared.statement.OptimizeText.{OptimizeText}
 use Rattle.mt_values.specs.declared.statement.SelectText.{SelectText}
 use Rattle.mt_model.specs.History.{History, schema_of, creates, column_types}
-use Rattle.mt_model.specs.Outside.{Outside, HasRisen, ReadOrStageFailed, TurnFailed}
+use Rattle.mt_model.specs.Outside.{LevelFailed, Outside, HasRisen, ReadOrStageFailed, TurnFailed}
 use Rattle.mt_model.specs.Causes.{MeetsCause}
-use Rattle.mt_model.specs.Commands.{commands_for, commands_of, commands_of_rows, create_commands, no_commands}
+use Rattle.mt_model.specs.Commands.{commands_for, commands_of, commands_of_rows, create_commands, no_commands, none_on}
 use Rattle.mt_model.specs.Numbers.{last_number}
 use Rattle.mt_model.specs.Refusals.{accepted_by, code, code_of, is_damage, is_refusal, refusal_line, refusal_of_cause, refusal_of_row, refusal_of_data}
-use Rattle.mt_model.specs.Session.{TurnRefuses, TakesCommands, Takes}
+use Rattle.mt_model.specs.Session.{MergeFailed, TurnRefuses, TakesCommands, Takes}
 use Rattle.mt_model.proofs.Commands.{commands_kept, insert_or_first, refuses_more}
 use Rattle.mt_model.proofs.Histories.{take_later}
 use Rattle.mt_model.proofs.Places.{stops_places}
@@ -195,6 +196,10 @@ asking_tells : (r : Result Query Refusal) → Scripted r → Scripted (no_comman
 asking_tells (Err why) t = t
 asking_tells (Ok query) t = tt
 
+none_tells : (table : List ℕ) (o : Option Schema) → Scripted (none_on table o)
+none_tells table None = (inl (omega arith), refl)
+none_tells table (Some schema) = tt
+
 commands_tell : (h : History) (st : Statement) → Scripted (commands_of h st)
 commands_tell h (statement.Create c) = by (schema_of_text c) (text_tells c)
   where
@@ -212,6 +217,7 @@ commands_tell h (statement.Insert i) = by (schema_of i.table h)
     by (Some schema) = of_rows schema (rows_for i (Some schema)) (rows_tell i (Some schema))
 commands_tell h (statement.Select t) = asking_tells (query_of_select t h) (select_tells t (schema_of t.table h))
 commands_tell h (statement.Explain t) = asking_tells (query_of_select t h) (select_tells t (schema_of t.table h))
+commands_tell h (statement.Optimize o) = none_tells o.table (schema_of o.table h)
 
 -- a statement that gives no commands, or a SELECT or an EXPLAIN that asks nothing of its table, is refused for what it says
 pub commands_are_cause : (h : History) (st : Statement) (why : Refusal) → commands_of h st ≡ Err why → OfText why
@@ -255,6 +261,15 @@ by_turn : (n : Outside) (accepted : ℕ) (reply : List ℕ) → TurnFailed n acc
 by_turn n accepted reply (inl failed) = by_outside n (refusal.Unsettled accepted) reply failed.0 (omega arith) failed.1
 by_turn n accepted reply (inr (now, low, rose, is)) = by_outside n (refusal.Stopped n.opened now accepted) reply is (omega arith) (omega arith)
 
+-- a part of the greatest level is of the store
+by_level : (n : Outside) (reply : List ℕ) → LevelFailed n reply → Blames n reply
+by_level n reply failed = by_script n (refusal.Past bound.Levels) reply failed.0 (inl (omega arith))
+
+by_merge : (n : Outside) (o : OptimizeText) (reply : List ℕ) → MergeFailed n o reply → Blames n reply
+by_merge n o reply (inl failed) = by_stage n reply failed
+by_merge n o reply (inr (inl (whole, failed))) = by_level n reply failed
+by_merge n o reply (inr (inr failed)) = by_turn n 0 reply failed
+
 commands_blame : (n : Outside) (h : History) (s : ℕ) (st : Statement) (from to : ℕ) (reply : List ℕ) → TakesCommands n h s st from to reply → Blames n reply
 commands_blame n h s st from to reply (inl (is, a)) = by_none n reply _ is refl
 commands_blame n h s st from to reply (inr (inl (why, is, r))) = by_script n why reply r.line (commands_are_cause (take to h) st why is).0
@@ -270,6 +285,9 @@ takes_blames n h s (Ok (statement.Select t)) from to reply (inr (inl (why, is, r
 takes_blames n h s (Ok (statement.Select t)) from to reply (inr (inr (query, is, a, failed))) = by_stage n reply failed
 takes_blames n h s (Ok (statement.Explain t)) from to reply (inl (r, a)) = by_none n reply _ r.reply_is refl
 takes_blames n h s (Ok (statement.Explain t)) from to reply (inr (why, is, r)) = by_script n why reply r.line (select_is_cause (take to h) t why is).0
+takes_blames n h s (Ok (statement.Optimize o)) from to reply (inl (is, a, inl ok)) = by_none n reply _ ok refl
+takes_blames n h s (Ok (statement.Optimize o)) from to reply (inl (is, a, inr failed)) = by_merge n o reply failed
+takes_blames n h s (Ok (statement.Optimize o)) from to reply (inr (why, is, r)) = by_script n why reply r.line (commands_are_cause (take to h) (statement.Optimize o) why is).0
 takes_blames n h s (Err why) from to reply r = by_script n (refusal_of_cause why) reply r.line (cause_tells why).0
 
 -- a count that stands where it stood at opening, below its type's end, has not risen
@@ -358,12 +376,21 @@ commands_refused n h s st from to reply (inr (inr (inr (done, next, rest, stops,
     inr (done, next, rest, why, gives_later h st stops.seen to (done ++ next ∷ rest) later stops.gives, refuses_more (take to h) done next why which turn)
 commands_refused n h s st from to reply (inr (inr (inr (done, next, rest, stops, inr (allows, failed))))) refuses = absurd (not_by_turn n (length done) reply failed refuses)
 
-pub refused_by_cause : (n : Outside) (h : History) (s : ℕ) (st : Result Statement Cause) (from to : ℕ) (reply : List ℕ) → Takes n h s st from to reply → is_refusal reply ≡ true → MeetsCause (take to h) st
-refused_by_cause n h s (Ok (statement.Create c)) from to reply t refuses = commands_refused n h s (statement.Create c) from to reply t refuses
-refused_by_cause n h s (Ok (statement.Insert i)) from to reply t refuses = commands_refused n h s (statement.Insert i) from to reply t refuses
+-- a merge that failed is refused for no fault where a part has the greatest level
+merge_refused : (n : Outside) (o : OptimizeText) (reply : List ℕ) → MergeFailed n o reply → is_refusal reply ≡ true → LevelFailed n reply
+merge_refused n o reply (inl failed) refuses = absurd (not_by_outside refusal.Failed reply failed.0 (omega arith) (omega arith) refuses)
+merge_refused n o reply (inr (inl (whole, failed))) refuses = failed
+merge_refused n o reply (inr (inr failed)) refuses = absurd (not_by_turn n 0 reply failed refuses)
+
+pub refused_by_cause : (n : Outside) (h : History) (s : ℕ) (st : Result Statement Cause) (from to : ℕ) (reply : List ℕ) → Takes n h s st from to reply → is_refusal reply ≡ true → MeetsCause (take to h) st ⊎ LevelFailed n reply
+refused_by_cause n h s (Ok (statement.Create c)) from to reply t refuses = inl (commands_refused n h s (statement.Create c) from to reply t refuses)
+refused_by_cause n h s (Ok (statement.Insert i)) from to reply t refuses = inl (commands_refused n h s (statement.Insert i) from to reply t refuses)
 refused_by_cause n h s (Ok (statement.Select t)) from to reply (inl (r, a)) refuses = absurd (not_by_none reply _ r.reply_is refl refuses)
-refused_by_cause n h s (Ok (statement.Select t)) from to reply (inr (inl (why, is, r))) refuses = inl (why, ap no_commands is)
+refused_by_cause n h s (Ok (statement.Select t)) from to reply (inr (inl (why, is, r))) refuses = inl (inl (why, ap no_commands is))
 refused_by_cause n h s (Ok (statement.Select t)) from to reply (inr (inr (query, is, a, failed))) refuses = absurd (not_by_outside refusal.Failed reply failed.0 (omega arith) (omega arith) refuses)
 refused_by_cause n h s (Ok (statement.Explain t)) from to reply (inl (r, a)) refuses = absurd (not_by_none reply _ r.reply_is refl refuses)
-refused_by_cause n h s (Ok (statement.Explain t)) from to reply (inr (why, is, r)) refuses = inl (why, ap no_commands is)
-refused_by_cause n h s (Err why) from to reply r refuses = tt
+refused_by_cause n h s (Ok (statement.Explain t)) from to reply (inr (why, is, r)) refuses = inl (inl (why, ap no_commands is))
+refused_by_cause n h s (Ok (statement.Optimize o)) from to reply (inl (is, a, inl ok)) refuses = absurd (not_by_none reply _ ok refl refuses)
+refused_by_cause n h s (Ok (statement.Optimize o)) from to reply (inl (is, a, inr failed)) refuses = inr (merge_refused n o reply failed refuses)
+refused_by_cause n h s (Ok (statement.Optimize o)) from to reply (inr (why, is, r)) refuses = inl (inl (why, is))
+refused_by_cause n h s (Err why) from to reply r refuses = inl tt

@@ -15,7 +15,7 @@ use Rattle.mt_values.specs.declared.statement.Statement.TheVariants as statement
 use Rattle.mt_values.specs.Tables.{MayHavePartition, partition_of, same_partition}
 use Rattle.mt_values.specs.Values.{Row}
 use Rattle.mt_values.proofs.RowPartitions.{row_has_partition, values_fit}
-use Rattle.mt_model.specs.Commands.{commands_for, commands_of, commands_of_rows, create_commands, insert_command, no_commands, partitions_of, rows_in, other_partitions}
+use Rattle.mt_model.specs.Commands.{commands_for, commands_of, commands_of_rows, create_commands, insert_command, no_commands, none_on, partitions_of, rows_in, other_partitions}
 use Rattle.mt_model.specs.declared.refusal.Bound.TheVariants as bound
 use Rattle.mt_model.specs.declared.refusal.Refusal.{Refusal}
 use Rattle.mt_model.specs.declared.refusal.Refusal.TheVariants as refusal
@@ -88,6 +88,10 @@ few_asked : (r : Result Query Refusal) → Few (no_commands r)
 few_asked (Err why) = tt
 few_asked (Ok query) = omega arith
 
+few_none : (table : List ℕ) (o : Option Schema) → Few (none_on table o)
+few_none table None = tt
+few_none table (Some schema) = omega arith
+
 none_before : (done rest : List Command) (next : Command) → length (done ++ next ∷ rest) ≤ 1 → done ≡ []
 none_before [] rest next few = refl
 none_before (c ∷ []) rest next few = absurd (omega arith)
@@ -115,6 +119,11 @@ commands_kept h more (statement.Insert i) cs is = by (schema_of i.table h) refl 
     by (Some schema) there is = ap (commands_for i) (schema_kept i.table h more schema there) ∙ is
 commands_kept h more (statement.Select t) cs is = asking_kept h more t cs is
 commands_kept h more (statement.Explain t) cs is = asking_kept h more t cs is
+commands_kept h more (statement.Optimize t) cs is = by (schema_of t.table h) refl is
+  where
+    by : (o : Option Schema) → schema_of t.table h ≡ o → none_on t.table o ≡ Ok cs → none_on t.table (schema_of t.table (h ++ more)) ≡ Ok cs
+    by None there is = cc
+    by (Some schema) there is = ap (none_on t.table) (schema_kept t.table h more schema there) ∙ is
 
 -- ---- a statement's commands are INSERTs, or one CREATE
 
@@ -151,6 +160,8 @@ insert_or_first h (statement.Select t) done rest next is =
     inr (first_of_few (commands_of h (statement.Select t)) done rest next (few_asked (query_of_select t h)) is)
 insert_or_first h (statement.Explain t) done rest next is =
     inr (first_of_few (commands_of h (statement.Explain t)) done rest next (few_asked (query_of_select t h)) is)
+insert_or_first h (statement.Optimize o) done rest next is =
+    inr (first_of_few (commands_of h (statement.Optimize o)) done rest next (few_none o.table (schema_of o.table h)) is)
 
 -- ---- turns
 

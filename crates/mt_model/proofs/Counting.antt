@@ -6,14 +6,16 @@ use Rattle.std.proofs.lemmas.List.{drop-drop}
 use Rattle.mt_values.specs.declared.command.Command.{Command}
 use Rattle.mt_values.specs.declared.command.Entry.{Entry}
 use Rattle.mt_values.specs.declared.statement.Cause.{Cause}
+use Rattle.mt_values.specs.declared.statement.OptimizeText.{OptimizeText}
 use Rattle.mt_values.specs.declared.statement.Statement.{Statement}
 use Rattle.mt_values.specs.declared.statement.Statement.TheVariants as statement
+use Rattle.mt_model.specs.declared.refusal.Bound.TheVariants as bound
 use Rattle.mt_model.specs.declared.refusal.Refusal.{Refusal}
 use Rattle.mt_model.specs.declared.refusal.Refusal.TheVariants as refusal
 use Rattle.mt_model.specs.History.{History, own}
 use Rattle.mt_model.specs.Outside.{Outside, TurnFailed}
 use Rattle.mt_model.specs.Refusals.{accepted_by, code_of, refusal_line, refusal_of_cause}
-use Rattle.mt_model.specs.Session.{Accepts, Adds, AddsNothing, AddsOnly, StopsAfter, TakesCommands, Takes}
+use Rattle.mt_model.specs.Session.{Accepts, Adds, AddsNothing, AddsOnly, MergeFailed, StopsAfter, TakesCommands, Takes}
 use Rattle.mt_model.proofs.Causes.{cause_tells, select_is_cause, commands_are_cause}
 use Rattle.mt_model.proofs.Commands.{insert_or_first, turn_counts}
 use Rattle.mt_model.proofs.Growing.{stays}
@@ -95,6 +97,11 @@ turn_failed : (n : Outside) (h : History) (s : ℕ) (done : List Command) (from 
 turn_failed n h s done from to reply a (inl failed) = (refusal.Unsettled (length done), done, failed.0, refl, a)
 turn_failed n h s done from to reply a (inr (now, low, rose, is)) = (refusal.Stopped n.opened now (length done), done, is, refl, a)
 
+merge_counted : (n : Outside) (h : History) (s : ℕ) (o : OptimizeText) (from to : ℕ) (reply : List ℕ) → AddsNothing h s from to → MergeFailed n o reply → Counted h s from to reply
+merge_counted n h s o from to reply a (inl failed) = (refusal.Failed, [], failed.0, refl, adds_none h s from to a)
+merge_counted n h s o from to reply a (inr (inl (whole, failed))) = (refusal.Past bound.Levels, [], failed.0, refl, adds_none h s from to a)
+merge_counted n h s o from to reply a (inr (inr failed)) = turn_failed n h s [] from to reply (adds_none h s from to a) failed
+
 commands_counted : (n : Outside) (h : History) (s : ℕ) (st : Statement) (from to : ℕ) (reply : List ℕ) → TakesCommands n h s st from to reply → 0 < code_of reply → Counted h s from to reply
 commands_counted n h s st from to reply (inl (is, a)) some = absurd (no_number reply _ is refl some)
 commands_counted n h s st from to reply (inr (inl (why, is, r))) some =
@@ -116,4 +123,8 @@ refused_counts n h s (Ok (statement.Select t)) from to reply (inr (inr (query, i
 refused_counts n h s (Ok (statement.Explain t)) from to reply (inl (r, a)) some = absurd (no_number reply _ r.reply_is refl some)
 refused_counts n h s (Ok (statement.Explain t)) from to reply (inr (why, is, r)) some =
     (why, [], r.line, sym (select_is_cause (take to h) t why is).1, adds_none h s from to r.nothing)
+refused_counts n h s (Ok (statement.Optimize o)) from to reply (inl (is, a, inl ok)) some = absurd (no_number reply _ ok refl some)
+refused_counts n h s (Ok (statement.Optimize o)) from to reply (inl (is, a, inr failed)) some = merge_counted n h s o from to reply a failed
+refused_counts n h s (Ok (statement.Optimize o)) from to reply (inr (why, is, r)) some =
+    (why, [], r.line, sym (commands_are_cause (take to h) (statement.Optimize o) why is).1, adds_none h s from to r.nothing)
 refused_counts n h s (Err why) from to reply r some = (refusal_of_cause why, [], r.line, sym (cause_tells why).1, adds_none h s from to r.nothing)

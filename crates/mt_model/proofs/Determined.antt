@@ -15,13 +15,14 @@ use Rattle.mt_values.specs.Printing.{line}
 use Rattle.mt_values.specs.Tests.{eval}
 use Rattle.mt_values.proofs.Orders.{value_total, value_exact}
 use Rattle.mt_model.specs.History.{History}
-use Rattle.mt_model.specs.Live.{live}
+use Rattle.mt_model.specs.Live.{live, sorted}
 use Rattle.mt_model.specs.Partial.{Partly}
 use Rattle.mt_model.specs.Answer.{Answer, Prints}
 use Rattle.mt_model.proofs.Commands.{same_itself}
+use Rattle.mt_model.proofs.Merged.{partly_alike, partly_plain}
 use Rattle.mt_model.specs.declared.query.Query.{Query}
 use Rattle.mt_model.proofs.SameKeys.{permutes, exact_alike, exact_sorted, filter_after, filters_swap}
-use Rattle.mt_model.proofs.Sorting.{equal_is}
+use Rattle.mt_model.proofs.Sorting.{equal_is, sorted_keeps_where}
 
 pub key_total : (places : List ℕ) → IsTotalOrder (key_cmp places)
 key_total places = on_total (key_of places) (lists_total value_total)
@@ -50,8 +51,13 @@ partly_permutes schema rows x plain partly = permutes row_cmp row_total rows x e
         let own : Row → Bool = λ r. same_partition (partition_of schema r) (partition_of schema a) && is_eq (sorting_cmp schema a r) in
         let found : List Row → List Row = filter (λ r. is_eq (row_cmp a r)) in
         filter_after (λ r. is_eq (row_cmp a r)) own (alike_in schema a) rows
-        ∙ (ap found (sym (partly (partition_of schema a) a))
+        ∙ (ap found (sym (partly_plain schema rows x plain partly (partition_of schema a) a))
         ∙ sym (filter_after (λ r. is_eq (row_cmp a r)) own (alike_in schema a) x))
+
+-- rows in the table's order are what merges may have left of them
+pub partly_sorted : (schema : Schema) (rows : List Row) → Partly schema rows (sorted (sorting_cmp schema) rows)
+partly_sorted schema rows =
+    partly_alike schema rows (sorted (sorting_cmp schema) rows) (λ partition row. sorted_keeps_where (sorting_cmp schema) (sorting_total schema) (λ r. same_partition (partition_of schema r) partition) row rows)
 
 -- what passes a test does not depend on the order of the rows
 pub filter_moved : (p : Row → Bool) (rows other : List Row) → IsPermutation rows other → IsPermutation (filter p rows) (filter p other)

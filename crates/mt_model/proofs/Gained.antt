@@ -31,6 +31,8 @@ takes_give n h s (Ok (statement.Select t)) from to reply (inr (inl (why, is, r))
 takes_give n h s (Ok (statement.Select t)) from to reply (inr (inr (columns, is, a, failed))) = inl a
 takes_give n h s (Ok (statement.Explain t)) from to reply (inl (is, a)) = inl a
 takes_give n h s (Ok (statement.Explain t)) from to reply (inr (why, is, r)) = inl r.nothing
+takes_give n h s (Ok (statement.Optimize o)) from to reply (inl (is, a, r)) = inl a
+takes_give n h s (Ok (statement.Optimize o)) from to reply (inr (why, is, r)) = inl r.nothing
 takes_give n h s (Err why) from to reply r = r.nothing
 
 pub replies_give : (n : Outside) (h : History) (s : ℕ) (ss : List (Result Statement Cause)) (from to : ℕ) (replies : List (List ℕ)) → SessionReplies n h s ss from to replies → SessionGives h s ss from to

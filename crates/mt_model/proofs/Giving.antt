@@ -6,6 +6,7 @@ use Rattle.mt_values.specs.declared.statement.EngineText.{EngineText}
 use Rattle.mt_values.specs.declared.statement.EngineText.TheVariants as engine_text
 use Rattle.mt_values.specs.declared.statement.KindText.TheVariants as kind_text
 use Rattle.mt_values.specs.declared.statement.InsertText.{InsertText}
+use Rattle.mt_values.specs.declared.statement.OptimizeText.{OptimizeText}
 use Rattle.mt_values.specs.declared.statement.SelectText.{SelectText}
 use Rattle.mt_values.specs.declared.statement.Selected.TheVariants as selected
 use Rattle.mt_values.specs.declared.statement.Slip.{Slip}
@@ -255,6 +256,25 @@ module _ (T : Token → Type 0) (Good : Statement → Type 0) where
   explain_gives : ((s : SelectText) → Good (statement.Explain s)) → GivesAll grammar.explain
   explain_gives good = expect_gives (grammar.keyword (codes "EXPLAIN")) _ (λ _. select_passes _ (λ asked. ends_gives (statement.Explain asked) (good asked)))
 
-  -- an EXPLAIN, or a SELECT
-  pub asking_gives : ((s : SelectText) → Good (statement.Select s)) → ((s : SelectText) → Good (statement.Explain s)) → GivesAll (choose (grammar.is_word (is_keyword (codes "EXPLAIN"))) grammar.explain grammar.select)
-  asking_gives select explain = choose_gives (grammar.is_word (is_keyword (codes "EXPLAIN"))) grammar.explain grammar.select (explain_gives explain) (select_gives select)
+  -- ---- OPTIMIZE
+
+  partition_passes : Passes grammar.partition_id
+  partition_passes next each =
+      choose_gives (grammar.is_word (is_keyword (codes "PARTITION"))) _ _
+      (expect_gives (grammar.keyword (codes "PARTITION")) _ (λ _. expect_gives (grammar.keyword (codes "ID")) _ (λ _. expect_gives grammar.string _ (λ id. each (Some id)))))
+      (each None)
+
+  final_passes : Passes grammar.final
+  final_passes next each = choose_gives (grammar.is_word (is_keyword (codes "FINAL"))) _ _ (expect_gives (grammar.keyword (codes "FINAL")) _ (λ _. each true)) (each false)
+
+  optimize_gives : ((o : OptimizeText) → Good (statement.Optimize o)) → GivesAll grammar.optimize
+  optimize_gives good =
+      expect_gives (grammar.keyword (codes "OPTIMIZE")) _ (λ _. expect_gives (grammar.keyword (codes "TABLE")) _ (λ _. expect_gives grammar.name _ (λ table.
+      partition_passes _ (λ id. final_passes _ (λ whole. ends_gives (statement.Optimize (record { table = table; partition = id; whole = whole })) (good _))))))
+
+  -- an EXPLAIN, an OPTIMIZE or a SELECT
+  pub others_give : ((s : SelectText) → Good (statement.Explain s)) → ((o : OptimizeText) → Good (statement.Optimize o)) → ((s : SelectText) → Good (statement.Select s))
+      → GivesAll (choose (grammar.is_word (is_keyword (codes "EXPLAIN"))) grammar.explain (choose (grammar.is_word (is_keyword (codes "OPTIMIZE"))) grammar.optimize grammar.select))
+  others_give explain optimize select =
+      choose_gives (grammar.is_word (is_keyword (codes "EXPLAIN"))) grammar.explain _ (explain_gives explain)
+      (choose_gives (grammar.is_word (is_keyword (codes "OPTIMIZE"))) grammar.optimize grammar.select (optimize_gives optimize) (select_gives select))

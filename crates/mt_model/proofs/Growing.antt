@@ -6,6 +6,7 @@ use Rattle.mt_values.specs.declared.command.Command.{Command}
 use Rattle.mt_values.specs.declared.statement.Cause.{Cause}
 use Rattle.mt_values.specs.declared.statement.Statement.{Statement}
 use Rattle.mt_values.specs.declared.statement.Statement.TheVariants as statement
+use Rattle.mt_values.specs.declared.statement.OptimizeText.{OptimizeText}
 use Rattle.mt_values.specs.declared.statement.SelectText.{SelectText}
 use Rattle.mt_model.specs.Commands.{commands_of}
 use Rattle.mt_model.specs.History.{History, own, schema_of}
@@ -14,7 +15,7 @@ use Rattle.mt_model.specs.Outside.{Outside}
 use Rattle.mt_model.specs.Queries.{query_of_select}
 use Rattle.mt_model.specs.Answer.{Answer}
 use Rattle.mt_model.specs.Explain.{Explains}
-use Rattle.mt_model.specs.Session.{AddsNothing, Adds, TurnAllows, Accepts, AcceptsAll, StopsAfter, Selects, RefusedAs, RefusedInTurn, CommandRefused, SelectRefused, ExplainRefused, TakesCommands, Takes, SessionRun}
+use Rattle.mt_model.specs.Session.{AddsNothing, Adds, TurnAllows, Accepts, AcceptsAll, StopsAfter, Selects, RefusedAs, RefusedInTurn, CommandRefused, SelectRefused, ExplainRefused, TakesCommands, TakesOptimize, Takes, SessionRun}
 
 -- what stands below a place stays there
 same_part : (h more : History) (from to : ℕ) → from ≤ to → to ≤ length h → take (to - from) (drop from (h ++ more)) ≡ take (to - from) (drop from h)
@@ -114,6 +115,11 @@ commands_more : (n : Outside) (h more : History) (s : ℕ) (st : Statement) (fro
 commands_more n h more s st from to reply (inl (is, a)) = inl (is, all_more h more s st from to a)
 commands_more n h more s st from to reply (inr r) = inr (command_refused_more n h more s st from to reply r)
 
+optimize_more : (n : Outside) (h more : History) (s : ℕ) (o : OptimizeText) (from to : ℕ) (reply : List ℕ) → TakesOptimize n h s o from to reply → TakesOptimize n (h ++ more) s o from to reply
+optimize_more n h more s o from to reply (inl (is, a, r)) = inl (gives_more h more (statement.Optimize o) to (Ok []) a.there is, nothing_more h more s from to a, r)
+optimize_more n h more s o from to reply (inr (why, is, r)) =
+    inr (why, gives_more h more (statement.Optimize o) to (Err why) r.nothing.there is, refused_more h more s from to why reply r)
+
 pub takes_more : (n : Outside) (h more : History) (s : ℕ) (st : Result Statement Cause) (from to : ℕ) (reply : List ℕ) → Takes n h s st from to reply → Takes n (h ++ more) s st from to reply
 takes_more n h more s (Ok (statement.Create c)) from to reply t = commands_more n h more s (statement.Create c) from to reply t
 takes_more n h more s (Ok (statement.Insert i)) from to reply t = commands_more n h more s (statement.Insert i) from to reply t
@@ -122,6 +128,7 @@ takes_more n h more s (Ok (statement.Select t)) from to reply (inr r) = inr (sel
 takes_more n h more s (Ok (statement.Explain t)) from to reply (inl (is, a)) =
     inl (subst (λ (x : History). Explains x t to reply) (same_front h more to a.there) is, nothing_more h more s from to a)
 takes_more n h more s (Ok (statement.Explain t)) from to reply (inr r) = inr (explain_refused_more h more s t from to reply r)
+takes_more n h more s (Ok (statement.Optimize o)) from to reply t = optimize_more n h more s o from to reply t
 takes_more n h more s (Err why) from to reply r = refused_more h more s from to _ reply r
 
 -- a run stays one as the history grows

@@ -22,7 +22,7 @@ use Rattle.mt_model.proofs.Again.{BeginsText, behind_begins, next_alone}
 use Rattle.mt_model.proofs.Unended.{IsOpen, open_no_ends}
 use Rattle.mt_model.proofs.Words.{IsWordToken, tokens_words, name_says}
 use Rattle.mt_model.proofs.ClauseKeys.{clauses_give}
-use Rattle.mt_model.proofs.Giving.{Gives, GivesAll, expect_says, expect_gives, choose_gives, ends_says, list_gives, element_passes, engine_gives, insert_gives, asking_gives}
+use Rattle.mt_model.proofs.Giving.{Gives, GivesAll, expect_says, expect_gives, choose_gives, ends_says, list_gives, element_passes, engine_gives, insert_gives, others_give}
 
 -- ---- what a CREATE says
 
@@ -43,6 +43,7 @@ IsStatementOf text terminated (statement.Create c) = IsCreateOf text terminated 
 IsStatementOf text terminated (statement.Insert i) = Unit {0}
 IsStatementOf text terminated (statement.Select s) = Unit {0}
 IsStatementOf text terminated (statement.Explain s) = Unit {0}
+IsStatementOf text terminated (statement.Optimize o) = Unit {0}
 
 tokens_are : (text : List ℕ) (terminated : Bool) → (terminated ≡ false → IsOpen Outside text) → All (λ p. IsTokenOf terminated p.token) (grammar.tokens_and_end text terminated)
 tokens_are text true whole = λ k d lt. record { word = tokens_words text true k d lt; inner = λ e. cc }
@@ -68,9 +69,9 @@ ok_weaker : {X : Type 0} (P Q : X → Type 0) (r : Result X Slip) → ((x : X) �
 ok_weaker P Q (Ok x) weaker h = weaker x h
 ok_weaker P Q (Err s) weaker h = tt
 
--- an EXPLAIN, or a SELECT
-abbrev asking : Reader Statement
-asking = choose (grammar.is_word (is_keyword (codes "EXPLAIN"))) grammar.explain grammar.select
+-- an EXPLAIN, an OPTIMIZE or a SELECT
+abbrev others : Reader Statement
+others = choose (grammar.is_word (is_keyword (codes "EXPLAIN"))) grammar.explain (choose (grammar.is_word (is_keyword (codes "OPTIMIZE"))) grammar.optimize grammar.select)
 
 module _ (text : List ℕ) (terminated : Bool) where
   abbrev Known : Token → Type 0
@@ -90,7 +91,7 @@ module _ (text : List ℕ) (terminated : Bool) where
   reader_gives : (lines : List ℕ) (ended : Bool) → GivesAll Known Read (grammar.statement_reader text lines ended)
   reader_gives lines ended =
       choose_gives Known Read (grammar.is_word (is_keyword (codes "CREATE"))) (grammar.create text) _ create_gives
-      (choose_gives Known Read (grammar.is_word (is_keyword (codes "INSERT"))) (grammar.insert lines ended) asking (insert_gives Known Read lines ended (λ _. tt)) (asking_gives Known Read (λ _. tt) (λ _. tt)))
+      (choose_gives Known Read (grammar.is_word (is_keyword (codes "INSERT"))) (grammar.insert lines ended) others (insert_gives Known Read lines ended (λ _. tt)) (others_give Known Read (λ _. tt) (λ _. tt) (λ _. tt)))
 
 -- ---- a CREATE does not depend on data
 
@@ -99,6 +100,7 @@ IsNoCreate (statement.Create c) = ⊥
 IsNoCreate (statement.Insert i) = Unit {0}
 IsNoCreate (statement.Select s) = Unit {0}
 IsNoCreate (statement.Explain s) = Unit {0}
+IsNoCreate (statement.Optimize o) = Unit {0}
 
 -- where one gives a CREATE, the other gives the same
 abbrev SameCreate : Reading Statement → Reading Statement → Type 0
@@ -106,6 +108,7 @@ SameCreate (Ok (statement.Create c)) r = r ≡ Ok (statement.Create c)
 SameCreate (Ok (statement.Insert i)) r = Unit {0}
 SameCreate (Ok (statement.Select s)) r = Unit {0}
 SameCreate (Ok (statement.Explain s)) r = Unit {0}
+SameCreate (Ok (statement.Optimize o)) r = Unit {0}
 SameCreate (Err fault) r = Unit {0}
 
 same_as_itself : (r : Reading Statement) → SameCreate r r
@@ -113,6 +116,7 @@ same_as_itself (Ok (statement.Create c)) = refl
 same_as_itself (Ok (statement.Insert i)) = tt
 same_as_itself (Ok (statement.Select s)) = tt
 same_as_itself (Ok (statement.Explain s)) = tt
+same_as_itself (Ok (statement.Optimize o)) = tt
 same_as_itself (Err fault) = tt
 
 abbrev AnyToken : Token → Type 0
@@ -123,6 +127,7 @@ same_as_none (Ok (statement.Create c)) q h = absurd h
 same_as_none (Ok (statement.Insert i)) q h = tt
 same_as_none (Ok (statement.Select s)) q h = tt
 same_as_none (Ok (statement.Explain s)) q h = tt
+same_as_none (Ok (statement.Optimize o)) q h = tt
 same_as_none (Err fault) q h = tt
 
 either_same : (b : Bool) (this other another : Reader Statement) (ts : List Placed) → GivesAll AnyToken IsNoCreate other → SameCreate (either b this other ts) (either b this another ts)
@@ -135,8 +140,8 @@ choose_same test this other another (p ∷ ps) h = either_same (test p.token) th
 
 reader_same : (text lines : List ℕ) (ended : Bool) (ts : List Placed) → SameCreate (grammar.statement_reader text lines ended ts) (grammar.statement_reader text [] false ts)
 reader_same text lines ended ts =
-    choose_same (grammar.is_word (is_keyword (codes "CREATE"))) (grammar.create text) _ (choose (grammar.is_word (is_keyword (codes "INSERT"))) (grammar.insert [] false) asking) ts
-    (choose_gives AnyToken IsNoCreate (grammar.is_word (is_keyword (codes "INSERT"))) (grammar.insert lines ended) asking (insert_gives AnyToken IsNoCreate lines ended (λ _. tt)) (asking_gives AnyToken IsNoCreate (λ _. tt) (λ _. tt)))
+    choose_same (grammar.is_word (is_keyword (codes "CREATE"))) (grammar.create text) _ (choose (grammar.is_word (is_keyword (codes "INSERT"))) (grammar.insert [] false) others) ts
+    (choose_gives AnyToken IsNoCreate (grammar.is_word (is_keyword (codes "INSERT"))) (grammar.insert lines ended) others (insert_gives AnyToken IsNoCreate lines ended (λ _. tt)) (others_give AnyToken IsNoCreate (λ _. tt) (λ _. tt) (λ _. tt)))
 
 -- ---- statements of texts
 
@@ -150,6 +155,7 @@ IsAlone text (Ok (statement.Create c)) = IsCreateAlone text c
 IsAlone text (Ok (statement.Insert i)) = Unit {0}
 IsAlone text (Ok (statement.Select s)) = Unit {0}
 IsAlone text (Ok (statement.Explain s)) = Unit {0}
+IsAlone text (Ok (statement.Optimize o)) = Unit {0}
 IsAlone text (Err why) = Unit {0}
 
 alone_if : (text : List ℕ) (b : Bool) (r q : Result Statement Cause) → IsAlone text r → IsAlone text q → IsAlone text (cond b r q)
@@ -165,6 +171,7 @@ read_alone text (Ok (statement.Create c)) q is h same = by (nat_lt grammar.state
 read_alone text (Ok (statement.Insert i)) q is h same = alone_if text (nat_lt grammar.statement_limit (length text)) (Err cause.LongStatement) (Ok (statement.Insert i)) tt tt
 read_alone text (Ok (statement.Select s)) q is h same = alone_if text (nat_lt grammar.statement_limit (length text)) (Err cause.LongStatement) (Ok (statement.Select s)) tt tt
 read_alone text (Ok (statement.Explain s)) q is h same = alone_if text (nat_lt grammar.statement_limit (length text)) (Err cause.LongStatement) (Ok (statement.Explain s)) tt tt
+read_alone text (Ok (statement.Optimize o)) q is h same = alone_if text (nat_lt grammar.statement_limit (length text)) (Err cause.LongStatement) (Ok (statement.Optimize o)) tt tt
 read_alone text (Err fault) q is h same = tt
 
 statement_alone : (text lines : List ℕ) (ended : Bool) → IsAlone text (grammar.statement_of text true lines ended)
@@ -198,6 +205,7 @@ alone_written text (Ok (statement.Create c)) h next = record {
 alone_written text (Ok (statement.Insert i)) h next = tt
 alone_written text (Ok (statement.Select s)) h next = tt
 alone_written text (Ok (statement.Explain s)) h next = tt
+alone_written text (Ok (statement.Optimize o)) h next = tt
 alone_written text (Err why) h next = tt
 
 written_if : (b : Bool) (r q : Result Statement Cause) → IsWritten r → IsWritten q → IsWritten (cond b r q)
@@ -212,6 +220,7 @@ read_cut text (Ok (statement.Create c)) h = absurd (clash h.ended)
 read_cut text (Ok (statement.Insert i)) h = written_if (nat_lt grammar.statement_limit (length text)) (Err cause.LongStatement) (Ok (statement.Insert i)) tt tt
 read_cut text (Ok (statement.Select s)) h = written_if (nat_lt grammar.statement_limit (length text)) (Err cause.LongStatement) (Ok (statement.Select s)) tt tt
 read_cut text (Ok (statement.Explain s)) h = written_if (nat_lt grammar.statement_limit (length text)) (Err cause.LongStatement) (Ok (statement.Explain s)) tt tt
+read_cut text (Ok (statement.Optimize o)) h = written_if (nat_lt grammar.statement_limit (length text)) (Err cause.LongStatement) (Ok (statement.Optimize o)) tt tt
 read_cut text (Err fault) h = tt
 
 -- a text that no semicolon ends is no CREATE

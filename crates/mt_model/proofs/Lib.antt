@@ -13,6 +13,7 @@ pub mod Growing
 pub mod Histories
 pub mod Keys
 pub mod Lists
+pub mod Merged
 pub mod Naming
 pub mod OneWay
 pub mod OwnColumns

@@ -68,6 +68,8 @@ takes_places n h s (Ok (statement.Select t)) from to reply (inl (is, a)) = nothi
 takes_places n h s (Ok (statement.Select t)) from to reply (inr r) = select_places n h s t from to reply r
 takes_places n h s (Ok (statement.Explain t)) from to reply (inl (is, a)) = nothing_places h s from to a
 takes_places n h s (Ok (statement.Explain t)) from to reply (inr (why, is, r)) = nothing_places h s from to r.nothing
+takes_places n h s (Ok (statement.Optimize o)) from to reply (inl (is, a, r)) = nothing_places h s from to a
+takes_places n h s (Ok (statement.Optimize o)) from to reply (inr (why, is, r)) = nothing_places h s from to r.nothing
 takes_places n h s (Err why) from to reply r = nothing_places h s from to r.nothing
 
 pub run_places : (n : Outside) (h : History) (s : ℕ) (ss : List (Result Statement Cause)) (from to : ℕ) (out : List ℕ) → SessionRun n h s ss from to out → from ≤ length h → (from ≤ to) × (to ≤ length h)

@@ -1,17 +1,18 @@
--- A run stays one as the disk's count of faults rises.
-use Rattle.std.proofs.Common.{◌≡◌, ℕ, ◌≤◌, List, [], ◌∷◌, length, Result, Ok, Err, inl, inr, subst, arith}
+-- A run stays one as the disk's count of faults rises, and a part comes to have the greatest level.
+use Rattle.std.proofs.Common.{◌≡◌, ℕ, ◌≤◌, true, List, [], ◌∷◌, length, Result, Ok, Err, inl, inr, subst, arith}
 use Rattle.mt_values.specs.declared.statement.Cause.{Cause}
 use Rattle.mt_values.specs.declared.statement.Statement.{Statement}
 use Rattle.mt_values.specs.declared.statement.Statement.TheVariants as statement
+use Rattle.mt_values.specs.declared.statement.OptimizeText.{OptimizeText}
 use Rattle.mt_values.specs.declared.statement.SelectText.{SelectText}
 use Rattle.mt_model.specs.declared.refusal.Refusal.TheVariants as refusal
 use Rattle.mt_model.specs.History.{History}
-use Rattle.mt_model.specs.Outside.{Outside, HasRisen, ReadOrStageFailed, TurnFailed}
+use Rattle.mt_model.specs.Outside.{LevelFailed, Outside, HasRisen, ReadOrStageFailed, TurnFailed}
 use Rattle.mt_model.specs.Refusals.{refusal_line}
-use Rattle.mt_model.specs.Session.{SelectRefused, TakesCommands, Takes, SessionRun, SessionReplies}
+use Rattle.mt_model.specs.Session.{MergeFailed, SelectRefused, TakesCommands, TakesOptimize, Takes, SessionRun, SessionReplies}
 use Rattle.mt_model.specs.Script.{ScriptRun, ScriptReplies}
 
-module _ (n m : Outside) (same : n.opened ≡ m.opened) (later : n.ended ≤ m.ended) where
+module _ (n m : Outside) (same : n.opened ≡ m.opened) (later : n.ended ≤ m.ended) (more : n.full ≡ true → m.full ≡ true) where
   rose_more : (now : ℕ) → HasRisen n now → HasRisen m now
   rose_more now rose = omega arith
 
@@ -26,6 +27,14 @@ module _ (n m : Outside) (same : n.opened ≡ m.opened) (later : n.ended ≤ m.e
   turn_more accepted reply (inr (now, low, rose, is)) =
       inr (now, omega arith, rose_more now rose, subst (λ (o : ℕ). reply ≡ refusal_line (refusal.Stopped o now accepted)) same is)
 
+  level_more : (reply : List ℕ) → LevelFailed n reply → LevelFailed m reply
+  level_more reply failed = (failed.0, more failed.1)
+
+  merge_more : (o : OptimizeText) (reply : List ℕ) → MergeFailed n o reply → MergeFailed m o reply
+  merge_more o reply (inl failed) = inl (stage_more reply failed)
+  merge_more o reply (inr (inl (whole, failed))) = inr (inl (whole, level_more reply failed))
+  merge_more o reply (inr (inr failed)) = inr (inr (turn_more 0 reply failed))
+
   module _ (h : History) (s from to : ℕ) (reply : List ℕ) where
     commands_risen : (st : Statement) → TakesCommands n h s st from to reply → TakesCommands m h s st from to reply
     commands_risen st (inl taken) = inl taken
@@ -38,26 +47,32 @@ module _ (n m : Outside) (same : n.opened ≡ m.opened) (later : n.ended ≤ m.e
     select_risen t (inl r) = inl r
     select_risen t (inr (columns, is, a, failed)) = inr (columns, is, a, stage_more reply failed)
 
+    optimize_risen : (o : OptimizeText) → TakesOptimize n h s o from to reply → TakesOptimize m h s o from to reply
+    optimize_risen o (inl (is, a, inl ok)) = inl (is, a, inl ok)
+    optimize_risen o (inl (is, a, inr failed)) = inl (is, a, inr (merge_more o reply failed))
+    optimize_risen o (inr r) = inr r
+
     pub takes_risen : (st : Result Statement Cause) → Takes n h s st from to reply → Takes m h s st from to reply
     takes_risen (Ok (statement.Create c)) t = commands_risen (statement.Create c) t
     takes_risen (Ok (statement.Insert i)) t = commands_risen (statement.Insert i) t
     takes_risen (Ok (statement.Select t)) (inl taken) = inl taken
     takes_risen (Ok (statement.Select t)) (inr r) = inr (select_risen t r)
     takes_risen (Ok (statement.Explain t)) r = r
+    takes_risen (Ok (statement.Optimize o)) t = optimize_risen o t
     takes_risen (Err why) r = r
 
-pub run_risen : (n m : Outside) → n.opened ≡ m.opened → n.ended ≤ m.ended → (h : History) (s : ℕ) (ss : List (Result Statement Cause)) (from to : ℕ) (out : List ℕ) → SessionRun n h s ss from to out → SessionRun m h s ss from to out
-run_risen n m same later h s [] from to out r = r
-run_risen n m same later h s (st ∷ ss) from to out r = (r.0, r.1, r.2, takes_risen n m same later h s from r.0 r.1 st r.3, run_risen n m same later h s ss r.0 to r.2 r.4, r.5)
+pub run_risen : (n m : Outside) → n.opened ≡ m.opened → n.ended ≤ m.ended → (n.full ≡ true → m.full ≡ true) → (h : History) (s : ℕ) (ss : List (Result Statement Cause)) (from to : ℕ) (out : List ℕ) → SessionRun n h s ss from to out → SessionRun m h s ss from to out
+run_risen n m same later more h s [] from to out r = r
+run_risen n m same later more h s (st ∷ ss) from to out r = (r.0, r.1, r.2, takes_risen n m same later more h s from r.0 r.1 st r.3, run_risen n m same later more h s ss r.0 to r.2 r.4, r.5)
 
-pub replies_risen : (n m : Outside) → n.opened ≡ m.opened → n.ended ≤ m.ended → (h : History) (s : ℕ) (ss : List (Result Statement Cause)) (from to : ℕ) (replies : List (List ℕ)) → SessionReplies n h s ss from to replies → SessionReplies m h s ss from to replies
-replies_risen n m same later h s [] from to [] r = r
-replies_risen n m same later h s [] from to (x ∷ xs) r = absurd r
-replies_risen n m same later h s (st ∷ ss) from to [] r = absurd r
-replies_risen n m same later h s (st ∷ ss) from to (x ∷ xs) r = (r.0, takes_risen n m same later h s from r.0 x st r.1, replies_risen n m same later h s ss r.0 to xs r.2)
+pub replies_risen : (n m : Outside) → n.opened ≡ m.opened → n.ended ≤ m.ended → (n.full ≡ true → m.full ≡ true) → (h : History) (s : ℕ) (ss : List (Result Statement Cause)) (from to : ℕ) (replies : List (List ℕ)) → SessionReplies n h s ss from to replies → SessionReplies m h s ss from to replies
+replies_risen n m same later more h s [] from to [] r = r
+replies_risen n m same later more h s [] from to (x ∷ xs) r = absurd r
+replies_risen n m same later more h s (st ∷ ss) from to [] r = absurd r
+replies_risen n m same later more h s (st ∷ ss) from to (x ∷ xs) r = (r.0, takes_risen n m same later more h s from r.0 x st r.1, replies_risen n m same later more h s ss r.0 to xs r.2)
 
-pub script_risen : (n m : Outside) → n.opened ≡ m.opened → n.ended ≤ m.ended → (ss : List (Result Statement Cause)) (h : History) (base : ℕ) (out : List ℕ) → ScriptRun n ss h base out → ScriptRun m ss h base out
-script_risen n m same later ss h base out r = record { last = r.last; run = run_risen n m same later h 0 ss base r.last out r.run; nothing_else = r.nothing_else; sessions = r.sessions }
+pub script_risen : (n m : Outside) → n.opened ≡ m.opened → n.ended ≤ m.ended → (n.full ≡ true → m.full ≡ true) → (ss : List (Result Statement Cause)) (h : History) (base : ℕ) (out : List ℕ) → ScriptRun n ss h base out → ScriptRun m ss h base out
+script_risen n m same later more ss h base out r = record { last = r.last; run = run_risen n m same later more h 0 ss base r.last out r.run; nothing_else = r.nothing_else; sessions = r.sessions }
 
-pub script_replies_risen : (n m : Outside) → n.opened ≡ m.opened → n.ended ≤ m.ended → (ss : List (Result Statement Cause)) (h : History) (base : ℕ) (replies : List (List ℕ)) → ScriptReplies n ss h base replies → ScriptReplies m ss h base replies
-script_replies_risen n m same later ss h base replies r = record { last = r.last; run = replies_risen n m same later h 0 ss base r.last replies r.run; nothing_else = r.nothing_else; sessions = r.sessions }
+pub script_replies_risen : (n m : Outside) → n.opened ≡ m.opened → n.ended ≤ m.ended → (n.full ≡ true → m.full ≡ true) → (ss : List (Result Statement Cause)) (h : History) (base : ℕ) (replies : List (List ℕ)) → ScriptReplies n ss h base replies → ScriptReplies m ss h base replies
+script_replies_risen n m same later more ss h base replies r = record { last = r.last; run = replies_risen n m same later more h 0 ss base r.last replies r.run; nothing_else = r.nothing_else; sessions = r.sessions }

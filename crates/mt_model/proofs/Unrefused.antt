@@ -1,21 +1,22 @@
 -- Statements that meet no cause are not refused, where no count rose.
-use Rattle.std.proofs.Common.{◌≡◌, ℕ, ◌-◌, ◌<◌, ◌≤◌, ◌^◌, false, List, [], ◌∷◌, ◌++◌, Result, Ok, Err, length, take, refl, sym, ap, ◌∙◌, subst, append-nil, inl, inr, arith}
+use Rattle.std.proofs.Common.{◌≡◌, ℕ, ◌-◌, ◌<◌, ◌≤◌, ◌^◌, false, List, [], ◌∷◌, ◌++◌, Option, Some, None, Result, Ok, Err, length, take, refl, sym, ap, ◌∙◌, subst, append-nil, inl, inr, arith}
 use Rattle.std.specs.List.{list_any}
 use Rattle.mt_values.specs.declared.command.Command.{Command}
+use Rattle.mt_values.specs.declared.schema.Schema.{Schema}
 use Rattle.mt_values.specs.declared.statement.Cause.{Cause}
 use Rattle.mt_values.specs.declared.statement.Statement.{Statement}
 use Rattle.mt_values.specs.declared.statement.Statement.TheVariants as statement
 use Rattle.mt_model.specs.Causes.{MeetsCause, NoneMeetsCause, commands_or_none, given}
-use Rattle.mt_model.specs.Commands.{commands_of, no_commands}
+use Rattle.mt_model.specs.Commands.{commands_of, no_commands, none_on}
 use Rattle.mt_model.specs.declared.refusal.Refusal.{Refusal}
-use Rattle.mt_model.specs.History.{History, entered}
+use Rattle.mt_model.specs.History.{History, entered, schema_of}
 use Rattle.mt_model.specs.Outside.{Outside}
 use Rattle.mt_model.specs.Refusals.{code_of, is_refusal}
 use Rattle.mt_model.specs.Queries.{query_of_select}
 use Rattle.mt_model.specs.declared.query.Query.{Query}
 use Rattle.mt_model.specs.Script.{OwnEntries, ScriptReplies}
 use Rattle.mt_model.specs.Session.{Accepts, AddsNothing, SessionReplies, TurnRefuses, TakesCommands, Takes}
-use Rattle.mt_model.proofs.OneWay.{IsCalm, all_entered, never_failed, never_in_turn, stays_there}
+use Rattle.mt_model.proofs.OneWay.{IsCalm, all_entered, never_failed, never_in_turn, never_merging, stays_there}
 use Rattle.mt_model.proofs.Places.{stops_places, takes_places}
 
 -- a reply without a number refuses nothing
@@ -54,6 +55,10 @@ module _ (n : Outside) (calm : IsCalm n) (h : History) (base from to : ℕ) (own
   no_more (Ok query) = refl
   no_more (Err why) = refl
 
+  none_more : (table : List ℕ) (o : Option Schema) → commands_or_none (none_on table o) ≡ []
+  none_more table None = refl
+  none_more table (Some schema) = refl
+
   goes_on : (st : Result Statement Cause) (reply : List ℕ) → Takes n h 0 st from to reply → (MeetsCause (take from h) st → ⊥) → (take to h ≡ entered (take from h) 0 (given (take from h) st)) × (is_refusal reply ≡ false)
   goes_on (Ok (statement.Create c)) reply t none = commands_go (statement.Create c) reply t none
   goes_on (Ok (statement.Insert i)) reply t none = commands_go (statement.Insert i) reply t none
@@ -62,6 +67,9 @@ module _ (n : Outside) (calm : IsCalm n) (h : History) (base from to : ℕ) (own
   goes_on (Ok (statement.Select t)) reply (inr (inr (query, is, a, failed))) none = absurd (never_failed n reply calm failed)
   goes_on (Ok (statement.Explain t)) reply (inl (r, a)) none = (stays _ (no_more (query_of_select t (take from h))) a, not_refused reply _ r.reply_is refl)
   goes_on (Ok (statement.Explain t)) reply (inr (why, is, r)) none = absurd (none (inl (why, ap no_commands (here (query_of_select t) (Err why) r.nothing is))))
+  goes_on (Ok (statement.Optimize o)) reply (inl (is, a, inl ok)) none = (stays _ (none_more o.table (schema_of o.table (take from h))) a, not_refused reply _ ok refl)
+  goes_on (Ok (statement.Optimize o)) reply (inl (is, a, inr failed)) none = absurd (never_merging n o reply calm failed)
+  goes_on (Ok (statement.Optimize o)) reply (inr (why, is, r)) none = absurd (none (inl (why, here (λ x. commands_of x (statement.Optimize o)) (Err why) r.nothing is)))
   goes_on (Err why) reply r none = absurd (none tt)
 
 -- so no reply of the script refuses
@@ -77,6 +85,6 @@ none_in n calm h base own (s ∷ ss) from to (reply ∷ replies) past run none =
     let rest = none_in n calm h base own ss run.0 to replies later run.2 (subst (λ (x : History). NoneMeetsCause x ss) (sym step.0) none.1) in
     rw step.1 rest
 
-pub none_refused : (n : Outside) (script : List (Result Statement Cause)) (h : History) (base : ℕ) (replies : List (List ℕ)) → n.ended ≡ n.opened → n.ended < 2 ^ 64 - 1 → ScriptReplies n script h base replies → NoneMeetsCause (take base h) script
+pub none_refused : (n : Outside) (script : List (Result Statement Cause)) (h : History) (base : ℕ) (replies : List (List ℕ)) → n.ended ≡ n.opened → n.ended < 2 ^ 64 - 1 → n.full ≡ false → ScriptReplies n script h base replies → NoneMeetsCause (take base h) script
     → list_any is_refusal replies ≡ false
-none_refused n script h base replies still below each none = none_in n (record { still = still; below = below }) h base each.sessions script base each.last replies (omega arith) each.run none
+none_refused n script h base replies still below room each none = none_in n (record { still = still; below = below; room = room }) h base each.sessions script base each.last replies (omega arith) each.run none

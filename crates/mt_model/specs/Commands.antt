@@ -58,9 +58,15 @@ abbrev pub no_commands : Result Query Refusal → Result (List Command) Refusal
 no_commands (Err why) = Err why
 no_commands (Ok query) = Ok []
 
+-- an OPTIMIZE has no command, if its table is there (docs/definitions-of-runs.md, "Commands of statements")
+abbrev pub none_on : List ℕ → Option Schema → Result (List Command) Refusal
+none_on table None = Err (refusal.NoTable table)
+none_on table (Some schema) = Ok []
+
 -- the commands that a statement gives after a history, or why its text, its table or its data refuses it (docs/definitions-of-runs.md, "Commands of statements")
 abbrev pub commands_of : History → Statement → Result (List Command) Refusal
 commands_of h (statement.Create c) = create_commands c.table (schema_of_text c)
 commands_of h (statement.Insert i) = commands_for i (schema_of i.table h)
 commands_of h (statement.Select s) = no_commands (query_of_select s h)
 commands_of h (statement.Explain s) = no_commands (query_of_select s h)
+commands_of h (statement.Optimize o) = none_on o.table (schema_of o.table h)

@@ -1,12 +1,15 @@
 -- What the outside may refuse a statement for (docs/definitions-of-runs.md, "Faults of the outside").
-use Rattle.std.specs.Prelude.{◌≡◌, ◌⊎◌, ℕ, ◌+◌, ◌-◌, ◌≤◌, ◌^◌, min, List}
+use Rattle.std.specs.Prelude.{◌≡◌, ◌⊎◌, ℕ, ◌+◌, ◌-◌, ◌≤◌, ◌^◌, min, Bool, true, List}
+use Rattle.mt_model.specs.declared.refusal.Bound.TheVariants as bound
 use Rattle.mt_model.specs.declared.refusal.Refusal.TheVariants as refusal
 use Rattle.mt_model.specs.Refusals.{refusal_line}
 
--- What the outside did in a run: the disk's count of faults as it stood when the root was opened, and as it stands at the end (docs/definitions-of-runs.md, "Faults of the outside").
+-- What the outside did in a run: the disk's count of faults as it stood when the root was opened, and as it stands at the end; and whether a part
+-- has the greatest level then (docs/definitions-of-runs.md, "Faults of the outside").
 pub record Outside : Type 0 where
   pub opened : ℕ
   pub ended : ℕ
+  pub full : Bool
 
 -- the count is above the one at opening, or stands at its type's end (docs/definitions-of-runs.md, "Faults of the outside")
 abbrev pub HasRisen : Outside → ℕ → Type 0
@@ -28,3 +31,7 @@ WasStopped n accepted reply =
 -- in the turn of a command, after some of the statement's commands were accepted (docs/definitions-of-runs.md, "Faults of the outside")
 abbrev pub TurnFailed : Outside → ℕ → List ℕ → Type 0
 TurnFailed n accepted reply = CommitFailed n accepted reply ⊎ WasStopped n accepted reply
+
+-- a part that was to be merged had the greatest level: only where a part has it at the end (docs/definitions-of-runs.md, "Faults of the outside")
+abbrev pub LevelFailed : Outside → List ℕ → Type 0
+LevelFailed n reply = (reply ≡ refusal_line (refusal.Past bound.Levels)) × (n.full ≡ true)

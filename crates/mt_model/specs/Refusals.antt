@@ -55,6 +55,7 @@ bound_text bound.Statement = codes "statement 1048576"
 bound_text bound.Value = codes "value 1048576"
 bound_text bound.Rows = codes "rows 1048576"
 bound_text bound.Depth = codes "depth 64"
+bound_text bound.Levels = codes "levels 4294967295"
 
 abbrev pub room_text : Room → List ℕ
 room_text room.Parts = codes "parts 3000"
@@ -115,7 +116,7 @@ code_of (e ∷ []) = 0
 code_of (e ∷ t ∷ []) = 0
 code_of (e ∷ t ∷ u ∷ rest) = if e == 69 then 10 * (t - 48) + (u - 48) else 0
 
--- a reply says that its statement is refused for what the script says, and not for what the outside did: E01 to E14, and E18
+-- a reply says that its statement is refused for what the script says or for a bound, and not for a fault: E01 to E14, and E18
 abbrev pub is_refusal : List ℕ → Bool
 is_refusal reply = (nat_le 1 (code_of reply) && nat_le (code_of reply) 14) || code_of reply == 18
 

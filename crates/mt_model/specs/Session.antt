@@ -1,11 +1,12 @@
 -- What a session may print (docs/definitions-of-runs.md, "Runs").
-use Rattle.std.specs.Prelude.{◌≡◌, ◌⊎◌, ℕ, ◌-◌, ◌<◌, ◌≤◌, List, [], ◌∷◌, ◌++◌, length, take, drop, Some, None, Ok, Err, slice_get}
+use Rattle.std.specs.Prelude.{◌≡◌, ◌⊎◌, ℕ, ◌-◌, ◌<◌, ◌≤◌, true, List, [], ◌∷◌, ◌++◌, length, take, drop, Some, None, Ok, Err, slice_get}
 use Rattle.mt_values.specs.declared.command.Command.{Command}
 use Rattle.mt_values.specs.declared.command.Command.TheVariants as command
 use Rattle.mt_values.specs.declared.schema.Schema.{Schema}
 use Rattle.mt_values.specs.declared.statement.Statement.{Statement}
 use Rattle.mt_values.specs.Script.{Item}
 use Rattle.mt_values.specs.declared.statement.Statement.TheVariants as statement
+use Rattle.mt_values.specs.declared.statement.OptimizeText.{OptimizeText}
 use Rattle.mt_values.specs.declared.statement.SelectText.{SelectText}
 use Rattle.mt_model.specs.Answer.{Answer}
 use Rattle.mt_model.specs.Commands.{commands_of}
@@ -13,7 +14,7 @@ use Rattle.mt_model.specs.declared.refusal.Refusal.{Refusal}
 use Rattle.mt_model.specs.Explain.{Explains}
 use Rattle.mt_model.specs.History.{History, schema_of, inserts, own}
 use Rattle.mt_model.specs.Numbers.{last_number}
-use Rattle.mt_model.specs.Outside.{Outside, ReadOrStageFailed, TurnFailed}
+use Rattle.mt_model.specs.Outside.{LevelFailed, Outside, ReadOrStageFailed, TurnFailed}
 use Rattle.mt_model.specs.Refusals.{refusal_line, refusal_of_cause}
 use Rattle.mt_model.specs.declared.query.Query.{Query}
 use Rattle.mt_model.specs.Queries.{query_of_select}
@@ -111,6 +112,18 @@ abbrev pub ExplainRefused : History → ℕ → SelectText → ℕ → ℕ → L
 ExplainRefused h session s from to reply =
     (why : Refusal) × (query_of_select s (take to h) ≡ Err why) × RefusedAs h session from to why reply
 
+-- what the outside may refuse an OPTIMIZE for: its parts were not read, or what they became was not written; a part that FINAL takes has the greatest level; or
+-- the commit failed or was stopped. It has no command, so none was accepted (docs/definitions-of-runs.md, "Statements taken").
+abbrev pub MergeFailed : Outside → OptimizeText → List ℕ → Type 0
+MergeFailed n o reply = ReadOrStageFailed n reply ⊎ ((o.whole ≡ true) × LevelFailed n reply) ⊎ TurnFailed n 0 reply
+
+-- An OPTIMIZE may have this reply: its table is there, and nothing is accepted; or it is refused, by its table, or by the outside once that is there. Which
+-- parts are merged by then no reply tells (docs/definitions-of-runs.md, "Statements taken"; ClickHouse, OPTIMIZE).
+abbrev pub TakesOptimize : Outside → History → ℕ → OptimizeText → ℕ → ℕ → List ℕ → Type 0
+TakesOptimize n h session o from to reply =
+    ((commands_of (take to h) (statement.Optimize o) ≡ Ok []) × AddsNothing h session from to × ((reply ≡ ok_line to) ⊎ MergeFailed n o reply))
+    ⊎ ((why : Refusal) × (commands_of (take to h) (statement.Optimize o) ≡ Err why) × RefusedAs h session from to why reply)
+
 -- a CREATE or an INSERT may have this reply: all its commands were accepted, or it is refused (docs/definitions-of-runs.md, "Statements taken")
 abbrev pub TakesCommands : Outside → History → ℕ → Statement → ℕ → ℕ → List ℕ → Type 0
 TakesCommands n h session s from to reply =
@@ -124,6 +137,7 @@ TakesStatement n h session (statement.Select s) from to reply =
     (Selects h s to reply × AddsNothing h session from to) ⊎ SelectRefused n h session s from to reply
 TakesStatement n h session (statement.Explain s) from to reply =
     (Explains (take to h) s to reply × AddsNothing h session from to) ⊎ ExplainRefused h session s from to reply
+TakesStatement n h session (statement.Optimize o) from to reply = TakesOptimize n h session o from to reply
 
 -- the same of a text, which is a statement or is refused as it is read (docs/definitions-of-runs.md, "Statements taken")
 abbrev pub Takes : Outside → History → ℕ → Item → ℕ → ℕ → List ℕ → Type 0

@@ -27,6 +27,7 @@ IsStatementText (statement.Create c) = IsCreateText c
 IsStatementText (statement.Insert i) = Unit {0}
 IsStatementText (statement.Select s) = Unit {0}
 IsStatementText (statement.Explain s) = Unit {0}
+IsStatementText (statement.Optimize o) = Unit {0}
 
 -- so it is of a text that is a statement
 abbrev pub IsWritten : Item → Type 0

@@ -39,9 +39,9 @@ ghost use Rattle.mt_model.specs.Commands.{partitions_of, rows_in};
 ghost use Rattle.mt_model.specs.declared.refusal.Refusal.{Refusal};
 ghost use Rattle.mt_model.specs.History.{History, column_types, ArePlain, FewInserts, IsAllowed, IsInsertInto, IsLegal, IsTableSchema};
 ghost use Rattle.mt_model.specs.Live.{live, sorted, of_key};
-ghost use Rattle.mt_model.specs.Partial.{Partly};
+ghost use Rattle.mt_model.specs.Partial.{MergesAll, Partly};
 ghost use Rattle.mt_model.specs.Answer.{Answer, Prints};
-ghost use Rattle.mt_model.specs.Outside.{Outside, HasRisen};
+ghost use Rattle.mt_model.specs.Outside.{HasRisen, LevelFailed, Outside};
 ghost use Rattle.mt_model.specs.Refusals.{accepted_by, code, code_of, is_damage, is_refusal, refusal_line};
 ghost use Rattle.mt_model.specs.Reply.{create_turn, ok_line, rows_reply, schema_of_text};
 ghost use Rattle.mt_model.specs.Session.{AddsOnly, SessionRun, Takes};
@@ -114,6 +114,24 @@ pub fn lines_do_not_depend_on_order()
         → Prints rows a → Prints other b → a ≡ b }
 {}
 
+/// Merges may leave the rows as they are; what they leave of what they left they may leave of the first rows; and what they
+/// leave of two lists, one after the other, they may leave of both together. One merge of all rows is one way to leave them, of
+/// what merges left before as well. Merges of a plain table fold nothing.
+pub fn merges_add_up()
+    ensures none { (schema : Schema) (rows : List Row) → Partly schema rows rows }
+    ensures again { (schema : Schema) (rows x y : List Row) → Partly schema rows x
+        → Partly schema x y → Partly schema rows y }
+    ensures beside { (schema : Schema) (a b x y : List Row) → Partly schema a x
+        → Partly schema b y → Partly schema (a ++ b) (x ++ y) }
+    ensures all { (schema : Schema) (rows out : List Row) → MergesAll schema rows out
+        → Partly schema rows out }
+    ensures later { (schema : Schema) (rows x out : List Row) → Partly schema rows x
+        → MergesAll schema x out → Partly schema rows out }
+    ensures plain { (schema : Schema) (rows x : List Row) → IsPlain schema → Partly schema rows x
+        → (partition : Partition) (row : Row) → of_key schema partition row x ≡ of_key schema
+        partition row rows }
+{}
+
 /// Whatever merges did, the rows of a plain table are its live rows, each as often, in another order at most.
 pub fn partly_is_a_permutation()
     ensures { (schema : Schema) (rows x : List Row) → IsPlain schema → Partly schema rows x
@@ -170,8 +188,8 @@ pub fn refused_statements_add_what_they_count()
         × (length done ≡ accepted_by why) × AddsOnly h session done from to }
 {}
 
-/// A reply that has a number and is no refusal for what the script says comes only where the disk's count rose. Where it did
-/// not, and stands below its type's end, a statement is accepted or refused for what the script says. No reply tells of damage.
+/// A reply that has a number and tells of a fault comes only where the disk's count rose. Where it did not, and stands below its
+/// type's end, a statement is accepted, or refused for what the script says or for a bound. No reply tells of damage.
 pub fn faults_are_of_the_outside()
     ensures risen { (n : Outside) (h : History) (session : ℕ) (statement : Item) (from to : ℕ)
         (reply : List ℕ) → Takes n h session statement from to reply → 0 < code_of reply
@@ -186,14 +204,15 @@ pub fn faults_are_of_the_outside()
         (reply : List ℕ) → Takes n h session statement from to reply → is_damage reply ≡ false }
 {}
 
-/// A statement is refused for what the script says only where it meets a cause at its place. Where the disk's count did not rise and stands below
-/// its type's end, and none of a script's statements meets a cause after those before it, none of them is refused.
+/// A statement is refused for no fault only where it meets a cause at its place, or where a part that it merges has the greatest level, which a
+/// part has at the end then. Where the disk's count did not rise and stands below its type's end, no part has the greatest level at the end, and
+/// none of a script's statements meets a cause after those before it, none of them is refused.
 pub fn refusals_have_a_cause()
     ensures one { (n : Outside) (h : History) (session : ℕ) (statement : Item) (from to : ℕ)
         (reply : List ℕ) → Takes n h session statement from to reply → is_refusal reply ≡ true
-        → MeetsCause (take to h) statement }
+        → MeetsCause (take to h) statement ⊎ LevelFailed n reply }
     ensures script { (n : Outside) (script : List Item) (h : History) (base : ℕ)
-        (replies : List (List ℕ)) → n.ended ≡ n.opened → n.ended < 2 ^ 64 - 1
+        (replies : List (List ℕ)) → n.ended ≡ n.opened → n.ended < 2 ^ 64 - 1 → n.full ≡ false
         → ScriptReplies n script h base replies → NoneMeetsCause (take base h) script
         → list_any is_refusal replies ≡ false }
 {}
@@ -212,21 +231,22 @@ pub fn runs_stay_as_histories_grow()
         → SessionRun n (h ++ more) session statements from to out }
 {}
 
-/// What a session printed stays right as the disk's count of faults rises.
+/// What a session printed stays right as the disk's count of faults rises, and as a part comes to have the greatest level.
 pub fn runs_stay_as_counts_rise()
     ensures { (n m : Outside) (h : History) (session : ℕ) (statements : List Item) (from to : ℕ)
-        (out : List ℕ) → n.opened ≡ m.opened → n.ended ≤ m.ended
+        (out : List ℕ) → n.opened ≡ m.opened → n.ended ≤ m.ended → (n.full ≡ true → m.full ≡ true)
         → SessionRun n h session statements from to out
         → SessionRun m h session statements from to out }
 {}
 
 /// A script without an EXPLAIN that runs after a base has one run only, where the disk's count did not rise and stands below
-/// its type's end, and in one of the two histories no partition of a table has 3000 INSERTs and every table is plain: what it
-/// prints, and each command that is accepted, are determined. A partition with 3000 INSERTs may have 3000 parts or fewer, by
-/// what was merged, and refuse the next one or not; and an EXPLAIN counts parts and granules as merges left them.
+/// its type's end, no part has the greatest level at the end, and in one of the two histories no partition of a table has 3000
+/// INSERTs and every table is plain: what it prints, and each command that is accepted, are determined, whatever its OPTIMIZEs
+/// merge. A partition with 3000 INSERTs may have 3000 parts or fewer, by what was merged, and refuse the next one or not; and an
+/// EXPLAIN counts parts and granules as merges left them.
 pub fn scripts_run_in_one_way()
     ensures { (n : Outside) (script : List Item) (h g : History) (base : ℕ) (a b : List ℕ)
-        → n.ended ≡ n.opened → n.ended < 2 ^ 64 - 1 → FewInserts h → ArePlain h
+        → n.ended ≡ n.opened → n.ended < 2 ^ 64 - 1 → n.full ≡ false → FewInserts h → ArePlain h
         → HasNoExplain script → take base h ≡ take base g → ScriptRun n script h base a
         → ScriptRun n script g base b → (a ≡ b) × (h ≡ g) }
 {}

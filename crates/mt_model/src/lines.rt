@@ -133,6 +133,7 @@ fn bound_text(bound: Bound) -> &'static [u8]
         Bound::Value => b"E12 value 1048576",
         Bound::Rows => b"E12 rows 1048576",
         Bound::Depth => b"E12 depth 64",
+        Bound::Levels => b"E12 levels 4294967295",
     }
 }
 

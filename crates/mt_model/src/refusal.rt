@@ -61,6 +61,8 @@ pub enum Bound {
     Rows,
     /// The parentheses and NOTs of a condition that are open at once.
     Depth,
+    /// The level of a part.
+    Levels,
 }
 
 /// A quantity with a bound that is met in the turn of an INSERT's command.

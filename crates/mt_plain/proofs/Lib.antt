@@ -1,10 +1,14 @@
 pub mod Aggregating
+pub mod AllReplies
+pub mod Allowing
+pub mod Answering
 pub mod Coming
 pub mod Equal
 pub mod Exactly
 pub mod Folded
 pub mod Indexed
 pub mod Inserting
+pub mod LeftRows
 pub mod Merging
 pub mod Newest
 pub mod Parting

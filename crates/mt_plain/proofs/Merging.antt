@@ -5,7 +5,8 @@ use Rattle.std.proofs.lemmas.Bool.Decides.{nat_tests}
 use Rattle.std.proofs.lemmas.List.{take_more}
 use Rattle.std.proofs.lemmas.List.Elements.{Contains-append_cases, Contains-append_left, Contains-append_right, Contains-push, Contains-push_cases}
 use Rattle.mt_values.specs.Values.{Row}
-use Rattle.mt_model.specs.Folding.{Merges, MergesTimes}
+use Rattle.mt_model.specs.Folding.{ComesFrom, Merges, MergesTimes}
+use Rattle.mt_model.proofs.Merged.{comes_itself, comes_on}
 use Rattle.mt_plain.specs.Outcomes.{AddsExactly, AreExactly, MergesFirst, MergesOneOf}
 use Rattle.mt_plain.proofs.Exactly.{contains_map, contains_none, exactly_itself, exactly_joined, exactly_none, map_contains}
 
@@ -19,10 +20,10 @@ not_both e f = cc
 pub more_cases : {X : Type 0} (xs : List X) (i : ℕ) (d x : X) → i < length xs → Contains (take (i + 1) xs) x → Contains (take i xs) x ⊎ (get_or xs i d ≡ x)
 more_cases xs i d x below h = Contains-push_cases (take i xs) (get_or xs i d) x (subst (λ zs. Contains zs x) (take_more xs i d below) h)
 
-more_left : {X : Type 0} (xs : List X) (i : ℕ) (d x : X) → i < length xs → Contains (take i xs) x → Contains (take (i + 1) xs) x
+pub more_left : {X : Type 0} (xs : List X) (i : ℕ) (d x : X) → i < length xs → Contains (take i xs) x → Contains (take (i + 1) xs) x
 more_left xs i d x below h = subst (λ zs. Contains zs x) (sym (take_more xs i d below)) (Contains-append_left (take i xs) (get_or xs i d ∷ []) x h)
 
-more_here : {X : Type 0} (xs : List X) (i : ℕ) (d x : X) → i < length xs → get_or xs i d ≡ x → Contains (take (i + 1) xs) x
+pub more_here : {X : Type 0} (xs : List X) (i : ℕ) (d x : X) → i < length xs → get_or xs i d ≡ x → Contains (take (i + 1) xs) x
 more_here xs i d x below is = subst (λ zs. Contains zs x) (sym (take_more xs i d below)) (subst (Contains (take i xs ++ get_or xs i d ∷ [])) is (Contains-push (take i xs) (get_or xs i d)))
 
 pub adds_none : {X : Type 0} (xs : List X) → AddsExactly xs xs (Contains [])
@@ -74,14 +75,42 @@ not_more xs i d one x below is other none h = by (more_cases xs i d x below h)
     by (inl k) = none k
     by (inr e) = other (is ∙ e)
 
+-- some are all others, one after another
+pub all_so_far : {X : Type 0} (lists others : List X) (i : ℕ) (d one : X) → i < length others → one ≡ get_or others i d → Contains lists one → ((x : X) → Contains (take i others) x → Contains lists x) → (x : X) → Contains (take (i + 1) others) x → Contains lists x
+all_so_far lists others i d one below is own before x h = by (more_cases others i d x below h)
+  where
+    by : Contains (take i others) x ⊎ (get_or others i d ≡ x) → Contains lists x
+    by (inl k) = before x k
+    by (inr e) = subst (Contains lists) (is ∙ e) own
+
+-- additions after others
+pub adds_then : {X : Type 0} (xs ys zs : List X) (P Q R : X → Type 0) → AddsExactly xs ys P → AddsExactly ys zs Q → ((x : X) → P x → R x) → ((x : X) → Q x → R x) → ((x : X) → R x → P x ⊎ Q x) → AddsExactly xs zs R
+adds_then xs ys zs P Q R first second left right either x = (λ h. into ((second x).0 h), λ h. back h)
+  where
+    early : Contains xs x ⊎ P x → Contains xs x ⊎ R x
+    early (inl h) = inl h
+    early (inr p) = inr (left x p)
+
+    into : Contains ys x ⊎ Q x → Contains xs x ⊎ R x
+    into (inl h) = early ((first x).0 h)
+    into (inr q) = inr (right x q)
+
+    late : P x ⊎ Q x → Contains zs x
+    late (inl p) = (second x).1 (inl ((first x).1 (inr p)))
+    late (inr q) = (second x).1 (inr q)
+
+    back : Contains xs x ⊎ R x → Contains zs x
+    back (inl h) = (second x).1 (inl ((first x).1 (inl h)))
+    back (inr r) = late (either x r)
+
 -- ---- merges
 
 -- the first of two joined lists, and what comes after it
-take_front : {X : Type 0} (xs ys : List X) → take (length xs) (xs ++ ys) ≡ xs
+pub take_front : {X : Type 0} (xs ys : List X) → take (length xs) (xs ++ ys) ≡ xs
 take_front [] ys = refl
 take_front (x ∷ xs) ys = ap (λ zs. x ∷ zs) (take_front xs ys)
 
-drop_front : {X : Type 0} (xs ys : List X) → drop (length xs) (xs ++ ys) ≡ ys
+pub drop_front : {X : Type 0} (xs ys : List X) → drop (length xs) (xs ++ ys) ≡ ys
 drop_front [] ys = refl
 drop_front (x ∷ xs) ys = drop_front xs ys
 
@@ -237,3 +266,25 @@ module _ (run : List Row → List Row → Type 0) where
 
       back : MergesTimes (suc n) run rows after → MergesOneOf run lists after
       back h = let m = times_more n rows after h in (m.0, (before m.0).1 m.1, m.2)
+
+  -- ---- any number of merges
+
+  -- lists that come of the rows, these among them, and each to which one of them comes by a merge
+  pub all_found : (rows : List Row) (lists : List (List Row)) → ((x : List Row) → Contains lists x → ComesFrom run rows x) → Contains lists rows → ((x : List Row) → MergesOneOf run lists x → Contains lists x) → AreExactly lists (ComesFrom run rows)
+  all_found rows lists sound own closed after = (sound after, λ came. many came.0 rows own came.1)
+    where
+      many : (n : ℕ) (before : List Row) → Contains lists before → MergesTimes n run before after → Contains lists after
+      many zero before known same = subst (Contains lists) same known
+      many (suc n) before known m = many n m.0 (closed m.0 (before, known, m.1)) m.2
+
+  pub none_found : (rows : List Row) (lists : List (List Row)) → lists ≡ rows ∷ [] → ((x : List Row) → Contains lists x → ComesFrom run rows x) × Contains lists rows
+  none_found rows lists is = (λ x h. subst (ComesFrom run rows) (sym ((exactly_itself lists rows is x).0 h)) (comes_itself run rows), (exactly_itself lists rows is rows).1 refl)
+
+  -- with those to which they come by one merge
+  pub more_found : (rows : List Row) (lists more new : List (List Row)) → ((x : List Row) → Contains lists x → ComesFrom run rows x) × Contains lists rows → AreExactly more (MergesOneOf run lists) → AddsExactly lists new (Contains more)
+      → ((x : List Row) → Contains new x → ComesFrom run rows x) × Contains new rows
+  more_found rows lists more new before are adds = (λ x h. by x ((adds x).0 h), (adds rows).1 (inl before.1))
+    where
+      by : (x : List Row) → Contains lists x ⊎ Contains more x → ComesFrom run rows x
+      by x (inl h) = before.0 x h
+      by x (inr h) = let m = (are x).0 h in comes_on run rows m.0 x (before.0 m.0 m.1) (1, (x, m.2, refl))

@@ -7,8 +7,12 @@ use Rattle.mt_values.specs.declared.command.Entry.{Entry}
 use Rattle.mt_values.specs.declared.statement.Cause.{Cause}
 use Rattle.mt_values.specs.declared.statement.Statement.{Statement}
 use Rattle.mt_values.specs.declared.statement.Statement.TheVariants as statement
+use Rattle.mt_values.specs.declared.statement.OptimizeText.{OptimizeText}
 use Rattle.mt_values.specs.declared.statement.SelectText.{SelectText}
-use Rattle.mt_model.specs.Commands.{commands_of}
+use Rattle.mt_values.specs.declared.schema.Schema.{Schema}
+use Rattle.mt_model.specs.Answer.{Answer}
+use Rattle.mt_model.specs.Reply.{ok_line, rows_reply}
+use Rattle.mt_model.specs.Commands.{commands_of, none_on}
 use Rattle.mt_model.specs.declared.refusal.Refusal.{Refusal}
 use Rattle.mt_model.specs.declared.refusal.Refusal.TheVariants as refusal
 use Rattle.mt_model.specs.History.{History, IsLegal, entered, schema_of}
@@ -82,11 +86,25 @@ took_legal h new cs reply may took legal = subst IsLegal (ap (λ t. t.history) t
 
 -- ---- SELECT
 
-unselected_takes : (h : History) (t : SelectText) (why : Refusal) (reply : List ℕ) → query_of_select t h ≡ Err why → reply ≡ refusal_line why → TakesStatement calm h 0 (statement.Select t) (length h) (length h) reply
+pub unselected_takes : (h : History) (t : SelectText) (why : Refusal) (reply : List ℕ) → query_of_select t h ≡ Err why → reply ≡ refusal_line why → TakesStatement calm h 0 (statement.Select t) (length h) (length h) reply
 unselected_takes h t why reply is line = inr (inl (why, subst (λ (x : History). query_of_select t x ≡ Err why) (sym (whole h)) is, refused_here h why reply line))
 
 pub no_table_takes : (h : History) (t : SelectText) (reply : List ℕ) → schema_of t.table h ≡ None → reply ≡ refusal_line (refusal.NoTable t.table) → TakesStatement calm h 0 (statement.Select t) (length h) (length h) reply
 no_table_takes h t reply none line = unselected_takes h t (refusal.NoTable t.table) reply (ap (query_for t) none) line
+
+pub answer_takes : (h : History) (schema : Schema) (t : SelectText) (lines : List (List ℕ)) (reply : List ℕ) → schema_of t.table h ≡ Some schema → Answer h schema t lines → reply ≡ rows_reply lines (length h)
+    → TakesStatement calm h 0 (statement.Select t) (length h) (length h) reply
+answer_takes h schema t lines reply there answer is =
+    inl (
+      record {
+        schema = schema;
+        lines = lines;
+        there = ap (schema_of t.table) (whole h) ∙ there;
+        answer = subst (λ (x : History). Answer x schema t lines) (sym (whole h)) answer;
+        reply_is = is;
+      },
+      here h,
+    )
 
 -- ---- EXPLAIN
 
@@ -95,6 +113,17 @@ unexplained_takes h t why reply is line = inr (why, subst (λ (x : History). que
 
 pub no_table_explained : (h : History) (t : SelectText) (reply : List ℕ) → schema_of t.table h ≡ None → reply ≡ refusal_line (refusal.NoTable t.table) → TakesStatement calm h 0 (statement.Explain t) (length h) (length h) reply
 no_table_explained h t reply none line = unexplained_takes h t (refusal.NoTable t.table) reply (ap (query_for t) none) line
+
+-- ---- OPTIMIZE
+
+pub no_table_optimized : (h : History) (o : OptimizeText) (reply : List ℕ) → schema_of o.table h ≡ None → reply ≡ refusal_line (refusal.NoTable o.table) → TakesStatement calm h 0 (statement.Optimize o) (length h) (length h) reply
+no_table_optimized h o reply none line =
+    inr (refusal.NoTable o.table, ap (λ (x : History). none_on o.table (schema_of o.table x)) (whole h) ∙ ap (none_on o.table) none, refused_here h (refusal.NoTable o.table) reply line)
+
+-- nothing is merged
+pub optimized : (h : History) (o : OptimizeText) (schema : Schema) (reply : List ℕ) → schema_of o.table h ≡ Some schema → reply ≡ ok_line (length h) → TakesStatement calm h 0 (statement.Optimize o) (length h) (length h) reply
+optimized h o schema reply there line =
+    inl (ap (λ (x : History). none_on o.table (schema_of o.table x)) (whole h) ∙ ap (none_on o.table) there, here h, inl line)
 
 -- ---- scripts
 

@@ -1,3 +1,4 @@
+pub mod Lefts
 pub mod Once
 pub mod Order
 pub mod Outcomes

@@ -1,19 +1,25 @@
 -- What the plain program accepts at the end of a history, and what it adds to one.
-use Rattle.std.specs.Prelude.{◌≡◌, ℕ, ◌+◌, List, [], ◌∷◌, ◌++◌, All, Option, Some, None, length}
+use Rattle.std.specs.Prelude.{◌≡◌, ℕ, ◌+◌, ◌≤◌, false, List, [], ◌∷◌, ◌++◌, All, Option, Some, None, Ok, length, take}
+use Rattle.std.specs.List.{Contains}
 use Rattle.mt_values.specs.declared.command.Command.{Command}
 use Rattle.mt_values.specs.declared.command.Command.TheVariants as command
 use Rattle.mt_values.specs.declared.command.Entry.{Entry}
 use Rattle.mt_values.specs.declared.schema.Schema.{Schema}
+use Rattle.mt_values.specs.declared.statement.SelectText.{SelectText}
+use Rattle.mt_values.specs.declared.statement.Statement.TheVariants as statement
+use Rattle.mt_values.specs.Script.{Item}
 use Rattle.mt_model.specs.declared.refusal.Refusal.{Refusal}
-use Rattle.mt_model.specs.History.{History, IsInsertInto, IsTableSchema, entered, inserts, schema_of}
+use Rattle.mt_model.specs.History.{FewInserts, History, IsInsertInto, IsTableSchema, entered, inserts, schema_of}
 use Rattle.mt_model.specs.Numbers.{last_number}
 use Rattle.mt_model.specs.Outside.{Outside}
 use Rattle.mt_model.specs.Refusals.{refusal_line}
 use Rattle.mt_model.specs.Reply.{create_turn, insert_turn, ok_line}
+use Rattle.mt_model.specs.Script.{OwnEntries}
+use Rattle.mt_model.specs.Session.{Takes}
 
--- an outside without a fault
+-- an outside without a fault, and without a part of the greatest level
 abbrev pub calm : Outside
-calm = record { opened = 0; ended = 0 }
+calm = record { opened = 0; ended = 0; full = false }
 
 -- why a command is refused at its turn, after so many of its statement's commands; nothing was merged, so a partition has one part an INSERT
 abbrev pub unmerged_turn : History → ℕ → Command → Option Refusal
@@ -56,3 +62,29 @@ pub record Grows (old new : History) : Type 0 where
   pub more : History
   pub is : new ≡ old ++ more
   pub own : All (λ (e : Entry). e.session ≡ 0) more
+
+-- the SELECT that a statement is, if it is one
+abbrev pub select_of : Item → Option SelectText
+select_of (Ok (statement.Select t)) = Some t
+select_of item = None
+
+-- in a history that goes on from another one by entries of session 0 alone, and in which no partition has 3000 INSERTs, a statement that is run from
+-- the other's end to some place has this reply
+pub record IsRepliedIn (g old : History) (item : Item) (to : ℕ) (reply : List ℕ) : Type 0 where
+  pub few : FewInserts g
+  pub goes_on : take (length old) g ≡ old
+  pub own : OwnEntries g (length old)
+  pub takes : Takes calm g 0 item (length old) to reply
+
+-- a reply stands in a text from one place to another
+pub record StandsFrom (text : List ℕ) (at : ℕ) (reply : List ℕ) (to : ℕ) : Type 0 where
+  pub read : take to text ≡ take at text ++ reply
+  pub within : to ≤ length text
+
+-- one of these replies stands in a text from one of these places to another
+pub record OneStandsFrom (text : List ℕ) (places : List ℕ) (replies : List (List ℕ)) (to : ℕ) : Type 0 where
+  pub at : ℕ
+  pub reply : List ℕ
+  pub begun : Contains places at
+  pub one : Contains replies reply
+  pub stands : StandsFrom text at reply to

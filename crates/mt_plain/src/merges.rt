@@ -1,7 +1,8 @@
 // What rows of one key may come to by merges (docs/engines.md, "Merges").
-ghost use Rattle.std.specs.Prelude.{◌≡◌, ◌++◌, IfOk, IsTrue, OnOk, map, ◌↔◌};
+ghost use Rattle.std.specs.Prelude.{◌≡◌, ◌++◌, IfOk, IsTrue, List, OnOk, map, ◌↔◌};
 ghost use Rattle.std.specs.List.{Contains};
-ghost use Rattle.mt_model.specs.Folding.{Merges, MergesTimes};
+ghost use Rattle.mt_values.specs.Values.{Row};
+ghost use Rattle.mt_model.specs.Folding.{ComesFrom, Merges, MergesTimes};
 ghost use Rattle.mt_model.specs.Rules.{Run};
 ghost use Rattle.mt_plain.specs.Outcomes.{AddsExactly, AreExactly, MergesFirst, MergesOneOf};
 
@@ -30,6 +31,42 @@ pub fn merged(
         lists = merged_once(alloc, engine, functions, &lists)?;
     }
     Ok(lists)
+}
+
+/// Every list to which rows of one key may come by any number of merges, each once.
+///
+/// `NoMemory` where an allocation failed, or where a sum needs more than 128 bits. And where there are new lists after more merges
+/// than there are rows: of rows of a table there are none then, since a merge that changes some leaves fewer.
+pub fn all_merged(
+    alloc: Global,
+    engine: &Engine,
+    functions: &[Option<Aggregate>],
+    rows: &[Row],
+) -> Result<Vec<Rows>, NoMemory>
+    ensures { IfOk result (λ outs. AreExactly outs.items
+        (ComesFrom (Run engine.now functions.now) rows.now)) }
+{
+    let mut lists = only(alloc, copied(alloc, rows)?)?;
+    for _done in 0..rows.len() + 1 {
+        let more = merged_once(alloc, engine, functions, &lists)?;
+        if are_among(&lists, &more) {
+            return Ok(lists);
+        }
+        add_each(alloc, &mut lists, &more)?;
+    }
+    Err(NoMemory)
+}
+
+/// Whether each of some lists is one of these.
+fn are_among(lists: &[Rows], others: &[Rows]) -> bool
+    ensures { IsTrue result ↔ ((x : List Row) → Contains others.now x → Contains lists.now x) }
+{
+    for other in others {
+        if !is_among(lists, other.as_slice()) {
+            return false;
+        }
+    }
+    true
 }
 
 /// Every list to which one of these may come by one merge, each once.

@@ -9,7 +9,7 @@ use mt_values::{Partition, Row, Schema, Value};
 use std::alloc::Global;
 
 /// The partition of a row: the number that it has in the partition column, where there is one.
-fn partition_of(schema: &Schema, row: &Row) -> Partition
+pub(crate) fn partition_of(schema: &Schema, row: &Row) -> Partition
     ensures { result ≡ tables.partition_of schema.now row.now }
 {
     match schema.partition {

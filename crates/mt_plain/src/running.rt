@@ -16,7 +16,9 @@ use super::turns::accept;
 use crate::{rows_reply, schema_of};
 use mt_base::{NoMemory, Stop, Twin};
 use mt_model::{Refusal, explain_line, ok_line, refusal_line};
-use mt_values::{Cause, Command, CreateText, Entry, InsertText, SelectText, Statement};
+use mt_values::{
+    Cause, Command, CreateText, Entry, InsertText, OptimizeText, SelectText, Statement,
+};
 use std::alloc::Global;
 
 /// The accepted commands of a run, and what it printed.
@@ -90,7 +92,7 @@ fn reply_to(
 }
 
 /// The line of a refusal.
-fn refused(alloc: Global, refusal: Refusal) -> Result<Vec<u8>, NoMemory>
+pub(crate) fn refused(alloc: Global, refusal: Refusal) -> Result<Vec<u8>, NoMemory>
     ensures { IfOk result (λ line. line.items ≡ refusals.refusal_line refusal) }
 {
     refusal_line(alloc, &refusal)
@@ -113,6 +115,7 @@ fn step_statement(
         Statement::Insert(insert) => step_insert(alloc, history, insert),
         Statement::Select(select) => step_select(alloc, history, select),
         Statement::Explain(asked) => step_explain(alloc, history, asked),
+        Statement::Optimize(asked) => step_optimize(alloc, history, asked),
     }
 }
 
@@ -199,4 +202,19 @@ fn step_explain(alloc: Global, history: &[Entry], asked: &SelectText) -> Result<
         Err(Stop::Refused(refusal)) => refused(alloc, refusal),
         Err(Stop::NoMemory) => Err(NoMemory),
     }
+}
+
+/// Answers an OPTIMIZE: nothing is merged.
+fn step_optimize(
+    alloc: Global,
+    history: &[Entry],
+    asked: &OptimizeText,
+) -> Result<Vec<u8>, NoMemory>
+    ensures { IfOk result (λ reply. TakesStatement calm history.now 0
+        (statement.Optimize asked.now) (length history.now) (length history.now) reply.items) }
+{
+    let Some(_schema) = schema_of(history, &asked.table) else {
+        return refused(alloc, Refusal::NoTable(asked.table.twin(alloc)?));
+    };
+    ok_line(alloc, history.len() as u64)
 }

@@ -524,12 +524,30 @@ select = select_text (λ asked. ends (statement.Select asked))
 abbrev pub explain : Reader Statement
 explain = expect (keyword (codes "EXPLAIN")) (λ _. select_text (λ asked. ends (statement.Explain asked)))
 
+-- [ PARTITION ID string ]
+abbrev pub partition_id : {S : Type 0} → Part S (Option (List ℕ))
+partition_id next =
+    choose (is_word (is_keyword (codes "PARTITION")))
+    (expect (keyword (codes "PARTITION")) (λ _. expect (keyword (codes "ID")) (λ _. expect string (λ id. next (Some id)))))
+    (next None)
+
+-- [ FINAL ]: whether it is there
+abbrev pub final : {S : Type 0} → Part S Bool
+final next = choose (is_word (is_keyword (codes "FINAL"))) (expect (keyword (codes "FINAL")) (λ _. next true)) (next false)
+
+-- optimize = OPTIMIZE TABLE name [ PARTITION ID string ] [ FINAL ]
+abbrev pub optimize : Reader Statement
+optimize =
+    expect (keyword (codes "OPTIMIZE")) (λ _. expect (keyword (codes "TABLE")) (λ _. expect name (λ table. partition_id (λ id. final (λ whole.
+    ends (statement.Optimize (record { table = table; partition = id; whole = whole })))))))
+
 -- a statement of this text, with its data
 abbrev pub statement_reader : List ℕ → List ℕ → Bool → Reader Statement
 statement_reader text lines ended =
     choose (is_word (is_keyword (codes "CREATE"))) (create text)
     (choose (is_word (is_keyword (codes "INSERT"))) (insert lines ended)
-    (choose (is_word (is_keyword (codes "EXPLAIN"))) explain select))
+    (choose (is_word (is_keyword (codes "EXPLAIN"))) explain
+    (choose (is_word (is_keyword (codes "OPTIMIZE"))) optimize select)))
 
 -- ---- texts
 

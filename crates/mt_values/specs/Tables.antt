@@ -1,8 +1,9 @@
 -- What a schema says of its table's rows: their order, and the partition of each (ClickHouse, MergeTree: ORDER BY, PARTITION BY).
-use Rattle.std.specs.Prelude.{ℕ, ◌<◌, ◌^◌, Bool, true, false, nat_eq, List, ◌++◌, Option, Some, None, slice_get}
+use Rattle.std.specs.Prelude.{◌≡◌, ℕ, ◌<◌, ◌^◌, Bool, true, false, nat_eq, List, ◌++◌, Option, Some, None, slice_get}
 use Rattle.std.specs.declared.cmp.Ordering.{Ordering}
 use Rattle.mt_base.specs.declared.partition.Partition.{Partition}
 use Rattle.mt_base.specs.declared.partition.Partition.TheVariants.{Whole, Number}
+use Rattle.mt_values.specs.declared.engine.Engine.TheVariants as engine
 use Rattle.mt_values.specs.declared.schema.Column.{Column}
 use Rattle.mt_values.specs.declared.schema.Schema.{Schema}
 use Rattle.mt_values.specs.declared.value.ColType.{ColType}
@@ -73,9 +74,9 @@ same_partition Whole Whole = true
 same_partition (Number m) (Number n) = nat_eq m n
 same_partition a b = false
 
--- merges of the table fold no rows: so it is of each table, as long as nothing merges (docs/engines.md, "Merges")
+-- merges of the table fold no rows (ClickHouse, MergeTree; docs/engines.md, "Merges")
 abbrev pub IsPlain : Schema → Type 0
-IsPlain schema = Unit {0}
+IsPlain schema = schema.engine ≡ engine.Plain
 
 -- the sign of a table's row is 1 or -1, where the table has a sign (ClickHouse, CollapsingMergeTree: sign; docs/engines.md, "Columns")
 abbrev pub has_sign : Schema → Row → Bool

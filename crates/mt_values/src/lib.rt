@@ -55,8 +55,8 @@ pub use script::Place;
 pub use sorting::{all_places, cmp_cells};
 pub use stack::Stack;
 pub use statement::{
-    Cause, Clause, CreateText, Element, EngineText, IndexText, InsertText, KindText, SelectText,
-    Selected, Slip, Statement,
+    Cause, Clause, CreateText, Element, EngineText, IndexText, InsertText, KindText, OptimizeText,
+    SelectText, Selected, Slip, Statement,
 };
 pub use token::{Placed, Symbol, Token};
 pub use value::{ColType, Row, Value};

@@ -10,6 +10,7 @@ pub enum Statement {
     Select(SelectText),
     /// What a SELECT would read.
     Explain(SelectText),
+    Optimize(OptimizeText),
 }
 
 /// Why a text is refused as it is read.
@@ -127,4 +128,14 @@ pub struct SelectText {
     pub table: Name,
     /// What stands after WHERE; no condition where there is none.
     pub condition: Expr<TestText>,
+}
+
+/// An OPTIMIZE TABLE.
+#[derive(Drop)]
+pub struct OptimizeText {
+    pub table: Name,
+    /// The string after PARTITION ID: the partition's id.
+    pub partition: Option<Bytes>,
+    /// Whether it says FINAL: each partition becomes one part.
+    pub whole: bool,
 }

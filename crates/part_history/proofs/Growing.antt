@@ -13,12 +13,15 @@ use Rattle.mt_values.specs.declared.command.Insert.{Insert}
 use Rattle.mt_values.specs.declared.schema.Schema.{Schema}
 use Rattle.mt_values.specs.Grammar.{same_bytes}
 use Rattle.mt_values.specs.Tables.{same_partition, sorting_cmp}
+use Rattle.mt_values.specs.Values.{Row}
 use Rattle.mt_model.specs.History.{History, schema_of}
-use Rattle.mt_model.specs.Live.{live, of_key, sorted}
+use Rattle.mt_model.specs.Live.{live, sorted}
 use Rattle.mt_model.specs.Numbers.{IsNumberOfInsert, draws, is_within, lies_within, numbered, within}
+use Rattle.mt_model.specs.Partial.{Partly}
 use Rattle.mt_model.proofs.Commands.{same_itself}
 use Rattle.mt_model.proofs.Determined.{sorting_total}
 use Rattle.mt_model.proofs.Histories.{numbered_more, schema_kept}
+use Rattle.mt_model.proofs.Merged.{partly_itself}
 use Rattle.mt_model.proofs.Sorting.{sorted_rises}
 use Rattle.mt_model.proofs.Tables.{itself_same}
 use Rattle.part_history.specs.declared.part.CorePart.{CorePart}
@@ -100,7 +103,7 @@ part_kept h more p s =
       greatest = insert_kept p.table p.name.partition p.name.max_block h more s.greatest;
       order = s.order;
       rising = s.rising;
-      partly = λ partition row. s.partly partition row ∙ ap (of_key s.schema partition row) (sym (live_kept p.table s.schema p.name.partition p.name.min_block p.name.max_block h more most));
+      partly = subst (λ (rows : List Row). Partly s.schema rows p.rows) (sym (live_kept p.table s.schema p.name.partition p.name.min_block p.name.max_block h more most)) s.partly;
     }
 
 -- parts of a table for which nothing drew a number
@@ -177,7 +180,7 @@ module _ (h : History) (e : Entry) (i : Insert) (schema : Schema) (is : e.comman
     greatest = own_number;
     order = omega arith;
     rising = sorted_rises (sorting_cmp schema) (sorting_total schema) i.block.rows;
-    partly = λ partition row. ap (of_key schema partition row) (sym own_rows);
+    partly = subst (λ (rows : List Row). Partly schema rows (sorted (sorting_cmp schema) i.block.rows)) (sym own_rows) (partly_itself schema (sorted (sorting_cmp schema) i.block.rows));
   }
 
   one_insert : (k : Insert) → Some (command.Insert k) ≡ Some (command.Insert i) → k ≡ i

@@ -2,6 +2,7 @@ pub mod Apart
 pub mod Counted
 pub mod Growing
 pub mod Joined
+pub mod Merging
 pub mod Numbered
 pub mod Ordered
 pub mod Orders

@@ -45,18 +45,18 @@ after_next (Number a) (Number b) (Number c) m n is up = grind (arith, nat_tests)
 
 -- ---- parts up to a partition, and after it
 
-abbrev IsAfter : Partition → CorePart → Bool
+abbrev pub IsAfter : Partition → CorePart → Bool
 IsAfter w p = is_gt (partition_cmp p.name.partition w)
 
 none_upto : (w : Partition) (ps : List CorePart) → AllByRecursion (λ p. IsAfter w p ≡ true) ps → parts_upto w ps ≡ []
 none_upto w [] all = refl
 none_upto w (p ∷ ps) all = ap (λ b. cond (not b) (p ∷ parts_upto w ps) (parts_upto w ps)) all.0 ∙ none_upto w ps all.1
 
-all_after : (w : Partition) (ps : List CorePart) → AllByRecursion (λ p. IsAfter w p ≡ true) ps → parts_after w ps ≡ ps
+pub all_after : (w : Partition) (ps : List CorePart) → AllByRecursion (λ p. IsAfter w p ≡ true) ps → parts_after w ps ≡ ps
 all_after w [] all = refl
 all_after w (p ∷ ps) all = ap₂ (λ b qs. cond b (p ∷ qs) qs) all.0 (all_after w ps all.1)
 
-later_after : (w : Partition) (p : CorePart) (ps : List CorePart) → IsAfter w p ≡ true → AreInBlockOrder (p ∷ ps) → AllByRecursion (λ q. IsAfter w q ≡ true) (p ∷ ps)
+pub later_after : (w : Partition) (p : CorePart) (ps : List CorePart) → IsAfter w p ≡ true → AreInBlockOrder (p ∷ ps) → AllByRecursion (λ q. IsAfter w q ≡ true) (p ∷ ps)
 later_after w p [] is up = (is, tt)
 later_after w p (q ∷ ps) is up =
     let next = after_next w p.name.partition q.name.partition q.name.min_block p.name.min_block is (up 0 p (omega arith) (omega arith)) in
@@ -88,17 +88,17 @@ upto_first w ps up i j d below inside is = by (IsAfter w (get_or ps i d)) refl
 
 -- ---- a part between others
 
-one_sorted : (p : CorePart) → AreInBlockOrder (p ∷ [])
+pub one_sorted : (p : CorePart) → AreInBlockOrder (p ∷ [])
 one_sorted p k d low high = absurd (omega arith)
 
-sorted_next : (x y : CorePart) (ys : List CorePart) → is_lt (block_cmp y x) ≡ false → AreInBlockOrder (y ∷ ys) → AreInBlockOrder (x ∷ y ∷ ys)
+pub sorted_next : (x y : CorePart) (ys : List CorePart) → is_lt (block_cmp y x) ≡ false → AreInBlockOrder (y ∷ ys) → AreInBlockOrder (x ∷ y ∷ ys)
 sorted_next x y ys above up zero d low high = above
 sorted_next x y ys above up (suc k) d low high =
     let next : suc k + 1 ≡ suc (k + 1) = omega arith in
     let below : k + 1 < length (y ∷ ys) = omega arith in
     rw next (up k d (omega arith) below)
 
-order_between : (ps qs : List CorePart) (part : CorePart) → AllByRecursion (λ p. is_lt (block_cmp part p) ≡ false) ps → AllByRecursion (λ q. is_lt (block_cmp q part) ≡ false) qs → AreInBlockOrder ps → AreInBlockOrder qs
+pub order_between : (ps qs : List CorePart) (part : CorePart) → AllByRecursion (λ p. is_lt (block_cmp part p) ≡ false) ps → AllByRecursion (λ q. is_lt (block_cmp q part) ≡ false) qs → AreInBlockOrder ps → AreInBlockOrder qs
     → AreInBlockOrder (ps ++ part ∷ qs)
 order_between [] [] part low high one two = one_sorted part
 order_between [] (q ∷ qs) part low high one two = sorted_next part q qs high.0 two

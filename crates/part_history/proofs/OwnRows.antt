@@ -1,5 +1,5 @@
 -- The rows of a part that stands for a history are of its partition.
-use Rattle.std.proofs.Common.{◌≡◌, ℕ, Bool, true, false, cond, ◌&&◌, List, [], ◌∷◌, Some, get_or, refl, sym, ap, ap₂, ◌∙◌, subst}
+use Rattle.std.proofs.Common.{◌≡◌, ℕ, Bool, true, false, cond, ◌&&◌, List, [], ◌∷◌, Some, get_or, refl, sym, ap, ◌∙◌, subst}
 use Rattle.std.specs.List.{All, AllByRecursion}
 use Rattle.std.specs.Ordering.{is_eq}
 use Rattle.std.proofs.lemmas.Cmp.{tied_itself}
@@ -8,10 +8,14 @@ use Rattle.mt_base.specs.declared.partition.Partition.{Partition}
 use Rattle.mt_values.specs.declared.schema.Schema.{Schema}
 use Rattle.mt_values.specs.Tables.{partition_of, same_partition, sorting_cmp}
 use Rattle.mt_values.specs.Values.{Row}
+use Rattle.mt_model.specs.Folding.{ComesFrom}
 use Rattle.mt_model.specs.History.{History, IsLegal, schema_of}
-use Rattle.mt_model.specs.Live.{of_key}
+use Rattle.mt_model.specs.Live.{live, of_key}
+use Rattle.mt_model.specs.Numbers.{within}
+use Rattle.mt_model.specs.Partial.{TableRun}
 use Rattle.mt_model.proofs.Commands.{partition_is, same_itself}
 use Rattle.mt_model.proofs.Determined.{sorting_total}
+use Rattle.mt_model.proofs.Merged.{comes_none}
 use Rattle.part_history.specs.declared.part.CorePart.{CorePart}
 use Rattle.part_history.specs.Parts.{PartStands, TableStands}
 use Rattle.part_history.proofs.Numbered.{all_into, kept_apart, live_within}
@@ -53,9 +57,10 @@ module _ (h : History) (legal : IsLegal h) where
       let p = part.name.partition in
       let a = part.name.min_block in
       let b = part.name.max_block in
-      s.partly w row
-      ∙ (ap (of_key s.schema w row) (live_within part.table s.schema p a b h)
-      ∙ kept_apart s.schema w row p a b 1 _ (all_into part.table h s.schema legal s.there) apart)
+      let none : of_key s.schema w row (live part.table s.schema (within part.table p a b h)) ≡ [] =
+      ap (of_key s.schema w row) (live_within part.table s.schema p a b h) ∙ kept_apart s.schema w row p a b 1 _ (all_into part.table h s.schema legal s.there) apart in
+      comes_none (TableRun s.schema) (of_key s.schema w row part.rows)
+      (subst (λ (rows : List Row). ComesFrom (TableRun s.schema) rows (of_key s.schema w row part.rows)) none (s.partly w row))
 
   same_schema : (a b : Schema) → Some a ≡ Some b → a ≡ b
   same_schema a b is = cc

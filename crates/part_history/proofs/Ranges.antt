@@ -45,13 +45,13 @@ count_cons n r rs = sum_by-cons (λ (x : Range). one_if (holds n x)) r rs
 count_yes : (n : ℕ) (r : Range) (rs : List Range) → holds n r ≡ true → count_by (holds n) (r ∷ rs) ≡ 1 + count_by (holds n) rs
 count_yes n r rs h = count_cons n r rs ∙ ap (λ b. one_if b + count_by (holds n) rs) h
 
-count_no : (n : ℕ) (r : Range) (rs : List Range) → holds n r ≡ false → count_by (holds n) (r ∷ rs) ≡ count_by (holds n) rs
+pub count_no : (n : ℕ) (r : Range) (rs : List Range) → holds n r ≡ false → count_by (holds n) (r ∷ rs) ≡ count_by (holds n) rs
 count_no n r rs h =
     let zero_more : 0 + count_by (holds n) rs ≡ count_by (holds n) rs = omega arith in
     count_cons n r rs ∙ (ap (λ b. one_if b + count_by (holds n) rs) h ∙ zero_more)
 
 -- no range has a number below all of them
-none_low : (n low : ℕ) (rs : List Range) → Climbs low rs → n < low → count_by (holds n) rs ≡ 0
+pub none_low : (n low : ℕ) (rs : List Range) → Climbs low rs → n < low → count_by (holds n) rs ≡ 0
 none_low n low [] climbs lt = refl
 none_low n low (r ∷ rs) climbs lt =
     let under : n < r.0 = omega (arith, climbs.0, lt) in
@@ -111,6 +111,11 @@ kept_joined w a b top n (c ∷ cs) first second = by (cases_lt n a) (cases_lt b 
         let same = within_as w a b a top n c (lies_inside a b n from upto ∙ sym (lies_inside a top n from most)) in
         ap₂ (λ s t. kept_if s c (kept w a b (n + 1) cs) ++ kept_if t c (kept w (b + 1) top (n + 1) cs)) same (outside w (b + 1) top n c (lies_below (b + 1) top n under))
         ∙ (sym (if_front (is_within w a top n c) c (kept w a b (n + 1) cs) (kept w (b + 1) top (n + 1) cs)) ∙ ap (kept_if (is_within w a top n c) c) more)
+
+-- each range ends below all those after it
+abbrev pub Apart : List Range → Type 0
+Apart [] = Unit {0}
+Apart (r ∷ rs) = AllByRecursion (λ (q : Range). r.1 < q.0) rs × Apart rs
 
 -- the command of this number, where the first one drew that, is an INSERT of the partition
 pub record IsOf (w : Partition) (first : ℕ) (cs : List Command) (n : ℕ) : Type 0 where
@@ -174,6 +179,20 @@ module _ (w : Partition) (cs : List Command) where
           let all = none r.0 climbs.0 le begin.0.1 in
           let sum = count_yes r.0 r rs (lies_inside r.0 r.1 r.0 (omega arith) begin.0.0) in
           absurd (omega (arith, all, sum))
+
+  -- ranges that begin in order, and of which no two have one number of the partition, lie apart
+  pub ranges_apart : (rs : List Range) (low : ℕ) → Climbs low rs → AllByRecursion Begins rs → ((n : ℕ) → IsOf w 1 cs n → count_by (holds n) rs ≤ 1) → Apart rs
+  ranges_apart [] low climbs begin once = tt
+  ranges_apart (r ∷ rs) low climbs begin once = (
+    past r.1 r.0 rs climbs.1 begin.1 (λ n from upto is.
+        let most = once n is in
+        let sum = count_yes n r rs (lies_inside r.0 r.1 n from upto) in
+        omega (arith, most, sum)),
+    ranges_apart rs r.0 climbs.1 begin.1 (λ n is.
+        let most = once n is in
+        let sum = count_cons n r rs in
+        omega (arith, most, sum)),
+  )
 
   stays_past : (s m top : ℕ) (rs : List Range) → AllByRecursion (Stays s top) rs → AllByRecursion (λ (r : Range). m < r.0) rs → AllByRecursion (Stays (m + 1) top) rs
   stays_past s m top [] stays above = tt

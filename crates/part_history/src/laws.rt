@@ -13,6 +13,7 @@ ghost use Rattle.mt_model.specs.Partial.{Partly};
 ghost use Rattle.part_name.specs.PartNames.{Before, IsPartName};
 ghost use Rattle.part_history.specs.declared.part.CorePart.{CorePart};
 ghost use Rattle.part_history.specs.Entered.{next_number, part_of_insert, parts_after, parts_upto, with_part};
+ghost use Rattle.part_history.specs.Merges.{IsMergedPart};
 ghost use Rattle.part_history.specs.Parts.{AreInBlockOrder, TableStands, parts_in, portion_of, rows_of_parts};
 
 /// The rows of the parts that stand for a table, part after part in block order, are what merges may have left of its live rows.
@@ -39,6 +40,23 @@ pub fn parts_stand_as_histories_grow()
         → AreInBlockOrder (with_part (part_of_insert schema (next_number i.table h) i) parts) }
     ensures others { (partition : Partition) (parts : List CorePart) → AreInBlockOrder parts
         → parts_upto partition parts ++ parts_after partition parts ≡ parts }
+{}
+
+/// Parts that stand for a table in block order still do so where a run of neighbours of one partition is replaced by what a
+/// merge may make of them.
+pub fn merged_parts_stand()
+    ensures stand { (h : History) (schema : Schema) (front sources back : List CorePart)
+        (part : CorePart) → IsLegal h → schema_of part.table h ≡ Some schema
+        → IsMergedPart h schema sources part
+        → TableStands part.table (front ++ (sources ++ back)) h
+        → AreInBlockOrder (front ++ (sources ++ back))
+        → TableStands part.table (front ++ part ∷ back) h }
+    ensures order { (h : History) (schema : Schema) (front sources back : List CorePart)
+        (part : CorePart) → IsLegal h → schema_of part.table h ≡ Some schema
+        → IsMergedPart h schema sources part
+        → TableStands part.table (front ++ (sources ++ back)) h
+        → AreInBlockOrder (front ++ (sources ++ back))
+        → AreInBlockOrder (front ++ part ∷ back) }
 {}
 
 /// The parts that stand for a table are of partitions that it may have and end below its next number, and of two of one

@@ -1,3 +1,4 @@
+pub mod Merging
 pub mod Numerals
 pub mod Pieces
 pub mod Texts

@@ -1,3 +1,4 @@
 pub mod Fields
+pub mod Merged
 pub mod PartNames
 pub mod Standing

@@ -72,8 +72,8 @@ fn block(digits: &[u8]) -> Option<u32>
     }
 }
 
-// The partition that a text spells.
-fn partition(text: &[u8]) -> Option<Partition>
+/// The partition that a text spells, or none where it spells none. Takes no memory.
+pub fn parse_partition(text: &[u8]) -> Option<Partition>
     ensures spelled { IfSome result (λ p. IsPartition p × (partition_text p ≡ text.now)) }
     ensures read { (p : Partition) → IsPartition p → partition_text p ≡ text.now → result ≡ Some p }
 {
@@ -106,7 +106,7 @@ fn partition_in_front(text: &[u8]) -> Option<(Partition, &[u8])>
         → IsSomeAnd result (λ q. (q.0 ≡ p) × (q.1.now ≡ rest)) }
 {
     let (front, rest) = split(text)?;
-    let found = partition(front)?;
+    let found = parse_partition(front)?;
     Some((found, rest))
 }
 

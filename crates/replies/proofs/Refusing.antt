@@ -2,6 +2,7 @@
 use Rattle.std.proofs.Common.{◌≡◌, ℕ, ◌<◌, List, [], ◌∷◌, length, refl, sym, ap, ◌∙◌, subst, inl, inr, arith, Ok, Err}
 use Rattle.mt_values.specs.declared.command.Command.{Command}
 use Rattle.mt_values.specs.declared.statement.Cause.{Cause}
+use Rattle.mt_values.specs.declared.statement.OptimizeText.{OptimizeText}
 use Rattle.mt_values.specs.declared.statement.SelectText.{SelectText}
 use Rattle.mt_values.specs.declared.statement.Statement.{Statement}
 use Rattle.mt_values.specs.declared.statement.Statement.TheVariants as statement
@@ -13,8 +14,9 @@ use Rattle.mt_model.specs.History.{History}
 use Rattle.mt_model.specs.Outside.{Outside, ReadOrStageFailed, TurnFailed}
 use Rattle.mt_model.specs.Refusals.{refusal_line, refusal_of_cause}
 use Rattle.mt_model.specs.Queries.{query_of_select}
+use Rattle.mt_model.specs.Reply.{ok_line}
 use Rattle.mt_model.specs.declared.query.Query.{Query}
-use Rattle.mt_model.specs.Session.{RefusedAs, RefusedInTurn, StopsAfter, Takes, TakesCommands, TurnAllows, TurnRefuses}
+use Rattle.mt_model.specs.Session.{MergeFailed, RefusedAs, RefusedInTurn, StopsAfter, Takes, TakesCommands, TakesOptimize, TurnAllows, TurnRefuses}
 use Rattle.replies.specs.Foreseen.{history}
 use Rattle.replies.proofs.Ends.{whole_front, added_nothing}
 
@@ -73,6 +75,22 @@ module _ (n : Outside) (kept : Told) (reply : List ℕ) where
 
     pub explains_all : Explains (history kept) s (length kept.list) reply → Takes n (history kept) 0 (Ok (statement.Explain s)) (length kept.list) (length kept.list) reply
     explains_all explains = inl (subst (λ (h : History). Explains h s (length kept.list) reply) (sym (whole_front kept)) explains, added_nothing kept)
+
+  -- an OPTIMIZE
+  module _ (o : OptimizeText) where
+    abbrev Optimized : Type 0
+    Optimized = TakesOptimize n (history kept) 0 o (length kept.list) (length kept.list) reply
+
+    pub optimize_refused : (why : Refusal) → commands_of (history kept) (statement.Optimize o) ≡ Err why → reply ≡ refusal_line why → Optimized
+    optimize_refused why is line = inr (why, ap (λ (h : History). commands_of h (statement.Optimize o)) (whole_front kept) ∙ is, refused why line)
+
+    -- its table is there
+    module _ (there : commands_of (history kept) (statement.Optimize o) ≡ Ok []) where
+      pub optimize_done : reply ≡ ok_line (length kept.list) → Optimized
+      optimize_done line = inl (ap (λ (h : History). commands_of h (statement.Optimize o)) (whole_front kept) ∙ there, added_nothing kept, inl line)
+
+      pub optimize_failed : MergeFailed n o reply → Optimized
+      optimize_failed failed = inl (ap (λ (h : History). commands_of h (statement.Optimize o)) (whole_front kept) ∙ there, added_nothing kept, inr failed)
 
   -- a text that is no statement
   pub text_refused : (why : Cause) → reply ≡ refusal_line (refusal_of_cause why) → Takes n (history kept) 0 (Err why) (length kept.list) (length kept.list) reply

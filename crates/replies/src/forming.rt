@@ -1,4 +1,4 @@
-// The replies to a command, whether it will be committed or not.
+// The replies to a command and to a merge, whether they will be committed or not.
 ghost use Rattle.std.specs.Prelude.{◌≡◌, ◌+◌, IfOk};
 ghost use Rattle.mt_model.specs.declared.refusal.Refusal.TheVariants as refusal;
 ghost use Rattle.mt_model.specs.Refusals.{refusal_line};
@@ -43,5 +43,27 @@ pub fn replies_after(
         accepted,
         unsettled,
         failed,
+    })
+}
+
+/// The replies to a merge that the outside fails, formed before its parts are read, so that no memory is wanted for one then.
+#[derive(Drop)]
+pub struct MergeReplies {
+    /// Where parts were not read, or what they became was not sealed.
+    pub failed: Reply,
+    /// Where the publish or the sync failed.
+    pub unsettled: Reply,
+}
+
+/// The replies to a merge that the outside fails. No command is accepted by it.
+///
+/// `NoMemory` where an allocation failed.
+pub fn merge_replies(alloc: Global) -> Result<MergeReplies, NoMemory>
+    ensures failed { IfOk result (λ r. r.failed ≡ refusal_line refusal.Failed) }
+    ensures unsettled { IfOk result (λ r. r.unsettled ≡ refusal_line (refusal.Unsettled 0)) }
+{
+    Ok(MergeReplies {
+        failed: failed_line(alloc)?,
+        unsettled: unsettled_line(alloc, 0)?,
     })
 }

@@ -1,5 +1,5 @@
 //! The replies that need no store: the lines that refuse a statement, the rows of a SELECT, the numbers of an EXPLAIN, and the
-//! replies to a command, formed before its commit. What replies told, and how they are written.
+//! replies to a command and to a merge, formed before their commits. What replies told, and how they are written.
 #![tactic(auto)]
 
 mod forming;
@@ -9,7 +9,7 @@ mod reply;
 mod tally;
 mod writing;
 
-pub use forming::{Replies, replies_after};
+pub use forming::{MergeReplies, Replies, merge_replies, replies_after};
 pub use lines::{damaged, data_line, failed_line, no_table_line, stage_line, unsettled_line};
 pub use printing::{explained, print};
 pub use reply::Reply;

@@ -10,7 +10,7 @@ use crate::reply::Reply;
 use mt_base::{NoMemory, Seq, Twin};
 use mt_model::Refusal;
 use mt_outside::DiskError;
-use mt_values::{DataFault, FileId, Name, SelectText};
+use mt_values::{DataFault, FileId, Name};
 use part_name::{PartName, text as part_text};
 use std::alloc::Global;
 
@@ -64,17 +64,19 @@ pub fn unsettled_line(alloc: Global, accepted: usize) -> Result<Reply, NoMemory>
     Reply::refused(alloc, &Refusal::Unsettled { accepted })
 }
 
-/// The reply to a SELECT that met damage in a file of a part.
+/// The reply to a statement that met damage in a file of a part of a table.
+///
+/// `NoMemory` where an allocation failed.
 pub fn damaged(
     alloc: Global,
-    text: &SelectText,
+    table: &Name,
     part: &PartName,
     file: FileId,
 ) -> Result<Reply, NoMemory>
     ensures { IfOk result (λ reply. reply ≡ refusal_line
-        (Refusal.Damaged text.now.table (part_text part.now) (file_name file))) }
+        (Refusal.Damaged table.now (part_text part.now) (file_name file))) }
 {
-    let table = text.table.twin(alloc)?;
+    let table = table.twin(alloc)?;
     let part = Seq::of(part_text(alloc, part)?);
     let file = Seq::of(file.name(alloc)?.into_bytes());
     let why = Refusal::Damaged { table, part, file };

@@ -1,5 +1,5 @@
 -- The productions of the grammar tell their first faults, one by one.
-use Rattle.std.proofs.Common.{◌≡◌, ℕ, zero, suc, ◌+◌, Bool, true, false, ◌&&◌, cond, nat_lt, List, [], ◌∷◌, ◌++◌, length, Result, Ok, Err, refl, arith, ◌∙◌, ap, codes}
+use Rattle.std.proofs.Common.{◌≡◌, ℕ, zero, suc, ◌+◌, Bool, true, false, ◌&&◌, cond, nat_lt, List, [], ◌∷◌, ◌++◌, length, Option, Some, None, Result, Ok, Err, refl, arith, ◌∙◌, ap, codes}
 use Rattle.std.specs.List.{list_any}
 use Rattle.mt_values.specs.Conditions.{Condition}
 use Rattle.mt_values.specs.declared.expr.TestText.{TestText}
@@ -20,7 +20,7 @@ use Rattle.mt_values.specs.declared.token.Placed.{Placed}
 use Rattle.mt_values.specs.declared.token.Symbol.TheVariants as symbol
 use Rattle.mt_values.specs.declared.token.Token.{Token}
 use Rattle.mt_values.specs.declared.token.Token.TheVariants as token
-use Rattle.mt_values.specs.Grammar.{cause_at, is_behind_limit, place_of_first, statement_limit, statement_of, statement_read, tokens_and_end, clause_or_over, clauses, clauses_within, create, ends, engine, exactly, explain, format, insert, is_format, is_order_by, is_symbol, is_word, key, keyword, list_of, name, number, one_name, order_by, partition_by, primary_key, same_bytes, select, selection, settings, statement_reader, table_element, the, where_part}
+use Rattle.mt_values.specs.Grammar.{cause_at, is_behind_limit, place_of_first, statement_limit, statement_of, statement_read, tokens_and_end, clause_or_over, clauses, clauses_within, create, ends, engine, exactly, explain, final, format, insert, is_format, is_order_by, is_symbol, is_word, key, keyword, list_of, name, number, one_name, optimize, order_by, partition_by, partition_id, primary_key, same_bytes, select, selection, settings, string, statement_reader, table_element, the, where_part}
 use Rattle.mt_values.specs.Readers.{Reader, Reading, choose, done, either, expect}
 use Rattle.mt_values.specs.Tokens.{is_keyword}
 use Rattle.sql_read.proofs.TableElements.{element_takes}
@@ -31,7 +31,7 @@ use Rattle.sql_read.specs.Places.{GoesOn, DeepFault, FirstFault, LongFault}
 use Rattle.sql_read.proofs.NextClauses.{by_partition, by_primary, by_settings, last_way, no_partition_way, no_primary_way}
 use Rattle.sql_read.proofs.Faults.{Told, done_good}
 use Rattle.sql_read.proofs.FaultConditions.{where_sound}
-use Rattle.sql_read.proofs.FaultTokens.{Begun, a_name, a_number, begun, choose_begun, digits_live, ends_begun, keyword_then, names_live, names_then, one_name_sound, passes, passing_apart}
+use Rattle.sql_read.proofs.FaultTokens.{Begun, a_name, a_number, a_string, begun, choose_begun, digits_live, ends_begun, keyword_then, names_live, names_then, one_name_sound, passes, passing_apart, strings_live}
 use Rattle.sql_read.proofs.FaultParts.{Live, Sound, choose_this_sound, ends_sound, list_sound, live_of, symbol_apart}
 
 -- ---- parts, by the token that begins what follows them
@@ -210,21 +210,58 @@ module _ (n : ℕ) where
       let made = λ (asked : SelectText). statement.Explain asked in
       keyword_then n (codes "SELECT") refl (select_read made) (token.Symbol symbol.Star) (select_read_sound made)
 
-  -- a SELECT or an EXPLAIN, by the first keyword
-  asking_begun : Begun n (choose (is_word (is_keyword (codes "EXPLAIN"))) explain select) (token.Word (codes "SELECT"))
+  -- FINAL may be left out, where a semicolon begins what follows it
+  final_begun : (next : Bool → Reader Statement) → ((whole : Bool) → Begun n (next whole) (token.Symbol symbol.Semicolon)) → Begun n (final next) (token.Symbol symbol.Semicolon)
+  final_begun next ending =
+      choose_begun n (is_word (is_keyword (codes "FINAL"))) (expect (keyword (codes "FINAL")) (λ v. next true)) (next false) (token.Word (codes "FINAL")) (token.Symbol symbol.Semicolon) refl
+      (begun n (codes "FINAL") refl (next true) (token.Symbol symbol.Semicolon) (ending true).sound) (ending false)
+
+  -- and so may a partition
+  partition_begun : (next : Option (List ℕ) → Reader Statement) → ((id : Option (List ℕ)) → Begun n (next id) (token.Symbol symbol.Semicolon)) → Begun n (partition_id next) (token.Symbol symbol.Semicolon)
+  partition_begun next ending =
+      let id = strings_live n (λ id. next (Some id)) (λ id. live_of n (next (Some id)) (token.Symbol symbol.Semicolon) (ending (Some id)).sound) in
+      let named = keyword_then n (codes "ID") refl (expect string (λ id. next (Some id))) a_string id in
+      choose_begun n (is_word (is_keyword (codes "PARTITION"))) (expect (keyword (codes "PARTITION")) (λ v. expect (keyword (codes "ID")) (λ v. expect string (λ id. next (Some id))))) (next None)
+      (token.Word (codes "PARTITION")) (token.Symbol symbol.Semicolon) refl
+      (begun n (codes "PARTITION") refl (expect (keyword (codes "ID")) (λ v. expect string (λ id. next (Some id)))) (token.Word (codes "ID")) named) (ending None)
+
+  -- what follows OPTIMIZE
+  optimize_read : Reader Statement
+  optimize_read =
+      expect (keyword (codes "TABLE")) (λ v. expect name (λ table. partition_id (λ id. final (λ whole.
+      ends (statement.Optimize (record { table = table; partition = id; whole = whole }))))))
+
+  optimize_read_sound : Sound n optimize_read (token.Word (codes "TABLE"))
+  unfolding optimize_read
+  optimize_read_sound =
+      let made = λ (table : List ℕ) (id : Option (List ℕ)) (whole : Bool). statement.Optimize (record { table = table; partition = id; whole = whole }) in
+      let rest = λ (table : List ℕ). partition_id (λ id. final (λ whole. ends (made table id whole))) in
+      keyword_then n (codes "TABLE") refl (expect name rest) a_name
+      (names_then n rest (token.Symbol symbol.Semicolon)
+      (λ table. (partition_begun (λ id. final (λ whole. ends (made table id whole))) (λ id. final_begun (λ whole. ends (made table id whole)) (λ whole. ends_begun n (made table id whole)))).sound))
+
+  -- an OPTIMIZE or a SELECT, by the first keyword
+  merging_begun : Begun n (choose (is_word (is_keyword (codes "OPTIMIZE"))) optimize select) (token.Word (codes "SELECT"))
+  unfolding optimize_read select_read rows_read
+  merging_begun =
+      let made = λ (asked : SelectText). statement.Select asked in
+      choose_begun n (is_word (is_keyword (codes "OPTIMIZE"))) optimize select (token.Word (codes "OPTIMIZE")) (token.Word (codes "SELECT")) refl
+      (begun n (codes "OPTIMIZE") refl optimize_read (token.Word (codes "TABLE")) optimize_read_sound)
+      (begun n (codes "SELECT") refl (select_read made) (token.Symbol symbol.Star) (select_read_sound made))
+
+  -- or an EXPLAIN
+  asking_begun : Begun n (choose (is_word (is_keyword (codes "EXPLAIN"))) explain (choose (is_word (is_keyword (codes "OPTIMIZE"))) optimize select)) (token.Word (codes "SELECT"))
   unfolding explain_read select_read rows_read
   asking_begun =
-      let made = λ (asked : SelectText). statement.Select asked in
-      choose_begun n (is_word (is_keyword (codes "EXPLAIN"))) explain select (token.Word (codes "EXPLAIN")) (token.Word (codes "SELECT")) refl
-      (begun n (codes "EXPLAIN") refl explain_read (token.Word (codes "SELECT")) explain_read_sound)
-      (begun n (codes "SELECT") refl (select_read made) (token.Symbol symbol.Star) (select_read_sound made))
+      choose_begun n (is_word (is_keyword (codes "EXPLAIN"))) explain (choose (is_word (is_keyword (codes "OPTIMIZE"))) optimize select) (token.Word (codes "EXPLAIN")) (token.Word (codes "SELECT")) refl
+      (begun n (codes "EXPLAIN") refl explain_read (token.Word (codes "SELECT")) explain_read_sound) merging_begun
 
   statement_sound : (text lines : List ℕ) (ended : Bool) → Sound n (statement_reader text lines ended) (token.Word (codes "SELECT"))
   unfolding create_read insert_read engine_read
   statement_sound text lines ended =
       let by_create = is_word (is_keyword (codes "CREATE")) in
       let by_insert = is_word (is_keyword (codes "INSERT")) in
-      let asking = choose (is_word (is_keyword (codes "EXPLAIN"))) explain select in
+      let asking = choose (is_word (is_keyword (codes "EXPLAIN"))) explain (choose (is_word (is_keyword (codes "OPTIMIZE"))) optimize select) in
       (choose_begun n by_create (create text) (choose by_insert (insert lines ended) asking) (token.Word (codes "CREATE")) (token.Word (codes "SELECT")) refl
       (begun n (codes "CREATE") refl (create_read text) (token.Word (codes "TABLE")) (create_read_sound text))
       (choose_begun n by_insert (insert lines ended) asking (token.Word (codes "INSERT")) (token.Word (codes "SELECT")) refl

@@ -1,5 +1,5 @@
 -- Single tokens of the grammar, and what follows them, tell their first faults.
-use Rattle.std.proofs.Common.{◌≡◌, ℕ, suc, Bool, true, false, cond, List, Result, Ok, Err, refl, arith, ap, codes}
+use Rattle.std.proofs.Common.{◌≡◌, ℕ, suc, Bool, true, false, cond, List, [], Result, Ok, Err, refl, arith, ap, codes}
 use Rattle.mt_values.specs.declared.engine.Aggregate.TheVariants as aggregate
 use Rattle.mt_values.specs.declared.statement.Slip.{Slip}
 use Rattle.mt_values.specs.declared.statement.Slip.TheVariants as slip
@@ -118,12 +118,15 @@ operator_short = wrong_short operator operator_wrong
 pub plain_short : (t : Token) → plain t ≡ Err slip.LongName → ⊥
 plain_short = wrong_short plain plain_wrong
 
--- a name, a number and a type that begin statements below
+-- a name, a number, a string and a type that begin statements below
 abbrev pub a_name : Token
 a_name = token.Word (codes "t")
 
 abbrev pub a_number : Token
 a_number = token.Number (codes "1")
+
+abbrev pub a_string : Token
+a_string = token.Text []
 
 abbrev pub a_type : Token
 a_type = token.Word (codes "UInt8")
@@ -142,6 +145,9 @@ module _ {S : Type 0} (n : ℕ) where
 
   pub digits_live : (next : List ℕ → Reader S) → ((digits : List ℕ) → Live n (next digits)) → Sound n (expect number next) a_number
   digits_live next live = sound_fewer n (expect number next) a_number (expect_live_sound n number a_number (codes "1") refl number_names next (λ d. (live d).good) (λ d. (live d).goes_on))
+
+  pub strings_live : (next : List ℕ → Reader S) → ((bytes : List ℕ) → Live n (next bytes)) → Sound n (expect string next) a_string
+  strings_live next live = sound_fewer n (expect string next) a_string (expect_live_sound n string a_string [] refl string_names next (λ b. (live b).good) (λ b. (live b).goes_on))
 
   pub types_live : (next : ColType → Reader S) → ((t : ColType) → Live n (next t)) → Sound n (expect plain next) a_type
   types_live next live = sound_fewer n (expect plain next) a_type (expect_live_sound n plain a_type type.UInt8 refl plain_names next (λ t. (live t).good) (λ t. (live t).goes_on))

@@ -16,10 +16,6 @@ use Rattle.sql_read.specs.Reads.{Reads, first_is}
 use Rattle.sql_read.proofs.Chains.{reads_rest}
 use Rattle.sql_read.proofs.Choices.{choose_other, choose_this}
 
-pub sign_either : {S : Type 0} (minus : Bool) (next : Bool → Reader S) (ts : List Placed) → either minus (next true) (next false) ts ≡ next minus ts
-sign_either true next ts = refl
-sign_either false next ts = refl
-
 -- the next token passes one of two tests
 pub first_is_either : (this other : Token → Bool) (ts : List Placed) → first_is this ts || first_is other ts ≡ first_is (λ t. this t || other t) ts
 first_is_either this other [] = refl

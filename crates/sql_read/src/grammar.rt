@@ -33,6 +33,9 @@ fn read(
     if tokens.at_keyword(b"EXPLAIN") {
         return tokens.explain(alloc);
     }
+    if tokens.at_keyword(b"OPTIMIZE") {
+        return tokens.optimize(alloc);
+    }
     tokens.select(alloc)
 }
 

@@ -1,13 +1,16 @@
 // The productions of the grammar, each of which takes its tokens from the left.
 ghost use Rattle.std.specs.Prelude.{◌∷◌, [], Bool, List};
 ghost use Rattle.mt_values.specs.declared.token.Placed.{Placed};
-ghost use Rattle.mt_values.specs.Grammar.{create, explain, insert, key, list_of, one_name, select, select_text, selection};
+ghost use Rattle.mt_values.specs.Grammar.{create, explain, insert, key, list_of, one_name, optimize, partition_id, select, select_text, selection};
 ghost use Rattle.sql_read.specs.Parts.{inserted_format, key_after, name_after, selected_table};
 ghost use Rattle.sql_read.specs.Reads.{Ends, IsRead, Reads, ReadsEnd};
 
 use crate::cursor::Cursor;
 use mt_base::{Seq, Stop};
-use mt_values::{CreateText, InsertText, Name, SelectText, Selected, Slip, Statement, Symbol};
+use mt_values::{
+    Bytes, CreateText, InsertText, Name, OptimizeText, SelectText, Selected, Slip, Statement,
+    Symbol,
+};
 use std::alloc::Global;
 
 // The list of one name.
@@ -186,5 +189,32 @@ impl Cursor<'_> {
         let asked = self.select_text(alloc)?;
         self.end()?;
         Ok(Statement::Explain(asked))
+    }
+
+    // [ PARTITION ID string ]
+    fn partition_id(&mut self, alloc: Global) -> Result<Option<Bytes>, Stop<Slip>>
+        ensures { Reads partition_id self.old result self.new }
+    {
+        if !self.skip_keyword(b"PARTITION") {
+            return Ok(None);
+        }
+        self.keyword(b"ID")?;
+        let id = self.string(alloc)?;
+        Ok(Some(id))
+    }
+
+    /// OPTIMIZE TABLE name [ PARTITION ID string ] [ FINAL ]. Its name and the id are copied, once.
+    pub fn optimize(&mut self, alloc: Global) -> Result<Statement, Stop<Slip>>
+        ensures { IsRead optimize self.old result self.new }
+    {
+        let table = self.name_after(alloc, b"OPTIMIZE", b"TABLE")?;
+        let partition = self.partition_id(alloc)?;
+        let whole = self.skip_keyword(b"FINAL");
+        self.end()?;
+        Ok(Statement::Optimize(OptimizeText {
+            table,
+            partition,
+            whole,
+        }))
     }
 }

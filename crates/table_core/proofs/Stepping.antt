@@ -1,13 +1,16 @@
 -- What always holds of the core, after one more event.
-use Rattle.std.proofs.Common.{◌≡◌, ℕ, ◌<◌, Bool, true, false, cond, List, [], ◌∷◌, ◌++◌, Some, None, length, take, drop, slice_get, All, refl, sym, ap, ◌∙◌, subst, length-append, arith}
+use Rattle.std.proofs.Common.{◌≡◌, ℕ, ◌<◌, Bool, true, false, cond, List, [], ◌∷◌, ◌++◌, Option, Some, None, length, take, drop, slice_get, All, refl, sym, ap, ◌∙◌, subst, length-append, arith, zero, suc}
 use Rattle.std.specs.Prelude.{IsSome}
+use Rattle.std.specs.List.{AllByRecursion}
 use Rattle.std.proofs.lemmas.List.{take_all, take-append-drop, take-append-le}
-use Rattle.std.proofs.lemmas.List.Elements.{All-nil, All-push, All-weaker, filter-append}
+use Rattle.std.proofs.lemmas.List.Elements.{All-from_recursion, All-nil, All-push, All-weaker, filter-append}
 use Rattle.std.proofs.lemmas.Option.{get_or_from_slice_get, slice_get_within}
 use Rattle.mt_values.specs.declared.command.Command.TheVariants as command
 use Rattle.mt_values.specs.declared.command.Create.{Create}
 use Rattle.mt_values.specs.declared.command.Entry.{Entry}
 use Rattle.mt_values.specs.declared.command.Insert.{Insert}
+use Rattle.mt_base.specs.declared.partition.Partition.{Partition}
+use Rattle.mt_values.specs.declared.schema.Schema.{Schema}
 use Rattle.mt_values.specs.Grammar.{same_bytes}
 use Rattle.mt_model.specs.History.{History, IsInsertInto, IsLegal, IsTableSchema, creates, entered, schema_of}
 use Rattle.mt_model.proofs.Histories.{legal_front, legal_push}
@@ -19,16 +22,22 @@ use Rattle.table_core.specs.declared.event.Crash.TheVariants as crash
 use Rattle.table_core.specs.declared.event.Event.{Event}
 use Rattle.table_core.specs.declared.event.Event.TheVariants as event
 use Rattle.table_core.specs.declared.event.Guard.TheVariants as guard
+use Rattle.table_core.specs.declared.event.Merge.{Merge}
 use Rattle.table_core.specs.declared.event.Outcome.{Outcome}
 use Rattle.table_core.specs.declared.event.Outcome.TheVariants as outcome
+use Rattle.part_name.specs.declared.part.PartName.{PartName}
+use Rattle.part_name.specs.Merged.{merged_name, merged_of}
+use Rattle.part_name.proofs.Merging.{merged_partition}
 use Rattle.part_history.specs.declared.part.CorePart.{CorePart}
+use Rattle.part_history.specs.Merges.{IsMergedPart, names_of}
 use Rattle.table_core.specs.declared.snapshot.Snapshot.{Snapshot}
 use Rattle.table_core.specs.Core.{Core, IsCore, IsSnapshot}
-use Rattle.part_history.specs.Parts.{AreInBlockOrder, PartsStand, TableStands, core_parts_of, rows_of_parts}
+use Rattle.part_history.specs.Parts.{AreInBlockOrder, PartsStand, TableStands, core_parts_of, parts_in, rows_of_parts}
 use Rattle.part_history.specs.Entered.{next_number, part_of_insert}
-use Rattle.table_core.specs.Steps.{AcceptGives, AcceptsInsert, AddsPart, AreLeftOf, CrashMeets, GivesOutcome, MayAccept, MayCome, MayCrash, snapshot_of, without_snapshots}
+use Rattle.table_core.specs.Steps.{AcceptGives, AcceptsInsert, AddsPart, AreLeftOf, CrashMeets, GivesOutcome, MayAccept, MayCome, MayCrash, MayPut, PutGives, PutsMerge, SwapsParts, beside, part_of_merge, snapshot_of, sources_among, without_snapshots}
 use Rattle.part_history.proofs.Growing.{drawn_apart, table_entered, table_kept}
-use Rattle.part_history.proofs.Joined.{parts_joined}
+use Rattle.part_history.proofs.Joined.{all_of, parts_joined}
+use Rattle.part_history.proofs.Merging.{merged_order, merged_stand}
 
 -- ---- one part more
 
@@ -103,11 +112,18 @@ pub record Took (old new : Core) : Type 0 where
   pub there : IsSome (schema_of table old.history)
   pub new_is : new ≡ record { parts = old.parts; history = old.history; snapshots = old.snapshots ++ snapshot_of table old ∷ [] }
 
--- an accept leaves the state as it was, or makes a table, or adds a part
+pub record Merged (old new : Core) : Type 0 where
+  pub merge : Merge
+  pub name : PartName
+  pub may : MayPut old merge
+  pub puts : PutsMerge old merge name new
+
+-- an accept or a put leaves the state as it was, or makes a table, or adds a part, or puts one in place of others
 pub data Entered (old new : Core) : Type 0 where
   Same : new ≡ old → Entered old new
   Made : Created old new → Entered old new
   Added : Inserted old new → Entered old new
+  Swapped : Merged old new → Entered old new
 
 pub data Change (old new : Core) : Type 0 where
   Entering : Entered old new → Change old new
@@ -124,14 +140,24 @@ enters old new (accept.Insert session i) (outcome.Refused guard.Numbers) may g =
 enters old new (accept.Create session c) given may g = absurd g
 enters old new (accept.Insert session i) given may g = absurd g
 
+pub puts : (old new : Core) (m : Merge) (given : Outcome) → MayPut old m → PutGives old m given new → Entered old new
+puts old new m (outcome.Put name) may g = Swapped (record { merge = m; name = name; may = may; puts = g })
+puts old new m (outcome.Refused guard.NoTable) may g = Same g.1
+puts old new m (outcome.Refused guard.NotNeighbours) may g = Same g.2
+puts old new m (outcome.Refused guard.Levels) may g = Same g.2
+puts old new m given may g = absurd g
+
 -- what a crash meets
-pub meets : (old met : Core) (c : Crash) → MayCrash old.history c → CrashMeets old c met → Entered old met
+pub meets : (old met : Core) (c : Crash) → MayCrash old c → CrashMeets old c met → Entered old met
 meets old met crash.Between may m = Same m
 meets old met (crash.Within a false) may m = Same m
 meets old met (crash.Within a true) may m = enters old met a m.0 may m.1
+meets old met (crash.WithinPut p false) may m = Same m
+meets old met (crash.WithinPut p true) may m = puts old met p m.0 may m.1
 
-pub changes : (old new : Core) (e : Event) (given : Outcome) → MayCome old.history e → GivesOutcome old e given new → Change old new
+pub changes : (old new : Core) (e : Event) (given : Outcome) → MayCome old e → GivesOutcome old e given new → Change old new
 changes old new (event.Accept a) given may g = Entering (enters old new a given may g)
+changes old new (event.PutMerge m) given may g = Entering (puts old new m given may g)
 changes old new (event.TakeSnapshot table) (outcome.Taken number) may g = Taken (record { table = table; there = g.0; new_is = g.2 })
 changes old new (event.TakeSnapshot table) (outcome.Refused guard.NoTable) may g = Entering (Same g.1)
 changes old new (event.ReadSnapshot number) (outcome.Rows rows place) may g = Entering (Same g.4)
@@ -140,6 +166,32 @@ changes old new (event.Crash c) outcome.Restarted may g = Ended g.0 (meets old g
 changes old new (event.TakeSnapshot table) given may g = absurd g
 changes old new (event.ReadSnapshot number) given may g = absurd g
 changes old new (event.Crash c) given may g = absurd g
+
+-- ---- runs of parts
+
+dropped_all : (P : CorePart → Type 0) (n : ℕ) (ps : List CorePart) → AllByRecursion P ps → AllByRecursion P (drop n ps)
+dropped_all P zero ps all = all
+dropped_all P (suc n) [] all = tt
+dropped_all P (suc n) (p ∷ ps) all = dropped_all P n ps all.1
+
+taken_all : (P : CorePart → Type 0) (n : ℕ) (ps : List CorePart) → AllByRecursion P ps → AllByRecursion P (take n ps)
+taken_all P zero ps all = tt
+taken_all P (suc n) [] all = tt
+taken_all P (suc n) (p ∷ ps) all = (all.0, taken_all P n ps all.1)
+
+changed_all : (w v : Partition) → w ≡ v → (ps : List CorePart) → AllByRecursion (λ (q : CorePart). q.name.partition ≡ w) ps → AllByRecursion (λ (q : CorePart). q.name.partition ≡ v) ps
+changed_all w v same [] all = tt
+changed_all w v same (p ∷ ps) all = (all.0 ∙ same, changed_all w v same ps all.1)
+
+-- parts of one partition are of that of the name that a merge of them has
+merged_own : (w : Partition) (ps : List CorePart) (name : PartName) → AllByRecursion (λ (q : CorePart). q.name.partition ≡ w) ps → merged_of (names_of ps) ≡ Some name
+    → AllByRecursion (λ (q : CorePart). q.name.partition ≡ name.partition) ps
+merged_own w [] name own named = tt
+merged_own w (p ∷ ps) name own named =
+    let both : Some (merged_name p.name (names_of ps)) ≡ Some name = named in
+    let is : merged_name p.name (names_of ps) ≡ name = cc in
+    let same : w ≡ name.partition = sym own.0 ∙ (sym (merged_partition p.name (names_of ps)) ∙ ap (λ (n : PartName). n.partition) is) in
+    changed_all w name.partition same (p ∷ ps) own
 
 -- ---- what always holds
 
@@ -223,6 +275,69 @@ module _ (old new : Core) (session : ℕ) (i : Insert) (place : ℕ) (is : IsCor
             (subst (λ (x : History). All (IsSnapshot x) old.snapshots) more (snapshots_kept old.history (entry ∷ []) old.snapshots is.snapshots));
       }
 
+-- parts in place of which a merge's part is put
+module _ (old new : Core) (m : Merge) (name : PartName) (is : IsCore old) (may : MayPut old m) (p : PutsMerge old m name new) where
+  abbrev merged : CorePart
+  merged = part_of_merge m name
+
+  abbrev sources : List CorePart
+  sources = sources_among (beside old m) m
+
+  sources_own : AllByRecursion (λ (q : CorePart). q.name.partition ≡ m.partition) sources
+  sources_own =
+      let beside_them = parts_in m.partition (beside old m) in
+      taken_all (λ (q : CorePart). q.name.partition ≡ m.partition) m.count (drop m.first beside_them)
+      (dropped_all (λ (q : CorePart). q.name.partition ≡ m.partition) m.first beside_them (all_of m.partition (beside old m)))
+
+  schema_there : (o : Option Schema) → IsSome o → (schema : Schema) × (o ≡ Some schema)
+  schema_there None some = cc
+  schema_there (Some schema) some = (schema, refl)
+
+  there : (schema : Schema) × (schema_of m.table old.history ≡ Some schema)
+  there = schema_there (schema_of m.table old.history) p.there
+
+  is_merge : IsMergedPart old.history there.0 sources merged
+  is_merge = record {
+    named = p.named;
+    own = All-from_recursion (λ (q : CorePart). q.name.partition ≡ name.partition) sources (merged_own m.partition sources name sources_own p.named);
+    leaves = may there.0 there.1 p.neighbours;
+  }
+
+  stands_was : TableStands m.table (p.parts.front ++ (sources ++ p.parts.behind)) old.history
+  stands_was = subst (λ (ps : List CorePart). TableStands m.table ps old.history) p.parts.old_is (is.parts m.table)
+
+  order_was : AreInBlockOrder (p.parts.front ++ (sources ++ p.parts.behind))
+  order_was = subst AreInBlockOrder p.parts.old_is (is.order m.table)
+
+  put_stands : PartsStand new.parts old.history
+  put_stands t = by (same_bytes m.table t) refl
+    where
+      by : (b : Bool) → same_bytes m.table t ≡ b → TableStands t (core_parts_of t new.parts) old.history
+      by true same =
+          subst (λ (u : List ℕ). TableStands u (core_parts_of u new.parts) old.history) (same_is m.table t same)
+          (subst (λ (ps : List CorePart). TableStands m.table ps old.history) (sym p.parts.new_is)
+          (merged_stand old.history there.0 p.parts.front sources p.parts.behind merged is.legal there.1 is_merge stands_was order_was))
+      by false apart = subst (λ (ps : List CorePart). TableStands t ps old.history) (sym (p.parts.others t apart)) (is.parts t)
+
+  put_order : (t : List ℕ) → AreInBlockOrder (core_parts_of t new.parts)
+  put_order t = by (same_bytes m.table t) refl
+    where
+      by : (b : Bool) → same_bytes m.table t ≡ b → AreInBlockOrder (core_parts_of t new.parts)
+      by true same =
+          subst (λ (u : List ℕ). AreInBlockOrder (core_parts_of u new.parts)) (same_is m.table t same)
+          (subst AreInBlockOrder (sym p.parts.new_is)
+          (merged_order old.history there.0 p.parts.front sources p.parts.behind merged is.legal there.1 is_merge stands_was order_was))
+      by false apart = subst AreInBlockOrder (sym (p.parts.others t apart)) (is.order t)
+
+  pub put_core : IsCore new
+  put_core = record {
+    legal = subst IsLegal (sym p.history) is.legal;
+    parts = subst (PartsStand new.parts) (sym p.history) put_stands;
+    order = put_order;
+    snapshots = subst (λ (ss : List Snapshot). All (IsSnapshot new.history) ss) (sym p.snapshots)
+        (subst (λ (h : History). All (IsSnapshot h) old.snapshots) (sym p.history) is.snapshots);
+  }
+
 -- without its snapshots it holds too
 pub crash_core : (met : Core) → IsCore met → IsCore (without_snapshots met)
 crash_core met is = record { legal = is.legal; parts = is.parts; order = is.order; snapshots = All-nil (IsSnapshot met.history) }
@@ -230,6 +345,7 @@ crash_core met is = record { legal = is.legal; parts = is.parts; order = is.orde
 enters_core : (old new : Core) → IsCore old → Entered old new → IsCore new
 enters_core old new is (Same same) = subst IsCore (sym same) is
 enters_core old new is (Made m) = subst IsCore (sym m.new_is) (create_core old m.session m.create is m.schema m.absent m.few)
+enters_core old new is (Swapped m) = put_core old new m.merge m.name is m.may m.puts
 enters_core old new is (Added a) = insert_core old new a.session a.insert a.place is a.accepts a.into
 
 change_core : (old new : Core) → IsCore old → Change old new → IsCore new
@@ -238,5 +354,5 @@ change_core old new is (Taken t) = subst IsCore (sym t.new_is) (take_core old t.
 change_core old new is (Ended met entered same) = subst IsCore (sym same) (crash_core met (enters_core old met is entered))
 
 -- the core is kept
-pub gives_core : (old new : Core) (e : Event) (given : Outcome) → IsCore old → MayCome old.history e → GivesOutcome old e given new → IsCore new
+pub gives_core : (old new : Core) (e : Event) (given : Outcome) → IsCore old → MayCome old e → GivesOutcome old e given new → IsCore new
 gives_core old new e given is may g = change_core old new is (changes old new e given may g)

@@ -15,12 +15,13 @@ use Rattle.table_core.specs.declared.event.Event.{Event}
 use Rattle.table_core.specs.declared.event.Event.TheVariants as event
 use Rattle.table_core.specs.declared.event.Guard.{Guard}
 use Rattle.table_core.specs.declared.event.Guard.TheVariants as guard
+use Rattle.table_core.specs.declared.event.Merge.{Merge}
 use Rattle.table_core.specs.declared.event.Outcome.{Outcome}
 use Rattle.table_core.specs.declared.event.Outcome.TheVariants as outcome
 use Rattle.table_core.specs.declared.snapshot.Snapshot.{Snapshot}
 use Rattle.table_core.specs.Core.{Core, IsCore, IsSnapshot}
 use Rattle.table_core.specs.Runs.{AddsEntries, Comes, HasEntries, IsFrontOf, IsNoCrash, KeepsAccepted, KeepsHistory, KnowsSnapshots, MayRun, NoCrash, ReadsLeft, Runs, TakenAt, TellsLeft, TellsSnapshots, entry_of_accept}
-use Rattle.table_core.specs.Steps.{AcceptGives, AreLeftOf, CrashMeets, GivesOutcome, MayCome, snapshot_of, without_snapshots}
+use Rattle.table_core.specs.Steps.{AcceptGives, AreLeftOf, CrashMeets, GivesOutcome, MayCome, PutGives, snapshot_of, without_snapshots}
 use Rattle.part_history.proofs.Growing.{slice_last, slice_left}
 use Rattle.table_core.proofs.Stepping.{gives_core, reads_left}
 
@@ -50,6 +51,21 @@ accepts_or_not old new (accept.Insert session i) (outcome.Refused guard.Numbers)
 accepts_or_not old new (accept.Create session c) given g = absurd g
 accepts_or_not old new (accept.Insert session i) given g = absurd g
 
+-- a put leaves the history and the snapshots
+record Stays (old new : Core) : Type 0 where
+  history : new.history ≡ old.history
+  snapshots : new.snapshots ≡ old.snapshots
+
+same_stays : (old new : Core) → new ≡ old → Stays old new
+same_stays old new same = record { history = ap (λ (x : Core). x.history) same; snapshots = ap (λ (x : Core). x.snapshots) same }
+
+put_stays : (old new : Core) (m : Merge) (given : Outcome) → PutGives old m given new → Stays old new
+put_stays old new m (outcome.Put name) g = record { history = g.history; snapshots = g.snapshots }
+put_stays old new m (outcome.Refused guard.NoTable) g = same_stays old new g.1
+put_stays old new m (outcome.Refused guard.NotNeighbours) g = same_stays old new g.2
+put_stays old new m (outcome.Refused guard.Levels) g = same_stays old new g.2
+put_stays old new m given g = absurd g
+
 -- an event adds entries after the history
 record Longer (old : Core) (e : Event) (given : Outcome) (new : Core) : Type 0 where
   entries : History
@@ -58,6 +74,9 @@ record Longer (old : Core) (e : Event) (given : Outcome) (new : Core) : Type 0 w
 
 same_longer : (old new : Core) (e : Event) (given : Outcome) → AddsEntries e given [] → new ≡ old → Longer old e given new
 same_longer old new e given none same = record { entries = []; adds = none; history = ap (λ (x : Core). x.history) same ∙ sym (append-nil old.history) }
+
+stays_longer : (old new : Core) (e : Event) (given : Outcome) → AddsEntries e given [] → Stays old new → Longer old e given new
+stays_longer old new e given none stays = record { entries = []; adds = none; history = stays.history ∙ sym (append-nil old.history) }
 
 accept_longer : (old new : Core) (a : Accept) (given : Outcome) → Accepts old a given new ⊎ Refuses old given new → Longer old (event.Accept a) given new
 accept_longer old new a given (inl done) = record {
@@ -76,12 +95,15 @@ meets_longer : (old met : Core) (c : Crash) → CrashMeets old c met → Longer 
 meets_longer old met crash.Between m = same_longer old met (event.Crash crash.Between) outcome.Restarted refl m
 meets_longer old met (crash.Within a false) m = same_longer old met (event.Crash (crash.Within a false)) outcome.Restarted refl m
 meets_longer old met (crash.Within a true) m = done_longer old met a m.0 (accepts_or_not old met a m.0 m.1)
+meets_longer old met (crash.WithinPut p false) m = same_longer old met (event.Crash (crash.WithinPut p false)) outcome.Restarted refl m
+meets_longer old met (crash.WithinPut p true) m = stays_longer old met (event.Crash (crash.WithinPut p true)) outcome.Restarted refl (put_stays old met p m.0 m.1)
 
 crash_longer : (old met new : Core) (c : Crash) → Longer old (event.Crash c) outcome.Restarted met → new ≡ without_snapshots met → Longer old (event.Crash c) outcome.Restarted new
 crash_longer old met new c m same = record { entries = m.entries; adds = m.adds; history = ap (λ (x : Core). x.history) same ∙ m.history }
 
 gives_longer : (old new : Core) (e : Event) (given : Outcome) → GivesOutcome old e given new → Longer old e given new
 gives_longer old new (event.Accept a) given g = accept_longer old new a given (accepts_or_not old new a given g)
+gives_longer old new (event.PutMerge m) given g = stays_longer old new (event.PutMerge m) given refl (put_stays old new m given g)
 gives_longer old new (event.TakeSnapshot table) (outcome.Taken number) g = record { entries = []; adds = refl; history = ap (λ (x : Core). x.history) g.2 ∙ sym (append-nil old.history) }
 gives_longer old new (event.TakeSnapshot table) (outcome.Refused guard.NoTable) g = same_longer old new (event.TakeSnapshot table) (outcome.Refused guard.NoTable) refl g.1
 gives_longer old new (event.ReadSnapshot number) (outcome.Rows rows place) g = same_longer old new (event.ReadSnapshot number) (outcome.Rows rows place) refl g.4
@@ -109,6 +131,7 @@ accept_holds old new a given (inr refused) = Stay tt (ap (λ (x : Core). x.snaps
 
 gives_holds : (old new : Core) (e : Event) (given : Outcome) → GivesOutcome old e given new → Holds old e given new
 gives_holds old new (event.Accept a) given g = accept_holds old new a given (accepts_or_not old new a given g)
+gives_holds old new (event.PutMerge m) given g = Stay tt (put_stays old new m given g).snapshots
 gives_holds old new (event.TakeSnapshot table) (outcome.Taken number) g =
     More (record { table = table; event_is = refl; given_is = ap outcome.Taken g.1; snapshots = ap (λ (x : Core). x.snapshots) g.2 })
 gives_holds old new (event.TakeSnapshot table) (outcome.Refused guard.NoTable) g = Stay tt (ap (λ (x : Core). x.snapshots) g.1)
@@ -153,8 +176,8 @@ run_push (x ∷ es) [] old mid new e given r g = absurd r
 run_push (x ∷ es) (o ∷ os) old mid new e given r g = (r.0, r.1, run_push es os r.0 mid new e given r.2 g)
 
 -- the event after those that ran may come
-pub may_come : (events : List Event) (outcomes : List Outcome) (old mid : Core) (e : Event) (rest : List Event) → MayRun old (events ++ e ∷ rest) → Runs old events outcomes mid → MayCome mid.history e
-may_come [] [] old mid e rest may r = subst (λ (c : Core). MayCome c.history e) (sym r) may.0
+pub may_come : (events : List Event) (outcomes : List Outcome) (old mid : Core) (e : Event) (rest : List Event) → MayRun old (events ++ e ∷ rest) → Runs old events outcomes mid → MayCome mid e
+may_come [] [] old mid e rest may r = subst (λ (c : Core). MayCome c e) (sym r) may.0
 may_come [] (o ∷ os) old mid e rest may r = absurd r
 may_come (x ∷ es) [] old mid e rest may r = absurd r
 may_come (x ∷ es) (o ∷ os) old mid e rest may r = may_come es os r.0 mid e rest (may.1 o r.0 r.1) r.2
@@ -332,5 +355,6 @@ pub gives_reads : (old new : Core) (e : Event) (given : Outcome) → IsCore old 
 gives_reads old new (event.ReadSnapshot number) (outcome.Rows rows place) is g = reads_rows old new number place rows is g
 gives_reads old new (event.ReadSnapshot number) given is g = tt
 gives_reads old new (event.Accept a) given is g = tt
+gives_reads old new (event.PutMerge m) given is g = tt
 gives_reads old new (event.TakeSnapshot table) given is g = tt
 gives_reads old new (event.Crash c) given is g = tt

@@ -27,7 +27,7 @@ Runs old (e ∷ events) [] new = ⊥
 -- each event may come after those before it, whatever state they left (docs/definitions.md, "The core")
 abbrev pub MayRun : Core → List Event → Type 0
 MayRun core [] = Unit {0}
-MayRun core (e ∷ events) = MayCome core.history e × ((given : Outcome) (next : Core) → GivesOutcome core e given next → MayRun next events)
+MayRun core (e ∷ events) = MayCome core e × ((given : Outcome) (next : Core) → GivesOutcome core e given next → MayRun next events)
 
 -- an event is no crash (docs/definitions.md, "The core")
 abbrev pub IsNoCrash : Event → Type 0

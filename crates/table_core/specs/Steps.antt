@@ -1,10 +1,11 @@
 -- What each event gives, and the state that it leaves (docs/definitions.md, "The core").
-use Rattle.std.specs.Prelude.{◌≡◌, ◌+◌, ◌<◌, ◌≤◌, ℕ, true, false, List, [], ◌∷◌, ◌++◌, Some, None, IsSome, length, slice_get, take}
-use Rattle.mt_base.specs.Limits.{number_limit, root_table_limit}
+use Rattle.std.specs.Prelude.{◌≡◌, ◌+◌, ◌<◌, ◌≤◌, ℕ, true, false, List, [], ◌∷◌, ◌++◌, Some, None, IsSome, drop, length, slice_get, take}
+use Rattle.mt_base.specs.Limits.{level_limit, number_limit, root_table_limit}
 use Rattle.mt_values.specs.declared.command.Command.TheVariants as command
 use Rattle.mt_values.specs.declared.command.Create.{Create}
 use Rattle.mt_values.specs.declared.command.Insert.{Insert}
 use Rattle.mt_values.specs.declared.schema.Schema.{Schema}
+use Rattle.mt_values.specs.Grammar.{same_bytes}
 use Rattle.mt_values.specs.Values.{Row}
 use Rattle.mt_model.specs.History.{History, IsInsertInto, IsTableSchema, creates, entered, schema_of}
 use Rattle.mt_model.specs.Live.{live}
@@ -16,30 +17,55 @@ use Rattle.table_core.specs.declared.event.Crash.TheVariants as crash
 use Rattle.table_core.specs.declared.event.Event.{Event}
 use Rattle.table_core.specs.declared.event.Event.TheVariants as event
 use Rattle.table_core.specs.declared.event.Guard.TheVariants as guard
+use Rattle.table_core.specs.declared.event.Merge.{Merge}
 use Rattle.table_core.specs.declared.event.Outcome.{Outcome}
 use Rattle.table_core.specs.declared.event.Outcome.TheVariants as outcome
+use Rattle.part_name.specs.declared.part.PartName.{PartName}
+use Rattle.part_name.specs.Merged.{merged_of}
 use Rattle.part_history.specs.declared.part.CorePart.{CorePart}
 use Rattle.table_core.specs.declared.snapshot.Snapshot.{Snapshot}
 use Rattle.table_core.specs.Core.{Core}
 use Rattle.part_history.specs.Entered.{next_number, part_of_insert}
-use Rattle.part_history.specs.Parts.{AreInBlockOrder, core_parts_of, rows_of_parts}
+use Rattle.part_history.specs.Merges.{MergeLeaves, names_of}
+use Rattle.part_history.specs.Parts.{AreInBlockOrder, core_parts_of, parts_in, rows_of_parts}
 
 -- an accept may come: a CREATE has a schema that a table may have, an INSERT has rows of its table, where there is the table (docs/definitions.md, "The core")
 abbrev pub MayAccept : History → Accept → Type 0
 MayAccept h (accept.Create session c) = IsTableSchema c.schema
 MayAccept h (accept.Insert session i) = (schema : Schema) → schema_of i.table h ≡ Some schema → IsInsertInto schema i
 
--- a crash may come: within an accept, where the accept may (docs/definitions.md, "The core")
-abbrev pub MayCrash : History → Crash → Type 0
-MayCrash h crash.Between = Unit {0}
-MayCrash h (crash.Within a done) = MayAccept h a
+-- the parts of a merge's table, in block order (docs/definitions.md, "The core")
+abbrev pub beside : Core → Merge → List CorePart
+beside core m = core_parts_of m.table core.parts
 
--- an event may come: an accept, or a crash within one, where the accept may; all others always (docs/definitions.md, "The core")
-abbrev pub MayCome : History → Event → Type 0
-MayCome h (event.Accept a) = MayAccept h a
-MayCome h (event.TakeSnapshot table) = Unit {0}
-MayCome h (event.ReadSnapshot number) = Unit {0}
-MayCome h (event.Crash c) = MayCrash h c
+-- the sources of a merge among the parts of its table: as many of its partition as it says, from its first on (docs/definitions.md, "The core")
+abbrev pub sources_among : List CorePart → Merge → List CorePart
+sources_among parts m = take m.count (drop m.first (parts_in m.partition parts))
+
+-- a merge is of neighbours: of at least one part, and its partition has them all (docs/definitions.md, "The core")
+pub record HasNeighbours (parts : List CorePart) (m : Merge) : Type 0 where
+  pub some : 0 < m.count
+  pub within : m.first + m.count ≤ length (parts_in m.partition parts)
+
+-- a put may come: its rows are what one merge may leave of rows with which its sources stand, where there are the table and these (docs/definitions.md, "The core")
+abbrev pub MayPut : Core → Merge → Type 0
+MayPut core m =
+    (schema : Schema) → schema_of m.table core.history ≡ Some schema → HasNeighbours (beside core m) m
+    → MergeLeaves core.history schema (sources_among (beside core m) m) m.rows
+
+-- a crash may come: within an accept or a put, where that may (docs/definitions.md, "The core")
+abbrev pub MayCrash : Core → Crash → Type 0
+MayCrash core crash.Between = Unit {0}
+MayCrash core (crash.Within a done) = MayAccept core.history a
+MayCrash core (crash.WithinPut m done) = MayPut core m
+
+-- an event may come: an accept or a put, or a crash within one, where that may; all others always (docs/definitions.md, "The core")
+abbrev pub MayCome : Core → Event → Type 0
+MayCome core (event.Accept a) = MayAccept core.history a
+MayCome core (event.PutMerge m) = MayPut core m
+MayCome core (event.TakeSnapshot table) = Unit {0}
+MayCome core (event.ReadSnapshot number) = Unit {0}
+MayCome core (event.Crash c) = MayCrash core c
 
 -- one part more, in its place in block order among those of its table; the others stay as they were (docs/definitions.md, "The core")
 pub record AddsPart (part : CorePart) (old new : List CorePart) : Type 0 where
@@ -80,6 +106,43 @@ abbrev pub AcceptGives : Core → Accept → Outcome → Core → Type 0
 AcceptGives old (accept.Create session c) given new = CreateGives old session c given new
 AcceptGives old (accept.Insert session i) given new = InsertGives old session i given new
 
+-- one part of a table in place of neighbours; its other parts and those of other tables stay as they were (docs/definitions.md, "The core")
+pub record SwapsParts (sources : List CorePart) (part : CorePart) (old new : List CorePart) : Type 0 where
+  pub front : List CorePart
+  pub behind : List CorePart
+  pub old_is : core_parts_of part.table old ≡ front ++ (sources ++ behind)
+  pub new_is : core_parts_of part.table new ≡ front ++ part ∷ behind
+  pub others : (table : List ℕ) → same_bytes part.table table ≡ false → core_parts_of table new ≡ core_parts_of table old
+
+-- the part that a put makes, under a name
+abbrev pub part_of_merge : Merge → PartName → CorePart
+part_of_merge m name = record { table = m.table; name = name; rows = m.rows }
+
+-- a put that is done: the part is there in place of its sources, and nothing else changes
+pub record PutsMerge (old : Core) (m : Merge) (name : PartName) (new : Core) : Type 0 where
+  pub there : IsSome (schema_of m.table old.history)
+  pub neighbours : HasNeighbours (beside old m) m
+  pub named : merged_of (names_of (sources_among (beside old m) m)) ≡ Some name
+  pub room : name.level ≤ level_limit
+  pub parts : SwapsParts (sources_among (beside old m) m) (part_of_merge m name) old.parts new.parts
+  pub history : new.history ≡ old.history
+  pub snapshots : new.snapshots ≡ old.snapshots
+
+-- the name that a put would make passes the greatest level
+pub record PassesLevels (core : Core) (m : Merge) : Type 0 where
+  pub neighbours : HasNeighbours (beside core m) m
+  pub name : PartName
+  pub named : merged_of (names_of (sources_among (beside core m) m)) ≡ Some name
+  pub past : level_limit < name.level
+
+-- a put: done, or refused since there is no such table, or else no such neighbours, or else since the level is too great (docs/definitions.md, "The core")
+abbrev pub PutGives : Core → Merge → Outcome → Core → Type 0
+PutGives old m (outcome.Put name) new = PutsMerge old m name new
+PutGives old m (outcome.Refused guard.NoTable) new = (schema_of m.table old.history ≡ None) × (new ≡ old)
+PutGives old m (outcome.Refused guard.NotNeighbours) new = IsSome (schema_of m.table old.history) × (HasNeighbours (beside old m) m → ⊥) × (new ≡ old)
+PutGives old m (outcome.Refused guard.Levels) new = IsSome (schema_of m.table old.history) × PassesLevels old m × (new ≡ old)
+PutGives old m given new = ⊥
+
 -- the snapshot of a table as it is now
 abbrev pub snapshot_of : List ℕ → Core → Snapshot
 snapshot_of table core = record { table = table; parts = core_parts_of table core.parts; length = length core.history }
@@ -103,11 +166,13 @@ ReadGives old number given new = ⊥
 abbrev pub without_snapshots : Core → Core
 without_snapshots core = record { parts = core.parts; history = core.history; snapshots = [] }
 
--- the state that a crash meets: the one before it, or that which an accept gives, where it came within the accept and this was done (docs/definitions.md, "The core")
+-- the state that a crash meets: the one before it, or that which an accept or a put gives, where it came within that and this was done (docs/definitions.md, "The core")
 abbrev pub CrashMeets : Core → Crash → Core → Type 0
 CrashMeets old crash.Between met = met ≡ old
 CrashMeets old (crash.Within a false) met = met ≡ old
 CrashMeets old (crash.Within a true) met = (given : Outcome) × AcceptGives old a given met
+CrashMeets old (crash.WithinPut m false) met = met ≡ old
+CrashMeets old (crash.WithinPut m true) met = (given : Outcome) × PutGives old m given met
 
 -- a crash: the state that it meets is left without its snapshots (docs/definitions.md, "The core")
 abbrev pub CrashGives : Core → Crash → Outcome → Core → Type 0
@@ -117,6 +182,7 @@ CrashGives old c given new = ⊥
 -- what an event gives, and the state after it (docs/definitions.md, "The core")
 abbrev pub GivesOutcome : Core → Event → Outcome → Core → Type 0
 GivesOutcome old (event.Accept a) given new = AcceptGives old a given new
+GivesOutcome old (event.PutMerge m) given new = PutGives old m given new
 GivesOutcome old (event.TakeSnapshot table) given new = TakeGives old table given new
 GivesOutcome old (event.ReadSnapshot number) given new = ReadGives old number given new
 GivesOutcome old (event.Crash c) given new = CrashGives old c given new

@@ -1,7 +1,9 @@
 -- What the state keeps, and what always holds of it.
-use Rattle.std.specs.Prelude.{◌≡◌, ℕ, List, [], ◌∷◌, ◌++◌, All, Some, Vec, false, length, map}
+use Rattle.std.specs.Prelude.{◌≡◌, ℕ, ◌+◌, ◌<◌, ◌≤◌, List, [], ◌∷◌, ◌++◌, All, Some, Vec, drop, false, filter, length, map, take}
 use Rattle.std.specs.declared.alloc.Global.{Global}
 use Rattle.std.specs.List.{AllByRecursion, flat_map}
+use Rattle.std.specs.Ordering.{is_gt}
+use Rattle.mt_base.specs.declared.partition.Partition.{Partition}
 use Rattle.mt_values.specs.declared.command.Command.{Command}
 use Rattle.mt_values.specs.declared.command.Command.TheVariants as command
 use Rattle.mt_values.specs.declared.command.Create.{Create}
@@ -10,9 +12,13 @@ use Rattle.mt_values.specs.Grammar.{same_bytes}
 use Rattle.mt_model.specs.History.{History, schema_of}
 use Rattle.part_history.specs.declared.part.CorePart.{CorePart}
 use Rattle.part_history.specs.Entered.{with_part}
+use Rattle.part_history.specs.Parts.{partition_cmp}
+use Rattle.table_core.specs.declared.event.Merge.{Merge}
+use Rattle.table_core.specs.declared.store.Run.{Run}
 use Rattle.table_core.specs.declared.store.Store.{Store}
 use Rattle.table_core.specs.declared.store.Table.{Table}
 use Rattle.table_core.specs.Core.{Core, IsCore}
+use Rattle.table_core.specs.Steps.{HasNeighbours, sources_among}
 use Rattle.mt_model.specs.Numbers.{last_number}
 
 -- a table with its name
@@ -70,6 +76,32 @@ empty_table schema = record { schema = schema; parts = []; last = 0 }
 -- a table with one part more, the last of its partition, whose number is the last that was drawn
 abbrev pub grown_table : Table → CorePart → ℕ → Table
 grown_table table part number = record { schema = table.schema; parts = with_part part table.parts; last = number }
+
+-- the parts of the partitions before one in block order, as listed
+abbrev pub parts_below : Partition → List CorePart → List CorePart
+parts_below partition parts = filter (λ (p : CorePart). is_gt (partition_cmp partition p.name.partition)) parts
+
+-- where the sources of a merge stand among the parts of its table
+pub record RunStands (parts : List CorePart) (m : Merge) (run : Run) : Type 0 where
+  pub there : HasNeighbours parts m
+  pub front : List CorePart
+  pub back : List CorePart
+  pub parts_are : parts ≡ front ++ (sources_among parts m ++ back)
+  pub from_is : run.from ≡ length front
+  pub count_is : run.count ≡ m.count
+
+-- a run is of parts of the list, at least one
+pub record LiesIn (run : Run) (parts : List CorePart) : Type 0 where
+  pub some : 0 < run.count
+  pub within : run.from + run.count ≤ length parts
+
+-- a table with one part in place of a run of its parts
+abbrev pub swapped_table : Table → Run → CorePart → Table
+swapped_table table run part = record {
+  schema = table.schema;
+  parts = take run.from table.parts ++ part ∷ drop (run.from + run.count) table.parts;
+  last = table.last;
+}
 
 -- one table more, after the others
 pub record AddsTable (c : Create) (old new : List Named) : Type 0 where

@@ -1,6 +1,7 @@
 // What may happen to the core, and what it answers.
-use mt_base::Seq;
+use mt_base::{Partition, Seq};
 use mt_values::{Create, Insert, Name, Row};
+use part_name::PartName;
 
 /// A command that a session gives: it is accepted, or refused.
 #[derive(Drop)]
@@ -11,6 +12,18 @@ pub enum Accept {
     Insert { session: u64, insert: Insert },
 }
 
+/// A merge of neighbours, done beside the state: the rows that it left are to be put in their place.
+#[derive(Drop)]
+pub struct Merge {
+    pub table: Name,
+    pub partition: Partition,
+    /// The place of the first of them among the parts of the partition in block order, from 0.
+    pub first: usize,
+    /// How many they are.
+    pub count: usize,
+    pub rows: Seq<Row>,
+}
+
 /// Where a crash comes.
 #[derive(Drop)]
 pub enum Crash {
@@ -18,6 +31,8 @@ pub enum Crash {
     Between,
     /// Within an accept, which is then done as a whole, or not at all.
     Within { accept: Accept, done: bool },
+    /// Within the putting of a merge, which is then done as a whole, or not at all.
+    WithinPut { merge: Merge, done: bool },
 }
 
 /// What may happen.
@@ -25,6 +40,8 @@ pub enum Crash {
 pub enum Event {
     /// A command is accepted, or refused.
     Accept(Accept),
+    /// What a merge left is put in place of its sources, or that is refused.
+    PutMerge(Merge),
     /// A snapshot of a table is taken.
     TakeSnapshot { table: Name },
     /// The snapshot with this number, from 0, is read.
@@ -46,6 +63,10 @@ pub enum Guard {
     Numbers,
     /// There is no such snapshot.
     NoSnapshot,
+    /// The partition has no such parts, or the merge is of none.
+    NotNeighbours,
+    /// The part would have too great a level.
+    Levels,
 }
 
 /// What an event gives.
@@ -53,6 +74,8 @@ pub enum Guard {
 pub enum Outcome {
     /// The command is in the history, which has now this length.
     Accepted { length: usize },
+    /// The part of this name is there in place of those that were merged.
+    Put { name: PartName },
     /// The snapshot has this number.
     Taken { number: usize },
     /// The rows of a snapshot, and the length that the history had when it was taken.

@@ -11,7 +11,7 @@ ghost use Rattle.table_core.specs.Steps.{GivesOutcome, MayCome};
 /// number of a snapshot stays its number up to the next crash, after which no number is known that was told before it.
 pub fn what_was_read_stays()
     ensures step { (old new : Core) (e : Event) (given : Outcome) → IsCore old
-        → MayCome old.history e → GivesOutcome old e given new → IsCore new }
+        → MayCome old e → GivesOutcome old e given new → IsCore new }
     ensures run { (events : List Event) (outcomes : List Outcome) (old new : Core) → IsCore old
         → MayRun old events → Runs old events outcomes new → IsCore new }
     ensures read { (events : List Event) (outcomes : List Outcome) (old new : Core) → IsCore old

@@ -10,7 +10,7 @@ mod state;
 mod steps;
 mod store;
 
-pub use event::{Accept, Crash, Event, Guard, Outcome};
+pub use event::{Accept, Crash, Event, Guard, Merge, Outcome};
 pub use laws::{what_was_accepted_stays, what_was_read_stays};
 pub use part_history::CorePart;
 pub use running::{Done, run};

@@ -1,15 +1,16 @@
 // The state of the core, as contracts see it.
 ghost use Rattle.std.specs.Prelude.{◌≡◌, IfOk, OnErr, option_copied};
 ghost use Rattle.mt_model.specs.History.{schema_of};
+ghost use Rattle.part_history.specs.Parts.{core_parts_of};
 ghost use Rattle.table_core.specs.Core.{IsCore, empty_core};
 ghost use Rattle.table_core.specs.Runs.{ReadsLeft};
 ghost use Rattle.table_core.specs.Steps.{GivesOutcome, MayCome};
 
 use crate::steps::happen;
 use crate::store::Store;
-use crate::{Event, Outcome};
+use crate::{CorePart, Event, Outcome};
 use mt_base::NoMemory;
-use mt_values::{Name, Schema};
+use mt_values::{Entry, Name, Schema};
 use std::alloc::Global;
 use std::marker::Model;
 
@@ -47,13 +48,27 @@ impl CoreState {
     {
         self.store.schema(table)
     }
+
+    /// The visible parts of a table, in block order; none where there is no such table.
+    pub fn parts(&self, table: &Name) -> &[CorePart]
+        ensures { result.now ≡ core_parts_of table.now self.now.parts }
+    {
+        self.store.parts(table)
+    }
+
+    /// The accepted commands, in order.
+    pub fn history(&self) -> &[Entry]
+        ensures { result.now ≡ self.now.history }
+    {
+        self.store.entries.as_slice()
+    }
 }
 
 /// Lets one event happen, and gives its outcome.
 ///
 /// `NoMemory` where an allocation failed; the state stays as it was.
 pub fn step(alloc: Global, state: &mut CoreState, event: Event) -> Result<Outcome, NoMemory>
-    requires { MayCome state.old.history event }
+    requires { MayCome state.old event }
     ensures gives { IfOk result (λ given. GivesOutcome state.old event given state.new) }
     ensures err { OnErr result (state.new ≡ state.old) }
     ensures core { IsCore state.new }

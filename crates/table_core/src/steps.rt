@@ -1,19 +1,24 @@
 // One event after another, over the store.
-ghost use Rattle.std.specs.Prelude.{◌≡◌, ◌<◌, ◌++◌, All, IfOk, OnErr, OnOk, Some, length};
+ghost use Rattle.std.specs.Prelude.{◌≡◌, ◌<◌, ◌≤◌, ◌++◌, All, IfNone, IfOk, IfSome, OnErr, OnOk, Some, length};
+ghost use Rattle.std.specs.List.{fold};
+ghost use Rattle.mt_base.specs.Limits.{level_limit};
 ghost use Rattle.mt_values.specs.declared.schema.Schema.{Schema};
 ghost use Rattle.mt_values.specs.Grid.{picked};
 ghost use Rattle.mt_values.specs.Tables.{sorting_columns};
 ghost use Rattle.mt_model.specs.History.{IsInsertInto, IsTableSchema, schema_of};
+ghost use Rattle.part_name.specs.declared.part.PartName.{PartName};
+ghost use Rattle.part_name.specs.Merged.{joined_name, merged_of};
+ghost use Rattle.part_history.specs.Merges.{names_of};
 ghost use Rattle.part_history.specs.Parts.{rows_of_parts};
 ghost use Rattle.part_history.specs.Entered as adding;
-ghost use Rattle.table_core.specs.Steps.{AcceptGives, CrashGives, CrashMeets, CreateGives, GivesOutcome, InsertGives, MayAccept, MayCome, MayCrash, ReadGives, TakeGives};
+ghost use Rattle.table_core.specs.Steps.{AcceptGives, CrashGives, CrashMeets, CreateGives, GivesOutcome, InsertGives, MayAccept, MayCome, MayCrash, MayPut, PutGives, ReadGives, TakeGives};
 ghost use Rattle.table_core.specs.Store.{IsStore, core_of};
 
-use crate::store::Store;
-use crate::{Accept, CorePart, Crash, Event, Guard, Outcome, Snapshot};
+use crate::store::{Store, parts_of_run, run_of};
+use crate::{Accept, CorePart, Crash, Event, Guard, Merge, Outcome, Snapshot};
 use mt_base::{NoMemory, ROOT_TABLE_LIMIT, Seq, Twin};
 use mt_values::{Block, Create, Insert, Name, Row, Schema};
-use part_name::PartName;
+use part_name::{PartName, join, raise};
 use std::alloc::Global;
 
 /// What happens at an event.
@@ -21,7 +26,7 @@ use std::alloc::Global;
 /// `NoMemory` where an allocation failed; contracts see the store as it was.
 pub fn happen(alloc: Global, store: &mut Store, event: Event) -> Result<Outcome, NoMemory>
     requires store { IsStore store.old }
-    requires may { MayCome store.old.entries.items event }
+    requires may { MayCome (core_of store.old) event }
     ensures gives { IfOk result (λ given. GivesOutcome (core_of store.old) event given
         (core_of store.new)) }
     ensures err { OnErr result (core_of store.new ≡ core_of store.old) }
@@ -29,6 +34,7 @@ pub fn happen(alloc: Global, store: &mut Store, event: Event) -> Result<Outcome,
 {
     match event {
         Event::Accept(accept) => decide(alloc, store, accept),
+        Event::PutMerge(merge) => Ok(put_merge(alloc, store, merge)),
         Event::TakeSnapshot { table } => take_snapshot(alloc, store, table),
         Event::ReadSnapshot { number } => read_snapshot(alloc, store, number),
         Event::Crash(crash) => restart(alloc, store, crash),
@@ -50,10 +56,10 @@ fn decide(alloc: Global, store: &mut Store, accept: Accept) -> Result<Outcome, N
     }
 }
 
-/// Begins again after a crash: of an accept within which it came all is left or nothing, and no snapshot is.
+/// Begins again after a crash: of an accept or a put within which it came all is left or nothing, and no snapshot is.
 fn restart(alloc: Global, store: &mut Store, crash: Crash) -> Result<Outcome, NoMemory>
     requires store { IsStore store.old }
-    requires may { MayCrash store.old.entries.items crash }
+    requires may { MayCrash (core_of store.old) crash }
     ensures gives { IfOk result
         (λ given. CrashGives (core_of store.old) crash given (core_of store.new)) }
     ensures err { OnErr result (core_of store.new ≡ core_of store.old) }
@@ -64,19 +70,25 @@ fn restart(alloc: Global, store: &mut Store, crash: Crash) -> Result<Outcome, No
     Ok(Outcome::Restarted)
 }
 
-/// Leaves the state that a crash meets: an accept within which it came and that was done is done here.
+/// Leaves the state that a crash meets: an accept or a put within which it came and that was done is done here.
 fn meet_crash(alloc: Global, store: &mut Store, crash: Crash) -> Result<(), NoMemory>
     requires store { IsStore store.old }
-    requires may { MayCrash store.old.entries.items crash }
+    requires may { MayCrash (core_of store.old) crash }
     ensures meets { OnOk result (CrashMeets (core_of store.old) crash (core_of store.new)) }
     ensures err { OnErr result (core_of store.new ≡ core_of store.old) }
     ensures store { IsStore store.new }
 {
-    let Crash::Within { accept, done: true } = crash else {
-        return Ok(());
-    };
-    decide(alloc, store, accept)?;
-    Ok(())
+    match crash {
+        Crash::Within { accept, done: true } => {
+            decide(alloc, store, accept)?;
+            Ok(())
+        }
+        Crash::WithinPut { merge, done: true } => {
+            put_merge(alloc, store, merge);
+            Ok(())
+        }
+        _ => Ok(()),
+    }
 }
 
 /// Makes a table, unless there is one of its name or there are too many.
@@ -166,6 +178,55 @@ fn rows_at(alloc: Global, block: &Block, places: &[u32]) -> Result<Seq<Row>, NoM
         rows.push(block.row(alloc, *place as usize)?)?;
     }
     Ok(rows)
+}
+
+/// Puts what a merge left in place of its sources, unless there is no such table, there are no such neighbours, or the part
+/// would have too great a level. Takes no memory.
+fn put_merge(alloc: Global, store: &mut Store, merge: Merge) -> Outcome
+    requires store { IsStore store.old }
+    requires may { MayPut (core_of store.old) merge }
+    ensures gives { PutGives (core_of store.old) merge result (core_of store.new) }
+    ensures store { IsStore store.new }
+{
+    let Some(place) = store.find(&merge.table) else {
+        return Outcome::Refused(Guard::NoTable);
+    };
+    let parts = store.tables[place].parts.as_slice();
+    let Some(run) = run_of(parts, &merge) else {
+        return Outcome::Refused(Guard::NotNeighbours);
+    };
+    let Some(name) = merged_name(parts_of_run(parts, run)) else {
+        return Outcome::Refused(Guard::Levels);
+    };
+    let Merge { table, rows, .. } = merge;
+    let part = CorePart { table, name, rows };
+    store.swap_run(alloc, place, run, part);
+    Outcome::Put { name }
+}
+
+/// The name of the part that a merge of these makes; none where they are none, or its level would be too great.
+fn merged_name(sources: &[CorePart]) -> Option<PartName>
+    ensures named { IfSome result (λ name. (merged_of (names_of sources.now) ≡ Some name)
+        × (name.level ≤ level_limit)) }
+    ensures none { IfNone result ((name : PartName) → merged_of (names_of sources.now) ≡ Some name
+        → level_limit < name.level) }
+{
+    let Some((first, rest)) = sources.split_first() else {
+        return None;
+    };
+    raise(&joined_name(first.name, rest))
+}
+
+/// The blocks of a name and of those of parts joined.
+#[tactic(auto, using(crate::proofs::Neighbours::joined_more))]
+fn joined_name(first: PartName, rest: &[CorePart]) -> PartName
+    ensures { result ≡ fold joined_name first (names_of rest.now) }
+{
+    let mut joined = first;
+    for part in rest {
+        joined = join(&joined, &part.name);
+    }
+    joined
 }
 
 /// Takes a snapshot of a table as it is now, unless there is no such table.

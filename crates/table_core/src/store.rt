@@ -1,19 +1,21 @@
 // What the state keeps: the tables by their names, the accepted commands and the snapshots.
-ghost use Rattle.std.specs.Prelude.{◌≡◌, ◌<◌, ◌≤◌, ◌++◌, ◌∷◌, [], All, IfNone, IfSome, OnErr, OnOk, Some, drop, length, option_copied, slice_get, take};
+ghost use Rattle.std.specs.Prelude.{◌≡◌, ◌+◌, ◌<◌, ◌≤◌, ◌++◌, ◌∷◌, ◌↔◌, [], All, IfNone, IfSome, IsTrue, OnErr, OnOk, Some, drop, length, option_copied, slice_get, take};
 ghost use Rattle.std.specs.Ordering.{is_gt};
 ghost use Rattle.indexmap.specs.IndexMap.{set_value_at};
 ghost use Rattle.mt_values.specs.declared.command.Command.TheVariants as command;
 ghost use Rattle.mt_model.specs.History.{entered, schema_of};
 ghost use Rattle.table_core.specs.Core.{empty_core};
 ghost use Rattle.part_history.specs.Entered.{parts_after, parts_upto};
-ghost use Rattle.part_history.specs.Parts.{AreInBlockOrder, partition_cmp};
-ghost use Rattle.table_core.specs.Store.{AddsTable, IsNotNamed, IsStore, Named, SameTables, StandsAt, core_of, grown_table};
+ghost use Rattle.part_history.specs.Parts.{AreInBlockOrder, core_parts_of, partition_cmp, parts_in};
+ghost use Rattle.table_core.specs.Steps.{HasNeighbours};
+ghost use Rattle.table_core.specs.Store.{AddsTable, IsNotNamed, IsStore, LiesIn, Named, RunStands, SameTables, StandsAt, core_of, grown_table, parts_below, parts_of_tables, swapped_table};
 
-use crate::{CorePart, Snapshot};
+use crate::{CorePart, Merge, Snapshot};
 use indexmap::IndexMap;
 use mt_base::{NoMemory, Partition, Seq, Twin};
 use mt_values::{Command, Create, Entry, Insert, Name, Schema};
 use std::alloc::Global;
+use std::mem;
 
 /// A table: its schema, its parts in block order, and the last number that its commands drew.
 #[derive(Drop)]
@@ -21,6 +23,13 @@ pub struct Table {
     pub schema: Schema,
     pub parts: Seq<CorePart>,
     pub last: u32,
+}
+
+/// Neighbours in the list of a table's parts: the place of the first, counted from 0, and how many they are.
+#[derive(Clone, Copy)]
+pub struct Run {
+    pub from: usize,
+    pub count: usize,
 }
 
 /// The tables by the bytes of their names, in the order in which they were made, the accepted commands and the snapshots.
@@ -59,6 +68,17 @@ impl Store {
     {
         let place = self.find(table)?;
         Some(&self.tables[place].schema)
+    }
+
+    /// The parts of a table, in block order; none where there is no such table.
+    pub fn parts(&self, table: &Name) -> &[CorePart]
+        requires { IsStore self.now }
+        ensures { result.now ≡ core_parts_of table.now (parts_of_tables self.now.tables.entries) }
+    {
+        let Some(place) = self.find(table) else {
+            return &[];
+        };
+        self.tables[place].parts.as_slice()
     }
 
     /// Enters a CREATE after the last command, and its table after the others.
@@ -113,6 +133,20 @@ impl Store {
         self.entries.push_reserved(Entry { session, command });
         Ok(())
     }
+
+    /// Puts a part in place of a run of the parts of the table at this place. Takes no memory.
+    pub fn swap_run(&mut self, alloc: Global, place: usize, run: Run, part: CorePart)
+        requires within { place < length self.old.tables.entries }
+        requires run { (t : Named) → slice_get self.old.tables.entries place ≡ Some t
+            → LiesIn run t.1.parts }
+        ensures tables { (t : Named) → slice_get self.old.tables.entries place ≡ Some t
+            → self.new.tables.entries ≡ set_value_at self.old.tables.entries place
+            (swapped_table t.1 run part) }
+        ensures entries { self.new.entries.items ≡ self.old.entries.items }
+        ensures snapshots { self.new.snapshots.items ≡ self.old.snapshots.items }
+    {
+        swap_parts(alloc, &mut self.tables[place], run, part);
+    }
 }
 
 /// Adds the table of a CREATE after the others.
@@ -154,6 +188,82 @@ fn add_part(table: &mut Table, part: CorePart, number: u32) -> Result<(), NoMemo
     table.parts.insert(place, part)?;
     table.last = number;
     Ok(())
+}
+
+/// Puts a part in place of a run of the table's parts. Takes no memory.
+fn swap_parts(alloc: Global, table: &mut Table, run: Run, part: CorePart)
+    requires some { 0 < run.count }
+    requires within { run.from + run.count ≤ length table.old.parts }
+    ensures { table.new ≡ swapped_table table.old run part }
+{
+    let mut parts = mem::replace(&mut table.parts, Seq::new(alloc)).into_vec();
+    replace_run(&mut parts, run, part);
+    table.parts = Seq::of(parts);
+}
+
+/// Puts a part in place of a run of parts. Takes no memory.
+#[tactic(auto, using(crate::proofs::Neighbours::run_replaced))]
+fn replace_run(parts: &mut Vec<CorePart>, run: Run, part: CorePart)
+    requires some { 0 < run.count }
+    requires within { run.from + run.count ≤ length parts.old.items }
+    ensures { parts.new.items ≡ take run.from parts.old.items ++ part
+        ∷ drop (run.from + run.count) parts.old.items }
+{
+    parts[run.from] = part;
+    parts.drain(run.from + 1..run.from + run.count);
+}
+
+/// The parts of a run.
+pub fn parts_of_run(parts: &[CorePart], run: Run) -> &[CorePart]
+    requires { run.from + run.count ≤ length parts.now }
+    ensures { result.now ≡ take run.count (drop run.from parts.now) }
+{
+    &parts[run.from..][..run.count]
+}
+
+/// Where the sources of a merge stand in the list of its table's parts; none where its partition does not have them, or they
+/// are none.
+pub fn run_of(parts: &[CorePart], merge: &Merge) -> Option<Run>
+    requires { AreInBlockOrder parts.now }
+    ensures there { IfSome result (RunStands parts.now merge.now) }
+    ensures none { IfNone result (HasNeighbours parts.now merge.now → ⊥) }
+{
+    let all = run_of_partition(parts, merge.partition);
+    if !has_neighbours(all.count, merge) {
+        return None;
+    }
+    Some(Run {
+        from: all.from + merge.first,
+        count: merge.count,
+    })
+}
+
+/// Whether a merge is of at least one of a partition's parts, and of no more than there are.
+fn has_neighbours(count: usize, merge: &Merge) -> bool
+    ensures { IsTrue result
+        ↔ (0 < merge.now.count) × (merge.now.first + merge.now.count ≤ count) }
+{
+    0 < merge.count && merge.first <= count && merge.count <= count - merge.first
+}
+
+/// Where the parts of a partition stand.
+fn run_of_partition(parts: &[CorePart], partition: Partition) -> Run
+    requires { AreInBlockOrder parts.now }
+    ensures from { result.from ≡ length (parts_below partition parts.now) }
+    ensures count { result.count ≡ length (parts_in partition parts.now) }
+    ensures within { result.from + result.count ≤ length parts.now }
+{
+    let from = start_of(parts, partition);
+    let count = end_of(parts, partition) - from;
+    Run { from, count }
+}
+
+/// The place of the first part of a partition: after those of the partitions before it.
+fn start_of(parts: &[CorePart], partition: Partition) -> usize
+    requires { AreInBlockOrder parts.now }
+    ensures { result ≡ length (parts_below partition parts.now) }
+{
+    parts.partition_point(|part| comes_after(partition, part.name.partition))
 }
 
 /// The place after the parts of a partition and of those before it.

@@ -27,4 +27,4 @@ returns-clause-read c =
     (λ given g. gives_reads old new c.args.event given c.state.invariant.core g) c.happen.ensures.gives
 
 pub happen-requires-clause-may : goal.happen-requires-clause-may
-happen-requires-clause-may c = subst (λ (core : Core). MayCome core.history c.args.event) (sym c.state.view_is) c.requires
+happen-requires-clause-may c = subst (λ (core : Core). MayCome core c.args.event) (sym c.state.view_is) c.requires

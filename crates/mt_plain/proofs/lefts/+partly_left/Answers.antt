@@ -1,0 +1,47 @@
+use Rattle.std.proofs.Common.{◌≡◌, ◌∷◌, ◌++◌, [], ◌<◌, true, List, ap, ap₂, filter, flat_map, length, map, subst, sym, ◌∙◌, arith}
+use Rattle.std.specs.List.{list_all}
+use Rattle.mt_values.specs.Values.{Row}
+use Rattle.mt_model.specs.Folding.{ComesFrom}
+use Rattle.mt_model.specs.Partial.{TableRun}
+use Rattle.mt_plain.specs.Lefts.{AreLefts, is_like, unlike}
+use Rattle.mt_plain.specs.Outcomes.{AreExactly}
+use Rattle.mt_plain.proofs.LeftRows.{lefts_more, lefts_of_none, unlike_fewer, unlike_first}
+use Rattle.mt_plain.proofs.Steps.{when_ok}
+use Rattle.mt_plain.proofs.lefts.+partly_left.Goals as goal
+
+pub returns-in_default : goal.returns-in_default
+returns-in_default t c =
+    when_ok c.only.result (λ lefts. lefts.items ≡ c.new.result ∷ []) _ (λ lefts is. lefts_of_none c.args.schema.now c.args.rows.now c.new.result lefts.items c.in_default.ensures.cases c.new.ensures is) c.only.ensures
+
+pub returns : goal.returns
+returns t c =
+    let schema = c.args.schema.now in
+    let rows = c.args.rows.now in
+    let first = c.in-Some.first.now in
+    let others = c.in-Some.others.now in
+    let own = c.in_ok-own.own.items in
+    let rest = c.in_ok-rest.rest.items in
+    let firsts = c.in_ok-firsts.firsts.items in
+    let lefts = c.in_ok-lefts.lefts.items in
+    let rows_are : rows ≡ first ∷ others = c.in-Some.ensures.cases.0 in
+    let rest_is : rest ≡ unlike schema first rows = c.in_ok-rest.ensures ∙ (sym (unlike_first schema first others) ∙ ap (unlike schema first) (sym rows_are)) in
+    let key = subst (λ (rs : List Row). AreExactly firsts (λ out. ComesFrom (TableRun schema) rs out × (list_all (is_like schema first) out ≡ true))) c.deref.ensures.value c.in_ok-firsts.ensures in
+    let left = subst (λ (rs : List Row). AreLefts schema rs lefts) c.deref-2.ensures.value c.in_ok-lefts.ensures in
+    let joined : List (List Row) → List (List Row) → List (List Row) = λ bs xs. flat_map (λ (a : List Row). map (λ (b : List Row). a ++ b) bs) xs in
+    let same = ap₂ joined c.deref-4.ensures.value c.deref-3.ensures.value in
+    when_ok c.each_joined.result (λ outs. outs.items ≡ joined c.deref-4.result.now c.deref-3.result.now) _
+    (λ outs is. lefts_more schema first rows own rest firsts lefts c.in_ok-own.ensures rest_is key left outs.items (is ∙ same)) c.each_joined.ensures
+
+pub partly_left-requires : goal.partly_left-requires
+partly_left-requires t c = (fewer, tt)
+  where
+    fewer : length c.deref-2.result.now < t
+    fewer =
+        omega (
+          arith,
+          c.decreases,
+          ap length c.deref-2.ensures.value,
+          ap length c.in_ok-rest.ensures,
+          unlike_fewer c.args.schema.now c.in-Some.first.now c.in-Some.others.now,
+          ap (λ (rs : List Row). length rs) c.in-Some.ensures.cases.0,
+        )
