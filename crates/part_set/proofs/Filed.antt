@@ -64,7 +64,7 @@ clear_apart n a b first second = record {
   apart = λ both. (let same = ap partition_rank both.partition in absurd (omega (arith, first, second, same)));
 }
 
-some_is : {X : Type 0} (x y : X) → Some x ≡ Some y → x ≡ y
+pub some_is : {X : Type 0} (x y : X) → Some x ≡ Some y → x ≡ y
 some_is x y same = cc
 
 -- ---- pairs of two lists

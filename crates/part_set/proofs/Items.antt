@@ -11,6 +11,13 @@ module _ {X : Type 0} where
   pub item_none : (x : X) → HasItem [] x → ⊥
   item_none x has = omega (arith, has.1)
 
+  -- the first one, or one of the rest
+  pub item_split : (x : X) (xs : List X) (y : X) → HasItem (x ∷ xs) y → (x ≡ y) ⊎ HasItem xs y
+  item_split x xs y has = elim (Contains-append_cases (x ∷ []) xs y has) [
+    | inl front ↦ elim (Contains-push_cases [] x y front) [ inl none ↦ absurd (item_none y none) | inr same ↦ inl same ]
+    | inr back ↦ inr back
+  ]
+
   module _ (xs : List X) (n : ℕ) (x : X) where
     -- the new one is an element
     pub item_new : HasItem (insert xs n x) x

@@ -16,4 +16,5 @@ pub mod PassOrder
 pub mod Passes
 pub mod Shelving
 pub mod Showings
+pub mod Swaps
 pub mod Visibles

@@ -1,5 +1,5 @@
 -- The pass over the parts of one table.
-use Rattle.std.proofs.Common.{◌≡◌, ◌≢◌, ℕ, ◌+◌, ◌-◌, ◌<◌, ◌≤◌, List, [], length, get_or, refl, sym, ap, ◌∙◌, subst, ◌⊎◌, inl, inr, Option, Some, None, IsSomeAnd, IfSome, true, arith}
+use Rattle.std.proofs.Common.{◌≡◌, ◌≢◌, ℕ, ◌+◌, ◌-◌, ◌<◌, ◌≤◌, List, [], length, get_or, refl, sym, ap, ◌∙◌, subst, ◌⊎◌, inl, inr, Option, Some, None, IsSomeAnd, IfSome, true, false, arith}
 use Rattle.std.proofs.lemmas.Bool.{cases_lt}
 use Rattle.std.proofs.lemmas.List.{get_or_default}
 use Rattle.std.proofs.lemmas.List.Elements.{Contains-get_or}
@@ -14,15 +14,19 @@ use Rattle.part_name.specs.Standing.{StandsTo}
 use Rattle.part_set.specs.declared.kept.Kept.{Kept}
 use Rattle.part_set.specs.Parts.{IsAdded, IsInBlockOrder, NoneMeets, StandsClear, in_order, kept_in}
 use Rattle.part_set.specs.Passes.{AreShown, Clash, IsInPassOrder, IsPlainName, IsShown, StandsAs, last_of}
-use Rattle.part_set.specs.Shows.{bare}
 use Rattle.mt_values.specs.Tables.{same_partition}
-use Rattle.part_set.proofs.Shelving.{mine_has, mine_within}
+use Rattle.part_set.proofs.Named.{named_at}
+use Rattle.part_set.proofs.Shelving.{item_named, mine_has, mine_within}
 use Rattle.part_set.proofs.Inserts.{meet_turned}
 use Rattle.part_set.proofs.Items.{item_cases, item_kept, item_new, item_none}
 use Rattle.part_set.proofs.PassOrder.{contains_meets, earlier_in_order, later_no_container, only_last, same_or_apart}
 
 abbrev pub BareKept : Type 0
 BareKept = Kept (Unit {0})
+
+-- a part with nothing kept for it
+abbrev pub bare : PartName → BareKept
+bare name = record { name = name; part = tt; busy = false }
 
 pub self_contained : (a : PartName) → Contains a a
 self_contained a = record { partition = refl; min_block = omega arith; max_block = omega arith; level = omega arith; mutation = omega arith }
@@ -144,19 +148,26 @@ module _ (parts : List PartName) (sorted : IsInPassOrder parts) (plain : All IsP
   -- all parts were passed: those kept are those that are shown
   pub passed_all : length parts ≤ i → AreShown parts kept
   passed_all end =
-      let shown_kept = λ (name : PartName) (shown : IsShown parts name).
+      let found = λ (name : PartName) (shown : IsShown parts name).
       let here = shown.here in
       let cover = passed.covered here.0 name (omega (arith, here.1)) in
       let over = subst (Contains cover.0.name) here.2 cover.2 in
       let name_plain = subst IsPlainName here.2 (plain here.0 name here.1) in
-      let found : HasItem kept (bare name) = elim (same_or_apart cover.0.name name over (kept_plain cover.0 cover.1) name_plain) [
-        | inl same ↦ subst (λ (n : PartName). HasItem kept (bare n)) same cover.1
+      let there : (k : BareKept) × HasItem kept k × (k.name ≡ name) = elim (same_or_apart cover.0.name name over (kept_plain cover.0 cover.1) name_plain) [
+        | inl same ↦ (cover.0, cover.1, same)
         | inr apart ↦ absurd (shown.shows cover.0.name (kept_here cover.0 cover.1) apart over)
-      ] in found
+      ] in there
       in
       record {
-        shown = λ name. (λ has. kept_shown (bare name) has, shown_kept name);
-        clear = λ a b first second both. ap (λ (k : BareKept). k.name) (two_meet kept ordered (bare a) (bare b) (shown_kept a first) (shown_kept b second) both);
+        shown = λ name. (
+          λ has. (let at = named_at kept name has in subst (IsShown parts) at.named (kept_shown at.kept (at.place, at.within, at.here at.kept))),
+          λ shown. (let f = found name shown in item_named kept f.0 name f.1 f.2),
+        );
+        clear = λ a b first second both.
+            let f = found a first in
+            let g = found b second in
+            let meet = subst (λ (x : PartName). Meet x g.0.name) (sym f.2) (subst (Meet a) (sym g.2) both) in
+            sym f.2 ∙ (ap (λ (k : BareKept). k.name) (two_meet kept ordered f.0 g.0 f.1 g.1 meet) ∙ g.2);
       }
 
   module _ (inside : i < length parts) (part : PartName) (at : (d : PartName) → get_or parts i d ≡ part) where

@@ -21,6 +21,7 @@ use Rattle.part_set.specs.Shelf.{AreFiled, IsFiled, Shelf, all_parts}
 use Rattle.part_set.proofs.Filed.{all_ordered, filed_then, found_filed, found_parts, grown_filed, new_added, new_filed, new_same, none_filed, place_found, same_filed, same_ranked, set_added, set_filed, set_same}
 use Rattle.part_set.proofs.Items.{item_first, item_none}
 use Rattle.part_set.proofs.Named.{named_at}
+use Rattle.part_set.proofs.Swaps.{IsWritten, set_written}
 
 -- ---- elements of a filter
 
@@ -53,7 +54,7 @@ module _ {P : Type 0} where
 
   -- ---- a name among the parts of its partition
 
-  item_named : (parts : List (Kept P)) (k : Kept P) (name : PartName) → HasItem parts k → k.name ≡ name → HasName parts name
+  pub item_named : (parts : List (Kept P)) (k : Kept P) (name : PartName) → HasItem parts k → k.name ≡ name → HasName parts name
   item_named parts k name has named =
       (has.0, omega (arith, has.1, length-map parts (λ (x : Kept P). x.name)), get_or-map (λ (x : Kept P). x.name) parts has.0 k name has.1 ∙ (ap (λ (x : Kept P). x.name) has.2 ∙ named))
 
@@ -107,7 +108,7 @@ module _ {P : Type 0} where
 
     module _ (w : Shelf P) (fs : List (ℕ × Shelf P)) (set : fs ≡ set_value (is_at (nat_cmp n)) es w) where
       -- is written anew
-      now_filed : IsStrictlySortedBy nat_cmp (keys_of fs) → IsFiled (n, w) → AreFiled fs
+      pub now_filed : IsStrictlySortedBy nat_cmp (keys_of fs) → IsFiled (n, w) → AreFiled fs
       now_filed rise shelf = record {
         rise = rise;
         filed = subst (All IsFiled) (sym set)
@@ -116,6 +117,12 @@ module _ {P : Type 0} where
 
       pub same_parts : w.parts ≡ v.parts → all_parts fs ≡ all_parts now
       same_parts same = ap all_parts set ∙ (set_same (is_at (nat_cmp n)) v w es (sym found) same ∙ ap all_parts view)
+
+      -- the shelf is written among all
+      pub now_written : IsWritten v w (all_parts now) (all_parts fs)
+      now_written =
+          subst (λ (gs : List (ℕ × Shelf P)). IsWritten v w (all_parts now) (all_parts gs)) (sym set)
+          (subst (λ (gs : List (ℕ × Shelf P)). IsWritten v w (all_parts gs) (all_parts (set_value (is_at (nat_cmp n)) es w))) view (set_written (is_at (nat_cmp n)) v w es (sym found)))
 
       pub kept_filed : IsStrictlySortedBy nat_cmp (keys_of fs) → w.parts ≡ v.parts → AreFiled fs
       kept_filed rise same = now_filed rise (same_filed n v w (found_filed n v es (sym found) filed.filed) same)

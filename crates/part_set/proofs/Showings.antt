@@ -3,15 +3,15 @@ use Rattle.std.proofs.Common.{◌≡◌, ◌≢◌, ℕ, ◌+◌, ◌<◌, ◌�
 use Rattle.std.proofs.lemmas.Bool.{false≢true}
 use Rattle.std.proofs.lemmas.List.{take_all}
 use Rattle.std.proofs.lemmas.List.Folds.{list_any_more}
-use Rattle.std.specs.List.{Contains as HasItem}
 use Rattle.part_set.specs.declared.kept.Kept.{Kept}
 use Rattle.part_set.specs.declared.root_name.RootName.{RootName}
 use Rattle.part_set.specs.declared.root_name.RootName.TheVariants.{Create}
 use Rattle.part_set.specs.declared.set.PartSet.{PartSet}
 use Rattle.part_set.specs.Groups.{has_table, is_create, is_same, names_in}
+use Rattle.part_set.specs.Parts.{HasName}
 use Rattle.part_set.specs.Passes.{AreShown}
 use Rattle.part_set.specs.Sets.{parts_of}
-use Rattle.part_set.specs.Shows.{Shows, bare}
+use Rattle.part_set.specs.Shows.{Shows}
 use Rattle.part_set.specs.Visible.{HasNoOrphan, IsVisible}
 use Rattle.part_set.proofs.Items.{item_none}
 use Rattle.part_set.proofs.Maps.{found_is, true_or_false}
@@ -86,7 +86,7 @@ module _ (names : List RootName) (i : ℕ) (set : PartSet (Unit {0})) (showing :
           (λ has. shown_visible names t n ((are.shown n).0 has), λ visible. (are.shown n).1 (visible_shown names t n visible))
           )
       | inr absent ↦ (
-        λ has. absurd (item_none (bare n) (subst (λ (ks : List (Kept (Unit {0}))). HasItem ks (bare n)) (shown_absent t absent) has)),
+        λ has. absurd (item_none n (subst (λ (ks : List (Kept (Unit {0}))). HasName ks n) (shown_absent t absent) has)),
         λ visible. absurd (false≢true (sym absent ∙ table_there names no_orphan (in_table t n) visible.here)),
       )
     ];

@@ -14,9 +14,9 @@ use Rattle.part_set.specs.declared.root_name.RootName.TheVariants.{Create, Part}
 use Rattle.part_set.specs.declared.root_name.TablePart.{TablePart}
 use Rattle.part_set.specs.Clashes.{HasOverlap}
 use Rattle.part_set.specs.Groups.{AreGroups, group_of, has_table, is_same, names_in}
+use Rattle.part_set.specs.Parts.{HasName}
 use Rattle.part_set.specs.Passes.{AreShown, Clash, IsPlainName, IsShown}
 use Rattle.part_set.specs.RootNames.{IsRootName}
-use Rattle.part_set.specs.Shows.{bare}
 use Rattle.part_set.specs.Visible.{HasNoOrphan, HasPart, HasTable, IsVisible}
 use Rattle.part_set.proofs.Items.{item_first, item_none}
 use Rattle.part_set.proofs.Maps.{found_is, true_or_false}
@@ -159,7 +159,7 @@ clash_moved xs ys moved clash =
 -- of no part none is shown
 pub none_shown : (kept : List (Kept (Unit {0}))) → kept ≡ [] → AreShown [] kept
 none_shown kept none = record {
-  shown = λ name. (λ has. absurd (item_none (bare name) (subst (λ (ks : List (Kept (Unit {0}))). HasItem ks (bare name)) none has)), λ shown. absurd (item_none name shown.here));
+  shown = λ name. (λ has. absurd (item_none name (subst (λ (ks : List (Kept (Unit {0}))). HasName ks name) none has)), λ shown. absurd (item_none name shown.here));
   clear = λ a b first second meet. absurd (item_none a first.here);
 }
 

@@ -4,6 +4,7 @@ pub mod NameOrder
 pub mod Parts
 pub mod Passes
 pub mod RootNames
+pub mod Runs
 pub mod Sets
 pub mod Shelf
 pub mod Shows

@@ -9,8 +9,7 @@ use Rattle.part_name.specs.declared.relations.Stand.{Stand}
 use Rattle.part_name.specs.declared.relations.Stand.TheVariants.{Covered, Overlapping, Clear}
 use Rattle.part_name.specs.PartNames.{Contains, IsPartName, Meet}
 use Rattle.part_set.specs.declared.kept.Kept.{Kept}
-use Rattle.part_set.specs.Parts.{partition_rank}
-use Rattle.part_set.specs.Shows.{bare}
+use Rattle.part_set.specs.Parts.{HasName, partition_rank}
 
 -- block order, and of those that begin in one place the widest first, and then the one of the greatest level
 abbrev pub pass_order : PartName → PartName → Ordering
@@ -43,7 +42,7 @@ pub record Clash (parts : List PartName) : Type 0 where
 
 -- these are the ones that are shown, and no two of them have a block in common
 pub record AreShown (parts : List PartName) (kept : List (Kept (Unit {0}))) : Type 0 where
-  pub shown : (name : PartName) → HasItem kept (bare name) ↔ IsShown parts name
+  pub shown : (name : PartName) → HasName kept name ↔ IsShown parts name
   pub clear : (a b : PartName) → IsShown parts a → IsShown parts b → Meet a b → a ≡ b
 
 abbrev pub last_of : {X : Type 0} → List X → Option X

@@ -11,6 +11,8 @@ use std::alloc::Global;
 pub struct Kept<P> {
     pub name: PartName,
     pub part: P,
+    /// Whether the part bears a mark: a merge of it is under way.
+    pub busy: bool,
 }
 
 impl<P: Twin> Twin for Kept<P> {
@@ -18,6 +20,7 @@ impl<P: Twin> Twin for Kept<P> {
         Ok(Kept {
             name: self.name,
             part: self.part.twin(alloc)?,
+            busy: self.busy,
         })
     }
 }

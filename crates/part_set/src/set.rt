@@ -1,16 +1,22 @@
 // The parts of all tables.
-ghost use Rattle.std.specs.Prelude.{◌≡◌, ◌≢◌, ◌↔◌, ℕ, List, [], IfOk, IsOk, OnOk, OnErr, IsTrue};
+ghost use Rattle.std.specs.Prelude.{◌≡◌, ◌≢◌, ◌↔◌, ℕ, List, [], false, IfOk, IsOk, OnOk, OnErr, IsTrue, option_copied};
+ghost use Rattle.std.specs.BTreeMap.{IsOrdered};
+ghost use Rattle.std.specs.Cmp.Lexicographic.{slice_cmp};
+ghost use Rattle.std.specs.List.{All};
+ghost use Rattle.std.specs.Ordering.{nat_cmp};
 ghost use Rattle.mt_base.specs.declared.partition.Partition.{Partition as Part};
 ghost use Rattle.part_set.specs.Parts.{AreNeighbours, HasName, IsAdded, IsInBlockOrder, NoneMeets, kept_in};
+ghost use Rattle.part_set.specs.Runs.{EndsInOrder, IsMarked, IsRun, IsSwapped, Spans, parts_of_run};
 ghost use Rattle.part_set.specs.Sets.{HasRoom, IsPut, parts_of, shelves_of};
 
 use crate::tables::TableParts;
-use crate::{Kept, Snap};
+use crate::{Kept, Run, Snap};
 use mt_base::{NoMemory, Partition, Twin};
 use mt_values::{Name, Schema};
 use part_name::PartName;
 use std::alloc::Global;
 use std::collections::BTreeMap;
+use std::collections::btree_map::Iter;
 
 /// The parts that are kept of all tables, each table's in block order, of which no two meet.
 #[derive(Drop)]
@@ -26,6 +32,21 @@ impl<P> PartSet<P> {
         PartSet {
             tables: BTreeMap::new(alloc),
         }
+    }
+
+    /// The tables that have parts, or room for one, in byte order of their names.
+    pub fn tables(&self) -> Iter<'_, Name, TableParts<P>>
+        ensures tables { result ≡ self.now.tables.entries }
+        ensures ordered { IsOrdered (slice_cmp nat_cmp) self.now.tables }
+    {
+        self.tables.iter()
+    }
+
+    /// What is kept for a table; none where it has neither parts nor room for one.
+    pub fn table(&self, table: &Name) -> Option<&TableParts<P>>
+        ensures { option_copied result ≡ shelves_of self.now.tables table.now }
+    {
+        self.tables.get(table)
     }
 
     /// The parts of a partition of a table, in block order; none where it has none.
@@ -57,6 +78,21 @@ impl<P> PartSet<P> {
             Some(parts) => parts.neighbours(a, b),
             None => a != b && a.partition == b.partition,
         }
+    }
+
+    /// The parts of a run of a table's partition bear the mark, or bear it no more. Takes no memory.
+    pub fn set_busy(&mut self, table: &Name, partition: Partition, run: Run, busy: bool)
+        requires { IsRun run (kept_in partition (parts_of self.old table.now)) }
+        ensures marked { IsMarked partition run busy (parts_of self.old table.now)
+            (parts_of self.new table.now) }
+        ensures ordered { IsInBlockOrder (parts_of self.new table.now) }
+        ensures others { (t : List ℕ) → t ≢ table.now → parts_of self.new t ≡ parts_of self.old t }
+        ensures rooms { (t : List ℕ) (p : Part) → HasRoom self.old t p → HasRoom self.new t p }
+    {
+        let Some(parts) = self.tables.get_mut(table) else {
+            unreachable!()
+        };
+        parts.set_busy(partition, run, busy);
     }
 }
 
@@ -94,7 +130,7 @@ impl<P: Drop> PartSet<P> {
     ) -> Result<(), NoMemory>
         requires { NoneMeets (parts_of self.old table.now) name }
         ensures ok { OnOk result (IsAdded (parts_of self.old table.now)
-            (record { name = name; part = part }) (parts_of self.new table.now)) }
+            (record { name = name; part = part; busy = false }) (parts_of self.new table.now)) }
         ensures ordered { OnOk result (IsInBlockOrder (parts_of self.new table.now)) }
         ensures others { (t : List ℕ) → t ≢ table.now → parts_of self.new t ≡ parts_of self.old t }
         ensures err { OnErr result ((t : List ℕ) → parts_of self.new t ≡ parts_of self.old t) }
@@ -108,6 +144,26 @@ impl<P: Drop> PartSet<P> {
         let mut parts = TableParts::new(alloc);
         parts.add(alloc, name, part)?;
         self.put(alloc, table, parts)
+    }
+
+    /// A part stands in place of those of a run of a table's partition, whose blocks it has, and bears no mark. Takes no
+    /// memory.
+    pub fn swap(&mut self, table: &Name, partition: Partition, run: Run, name: PartName, part: P)
+        requires run { IsRun run (kept_in partition (parts_of self.old table.now)) }
+        requires spans { Spans name
+            (parts_of_run run (kept_in partition (parts_of self.old table.now))) }
+        requires named { All EndsInOrder (parts_of self.old table.now) }
+        ensures swapped { IsSwapped partition run
+            (record { name = name; part = part; busy = false })
+            (parts_of self.old table.now) (parts_of self.new table.now) }
+        ensures ordered { IsInBlockOrder (parts_of self.new table.now) }
+        ensures others { (t : List ℕ) → t ≢ table.now → parts_of self.new t ≡ parts_of self.old t }
+        ensures rooms { (t : List ℕ) (p : Part) → HasRoom self.old t p → HasRoom self.new t p }
+    {
+        let Some(parts) = self.tables.get_mut(table) else {
+            unreachable!()
+        };
+        parts.swap(partition, run, name, part);
     }
 
     /// The table gets these parts in place of its own.

@@ -1,10 +1,11 @@
 // The parts of one partition of a table.
-ghost use Rattle.std.specs.Prelude.{◌≡◌, ◌<◌, ◌≤◌, ◌↔◌, [], false, length, IfOk, IsOk, OnOk, OnErr, IsTrue};
-ghost use Rattle.part_set.specs.Parts.{AreNeighbours, HasName, IsAdded, IsInBlockOrder, NoneMeets, in_order};
+ghost use Rattle.std.specs.Prelude.{◌≡◌, ◌+◌, ◌<◌, ◌≤◌, ◌↔◌, ◌++◌, ◌∷◌, [], false, take, drop, map, length, vec_capacity, IfOk, IsOk, OnOk, OnErr, IsTrue};
 ghost use Rattle.std.specs.List.{All, AllWithin};
+ghost use Rattle.part_set.specs.Parts.{AreNeighbours, HasName, IsAdded, IsInBlockOrder, NoneMeets, in_order};
+ghost use Rattle.part_set.specs.Runs.{EndsInOrder, IsRun, Spans, parts_of_run, with_mark};
 
-use crate::Kept;
 use crate::order::{in_order, lies_between};
+use crate::{Kept, Run};
 use mt_base::NoMemory;
 use part_name::PartName;
 use std::alloc::Global;
@@ -67,7 +68,7 @@ pub fn has_name<P>(parts: &[Kept<P>], name: &PartName) -> bool
 
 impl<P> PartitionParts<P> {
     /// No parts. Takes no memory.
-    pub fn new(alloc: Global) -> Self
+    pub(crate) fn new(alloc: Global) -> Self
         ensures { result.parts ≡ [] }
     {
         PartitionParts {
@@ -83,10 +84,22 @@ impl<P> PartitionParts<P> {
         self.parts.as_slice()
     }
 
+    /// The parts of the run bear the mark, or bear it no more. Takes no memory.
+    pub(crate) fn set_busy(&mut self, run: Run, busy: bool)
+        requires { IsRun run self.old.parts }
+        ensures parts { self.new.parts ≡ take run.first self.old.parts
+            ++ (map (with_mark busy) (parts_of_run run self.old.parts)
+            ++ drop (run.first + run.count) self.old.parts) }
+        ensures ordered { IsInBlockOrder self.new.parts }
+        ensures room { self.new.room ≡ self.old.room }
+    {
+        mark_run(&mut self.parts, run, busy);
+    }
+
     /// Makes room for one more part.
     ///
     /// `NoMemory` where there was none; the parts stay.
-    pub fn reserve(&mut self) -> Result<(), NoMemory>
+    pub(crate) fn reserve(&mut self) -> Result<(), NoMemory>
         ensures parts { self.new.parts ≡ self.old.parts }
         ensures room { OnOk result (0 < self.new.room) }
         ensures kept { 0 < self.old.room → 0 < self.new.room }
@@ -111,20 +124,70 @@ pub fn are_neighbours<P>(parts: &[Kept<P>], a: &PartName, b: &PartName) -> bool
     true
 }
 
+// One part comes in place of those of the run; it takes no memory.
+fn replace_run<P: Drop>(parts: &mut Vec<Kept<P>>, run: Run, kept: Kept<P>)
+    requires { IsRun run parts.old.items }
+    ensures items { parts.new.items ≡ take run.first parts.old.items
+        ++ kept ∷ drop (run.first + run.count) parts.old.items }
+    ensures capacity { vec_capacity parts.new ≡ vec_capacity parts.old }
+{
+    let next = run.first + 1;
+    let end = run.first + run.count;
+    parts[run.first] = kept;
+    drop(parts.drain(next..end));
+}
+
+// Each of the parts bears the mark, or bears it no more.
+fn mark<P>(parts: &mut [Kept<P>], busy: bool)
+    ensures { parts.new ≡ map (with_mark busy) parts.old }
+{
+    for kept in parts.iter_mut() {
+        kept.busy = busy;
+    }
+}
+
+// Each of the parts of a run bears the mark, or bears it no more.
+fn mark_run<P>(parts: &mut Vec<Kept<P>>, run: Run, busy: bool)
+    requires { IsRun run parts.old.items }
+    ensures items { parts.new.items ≡ take run.first parts.old.items
+        ++ (map (with_mark busy) (parts_of_run run parts.old.items)
+        ++ drop (run.first + run.count) parts.old.items) }
+    ensures capacity { vec_capacity parts.new ≡ vec_capacity parts.old }
+{
+    let end = run.first + run.count;
+    mark(parts.slice_mut(run.first..end), busy);
+}
+
 impl<P: Drop> PartitionParts<P> {
     /// Adds a part at its place. Takes no memory where there is room.
     ///
     /// `NoMemory` where the allocation failed; the parts stay.
-    pub fn add(&mut self, name: PartName, part: P) -> Result<(), NoMemory>
+    pub(crate) fn add(&mut self, name: PartName, part: P) -> Result<(), NoMemory>
         requires { NoneMeets self.old.parts name }
-        ensures ok { OnOk result (IsAdded self.old.parts (record { name = name; part = part })
-            self.new.parts) }
+        ensures ok { OnOk result (IsAdded self.old.parts
+            (record { name = name; part = part; busy = false }) self.new.parts) }
         ensures ordered { OnOk result (IsInBlockOrder self.new.parts) }
         ensures err { OnErr result (self.new.parts ≡ self.old.parts) }
         ensures room { 0 < self.old.room → IsOk result }
     {
         let place = place_of(self.parts.as_slice(), &name);
-        self.parts.insert(place, Kept { name, part })?;
+        let busy = false;
+        self.parts.insert(place, Kept { name, part, busy })?;
         Ok(())
+    }
+
+    /// The part stands in place of those of the run. Takes no memory.
+    pub(crate) fn swap(&mut self, run: Run, name: PartName, part: P)
+        requires run { IsRun run self.old.parts }
+        requires spans { Spans name (parts_of_run run self.old.parts) }
+        requires named { All EndsInOrder self.old.parts }
+        ensures parts { self.new.parts ≡ take run.first self.old.parts
+            ++ record { name = name; part = part; busy = false }
+            ∷ drop (run.first + run.count) self.old.parts }
+        ensures ordered { IsInBlockOrder self.new.parts }
+        ensures room { self.old.room ≤ self.new.room }
+    {
+        let busy = false;
+        replace_run(&mut self.parts, run, Kept { name, part, busy });
     }
 }

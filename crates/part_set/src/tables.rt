@@ -2,18 +2,21 @@
 //
 // A map has them by the place of their partition among all: so one part more costs no more than the search for its
 // partition, and moves parts of its own partition alone. Contracts see one list in block order (`all_parts`).
-ghost use Rattle.std.specs.Prelude.{◌≡◌, ◌<◌, ◌↔◌, ◌++◌, [], IfOk, IsOk, OnOk, OnErr, IsTrue};
+ghost use Rattle.std.specs.Prelude.{◌≡◌, ◌<◌, ◌↔◌, ◌++◌, [], false, IfOk, IsOk, OnOk, OnErr, IsTrue};
+ghost use Rattle.std.specs.List.{All};
 ghost use Rattle.mt_base.specs.declared.partition.Partition.{Partition as Part};
 ghost use Rattle.part_set.specs.Parts.{AreNeighbours, HasName, IsAdded, IsInBlockOrder, NoneMeets, kept_in};
-ghost use Rattle.part_set.specs.Shelf.{all_parts, room_of, shelf_at};
+ghost use Rattle.part_set.specs.Runs.{EndsInOrder, IsMarked, IsRun, IsSwapped, Spans, parts_of_run};
+ghost use Rattle.part_set.specs.Shelf.{AreFiled, all_parts, room_of, shelf_at};
 
-use crate::Kept;
 use crate::order::partition_rank;
 use crate::shelf::{PartitionParts, are_neighbours, has_name};
+use crate::{Kept, Run};
 use mt_base::{NoMemory, Partition, Twin};
 use part_name::PartName;
 use std::alloc::Global;
 use std::collections::BTreeMap;
+use std::collections::btree_map::Iter;
 use std::marker::Model;
 
 /// The parts of one table, in block order, of which no two meet.
@@ -36,7 +39,7 @@ impl<P> Model for TableParts<P> {
 
 impl<P> TableParts<P> {
     /// No parts. Takes no memory.
-    pub fn new(alloc: Global) -> Self
+    pub(crate) fn new(alloc: Global) -> Self
         ensures { result ≡ [] }
     {
         TableParts {
@@ -55,6 +58,14 @@ impl<P> TableParts<P> {
         }
     }
 
+    /// The partitions that have parts, or room for one, each by its place among all, in ascending order.
+    pub fn shelves(&self) -> Iter<'_, u128, PartitionParts<P>>
+        ensures shelves { result ≡ self.now }
+        ensures filed { AreFiled self.now }
+    {
+        self.partitions.iter()
+    }
+
     /// Whether one of them has this name.
     pub fn has(&self, name: &PartName) -> bool
         ensures { IsTrue result ↔ HasName (all_parts self.now) name.now }
@@ -68,13 +79,28 @@ impl<P> TableParts<P> {
     {
         are_neighbours(self.parts_in(a.partition), a, b)
     }
+
+    /// The parts of a run of the partition bear the mark, or bear it no more. Takes no memory.
+    pub(crate) fn set_busy(&mut self, partition: Partition, run: Run, busy: bool)
+        requires { IsRun run (kept_in partition (all_parts self.old)) }
+        ensures marked { IsMarked partition run busy (all_parts self.old) (all_parts self.new) }
+        ensures ordered { IsInBlockOrder (all_parts self.new) }
+        ensures rooms { (p : Part) → 0 < room_of (shelf_at p self.old)
+            → 0 < room_of (shelf_at p self.new) }
+    {
+        let place = partition_rank(partition);
+        let Some(parts) = self.partitions.get_mut(&place) else {
+            unreachable!()
+        };
+        parts.set_busy(run, busy);
+    }
 }
 
 impl<P: Drop> TableParts<P> {
     /// Makes room for one more part of a partition.
     ///
     /// `NoMemory` where an allocation failed; the parts stay.
-    pub fn reserve(&mut self, alloc: Global, partition: Partition) -> Result<(), NoMemory>
+    pub(crate) fn reserve(&mut self, alloc: Global, partition: Partition) -> Result<(), NoMemory>
         ensures parts { all_parts self.new ≡ all_parts self.old }
         ensures room { OnOk result (0 < room_of (shelf_at partition self.new)) }
         ensures kept { (p : Part) → 0 < room_of (shelf_at p self.old)
@@ -93,10 +119,10 @@ impl<P: Drop> TableParts<P> {
     /// Adds a part at its place. Takes no memory where its partition has room.
     ///
     /// `NoMemory` where an allocation failed; the parts stay.
-    pub fn add(&mut self, alloc: Global, name: PartName, part: P) -> Result<(), NoMemory>
+    pub(crate) fn add(&mut self, alloc: Global, name: PartName, part: P) -> Result<(), NoMemory>
         requires { NoneMeets (all_parts self.old) name }
         ensures ok { OnOk result (IsAdded (all_parts self.old)
-            (record { name = name; part = part }) (all_parts self.new)) }
+            (record { name = name; part = part; busy = false }) (all_parts self.new)) }
         ensures ordered { OnOk result (IsInBlockOrder (all_parts self.new)) }
         ensures err { OnErr result (all_parts self.new ≡ all_parts self.old) }
         ensures room { 0 < room_of (shelf_at name.partition self.old) → IsOk result }
@@ -110,13 +136,32 @@ impl<P: Drop> TableParts<P> {
         self.partitions.insert(place, parts)?;
         Ok(())
     }
+
+    /// The part stands in place of those of a run of the partition. Takes no memory.
+    pub(crate) fn swap(&mut self, partition: Partition, run: Run, name: PartName, part: P)
+        requires run { IsRun run (kept_in partition (all_parts self.old)) }
+        requires spans { Spans name (parts_of_run run (kept_in partition (all_parts self.old))) }
+        requires named { All EndsInOrder (all_parts self.old) }
+        ensures swapped { IsSwapped partition run
+            (record { name = name; part = part; busy = false })
+            (all_parts self.old) (all_parts self.new) }
+        ensures ordered { IsInBlockOrder (all_parts self.new) }
+        ensures rooms { (p : Part) → 0 < room_of (shelf_at p self.old)
+            → 0 < room_of (shelf_at p self.new) }
+    {
+        let place = partition_rank(partition);
+        let Some(parts) = self.partitions.get_mut(&place) else {
+            unreachable!()
+        };
+        parts.swap(run, name, part);
+    }
 }
 
 impl<P: Twin> TableParts<P> {
     /// Equal copies of all parts, in block order.
     ///
     /// `NoMemory` where an allocation failed.
-    pub fn twins(&self, alloc: Global) -> Result<Vec<Kept<P>>, NoMemory>
+    pub(crate) fn twins(&self, alloc: Global) -> Result<Vec<Kept<P>>, NoMemory>
         ensures { IfOk result (λ v. v.items ≡ all_parts self.now) }
     {
         let mut copies = Vec::new(alloc);

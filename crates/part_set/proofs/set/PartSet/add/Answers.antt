@@ -1,4 +1,4 @@
-use Rattle.std.proofs.Common.{◌≡◌, ◌∙◌, ℕ, List, ap, arith, rules, subst, sym}
+use Rattle.std.proofs.Common.{false, ◌≡◌, ◌∙◌, ℕ, List, ap, arith, rules, subst, sym}
 use Rattle.std.proofs.lemmas.Result.{on_err_weaker, on_ok_weaker}
 use Rattle.std.specs.BTreeMap.{BTreeMap}
 use Rattle.std.specs.Result.{OnErr, OnOk}
@@ -38,8 +38,8 @@ returns-clause-ok g c =
     let ok : OnOk c.put.result (IsPut base new table shelves) = subst (λ (m : BTreeMap (List ℕ) (List (ℕ × Shelf g.row.P.Denot))). OnOk c.put.result (IsPut m new table shelves)) c.get_mut.follows.holds-at-none c.put.ensures.ok in
     on_ok_weaker c.put.result
     (λ put.
-    subst (λ (b : List (Kept g.row.P.Denot)). IsAdded b (record { name = c.args.name; part = c.args.part }) (parts_on (shelves_of new table))) (ap all_parts c.new-parts.ensures ∙ ap parts_on c.in_default.ensures.value)
-    (subst (λ (a : List (Kept g.row.P.Denot)). IsAdded (all_parts c.new-parts.result) (record { name = c.args.name; part = c.args.part }) a) (sym (ap parts_on put.1)) c.in_ok-add.ensures.ok))
+    subst (λ (b : List (Kept g.row.P.Denot)). IsAdded b (record { name = c.args.name; part = c.args.part; busy = false }) (parts_on (shelves_of new table))) (ap all_parts c.new-parts.ensures ∙ ap parts_on c.in_default.ensures.value)
+    (subst (λ (a : List (Kept g.row.P.Denot)). IsAdded (all_parts c.new-parts.result) (record { name = c.args.name; part = c.args.part; busy = false }) a) (sym (ap parts_on put.1)) c.in_ok-add.ensures.ok))
     ok
 
 pub returns-clause-ordered : goal.returns-clause-ordered

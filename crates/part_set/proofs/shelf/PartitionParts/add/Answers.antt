@@ -1,4 +1,4 @@
-use Rattle.std.proofs.Common.{◌∙◌, ◌<◌, ap, arith, refl, subst, sym}
+use Rattle.std.proofs.Common.{false, ◌∙◌, ◌<◌, ap, arith, refl, subst, sym}
 use Rattle.std.proofs.lemmas.Result.{err_from_is_err_and}
 use Rattle.part_set.specs.Parts.{IsAdded, NoneMeets}
 use Rattle.part_set.specs.Shelf.{Shelf}
@@ -12,7 +12,7 @@ invariant_of-self-2 g c =
     let front = c.place_of-place.ensures.front in
     let back = rw value at c.place_of-place.ensures.back in
     let none = subst (λ (s : Shelf g.row.P.Denot). NoneMeets s.parts c.args.name) (sym c.self.view_is) c.requires in
-    rw c.in_ok-insert.ensures.items (order_inserted c.self.inside.parts.items (record { name = c.args.name; part = c.args.part }) c.place_of-place.result within c.self.invariant none (rw value at front) back)
+    rw c.in_ok-insert.ensures.items (order_inserted c.self.inside.parts.items (record { name = c.args.name; part = c.args.part; busy = false }) c.place_of-place.result within c.self.invariant none (rw value at front) back)
 
 pub returns-clause-ordered : goal.returns-clause-ordered
 returns-clause-ordered g c =
@@ -21,12 +21,12 @@ returns-clause-ordered g c =
     let front = c.place_of-place.ensures.front in
     let back = rw value at c.place_of-place.ensures.back in
     let none = subst (λ (s : Shelf g.row.P.Denot). NoneMeets s.parts c.args.name) (sym c.self.view_is) c.requires in
-    rw c.in_ok-insert.ensures.items (order_inserted c.self.inside.parts.items (record { name = c.args.name; part = c.args.part }) c.place_of-place.result within c.self.invariant none (rw value at front) back)
+    rw c.in_ok-insert.ensures.items (order_inserted c.self.inside.parts.items (record { name = c.args.name; part = c.args.part; busy = false }) c.place_of-place.result within c.self.invariant none (rw value at front) back)
 
 pub returns-clause-ok : goal.returns-clause-ok
 returns-clause-ok g c =
     let value = c.as_slice.ensures.value in
-    subst (λ (s : Shelf g.row.P.Denot). IsAdded s.parts (record { name = c.args.name; part = c.args.part }) c.insert.new.self.items) c.self.view_is
+    subst (λ (s : Shelf g.row.P.Denot). IsAdded s.parts (record { name = c.args.name; part = c.args.part; busy = false }) c.insert.new.self.items) c.self.view_is
     (record { place = c.place_of-place.result; within = rw value at c.place_of-place.ensures.within; is = c.in_ok-insert.ensures.items })
 
 pub returns-clause-room : goal.returns-clause-room

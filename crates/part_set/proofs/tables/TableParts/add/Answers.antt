@@ -1,4 +1,4 @@
-use Rattle.std.proofs.Common.{◌≡◌, ℕ, refl, subst}
+use Rattle.std.proofs.Common.{false, ◌≡◌, ℕ, refl, subst}
 use Rattle.std.proofs.lemmas.Result.{on_err_weaker, on_ok_weaker}
 use Rattle.std.specs.BTreeMap.{BTreeMap, insert_entry}
 use Rattle.std.specs.Ordering.{nat_cmp}
@@ -16,7 +16,7 @@ invariant_of-self g c =
     let es = c.self.inside.partitions.entries in
     let written = c.get_mut.follows.holds c.add.new.self in
     grown_then c.args.name.partition n es c.args.self.now c.self.invariant c.self.view_is c.partition_rank-place.ensures c.in-Some.parts.now c.in-Some.ensures.value c.add.new.self (c.get_mut.follows.lender c.add.new.self).entries written.0
-    (record { name = c.args.name; part = c.args.part }) refl c.add.result c.add.ensures.ok written.4 c.add.ensures.ordered c.add.ensures.err
+    (record { name = c.args.name; part = c.args.part; busy = false }) refl c.add.result c.add.ensures.ok written.4 c.add.ensures.ordered c.add.ensures.err
 
 pub returns-in-Some-clause-ok : goal.returns-in-Some-clause-ok
 returns-in-Some-clause-ok g c =
@@ -24,7 +24,7 @@ returns-in-Some-clause-ok g c =
     let es = c.self.inside.partitions.entries in
     let written = c.get_mut.follows.holds c.add.new.self in
     added_then c.args.name.partition n es c.args.self.now c.self.invariant c.self.view_is c.partition_rank-place.ensures c.in-Some.parts.now c.in-Some.ensures.value c.add.new.self (c.get_mut.follows.lender c.add.new.self).entries written.0
-    (record { name = c.args.name; part = c.args.part }) refl c.add.result c.add.ensures.ok
+    (record { name = c.args.name; part = c.args.part; busy = false }) refl c.add.result c.add.ensures.ok
 
 pub returns-in-Some-clause-ordered : goal.returns-in-Some-clause-ordered
 returns-in-Some-clause-ordered g c =
@@ -32,7 +32,7 @@ returns-in-Some-clause-ordered g c =
     let es = c.self.inside.partitions.entries in
     let written = c.get_mut.follows.holds c.add.new.self in
     let filed = grown_then c.args.name.partition n es c.args.self.now c.self.invariant c.self.view_is c.partition_rank-place.ensures c.in-Some.parts.now c.in-Some.ensures.value c.add.new.self (c.get_mut.follows.lender c.add.new.self).entries written.0
-    (record { name = c.args.name; part = c.args.part }) refl c.add.result c.add.ensures.ok written.4 c.add.ensures.ordered c.add.ensures.err in
+    (record { name = c.args.name; part = c.args.part; busy = false }) refl c.add.result c.add.ensures.ok written.4 c.add.ensures.ordered c.add.ensures.err in
     on_ok_weaker c.add.result (λ added. filed_ordered (c.get_mut.follows.lender c.add.new.self).entries filed) c.add.ensures.ok
 
 pub returns-in-Some-clause-err : goal.returns-in-Some-clause-err
@@ -50,7 +50,7 @@ invariant_of-self-2 g c =
     let es = c.self.inside.partitions.entries in
     let put = subst (λ (m : BTreeMap ℕ (Shelf g.row.P.Denot)). c.insert.new.self.entries ≡ insert_entry nat_cmp m.entries n c.add-2.new.self) c.get_mut.follows.holds-at-none c.in_ok-insert.ensures.entries in
     first_filed n es c.insert.new.self.entries c.args.self.now c.self.invariant c.self.view_is c.in_default.ensures.value c.add-2.new.self put c.new-parts.result c.new-parts.ensures
-    (record { name = c.args.name; part = c.args.part }) c.in_ok-add.ensures.ok c.in_ok-insert.ensures.ordered c.partition_rank-place.ensures c.in_ok-add.ensures.ordered
+    (record { name = c.args.name; part = c.args.part; busy = false }) c.in_ok-add.ensures.ok c.in_ok-insert.ensures.ordered c.partition_rank-place.ensures c.in_ok-add.ensures.ordered
 
 pub returns-clause-ok : goal.returns-clause-ok
 returns-clause-ok g c =
@@ -58,7 +58,7 @@ returns-clause-ok g c =
     let es = c.self.inside.partitions.entries in
     let put = subst (λ (m : BTreeMap ℕ (Shelf g.row.P.Denot)). c.insert.new.self.entries ≡ insert_entry nat_cmp m.entries n c.add-2.new.self) c.get_mut.follows.holds-at-none c.in_ok-insert.ensures.entries in
     first_added n es c.insert.new.self.entries c.args.self.now c.self.invariant c.self.view_is c.in_default.ensures.value c.add-2.new.self put c.new-parts.result c.new-parts.ensures
-    (record { name = c.args.name; part = c.args.part }) c.in_ok-add.ensures.ok
+    (record { name = c.args.name; part = c.args.part; busy = false }) c.in_ok-add.ensures.ok
 
 pub returns-clause-ordered : goal.returns-clause-ordered
 returns-clause-ordered g c =
@@ -67,4 +67,4 @@ returns-clause-ordered g c =
     let put = subst (λ (m : BTreeMap ℕ (Shelf g.row.P.Denot)). c.insert.new.self.entries ≡ insert_entry nat_cmp m.entries n c.add-2.new.self) c.get_mut.follows.holds-at-none c.in_ok-insert.ensures.entries in
     filed_ordered c.insert.new.self.entries
     (first_filed n es c.insert.new.self.entries c.args.self.now c.self.invariant c.self.view_is c.in_default.ensures.value c.add-2.new.self put c.new-parts.result c.new-parts.ensures
-    (record { name = c.args.name; part = c.args.part }) c.in_ok-add.ensures.ok c.in_ok-insert.ensures.ordered c.partition_rank-place.ensures c.in_ok-add.ensures.ordered)
+    (record { name = c.args.name; part = c.args.part; busy = false }) c.in_ok-add.ensures.ok c.in_ok-insert.ensures.ordered c.partition_rank-place.ensures c.in_ok-add.ensures.ordered)

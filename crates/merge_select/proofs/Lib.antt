@@ -1,0 +1,5 @@
+pub mod Gone
+pub mod Places
+pub mod Shelves
+pub mod Tables
+pub mod Wholes

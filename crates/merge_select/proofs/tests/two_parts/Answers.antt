@@ -1,0 +1,11 @@
+use Rattle.std.proofs.Common.{List, subst, sym}
+use Rattle.std.proofs.lemmas.List.Elements.{All-nil}
+use Rattle.part_name.specs.PartNames.{Meet}
+use Rattle.part_set.specs.declared.kept.Kept.{Kept}
+use Rattle.part_set.specs.Parts.{NoneMeets}
+use Rattle.merge_select.specs.declared.tests.Pile.{Pile}
+use Rattle.merge_select.proofs.tests.two_parts.Goals as goal
+
+pub add-requires : goal.add-requires
+add-requires c =
+    subst (λ (xs : List (Kept Pile)). NoneMeets xs c.fresh.result) (sym (c.new-set.ensures c.args.table.now)) (All-nil (λ (kept : Kept Pile). Meet kept.name c.fresh.result → ⊥))

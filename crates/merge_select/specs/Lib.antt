@@ -1,0 +1,3 @@
+pub mod Picks
+pub mod Whole
+pub mod Wishes

@@ -1,0 +1,26 @@
+-- What is asked of the pairs of one table.
+use Rattle.std.specs.Prelude.{ℕ, ◌<◌, List}
+use Rattle.mt_base.specs.declared.partition.Partition.{Partition}
+use Rattle.mutation_queue.specs.declared.numbered.Mutation.{Mutation}
+use Rattle.mutation_queue.specs.Queue.{mutations_of}
+use Rattle.part_set.specs.declared.kept.Kept.{Kept}
+use Rattle.part_set.specs.Parts.{kept_in, partition_rank}
+use Rattle.merge_select.specs.declared.pairs.Wish.{Wish}
+use Rattle.merge_select.specs.Picks.{Chooses, MayTake}
+
+-- the mutations of the table
+abbrev pub wished_of : Wish → List Mutation
+wished_of wish = mutations_of wish.queue.now wish.table.now
+
+-- the pair at the place may be taken
+abbrev pub TakesAt : {P : Type 0} → (P → ℕ) → Wish → List (Kept P) → ℕ → Type 0
+TakesAt count wish parts place = MayTake count (wished_of wish) wish.policy parts place
+
+-- it is the one that is taken
+abbrev pub ChoosesAt : {P : Type 0} → (P → ℕ) → Wish → List (Kept P) → ℕ → Type 0
+ChoosesAt count wish parts place = Chooses count (wished_of wish) wish.policy parts place
+
+-- the pair that is taken in the partition, where no partition of the table before it has any
+pub record IsFirstOfTable {P : Type 0} (count : P → ℕ) (wish : Wish) (parts : List (Kept P)) (partition : Partition) (place : ℕ) : Type 0 where
+  pub chooses : ChoosesAt count wish (kept_in partition parts) place
+  pub first : (p : Partition) → partition_rank p < partition_rank partition → (k : ℕ) → TakesAt count wish (kept_in p parts) k → ⊥
