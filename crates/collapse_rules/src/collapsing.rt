@@ -1,6 +1,6 @@
 // CollapsingMergeTree: what is left is told by the numbers of both signs and by the last row (docs/engines.md, "CollapsingMergeTree").
 ghost use Rattle.std.specs.Prelude.{◌≡◌, ◌+◌, ◌++◌, ◌∷◌, [], IfOk, List, OnOk, option_to_list};
-ghost use Rattle.mt_values.specs.Values.{Row};
+ghost use Rattle.mt_values.specs.Values.{Row, types_of};
 ghost use Rattle.mt_model.specs.Rules.{Folds, HasSign, Run};
 ghost use Rattle.mt_values.specs.declared.engine.Engine.TheVariants as engine;
 ghost use Rattle.mt_values.specs.Order.{key_of};
@@ -50,6 +50,11 @@ impl RowRule for CollapsingRule {
     ghost holds = { λ rule state rows. IsCounted rule.sign rows state };
 
     ghost keeps = { λ rule places key rows out apart some takes all run. collapsing_keeps (λ r. key_of places r ≡ key) rule.sign rows out all run };
+
+    ghost stays_taken = { λ rule types rows out some taken typed run. (
+      collapsing_keeps (HasSign rule.sign) rule.sign rows out taken run,
+      collapsing_keeps (λ r. types_of r ≡ types) rule.sign rows out typed run,
+    ) };
 
     ghost law = { λ rule rows x out some takes comes leaves. collapsing_law rule.sign rows x out some comes leaves };
 

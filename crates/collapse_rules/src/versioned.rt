@@ -3,6 +3,7 @@ ghost use Rattle.std.specs.Prelude.{◌≡◌, []};
 ghost use Rattle.mt_model.specs.Rules.{Folds, HasSign, Run};
 ghost use Rattle.mt_values.specs.declared.engine.Engine.TheVariants as engine;
 ghost use Rattle.mt_values.specs.Order.{key_of};
+ghost use Rattle.mt_values.specs.Values.{types_of};
 ghost use Rattle.rule_law.proofs.Kept.{versioned_keeps};
 ghost use Rattle.rule_law.proofs.OneSign.{versioned_law};
 
@@ -36,6 +37,11 @@ impl RowRule for VersionedRule {
     ghost holds = { λ rule state rows. Run (engine.Versioned rule.sign rule.version) [] rows state.items };
 
     ghost keeps = { λ rule places key rows out apart some takes all run. versioned_keeps (λ r. key_of places r ≡ key) rule.sign rule.version rows out all run };
+
+    ghost stays_taken = { λ rule types rows out some taken typed run. (
+      versioned_keeps (HasSign rule.sign) rule.sign rule.version rows out taken run,
+      versioned_keeps (λ r. types_of r ≡ types) rule.sign rule.version rows out typed run,
+    ) };
 
     ghost law = { λ rule rows x out some takes comes leaves. versioned_law rule.sign rule.version rows x out some comes leaves };
 

@@ -1,5 +1,7 @@
 // Rows in order, of which those of one key stand side by side, and what the rule leaves of each key's.
-ghost use Rattle.std.specs.Prelude.{◌∷◌, All, IfOk, length};
+ghost use Rattle.std.specs.Prelude.{◌∷◌, All, IfOk, List, length};
+ghost use Rattle.mt_values.specs.Grid.{AreRowsOf};
+ghost use Rattle.mt_values.specs.declared.value.ColType.{ColType};
 ghost use Rattle.row_merge.specs.Merged.{AreOrdered, IsFoldOf, rows_of};
 
 use crate::order::count_up_to;
@@ -17,9 +19,13 @@ pub(crate) fn fold_keys<Q: RowRule>(
     rows: &[&Row],
     rule: &Q,
 ) -> Result<Vec<Row>, NoMemory>
-    ensures { IfOk result (λ out. Q.apart rule.now places.now
+    ensures folds { IfOk result (λ out. Q.apart rule.now places.now
         → AreOrdered places.now (rows_of rows.now) → All (Q.takes rule.now) (rows_of rows.now)
         → IsFoldOf places.now (Q.run rule.now) (rows_of rows.now) out.items) }
+    // Whatever the order of the rows.
+    ensures typed { IfOk result (λ out. (types : List ColType)
+        → All (Q.takes rule.now) (rows_of rows.now) → AreRowsOf types (rows_of rows.now)
+        → AreRowsOf types out.items) }
 {
     let mut out = Vec::new(alloc);
     let mut at = 0;

@@ -1,5 +1,5 @@
 // What no clause says: that calls come to an answer, of no inputs, of empty ones and of up to five; the answers were worked by hand.
-use crate::merge_sorted;
+use crate::{merge_rows, merge_sorted};
 use mt_base::{NoMemory, Seq};
 use mt_values::{ColType, Column, Engine, Row, Schema, Value};
 use rule_law::RowRule;
@@ -22,7 +22,7 @@ struct Case {
 }
 
 /// A table of two columns, its key the first.
-fn table(alloc: Global) -> Result<Schema, NoMemory> {
+fn table(alloc: Global, engine: Engine) -> Result<Schema, NoMemory> {
     let mut columns = Seq::new(alloc);
     columns.push(Column {
         name: Seq::from_slice(alloc, b"k")?,
@@ -36,7 +36,7 @@ fn table(alloc: Global) -> Result<Schema, NoMemory> {
     })?;
     Ok(Schema {
         columns,
-        engine: Engine::Plain,
+        engine,
         key: Seq::from_slice(alloc, &[0])?,
         primary: Seq::from_slice(alloc, &[0])?,
         partition: None,
@@ -70,8 +70,24 @@ fn inputs_of(alloc: Global, text: &[u8]) -> Result<Vec<Vec<Row>>, NoMemory> {
 /// What a merge of the inputs leaves, as a text.
 fn merged<Q: RowRule>(alloc: Global, text: &[u8], rule: &Q) -> Result<Vec<u8>, NoMemory> {
     let inputs = inputs_of(alloc, text)?;
+    let schema = table(alloc, Engine::Plain)?;
+    letters_of(
+        alloc,
+        &merge_sorted(alloc, inputs.as_slice(), &schema, rule)?,
+    )
+}
+
+/// What a merge of the inputs leaves in a table of this engine, as a text.
+fn merged_by(alloc: Global, text: &[u8], engine: Engine) -> Result<Vec<u8>, NoMemory> {
+    let inputs = inputs_of(alloc, text)?;
+    let schema = table(alloc, engine)?;
+    letters_of(alloc, &merge_rows(alloc, &schema, inputs.as_slice())?)
+}
+
+/// The letters of rows.
+fn letters_of(alloc: Global, rows: &[Row]) -> Result<Vec<u8>, NoMemory> {
     let mut letters = Vec::new(alloc);
-    for row in merge_sorted(alloc, inputs.as_slice(), &table(alloc)?, rule)? {
+    for row in rows {
         for value in row.as_slice() {
             if let Value::UInt8(letter) = value {
                 letters.push(*letter)?;
@@ -136,5 +152,43 @@ fn inputs_are_merged(rt: HostRuntime) -> Result<(), Fail> {
             case.newest
         );
     }
+    Ok(())
+}
+
+#[test]
+fn a_table_is_merged_by_its_engine(rt: HostRuntime) -> Result<(), Fail> {
+    let alloc = rt.alloc();
+    let inputs = b"a3b2. a1. ".as_slice();
+    assert_eq!(rt;
+        merged_by(alloc, inputs, Engine::Plain)?.as_slice(),
+        b"a3a1b2".as_slice()
+    );
+    let last = Engine::Replacing(None);
+    assert_eq!(rt;
+        merged_by(alloc, inputs, last)?.as_slice(),
+        b"a1b2".as_slice()
+    );
+    let newest = Engine::Replacing(Some(1));
+    assert_eq!(rt;
+        merged_by(alloc, inputs, newest)?.as_slice(),
+        b"a3b2".as_slice()
+    );
+    // The letters 3 and 1 are 51 and 49, and d is 100.
+    let sums = Engine::Summing(Seq::from_slice(alloc, &[1])?);
+    assert_eq!(rt;
+        merged_by(alloc, inputs, sums)?.as_slice(),
+        b"adb2".as_slice()
+    );
+    // A column without a function keeps its first value.
+    assert_eq!(rt;
+        merged_by(alloc, inputs, Engine::Aggregating)?.as_slice(),
+        b"a3b2".as_slice()
+    );
+    // No row has a sign, so none is folded.
+    let signs = Engine::Collapsing(1);
+    assert_eq!(rt;
+        merged_by(alloc, inputs, signs)?.as_slice(),
+        b"a3a1b2".as_slice()
+    );
     Ok(())
 }

@@ -3,7 +3,7 @@ ghost use Rattle.std.specs.Prelude.{◌≡◌, All, None, Some, length, slice_ge
 ghost use Rattle.mt_model.specs.Rules.{AreAggregatesFrom, Folds, Run};
 ghost use Rattle.mt_values.specs.Values.{types_of};
 ghost use Rattle.mt_values.specs.declared.engine.Engine.TheVariants as engine;
-ghost use Rattle.rule_law.proofs.Aggregated.{aggregating_keeps, aggregating_law};
+ghost use Rattle.rule_law.proofs.Aggregated.{aggregating_keeps, aggregating_law, aggregating_stays};
 
 use crate::folding::{fold_row, read_number};
 use mt_base::{NoMemory, Seq, Twin};
@@ -37,6 +37,9 @@ impl RowRule for AggregatingRule {
 
     ghost keeps = { λ rule places key rows out apart some takes same run.
         aggregating_keeps rule.types rule.functions places key rows out apart some takes same run };
+
+    ghost stays_taken = { λ rule types rows out some taken typed run.
+        aggregating_stays rule.types rule.functions types rows out some taken typed run };
 
     ghost law = { λ rule rows x out some takes comes leaves.
         aggregating_law rule.types rule.functions rows x out some takes comes leaves };

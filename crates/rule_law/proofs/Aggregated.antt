@@ -32,10 +32,10 @@ use Rattle.rule_law.proofs.Wrapping.{integer_wrapped, number_among, number_as, n
 
 -- ---- lists
 
-all_left : {X : Type 0} (P : X → Type 0) (xs ys : List X) → All P (xs ++ ys) → All P xs
+pub all_left : {X : Type 0} (P : X → Type 0) (xs ys : List X) → All P (xs ++ ys) → All P xs
 all_left P xs ys h = λ k d below. subst P (get_or-append xs ys d k below) (h k d (omega (arith, length-append xs ys)))
 
-all_right : {X : Type 0} (P : X → Type 0) (xs ys : List X) → All P (xs ++ ys) → All P ys
+pub all_right : {X : Type 0} (P : X → Type 0) (xs ys : List X) → All P (xs ++ ys) → All P ys
 all_right P xs ys h = λ k d below. subst P (get_or-append-add xs ys k d) (h (length xs + k) d (omega (arith, length-append xs ys)))
 
 -- a value at a place stands between others
@@ -386,6 +386,23 @@ pub aggregating_law : (types : List ColType) (functions : List (Option Aggregate
 aggregating_law types functions rows x out some taken comes leaves =
     law_of_types types functions (taken 0 [] some).1 rows x out some (taken_types types functions rows taken) comes leaves
 
+-- what is left of rows that are taken is taken, and has their types
+pub aggregating_stays : (types : List ColType) (functions : List (Option Aggregate)) (own : List ColType) (rows out : List Row) → 0 < length rows → All (TakesRow types functions) rows → AreRowsOf own rows
+    → Run engine.Aggregating functions rows out → All (TakesRow types functions) out × AreRowsOf own out
+aggregating_stays types functions own rows out some taken typed h = (
+  All-same (TakesRow types functions) out (h.row ∷ []) h.out_is (All-cons (TakesRow types functions) h.row [] (left, even) (All-nil (TakesRow types functions))),
+  All-same (λ r. types_of r ≡ own) out (h.row ∷ []) h.out_is (All-cons (λ r. types_of r ≡ own) h.row [] (left ∙ same) (All-nil (λ r. types_of r ≡ own))),
+)
+  where
+    even : length functions ≡ length types
+    even = (taken 0 [] some).1
+
+    left : types_of h.row ≡ types
+    left = left_types types functions even rows h.row (taken_types types functions rows taken) h.aggregates
+
+    same : types ≡ own
+    same = sym (taken 0 [] some).0 ∙ typed 0 [] some
+
 -- ---- columns without a function keep their first value
 
 values_same : (places : List ℕ) (a b : Row) → All (λ place. slice_get a place ≡ slice_get b place) places → key_of places a ≡ key_of places b
@@ -394,7 +411,7 @@ values_same (place ∷ places) a b same =
     ap₂ cons_option (All-head (λ p. slice_get a p ≡ slice_get b p) place places same) (values_same places a b (All-tail (λ p. slice_get a p ≡ slice_get b p) place places same))
 
 module _ (types : List ColType) (functions : List (Option Aggregate)) (even : length functions ≡ length types) (first : Row) (own : types_of first ≡ types) (rows : List Row) (row : Row) (h : AreAggregatesFrom 0 functions (first ∷ rows) row) where
-  first_kept : (place : ℕ) → slice_get functions place ≡ Some None → slice_get row place ≡ slice_get first place
+  pub first_kept : (place : ℕ) → slice_get functions place ≡ Some None → slice_get row place ≡ slice_get first place
   first_kept place none = slice_get-get_or row place no_value within ∙ ap Some same ∙ sym (slice_get-get_or first place no_value in_first)
     where
       below : place < length functions

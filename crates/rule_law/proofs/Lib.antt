@@ -1,6 +1,7 @@
 pub mod Aggregated
 pub mod AllRows
 pub mod Alternating
+pub mod ApartColumns
 pub mod Bits
 pub mod Kept
 pub mod Merging
@@ -8,5 +9,8 @@ pub mod Newest
 pub mod OneRow
 pub mod OneSign
 pub mod OneSum
+pub mod PartlyRows
+pub mod Ranges
 pub mod Summed
+pub mod TableRows
 pub mod Wrapping

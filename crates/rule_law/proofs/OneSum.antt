@@ -69,7 +69,7 @@ pub sums_leave : (places : List ℕ) (rows : List Row) (row : Row) (out : List R
 sums_leave places rows row out one is = record { earlier = one.earlier; carried = row; later = one.later; rows_are = one.are; out_is = is }
 
 -- all of the row or nothing holds what the row does
-left_all : (P : Row → Type 0) (b : Bool) (row : Row) → P row → All P (cond b [] (row ∷ []))
+pub left_all : (P : Row → Type 0) (b : Bool) (row : Row) → P row → All P (cond b [] (row ∷ []))
 left_all P true row h = All-nil P
 left_all P false row h = All-cons P row [] h (All-nil P)
 
@@ -210,6 +210,10 @@ module _ (places : List ℕ) (types : List ColType) where
 
   pub summing_law : (rows x out : List Row) → 0 < length rows → AreTyped rows → ComesFrom (Run (engine.Summing places) []) rows x → Leaves (Run (engine.Summing places) []) x out → Folds (engine.Summing places) [] rows out
   summing_law rows x out some typed comes leaves = law_of_merges (LeavesSums places) AreTyped merged_typed sums_absorb rows x out some typed comes leaves
+
+  -- what is left of rows of these types has them
+  pub summing_types : (rows out : List Row) → AreTyped rows → Run (engine.Summing places) [] rows out → AreTyped out
+  summing_types rows out typed h = out_typed rows out typed h
 
   -- ---- columns that are not summed
 

@@ -1,8 +1,10 @@
 // The rule of an engine, as merges and reads with FINAL call it (docs/engines.md, "Merges").
 ghost use Rattle.std.specs.Prelude.{◌≡◌, ◌<◌, ◌++◌, ◌∷◌, [], ℕ, All, IfOk, List, OnOk, length};
 ghost use Rattle.mt_model.specs.Folding.{ComesFrom, Leaves};
+ghost use Rattle.mt_values.specs.Grid.{AreRowsOf};
 ghost use Rattle.mt_values.specs.Order.{key_of};
 ghost use Rattle.mt_values.specs.Values.{Row};
+ghost use Rattle.mt_values.specs.declared.value.ColType.{ColType};
 ghost use Rattle.mt_values.specs.declared.value.Value.{Value};
 
 use mt_base::NoMemory;
@@ -56,6 +58,11 @@ pub trait RowRule {
         → apart rule places → 0 < length rows → All (takes rule) rows
         → All (λ r. key_of places r ≡ key) rows → run rule rows out
         → All (λ r. key_of places r ≡ key) out };
+
+    /// What is left of rows that the rule takes, and that have these types, are such rows again.
+    ghost stays_taken: { (rule : Self) (types : List ColType) (rows out : List Row)
+        → 0 < length rows → All (takes rule) rows → AreRowsOf types rows → run rule rows out
+        → All (takes rule) out × AreRowsOf types out };
 
     /// Whatever was merged before, and at whatever times, what is left of the rest is what FINAL may leave of all rows.
     ghost law: { (rule : Self) (rows x out : List Row) → 0 < length rows → All (takes rule) rows

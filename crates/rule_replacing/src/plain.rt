@@ -3,6 +3,7 @@ ghost use Rattle.std.specs.Prelude.{◌≡◌, []};
 ghost use Rattle.mt_model.specs.Rules.{Folds, Run};
 ghost use Rattle.mt_values.specs.declared.engine.Engine.TheVariants as engine;
 ghost use Rattle.mt_values.specs.Order.{key_of};
+ghost use Rattle.mt_values.specs.Values.{types_of};
 ghost use Rattle.rule_law.proofs.AllRows.{plain_law};
 ghost use Rattle.rule_law.proofs.Kept.{plain_keeps};
 
@@ -29,6 +30,8 @@ impl RowRule for PlainRule {
     ghost holds = { λ rule state rows. state.items ≡ rows };
 
     ghost keeps = { λ rule places key rows out apart some takes all run. plain_keeps (λ r. key_of places r ≡ key) rows out all run };
+
+    ghost stays_taken = { λ rule types rows out some taken typed run. (λ k d below. tt, plain_keeps (λ r. types_of r ≡ types) rows out typed run) };
 
     ghost law = { λ rule rows x out some takes comes leaves. plain_law rows x out some comes leaves };
 

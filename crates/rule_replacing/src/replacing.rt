@@ -3,6 +3,7 @@ ghost use Rattle.std.specs.Prelude.{◌≡◌, ◌∷◌, [], IsTrue, ◌↔◌,
 ghost use Rattle.mt_model.specs.Rules.{Folds, Run};
 ghost use Rattle.mt_values.specs.declared.engine.Engine.TheVariants as engine;
 ghost use Rattle.mt_values.specs.Order.{key_of};
+ghost use Rattle.mt_values.specs.Values.{types_of};
 ghost use Rattle.rule_replacing.specs.Replaced.{replaces};
 ghost use Rattle.rule_law.proofs.Kept.{replacing_keeps};
 ghost use Rattle.rule_law.proofs.OneRow.{replacing_law};
@@ -33,6 +34,8 @@ impl RowRule for ReplacingRule {
     ghost holds = { λ rule state rows. Run (engine.Replacing rule.version) [] rows (state ∷ []) };
 
     ghost keeps = { λ rule places key rows out apart some takes all run. replacing_keeps (λ r. key_of places r ≡ key) rule.version rows out all run };
+
+    ghost stays_taken = { λ rule types rows out some taken typed run. (λ k d below. tt, replacing_keeps (λ r. types_of r ≡ types) rule.version rows out typed run) };
 
     ghost law = { λ rule rows x out some takes comes leaves. replacing_law rule.version rows x out some comes leaves };
 

@@ -3,7 +3,7 @@ ghost use Rattle.std.specs.Prelude.{◌≡◌, [], All, false};
 ghost use Rattle.mt_model.specs.Rules.{Folds, Run, is_one_of};
 ghost use Rattle.mt_values.specs.Values.{types_of};
 ghost use Rattle.mt_values.specs.declared.engine.Engine.TheVariants as engine;
-ghost use Rattle.rule_law.proofs.OneSum.{summing_keeps, summing_law};
+ghost use Rattle.rule_law.proofs.OneSum.{summing_keeps, summing_law, summing_types};
 ghost use Rattle.rule_summing.specs.Summed.{HasSums};
 
 use crate::sums::{add_row, are_zero, clear_row};
@@ -37,6 +37,11 @@ impl RowRule for SummingRule {
 
     ghost keeps = { λ rule places key rows out apart some takes same run.
         summing_keeps rule.places rule.types places key rows out apart same run };
+
+    ghost stays_taken = { λ rule types rows out some taken typed run. (
+      summing_types rule.places rule.types rows out taken run,
+      summing_types rule.places types rows out typed run,
+    ) };
 
     ghost law = { λ rule rows x out some takes comes leaves.
         summing_law rule.places rule.types rows x out some takes comes leaves };
