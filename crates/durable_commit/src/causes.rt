@@ -19,6 +19,8 @@ pub enum Limit {
     Parts,
     /// The table has no number left.
     Numbers,
+    /// The part that a merge makes has a greater level than may be.
+    Levels,
 }
 
 /// Why a command was not committed.

@@ -1,8 +1,8 @@
-// A name published and settled, and its command noted.
-ghost use Rattle.std.specs.Prelude.{◌≡◌, ◌+◌, IsSome, None, IfOk, IsErrOf, OnErr, OnOk};
+// A name published and settled, with the command that is noted of it or without one.
+ghost use Rattle.std.specs.Prelude.{◌≡◌, ◌+◌, None, IfOk, IsErrOf, OnErr, OnOk};
 ghost use Rattle.std.specs.Option.{ForSome, option_map};
-ghost use Rattle.mt_values.specs.Annals.{began, noted};
-ghost use Rattle.mt_outside.specs.DiskCauses.{HasDiskCause, HasStageCause};
+ghost use Rattle.mt_values.specs.Annals.{began};
+ghost use Rattle.mt_outside.specs.DiskCauses.{HasStageCause};
 ghost use Rattle.mt_outside.specs.Disk.{MayPut, files_at, names_of, put};
 ghost use Rattle.stage_dir.specs.Stages.{AreSealed};
 ghost use Rattle.durable_commit.specs.Commits.{Notes, SameList};
@@ -12,29 +12,41 @@ use mt_values::{Annals, Entry, Name};
 use stage_dir::Sealed;
 use std::alloc::Global;
 
-// Settles the name that was published, and notes the command that is begun. The annals have room for it.
-fn settle<D: Disk, A: Annals>(disk: &mut D, annals: &mut A) -> Result<(), DiskError>
-    requires room { A.has_room annals.old }
-    requires begun { ForSome (A.told annals.old) (λ t. IsSome t.begun) }
+/// Publishes what was sealed and settles its name.
+///
+/// `Fault` only where the disk's count rose in this call, which it does for no other cause where no call of the stage had failed.
+/// After a fault the name is there or not; where memory ran out nothing was changed. What was sealed is gone in each case.
+pub fn publish<D: Disk>(
+    alloc: Global,
+    disk: &mut D,
+    sealed: Sealed<<D::Arm as Arm>::Stage>,
+    name: &Name,
+) -> Result<<D::Arm as Arm>::Dir, DiskError>
+    requires { ForSome (D.told disk.old) (λ t. files_at name.now (names_of t) ≡ None) }
 
-    // What the annals and the disk are then.
-    ensures annals { OnOk result (A.told annals.new ≡ option_map (noted (D.clock disk.new))
-        (A.told annals.old)) }
-    ensures annals_err { OnErr result (A.told annals.new ≡ A.told annals.old) }
-    ensures clock { OnOk result (D.clock disk.new ≡ D.clock disk.old + 1) }
-    ensures clock_err { OnErr result (D.clock disk.new ≡ D.clock disk.old) }
-    ensures told { D.told disk.new ≡ D.told disk.old }
+    // What is published and settled.
+    ensures disk { OnOk result (D.told disk.new ≡ put (D.clock disk.old) name.now sealed.files
+        (D.told disk.old)) }
+    ensures dir { IfOk result (λ d. D.Arm.Dir.files d ≡ sealed.files) }
+    ensures settled { OnOk result (D.clock disk.new ≡ D.clock disk.old + 1) }
+    ensures sealed { ForSome sealed.files AreSealed }
+
+    // What stands after an error.
+    ensures mark_err { OnErr result (D.clock disk.new ≡ D.clock disk.old) }
+    ensures left { OnErr result (MayPut (D.clock disk.old) name.now sealed.files (D.told disk.old)
+        (D.told disk.new)) }
+    ensures memory { IsErrOf result DiskError.NoMemory → D.told disk.new ≡ D.told disk.old }
+
+    // What stays, and why it failed.
     ensures started { D.started disk.new ≡ D.started disk.old }
-
-    // Why it failed.
-    ensures takes_none { IsErrOf result DiskError.NoMemory → ⊥ }
-    ensures cause { HasDiskCause (D.failed disk.old) (D.failed disk.new) result }
+    ensures cause { HasStageCause sealed.failed (D.failed disk.old) (D.failed disk.new) result }
 {
+    let dir = match disk.publish(alloc, sealed.into_stage(), name) {
+        Ok(dir) => dir,
+        Err(error) => return Err(error),
+    };
     match disk.sync_names() {
-        Ok(()) => {
-            annals.note(disk.mark());
-            Ok(())
-        }
+        Ok(()) => Ok(dir),
         Err(error) => Err(error),
     }
 }
@@ -77,12 +89,11 @@ pub fn commit<D: Disk, A: Annals>(
     ensures cause { HasStageCause sealed.failed (D.failed disk.old) (D.failed disk.new) result }
 {
     annals.begin(entry);
-    let dir = match disk.publish(alloc, sealed.into_stage(), name) {
-        Ok(dir) => dir,
-        Err(error) => return Err(error),
-    };
-    match settle(disk, annals) {
-        Ok(()) => Ok(dir),
+    match publish(alloc, disk, sealed, name) {
+        Ok(dir) => {
+            annals.note(disk.mark());
+            Ok(dir)
+        }
         Err(error) => Err(error),
     }
 }

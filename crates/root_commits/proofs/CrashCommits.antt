@@ -1,23 +1,28 @@
 -- What crashes leave of a CREATE and of an INSERT whose files were published.
-use Rattle.std.proofs.Common.{◌≡◌, ℕ, ◌+◌, ◌<◌, ◌≤◌, List, [], ◌∷◌, Option, Some, None, IsTrue, length, sym, ap, ◌∙◌, subst, arith}
+use Rattle.std.proofs.Common.{is_some, true, refl, ◌≡◌, ℕ, ◌+◌, ◌<◌, ◌≤◌, List, [], ◌∷◌, Option, Some, None, IsTrue, length, sym, ap, ◌∙◌, subst, arith}
 use Rattle.std.specs.BTreeMap.{insert_entry}
 use Rattle.std.specs.Cmp.Lexicographic.{slice_cmp}
 use Rattle.std.specs.Option.{option_map}
 use Rattle.std.specs.Ordering.{nat_cmp}
-use Rattle.std.proofs.lemmas.List.Elements.{All-weaker}
+use Rattle.std.proofs.lemmas.List.Elements.{All-contains, All-weaker}
 use Rattle.mt_values.specs.declared.command.Command.TheVariants as command
 use Rattle.mt_values.specs.declared.command.Create.{Create}
 use Rattle.mt_base.specs.declared.name.FileId.{FileId}
+use Rattle.mt_base.specs.declared.partition.Partition.{Partition}
 use Rattle.mt_base.specs.declared.name.FileId.TheVariants as file
 use Rattle.mt_values.specs.declared.schema.Schema.{Schema}
 use Rattle.mt_values.specs.Grid.{Grid}
 use Rattle.mt_values.specs.RootNames.{create_name, part_name}
 use Rattle.mt_values.specs.Values.{Row}
-use Rattle.mt_outside.specs.Disk.{MayBecome, Names}
+use Rattle.mt_outside.specs.Disk.{MayBecome}
 use Rattle.mt_outside.specs.Files.{Files, bytes_of}
 use Rattle.mt_model.specs.History.{History, IsInsertInto, IsTableSchema, creates, entered, schema_of}
-use Rattle.part_name.specs.PartNames.{part_text}
-use Rattle.part_set.specs.RootNames.{is_table}
+use Rattle.part_name.specs.PartNames.{IsPartition, part_text}
+use Rattle.part_reader.specs.declared.reading.Part.{Part}
+use Rattle.part_set.specs.declared.root_name.RootName.{RootName}
+use Rattle.part_set.specs.declared.root_name.RootName.TheVariants as root
+use Rattle.part_set.specs.RootNames.{IsRootName, is_table}
+use Rattle.part_set.specs.Visible.{HasPart}
 use Rattle.part_writer.specs.PartFiles.{files_of_part, manifest_of}
 use Rattle.digest_file.specs.Spellings.{IsManifestOf}
 use Rattle.stage_dir.specs.Stages.{AreSealed}
@@ -25,15 +30,20 @@ use Rattle.stage_dir.proofs.Images.{is_synced-sealed}
 use Rattle.part_history.specs.Entered.{next_number}
 use Rattle.root_store.specs.declared.store.CoreStore.{CoreStore}
 use Rattle.root_store.specs.declared.store.Table.{Table}
-use Rattle.root_store.specs.ByteOrder.{AreInByteOrder}
 use Rattle.part_history.proofs.Numbered.{legal_schema}
-use Rattle.root_commits.specs.Commits.{fresh_part, insert_into, insert_of_block, part_rows, partition_of_block}
+use Rattle.root_commits.specs.Commits.{EntersPart, EntersTable, fresh_part, insert_into, insert_of_block, part_rows, partition_of_block}
 use Rattle.root_store.specs.Entries.{EntryHolds}
 use Rattle.root_store.specs.Roots.{FolderHolds, Stands}
 use Rattle.root_store.specs.Stores.{CoreStands, table_at}
 use Rattle.root_commits.proofs.CrashNames.{entry_free_in, part_free_in}
-use Rattle.root_commits.proofs.Growing.{stands_with_part, stands_with_table}
+use Rattle.root_commits.proofs.CrashImages.{Grows, Shows}
+use Rattle.root_commits.proofs.FreeNames.{fresh_named}
+use Rattle.root_commits.proofs.Growing.{parts_end_by, stands_with_part, stands_with_table}
 use Rattle.root_commits.proofs.Partitions.{block_spells}
+use Rattle.root_commits.proofs.Shown.{shown_added, shown_made}
+use Rattle.root_store.specs.Shown.{part_called}
+use Rattle.root_store.proofs.Readings.{one_reading}
+use Rattle.root_store.proofs.Tabled.{table_here}
 
 -- ---- sealed files
 
@@ -58,21 +68,38 @@ module _ (files left : Files) (sealed : AreSealed files) (become : MayBecome fil
 module _ {F : Type 0} (files_of : F → Option Files) (store : CoreStore F) (h : History) (session : ℕ) (s : CoreStands files_of h store) (files : Files) (sealed : AreSealed files) where
   -- each root that stands for the history stands for it with a CREATE, once the table's entry is there
   pub grows_by_table : (c : Create) → table_at store c.table ≡ None → length store.tables.entries < 64 → IsTableSchema c.schema → IsTrue (is_table c.table) → EntryHolds c.table c.schema files
-      → (old : Names) (left : Files) → AreInByteOrder old → Stands old h → MayBecome files left
-      → Stands (insert_entry (slice_cmp nat_cmp) old (create_name c.table) left) (entered h session (command.Create c ∷ []))
-  grows_by_table c absent few sound named holds = λ old left rise stands become.
+      → Grows store (create_name c.table) files h (entered h session (command.Create c ∷ []))
+  grows_by_table c absent few sound named holds = λ old left rise stands shown become.
       let none : schema_of c.table h ≡ None = sym (s.tables c.table) ∙ ap (option_map (λ (t : Table). t.schema)) absent in
       let count : creates h < 65536 = (let known = s.count in omega (arith, few, known)) in
       stands_with_table old h session c left rise stands none count sound named (entry_left files left sealed become c.table c.schema holds) (entry_free_in old h stands c.table none)
 
   -- and with an INSERT, once its part is
   pub grows_by_part : (table : List ℕ) (t : Table) (block : Grid) → table_at store table ≡ Some t → t.drawn < 4294967295 → IsInsertInto t.schema (insert_into table (partition_of_block t.schema block) block) → FolderHolds t.schema (part_rows t.schema block) files
-      → (old : Names) (left : Files) → AreInByteOrder old → Stands old h → MayBecome files left
-      → Stands (insert_entry (slice_cmp nat_cmp) old (part_name table (part_text (fresh_part (partition_of_block t.schema block) (t.drawn + 1)))) left) (entered h session (insert_of_block table (partition_of_block t.schema block) block ∷ []))
-  grows_by_part table t block here small rows holds = λ old left rise stands become.
+      → Grows store (part_name table (part_text (fresh_part (partition_of_block t.schema block) (t.drawn + 1)))) files h (entered h session (insert_of_block table (partition_of_block t.schema block) block ∷ []))
+  grows_by_part table t block here small rows holds = λ old left rise stands shown become.
       let known : schema_of table h ≡ Some t.schema = sym (s.tables table) ∙ ap (option_map (λ (u : Table). u.schema)) here in
       let number : t.drawn + 1 ≡ next_number table h = ap (λ n. n + 1) (s.drawn table t here) in
       let few : next_number table h ≤ 4294967295 = omega (arith, number, small) in
       subst (λ (n : ℕ). Stands (insert_entry (slice_cmp nat_cmp) old (part_name table (part_text (fresh_part (partition_of_block t.schema block) n))) left) (entered h session (insert_of_block table (partition_of_block t.schema block) block ∷ []))) (sym number)
       (stands_with_part old h session (insert_into table (partition_of_block t.schema block) block) t.schema left rise stands known rows few (folder_left files left sealed become t.schema (part_rows t.schema block) holds)
       (part_free_in old h stands table (partition_of_block t.schema block) (block_spells table t.schema block (legal_schema table h t.schema s.legal known) rows) few))
+
+-- ---- the parts that are visible
+
+module _ {F : Type 0} (files_of : F → Option Files) (old new : CoreStore F) (h : History) (s : CoreStands files_of h old) (files : Files) where
+  pub shows_by_table : (table : List ℕ) (schema : Schema) → IsTrue (is_table table) → EntersTable table schema old new → Shows old (create_name table) files h new
+  shows_by_table table schema word a = λ names left rise stands shown become. shown_made old table word names left shown new schema a
+
+  pub shows_by_part : (table : List ℕ) (partition : Partition) (part : Part F) (t : Table) → IsPartition partition → t.drawn < 4294967295 → EntersPart table partition part t old new
+      → Shows old (part_name table (part_text (fresh_part partition (t.drawn + 1)))) files h new
+  shows_by_part table partition part t spells small a = λ names left rise stands shown become.
+      let known : is_some (schema_of table h) ≡ true = ap is_some (sym (s.tables table) ∙ ap (option_map (λ (u : Table). u.schema)) a.there) in
+      let same : shown.read ≡ stands.read = one_reading names shown.read stands.read shown.are stands.are in
+      let word : IsRootName (root.Part (part_called table (fresh_part partition (t.drawn + 1)))) = (
+        All-contains IsRootName stands.read (root.Create table) stands.are.sound (table_here names h stands table known),
+        fresh_named partition t.drawn spells small,
+      ) in
+      shown_added old table partition t.drawn names left shown word
+      (λ p here own. subst (λ (n : ℕ). p.name.max_block ≤ n) (sym (s.drawn table t a.there)) (parts_end_by names h stands table p (subst (λ (read : List RootName). HasPart read p) same here) own))
+      new part t refl a

@@ -14,7 +14,6 @@ use Rattle.mt_outside.specs.Disk.{Image, LeftAt, MayBecome, MayLead, Names, Sinc
 use Rattle.mt_outside.specs.Files.{Files}
 use Rattle.mt_outside.proofs.Changes.{before_clock-with_change, since-sync, since-with_change}
 use Rattle.mt_outside.proofs.Crashes.{image_published, stamped_change, stamped_sync}
-use Rattle.root_store.specs.ByteOrder.{AreInByteOrder}
 use Rattle.root_store.specs.Crashes.{HoldsFirst, IsCrashSafe, IsFirstOf, IsMarkAfter, entries_of, none_begun}
 use Rattle.root_store.specs.Roots.{Stands}
 use Rattle.root_store.proofs.CrashMarks.{all_entries, begun_too, image_is_since, last_place, no_shorter, now_is_image, one_more, safe_stands, same_least, slice_get-append_front, slice_get-append_seam, some_one, within_list}
@@ -27,9 +26,9 @@ module _ (told : Told) (clock : ℕ) (list first : List Noted) (start : ℕ) (sa
   least : base ≤ length list
   least = no_shorter first list safe.begins
 
-  -- a name is published whose command makes of each root that stands for the list one that stands for it with the command
+  -- a name is published whose command makes of whatever a crash could leave, which stands for the list, what stands for it with the command
   module _ (name : List ℕ) (files : Files) (e : Entry)
-      (grows : (old : Names) (left : Files) → AreInByteOrder old → Stands old (entries_of list) → MayBecome files left → Stands (insert_entry (slice_cmp nat_cmp) old name left) (entries_of list ++ e ∷ [])) where
+      (grows : (old : Names) (left : Files) → Image told clock old → MayBecome files left → Stands (insert_entry (slice_cmp nat_cmp) old name left) (entries_of list ++ e ∷ [])) where
     abbrev published : Told
     published = with_change clock (Publish name files) told
 
@@ -120,5 +119,35 @@ module _ (told : Told) (clock : ℕ) (list first : List Noted) (start : ℕ) (sa
         | inr new ↦ (
             let image = now_is_image published (clock + 1) names (subst (λ (c : ℕ). Since published (clock + 1) c names) new.1 left) in
             holds_last m names (same_least _ _ new.0) (after_sync names image))
+      ];
+    }
+
+  -- a name is published that leaves each root standing for the list
+  module _ (name : List ℕ) (files : Files)
+      (keeps : (old : Names) (left : Files) → Image told clock old → MayBecome files left → Stands (insert_entry (slice_cmp nat_cmp) old name left) (entries_of list)) where
+    abbrev merged : Told
+    merged = with_change clock (Publish name files) told
+
+    settled_start : (names : Names) → LeftAt merged start 0 names → Stands names (entries_of first)
+    settled_start names left =
+        let past : start ≤ clock = safe.past base start (inl (refl, refl)) in
+        safe.at_start names (subst (λ (settled : Told). MayLead (names_after [] settled) [] names) (before_clock-with_change told start clock (Publish name files) past) left)
+
+    pub safe_merged : IsCrashSafe merged clock (none_begun list) first start
+    safe_merged = record {
+      stamped = stamped_change told clock (Publish name files) safe.stamped;
+      begins = safe.begins;
+      at_start = settled_start;
+      past = safe.past;
+      images = λ m mark names after left. elim (since-with_change told clock mark (Publish name files) names left) [
+        | inl old ↦ safe.images m mark names after old
+        | inr image ↦ elim (image_published told clock name files names image) [
+          | inl was ↦ safe.images m mark names after (image_is_since told clock mark names (safe.past m mark after) was)
+          | inr new ↦ (
+            entries_of list,
+            inl (length list, within_list base start list m mark least after, same_least _ _ refl, sym (all_entries list)),
+            with_it told clock (entries_of list) (entries_of list) (safe_stands told clock list first start safe) name files keeps names new,
+          )
+        ]
       ];
     }

@@ -179,7 +179,7 @@ put_told clock name (Some fs) (Some root) x h =
 
 module _ {F : Type 0} (old new : CoreStore F) where
   -- where each name under the old store is one under the new, and the new name is one, all names fit
-  fits_more : (clock : ℕ) (name : List ℕ) (files : Option Files) (before after : Option Told) → ((n : List ℕ) → IsNameUnder old n → IsNameUnder new n) → IsNameUnder new name
+  pub fits_more : (clock : ℕ) (name : List ℕ) (files : Option Files) (before after : Option Told) → ((n : List ℕ) → IsNameUnder old n → IsNameUnder new n) → IsNameUnder new name
       → ForSome before (NamesFit old) → after ≡ put clock name files before → ForSome after (NamesFit new)
   fits_more clock name files before after keep given fit is = λ x told.
       let from = put_told clock name files before x (sym is ∙ told) in

@@ -1,5 +1,5 @@
 -- A root that stands for a history stands for it with one command more, once what the command makes is among its names.
-use Rattle.std.proofs.Common.{◌≡◌, ℕ, ◌<◌, ◌≤◌, Bool, true, false, cond, List, [], ◌∷◌, ◌++◌, Some, None, IsTrue, length, map, is_some, refl, sym, ap, ◌∙◌, subst, append-nil, arith, inl, inr, ◌⊎◌}
+use Rattle.std.proofs.Common.{◌≡◌, ℕ, ◌<◌, ◌≤◌, Bool, true, false, cond, List, [], ◌∷◌, ◌++◌, Some, None, IsTrue, length, map, is_some, refl, sym, ap, ◌∙◌, subst, append-nil, arith, inl, inr}
 use Rattle.std.proofs.lemmas.List.{map-append}
 use Rattle.std.proofs.lemmas.List.Elements.{All-contains, All-push, All-weaker, Contains-append_left, Contains-push, Contains-push_cases, filter-append}
 use Rattle.std.specs.BTreeMap.{insert_entry}
@@ -37,69 +37,16 @@ use Rattle.part_history.proofs.Numbered.{legal_schema}
 use Rattle.root_commits.specs.Commits.{fresh_part}
 use Rattle.root_store.specs.Entries.{EntryHolds, HoldsEntry, entry_name}
 use Rattle.root_store.specs.Roots.{FolderHolds, HasFolder, IsOfEntry, PartIsThere, Stands, named}
-use Rattle.root_commits.proofs.Added.{are_read, folder_kept, new_folder, new_read, read_or_new, read_with, still_read, with_name}
+use Rattle.root_commits.proofs.Added.{are_read, folder_kept, new_folder, new_read, read_or_new, read_with, with_name}
+use Rattle.root_commits.proofs.Hiding.{covers_none, new_visible, none_covers, part_or_new, part_was, still_visible, table_hides_none, table_shows_none, was_visible}
 use Rattle.root_commits.proofs.Partitions.{may_spell}
 use Rattle.root_store.proofs.Clear.{of_table}
 use Rattle.root_store.proofs.Fitting.{ends_by}
-use Rattle.root_store.proofs.Orphaned.{of_core, part_named}
+use Rattle.root_store.proofs.Orphaned.{of_core}
 use Rattle.root_store.proofs.Tabled.{table_here}
 
 abbrev last : History → ℕ → Create → Entry
 last h session c = record { session = session; command = command.Create c }
-
--- ---- visible parts
-
-same_part : (p q : TablePart) → root.Part p ≡ root.Part q → p ≡ q
-same_part p q e = cc
-
--- one table more hides no part and shows none
-module _ (read : List RootName) (table : List ℕ) where
-  part_was : (part : TablePart) → HasPart (read_with (root.Create table) read) part → HasPart read part
-  part_was part has = elim (read_or_new (root.Create table) read (root.Part part) has) [ inl old ↦ old | inr same ↦ cc ]
-
-  table_hides_none : (part : TablePart) → IsVisible read part → IsVisible (read_with (root.Create table) read) part
-  table_hides_none part visible = record {
-    here = still_read (root.Create table) read (root.Part part) visible.here;
-    shows = λ hidden. visible.shows (record { by = hidden.by; here = part_was hidden.by hidden.here; other = hidden.other; covers = hidden.covers });
-  }
-
-  table_shows_none : (part : TablePart) → IsVisible (read_with (root.Create table) read) part → IsVisible read part
-  table_shows_none part visible = record {
-    here = part_was part visible.here;
-    shows = λ hidden. visible.shows (record { by = hidden.by; here = still_read (root.Create table) read (root.Part hidden.by) hidden.here; other = hidden.other; covers = hidden.covers });
-  }
-
--- one part more that covers none and is covered by none shows itself
-module _ (read : List RootName) (new : TablePart) (covers_none : (part : TablePart) → HasPart read part → Covers new part → ⊥) (none_covers : (part : TablePart) → HasPart read part → Covers part new → ⊥) where
-  abbrev names_with : List RootName
-  names_with = read_with (root.Part new) read
-
-  part_or_new : (part : TablePart) → HasPart names_with part → HasPart read part ⊎ (new ≡ part)
-  part_or_new part has = elim (read_or_new (root.Part new) read (root.Part part) has) [ inl old ↦ inl old | inr same ↦ inr (same_part new part same) ]
-
-  still_visible : (part : TablePart) → IsVisible read part → IsVisible names_with part
-  still_visible part visible = record {
-    here = still_read (root.Part new) read (root.Part part) visible.here;
-    shows = λ hidden. elim (part_or_new hidden.by hidden.here) [
-      | inl old ↦ visible.shows (record { by = hidden.by; here = old; other = hidden.other; covers = hidden.covers })
-      | inr same ↦ covers_none part visible.here (subst (λ (p : TablePart). Covers p part) (sym same) hidden.covers)
-    ];
-  }
-
-  was_visible : (part : TablePart) → HasPart read part → IsVisible names_with part → IsVisible read part
-  was_visible part here visible = record {
-    here = here;
-    shows = λ hidden. visible.shows (record { by = hidden.by; here = still_read (root.Part new) read (root.Part hidden.by) hidden.here; other = hidden.other; covers = hidden.covers });
-  }
-
-  new_visible : HasPart names_with new → IsVisible names_with new
-  new_visible here = record {
-    here = here;
-    shows = λ hidden. elim (part_or_new hidden.by hidden.here) [
-      | inl old ↦ none_covers hidden.by old hidden.covers
-      | inr same ↦ hidden.other (sym same)
-    ];
-  }
 
 -- ---- a root that stands
 
@@ -200,29 +147,25 @@ module _ (names : Names) (h : History) (session : ℕ) (i : Insert) (schema : Sc
     record { partition = may_spell schema i.partition (own_partition schema i (legal_schema i.table h schema s.legal known) is); min_block = (omega arith, few); max_block = (omega arith, few); order = omega arith; level = omega arith; mutation = tt },
   )
 
-  covers_none : (part : TablePart) → HasPart s.read part → Covers new part → ⊥
-  covers_none part here covers =
-      let below = parts_end_by names h s i.table part here (sym covers.table) in
-      let order = (part_named names h s part here).order in
-      let least = covers.name.min_block in
-      omega (arith, below, order, least)
+  ends : (part : TablePart) → HasPart s.read part → part.table ≡ i.table → part.name.max_block ≤ length (numbered i.table h)
+  ends part here own = parts_end_by names h s i.table part here own
 
-  none_covers : (part : TablePart) → HasPart s.read part → Covers part new → ⊥
-  none_covers part here covers =
-      let below = parts_end_by names h s i.table part here covers.table in
-      let most = covers.name.max_block in
-      omega (arith, below, most)
+  clear : (part : TablePart) → HasPart s.read part → Covers new part → ⊥
+  clear = covers_none s.read s.are.sound new (length (numbered i.table h)) (omega arith) (omega arith) ends
+
+  uncovered : (part : TablePart) → HasPart s.read part → Covers part new → ⊥
+  uncovered = none_covers s.read s.are.sound new (length (numbered i.table h)) (omega arith) (omega arith) ends
 
   visible_there : (part : TablePart) → IsVisible read part → HasItem (map named (s.parts ++ core ∷ [])) part
-  visible_there part visible = subst (λ (ps : List TablePart). HasItem ps part) (sym (map-append named s.parts (core ∷ []))) (elim (part_or_new s.read new covers_none none_covers part visible.here) [
-    | inl old ↦ Contains-append_left (map named s.parts) (named core ∷ []) part ((s.visible part).0 (was_visible s.read new covers_none none_covers part old visible))
+  visible_there part visible = subst (λ (ps : List TablePart). HasItem ps part) (sym (map-append named s.parts (core ∷ []))) (elim (part_or_new s.read new part visible.here) [
+    | inl old ↦ Contains-append_left (map named s.parts) (named core ∷ []) part ((s.visible part).0 (was_visible s.read new part old visible))
     | inr same ↦ subst (HasItem (map named s.parts ++ named core ∷ [])) (named_new ∙ same) (Contains-push (map named s.parts) (named core))
   ])
 
   there_visible : (part : TablePart) → HasItem (map named (s.parts ++ core ∷ [])) part → IsVisible read part
   there_visible part has = elim (Contains-push_cases (map named s.parts) (named core) part (subst (λ (ps : List TablePart). HasItem ps part) (map-append named s.parts (core ∷ [])) has)) [
-    | inl old ↦ still_visible s.read new covers_none none_covers part ((s.visible part).1 old)
-    | inr same ↦ subst (IsVisible read) (sym named_new ∙ same) (new_visible s.read new covers_none none_covers (new_read (root.Part new) new_named s.read s.are.sound))
+    | inl old ↦ still_visible s.read new part ((s.visible part).1 old) (clear part ((s.visible part).1 old).here)
+    | inr same ↦ subst (IsVisible read) (sym named_new ∙ same) (new_visible s.read new uncovered (new_read (root.Part new) new_named s.read s.are.sound))
   ]
 
   -- the parts of each table stand for the longer history
@@ -263,7 +206,7 @@ module _ (names : Names) (h : History) (session : ℕ) (i : Insert) (schema : Sc
     legal = legal_push h entry s.legal (schema, known, is);
     read = read;
     are = are_read (root.Part new) new_named names files s.read s.are;
-    unmutated = λ part has. elim (part_or_new s.read new covers_none none_covers part has) [
+    unmutated = λ part has. elim (part_or_new s.read new part has) [
       | inl old ↦ s.unmutated part old
       | inr same ↦ sym (ap (λ (p : TablePart). p.name.mutation) same)
     ];

@@ -50,7 +50,7 @@ module _ {F : Type 0} (files_of : F → Option Files) where
     | inl same ↦ (
         let now : table_at new table ≡ Some x = subst (λ (v : List ℕ). table_at new v ≡ Some x) (sym same) at in
         let kept = one_some (table_at new table) (record { schema = t.schema; drawn = t.drawn + 1 }) x a.enters.updates.1 now in
-        let new_part : Kept (Part F) = record { name = fresh_part (partition_of_block t.schema block) (t.drawn + 1); part = a.part } in
+        let new_part : Kept (Part F) = record { name = fresh_part (partition_of_block t.schema block) (t.drawn + 1); part = a.part; busy = false } in
         let own : HoldsRows files_of t.schema new_part = (part_rows t.schema block, written_holds files_of t.schema a.part (part_rows t.schema block) is.files (a.files_are ∙ is.sealed_are) (a.loaded_is ∙ is.loaded_is) is.holds) in
         let all = all_added (HoldsRows files_of t.schema) (parts_of old.set table) (parts_of new.set table) new_part a.enters.added (held table t a.enters.there) own in
         subst (λ (v : List ℕ). All (HoldsRows files_of x.schema) (parts_of new.set v)) same

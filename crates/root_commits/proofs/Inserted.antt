@@ -53,7 +53,7 @@ module _ {F : Type 0} (files_of : F → Option Files) (h : History) (old new : C
   rows = part_rows t.schema block
 
   abbrev kept : Kept (Part F)
-  kept = record { name = fresh_part partition (t.drawn + 1); part = a.part }
+  kept = record { name = fresh_part partition (t.drawn + 1); part = a.part; busy = false }
 
   abbrev schema_at : Option Table → Option Schema
   schema_at found = option_map (λ (x : Table). x.schema) found
@@ -82,7 +82,7 @@ module _ {F : Type 0} (files_of : F → Option Files) (h : History) (old new : C
   Holds schema k r = PartHolds files_of schema k.part r
 
   new_part : core_part table kept rows ≡ part_of_insert t.schema (length (numbered table h) + 1) i
-  new_part = ap (λ (n : ℕ). core_part table (record { name = fresh_part partition n; part = a.part }) rows) number
+  new_part = ap (λ (n : ℕ). core_part table (record { name = fresh_part partition n; part = a.part; busy = false }) rows) number
 
   holds : Holds t.schema kept rows
   holds = written_holds files_of t.schema a.part rows is.files (a.files_are ∙ is.sealed_are) (a.loaded_is ∙ is.loaded_is) is.holds

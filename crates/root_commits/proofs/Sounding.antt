@@ -1,22 +1,26 @@
 -- What a store keeps of its tables, as commands enter it.
-use Rattle.std.proofs.Common.{◌≡◌, ◌≢◌, ℕ, ◌+◌, ◌<◌, ◌≤◌, ◌^◌, ◌-◌, List, [], true, false, Option, Some, refl, sym, ap, ◌∙◌, subst, arith, inl, inr}
+use Rattle.std.proofs.Common.{◌≡◌, ◌≢◌, ℕ, ◌+◌, ◌<◌, ◌≤◌, ◌^◌, ◌-◌, List, [], true, false, Option, Some, IsTrue, refl, sym, ap, ◌∙◌, subst, arith, inl, inr}
 use Rattle.std.specs.BTreeMap.{is_at}
 use Rattle.std.specs.Cmp.Lexicographic.{slice_cmp}
 use Rattle.std.specs.List.{All}
 use Rattle.std.specs.Map.{lookup}
+use Rattle.std.specs.Option.{ForSome}
 use Rattle.std.specs.Ordering.{nat_cmp}
+use Rattle.std.proofs.lemmas.Bool.{false≢true}
+use Rattle.part_set.proofs.Maps.{true_or_false}
 use Rattle.std.proofs.lemmas.List.Elements.{All-nil, All-weaker}
 use Rattle.mt_base.specs.declared.partition.Partition.{Partition}
 use Rattle.mt_values.specs.declared.schema.Schema.{Schema}
 use Rattle.mt_values.specs.Grammar.{same_bytes}
 use Rattle.mt_values.specs.Tables.{MayHavePartition}
 use Rattle.mt_outside.specs.Causes.{Rose}
-use Rattle.mt_outside.specs.Disk.{Told}
+use Rattle.mt_outside.specs.Disk.{Told, names_of}
 use Rattle.mt_model.specs.History.{IsTableSchema}
-use Rattle.mt_model.proofs.Tables.{itself_same}
+use Rattle.mt_model.proofs.Tables.{itself_same, same_is}
 use Rattle.part_reader.specs.declared.reading.Part.{Part}
 use Rattle.part_set.specs.declared.kept.Kept.{Kept}
 use Rattle.part_set.specs.declared.set.PartSet.{PartSet}
+use Rattle.part_set.specs.RootNames.{is_table}
 use Rattle.part_set.specs.Sets.{parts_of}
 use Rattle.durable_commit.specs.declared.causes.Refused.{Refused}
 use Rattle.durable_commit.specs.declared.causes.Refused.TheVariants as refused
@@ -24,9 +28,11 @@ use Rattle.root_store.specs.declared.store.CoreStore.{CoreStore}
 use Rattle.root_store.specs.declared.store.Table.{Table}
 use Rattle.root_store.specs.Stores.{fresh_table}
 use Rattle.root_commits.specs.Commits.{EntersPart, EntersTable, SameStore, fresh_part}
-use Rattle.root_store.specs.Soundness.{IsNameUnder, IsReady, IsSoundStore, IsSoundTable, NamesFit, NamesFitUnlessRisen}
+use Rattle.root_store.specs.Soundness.{IsNameUnder, IsReady, IsSoundStore, IsSoundTable, NamesFit}
+use Rattle.root_store.specs.Shown.{AreShown, GreatestAreShown, HasNoMark}
 use Rattle.root_store.specs.Stores.{table_at}
 use Rattle.root_commits.proofs.Placed.{all_added}
+use Rattle.root_commits.proofs.Shown.{greatest_same, shown_same}
 use Rattle.root_commits.proofs.Updated.{it_or, no_some, one_some}
 
 module _ {F : Type 0} where
@@ -39,9 +45,13 @@ module _ {F : Type 0} where
   abbrev Rises : Kept (Part F) → Type 0
   Rises k = k.name.min_block ≤ k.name.max_block
 
+  abbrev IsIdle : Kept (Part F) → Type 0
+  IsIdle k = k.busy ≡ false
+
   -- a table with the same parts
   moved : (old new : CoreStore F) (table : List ℕ) (t : Table) → parts_of new.set table ≡ parts_of old.set table → IsSoundTable old table t → IsSoundTable new table t
   moved old new table t same sound = record {
+    named = sound.named;
     schema = sound.schema;
     ends = subst (All (Ends t.drawn)) (sym same) sound.ends;
     may = subst (All (May t.schema)) (sym same) sound.may;
@@ -66,20 +76,20 @@ module _ {F : Type 0} where
       names_same : (told : Told) → NamesFit old told → NamesFit new told
       names_same told fit = λ k d lt. under_same _ (fit k d lt)
 
-      -- where the names are the same, or the disk's count has risen, they fit as they did
-      pub names_kept : (before after : ℕ) (told now : Option Told) (cause : Refused) → old.opened ≤ before → old.opened < 2 ^ 64 - 1 → before ≤ after
-          → (cause ≡ refused.Disk → Rose before after) → (cause ≢ refused.Disk → now ≡ told) → NamesFitUnlessRisen before told old → NamesFitUnlessRisen after now new
-      names_kept before after told now cause low below later rose unchanged fit = λ is. by cause rose unchanged is
+      -- where the disk is as it was, or its count has risen, what held as long as it had not risen holds so of the same store
+      pub unless_kept : (P Q : Told → Type 0) → ((t : Told) → P t → Q t) → (before after : ℕ) (told now : Option Told) (cause : Refused) → old.opened ≤ before → old.opened < 2 ^ 64 - 1 → before ≤ after
+          → (cause ≡ refused.Disk → Rose before after) → (cause ≢ refused.Disk → now ≡ told) → (before ≡ old.opened → ForSome told P) → after ≡ new.opened → ForSome now Q
+      unless_kept P Q moves before after told now cause low below later rose unchanged held = λ is. by cause rose unchanged is
         where
-          still : after ≡ new.opened → now ≡ told → (x : Told) → now ≡ Some x → NamesFit new x
+          still : after ≡ new.opened → now ≡ told → (x : Told) → now ≡ Some x → Q x
           still is stays x told_is =
               let opened = same.opened_is in
-              names_same x (fit (omega (arith, is, opened, low, later)) x (sym stays ∙ told_is))
+              moves x (held (omega (arith, is, opened, low, later)) x (sym stays ∙ told_is))
 
           risen : after ≡ new.opened → Rose before after → ⊥
           risen is up = let opened = same.opened_is in absurd (omega (arith, is, up, opened, low, below))
 
-          by : (r : Refused) → (r ≡ refused.Disk → Rose before after) → (r ≢ refused.Disk → now ≡ told) → after ≡ new.opened → (x : Told) → now ≡ Some x → NamesFit new x
+          by : (r : Refused) → (r ≡ refused.Disk → Rose before after) → (r ≢ refused.Disk → now ≡ told) → after ≡ new.opened → (x : Told) → now ≡ Some x → Q x
           by refused.Disk up stays is = absurd (risen is (up refl))
           by refused.NoMemory up stays is = still is (stays (λ e. cc))
           by (refused.Stopped opened at) up stays is = still is (stays (λ e. cc))
@@ -90,6 +100,8 @@ module _ {F : Type 0} where
       pub ready_same : (failed : ℕ) (told : Option Told) → IsReady failed told old → IsReady failed told new
       ready_same failed told ready = record {
         names = λ is x there. names_same x (ready.names (is ∙ same.opened_is) x there);
+        shown = λ is x there. shown_same old new same (names_of x) (ready.shown (is ∙ same.opened_is) x there);
+        greatest = λ x there. greatest_same old new same (names_of x) (ready.greatest x there);
         sound = sound_same ready.sound;
         opened = (let opened = same.opened_is in let low = ready.opened in omega (arith, opened, low));
         below = (let opened = same.opened_is in let low = ready.below in omega (arith, opened, low));
@@ -97,17 +109,31 @@ module _ {F : Type 0} where
 
       -- also after a commit that failed
       pub ready_kept : (before after : ℕ) (told now : Option Told) (cause : Refused) → before ≤ after → (cause ≡ refused.Disk → Rose before after) → (cause ≢ refused.Disk → now ≡ told)
-          → IsReady before told old → IsReady after now new
-      ready_kept before after told now cause later rose unchanged ready = record {
-        names = names_kept before after told now cause ready.opened ready.below later rose unchanged ready.names;
+          → ForSome now (λ (t : Told). GreatestAreShown old (names_of t)) → IsReady before told old → IsReady after now new
+      ready_kept before after told now cause later rose unchanged greatest ready = record {
+        names = unless_kept (NamesFit old) (NamesFit new) names_same before after told now cause ready.opened ready.below later rose unchanged ready.names;
+        shown = unless_kept (λ (t : Told). AreShown old (names_of t)) (λ (t : Told). AreShown new (names_of t)) (λ t. shown_same old new same (names_of t)) before after told now cause ready.opened ready.below later rose unchanged ready.shown;
+        greatest = λ x there. greatest_same old new same (names_of x) (greatest x there);
         sound = sound_same ready.sound;
         opened = (let opened = same.opened_is in let low = ready.opened in omega (arith, opened, low, later));
         below = (let opened = same.opened_is in let low = ready.below in omega (arith, opened, low));
       }
 
+    -- the same store has no marks where it had none
+    pub idle_same : SameStore old new → HasNoMark old → HasNoMark new
+    idle_same same idle = λ u. subst (All IsIdle) (sym (same.parts u)) (idle u)
+
+    -- nor has it with one part more
+    pub idle_added : (table : List ℕ) (partition : Partition) (part : Part F) (t : Table) → EntersPart table partition part t old new → HasNoMark old → HasNoMark new
+    idle_added table partition part t a idle = λ u. elim (true_or_false (same_bytes table u)) [
+      | inl same ↦ subst (λ (v : List ℕ). All IsIdle (parts_of new.set v)) (same_is table u same)
+          (all_added IsIdle (parts_of old.set table) (parts_of new.set table) (record { name = fresh_part partition (t.drawn + 1); part = part; busy = false }) a.added (idle table) refl)
+      | inr differ ↦ subst (All IsIdle) (sym (a.others u (λ is. let same : same_bytes table u ≡ true = ap (same_bytes table) is ∙ itself_same table in false≢true (sym differ ∙ same)))) (idle u)
+    ]
+
     -- one table more
-    pub sound_made : (table : List ℕ) (schema : Schema) → EntersTable table schema old new → IsTableSchema schema → IsSoundStore old → IsSoundStore new
-    sound_made table schema enters fits sound = record {
+    pub sound_made : (table : List ℕ) (schema : Schema) → EntersTable table schema old new → IsTrue (is_table table) → IsTableSchema schema → IsSoundStore old → IsSoundStore new
+    sound_made table schema enters word fits sound = record {
       tables = λ u t at. elim (it_or old new table (Some (fresh_table schema)) enters.updates u) [
         | inl same ↦ here u t same (one_some (table_at new u) (fresh_table schema) t (subst (λ (v : List ℕ). table_at new v ≡ Some (fresh_table schema)) same enters.updates.1) at)
         | inr other ↦ moved old new u t (parts u) (sound.tables u t (sym other.1 ∙ at))
@@ -126,6 +152,7 @@ module _ {F : Type 0} where
 
         fresh : IsSoundTable new table (fresh_table schema)
         fresh = record {
+          named = word;
           schema = fits;
           ends = subst (All (Ends 0)) (sym no_parts) (All-nil (Ends 0));
           may = subst (All (May schema)) (sym no_parts) (All-nil (May schema));
@@ -138,7 +165,7 @@ module _ {F : Type 0} where
     -- one part more
     module _ (table : List ℕ) (partition : Partition) (part : Part F) (t : Table) (a : EntersPart table partition part t old new) (may : MayHavePartition t.schema partition) where
       abbrev kept : Kept (Part F)
-      kept = record { name = fresh_part partition (t.drawn + 1); part = part }
+      kept = record { name = fresh_part partition (t.drawn + 1); part = part; busy = false }
 
       abbrev more : Table
       more = record { schema = t.schema; drawn = t.drawn + 1 }
@@ -151,6 +178,7 @@ module _ {F : Type 0} where
 
       grown : IsSoundTable old table t → IsSoundTable new table more
       grown was = record {
+        named = was.named;
         schema = was.schema;
         ends = parts_new (Ends (t.drawn + 1)) (All-weaker (Ends t.drawn) (Ends (t.drawn + 1)) (λ k le. omega (arith, le)) (parts_of old.set table) was.ends) (omega arith);
         may = parts_new (May t.schema) was.may may;

@@ -16,11 +16,8 @@ use Rattle.durable_commit.specs.declared.causes.Refused.TheVariants as refused
 use Rattle.durable_commit.specs.Commits.{IsOutside, Notes, SameList, refused_by_disk}
 use Rattle.durable_commit.proofs.SameLists.{begun_same, not_none, same_list}
 use Rattle.durable_commit.proofs.WhyRefused.{disk_fault, disk_memory, outside_disk}
-use Rattle.mt_model.specs.History.{History}
 use Rattle.root_store.specs.Crashes.{Storage}
-use Rattle.root_commits.specs.Images.{LeavesOne}
 use Rattle.root_commits.specs.Turns.{IsDone, IsInDoubt, IsNotGiven, Turn}
-use Rattle.root_commits.proofs.CrashImages.{one_same}
 
 -- published, settled and noted, or an error with what is known after it
 module _ (turn : Turn) (was now : Storage) where
@@ -61,7 +58,6 @@ pub record AfterRefusal {S : Type 0} (turn : Turn) (was now : Storage) (sealed :
   pub later : was.failed ≤ now.failed
   pub calm : turn.failed ≡ 0 → cause ≢ refused.Disk → now.failed ≡ was.failed
   pub unchanged : cause ≢ refused.Disk → now.disk ≡ was.disk
-  pub leaves : (h : History) → LeavesOne was.disk was.clock h → cause ≢ refused.Disk → LeavesOne now.disk now.clock h
   pub mark : now.clock ≡ was.clock
   pub list : SameList was.annals now.annals
   pub returned : IfSome back (λ s. s ≡ sealed)
@@ -79,7 +75,6 @@ module _ {S : Type 0} (turn : Turn) (was now : Storage) (sealed : S) (cause : Re
     later = d.later;
     calm = d.calm;
     unchanged = d.unchanged;
-    leaves = λ h one other. one_same was.disk now.disk was.clock now.clock h (d.unchanged other) d.mark one;
     mark = d.mark;
     list = begun_same was.annals now.annals turn.entry d.annals;
     returned = tt;
@@ -100,7 +95,6 @@ module _ {S : Type 0} (turn : Turn) (was now : Storage) (sealed : S) (cause : Re
         later = omega (arith, count);
         calm = λ none other. count;
         unchanged = λ other. root;
-        leaves = λ h one other. one_same was.disk now.disk was.clock now.clock h root mark one;
         mark = mark;
         list = same_list was.annals now.annals list;
         returned = n.returned;

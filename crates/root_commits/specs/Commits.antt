@@ -1,5 +1,5 @@
 -- What refuses a commit, and what it leaves (docs/architecture.md, "Commits").
-use Rattle.std.specs.Prelude.{◌≡◌, ◌≢◌, ℕ, ◌+◌, List, [], get_or, Option, Some, None, Result, Ok, Err, if◌then◌else◌, is_some, length, nat_le}
+use Rattle.std.specs.Prelude.{◌≡◌, ◌≢◌, ℕ, ◌+◌, List, [], get_or, Option, Some, None, Result, Ok, Err, if◌then◌else◌, is_some, length, nat_le, false}
 use Rattle.std.specs.BTreeMap.{Updates}
 use Rattle.std.specs.Cmp.Lexicographic.{slice_cmp}
 use Rattle.std.specs.Ordering.{nat_cmp}
@@ -119,7 +119,7 @@ pub record EntersPart {F : Type 0} (table : List ℕ) (partition : Partition) (p
   pub there : table_at old table ≡ Some t
   pub updates : Updates (slice_cmp nat_cmp) old.tables new.tables table (Some (record { schema = t.schema; drawn = t.drawn + 1 }))
   pub count : length new.tables.entries ≡ length old.tables.entries
-  pub added : IsAdded (parts_of old.set table) (record { name = fresh_part partition (t.drawn + 1); part = part }) (parts_of new.set table)
+  pub added : IsAdded (parts_of old.set table) (record { name = fresh_part partition (t.drawn + 1); part = part; busy = false }) (parts_of new.set table)
   pub ordered : IsInBlockOrder (parts_of new.set table)
   pub others : (u : List ℕ) → u ≢ table → parts_of new.set u ≡ parts_of old.set u
   pub length_is : new.length ≡ old.length + 1

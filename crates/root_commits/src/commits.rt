@@ -1,5 +1,5 @@
 // A command added to the disk, to what the annals list and to the store.
-ghost use Rattle.std.specs.Prelude.{◌≡◌, ◌≢◌, ◌+◌, ℕ, IsSome, IsTrue, List, Option, Some, None, IfErr, IfOk, IfSome, OnErr, OnOk, length};
+ghost use Rattle.std.specs.Prelude.{◌≡◌, ◌≢◌, ◌+◌, ℕ, false, IsSome, IsTrue, List, Option, Some, None, IfErr, IfOk, IfSome, OnErr, OnOk, length};
 ghost use Rattle.std.specs.BTreeMap.{Updates, get, insert_entry};
 ghost use Rattle.std.specs.Cmp.Lexicographic.{slice_cmp};
 ghost use Rattle.std.specs.Ordering.{nat_cmp};
@@ -17,9 +17,10 @@ ghost use Rattle.table_core.specs.declared.event.Accept.TheVariants as accept;
 ghost use Rattle.table_core.specs.Core.{Core};
 ghost use Rattle.root_store.specs.Stores.{fresh_table};
 ghost use Rattle.root_commits.specs.Commits.{EntersSealed, EntersTable, IsCause, IsSealedEntry, SameStore, StandsWhere, cause_of, fresh_part, IsSealedOf, insert_into, partition_of_block, refuses_create, refuses_part};
-ghost use Rattle.root_commits.specs.Images.{LeavesAfter, LeavesOne};
+ghost use Rattle.root_commits.specs.Images.{LeavesAfter, LeavesOne, on_disk};
 ghost use Rattle.root_commits.specs.Turns.{Turns, storage, turn_of_create, turn_of_part, with_entry};
 ghost use Rattle.root_store.specs.Crashes.{KeepsThroughCrashes};
+ghost use Rattle.root_store.specs.Shown.{HasNoMark};
 ghost use Rattle.root_store.specs.Soundness.{HasSoundParts, IsReady, RootStands};
 ghost use Rattle.root_store.specs.Stores.{CoreStands, table_at};
 ghost use Rattle.root_store.specs.declared.store.Table.{Table as Made};
@@ -134,8 +135,12 @@ fn prepare_create<A: Annals>(
     })
 }
 
-// The name of the root under which a part of a table stands.
-fn name_of_table_part(alloc: Global, table: &Name, part: PartName) -> Result<Name, NoMemory>
+/// The name of the root under which a part of a table stands.
+pub(crate) fn name_of_table_part(
+    alloc: Global,
+    table: &Name,
+    part: PartName,
+) -> Result<Name, NoMemory>
     ensures { IfOk result (λ name. name ≡ part_name table.now (part_text part)) }
 {
     let root_name = RootName::Part(TablePart {
@@ -230,6 +235,7 @@ pub fn commit_create<D: Disk, A: Annals>(
     ensures held { HasSoundParts D.Arm.Dir.files store.old
         → HasSoundParts D.Arm.Dir.files store.new }
     ensures ready { IsReady (D.failed disk.new) (D.told disk.new) store.new }
+    ensures idle { HasNoMark store.old → HasNoMark store.new }
     ensures opened { store.new.opened ≡ store.old.opened }
     ensures started { D.started disk.new ≡ D.started disk.old }
 
@@ -239,12 +245,11 @@ pub fn commit_create<D: Disk, A: Annals>(
         (λ _. ShowsCore D.Arm.Dir.files store.new core) }
 
     // What a crash leaves: of the disk alone, and of the disk and the annals.
-    ensures images { let now = storage (D.told disk.new) (D.clock disk.new) (D.failed disk.new)
-        (A.told annals.new) in
+    ensures images { let was = on_disk store.old (D.told disk.old) (D.clock disk.old) in
+        let now = on_disk store.new (D.told disk.new) (D.clock disk.new) in
         (h : History) → IsSealedEntry create sealed.files → CoreStands D.Arm.Dir.files h store.old
-        → LeavesOne (D.told disk.old) (D.clock disk.old) h
-        → LeavesAfter now (D.clock disk.old) h
-        (with_entry (turn_of_create session create sealed) h) result }
+        → LeavesOne was h
+        → LeavesAfter was now h (with_entry (turn_of_create session create sealed) h) result }
     ensures through_crashes { let was = storage (D.told disk.old) (D.clock disk.old)
         (D.failed disk.old) (A.told annals.old) in
         let now = storage (D.told disk.new) (D.clock disk.new) (D.failed disk.new)
@@ -315,8 +320,8 @@ fn enter_part<F: Drop>(
 )
     requires fresh { NoneMeets (parts_of store.old.set table.now) name }
     requires room { HasRoom store.old.set table.now name.partition }
-    ensures added { IsAdded (parts_of store.old.set table.now) (record { name = name; part = part })
-        (parts_of store.new.set table.now) }
+    ensures added { IsAdded (parts_of store.old.set table.now)
+        (record { name = name; part = part; busy = false }) (parts_of store.new.set table.now) }
     ensures ordered { IsInBlockOrder (parts_of store.new.set table.now) }
     ensures others { (t : List ℕ) → t ≢ table.now
         → parts_of store.new.set t ≡ parts_of store.old.set t }
@@ -384,6 +389,7 @@ pub fn commit_part<D: Disk, A: Annals>(
         → IsSealedOf t.schema block part.sealed.files part.loaded
         → HasSoundParts D.Arm.Dir.files store.old → HasSoundParts D.Arm.Dir.files store.new }
     ensures ready { IsReady (D.failed disk.new) (D.told disk.new) store.new }
+    ensures idle { HasNoMark store.old → HasNoMark store.new }
     ensures opened { store.new.opened ≡ store.old.opened }
     ensures started { D.started disk.new ≡ D.started disk.old }
 
@@ -397,13 +403,12 @@ pub fn commit_part<D: Disk, A: Annals>(
         → OnErr result (ShowsCore D.Arm.Dir.files store.new core) }
 
     // What a crash leaves: of the disk alone, and of the disk and the annals.
-    ensures images { let now = storage (D.told disk.new) (D.clock disk.new) (D.failed disk.new)
-        (A.told annals.new) in
+    ensures images { let was = on_disk store.old (D.told disk.old) (D.clock disk.old) in
+        let now = on_disk store.new (D.told disk.new) (D.clock disk.new) in
         (h : History) (t : Made) → table_at store.old table.now ≡ Some t
         → IsSealedOf t.schema block part.sealed.files part.loaded
-        → CoreStands D.Arm.Dir.files h store.old
-        → LeavesOne (D.told disk.old) (D.clock disk.old) h
-        → LeavesAfter now (D.clock disk.old) h
+        → CoreStands D.Arm.Dir.files h store.old → LeavesOne was h
+        → LeavesAfter was now h
         (with_entry (turn_of_part session table.now t block part.sealed) h) result }
     ensures through_crashes { let was = storage (D.told disk.old) (D.clock disk.old)
         (D.failed disk.old) (A.told annals.old) in

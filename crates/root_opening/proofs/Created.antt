@@ -23,6 +23,7 @@ by_statement : (table text : List ℕ) (schema : Schema) (s : Statement) → sch
 by_statement table text schema (statement.Insert i) is written = absurd cc
 by_statement table text schema (statement.Select i) is written = absurd cc
 by_statement table text schema (statement.Explain i) is written = absurd cc
+by_statement table text schema (statement.Optimize o) is written = absurd cc
 by_statement table text schema (statement.Create c) is written = by (same_bytes c.table table && same_bytes c.text text) is
   where
     by : (b : Bool) → cond b (result_ok (schema_of_text c)) None ≡ Some schema → IsTableSchema schema

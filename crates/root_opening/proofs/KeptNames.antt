@@ -1,5 +1,5 @@
 -- The store, one name of the root further.
-use Rattle.std.proofs.Common.{◌≡◌, ◌≢◌, ℕ, ◌≤◌, true, List, [], ◌∷◌, ◌++◌, get_or, is_some, refl, sym, ap, ◌∙◌, subst, ◌⊎◌, inl, inr, arith, Option, Some, None, All}
+use Rattle.std.proofs.Common.{◌≡◌, ◌≢◌, ℕ, ◌≤◌, true, List, [], ◌∷◌, ◌++◌, get_or, is_some, refl, sym, ap, ◌∙◌, subst, ◌⊎◌, inl, inr, arith, Option, Some, None, All, false}
 use Rattle.std.specs.BTreeMap.{BTreeMap, Updates, get, is_at}
 use Rattle.std.specs.Cmp.Lexicographic.{slice_cmp}
 use Rattle.std.specs.List.{Contains as HasItem, insert}
@@ -132,6 +132,7 @@ module _ (read seen : List RootName) (n : RootName) where
       all_parts = λ p visible here. k.all_parts p visible (behind seen n (root.Part p) (not_part p visible) here);
       order = k.order;
       no_other = k.no_other;
+      idle = k.idle;
     }
 
 -- ---- a table
@@ -190,6 +191,7 @@ module _ {F : Type 0} (read seen : List RootName) (old new : CoreStore F) (table
       | inl here ↦ absurd (not_both (table_at new t) (fresh_table schema) here.1 none)
       | inr other ↦ sym (same_parts t) ∙ k.no_other t (sym other.1 ∙ none)
     ];
+    idle = λ t. subst (All (λ (y : Kept (Part F)). y.busy ≡ false)) (same_parts t) (k.idle t);
   }
 
   pub table_told : (files_of : F → Option Files) (names : Names) → HasFolder names (create_name table) (EntryHolds table schema) → KeepsTold files_of names read seen old → KeepsTold files_of names read (seen ++ C ∷ []) new
@@ -217,13 +219,13 @@ drawn_to t n = record { schema = t.schema; drawn = n }
 
 module _ {F : Type 0} (read seen : List RootName) (old new : CoreStore F) (part : TablePart) (checked : Part F) (t0 : Table) (n : ℕ) (at0 : table_at old part.table ≡ Some t0)
     (updates : Updates (slice_cmp nat_cmp) old.tables new.tables part.table (Some (drawn_to t0 n)))
-    (added : IsAdded (parts_of old.set part.table) (record { name = part.name; part = checked }) (parts_of new.set part.table))
+    (added : IsAdded (parts_of old.set part.table) (record { name = part.name; part = checked; busy = false }) (parts_of new.set part.table))
     (others : (t : List ℕ) → t ≢ part.table → parts_of new.set t ≡ parts_of old.set t) (may : MayHavePartition t0.schema part.name.partition) where
   abbrev P : RootName
   P = root.Part part
 
   abbrev K : Kept (Part F)
-  K = record { name = part.name; part = checked }
+  K = record { name = part.name; part = checked; busy = false }
 
   other_parts : (t : List ℕ) → (part.table ≡ t → ⊥) → parts_of old.set t ≡ parts_of new.set t
   other_parts t apart = sym (others t (λ same. apart (sym same)))
@@ -300,6 +302,11 @@ module _ {F : Type 0} (read seen : List RootName) (old new : CoreStore F) (part 
       no_other = λ t none. elim (either_table old.tables new.tables part.table t (Some (drawn_to t0 n)) updates) [
         | inl here ↦ absurd (not_both (table_at new t) (drawn_to t0 n) here.1 none)
         | inr other ↦ sym (other_parts t other.0) ∙ k.no_other t (sym other.1 ∙ none)
+      ];
+      idle = λ t. elim (either_table old.tables new.tables part.table t (Some (drawn_to t0 n)) updates) [
+        | inl here ↦ subst (λ (u : List ℕ). All (λ (y : Kept (Part F)). y.busy ≡ false) (parts_of new.set u)) here.0
+            (all_added (λ (y : Kept (Part F)). y.busy ≡ false) (parts_of old.set part.table) (parts_of new.set part.table) K added (k.idle part.table) refl)
+        | inr other ↦ subst (All (λ (y : Kept (Part F)). y.busy ≡ false)) (other_parts t other.0) (k.idle t)
       ];
     }
 

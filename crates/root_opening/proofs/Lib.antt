@@ -4,6 +4,7 @@ pub mod Created
 pub mod EntryScripts
 pub mod FirstNames
 pub mod Held
+pub mod ImagesShown
 pub mod KeptNames
 pub mod Lengths
 pub mod Loading
@@ -13,5 +14,4 @@ pub mod NextNames
 pub mod OneDamage
 pub mod Opened
 pub mod Settled
-pub mod Shown
 pub mod Standing

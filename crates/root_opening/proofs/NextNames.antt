@@ -1,5 +1,5 @@
 -- The next of a root's names, and the store when all were gone over.
-use Rattle.std.proofs.Common.{◌≡◌, ◌≢◌, ℕ, ◌+◌, ◌<◌, ◌≤◌, Bool, true, cond, List, [], ◌∷◌, ◌++◌, length, map, get_or, take, is_some, refl, sym, ap, ◌∙◌, subst, inl, inr, arith, Option, Some, None, All}
+use Rattle.std.proofs.Common.{◌≡◌, ◌≢◌, ℕ, ◌+◌, ◌<◌, ◌≤◌, Bool, true, cond, List, [], ◌∷◌, ◌++◌, length, map, get_or, take, is_some, refl, sym, ap, ◌∙◌, subst, inl, inr, arith, Option, Some, None, All, false}
 use Rattle.std.specs.BTreeMap.{IsOrdered, is_at}
 use Rattle.std.specs.Cmp.Lexicographic.{slice_cmp}
 use Rattle.std.specs.List.{Contains as HasItem, slice_get, sum_by}
@@ -171,7 +171,7 @@ module _ (r : Root) (named : IsNamedRoot r) (told : Told) (listed : IsTextsOf r 
 
 module _ {F : Type 0} (r : Root) (named : IsNamedRoot r) (store : CoreStore F) (n : ℕ) (k : Keeps r.names.items r.names.items store) where
   abbrev Whole_ : CoreStore F
-  Whole_ = record { tables = store.tables; set = store.set; length = n; opened = store.opened }
+  Whole_ = record { tables = store.tables; set = store.set; mutations = store.mutations; length = n; opened = store.opened }
 
   seen_one : (table : List ℕ) (name : PartName) → HasName (parts_of store.set table) name → IsSeen r.names.items r.names.items table name
   seen_one table name has =
@@ -202,6 +202,7 @@ module _ {F : Type 0} (r : Root) (named : IsNamedRoot r) (store : CoreStore F) (
     tables = λ table t at.
         let s = k.known table t at in
         record {
+          named = All-contains IsRootName r.names.items (root.Create table) named.are.sound s.here;
           schema = s.schema;
           ends = All-weaker (λ (x : Kept (Part F)). IsSeen r.names.items r.names.items table x.name) (λ (x : Kept (Part F)). x.name.max_block ≤ t.drawn) (λ x seen. s.drawn.most (record { table = table; name = x.name }) seen.visible seen.here refl) (parts_of store.set table) (k.seen_parts table);
           may = k.may table t at;
@@ -235,6 +236,7 @@ module _ {F : Type 0} (read : List RootName) (store : CoreStore F) (files_of : F
     all_parts = λ p visible has. absurd (item_none (root.Part p) has);
     order = λ table. subst (λ (xs : List (Kept (Part F))). IsInBlockOrder xs) (sym (no_parts_yet table)) (λ i j d less inside. absurd (omega (arith, inside)));
     no_other = λ table none. no_parts_yet table;
+    idle = λ table. subst (All (λ (x : Kept (Part F)). x.busy ≡ false)) (sym (no_parts_yet table)) (All-nil (λ (x : Kept (Part F)). x.busy ≡ false));
   }
 
   pub told_none : (names : Names) → KeepsTold files_of names read [] store

@@ -20,6 +20,7 @@ ghost use Rattle.root_store.specs.declared.store.Table.{Table as Kept};
 ghost use Rattle.root_store.specs.Damage.{DamagedAt, IsDamaged};
 ghost use Rattle.root_opening.specs.Keeping.{IsNamedRoot, IsTextsOf, Keeps, KeepsTold, TellsFile};
 ghost use Rattle.root_opening.specs.Opening.{TellsDamage};
+ghost use Rattle.root_store.specs.Shown.{HasNoMark};
 ghost use Rattle.root_store.specs.Soundness.{IsSoundStore};
 ghost use Rattle.root_store.specs.Stores.{StoreOf, table_at};
 
@@ -263,6 +264,7 @@ pub fn keep_root<D: Disk>(
     ensures store { (told : Told) → D.told disk.old ≡ Some told
         → IfOk result (StoreOf D.Arm.Dir.files (names_of told)) }
     ensures sound { IfOk result IsSoundStore }
+    ensures idle { IfOk result HasNoMark }
     ensures undamaged { (told : Told) (place : ℕ) (f : FileId) → D.told disk.old ≡ Some told
         → DamagedAt (names_of told) root.now.names.items place f → OnOk result ⊥ }
     ensures damaged { (told : Told) → D.told disk.old ≡ Some told

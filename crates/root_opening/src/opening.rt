@@ -16,6 +16,7 @@ ghost use Rattle.root_opening.specs.Keeping.{IsBadNameAt, IsDamageOfSet, IsNamed
 ghost use Rattle.root_opening.specs.Names.{AreNamesOf, IsFirstBadText, creates_in};
 ghost use Rattle.root_opening.specs.Opening.{IsNotDamaged, IsRootDamage, TellsDamage};
 ghost use Rattle.root_store.specs.Roots.{Stands};
+ghost use Rattle.root_store.specs.Shown.{AreShown, HasNoMark, ImagesShow};
 ghost use Rattle.root_store.specs.Soundness.{HasSoundParts, IsSoundStore, NamesFit};
 ghost use Rattle.root_store.specs.Stores.{CoreStands, StoreOf};
 
@@ -177,10 +178,13 @@ pub fn open<D: Disk>(
     ensures core { (told : Told) (h : History) → D.told disk.old ≡ Some told
         → Stands (names_of told) h → IfOk result (ShowsCoreOf D.Arm.Dir.files h) }
     ensures sound { IfOk result IsSoundStore }
+    ensures idle { IfOk result HasNoMark }
     ensures held { (told : Told) → D.told disk.old ≡ Some told
         → IfOk result (HasSoundParts D.Arm.Dir.files) }
     ensures names { (told : Told) → D.told disk.old ≡ Some told
         → IfOk result (λ store. NamesFit store told) }
+    ensures shown { (told : Told) → D.told disk.old ≡ Some told
+        → IfOk result (λ store. AreShown store (names_of told)) }
     ensures opened { IfOk result (λ store. store.opened ≡ D.failed disk.old) }
 
     // What is told of damage.
@@ -200,6 +204,9 @@ pub fn open<D: Disk>(
     ensures crashes { (told : Told) (list : List Noted) → D.told disk.old ≡ Some told
         → AllStand told (D.clock disk.old) (entries_of list)
         → IsCrashSafe told (D.clock disk.new) (none_begun list) list (D.clock disk.old) }
+    ensures images { (told : Told) (h : History) → D.told disk.old ≡ Some told
+        → AllStand told (D.clock disk.old) h
+        → IfOk result (ImagesShow (D.told disk.new) (D.clock disk.new)) }
 
     // What the counts of faults are.
     ensures tells { D.Arm.tells arm.new ≡ D.Arm.tells arm.old }

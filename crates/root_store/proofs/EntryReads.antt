@@ -58,6 +58,7 @@ statement_gives : (table text : List ℕ) (schema : Schema) (s : Statement) → 
 statement_gives table text schema (statement.Insert i) is = absurd cc
 statement_gives table text schema (statement.Select s) is = absurd cc
 statement_gives table text schema (statement.Explain s) is = absurd cc
+statement_gives table text schema (statement.Optimize o) is = absurd cc
 statement_gives table text schema (statement.Create c) is = by (same_bytes c.table table) (same_bytes c.text text) refl refl is
   where
     by : (a b : Bool) → same_bytes c.table table ≡ a → same_bytes c.text text ≡ b → cond (a && b) (result_ok (schema_of_text c)) None ≡ Some schema → IsFound table text schema (statement.Create c)
@@ -101,6 +102,7 @@ given_by table text schema (statement.Create c) spelled is = created_by table te
 given_by table text schema (statement.Insert i) spelled is = absurd cc
 given_by table text schema (statement.Select s) spelled is = absurd (no_create (query_of_select s []) (create_of table schema) is)
 given_by table text schema (statement.Explain s) spelled is = absurd (no_create (query_of_select s []) (create_of table schema) is)
+given_by table text schema (statement.Optimize o) spelled is = absurd cc
 
 -- and one that reads so has the schema
 pub found_as : (table text : List ℕ) (schema : Schema) → ReadsAs text (create_of table schema) → schema_of_entry table text ≡ Some schema

@@ -12,6 +12,7 @@ pub mod Items
 pub mod Orphaned
 pub mod Readings
 pub mod Rising
+pub mod Showing
 pub mod TableIndexes
 pub mod TableMarks
 pub mod Tabled

@@ -10,6 +10,7 @@ use Rattle.mt_model.specs.History.{History}
 pub use Rattle.mt_model.specs.History.{entries_of}
 use Rattle.root_store.specs.declared.store.CoreStore.{CoreStore}
 use Rattle.root_store.specs.Roots.{Stands}
+use Rattle.root_store.specs.Shown.{ImagesShow}
 use Rattle.root_store.specs.Stores.{CoreStands}
 
 -- What is known of the outside at some moment: of the disk all changes of its names, its mark and its count of faults; and what annals list.
@@ -78,7 +79,7 @@ abbrev pub StandsForKept : {F : Type 0} → (F → Option Files) → Option keep
 StandsForKept files_of annals store = ForSome annals (λ (kept : keeper.Told). CoreStands files_of (entries_of kept.list) store)
 
 -- A store over a disk and annals: a crash leaves all that was noted. As long as the disk's count of faults is the one at opening, what
--- is begun has left nothing, and the store stands for the list.
+-- is begun has left nothing, the store stands for the list, and the visible parts of whatever a crash now leaves are exactly the store's.
 pub record KeepsThroughCrashes {F : Type 0} (files_of : F → Option Files) (store : CoreStore F) (now : Storage) (first : keeper.Told) (start : ℕ) : Type 0 where
   pub safe : AreCrashSafe now first start
-  pub calm : now.failed ≡ store.opened → AreCalm now first start × StandsForKept files_of now.annals store
+  pub calm : now.failed ≡ store.opened → AreCalm now first start × StandsForKept files_of now.annals store × ImagesShow now.disk now.clock store

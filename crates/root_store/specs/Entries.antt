@@ -23,6 +23,7 @@ entry_text (statement.Create c) = Some c.text
 entry_text (statement.Insert i) = None
 entry_text (statement.Select s) = None
 entry_text (statement.Explain s) = None
+entry_text (statement.Optimize o) = None
 
 -- the schema that a statement with this text gives a table: it is a CREATE of the table that no rule refuses
 abbrev pub schema_of_statement : List ℕ → List ℕ → Statement → Option Schema
@@ -31,6 +32,7 @@ schema_of_statement table text (statement.Create c) =
 schema_of_statement table text (statement.Insert i) = None
 schema_of_statement table text (statement.Select s) = None
 schema_of_statement table text (statement.Explain s) = None
+schema_of_statement table text (statement.Optimize o) = None
 
 -- the same of what a text is read as: one statement, and no more
 abbrev pub schema_of_items : List ℕ → List ℕ → List (Result Statement Cause) → Option Schema

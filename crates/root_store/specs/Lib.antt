@@ -4,5 +4,6 @@ pub mod Crashes
 pub mod Damage
 pub mod Entries
 pub mod Roots
+pub mod Shown
 pub mod Soundness
 pub mod Stores

@@ -1,5 +1,5 @@
 -- What a store keeps of its tables and of the root's names, whatever history they are of (docs/architecture.md, "The store").
-use Rattle.std.specs.Prelude.{◌≡◌, ◌⊎◌, ℕ, ◌-◌, ◌<◌, ◌≤◌, ◌^◌, List, [], All, Option, Some, None}
+use Rattle.std.specs.Prelude.{◌≡◌, ◌⊎◌, ℕ, ◌-◌, ◌<◌, ◌≤◌, ◌^◌, List, [], All, IsTrue, Option, Some, None}
 use Rattle.std.specs.Map.{keys_of}
 use Rattle.std.specs.Option.{ForSome}
 use Rattle.mt_values.specs.declared.schema.Schema.{Schema}
@@ -14,19 +14,22 @@ use Rattle.part_name.specs.PartNames.{IsPartName, part_text}
 use Rattle.part_reader.specs.declared.reading.Part.{Part}
 use Rattle.part_reader.specs.Parts.{PartHolds}
 use Rattle.part_set.specs.declared.kept.Kept.{Kept}
+use Rattle.part_set.specs.RootNames.{is_table}
 use Rattle.part_set.specs.Sets.{parts_of}
 use Rattle.root_store.specs.declared.store.CoreStore.{CoreStore}
 use Rattle.root_store.specs.declared.store.Table.{Table}
 use Rattle.root_store.specs.Roots.{Stands}
+use Rattle.root_store.specs.Shown.{AreShown, GreatestAreShown}
 use Rattle.root_store.specs.Stores.{table_at}
 
 -- each part of the table ends by the last number that was drawn, so that a new part meets none of them
 abbrev pub EndsByDrawn : {F : Type 0} → CoreStore F → List ℕ → ℕ → Type 0
 EndsByDrawn {F} store table drawn = All (λ (k : Kept (Part F)). k.name.max_block ≤ drawn) (parts_of store.set table)
 
--- a table that commands may follow: its schema is one that a table may have, and its parts are of partitions that it may have, begin no
--- later than they end, and end by the number that was drawn last
+-- a table that commands may follow: its name and its schema are ones that a table may have, and its parts are of partitions that it may
+-- have, begin no later than they end, and end by the number that was drawn last
 pub record IsSoundTable {F : Type 0} (store : CoreStore F) (table : List ℕ) (t : Table) : Type 0 where
+  pub named : IsTrue (is_table table)
   pub schema : IsTableSchema t.schema
   pub ends : EndsByDrawn store table t.drawn
   pub may : All (λ (k : Kept (Part F)). MayHavePartition t.schema k.name.partition) (parts_of store.set table)
@@ -52,10 +55,17 @@ NamesFit store told = All (IsNameUnder store) (keys_of (names_of told))
 abbrev pub NamesFitUnlessRisen : {F : Type 0} → ℕ → Option Told → CoreStore F → Type 0
 NamesFitUnlessRisen failed told store = failed ≡ store.opened → ForSome told (NamesFit store)
 
--- A store that turns may follow: as long as no call of the disk failed since opening the root has no name but the store's, the store is
--- sound, and the disk's count of faults at opening is at most the one now, and below the end of its type.
+-- the visible parts among the names are exactly the store's, as long as the disk's count of faults is the one at opening
+abbrev pub AreShownUnlessRisen : {F : Type 0} → ℕ → Option Told → CoreStore F → Type 0
+AreShownUnlessRisen failed told store = failed ≡ store.opened → ForSome told (λ (t : Told). AreShown store (names_of t))
+
+-- A store that turns may follow: as long as no call of the disk failed since opening the root has no name but the store's, and its visible
+-- parts are exactly the store's. Whatever failed, each part of the greatest level that the store has is visible. The store is sound, and the
+-- disk's count of faults at opening is at most the one now, and below the end of its type.
 pub record IsReady {F : Type 0} (failed : ℕ) (told : Option Told) (store : CoreStore F) : Type 0 where
   pub names : NamesFitUnlessRisen failed told store
+  pub shown : AreShownUnlessRisen failed told store
+  pub greatest : ForSome told (λ (t : Told). GreatestAreShown store (names_of t))
   pub sound : IsSoundStore store
   pub opened : store.opened ≤ failed
   pub below : store.opened < 2 ^ 64 - 1

@@ -5,10 +5,12 @@ ghost use Rattle.std.specs.Cmp.Lexicographic.{slice_cmp};
 ghost use Rattle.std.specs.Ordering.{nat_cmp};
 ghost use Rattle.mt_outside.specs.Files.{Files};
 ghost use Rattle.mt_model.specs.History.{History};
+ghost use Rattle.root_store.specs.Shown.{HasNoMark};
 ghost use Rattle.root_store.specs.Stores.{CoreStands, fresh_table, table_at};
 
 use mt_base::{NoMemory, Twin};
 use mt_values::{Name, Schema};
+use mutation_queue::Mutations;
 use part_reader::Part;
 use part_set::PartSet;
 use std::alloc::Global;
@@ -21,12 +23,14 @@ pub struct Table {
     pub drawn: u32,
 }
 
-/// The tables by name, their visible parts, the number of accepted commands, and the disk's count of faults when the root was
-/// opened. `F` stands for a folder.
+/// The tables by name, their visible parts, the mutations that were accepted, the number of accepted commands, and the disk's
+/// count of faults when the root was opened. `F` stands for a folder.
 #[derive(Drop)]
 pub struct CoreStore<F> {
     pub tables: BTreeMap<Name, Table>,
     pub set: PartSet<Part<F>>,
+    /// None yet: no statement makes one.
+    pub mutations: Mutations,
     pub length: u64,
     pub opened: u64,
 }
@@ -35,11 +39,13 @@ impl<F> CoreStore<F> {
     /// The store of an empty root.
     pub fn new(alloc: Global, opened: u64) -> Self
         ensures stands { (files_of : F → Option Files) → CoreStands files_of [] result }
+        ensures idle { HasNoMark result }
         ensures opened { result.opened ≡ opened }
     {
         CoreStore {
             tables: BTreeMap::new(alloc),
             set: PartSet::new(alloc),
+            mutations: Mutations::new(alloc),
             length: 0,
             opened,
         }

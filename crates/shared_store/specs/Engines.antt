@@ -1,21 +1,26 @@
 -- What is known of a root that is open, and what its turns keep of it (docs/architecture.md, "The open root").
 use Rattle.std.specs.Prelude.{◌≡◌, ◌≤◌, ℕ, List, Option, None, Some}
 use Rattle.std.specs.Option.{MatchOption}
+use Rattle.mt_base.specs.declared.policy.Policy.{Policy}
 use Rattle.mt_values.specs.Annals as keeper
 use Rattle.mt_values.specs.declared.schema.Schema.{Schema}
 use Rattle.mt_outside.specs.Files.{Files}
+use Rattle.merge_select.specs.Picks.{Choice}
 use Rattle.part_reader.specs.declared.reading.Part.{Part}
 use Rattle.part_set.specs.declared.kept.Snap.{Snap}
 use Rattle.part_set.specs.Sets.{parts_of}
+use Rattle.root_commits.specs.Images.{OnDisk, on_disk}
 use Rattle.root_store.specs.declared.store.CoreStore.{CoreStore}
 use Rattle.root_store.specs.declared.store.Table.{Table}
 use Rattle.root_store.specs.Crashes.{KeepsThroughCrashes, Storage}
 use Rattle.root_store.specs.Soundness.{IsReady}
 use Rattle.root_store.specs.Stores.{table_at}
 
--- What is known of an open root: what its store keeps, what is known of its disk and its annals, and the path of the folder that was started.
+-- What is known of an open root: what its store keeps, by which policy its parts are merged, what is known of its disk and its annals, and the
+-- path of the folder that was started.
 pub record Opened (F : Type 0) : Type 0 where
   pub store : CoreStore F
+  pub policy : Policy
   pub storage : Storage
   pub started : Option (List ℕ)
 
@@ -23,12 +28,17 @@ pub record Opened (F : Type 0) : Type 0 where
 abbrev pub IsOpen : {F : Type 0} → Opened F → Type 0
 IsOpen root = IsReady root.storage.failed root.storage.disk root.store
 
--- A turn finds the root ready for it and leaves it ready for the next. It keeps the disk's count of faults at opening and the folder
--- that was started, and the count now does not fall.
+-- its store, and what is known of its disk
+abbrev pub disk_of : {F : Type 0} → Opened F → OnDisk F
+disk_of root = on_disk root.store root.storage.disk root.storage.clock
+
+-- A turn finds the root ready for it and leaves it ready for the next. It keeps the disk's count of faults at opening, the policy and the
+-- folder that was started, and the count now does not fall.
 pub record GoesOn {F : Type 0} (was now : Opened F) : Type 0 where
   pub found : IsOpen was
   pub left : IsOpen now
   pub opened : now.store.opened ≡ was.store.opened
+  pub policy : now.policy ≡ was.policy
   pub started : now.started ≡ was.started
   pub later : was.storage.failed ≤ now.storage.failed
 
@@ -36,6 +46,10 @@ pub record GoesOn {F : Type 0} (was now : Opened F) : Type 0 where
 abbrev pub GoesThroughCrashes : {F : Type 0} → (F → Option Files) → Opened F → Opened F → Type 0
 GoesThroughCrashes files_of was now =
     (first : keeper.Told) (start : ℕ) → KeepsThroughCrashes files_of was.store was.storage first start → KeepsThroughCrashes files_of now.store now.storage first start
+
+-- what merges are chosen from in an open root, and how
+abbrev pub choice_of : {F : Type 0} → Opened F → Choice (Part F)
+choice_of root = record { set = root.store.set; queue = root.store.mutations; count = (λ part. part.loaded.manifest.rows); policy = root.policy }
 
 -- the snapshot has what the store keeps of a table, and the length of its history
 pub record IsSnapOf {F : Type 0} (store : CoreStore F) (table : List ℕ) (snap : Snap (Part F)) : Type 0 where

@@ -1,1 +1,3 @@
 pub mod Engines
+pub mod Levels
+pub mod Works

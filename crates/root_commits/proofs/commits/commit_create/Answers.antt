@@ -6,10 +6,12 @@ use Rattle.durable_commit.specs.Commits.{entry_of}
 use Rattle.root_store.specs.Stores.{fresh_table}
 use Rattle.root_commits.specs.Commits.{refuses_create}
 use Rattle.root_commits.specs.Turns.{storage, turn_of_create}
+use Rattle.root_store.specs.Shown.{AreShown, GreatestAreShown}
 use Rattle.root_store.specs.Soundness.{NamesFit}
 use Rattle.root_store.specs.Stores.{table_at}
 use Rattle.root_commits.proofs.Accepted.{create_accepted, shows_same}
-use Rattle.root_commits.proofs.CrashCommits.{grows_by_table}
+use Rattle.root_store.proofs.Showing.{greatest_shown}
+use Rattle.root_commits.proofs.CrashCommits.{grows_by_table, shows_by_table}
 use Rattle.root_commits.proofs.CrashTurns.{kept_untouched}
 use Rattle.root_commits.proofs.Entering.{stands_created}
 use Rattle.root_commits.proofs.FreeNames.{entry_free, made_fits}
@@ -17,7 +19,8 @@ use Rattle.root_commits.proofs.Holding.{held_made, held_same}
 use Rattle.durable_commit.proofs.WhyRefused.{outside_disk}
 use Rattle.root_commits.proofs.Leaving.{cause_shown, none_shown, same_tables, shown_absent, shown_calm, shown_few, shown_other, taken_out}
 use Rattle.root_commits.proofs.Rooted.{root_made}
-use Rattle.root_commits.proofs.Sounding.{ready_same, sound_made}
+use Rattle.root_commits.proofs.Shown.{after_doubt, after_put, greatest_made, shown_made}
+use Rattle.root_commits.proofs.Sounding.{idle_same, ready_same, sound_made}
 use Rattle.durable_commit.proofs.SameLists.{no_disk}
 use Rattle.root_commits.proofs.TurnCrashes.{keeps_done, keeps_in_doubt, leaves_done, leaves_in_doubt, leaves_untouched, ready_in_doubt}
 use Rattle.root_commits.proofs.Turning.{done_as, doubt_as, named_turn}
@@ -61,12 +64,13 @@ returns-in-Some-clause-opened g c = refl
 
 pub returns-in-Some-clause-images : goal.returns-in-Some-clause-images
 returns-in-Some-clause-images g c = λ h sealed stands one.
-    let was = storage (g.D.Disk.told c.args.disk.now) (g.D.Disk.clock c.args.disk.now) (g.D.Disk.failed c.args.disk.now) (g.A.Annals.told c.args.annals.now) in
-    let now = storage (g.D.Disk.told c.args.disk.now) (g.D.Disk.clock c.args.disk.now) (g.D.Disk.failed c.args.disk.now) (g.A.Annals.told c.args.annals.now) in
-    leaves_untouched was now h one _ _ refl refl
+    leaves_untouched _ _ h one _ _ refl refl (same_tables _ _ refl refl refl refl)
 
 pub returns-in-Some-clause-through_crashes : goal.returns-in-Some-clause-through_crashes
 returns-in-Some-clause-through_crashes g c = λ first start sealed keeps. keeps
+
+pub returns-in-Some-clause-idle : goal.returns-in-Some-clause-idle
+returns-in-Some-clause-idle g c = λ idle. idle
 
 -- there was no memory
 pub returns-in-Err-clause-cause : goal.returns-in-Err-clause-cause
@@ -100,15 +104,16 @@ returns-in-Err-clause-opened g c = refl
 
 pub returns-in-Err-clause-images : goal.returns-in-Err-clause-images
 returns-in-Err-clause-images g c = λ h sealed stands one.
-    let was = storage (g.D.Disk.told c.args.disk.now) (g.D.Disk.clock c.args.disk.now) (g.D.Disk.failed c.args.disk.now) (g.A.Annals.told c.args.annals.now) in
-    let now = storage (g.D.Disk.told c.args.disk.now) (g.D.Disk.clock c.args.disk.now) (g.D.Disk.failed c.args.disk.now) (g.A.Annals.told c.prepare_create.new.annals) in
-    leaves_untouched was now h one _ _ refl refl
+    leaves_untouched _ _ h one _ _ refl refl (returns-in-Err-clause-enters g c)
 
 pub returns-in-Err-clause-through_crashes : goal.returns-in-Err-clause-through_crashes
 returns-in-Err-clause-through_crashes g c = λ first start sealed keeps.
     let was = storage (g.D.Disk.told c.args.disk.now) (g.D.Disk.clock c.args.disk.now) (g.D.Disk.failed c.args.disk.now) (g.A.Annals.told c.args.annals.now) in
     let now = storage (g.D.Disk.told c.args.disk.now) (g.D.Disk.clock c.args.disk.now) (g.D.Disk.failed c.args.disk.now) (g.A.Annals.told c.prepare_create.new.annals) in
     kept_untouched g.D.Arm.Dir.Dir.files c.args.store.now _ first start was now (returns-in-Err-clause-enters g c) refl refl refl c.in-Err.ensures.told keeps
+
+pub returns-in-Err-clause-idle : goal.returns-in-Err-clause-idle
+returns-in-Err-clause-idle g c = λ idle. idle_same c.args.store.now _ (returns-in-Err-clause-enters g c) idle
 
 -- it was given to the disk, and not settled
 pub returns-clause-cause : goal.returns-clause-cause
@@ -145,7 +150,14 @@ pub returns-clause-ready : goal.returns-clause-ready
 returns-clause-ready g c =
     let was = storage (g.D.Disk.told c.args.disk.now) (g.D.Disk.clock c.args.disk.now) (g.D.Disk.failed c.args.disk.now) (g.A.Annals.told c.args.annals.now) in
     let now = storage (g.D.Disk.told c.turn.new.disk) (g.D.Disk.clock c.turn.new.disk) (g.D.Disk.failed c.turn.new.disk) (g.A.Annals.told c.turn.new.annals) in
-    ready_in_doubt c.args.store.now _ (turn_of_create c.args.session c.args.create c.args.sealed) was now c.take_out-cause.result (returns-clause-enters g c) (returns-clause-turn g c) c.requires.ready
+    let store = c.args.store.now in
+    let turn = turn_of_create c.args.session c.args.create c.args.sealed in
+    let none = none_shown (λ n. refuses_create store c.args.create.table n) _ _ _ c.refuse_create.ensures c.faults.ensures c.in_default.is in
+    let shown = c.requires.ready.shown (shown_calm store c.args.create.table _ none c.requires.ready.opened) in
+    let doubt = returns-clause-turn g c in
+    ready_in_doubt store _ turn was now c.take_out-cause.result (returns-clause-enters g c) doubt
+    (after_doubt (GreatestAreShown store) was.clock turn.name turn.files was.disk now.disk (λ told fs is. greatest_made store c.args.create.table c.requires.named (names_of told) fs (shown told is)) c.requires.ready.greatest doubt.root)
+    c.requires.ready
 
 pub returns-clause-opened : goal.returns-clause-opened
 returns-clause-opened g c = refl
@@ -159,7 +171,7 @@ returns-clause-images g c = λ h sealed stands one.
     let none = none_shown (λ n. refuses_create store table n) _ _ _ c.refuse_create.ensures c.faults.ensures c.in_default.is in
     let grows = grows_by_table g.D.Arm.Dir.Dir.files store h c.args.session stands sealed.files (c.in-Err-turn.ensures.sealed sealed.files sealed.sealed_are) c.args.create
     (shown_absent store table _ none) (shown_few store table _ none) c.requires.schema c.requires.named sealed.holds in
-    leaves_in_doubt was now h one (turn_of_create c.args.session c.args.create c.args.sealed) sealed.files sealed.sealed_are grows c.take_out-cause.result (returns-clause-turn g c)
+    leaves_in_doubt (turn_of_create c.args.session c.args.create c.args.sealed) store _ was now h one sealed.files sealed.sealed_are grows c.take_out-cause.result (returns-clause-enters g c) (returns-clause-turn g c)
 
 pub returns-clause-through_crashes : goal.returns-clause-through_crashes
 returns-clause-through_crashes g c = λ first start sealed keeps.
@@ -173,6 +185,9 @@ returns-clause-through_crashes g c = λ first start sealed keeps.
     (λ h stands. grows_by_table files store h c.args.session stands sealed.files (c.in-Err-turn.ensures.sealed sealed.files sealed.sealed_are) c.args.create
     (shown_absent store table _ none) (shown_few store table _ none) c.requires.schema c.requires.named sealed.holds)
     c.take_out-cause.result c.requires.ready.below (returns-clause-enters g c) (returns-clause-turn g c)
+
+pub returns-clause-idle : goal.returns-clause-idle
+returns-clause-idle g c = λ idle. idle_same c.args.store.now _ (returns-clause-enters g c) idle
 
 -- it was committed
 module _ (g : _) (c : goal.After-drop-name-inside g) where
@@ -227,9 +242,16 @@ pub returns-in-Ok-turn-clause-ready : goal.returns-in-Ok-turn-clause-ready
 returns-in-Ok-turn-clause-ready g c =
     let low = c.requires.ready.opened in
     let later = c.in-Ok-turn.ensures.turn.later in
+    let store = c.args.store.now in
+    let enters = returns-in-Ok-turn-clause-enters g c in
+    let done = returns-in-Ok-turn-clause-turn g c in
+    let shown = c.requires.ready.shown (shown_calm store c.args.create.table _ (none g c) c.requires.ready.opened) in
+    let shown_now = after_put (AreShown _) _ _ _ _ _ (λ told fs is. shown_made store c.args.create.table c.requires.named (names_of told) fs (shown told is) _ c.args.create.schema enters) done.root in
     record {
-      names = λ _. made_fits _ _ _ _ (returns-in-Ok-turn-clause-enters g c) _ _ _ _ (fit g c) (returns-in-Ok-turn-clause-turn g c).root;
-      sound = sound_made _ _ _ _ (returns-in-Ok-turn-clause-enters g c) c.requires.schema c.requires.ready.sound;
+      names = λ _. made_fits _ _ _ _ enters _ _ _ _ (fit g c) done.root;
+      shown = λ _. shown_now;
+      greatest = λ told is. greatest_shown _ (names_of told) (shown_now told is);
+      sound = sound_made _ _ _ _ enters c.requires.named c.requires.schema c.requires.ready.sound;
       opened = omega (arith, low, later);
       below = c.requires.ready.below;
     }
@@ -243,7 +265,8 @@ returns-in-Ok-turn-clause-images g c = λ h sealed stands one.
     let now = storage (g.D.Disk.told c.turn.new.disk) (g.D.Disk.clock c.turn.new.disk) (g.D.Disk.failed c.turn.new.disk) (g.A.Annals.told c.turn.new.annals) in
     let grows = grows_by_table g.D.Arm.Dir.Dir.files c.args.store.now h c.args.session stands sealed.files (c.in-Ok-turn.ensures.sealed sealed.files sealed.sealed_are) c.args.create
     (absent g c) (few g c) c.requires.schema c.requires.named sealed.holds in
-    leaves_done was now h one (turn_of_create c.args.session c.args.create c.args.sealed) sealed.files sealed.sealed_are grows _ (returns-in-Ok-turn-clause-turn g c)
+    let shows = shows_by_table g.D.Arm.Dir.Dir.files c.args.store.now _ h stands sealed.files c.args.create.table c.args.create.schema c.requires.named (returns-in-Ok-turn-clause-enters g c) in
+    leaves_done (turn_of_create c.args.session c.args.create c.args.sealed) c.args.store.now _ was now h one sealed.files sealed.sealed_are grows _ shows (returns-in-Ok-turn-clause-turn g c)
 
 pub returns-in-Ok-turn-clause-through_crashes : goal.returns-in-Ok-turn-clause-through_crashes
 returns-in-Ok-turn-clause-through_crashes g c = λ first start sealed keeps.
@@ -254,7 +277,12 @@ returns-in-Ok-turn-clause-through_crashes g c = λ first start sealed keeps.
     keeps_done files store _ first start (turn_of_create c.args.session c.args.create c.args.sealed) was now keeps (shown_calm store c.args.create.table _ (none g c) c.requires.ready.opened) sealed.files sealed.sealed_are
     (λ h stands. grows_by_table files store h c.args.session stands sealed.files (c.in-Ok-turn.ensures.sealed sealed.files sealed.sealed_are) c.args.create
     (absent g c) (few g c) c.requires.schema c.requires.named sealed.holds)
-    (λ h stands. (returns-in-Ok-turn-clause-stands g c h stands).store_stands) (returns-in-Ok-turn-clause-turn g c)
+    (λ h stands. (returns-in-Ok-turn-clause-stands g c h stands).store_stands)
+    (λ h stands. shows_by_table files store _ h stands sealed.files c.args.create.table c.args.create.schema c.requires.named (returns-in-Ok-turn-clause-enters g c))
+    (returns-in-Ok-turn-clause-turn g c)
+
+pub returns-in-Ok-turn-clause-idle : goal.returns-in-Ok-turn-clause-idle
+returns-in-Ok-turn-clause-idle g c = λ idle. idle
 
 -- which event of the core it was
 pub returns-in-Some-clause-event : goal.returns-in-Some-clause-event

@@ -1,4 +1,4 @@
-use Rattle.std.proofs.Common.{◌≡◌, ◌+◌, ◌<◌, ℕ, List, Option, Some, None, Result, refl, sym, ap, ap₂, ◌∙◌, subst, arith}
+use Rattle.std.proofs.Common.{◌≡◌, ◌+◌, ◌<◌, ℕ, List, Option, Some, None, Result, refl, sym, ap, ap₂, ◌∙◌, subst, arith, false}
 use Rattle.std.specs.BTreeMap.{Updates}
 use Rattle.std.specs.Cmp.Lexicographic.{slice_cmp}
 use Rattle.std.specs.Option.{ForSome}
@@ -16,6 +16,8 @@ use Rattle.part_writer.specs.declared.loaded.Loaded.{Loaded}
 use Rattle.part_reader.specs.declared.reading.Part.{Part}
 use Rattle.part_set.specs.declared.kept.Kept.{Kept}
 use Rattle.part_set.specs.Parts.{IsAdded, NoneMeets}
+use Rattle.part_set.specs.declared.root_name.RootName.TheVariants as root
+use Rattle.part_set.specs.RootNames.{IsRootName}
 use Rattle.part_set.specs.Sets.{parts_of}
 use Rattle.stage_dir.specs.Stages.{Filled}
 use Rattle.durable_commit.specs.declared.causes.Refused.{Refused}
@@ -25,14 +27,16 @@ use Rattle.root_store.specs.declared.store.Table.{Table}
 use Rattle.durable_commit.specs.Commits.{entry_of}
 use Rattle.root_commits.specs.declared.commits.Returned.{Returned}
 use Rattle.root_commits.specs.Commits.{EntersPart, EntersSealed, IsCause, IsSealedOf, StandsWhere, fresh_part, insert_of_block, partition_of_block, refuses_part}
-use Rattle.root_commits.specs.Images.{LeavesAfter}
+use Rattle.root_commits.specs.Images.{LeavesAfter, OnDisk}
 use Rattle.root_commits.specs.Turns.{IsDone, IsInDoubt, storage, turn_of_part, with_entry}
-use Rattle.root_store.specs.Crashes.{Storage}
+use Rattle.root_store.specs.Shown.{AreShown, GreatestAreShown, part_called}
 use Rattle.root_store.specs.Soundness.{NamesFit}
-use Rattle.root_store.specs.Stores.{table_at}
+use Rattle.root_store.specs.Stores.{CoreStands, table_at}
+use Rattle.root_store.proofs.Showing.{greatest_shown}
 use Rattle.root_commits.specs.Events.{IsAccepted, accept_of_block}
 use Rattle.root_commits.proofs.Accepted.{insert_accepted, shows_same}
-use Rattle.root_commits.proofs.CrashCommits.{grows_by_part}
+use Rattle.root_commits.proofs.CrashCommits.{grows_by_part, shows_by_part}
+use Rattle.root_commits.proofs.CrashImages.{Shows}
 use Rattle.root_commits.proofs.CrashTurns.{kept_untouched}
 use Rattle.root_commits.proofs.FreeNames.{added_fits, fresh_named, part_free}
 use Rattle.root_commits.proofs.Holding.{held_added, held_same}
@@ -42,7 +46,8 @@ use Rattle.root_commits.proofs.Leaving.{cause_shown, none_shown, shown_number, s
 use Rattle.root_commits.proofs.Partitions.{block_may, block_spells}
 use Rattle.root_commits.proofs.Placed.{none_meets}
 use Rattle.root_commits.proofs.Rooted.{root_added}
-use Rattle.root_commits.proofs.Sounding.{ready_same, sound_added}
+use Rattle.root_commits.proofs.Shown.{after_doubt, after_put, ends_fit, greatest_added, shown_added}
+use Rattle.root_commits.proofs.Sounding.{idle_added, idle_same, ready_same, sound_added}
 use Rattle.root_commits.proofs.Updated.{one_some}
 use Rattle.durable_commit.proofs.SameLists.{no_disk}
 use Rattle.root_commits.proofs.TurnCrashes.{keeps_done, keeps_in_doubt, leaves_done, leaves_in_doubt, leaves_untouched, ready_in_doubt}
@@ -74,10 +79,10 @@ sealed_for : (t u : Table) (block : Grid) (files : Option Files) (loaded : Loade
 sealed_for t u block files loaded same is = subst (λ (x : Table). IsSealedOf x.schema block files loaded) (sym same) is
 
 -- a turn into the table that was read leaves what one into the table that is there does
-leaves_for : {T S : Type 0} (session : ℕ) (table : List ℕ) (t u : Table) (block : Grid) (sealed : Filled) (now : Storage) (since : ℕ) (h : History) (result : Result T (Returned S)) → t ≡ u
-    → LeavesAfter {T = T} {S = S} now since h (with_entry (turn_of_part session table t block sealed) h) result → LeavesAfter {T = T} {S = S} now since h (with_entry (turn_of_part session table u block sealed) h) result
-leaves_for {T} {S} session table t u block sealed now since h result same leaves =
-    subst (λ (x : Table). LeavesAfter {T = T} {S = S} now since h (with_entry (turn_of_part session table x block sealed) h) result) same leaves
+leaves_for : {F T S : Type 0} (session : ℕ) (table : List ℕ) (t u : Table) (block : Grid) (sealed : Filled) (was now : OnDisk F) (h : History) (result : Result T (Returned S)) → t ≡ u
+    → LeavesAfter {F = F} {T = T} {S = S} was now h (with_entry (turn_of_part session table t block sealed) h) result → LeavesAfter {F = F} {T = T} {S = S} was now h (with_entry (turn_of_part session table u block sealed) h) result
+leaves_for {F} {T} {S} session table t u block sealed was now h result same leaves =
+    subst (λ (x : Table). LeavesAfter {F = F} {T = T} {S = S} was now h (with_entry (turn_of_part session table x block sealed) h) result) same leaves
 
 -- and the store stands for the history after it
 stands_for : {F : Type 0} (files_of : F → Option Files) (session : ℕ) (table : List ℕ) (t u : Table) (block : Grid) (sealed : Filled) (h : History) (store : CoreStore F) (root : Option Told) (holds : Type 0) → t ≡ u
@@ -146,12 +151,13 @@ returns-in-Some-clause-opened g c = refl
 
 pub returns-in-Some-clause-images : goal.returns-in-Some-clause-images
 returns-in-Some-clause-images g c = λ h u at is stands one.
-    let was = storage (g.D.Disk.told c.args.disk.now) (g.D.Disk.clock c.args.disk.now) (g.D.Disk.failed c.args.disk.now) (g.A.Annals.told c.args.annals.now) in
-    let now = storage (g.D.Disk.told c.args.disk.now) (g.D.Disk.clock c.args.disk.now) (g.D.Disk.failed c.args.disk.now) (g.A.Annals.told c.args.annals.now) in
-    leaves_untouched was now h one _ _ refl refl
+    leaves_untouched _ _ h one _ _ refl refl (record { tables = refl; parts = λ v. refl; length_is = refl; opened_is = refl })
 
 pub returns-in-Some-clause-through_crashes : goal.returns-in-Some-clause-through_crashes
 returns-in-Some-clause-through_crashes g c = λ u first start at is keeps. keeps
+
+pub returns-in-Some-clause-idle : goal.returns-in-Some-clause-idle
+returns-in-Some-clause-idle g c = λ idle. idle
 
 -- there was no memory
 pub returns-in-Err-clause-cause : goal.returns-in-Err-clause-cause
@@ -177,7 +183,7 @@ pub returns-in-Err-clause-stands : goal.returns-in-Err-clause-stands
 returns-in-Err-clause-stands g c = λ h u at is s. tt
 
 pub returns-in-Err-clause-held : goal.returns-in-Err-clause-held
-returns-in-Err-clause-held g c = λ u at is held. held_same g.D.Arm.Dir.Dir.files c.args.store.now (record { tables = c.args.store.now.tables; set = c.prepare_part.new.set; length = c.args.store.now.length; opened = c.args.store.now.opened })
+returns-in-Err-clause-held g c = λ u at is held. held_same g.D.Arm.Dir.Dir.files c.args.store.now (record { tables = c.args.store.now.tables; set = c.prepare_part.new.set; mutations = c.args.store.now.mutations; length = c.args.store.now.length; opened = c.args.store.now.opened })
     (record { tables = refl; parts = c.in-Err.ensures.parts; length_is = refl; opened_is = refl }) held
 
 pub returns-in-Err-clause-ready : goal.returns-in-Err-clause-ready
@@ -188,15 +194,16 @@ returns-in-Err-clause-opened g c = refl
 
 pub returns-in-Err-clause-images : goal.returns-in-Err-clause-images
 returns-in-Err-clause-images g c = λ h u at is stands one.
-    let was = storage (g.D.Disk.told c.args.disk.now) (g.D.Disk.clock c.args.disk.now) (g.D.Disk.failed c.args.disk.now) (g.A.Annals.told c.args.annals.now) in
-    let now = storage (g.D.Disk.told c.args.disk.now) (g.D.Disk.clock c.args.disk.now) (g.D.Disk.failed c.args.disk.now) (g.A.Annals.told c.prepare_part.new.annals) in
-    leaves_untouched was now h one _ _ refl refl
+    leaves_untouched _ _ h one _ _ refl refl (record { tables = refl; parts = c.in-Err.ensures.parts; length_is = refl; opened_is = refl })
 
 pub returns-in-Err-clause-through_crashes : goal.returns-in-Err-clause-through_crashes
 returns-in-Err-clause-through_crashes g c = λ u first start at is keeps.
     let was = storage (g.D.Disk.told c.args.disk.now) (g.D.Disk.clock c.args.disk.now) (g.D.Disk.failed c.args.disk.now) (g.A.Annals.told c.args.annals.now) in
     let now = storage (g.D.Disk.told c.args.disk.now) (g.D.Disk.clock c.args.disk.now) (g.D.Disk.failed c.args.disk.now) (g.A.Annals.told c.prepare_part.new.annals) in
     kept_untouched g.D.Arm.Dir.Dir.files c.args.store.now _ first start was now (record { tables = refl; parts = c.in-Err.ensures.parts; length_is = refl; opened_is = refl }) refl refl refl c.in-Err.ensures.told keeps
+
+pub returns-in-Err-clause-idle : goal.returns-in-Err-clause-idle
+returns-in-Err-clause-idle g c = λ idle. idle_same c.args.store.now (record { tables = c.args.store.now.tables; set = c.prepare_part.new.set; mutations = c.args.store.now.mutations; length = c.args.store.now.length; opened = c.args.store.now.opened }) (record { tables = refl; parts = c.in-Err.ensures.parts; length_is = refl; opened_is = refl }) idle
 
 -- it was given to the disk, and not settled
 pub returns-in-Err-turn-clause-cause : goal.returns-in-Err-turn-clause-cause
@@ -236,14 +243,29 @@ pub returns-in-Err-turn-clause-stands : goal.returns-in-Err-turn-clause-stands
 returns-in-Err-turn-clause-stands g c = λ h u at is s. tt
 
 pub returns-in-Err-turn-clause-held : goal.returns-in-Err-turn-clause-held
-returns-in-Err-turn-clause-held g c = λ u at is held. held_same g.D.Arm.Dir.Dir.files c.args.store.now (record { tables = c.args.store.now.tables; set = c.prepare_part.new.set; length = c.args.store.now.length; opened = c.args.store.now.opened })
+returns-in-Err-turn-clause-held g c = λ u at is held. held_same g.D.Arm.Dir.Dir.files c.args.store.now (record { tables = c.args.store.now.tables; set = c.prepare_part.new.set; mutations = c.args.store.now.mutations; length = c.args.store.now.length; opened = c.args.store.now.opened })
     (record { tables = refl; parts = c.in-Ok.ensures.parts; length_is = refl; opened_is = refl }) held
 
 pub returns-in-Err-turn-clause-ready : goal.returns-in-Err-turn-clause-ready
 returns-in-Err-turn-clause-ready g c =
     let was = storage (g.D.Disk.told c.args.disk.now) (g.D.Disk.clock c.args.disk.now) (g.D.Disk.failed c.args.disk.now) (g.A.Annals.told c.args.annals.now) in
     let now = storage (g.D.Disk.told c.turn.new.disk) (g.D.Disk.clock c.turn.new.disk) (g.D.Disk.failed c.turn.new.disk) (g.A.Annals.told c.turn.new.annals) in
-    ready_in_doubt c.args.store.now _ (turn_of_part c.args.session c.args.table.now c.index-found.result.now c.args.block c.args.part.sealed) was now c.of_disk-cause.result (record { tables = refl; parts = c.in-Ok.ensures.parts; length_is = refl; opened_is = refl }) (in_doubt g c) c.requires.ready
+    let store = c.args.store.now in
+    let table = c.args.table.now in
+    let t : Table = c.index-found.result.now in
+    let partition = partition_of_block t.schema c.args.block in
+    let none = none_shown (λ n. refuses_part store table partition t.drawn n) _ _ _ (shown_part c.args.store.now c.args.table.now _ _ c.index-found.result.now.drawn c.faults.result _ c.partition_at-partition.ensures c.refuse_part.ensures) c.faults.ensures c.in_default.is in
+    let still = shown_part_calm store table _ partition t.drawn none c.requires.ready.opened in
+    let sound = c.requires.ready.sound.tables table t c.index-found.ensures in
+    let word : IsRootName (root.Part (part_called table (fresh_part partition (t.drawn + 1)))) = (sound.named, fresh_named partition t.drawn (block_spells table t.schema c.args.block sound.schema (c.requires.rows t c.index-found.ensures)) (shown_number store table _ partition t.drawn none)) in
+    let turn = turn_of_part c.args.session c.args.table.now c.index-found.result.now c.args.block c.args.part.sealed in
+    ready_in_doubt c.args.store.now (record { tables = c.args.store.now.tables; set = c.prepare_part.new.set; mutations = c.args.store.now.mutations; length = c.args.store.now.length; opened = c.args.store.now.opened }) turn was now c.of_disk-cause.result (record { tables = refl; parts = c.in-Ok.ensures.parts; length_is = refl; opened_is = refl }) (in_doubt g c)
+    (after_doubt (GreatestAreShown store) was.clock turn.name turn.files was.disk now.disk
+    (λ told fs is.
+    let shown = c.requires.ready.shown still told is in
+    greatest_added store table partition t.drawn (names_of told) fs shown word (ends_fit store told shown.read (c.requires.ready.names still told is) shown.are table t c.index-found.ensures))
+    c.requires.ready.greatest (in_doubt g c).root)
+    c.requires.ready
 
 pub returns-in-Err-turn-clause-opened : goal.returns-in-Err-turn-clause-opened
 returns-in-Err-turn-clause-opened g c = refl
@@ -260,8 +282,8 @@ returns-in-Err-turn-clause-images g c = λ h u at is stands one.
     let here = sealed_for t u c.args.block c.args.part.sealed.files c.args.part.loaded (one_some (table_at store table) t u c.index-found.ensures at) is in
     let grows = grows_by_part files store h c.args.session stands here.files (c.in-Err-turn.ensures.sealed here.files here.sealed_are) table t c.args.block c.index-found.ensures
     (shown_number store table _ (partition_of_block t.schema c.args.block) t.drawn none) (c.requires.rows t c.index-found.ensures) here.holds in
-    leaves_for c.args.session table t u c.args.block c.args.part.sealed now _ h _ (one_some (table_at store table) t u c.index-found.ensures at)
-    (leaves_in_doubt was now h one (turn_of_part c.args.session c.args.table.now c.index-found.result.now c.args.block c.args.part.sealed) here.files here.sealed_are grows c.of_disk-cause.result (in_doubt g c))
+    leaves_for c.args.session table t u c.args.block c.args.part.sealed _ _ h _ (one_some (table_at store table) t u c.index-found.ensures at)
+    (leaves_in_doubt (turn_of_part c.args.session c.args.table.now c.index-found.result.now c.args.block c.args.part.sealed) store (record { tables = c.args.store.now.tables; set = c.prepare_part.new.set; mutations = c.args.store.now.mutations; length = c.args.store.now.length; opened = c.args.store.now.opened }) was now h one here.files here.sealed_are grows c.of_disk-cause.result (record { tables = refl; parts = c.in-Ok.ensures.parts; length_is = refl; opened_is = refl }) (in_doubt g c))
 
 pub returns-in-Err-turn-clause-through_crashes : goal.returns-in-Err-turn-clause-through_crashes
 returns-in-Err-turn-clause-through_crashes g c = λ u first start at is keeps.
@@ -277,6 +299,9 @@ returns-in-Err-turn-clause-through_crashes g c = λ u first start at is keeps.
     (λ h stands. grows_by_part files store h c.args.session stands here.files (c.in-Err-turn.ensures.sealed here.files here.sealed_are) table t c.args.block c.index-found.ensures
     (shown_number store table _ (partition_of_block t.schema c.args.block) t.drawn none) (c.requires.rows t c.index-found.ensures) here.holds)
     c.of_disk-cause.result c.requires.ready.below (record { tables = refl; parts = c.in-Ok.ensures.parts; length_is = refl; opened_is = refl }) (in_doubt g c)
+
+pub returns-in-Err-turn-clause-idle : goal.returns-in-Err-turn-clause-idle
+returns-in-Err-turn-clause-idle g c = λ idle. idle_same c.args.store.now (record { tables = c.args.store.now.tables; set = c.prepare_part.new.set; mutations = c.args.store.now.mutations; length = c.args.store.now.length; opened = c.args.store.now.opened }) (record { tables = refl; parts = c.in-Ok.ensures.parts; length_is = refl; opened_is = refl }) idle
 
 -- it was committed
 module _ (g : _) (c : goal.After-drop-name-inside-2 g) where
@@ -299,9 +324,9 @@ module _ (g : _) (c : goal.After-drop-name-inside-2 g) where
     updates = subst (λ (n : PartName). Updates (slice_cmp nat_cmp) c.args.store.now.tables c.enter_part.new.store.tables c.args.table.now (Some (record { schema = t.schema; drawn = n.max_block }))) (fresh_is _ _ _ _ c.partition_at-partition.ensures c.name_of_part-fresh.ensures)
         (c.enter_part.ensures.updates t c.index-found.ensures);
     count = c.enter_part.ensures.count;
-    added = subst (λ (ks : List (Kept (Part g.row.D-Arm-Dir.Denot))). IsAdded ks (record { name = fresh_part (partition_of_block t.schema c.args.block) (t.drawn + 1); part = c.of-part.result }) (parts_of c.enter_part.new.store.set c.args.table.now))
+    added = subst (λ (ks : List (Kept (Part g.row.D-Arm-Dir.Denot))). IsAdded ks (record { name = fresh_part (partition_of_block t.schema c.args.block) (t.drawn + 1); part = c.of-part.result; busy = false }) (parts_of c.enter_part.new.store.set c.args.table.now))
         (c.in-Ok.ensures.parts c.args.table.now)
-        (subst (λ (n : PartName). IsAdded (parts_of c.prepare_part.new.set c.args.table.now) (record { name = n; part = c.of-part.result }) (parts_of c.enter_part.new.store.set c.args.table.now)) (fresh_is _ _ _ _ c.partition_at-partition.ensures c.name_of_part-fresh.ensures) c.enter_part.ensures.added);
+        (subst (λ (n : PartName). IsAdded (parts_of c.prepare_part.new.set c.args.table.now) (record { name = n; part = c.of-part.result; busy = false }) (parts_of c.enter_part.new.store.set c.args.table.now)) (fresh_is _ _ _ _ c.partition_at-partition.ensures c.name_of_part-fresh.ensures) c.enter_part.ensures.added);
     ordered = c.enter_part.ensures.ordered;
     others = λ u apart. c.enter_part.ensures.others u apart ∙ c.in-Ok.ensures.parts u;
     length_is = c.enter_part.ensures.length ∙ c.in-Ok.ensures.length;
@@ -334,6 +359,13 @@ module _ (g : _) (c : goal.After-drop-name-inside-2 g) where
       (begun_is c.args.table.now _ _ _ c.args.block c.args.session c.in-Ok.ensures.table c.partition_at-partition.ensures))
       had was now (ap (storage (g.D.Disk.told c.args.disk.now) (g.D.Disk.clock c.args.disk.now) (g.D.Disk.failed c.args.disk.now)) c.in-Ok.ensures.told)
       c.in-Ok-turn.ensures.turn
+
+  -- and what a crash leaves shows it
+  shows : (h : History) → CoreStands g.D.Arm.Dir.Dir.files h c.args.store.now → (files : Files) → Shows c.args.store.now (part_name c.args.table.now (part_text (fresh_part (partition_of_block t.schema c.args.block) (t.drawn + 1)))) files h c.enter_part.new.store
+  shows h stands files =
+      let sound = c.requires.ready.sound.tables c.args.table.now t c.index-found.ensures in
+      shows_by_part g.D.Arm.Dir.Dir.files c.args.store.now c.enter_part.new.store h stands files c.args.table.now (partition_of_block t.schema c.args.block) c.of-part.result t
+      (block_spells c.args.table.now t.schema c.args.block sound.schema (c.requires.rows t c.index-found.ensures)) small added
 
 pub returns-clause-cause : goal.returns-clause-cause
 returns-clause-cause g c = λ u at.
@@ -383,7 +415,22 @@ returns-clause-ready g c =
     let later = (done g c).later in
     let same = c.enter_part.ensures.opened in
     let below = c.requires.ready.below in
+    let store = c.args.store.now in
+    let table = c.args.table.now in
+    let read : Table = c.index-found.result.now in
+    let partition = partition_of_block read.schema c.args.block in
+    let still = shown_part_calm store table _ partition read.drawn (none g c) c.requires.ready.opened in
+    let sound = c.requires.ready.sound.tables table read c.index-found.ensures in
+    let word : IsRootName (root.Part (part_called table (fresh_part partition (read.drawn + 1)))) = (sound.named, fresh_named partition read.drawn (block_spells table read.schema c.args.block sound.schema (c.requires.rows read c.index-found.ensures)) (small g c)) in
+    let shown_now = after_put (AreShown c.enter_part.new.store) (g.D.Disk.clock c.args.disk.now) (part_name table (part_text (fresh_part partition (read.drawn + 1)))) c.args.part.sealed.files (g.D.Disk.told c.args.disk.now) (g.D.Disk.told c.turn.new.disk)
+    (λ told fs is.
+    let shown = c.requires.ready.shown still told is in
+    shown_added store table partition read.drawn (names_of told) fs shown word (ends_fit store told shown.read (c.requires.ready.names still told is) shown.are table read c.index-found.ensures)
+    c.enter_part.new.store c.of-part.result read refl (added g c))
+    (done g c).root in
     record {
+      shown = λ _. shown_now;
+      greatest = λ told is. greatest_shown c.enter_part.new.store (names_of told) (shown_now told is);
       names = λ _. added_fits _ _ _ _ _ _ (added g c) _ _ _ _ (block_spells c.args.table.now (t g c).schema c.args.block (c.requires.ready.sound.tables c.args.table.now (t g c) c.index-found.ensures).schema (c.requires.rows (t g c) c.index-found.ensures)) (small g c) (fit g c) (done g c).root;
       sound = sound_added _ _ _ _ _ _ (added g c) (block_may c.args.table.now (t g c).schema c.args.block (c.requires.ready.sound.tables c.args.table.now (t g c) c.index-found.ensures).schema (c.requires.rows (t g c) c.index-found.ensures)) c.requires.ready.sound;
       opened = omega (arith, low, later, same);
@@ -404,8 +451,8 @@ returns-clause-images g c = λ h u at is stands one.
     let here = sealed_for t u c.args.block c.args.part.sealed.files c.args.part.loaded (same g c u at) is in
     let grows = grows_by_part files store h c.args.session stands here.files (c.in-Ok-turn.ensures.sealed here.files here.sealed_are) table t c.args.block c.index-found.ensures
     (small g c) (c.requires.rows t c.index-found.ensures) here.holds in
-    leaves_for c.args.session table t u c.args.block c.args.part.sealed now _ h _ (same g c u at)
-    (leaves_done was now h one (turn_of_part c.args.session c.args.table.now c.index-found.result.now c.args.block c.args.part.sealed) here.files here.sealed_are grows _ (done g c))
+    leaves_for c.args.session table t u c.args.block c.args.part.sealed _ _ h _ (same g c u at)
+    (leaves_done (turn_of_part c.args.session c.args.table.now c.index-found.result.now c.args.block c.args.part.sealed) store c.enter_part.new.store was now h one here.files here.sealed_are grows _ (shows g c h stands here.files) (done g c))
 
 pub returns-clause-through_crashes : goal.returns-clause-through_crashes
 returns-clause-through_crashes g c = λ u first start at is keeps.
@@ -420,7 +467,11 @@ returns-clause-through_crashes g c = λ u first start at is keeps.
     (λ h stands. grows_by_part files store h c.args.session stands here.files (c.in-Ok-turn.ensures.sealed here.files here.sealed_are) table t c.args.block c.index-found.ensures
     (small g c) (c.requires.rows t c.index-found.ensures) here.holds)
     (λ h stands. stands_inserted files h store c.enter_part.new.store c.args.session table t c.args.block c.args.part.sealed.files c.args.part.loaded stands (c.requires.rows t c.index-found.ensures) here (sealed g c))
+    (λ h stands. shows g c h stands here.files)
     (done g c)
+
+pub returns-clause-idle : goal.returns-clause-idle
+returns-clause-idle g c = λ idle. idle_added c.args.store.now c.enter_part.new.store _ _ _ _ (added g c) idle
 
 -- which event of the core it was
 pub returns-in-Some-clause-event : goal.returns-in-Some-clause-event

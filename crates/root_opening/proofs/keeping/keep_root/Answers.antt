@@ -10,6 +10,9 @@ returns-clause-store g c = λ told is.
 pub returns-clause-sound : goal.returns-clause-sound
 returns-clause-sound g c = sound_store c.args.root.now c.requires.named c.in_ok-store.store c.in_ok-store-2.field-0 c.in_ok-store.ensures.keeps
 
+pub returns-clause-idle : goal.returns-clause-idle
+returns-clause-idle g c = c.in_ok-store.ensures.keeps.idle
+
 pub returns-clause-undamaged : goal.returns-clause-undamaged
 returns-clause-undamaged g c = λ told place f is bad.
     let names = c.args.root.now.names.items in

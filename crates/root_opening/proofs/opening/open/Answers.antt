@@ -1,15 +1,17 @@
 use Rattle.std.proofs.Common.{◌≡◌, ◌≢◌, ◌⊎◌, ◌∙◌, ◌+◌, List, ℕ, [], ap, le_refl, le_trans, refl, sym, subst, inl, rules}
 use Rattle.std.proofs.lemmas.Option.{MatchOption-at_some}
-use Rattle.mt_outside.specs.Disk.{names_of}
+use Rattle.mt_outside.specs.Disk.{Image, Names, Told, names_of}
 use Rattle.part_set.specs.Visible.{HasNoOrphan}
 use Rattle.part_set.specs.declared.root_name.RootName.{RootName}
 use Rattle.root_store.specs.Damage.{DamagedAt}
 use Rattle.root_opening.specs.Names.{IsFirstBadText}
 use Rattle.root_opening.specs.Opening.{IsNotDamaged, TellsDamage}
 use Rattle.root_store.proofs.Cores.{shows_core}
-use Rattle.root_store.proofs.CrashMarks.{safe_opened}
+use Rattle.root_store.specs.Shown.{AreShown}
+use Rattle.root_store.proofs.CrashMarks.{safe_opened, some_one}
 use Rattle.root_store.proofs.Fitting.{fits_store}
 use Rattle.root_opening.proofs.Held.{held_opened}
+use Rattle.root_opening.proofs.ImagesShown.{images_opened, shown_opened}
 use Rattle.root_opening.proofs.NamesTold.{told_first}
 use Rattle.root_opening.proofs.NextNames.{are_read}
 use Rattle.root_opening.proofs.Opened.{no_names, nothing_told, stands_undamaged}
@@ -83,6 +85,10 @@ pub returns-clause-crashes : goal.returns-clause-crashes
 returns-clause-crashes g c = λ told list known all.
     let now = g.D.Disk.clock c.settle.new.disk in
     safe_opened told _ now list all (subst (λ (mark : ℕ). (now ≡ mark) ⊎ (now ≡ mark + 1)) (c.in_ok-store.ensures.clock ∙ c.in_ok-list.ensures.clock) c.in_ok-settle.ensures.mark)
+
+-- which parts are visible
+pub returns-clause-shown : goal.returns-clause-shown
+returns-clause-shown g c = λ told known. shown_opened g.D.Arm.Dir.Dir.files (names_of told) c.in_ok-store.store (c.in_ok-store.ensures.store told (c.in_ok-list.ensures.told ∙ known))
 
 -- no part is damaged
 pub returns-clause-held : goal.returns-clause-held
@@ -213,5 +219,16 @@ returns-clause-damaged g c = λ told known. tt
 pub returns-clause-sound : goal.returns-clause-sound
 returns-clause-sound g c = c.in_ok-store.ensures.sound
 
+pub returns-clause-idle : goal.returns-clause-idle
+returns-clause-idle g c = c.in_ok-store.ensures.idle
+
 pub returns-clause-fault : goal.returns-clause-fault
 returns-clause-fault g c = tt
+
+-- what a crash leaves of it shows the same parts
+pub returns-clause-images : goal.returns-clause-images
+returns-clause-images g c = λ told h known all root is.
+    let same : told ≡ root = some_one told root (sym known ∙ (sym (c.in_ok-settle.ensures.told ∙ (c.in_ok-store.ensures.told ∙ c.in_ok-list.ensures.told)) ∙ is)) in
+    subst (λ (t : Told). (names : Names) → Image t (g.D.Disk.clock c.settle.new.disk) names → AreShown c.in_ok-store.store names) same
+    (images_opened g.D.Arm.Dir.Dir.files c.in_ok-store.store told (g.D.Disk.clock c.args.disk.now) (g.D.Disk.clock c.settle.new.disk) h all (c.in_ok-store.ensures.store told (c.in_ok-list.ensures.told ∙ known))
+    (returns-clause-mark g c) (returns-clause-settled g c told known))

@@ -2,9 +2,12 @@ use Rattle.std.proofs.Common.{ℕ, ap, subst, sym}
 use Rattle.root_commits.specs.Commits.{IsSealedEntry, StandsWhere}
 use Rattle.root_commits.specs.Images.{LeavesEither, LeavesOne}
 use Rattle.root_commits.specs.Turns.{turn_of_create, with_entry}
+use Rattle.root_store.specs.Shown.{HasNoMark}
 use Rattle.root_store.specs.Soundness.{HasSoundParts, RootStands}
 use Rattle.root_store.specs.Stores.{CoreStands}
-use Rattle.shared_store.specs.Engines.{Opened}
+use Rattle.shared_store.specs.Engines.{Opened, disk_of}
+use Rattle.shared_store.specs.Levels.{LeavesParts}
+use Rattle.shared_store.proofs.Levels.{parts_same, parts_table}
 use Rattle.shared_store.proofs.engine.Engine.create.Goals as goal
 
 -- the parts of the store hold rows
@@ -28,9 +31,27 @@ returns-clause-stands g c = λ h.
 pub returns-in-Err-clause-images : goal.returns-in-Err-clause-images
 returns-in-Err-clause-images g c = λ h entry stands one.
     let at = sym c.self.view_is in
-    let left = c.in-Err.ensures.images h entry (subst (λ (o : Opened _). CoreStands g.F.Dir.files h o.store) at stands) (subst (λ (o : Opened _). LeavesOne o.storage.disk o.storage.clock h) at one) in
+    let left = c.in-Err.ensures.images h entry (subst (λ (o : Opened _). CoreStands g.F.Dir.files h o.store) at stands) (subst (λ (o : Opened _). LeavesOne (disk_of o) h) at one) in
     record {
       during = subst (λ (n : ℕ). LeavesEither (g.D.Disk.told c.commit_create.new.disk) (g.D.Disk.clock c.commit_create.new.disk) n h (with_entry (turn_of_create c.args.session c.args.create c.args.sealed) h))
           (ap (λ (o : Opened _). o.storage.clock) c.self.view_is) left.during;
       after = left.after;
     }
+
+-- the parts of the store
+pub returns-in-Err-clause-parts : goal.returns-in-Err-clause-parts
+returns-in-Err-clause-parts g c =
+    let new = c.commit_create.new.store in
+    subst (λ (o : Opened _). LeavesParts o.store new) c.self.view_is (parts_same _ new c.commit_create.ensures.ready.sound c.in-Err.ensures.enters)
+
+pub returns-clause-parts : goal.returns-clause-parts
+returns-clause-parts g c =
+    let new = c.commit_create.new.store in
+    subst (λ (o : Opened _). LeavesParts o.store new) c.self.view_is (parts_table c.args.create.table _ new c.args.create.schema c.commit_create.ensures.ready.sound c.in-Ok.ensures.enters)
+
+-- the marks of its parts
+pub returns-in-Err-clause-idle : goal.returns-in-Err-clause-idle
+returns-in-Err-clause-idle g c = subst (λ (o : Opened _). HasNoMark o.store → HasNoMark c.commit_create.new.store) c.self.view_is c.commit_create.ensures.idle
+
+pub returns-clause-idle : goal.returns-clause-idle
+returns-clause-idle g c = subst (λ (o : Opened _). HasNoMark o.store → HasNoMark c.commit_create.new.store) c.self.view_is c.commit_create.ensures.idle

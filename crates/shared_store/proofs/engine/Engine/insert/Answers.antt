@@ -1,13 +1,17 @@
-use Rattle.std.proofs.Common.{◌≡◌, Some, ℕ, ap, subst, sym}
+use Rattle.std.proofs.Common.{◌≡◌, Some, IsSome, ℕ, ap, subst, sym}
 use Rattle.root_commits.specs.Commits.{EntersSealed, IsSealedOf, StandsWhere, partition_of_block}
 use Rattle.root_commits.specs.Events.{IsAccepted, accept_of_block}
 use Rattle.root_commits.specs.Images.{LeavesEither, LeavesOne}
 use Rattle.root_commits.specs.Turns.{storage, turn_of_part, with_entry}
 use Rattle.root_store.specs.Cores.{ShowsCore}
 use Rattle.root_store.specs.Crashes.{KeepsThroughCrashes}
+use Rattle.root_store.specs.declared.store.Table.{Table}
+use Rattle.root_store.specs.Shown.{HasNoMark}
 use Rattle.root_store.specs.Soundness.{HasSoundParts, RootStands}
 use Rattle.root_store.specs.Stores.{CoreStands, table_at}
-use Rattle.shared_store.specs.Engines.{Opened}
+use Rattle.shared_store.specs.Engines.{Opened, disk_of}
+use Rattle.shared_store.specs.Levels.{LeavesParts}
+use Rattle.shared_store.proofs.Levels.{parts_entered, parts_refused}
 use Rattle.shared_store.proofs.engine.Engine.insert.Goals as goal
 
 pub commit_part-requires-clause-rows : goal.commit_part-requires-clause-rows
@@ -57,7 +61,7 @@ pub returns-in-Err-clause-images : goal.returns-in-Err-clause-images
 returns-in-Err-clause-images g c = λ h t there sealed stands one.
     let at = sym c.self.view_is in
     let left = c.in-Err.ensures.images h t (subst (λ (o : Opened _). table_at o.store c.args.table.now ≡ Some t) at there) sealed (subst (λ (o : Opened _). CoreStands g.F.Dir.files h o.store) at stands)
-    (subst (λ (o : Opened _). LeavesOne o.storage.disk o.storage.clock h) at one) in
+    (subst (λ (o : Opened _). LeavesOne (disk_of o) h) at one) in
     record {
       during = subst (λ (n : ℕ). LeavesEither (g.D.Disk.told c.commit_part.new.disk) (g.D.Disk.clock c.commit_part.new.disk) n h (with_entry (turn_of_part c.args.session c.args.table.now t c.args.block c.args.part.sealed) h))
           (ap (λ (o : Opened _). o.storage.clock) c.self.view_is) left.during;
@@ -68,7 +72,7 @@ pub returns-clause-images : goal.returns-clause-images
 returns-clause-images g c = λ h t there sealed stands one.
     let at = sym c.self.view_is in
     let left = c.in-Ok.ensures.images h t (subst (λ (o : Opened _). table_at o.store c.args.table.now ≡ Some t) at there) sealed (subst (λ (o : Opened _). CoreStands g.F.Dir.files h o.store) at stands)
-    (subst (λ (o : Opened _). LeavesOne o.storage.disk o.storage.clock h) at one) in
+    (subst (λ (o : Opened _). LeavesOne (disk_of o) h) at one) in
     record {
       during = subst (λ (n : ℕ). LeavesEither (g.D.Disk.told c.commit_part.new.disk) (g.D.Disk.clock c.commit_part.new.disk) n h (with_entry (turn_of_part c.args.session c.args.table.now t c.args.block c.args.part.sealed) h))
           (ap (λ (o : Opened _). o.storage.clock) c.self.view_is) left.during;
@@ -93,3 +97,26 @@ returns-clause-through_crashes g c = λ t there sealed first start.
     let now = storage (g.D.Disk.told new.disk) (g.D.Disk.clock new.disk) (g.D.Disk.failed new.disk) (g.A.Annals.told new.annals) in
     subst (λ (o : Opened _). table_at o.store c.args.table.now ≡ Some t → KeepsThroughCrashes files o.store o.storage first start → KeepsThroughCrashes files new.store now first start)
     c.self.view_is (λ there keeps. c.commit_part.ensures.through_crashes t first start there sealed keeps) there
+
+-- the parts of the store
+pub returns-in-Err-clause-parts : goal.returns-in-Err-clause-parts
+returns-in-Err-clause-parts g c =
+    let new = c.commit_part.new.store in
+    let table = c.args.table.now in
+    subst (λ (o : Opened _). IsSome (table_at o.store table) → LeavesParts o.store new) c.self.view_is
+    (λ there. parts_refused table _ new c.commit_part.ensures.ready.sound there c.in-Err.ensures.enters) c.requires.there
+
+pub returns-clause-parts : goal.returns-clause-parts
+returns-clause-parts g c =
+    let new = c.commit_part.new.store in
+    let part = c.args.part in
+    let table = c.args.table.now in
+    subst (λ (o : Opened _). IsSome (table_at o.store table) → LeavesParts o.store new) c.self.view_is
+    (λ there. parts_entered g.F.Dir.files part.sealed.files part.loaded table (λ (t : Table). partition_of_block t.schema c.args.block) _ new c.commit_part.ensures.ready.sound there c.in-Ok.ensures.enters) c.requires.there
+
+-- the marks of its parts
+pub returns-in-Err-clause-idle : goal.returns-in-Err-clause-idle
+returns-in-Err-clause-idle g c = subst (λ (o : Opened _). HasNoMark o.store → HasNoMark c.commit_part.new.store) c.self.view_is c.commit_part.ensures.idle
+
+pub returns-clause-idle : goal.returns-clause-idle
+returns-clause-idle g c = subst (λ (o : Opened _). HasNoMark o.store → HasNoMark c.commit_part.new.store) c.self.view_is c.commit_part.ensures.idle

@@ -5,9 +5,9 @@ use Rattle.shared_store.proofs.engine.Engine.snapshot.Goals as goal
 pub invariant_of-self : goal.invariant_of-self
 invariant_of-self g c =
     let was = c.self.inside in
-    subst (λ set. IsReady (g.D.Disk.failed was.disk) (g.D.Disk.told was.disk) (record { tables = was.store.tables; set = set; length = was.store.length; opened = was.store.opened })) (sym c.pin.ensures.stays) c.self.invariant
+    subst (λ set. IsReady (g.D.Disk.failed was.disk) (g.D.Disk.told was.disk) (record { tables = was.store.tables; set = set; mutations = was.store.mutations; length = was.store.length; opened = was.store.opened })) (sym c.pin.ensures.stays) c.self.invariant
 
 pub invariant_of-self-2 : goal.invariant_of-self-2
 invariant_of-self-2 g c =
     let was = c.self.inside in
-    subst (λ set. IsReady (g.D.Disk.failed was.disk) (g.D.Disk.told was.disk) (record { tables = was.store.tables; set = set; length = was.store.length; opened = was.store.opened })) (sym c.pin.ensures.stays) c.self.invariant
+    subst (λ set. IsReady (g.D.Disk.failed was.disk) (g.D.Disk.told was.disk) (record { tables = was.store.tables; set = set; mutations = was.store.mutations; length = was.store.length; opened = was.store.opened })) (sym c.pin.ensures.stays) c.self.invariant

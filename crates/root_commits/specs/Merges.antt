@@ -1,0 +1,104 @@
+-- What refuses a merge, what is sealed for one, and what it leaves (docs/architecture.md, "Commits").
+use Rattle.std.specs.Prelude.{◌≡◌, ◌≢◌, ℕ, false, List, Option, None, Some, if◌then◌else◌, is_some, map, nat_lt}
+use Rattle.std.specs.List.{AllZip, flat_map}
+use Rattle.std.specs.List.Sorted.{IsSorted}
+use Rattle.mt_base.specs.declared.partition.Partition.{Partition}
+use Rattle.mt_base.specs.Limits.{level_limit}
+use Rattle.mt_values.specs.declared.schema.Schema.{Schema}
+use Rattle.mt_values.specs.Tables.{sorting_cmp}
+use Rattle.mt_values.specs.Values.{Row}
+use Rattle.mt_outside.specs.Files.{Files}
+use Rattle.mt_model.specs.Partial.{MergesAll}
+use Rattle.part_name.specs.declared.part.PartName.{PartName}
+use Rattle.part_name.specs.Merged.{merged_of}
+use Rattle.part_reader.specs.declared.reading.Part.{Part}
+use Rattle.part_reader.specs.Parts.{PartHolds}
+use Rattle.part_writer.specs.declared.loaded.Loaded.{Loaded}
+use Rattle.part_writer.specs.PartFiles.{loaded_of}
+use Rattle.part_set.specs.declared.kept.Kept.{Kept}
+use Rattle.part_set.specs.declared.run.Run.{Run}
+use Rattle.part_set.specs.Parts.{IsInBlockOrder, kept_in}
+use Rattle.part_set.specs.Runs.{IsSwapped, parts_of_run}
+use Rattle.part_set.specs.Sets.{parts_of}
+use Rattle.stage_dir.specs.Stages.{Filled}
+use Rattle.durable_commit.specs.declared.causes.Limit.TheVariants as limit
+use Rattle.durable_commit.specs.declared.causes.Refused.{Refused}
+use Rattle.durable_commit.specs.declared.causes.Refused.TheVariants as refused
+use Rattle.durable_commit.specs.Commits.{stopped_by}
+use Rattle.root_store.specs.declared.store.CoreStore.{CoreStore}
+use Rattle.root_store.specs.Roots.{FolderHolds}
+
+-- a merge: a run of the parts of a table's partition, and what was sealed for them: its files, how many calls of its stage had failed, and
+-- what is kept of it
+pub record Merging : Type 0 where
+  pub table : List ℕ
+  pub partition : Partition
+  pub run : Run
+  pub files : Option Files
+  pub failed : ℕ
+  pub loaded : Loaded
+
+abbrev pub merging : List ℕ → Partition → Run → Filled → Loaded → Merging
+merging table partition run sealed loaded = record {
+  table = table;
+  partition = partition;
+  run = run;
+  files = sealed.files;
+  failed = sealed.failed;
+  loaded = loaded;
+}
+
+-- the parts that are merged
+abbrev pub sources_of : {F : Type 0} → CoreStore F → Merging → List (Kept (Part F))
+sources_of store m = parts_of_run m.run (kept_in m.partition (parts_of store.set m.table))
+
+-- the name of the part that comes of parts; of none no name
+abbrev pub name_of_merge : {P : Type 0} → List (Kept P) → Option PartName
+name_of_merge {P} parts = merged_of (map (λ (k : Kept P). k.name) parts)
+
+-- the name, where its level is none that is greater than may be
+abbrev pub within_levels : Option PartName → Option PartName
+within_levels None = None
+within_levels (Some name) = if nat_lt level_limit name.level then None else Some name
+
+-- what the store and the disk's count show against a merge: its part would have a greater level than may be, or the store was stopped
+abbrev pub refuses_merge : {F : Type 0} → CoreStore F → Merging → ℕ → Option Refused
+refuses_merge store m now =
+    if is_some (within_levels (name_of_merge (sources_of store m))) then stopped_by store.opened now else Some (refused.Limit limit.Levels)
+
+-- what was sealed holds, in the table's order, what one merge may leave of these rows
+pub record HoldsMerge (schema : Schema) (inputs : List (List Row)) (m : Merging) : Type 0 where
+  pub files : Files
+  pub sealed_are : m.files ≡ Some files
+  pub rows : List Row
+  pub rising : IsSorted (sorting_cmp schema) rows
+  pub merges : MergesAll schema (flat_map (λ (input : List Row). input) inputs) rows
+  pub holds : FolderHolds schema rows files
+  pub loaded_is : m.loaded ≡ loaded_of schema rows
+
+-- what was sealed holds rows
+pub record SealsRows (schema : Schema) (m : Merging) : Type 0 where
+  pub files : Files
+  pub sealed_are : m.files ≡ Some files
+  pub rows : List Row
+  pub holds : FolderHolds schema rows files
+  pub loaded_is : m.loaded ≡ loaded_of schema rows
+
+-- whatever rows the parts hold that are merged, what was sealed holds a merge of these
+abbrev pub IsSealedMerge : {F : Type 0} → (F → Option Files) → Schema → CoreStore F → Merging → Type 0
+IsSealedMerge {F} files_of schema store m =
+    (inputs : List (List Row)) → AllZip (λ (k : Kept (Part F)) (rows : List Row). PartHolds files_of schema k.part rows) (sources_of store m) inputs → HoldsMerge schema inputs m
+
+-- one part stands in place of those that were merged, with their name and what was sealed; nothing else changes
+pub record EntersMerge {F : Type 0} (files_of : F → Option Files) (m : Merging) (old new : CoreStore F) : Type 0 where
+  pub name : PartName
+  pub name_is : name_of_merge (sources_of old m) ≡ Some name
+  pub part : Part F
+  pub files_are : files_of part.dir ≡ m.files
+  pub loaded_is : part.loaded ≡ m.loaded
+  pub swapped : IsSwapped m.partition m.run (record { name = name; part = part; busy = false }) (parts_of old.set m.table) (parts_of new.set m.table)
+  pub ordered : IsInBlockOrder (parts_of new.set m.table)
+  pub others : (u : List ℕ) → u ≢ m.table → parts_of new.set u ≡ parts_of old.set u
+  pub tables_are : new.tables ≡ old.tables
+  pub length_is : new.length ≡ old.length
+  pub opened_is : new.opened ≡ old.opened

@@ -1,0 +1,44 @@
+-- Which parts of a store are visible among the names of its root (docs/architecture.md, "The store").
+use Rattle.std.specs.Prelude.{◌≡◌, ◌≤◌, ◌↔◌, ℕ, List, All, Option, false}
+use Rattle.std.specs.Option.{ForSome}
+use Rattle.mt_base.specs.Limits.{level_limit}
+use Rattle.mt_outside.specs.Disk.{Image, Names, Told}
+use Rattle.part_name.specs.declared.part.PartName.{PartName}
+use Rattle.part_reader.specs.declared.reading.Part.{Part}
+use Rattle.part_set.specs.declared.kept.Kept.{Kept}
+use Rattle.part_set.specs.declared.root_name.RootName.{RootName}
+use Rattle.part_set.specs.declared.root_name.TablePart.{TablePart}
+use Rattle.part_set.specs.Parts.{HasName}
+use Rattle.part_set.specs.Sets.{parts_of}
+use Rattle.part_set.specs.Visible.{IsVisible}
+use Rattle.root_store.specs.declared.store.CoreStore.{CoreStore}
+use Rattle.root_store.specs.Roots.{AreNamesRead}
+
+-- a part of this name of a table
+abbrev pub part_called : List ℕ → PartName → TablePart
+part_called table name = record { table = table; name = name }
+
+-- a part is visible among the names of a root
+pub record IsShown (names : Names) (part : TablePart) : Type 0 where
+  pub read : List RootName
+  pub are : AreNamesRead names read
+  pub visible : IsVisible read part
+
+-- the visible parts among the names are exactly the store's
+pub record AreShown {F : Type 0} (store : CoreStore F) (names : Names) : Type 0 where
+  pub read : List RootName
+  pub are : AreNamesRead names read
+  pub parts : (table : List ℕ) (name : PartName) → IsVisible read (part_called table name) ↔ HasName (parts_of store.set table) name
+
+-- each part of the greatest level that the store has is visible among the names
+abbrev pub GreatestAreShown : {F : Type 0} → CoreStore F → Names → Type 0
+GreatestAreShown store names =
+    (table : List ℕ) (name : PartName) → HasName (parts_of store.set table) name → level_limit ≤ name.level → IsShown names (part_called table name)
+
+-- whatever a crash now leaves of the disk, the visible parts among its names are exactly the store's
+abbrev pub ImagesShow : {F : Type 0} → Option Told → ℕ → CoreStore F → Type 0
+ImagesShow disk clock store = ForSome disk (λ (told : Told). (names : Names) → Image told clock names → AreShown store names)
+
+-- no part of the store bears a mark
+abbrev pub HasNoMark : {F : Type 0} → CoreStore F → Type 0
+HasNoMark {F} store = (table : List ℕ) → All (λ (k : Kept (Part F)). k.busy ≡ false) (parts_of store.set table)

@@ -1,0 +1,243 @@
+-- A store whose parts bear other marks.
+use Rattle.std.proofs.Common.{◌≡◌, ◌≢◌, ℕ, ◌+◌, ◌≤◌, Bool, true, false, List, [], ◌∷◌, ◌++◌, Option, length, map, refl, sym, ap, ap₂, ◌∙◌, subst, arith, inl, inr}
+use Rattle.std.proofs.lemmas.Bool.{false≢true}
+use Rattle.std.proofs.lemmas.List.Elements.{All-from_recursion, recursion_from_All}
+use Rattle.std.specs.BTreeMap.{is_at}
+use Rattle.std.specs.Cmp.Lexicographic.{slice_cmp}
+use Rattle.std.specs.List.{All, AllByRecursion, AllZip, Contains as HasItem}
+use Rattle.std.specs.Map.{lookup}
+use Rattle.std.specs.Option.{option_map}
+use Rattle.std.specs.Ordering.{nat_cmp}
+use Rattle.mt_values.specs.Annals as keeper
+use Rattle.mt_values.specs.Grammar.{same_bytes}
+use Rattle.mt_values.specs.Tables.{MayHavePartition}
+use Rattle.mt_values.specs.Values.{Row}
+use Rattle.mt_outside.specs.Disk.{Names, Told, names_of}
+use Rattle.mt_outside.specs.Files.{Files}
+use Rattle.mt_model.specs.History.{History}
+use Rattle.mt_model.proofs.Tables.{itself_same, same_is}
+use Rattle.part_name.specs.declared.part.PartName.{PartName}
+use Rattle.part_reader.specs.declared.reading.Part.{Part}
+use Rattle.part_reader.specs.Parts.{PartHolds}
+use Rattle.part_set.specs.declared.kept.Kept.{Kept}
+use Rattle.part_set.specs.Parts.{HasName}
+use Rattle.part_set.specs.Runs.{with_mark}
+use Rattle.part_set.specs.Sets.{parts_of}
+use Rattle.part_set.proofs.Maps.{true_or_false}
+use Rattle.part_history.specs.declared.part.CorePart.{CorePart}
+use Rattle.part_history.specs.Parts.{AreInBlockOrder, TableStands}
+use Rattle.table_core.specs.Core.{Core}
+use Rattle.root_store.specs.declared.store.CoreStore.{CoreStore}
+use Rattle.root_store.specs.declared.store.Table.{Table}
+use Rattle.root_store.specs.Cores.{ShowsCore}
+use Rattle.root_store.specs.Crashes.{KeepsThroughCrashes, Storage, entries_of}
+use Rattle.root_store.specs.Shown.{AreShown, GreatestAreShown, ImagesShow}
+use Rattle.root_store.specs.Soundness.{HasSoundParts, IsReady, IsSoundStore, NamesFit}
+use Rattle.root_store.specs.Stores.{CoreStands, core_parts, table_at}
+use Rattle.root_commits.specs.Images.{LeavesOne, on_disk}
+use Rattle.shared_store.specs.declared.work.Work.{Work}
+use Rattle.shared_store.specs.Works.{Marks}
+
+-- ---- parts that differ in their marks alone
+
+module _ {F : Type 0} where
+  abbrev pub AreAlike : List (Kept (Part F)) → List (Kept (Part F)) → Type 0
+  AreAlike [] [] = Unit {0}
+  AreAlike [] (l ∷ ls) = ⊥
+  AreAlike (k ∷ ks) [] = ⊥
+  AreAlike (k ∷ ks) (l ∷ ls) = (l.name ≡ k.name) × (l.part ≡ k.part) × AreAlike ks ls
+
+  pub alike_itself : (ks : List (Kept (Part F))) → AreAlike ks ks
+  alike_itself [] = tt
+  alike_itself (k ∷ ks) = (refl, refl, alike_itself ks)
+
+  alike_marked : (busy : Bool) (ks back : List (Kept (Part F))) → AreAlike (ks ++ back) (map (with_mark busy) ks ++ back)
+  alike_marked busy [] back = alike_itself back
+  alike_marked busy (k ∷ ks) back = (refl, refl, alike_marked busy ks back)
+
+  alike_run : (busy : Bool) (front ks back : List (Kept (Part F))) → AreAlike (front ++ (ks ++ back)) (front ++ (map (with_mark busy) ks ++ back))
+  alike_run busy [] ks back = alike_marked busy ks back
+  alike_run busy (k ∷ front) ks back = (refl, refl, alike_run busy front ks back)
+
+  pub alike_names : (ks ls : List (Kept (Part F))) → AreAlike ks ls → map (λ (k : Kept (Part F)). k.name) ls ≡ map (λ (k : Kept (Part F)). k.name) ks
+  alike_names [] [] same = refl
+  alike_names [] (l ∷ ls) same = absurd same
+  alike_names (k ∷ ks) [] same = absurd same
+  alike_names (k ∷ ks) (l ∷ ls) same = ap₂ (λ (n : PartName) (ns : List PartName). n ∷ ns) same.0 (alike_names ks ls same.2)
+
+  alike_hold : (R : Part F → List Row → Type 0) (ks ls : List (Kept (Part F))) (rows : List (List Row)) → AreAlike ks ls → AllZip (λ (k : Kept (Part F)) (r : List Row). R k.part r) ks rows → AllZip (λ (k : Kept (Part F)) (r : List Row). R k.part r) ls rows
+  alike_hold R [] [] rows same hold = hold
+  alike_hold R [] (l ∷ ls) rows same hold = absurd same
+  alike_hold R (k ∷ ks) [] rows same hold = absurd same
+  alike_hold R (k ∷ ks) (l ∷ ls) [] same hold = absurd hold
+  alike_hold R (k ∷ ks) (l ∷ ls) (r ∷ rows) same hold = (subst (λ (p : Part F). R p r) (sym same.1) hold.0, alike_hold R ks ls rows same.2 hold.1)
+
+  alike_core : (table : List ℕ) (ks ls : List (Kept (Part F))) (rows : List (List Row)) → AreAlike ks ls → core_parts table ls rows ≡ core_parts table ks rows
+  alike_core table [] [] rows same = refl
+  alike_core table [] (l ∷ ls) rows same = absurd same
+  alike_core table (k ∷ ks) [] rows same = absurd same
+  alike_core table (k ∷ ks) (l ∷ ls) [] same = refl
+  alike_core table (k ∷ ks) (l ∷ ls) (r ∷ rows) same =
+      ap₂ (λ (n : PartName) (ps : List CorePart). record { table = table; name = n; rows = r } ∷ ps) same.0 (alike_core table ks ls rows same.2)
+
+  alike_by : (P : PartName → Type 0) (ks ls : List (Kept (Part F))) → AreAlike ks ls → AllByRecursion (λ (k : Kept (Part F)). P k.name) ks → AllByRecursion (λ (k : Kept (Part F)). P k.name) ls
+  alike_by P [] [] same all = tt
+  alike_by P [] (l ∷ ls) same all = absurd same
+  alike_by P (k ∷ ks) [] same all = absurd same
+  alike_by P (k ∷ ks) (l ∷ ls) same all = (subst P (sym same.0) all.0, alike_by P ks ls same.2 all.1)
+
+  -- what holds of each name still does
+  alike_all : (P : PartName → Type 0) (ks ls : List (Kept (Part F))) → AreAlike ks ls → All (λ (k : Kept (Part F)). P k.name) ks → All (λ (k : Kept (Part F)). P k.name) ls
+  alike_all P ks ls same all = All-from_recursion (λ (k : Kept (Part F)). P k.name) ls (alike_by P ks ls same (recursion_from_All (λ (k : Kept (Part F)). P k.name) ks all))
+
+  alike_part_by : (P : Part F → Type 0) (ks ls : List (Kept (Part F))) → AreAlike ks ls → AllByRecursion (λ (k : Kept (Part F)). P k.part) ks → AllByRecursion (λ (k : Kept (Part F)). P k.part) ls
+  alike_part_by P [] [] same all = tt
+  alike_part_by P [] (l ∷ ls) same all = absurd same
+  alike_part_by P (k ∷ ks) [] same all = absurd same
+  alike_part_by P (k ∷ ks) (l ∷ ls) same all = (subst P (sym same.1) all.0, alike_part_by P ks ls same.2 all.1)
+
+  -- and of each part
+  alike_parts : (P : Part F → Type 0) (ks ls : List (Kept (Part F))) → AreAlike ks ls → All (λ (k : Kept (Part F)). P k.part) ks → All (λ (k : Kept (Part F)). P k.part) ls
+  alike_parts P ks ls same all = All-from_recursion (λ (k : Kept (Part F)). P k.part) ls (alike_part_by P ks ls same (recursion_from_All (λ (k : Kept (Part F)). P k.part) ks all))
+
+  -- ---- stores that differ so
+
+  pub record StoresAlike (old new : CoreStore F) : Type 0 where
+    pub parts : (u : List ℕ) → AreAlike (parts_of old.set u) (parts_of new.set u)
+    pub tables : new.tables.entries ≡ old.tables.entries
+    pub length_is : new.length ≡ old.length
+    pub opened_is : new.opened ≡ old.opened
+
+  pub marked_alike : (work : Work F) (busy : Bool) (old new : CoreStore F) → Marks work busy old new → StoresAlike old new
+  marked_alike work busy old new m = record {
+    parts = λ u. elim (true_or_false (same_bytes work.table u)) [
+      | inl same ↦ subst (λ (v : List ℕ). AreAlike (parts_of old.set v) (parts_of new.set v)) (same_is work.table u same) here
+      | inr differ ↦ subst (AreAlike (parts_of old.set u)) (sym (m.others u (other u differ))) (alike_itself (parts_of old.set u))
+    ];
+    tables = m.tables;
+    length_is = m.length_is;
+    opened_is = m.opened_is;
+  }
+    where
+      other : (u : List ℕ) → same_bytes work.table u ≡ false → u ≢ work.table
+      other u differ same = let yes : same_bytes work.table u ≡ true = ap (same_bytes work.table) same ∙ itself_same work.table in false≢true (sym differ ∙ yes)
+
+      here : AreAlike (parts_of old.set work.table) (parts_of new.set work.table)
+      here =
+          let x = m.marked in
+          let run = alike_run busy x.front _ x.back in
+          subst (λ (ks : List (Kept (Part F))). AreAlike ks (parts_of new.set work.table)) (sym x.before_is) (subst (AreAlike _) (sym x.after_is) run)
+
+  module _ (old new : CoreStore F) (s : StoresAlike old new) where
+    here : (u : List ℕ) → table_at new u ≡ table_at old u
+    here u = ap (λ (es : List (List ℕ × Table)). lookup (is_at (slice_cmp nat_cmp u)) es) s.tables
+
+    named : (u : List ℕ) (n : PartName) → HasName (parts_of new.set u) n → HasName (parts_of old.set u) n
+    named u n has = subst (λ (ns : List PartName). HasItem ns n) (alike_names (parts_of old.set u) (parts_of new.set u) (s.parts u)) has
+
+    named_back : (u : List ℕ) (n : PartName) → HasName (parts_of old.set u) n → HasName (parts_of new.set u) n
+    named_back u n has = subst (λ (ns : List PartName). HasItem ns n) (sym (alike_names (parts_of old.set u) (parts_of new.set u) (s.parts u))) has
+
+    none_more : (u : List ℕ) → parts_of old.set u ≡ [] → parts_of new.set u ≡ []
+    none_more u none = by (parts_of new.set u) (subst (λ (ks : List (Kept (Part F))). AreAlike ks (parts_of new.set u)) none (s.parts u))
+      where
+        by : (ls : List (Kept (Part F))) → AreAlike [] ls → ls ≡ []
+        by [] same = refl
+        by (l ∷ ls) same = absurd same
+
+    -- the visible parts
+    pub shown_alike : (names : Names) → AreShown old names → AreShown new names
+    shown_alike names x = record { read = x.read; are = x.are; parts = λ u n. ((λ visible. named_back u n ((x.parts u n).0 visible)), (λ has. (x.parts u n).1 (named u n has))) }
+
+    pub greatest_alike : (names : Names) → GreatestAreShown old names → GreatestAreShown new names
+    greatest_alike names x = λ u n has greatest. x u n (named u n has) greatest
+
+    pub images_alike : (disk : Option Told) (clock : ℕ) → ImagesShow disk clock old → ImagesShow disk clock new
+    images_alike disk clock x = λ told is names image. shown_alike names (x told is names image)
+
+    -- what the store stands for
+    module _ (files_of : F → Option Files) where
+      pub stands_alike : (h : History) → CoreStands files_of h old → CoreStands files_of h new
+      stands_alike h x = record {
+        legal = x.legal;
+        length_is = s.length_is ∙ x.length_is;
+        tables = λ u. ap (option_map (λ (t : Table). t.schema)) (here u) ∙ x.tables u;
+        count = ap length s.tables ∙ x.count;
+        drawn = λ u t at. x.drawn u t (sym (here u) ∙ at);
+        parts = λ u t at.
+            let p = x.parts u t (sym (here u) ∙ at) in
+            let core = sym (alike_core u (parts_of old.set u) (parts_of new.set u) p.rows (s.parts u)) in
+            record {
+              rows = p.rows;
+              hold = alike_hold (PartHolds files_of t.schema) (parts_of old.set u) (parts_of new.set u) p.rows (s.parts u) p.hold;
+              stand = subst (λ (ps : List CorePart). TableStands u ps h) core p.stand;
+              order = subst AreInBlockOrder core p.order;
+            };
+        no_other = λ u none. none_more u (x.no_other u (sym (here u) ∙ none));
+      }
+
+      pub held_alike : HasSoundParts files_of old → HasSoundParts files_of new
+      held_alike held = λ u t at.
+          alike_parts (λ (p : Part F). (rows : List Row) × PartHolds files_of t.schema p rows) (parts_of old.set u) (parts_of new.set u) (s.parts u) (held u t (sym (here u) ∙ at))
+
+      pub shows_alike : (core : Core) → ShowsCore files_of old core → ShowsCore files_of new core
+      shows_alike core x = record {
+        stands = stands_alike core.history x.stands;
+        parts = λ u t at.
+            let p = x.parts u t (sym (here u) ∙ at) in
+            record {
+              rows = p.rows;
+              hold = alike_hold (PartHolds files_of t.schema) (parts_of old.set u) (parts_of new.set u) p.rows (s.parts u) p.hold;
+              same = p.same ∙ sym (alike_core u (parts_of old.set u) (parts_of new.set u) p.rows (s.parts u));
+            };
+        no_other = λ u none. x.no_other u (sym (here u) ∙ none);
+      }
+
+      pub keeps_alike : (now : Storage) (first : keeper.Told) (start : ℕ) → KeepsThroughCrashes files_of old now first start → KeepsThroughCrashes files_of new now first start
+      keeps_alike now first start x = record {
+        safe = x.safe;
+        calm = λ is.
+            let before = x.calm (is ∙ s.opened_is) in (
+              before.0,
+              (λ kept there. stands_alike (entries_of kept.list) (before.1 kept there)),
+              images_alike now.disk now.clock before.2,
+            );
+      }
+
+    -- what a crash leaves of the disk
+    pub leaves_alike : (disk : Option Told) (clock : ℕ) (h : History) → LeavesOne (on_disk old disk clock) h → LeavesOne (on_disk new disk clock) h
+    leaves_alike disk clock h x = record { told = x.told; disk_is = x.disk_is; all = x.all; shown = λ names image. shown_alike names (x.shown names image) }
+
+    -- whether turns may follow
+    sound_alike : IsSoundStore old → IsSoundStore new
+    sound_alike x = record {
+      tables = λ u t at.
+          let p = x.tables u t (sym (here u) ∙ at) in
+          let ks = parts_of old.set u in
+          let ls = parts_of new.set u in
+          record {
+            named = p.named;
+            schema = p.schema;
+            ends = alike_all (λ (n : PartName). n.max_block ≤ t.drawn) ks ls (s.parts u) p.ends;
+            may = alike_all (λ (n : PartName). MayHavePartition t.schema n.partition) ks ls (s.parts u) p.may;
+            order = alike_all (λ (n : PartName). n.min_block ≤ n.max_block) ks ls (s.parts u) p.order;
+          };
+      no_other = λ u none. none_more u (x.no_other u (sym (here u) ∙ none));
+    }
+
+    fits_alike : (told : Told) → NamesFit old told → NamesFit new told
+    fits_alike told fit = λ k d inside. let one = fit k d inside in record { table = one.table; kept = one.kept; there = here one.table ∙ one.there; is = one.is }
+
+    pub ready_alike : (failed : ℕ) (told : Option Told) → IsReady failed told old → IsReady failed told new
+    ready_alike failed told x =
+        let opened = s.opened_is in
+        let low = x.opened in
+        let below = x.below in
+        record {
+          names = λ is t there. fits_alike t (x.names (is ∙ s.opened_is) t there);
+          shown = λ is t there. shown_alike (names_of t) (x.shown (is ∙ s.opened_is) t there);
+          greatest = λ t there. greatest_alike (names_of t) (x.greatest t there);
+          sound = sound_alike x.sound;
+          opened = omega (arith, opened, low);
+          below = omega (arith, opened, below);
+        }
