@@ -1,6 +1,5 @@
 -- A run after a run, and after a crash.
 use Rattle.std.proofs.Common.{◌≡◌, ℕ, List, [], ◌∷◌, None, Some, false, length, map, refl, sym, ap, ◌∙◌, subst}
-use Rattle.std.specs.List.{list_any}
 use Rattle.std.proofs.lemmas.List.Elements.{All-nil}
 use Rattle.mt_values.specs.declared.annals.Noted.{Noted}
 use Rattle.mt_values.specs.declared.command.Entry.{Entry}
@@ -16,10 +15,10 @@ use Rattle.root_store.specs.Crashes.{AllStand, IsFirstOf, IsMarkAfter, Storage, 
 use Rattle.root_store.specs.Roots.{PartIsThere, Stands}
 use Rattle.root_store.proofs.CrashMarks.{safe_stands}
 use Rattle.root_commits.proofs.StartedAgain.{started_again as one_again}
-use Rattle.replies.specs.Foreseen.{history, is_unsettled}
+use Rattle.replies.specs.Foreseen.{history}
 use Rattle.mt_program.specs.declared.status.Status.{Status}
 use Rattle.mt_program.specs.Crashes.{LeavesForCrashes}
-use Rattle.mt_program.specs.Courses.{Item}
+use Rattle.mt_program.specs.Courses.{Item, any_unsettles}
 use Rattle.mt_program.specs.Headline.{Headline}
 use Rattle.mt_program.specs.Worlds.{BeginsAfter, Starts, World}
 
@@ -56,8 +55,8 @@ begins_empty w script disk annals source sink = record { told = []; disk_is = di
 
 -- ---- after a run
 
--- no reply said that a commit failed
-pub starts_next : (ended : Status) (before after w : World) (kept : Told) (script written more said : List ℕ) (left : Headline ended before after kept script written) → list_any is_unsettled left.course.replies ≡ false → BeginsAfter after w more said
+-- no reply said that the commit of a command failed
+pub starts_next : (ended : Status) (before after w : World) (kept : Told) (script written more said : List ℕ) (left : Headline ended before after kept script written) → any_unsettles left.course.ran left.course.replies ≡ false → BeginsAfter after w more said
     → Starts w left.now more said
 starts_next ended before after w kept script written more said left calm begins =
     let root = left.settled calm in
@@ -74,6 +73,13 @@ stands_calm statements opened now first start left told kept still disk annals =
     let kept_is : calm.kept ≡ kept = cc in
     let stands : AllStand calm.told now.clock (entries_of calm.kept.list) = safe_stands calm.told now.clock calm.kept.list first.list start calm.settled in
     subst (λ (t : root.Told). AllStand t now.clock (history kept)) told_is (subst (λ (k : Told). AllStand calm.told now.clock (history k)) kept_is stands)
+
+-- the changes of the disk stand in the order of their marks
+pub stamped_still : (statements : List Item) (opened : ℕ) (now : Storage) (first : Told) (start : ℕ) (left : LeavesForCrashes statements opened now first start) (told : root.Told) → now.disk ≡ Some told → root.IsStamped now.clock told
+stamped_still statements opened now first start left told disk =
+    let one : Some left.safe.told ≡ Some told = sym left.safe.disk_is ∙ disk in
+    let told_is : left.safe.told ≡ told = cc in
+    subst (root.IsStamped now.clock) told_is left.safe.safe.stamped
 
 -- ---- after a crash
 

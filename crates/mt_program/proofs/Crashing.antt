@@ -6,6 +6,7 @@ use Rattle.mt_outside.specs.Disk as root
 use Rattle.mt_outside.specs.Files.{Files}
 use Rattle.root_store.specs.declared.store.CoreStore.{CoreStore}
 use Rattle.root_store.specs.Crashes.{AreCalm, AreCrashSafe, IsCrashSafe, KeepsThroughCrashes, Storage, entries_of, none_begun}
+use Rattle.root_store.specs.Shown.{ImagesShow}
 use Rattle.root_store.specs.Stores.{CoreStands}
 use Rattle.root_commits.proofs.CrashTurns.{calm_moved, safe_moved}
 use Rattle.root_store.proofs.CrashMarks.{safe_begun, some_one}
@@ -67,12 +68,13 @@ module _ (told : root.Told) (kept : Told) (now : Storage) (start : ℕ) (disk_is
   }
 
   -- a root was opened
-  pub keeps_opened : {F : Type 0} (files_of : F → Option Files) (store : CoreStore F) → CoreStands files_of (entries_of kept.list) store → KeepsThroughCrashes files_of store now kept start
-  keeps_opened files_of store stands = record {
+  pub keeps_opened : {F : Type 0} (files_of : F → Option Files) (store : CoreStore F) → CoreStands files_of (entries_of kept.list) store → ImagesShow now.disk now.clock store → KeepsThroughCrashes files_of store now kept start
+  keeps_opened files_of store stands images = record {
     safe = opened_safe;
     calm = λ _. (
       opened_calm,
       (λ k there. subst (λ (x : Told). CoreStands files_of (entries_of x.list) store) (some_one kept k (sym annals_is ∙ there)) stands),
+      images,
     );
   }
 
@@ -93,11 +95,11 @@ left_moved {first = first} {start = start} was now disk mark list back left = re
 
 -- nothing was done
 pub stays_open : {F : Type 0} (root : Opened F) → IsOpen root → GoesOn root root
-stays_open root ready = record { found = ready; left = ready; opened = refl; started = refl; later = omega arith }
+stays_open root ready = record { found = ready; left = ready; opened = refl; policy = refl; started = refl; later = omega arith }
 
 -- a turn after turns
 pub goes_further : {F : Type 0} (was now later : Opened F) → GoesOn was now → GoesOn now later → GoesOn was later
 goes_further was now later first next =
     let low = first.later in
     let high = next.later in
-    record { found = first.found; left = next.left; opened = next.opened ∙ first.opened; started = next.started ∙ first.started; later = omega (arith, low, high) }
+    record { found = first.found; left = next.left; opened = next.opened ∙ first.opened; policy = next.policy ∙ first.policy; started = next.started ∙ first.started; later = omega (arith, low, high) }

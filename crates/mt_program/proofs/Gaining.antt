@@ -1,5 +1,5 @@
 -- What annals gained by statements, and gain by one more.
-use Rattle.std.proofs.Common.{◌≡◌, ◌⊎◌, inl, inr, ◌+◌, ◌-◌, ◌<◌, ◌≤◌, ◌^◌, ◌++◌, ◌∷◌, ℕ, List, [], length, Option, Some, None, Ok, Err, true, ap, sym, refl, subst, ◌∙◌, append-nil, append_assoc, arith, map}
+use Rattle.std.proofs.Common.{◌≡◌, ◌⊎◌, inl, inr, ◌+◌, ◌-◌, ◌<◌, ◌≤◌, ◌^◌, ◌++◌, ◌∷◌, ℕ, Bool, List, [], length, Option, Some, None, Ok, Err, true, ap, sym, refl, subst, ◌∙◌, append-nil, append_assoc, arith, map}
 use Rattle.std.proofs.lemmas.List.{map-append}
 use Rattle.std.proofs.lemmas.List.Elements.{All-append, All-nil}
 use Rattle.std.proofs.lemmas.Bool.{cases_lt}
@@ -18,6 +18,7 @@ use Rattle.replies.specs.Foreseen.{Foresees, history, is_unsettled}
 use Rattle.replies.proofs.Ends.{length_history}
 use Rattle.root_store.specs.Crashes.{StandsForKept}
 use Rattle.session.specs.Answers.{Answered, BeginsNext, EndsUnanswered, IsBegun, Knows, Turned}
+use Rattle.shared_store.specs.Levels.{has_greatest}
 use Rattle.shared_store.specs.Engines.{Opened}
 use Rattle.mt_program.specs.Crashes.{IsGainedBy, MayBeBegunBy, MayBeNextOf}
 use Rattle.mt_program.specs.Courses.{Item}
@@ -67,11 +68,11 @@ next_of old now s done b = subst (λ (st : Item). IsNextCommand (history now) 0 
 
 -- what the outside may come to
 far : (opened disk : ℕ) → Outside
-far opened disk = record { opened = opened; ended = disk + (2 ^ 64 - 1) }
+far opened disk = record { opened = opened; ended = disk + (2 ^ 64 - 1); full = true }
 
-foreseen : (opened disk arm : ℕ) → Foresees opened disk arm (far opened disk)
+foreseen : (opened disk arm : ℕ) (full : Bool) → Foresees opened disk arm full (far opened disk)
 unfolding far
-foreseen opened disk arm = record { opened_is = refl; later = omega arith; risen = λ some. omega arith }
+foreseen opened disk arm full = record { opened_is = refl; later = omega arith; risen = λ some. omega arith; stays = λ is. refl }
 
 -- what is begun by a statement, whether it was answered or not
 begun_by : (old now : Told) (s : Item) (only : Type 0) → IsBegun old now s only
@@ -88,7 +89,7 @@ stepped_answered files_of old s t reply a =
       more = a.more;
       list_is = a.list_is;
       sessions = a.sessions;
-      gives = takes_give outside (history a.now) 0 s (length old.list) (length a.now.list) reply (a.takes outside (foreseen t.was.store.opened t.now.storage.failed t.arm));
+      gives = takes_give outside (history a.now) 0 s (length old.list) (length a.now.list) reply (a.takes outside (foreseen t.was.store.opened t.now.storage.failed t.arm (has_greatest t.now.store)));
       begun = begun_by old a.now s (is_unsettled reply ≡ true) a.begun;
     }
 

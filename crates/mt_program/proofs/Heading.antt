@@ -25,7 +25,7 @@ use Rattle.mt_program.specs.declared.status.Status.TheVariants as status
 use Rattle.replies.specs.Foreseen.{history}
 use Rattle.mt_program.specs.Endings.{IsAnswered, IsEarly, LeftBy, MetNoDamage, settled, status_of, status_of_stop}
 use Rattle.mt_program.specs.Headline.{AnsweredAll, AnsweredRead, EndsBy, Headline, NothingRan}
-use Rattle.mt_program.specs.Worlds.{Starts, World, counts_of}
+use Rattle.mt_program.specs.Worlds.{IsOutsideOf, Starts, World}
 use Rattle.mt_program.specs.Statuses.{status_number}
 use Rattle.mt_program.specs.Courses.{Course, RunOf, course_of}
 use Rattle.mt_program.specs.Serving.{MayComeTo, Output, Ran, ServedBy, Stretch}
@@ -91,6 +91,10 @@ nothing_ran n kept = record {
   stopped = none_stopped n (history kept) (length kept.list);
 }
 
+-- the counts of a run in which no part has the greatest level
+abbrev no_level : World → World → Outside
+no_level before after = record { opened = before.storage.failed; ended = after.storage.failed; full = false }
+
 -- a root that stands for a list
 pub root_told : (o : Option root.Told) (told : root.Told) (h : History) → o ≡ Some told → Stands (root.names_of told) h → RootStands o h
 root_told o told h is stands = (told, is, stands)
@@ -108,7 +112,9 @@ module _ (before after : World) (kept : Told) (script written : List ℕ)
     course = none_answered;
     rest = statements_of script;
     split = refl;
-    ran = nothing_ran (counts_of before after) kept;
+    outside = no_level before after;
+    outside_is = record { opened = refl; ended = refl; full = λ is told known. cc };
+    ran = nothing_ran (no_level before after) kept;
     begun = inl (refl, refl);
     out = [];
     sink_is = sink_is ∙ ap Some (sym (append-nil written));
@@ -156,7 +162,7 @@ abbrev pub output_of : World → World → Output
 output_of before after = record { before = before.sink; after = after.sink }
 
 -- the script was served
-module _ (before after : World) (kept : Told) (script written : List ℕ) (s : Stretch) (f : MayComeTo s (counts_of before after))
+module _ (before after : World) (kept : Told) (script written : List ℕ) (s : Stretch) (n : Outside) (outside_is : IsOutsideOf before after n) (f : MayComeTo s n)
     (annals_is : after.storage.annals ≡ s.now.annals) (disk_is : after.storage.disk ≡ s.now.disk) (is : before.sink ≡ Some written) where
   -- what ran is left, and what was written
   left : (how : Ending) (ended : Status) (by : ServedBy how kept script s (output_of before after)) → EndsBy ended before after script by.course by.rest by.out → Headline ended before after kept script written
@@ -169,8 +175,10 @@ module _ (before after : World) (kept : Told) (script written : List ℕ) (s : S
     course = by.course;
     rest = by.rest;
     split = by.split;
-    ran = run_of (counts_of before after) kept s by.course f by.ran;
-    begun = by.ran.begun (counts_of before after) f;
+    outside = n;
+    outside_is = outside_is;
+    ran = run_of n kept s by.course f by.ran;
+    begun = by.ran.begun n f;
     out = by.out;
     sink_is = known_after written by.out before.sink after.sink is by.wrote;
     ends = ends;

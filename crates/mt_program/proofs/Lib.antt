@@ -2,7 +2,6 @@ pub mod Begun
 pub mod Chaining
 pub mod Completing
 pub mod Crashing
-pub mod Folder
 pub mod Gaining
 pub mod Heading
 pub mod Promising

@@ -1,8 +1,7 @@
 -- From what a run over a folder left, by its status, to all that is promised by its number.
-use Rattle.std.proofs.Common.{◌≡◌, ◌<◌, ◌≤◌, ◌-◌, ◌^◌, ℕ, List, [], length, Some, true, false, inl, inr, refl, sym, ◌∙◌, subst, arith}
-use Rattle.std.specs.Prelude.{String}
+use Rattle.std.proofs.Common.{◌≡◌, ◌⊎◌, ◌<◌, ◌≤◌, ◌-◌, ◌^◌, ℕ, List, [], length, Some, None, inl, inr, refl, sym, ◌∙◌, ap, subst, arith, true≢false}
+use Rattle.std.specs.Prelude.{String, is_some}
 use Rattle.std.specs.declared.alloc.Global.{Global}
-use Rattle.std.proofs.lemmas.Bool.{false≢true}
 use Rattle.mt_values.specs.Annals.{Told}
 use Rattle.mt_outside.specs.Causes.{Rose}
 use Rattle.mt_outside.specs.Disk as root
@@ -11,14 +10,14 @@ use Rattle.root_opening.specs.Opening.{IsRootDamage}
 use Rattle.root_store.specs.Roots.{Stands}
 use Rattle.root_store.proofs.CrashMarks.{safe_at_start}
 use Rattle.replies.specs.Foreseen.{history}
+use Rattle.command_line.specs.Words.{Line, command_of}
 use Rattle.run_streams.specs.Streams.{ConsumesMost}
-use Rattle.run_streams.specs.Words.{is_command}
 use Rattle.mt_program.specs.declared.status.Status.{Status}
 use Rattle.mt_program.specs.declared.status.Status.TheVariants as status
 use Rattle.mt_program.specs.Damage.{IsDamagedRoot, WritesDamage, damage_line}
 use Rattle.mt_program.specs.Endings.{IsAnswered}
 use Rattle.mt_program.specs.Headline.{Headline}
-use Rattle.mt_program.specs.Promises.{IsComplete, OfCauses, OfCrashes, OfDamage, OfFolder, Promises}
+use Rattle.mt_program.specs.Promises.{IsComplete, IsUntouched, OfCauses, OfCrashes, OfDamage, OfFolder, Promises}
 use Rattle.mt_program.specs.Statuses.{status_number}
 use Rattle.mt_program.specs.Worlds.{Starts, World}
 use Rattle.mt_program.proofs.Completing.{none_refused, not_too_long, zero_or_six}
@@ -55,12 +54,16 @@ at_most_eight status.NoMemory = omega arith
 at_most_eight status.Damaged = omega arith
 at_most_eight status.TooLong = omega arith
 
+pub not_some : {X : Type 0} (x : X) → Some x ≡ None → ⊥
+not_some x same = cc
+
 -- the words are a command line
-module _ (words : List (String Global)) (command : is_command words ≡ true) (before after : World) (ended : Status) (left : Leaves before ended after) where
+module _ (words : List (String Global)) (line : Line) (says : command_of words ≡ Some line) (before after : World) (ended : Status) (left : Leaves before ended after) where
   of_causes : OfCauses words before (status_number ended) after
   of_causes = record {
     number = at_most_eight ended;
-    words_only = (λ is. absurd (left.words (same_number ended status.NotWords is)), λ none. absurd (false≢true (sym none ∙ command)));
+    words_only = λ is. absurd (left.words (same_number ended status.NotWords is));
+    no_command = λ none. absurd (not_some line (sym says ∙ none));
     read = λ is. left.read (same_number ended status.ReadFault is);
     unfailed = λ other. left.unfailed (λ is. other (subst (λ (e : Status). status_number e ≡ 3) (sym is) refl));
     write = λ is. left.write (same_number ended status.WriteFault is);
@@ -68,15 +71,15 @@ module _ (words : List (String Global)) (command : is_command words ≡ true) (b
     long = λ is. left.long (same_number ended status.TooLong is);
     whole = λ script is low. left.whole script is (at_most_one_is ended low);
     calm = λ low. left.calm (at_most_one_is ended low);
-    full = λ full. inr (subst (λ (e : Status). status_number e ≡ 5) (sym (left.full full)) refl);
+    full = λ full. inr (inl (subst (λ (e : Status). status_number e ≡ 5) (sym (left.full full)) refl));
   }
 
   -- nothing stands against the run
   is_complete : IsComplete words before (status_number ended) after
-  is_complete kept script written starts nothing calm =
+  is_complete kept script written starts nothing calm meets =
       zero_or_six ended left.words (λ is. calm.source (left.read is)) (λ is. calm.sink (left.write is)) (λ is. calm.disk (left.disk is)) (λ is. left.sound kept starts.told starts.annals_is starts.disk_is starts.stands is)
       (λ is. not_too_long script before.source after.source starts.source_is nothing.short (left.long is))
-      (λ is. none_refused before after kept script written left.later calm.disk nothing.causes (by_status {before = before} {after = after} (sym is) (left.headline kept script written starts)))
+      (λ is. none_refused before after kept script written left.later calm.disk meets nothing.causes (by_status {before = before} {after = after} (sym is) (left.headline kept script written starts)))
 
   of_damage : OfDamage before (status_number ended) after
   of_damage = record {
@@ -97,12 +100,22 @@ module _ (words : List (String Global)) (command : is_command words ≡ true) (b
     causes = of_causes;
   })
 
+untouched : (w : World) → IsUntouched w w
+untouched w = record { started = refl; disk = refl; clock = refl; annals = refl; source = refl; sink = refl }
+
+other_crashes : (w : World) → OfCrashes w w
+other_crashes w = record {
+  kept = λ kept told is known all. nothing_of_script told kept w.storage _ known is (safe_at_start told w.storage.clock kept.list all) w.source _;
+  settles = λ kept told is known some all stamped. inl (record { names = refl; mark = refl; list = refl; output = refl });
+}
+
 -- The words are none, and all is as it was.
-module _ (words : List (String Global)) (none : is_command words ≡ false) (w : World) where
+module _ (words : List (String Global)) (none : command_of words ≡ None) (w : World) where
   other_causes : OfCauses words w 2 w
   other_causes = record {
     number = omega arith;
-    words_only = (λ is. none, λ is. refl);
+    words_only = λ is. none;
+    no_command = λ again. (inl refl, untouched w);
     read = λ is. cc;
     unfailed = λ other. refl;
     write = λ is. cc;
@@ -113,12 +126,6 @@ module _ (words : List (String Global)) (none : is_command words ≡ false) (w :
     full = λ full. inl refl;
   }
 
-  other_crashes : OfCrashes w w
-  other_crashes = record {
-    kept = λ kept told is known all. nothing_of_script told kept w.storage _ known is (safe_at_start told w.storage.clock kept.list all) w.source _;
-    settles = λ kept told is known some all. inl (record { names = refl; mark = refl; list = refl; output = refl });
-  }
-
   other_damage : OfDamage w 2 w
   other_damage = record {
     opening = λ told damage known damaged. record { ended = status.NotWords; number_is = refl; writes = refl; disk = refl; clock = refl; annals = refl };
@@ -126,12 +133,52 @@ module _ (words : List (String Global)) (none : is_command words ≡ false) (w :
     sound = λ kept told listed known stands bad. cc;
   }
 
-  pub other_words : (number : ℕ) → number ≡ 2 → Promises words w number w
-  other_words number is = subst (λ (n : ℕ). Promises words w n w) (sym is) (record {
+  other_words : Promises words w (status_number status.NotWords) w
+  other_words = record {
     headline = λ kept script written starts. (status.NotWords, refl, nothing_leaves w w kept script written starts (refl, refl, refl, refl, refl) status.NotWords (λ ran. ran));
-    complete = λ kept script written starts nothing calm. absurd (false≢true (sym none ∙ nothing.words));
-    crashes = other_crashes;
+    complete = λ kept script written starts nothing calm meets. absurd (true≢false (sym nothing.words ∙ ap is_some none));
+    crashes = other_crashes w;
     damage = other_damage;
-    folder = inr (record { started = refl; disk = refl; clock = refl; annals = refl; source = refl; sink = refl });
+    folder = inr (untouched w);
     causes = other_causes;
-  })
+  }
+
+-- Memory ran out while the words were read, and all is as it was.
+module _ (words : List (String Global)) (w : World) where
+  memory_causes : OfCauses words w 6 w
+  memory_causes = record {
+    number = omega arith;
+    words_only = λ is. cc;
+    no_command = λ none. (inr refl, untouched w);
+    read = λ is. cc;
+    unfailed = λ other. refl;
+    write = λ is. cc;
+    disk = λ is. cc;
+    long = λ is. cc;
+    whole = λ script is low. absurd (omega (arith, low));
+    calm = λ low. refl;
+    full = λ full. inr (inr refl);
+  }
+
+  memory_damage : OfDamage w 6 w
+  memory_damage = record {
+    opening = λ told damage known damaged. record { ended = status.NoMemory; number_is = refl; writes = refl; disk = refl; clock = refl; annals = refl };
+    damaged = λ told known bad. cc;
+    sound = λ kept told listed known stands bad. cc;
+  }
+
+  memory_ran_out : Promises words w (status_number status.NoMemory) w
+  memory_ran_out = record {
+    headline = λ kept script written starts. (status.NoMemory, refl, nothing_leaves w w kept script written starts (refl, refl, refl, refl, refl) status.NoMemory (λ ran. refl));
+    complete = λ kept script written starts nothing calm meets. inr refl;
+    crashes = other_crashes w;
+    damage = memory_damage;
+    folder = inr (untouched w);
+    causes = memory_causes;
+  }
+
+-- the run ended at its words
+pub unread : (words : List (String Global)) (ended : Status) → ((ended ≡ status.NotWords) × (command_of words ≡ None)) ⊎ (ended ≡ status.NoMemory) → (w : World) (number : ℕ) → number ≡ status_number ended
+    → Promises words w number w
+unread words ended (inl none) w number is = subst (λ (n : ℕ). Promises words w n w) (sym is) (subst (λ (e : Status). Promises words w (status_number e) w) (sym none.0) (other_words words none.1 w))
+unread words ended (inr memory) w number is = subst (λ (n : ℕ). Promises words w n w) (sym is) (subst (λ (e : Status). Promises words w (status_number e) w) (sym memory) (memory_ran_out words w))

@@ -1,31 +1,39 @@
 -- A store whose count of faults at opening is the one before the disk was started.
-use Rattle.std.proofs.Common.{◌≡◌, ℕ, List, [], Option, Some, Result, ap, sym, subst, ◌∙◌}
+use Rattle.std.proofs.Common.{◌≡◌, ◌+◌, ℕ, Bool, true, List, map, [], Option, Some, Result, ap, sym, subst, ◌∙◌}
 use Rattle.std.proofs.lemmas.List.Elements.{All-weaker}
 use Rattle.std.specs.Map.{keys_of}
-use Rattle.mt_outside.specs.Disk.{Told, names_of}
+use Rattle.mt_outside.specs.Disk.{Image, IsStamped, Names, Survive, Told, names_of}
 use Rattle.mt_outside.specs.Files.{Files}
+use Rattle.mt_outside.proofs.Changes.{at_clock-none, before_clock-all}
+use Rattle.mt_outside.proofs.Crashes.{stamped_by}
 use Rattle.mt_model.specs.History.{History}
 use Rattle.root_store.specs.declared.store.CoreStore.{CoreStore}
 use Rattle.mt_values.specs.Annals as keeper
 use Rattle.replies.specs.Foreseen.{history}
 use Rattle.session.specs.Answers.{Knows}
+use Rattle.part_set.specs.Sets.{parts_of}
+use Rattle.shared_store.specs.Levels.{has_greatest}
+use Rattle.shared_store.proofs.Levels.{greatest_there, name_here}
 use Rattle.shared_store.specs.Engines.{Opened}
 use Rattle.root_store.specs.Crashes.{KeepsThroughCrashes, Storage}
-use Rattle.root_store.specs.Soundness.{HasSoundParts, IsNameUnder, IsSoundStore, NamesFit, RootStands}
+use Rattle.root_store.specs.Shown.{AreShown, GreatestAreShown, ImagesShow, part_called}
+use Rattle.root_store.proofs.CrashOrder.{same_names}
+use Rattle.root_store.specs.Soundness.{HasSoundParts, IsNameUnder, IsReady, IsSoundStore, NamesFit, RootStands}
 use Rattle.mt_program.specs.Crashes.{IsGainedBy, LeavesOfScript}
 use Rattle.mt_program.specs.Endings.{LeftBy}
 use Rattle.mt_program.specs.Serving.{Output, Stretch}
+use Rattle.mt_program.specs.Worlds.{HasFullPart}
 use Rattle.mt_program.specs.declared.serving.Ending.{Ending}
 use Rattle.mt_program.specs.declared.status.Status.{Status}
 use Rattle.root_store.specs.Stores.{CoreStands}
 
 abbrev pub reopened : {F : Type 0} → CoreStore F → ℕ → CoreStore F
-reopened store opened = record { tables = store.tables; set = store.set; length = store.length; opened = opened }
+reopened store opened = record { tables = store.tables; set = store.set; mutations = store.mutations; length = store.length; opened = opened }
 
 module _ {F : Type 0} (store : CoreStore F) (opened : ℕ) where
   pub sound_reopened : IsSoundStore store → IsSoundStore (reopened store opened)
   sound_reopened s = record {
-    tables = λ table t at. let one = s.tables table t at in record { schema = one.schema; order = one.order; ends = one.ends; may = one.may };
+    tables = λ table t at. let one = s.tables table t at in record { named = one.named; schema = one.schema; order = one.order; ends = one.ends; may = one.may };
     no_other = s.no_other;
   }
 
@@ -43,6 +51,29 @@ module _ {F : Type 0} (store : CoreStore F) (opened : ℕ) where
     parts = λ table t at. let one = s.parts table t at in record { rows = one.rows; hold = one.hold; stand = one.stand; order = one.order };
     no_other = s.no_other;
   }
+
+  pub shown_reopened : (names : Names) → AreShown store names → AreShown (reopened store opened) names
+  shown_reopened names s = record { read = s.read; are = s.are; parts = s.parts }
+
+  pub greatest_reopened : (names : Names) → AreShown store names → GreatestAreShown (reopened store opened) names
+  greatest_reopened names s = λ table name has level. record { read = s.read; are = s.are; visible = (s.parts table name).1 has }
+
+  pub images_reopened : (disk : Option Told) (clock : ℕ) → ImagesShow disk clock store → ImagesShow disk clock (reopened store opened)
+  images_reopened disk clock show = λ told is names image. shown_reopened names (show told is names image)
+
+-- names that read alike show the same parts
+shown_alike : {F : Type 0} (store : CoreStore F) (names other : Names) → map (λ (n : List ℕ × Files). n.0) names ≡ map (λ (n : List ℕ × Files). n.0) other → AreShown store names → AreShown store other
+shown_alike store names other same s = record { read = s.read; are = record { sound = s.are.sound; spelled = s.are.spelled ∙ same }; parts = s.parts }
+
+-- the names that were read are settled
+pub images_settled : {F : Type 0} (store : CoreStore F) (told : Told) (clock : ℕ) (disk : Option Told) (now : ℕ) → disk ≡ Some told → now ≡ clock + 1 → IsStamped clock told → AreShown store (names_of told) → ImagesShow disk now store
+images_settled store told clock disk now known raised stamped shown = λ root is names image.
+    let by = stamped_by told clock stamped in
+    let both : Some root ≡ Some told = sym is ∙ known in
+    let same : root ≡ told = cc in
+    let here : Image told (clock + 1) names = subst (λ (t : Told). Image t (clock + 1) names) same (subst (λ (c : ℕ). Image root c names) raised image) in
+    let kept : Survive (names_of told) names = rw (before_clock-all told clock by, at_clock-none told clock by) at here in
+    shown_alike store (names_of told) names (same_names (names_of told) names kept) shown
 
 -- ---- the root as one value
 
@@ -72,17 +103,26 @@ module _ {F : Type 0} (files_of : F → Option Files) (root : Opened F) (store :
   gained_root first gained = subst (λ (x : Storage). IsGainedBy [] x.annals first) (sym storage_is) gained
 
 -- a stretch by what it met and left
-abbrev pub stretch : ℕ → Option Told → Storage → ℕ → Stretch
-stretch opened root now arm = record { opened = opened; root = root; now = now; arm = arm }
+abbrev pub stretch : ℕ → Option Told → Storage → ℕ → Bool → Stretch
+stretch opened root now arm full = record { opened = opened; root = root; now = now; arm = arm; full = full }
 
 -- what is left, by what is handed out at the end
-pub left_as : (ended : Result Ending Status) (kept : keeper.Told) (script : List ℕ) (output : Output) (arm : ℕ) (had opened : ℕ) (root disk : Option Told) (now after : Storage) → had ≡ opened → root ≡ disk → now ≡ after
-    → LeftBy ended kept script (stretch had root now arm) output → LeftBy ended kept script (stretch opened disk after arm) output
-left_as ended kept script output arm had opened root disk now after first second third left =
-    subst (λ (m : ℕ). LeftBy ended kept script (stretch m disk after arm) output) first
-    (subst (λ (o : Option Told). LeftBy ended kept script (stretch had o after arm) output) second
-    (subst (λ (x : Storage). LeftBy ended kept script (stretch had root x arm) output) third left))
+pub left_as : (ended : Result Ending Status) (kept : keeper.Told) (script : List ℕ) (output : Output) (arm : ℕ) (full : Bool) (had opened : ℕ) (root disk : Option Told) (now after : Storage) → had ≡ opened → root ≡ disk → now ≡ after
+    → LeftBy ended kept script (stretch had root now arm full) output → LeftBy ended kept script (stretch opened disk after arm full) output
+left_as ended kept script output arm full had opened root disk now after first second third left =
+    subst (λ (m : ℕ). LeftBy ended kept script (stretch m disk after arm full) output) first
+    (subst (λ (o : Option Told). LeftBy ended kept script (stretch had o after arm full) output) second
+    (subst (λ (x : Storage). LeftBy ended kept script (stretch had root x arm full) output) third left))
 
 pub script_as : (source : Option (List ℕ)) (had opened : ℕ) (now after : Storage) (first : keeper.Told) (start : ℕ) → had ≡ opened → now ≡ after → LeavesOfScript source had now first start → LeavesOfScript source opened after first start
 script_as source had opened now after first start same is left =
     subst (λ (m : ℕ). LeavesOfScript source m after first start) same (subst (λ (x : Storage). LeavesOfScript source had x first start) is left)
+
+-- ---- at the end
+
+-- a part of the greatest level that the store has is visible among the names
+pub shows_full : {F : Type 0} (store : CoreStore F) (failed : ℕ) (told : Told) (disk : Option Told) → IsReady failed disk store → has_greatest store ≡ true → disk ≡ Some told → HasFullPart (names_of told)
+shows_full store failed told disk ready is there =
+    let has = greatest_there store is in
+    let shown = ready.greatest told there has.table has.kept.name (name_here (parts_of store.set has.table) has.kept has.here) has.is in
+    record { read = shown.read; are = shown.are; part = part_called has.table has.kept.name; visible = shown.visible; full = has.is }

@@ -17,13 +17,14 @@ use Rattle.mt_model.proofs.Keys.{statements_are}
 use Rattle.mt_model.proofs.Replies.{replies_more, replies_append}
 use Rattle.replies.specs.declared.tally.Tally.{Tally}
 use Rattle.root_store.specs.Soundness.{RootStands}
-use Rattle.session.specs.Answers.{AcceptsNothing, Answered, EndsUnanswered, Knows, Turned}
+use Rattle.session.specs.Answers.{AcceptsNothing, Answered, EndsUnanswered, Knows, Turned, unsettles}
+use Rattle.shared_store.specs.Levels.{KeepsGreatest, has_greatest}
 use Rattle.shared_store.specs.Engines.{GoesOn, Opened}
 use Rattle.root_store.specs.Crashes.{Storage}
 use Rattle.std.proofs.lemmas.Bool.Decides.{nat_tests}
 use Rattle.replies.specs.Causes.{HasCauses}
 use Rattle.replies.specs.Foreseen.{Foresees, history, is_unsettled}
-use Rattle.mt_program.specs.Courses.{AreStopped, Item, TalliesReplies, course_of}
+use Rattle.mt_program.specs.Courses.{AreStopped, Item, TalliesReplies, any_unsettles, course_of}
 use Rattle.mt_program.specs.Serving.{MayComeTo, Output, Progress, Ran, Served, ServedBy, stretch_of}
 use Rattle.mt_program.proofs.Begun.{begun_answered, begun_unanswered, replies_length}
 use Rattle.mt_model.specs.Outside.{Outside}
@@ -31,7 +32,7 @@ use Rattle.replies.proofs.Ends.{length_history}
 use Rattle.mt_program.specs.declared.serving.Ending.TheVariants as ending
 use Rattle.replies.specs.Tallies.{tallied}
 use Rattle.run_streams.specs.Streams.{AppendsFront}
-use Rattle.replies.proofs.Counting.{foresees_before}
+use Rattle.replies.proofs.Counting.{foresees_before, some_counts}
 use Rattle.run_streams.proofs.Known.{appends_more, appends_none, sliced}
 use Rattle.mt_values.proofs.ScriptBounds.{statements_of_step}
 
@@ -136,20 +137,21 @@ says_so replies front more reply is failed = ap (list_any is_unsettled) is ∙ a
 abbrev pub turned : {F : Type 0} → Opened F → Opened F → ℕ → Turned F
 turned was now arm = record { was = was; now = now; arm = arm }
 
--- A statement of a script ran over a root as those before it left it: the counts do not fall, and where the disk's was above the one at opening
--- nothing was accepted.
+-- A statement of a script ran over a root as those before it left it: the counts do not fall, a part of the greatest level stays, and where the
+-- disk's count was above the one at opening nothing was accepted.
 pub record Follows {F : Type 0} (start before after : Opened F) (arm arm_after : ℕ) : Type 0 where
   pub opened : before.store.opened ≡ start.store.opened
   pub low : start.store.opened ≤ before.storage.failed
   pub below : start.store.opened < 2 ^ 64 - 1
   pub later : before.storage.failed ≤ after.storage.failed
   pub arm_later : arm ≤ arm_after
+  pub levels : KeepsGreatest before.store after.store
   pub still : start.store.opened < before.storage.failed → after.storage.annals ≡ before.storage.annals
 
 -- the counts of roots that go on
-pub follows : {F : Type 0} (start before after : Opened F) (arm arm_after : ℕ) → GoesOn start before → GoesOn before after → arm ≤ arm_after → (before.store.opened < before.storage.failed → AcceptsNothing before after)
-    → Follows start before after arm arm_after
-follows start before after arm arm_after first next less stops =
+pub follows : {F : Type 0} (start before after : Opened F) (arm arm_after : ℕ) → GoesOn start before → GoesOn before after → arm ≤ arm_after → KeepsGreatest before.store after.store
+    → (before.store.opened < before.storage.failed → AcceptsNothing before after) → Follows start before after arm arm_after
+follows start before after arm arm_after first next less levels stops =
     let low = first.found.opened in
     let later = first.later in
     record {
@@ -158,6 +160,7 @@ follows start before after arm arm_after first next less stops =
       below = first.found.below;
       later = next.later;
       arm_later = less;
+      levels = levels;
       still = λ risen. ap (λ (s : Storage). s.annals) (stops (subst (λ (m : ℕ). m < before.storage.failed) (sym first.opened) risen)).storage_is;
     }
 
@@ -165,11 +168,11 @@ module _ {F : Type 0} (kept : Told) (start before after : Opened F) (arm arm_aft
     (r : Ran kept (stretch_of (turned start before arm)) (course_of done replies None)) where
   -- what the counts may come to later, they may come to now
   earlier : (n : Outside) → MayComeTo (stretch_of (turned start after arm_after)) n → MayComeTo (stretch_of (turned start before arm)) n
-  earlier n f = foresees_before start.store.opened before.storage.failed after.storage.failed arm arm_after n fits.later fits.arm_later f
+  earlier n f = foresees_before start.store.opened before.storage.failed after.storage.failed arm arm_after n fits.later fits.arm_later fits.levels f
 
   -- and of the statement alone
-  of_statement : (n : Outside) → MayComeTo (stretch_of (turned start after arm_after)) n → Foresees before.store.opened after.storage.failed arm_after n
-  of_statement n f = subst (λ (m : ℕ). Foresees m after.storage.failed arm_after n) (sym fits.opened) f
+  of_statement : (n : Outside) → MayComeTo (stretch_of (turned start after arm_after)) n → Foresees before.store.opened after.storage.failed arm_after (has_greatest after.store) n
+  of_statement n f = subst (λ (m : ℕ). Foresees m after.storage.failed arm_after (has_greatest after.store) n) (sym fits.opened) f
 
   grown_to : length kept.list ≤ length r.now.list
   grown_to = let size = ap length r.list_is ∙ length-append kept.list r.more in omega (arith, size)
@@ -211,13 +214,20 @@ module _ {F : Type 0} (kept : Told) (start before after : Opened F) (arm arm_aft
   risen_still : list_any is_unsettled replies ≡ true → start.store.opened < after.storage.failed
   risen_still some = let was = r.risen some in let le = fits.later in omega (arith, was, le)
 
--- some reply or the next says that a commit failed, or neither does
-either_unsettled : (replies : List (List ℕ)) (reply : List ℕ) → list_any is_unsettled (replies ++ reply ∷ []) ≡ false → (list_any is_unsettled replies ≡ false) × (is_unsettled reply ≡ false)
-either_unsettled replies reply none = neither (list_any is_unsettled replies) (is_unsettled reply) (sym (any_push is_unsettled replies reply) ∙ none)
-  where
-    neither : (a b : Bool) → (a || b) ≡ false → (a ≡ false) × (b ≡ false)
-    neither true b h = cc
-    neither false b h = (refl, h)
+-- some reply or the next says that the commit of a command failed, or neither does
+pub neither : (a b : Bool) → (a || b) ≡ false → (a ≡ false) × (b ≡ false)
+neither true b h = cc
+neither false b h = (refl, h)
+
+either_unsettles : (done : List Item) (replies : List (List ℕ)) (st : Item) (reply : List ℕ) → length replies ≡ length done → any_unsettles (done ++ st ∷ []) (replies ++ reply ∷ []) ≡ false
+    → (any_unsettles done replies ≡ false) × (unsettles st reply ≡ false)
+either_unsettles [] [] st reply same none = (refl, (neither (unsettles st reply) false none).0)
+either_unsettles [] (x ∷ replies) st reply same none = absurd (omega (arith, same))
+either_unsettles (s ∷ done) [] st reply same none = absurd (omega (arith, same))
+either_unsettles (s ∷ done) (x ∷ replies) st reply same none =
+    let first = neither (unsettles s x) (any_unsettles (done ++ st ∷ []) (replies ++ reply ∷ [])) none in
+    let rest = either_unsettles done replies st reply (omega (arith, same)) first.1 in
+    (ap (λ b. b || any_unsettles done replies) first.0 ∙ rest.0, rest.1)
 
 -- ---- one more statement that was answered
 
@@ -231,6 +241,12 @@ module _ {F : Type 0} (files_of : F → Option Files) (kept : Told) (start befor
   all n f =
       replies_append n (history a.now) 0 done st (length kept.list) (length r.now.list) (length a.now.list) replies reply (before_this n f)
       (a.takes n (of_statement kept start before after arm arm_after fits done replies r n f))
+
+  -- there are as many replies as statements before it
+  as_many : length replies ≡ length done
+  as_many =
+      let some = some_counts start.store.opened after.storage.failed arm_after (has_greatest after.store) in
+      replies_length some.0 (history a.now) done (length kept.list) (length r.now.list) replies (before_this some.0 some.1)
 
   -- where a commit had failed before, the next reply does not say that one failed
   not_again : list_any is_unsettled replies ≡ true → is_unsettled reply ≡ false
@@ -287,7 +303,7 @@ module _ {F : Type 0} (files_of : F → Option Files) (kept : Told) (start befor
     begun = λ n f.
         begun_answered n kept r.now a.now done replies st (before_this n f) a.more a.list_is (grown_to kept start before after arm arm_after fits done replies r) reply a.begun
         (r.begun n (earlier kept start before after arm arm_after fits done replies r n f));
-    settled = λ none. let both = either_unsettled replies reply none in a.settled both.1 (r.settled both.0);
+    settled = λ none. let both = either_unsettles done replies st reply as_many none in a.settled both.1 (r.settled both.0);
   }
 
 -- a statement that had no reply

@@ -1,5 +1,5 @@
 -- Statements that ran, and their replies (docs/definitions-of-runs.md, "Runs").
-use Rattle.std.specs.Prelude.{◌≡◌, ◌⊎◌, ◌+◌, ◌<◌, ℕ, false, true, List, [], ◌∷◌, ◌++◌, length, take, slice_get, Option, Some, None}
+use Rattle.std.specs.Prelude.{◌≡◌, ◌⊎◌, ◌+◌, ◌<◌, ◌||◌, ℕ, Bool, false, true, List, [], ◌∷◌, ◌++◌, length, take, slice_get, Option, Some, None}
 use Rattle.std.specs.List.{concat, list_any}
 use Rattle.mt_values.specs.declared.command.Command.{Command}
 use Rattle.mt_values.specs.Annals.{Told}
@@ -14,6 +14,7 @@ use Rattle.root_store.specs.Soundness.{RootStands}
 use Rattle.durable_commit.specs.Commits.{entry_of}
 use Rattle.replies.specs.Foreseen.{history, is_unsettled}
 use Rattle.replies.specs.declared.tally.Tally.{Tally}
+use Rattle.session.specs.Answers.{unsettles}
 
 -- The statements that ran, in order, with their replies, and the one after them where it ran without a reply.
 pub record Course : Type 0 where
@@ -38,8 +39,8 @@ abbrev pub GoesUnanswered : History → Option Item → ℕ → ℕ → Type 0
 GoesUnanswered h None from to = from ≡ to
 GoesUnanswered h (Some last) from to = Unanswered h 0 last from to
 
--- After a reply which says that a commit failed nothing more is accepted: the statements up to this one run to the end of the history. And no
--- later reply says it.
+-- After a reply which says that a commit failed, of a command or of a merge, nothing more is accepted: the statements up to this one run to the
+-- end of the history. And no later reply says it.
 abbrev pub AreStopped : Outside → History → ℕ → List Item → List (List ℕ) → Type 0
 AreStopped n h base ran replies =
     (front more : List (List ℕ)) (reply : List ℕ) → replies ≡ front ++ reply ∷ more → is_unsettled reply ≡ true
@@ -69,7 +70,7 @@ pub record IsNextOf (n : Outside) (h : History) (base : ℕ) (course : Course) (
   pub says : (reply : List ℕ) → slice_get course.replies (length before) ≡ Some reply → is_unsettled reply ≡ true
 
 -- What is begun after statements ran: what was begun before, where nothing was accepted; nothing, where something was; or the next command of
--- the statement whose commit failed, or that has no reply.
+-- the statement whose commit failed, or that has no reply. A merge begins nothing.
 abbrev pub IsBegunBy : Outside → Told → Told → Course → Type 0
 IsBegunBy n first now course =
     ((now.begun ≡ first.begun) × (length now.list ≡ length first.list))
@@ -90,6 +91,12 @@ pub record TalliesReplies (t : Tally) (replies : List (List ℕ)) : Type 0 where
   pub refusals : t.refused ≡ list_any is_refusal replies
   pub damages : t.damaged ≡ list_any is_damage replies
 
--- where none of the replies says that a commit failed, the root stands for the history
-abbrev pub AreSettled : List (List ℕ) → Option root.Told → History → Type 0
-AreSettled replies root h = list_any is_unsettled replies ≡ false → RootStands root h
+-- some statement has a reply which says that the commit of a command failed
+abbrev pub any_unsettles : List Item → List (List ℕ) → Bool
+any_unsettles [] replies = false
+any_unsettles (s ∷ ss) [] = false
+any_unsettles (s ∷ ss) (reply ∷ replies) = unsettles s reply || any_unsettles ss replies
+
+-- where none says it, the root stands for the history
+abbrev pub AreSettled : Course → Option root.Told → History → Type 0
+AreSettled course root h = any_unsettles course.ran course.replies ≡ false → RootStands root h

@@ -9,6 +9,7 @@ use Rattle.replies.specs.declared.tally.Tally.{Tally}
 use Rattle.run_streams.specs.declared.streams.SourceStop.{SourceStop}
 use Rattle.run_streams.specs.declared.streams.SourceStop.TheVariants as unread
 use Rattle.mt_program.specs.Serving.{Output, ServedBy, Stretch}
+use Rattle.mt_program.specs.Worlds.{IsFullOnlyBy}
 use Rattle.mt_program.specs.declared.status.Status.{Status}
 use Rattle.mt_program.specs.declared.status.Status.TheVariants as status
 
@@ -64,3 +65,10 @@ MetNoDamage (Err early) = early ≡ status.Damaged → ⊥
 abbrev pub LeftBy : Result Ending Status → Told → List ℕ → Stretch → Output → Type 0
 LeftBy (Ok ending) kept script s output = ServedBy ending kept script s output
 LeftBy (Err early) kept script s output = (s.now.annals ≡ Some kept) × (output.after ≡ output.before) × (s.now.disk ≡ s.root)
+
+-- The same, where it is left open whether some part has the greatest level at the end: it has only where a visible part has it then
+-- (docs/definitions-of-runs.md, "Faults of the outside").
+pub record LeftAtEnd (ended : Result Ending Status) (kept : Told) (script : List ℕ) (s : Bool → Stretch) (output : Output) : Type 0 where
+  pub full : Bool
+  pub only : IsFullOnlyBy (s full).now.disk full
+  pub left : LeftBy ended kept script (s full) output

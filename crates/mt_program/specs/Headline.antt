@@ -5,10 +5,11 @@ use Rattle.mt_values.specs.declared.annals.Noted.{Noted}
 use Rattle.mt_values.specs.Annals.{Told}
 use Rattle.mt_values.specs.Script.{statements_of}
 use Rattle.mt_model.specs.History.{IsLegal}
+use Rattle.mt_model.specs.Outside.{Outside}
 use Rattle.mt_program.specs.Statuses.{status_number}
 use Rattle.replies.specs.Foreseen.{history}
 use Rattle.mt_program.specs.Courses.{AreSettled, Course, IsBegunBy, IsCut, Item, RunOf, TalliesReplies, started}
-use Rattle.mt_program.specs.Worlds.{Starts, World, counts_of}
+use Rattle.mt_program.specs.Worlds.{IsOutsideOf, Starts, World}
 use Rattle.mt_program.specs.declared.status.Status.{Status}
 use Rattle.mt_program.specs.declared.status.Status.TheVariants as status
 
@@ -57,9 +58,9 @@ EndsBy status.Damaged before after script course rest out = ⊥
 EndsBy status.TooLong before after script course rest out = AnsweredRead after.source script course out
 
 -- What a run leaves, by how it ended. The annals hold a list that begins with the one before and is legal. The first statements of the script ran,
--- each with a reply that it may have at its place of that list, and each entry that the list gained is theirs. What is begun was begun before, or is
--- nothing, or the next command of the statement whose commit failed, or that has no reply. What was written is their replies. Where none of these
--- says that a commit failed, the root stands for the list, so that the next run opens it.
+-- each with a reply that it may have at its place of that list, by what the outside did in the run, and each entry that the list gained is theirs.
+-- What is begun was begun before, or is nothing, or the next command of the statement whose commit failed, or that has no reply. What was written is
+-- their replies. Where none of these says that the commit of a command failed, the root stands for the list, so that the next run opens it.
 pub record Headline (ended : Status) (before after : World) (kept : Told) (script written : List ℕ) : Type 0 where
   pub now : Told
   pub annals_is : after.storage.annals ≡ Some now
@@ -69,12 +70,14 @@ pub record Headline (ended : Status) (before after : World) (kept : Told) (scrip
   pub course : Course
   pub rest : List Item
   pub split : statements_of script ≡ started course ++ rest
-  pub ran : RunOf (counts_of before after) (history now) (length kept.list) course
-  pub begun : IsBegunBy (counts_of before after) kept now course
+  pub outside : Outside
+  pub outside_is : IsOutsideOf before after outside
+  pub ran : RunOf outside (history now) (length kept.list) course
+  pub begun : IsBegunBy outside kept now course
   pub out : List ℕ
   pub sink_is : after.sink ≡ Some (written ++ out)
   pub ends : EndsBy ended before after script course rest out
-  pub settled : AreSettled course.replies after.storage.disk (history now)
+  pub settled : AreSettled course after.storage.disk (history now)
 
 -- the same, of a run that ended with this number
 abbrev pub HeadlineBy : ℕ → World → World → Type 0

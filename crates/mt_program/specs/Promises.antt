@@ -1,8 +1,10 @@
 -- All that a run promises (docs/definitions-of-runs.md, "Runs").
-use Rattle.std.specs.Prelude.{◌≡◌, ◌≢◌, ◌⊎◌, ◌↔◌, ◌+◌, ◌-◌, ◌<◌, ◌≤◌, ◌^◌, ℕ, List, [], length, String, true, false, Some}
+use Rattle.std.specs.Prelude.{◌≡◌, ◌≢◌, ◌⊎◌, ◌+◌, ◌-◌, ◌<◌, ◌≤◌, ◌^◌, ℕ, Bool, List, [], length, String, true, false, Some, None, Ok, Err, is_some}
+use Rattle.std.specs.List.{list_any}
 use Rattle.std.specs.declared.alloc.Global.{Global}
 use Rattle.mt_values.specs.Annals.{Told}
-use Rattle.mt_values.specs.Script.{statements_of}
+use Rattle.mt_values.specs.declared.statement.Statement.TheVariants as statement
+use Rattle.mt_values.specs.Script.{Item, statements_of}
 use Rattle.mt_outside.specs.Causes.{Rose}
 use Rattle.mt_outside.specs.Disk as root
 use Rattle.mt_model.specs.Causes.{NoneMeetsCause}
@@ -12,14 +14,14 @@ use Rattle.root_opening.specs.Opening.{IsRootDamage}
 use Rattle.root_store.specs.Crashes.{AllStand}
 use Rattle.root_store.specs.Roots.{Stands}
 use Rattle.replies.specs.Foreseen.{history}
+use Rattle.command_line.specs.Words.{Line, command_of}
 use Rattle.run_streams.specs.Streams.{ConsumesMost}
-use Rattle.run_streams.specs.Words.{is_command, path_of}
 use Rattle.mt_program.specs.declared.status.Status.{Status}
 use Rattle.mt_program.specs.Statuses.{status_number}
 use Rattle.mt_program.specs.Crashes.{IsAsBefore, LeavesOfScript}
 use Rattle.mt_program.specs.Damage.{IsDamagedRoot, WritesDamage, damage_line}
 use Rattle.mt_program.specs.Headline.{HeadlineBy}
-use Rattle.mt_program.specs.Worlds.{Starts, World}
+use Rattle.mt_program.specs.Worlds.{HasNoFullPart, Starts, World}
 
 -- no call of the disk, the source or the sink failed, as far as their counts show
 pub record NoCountRose (before after : World) : Type 0 where
@@ -30,14 +32,28 @@ pub record NoCountRose (before after : World) : Type 0 where
 -- Nothing that is handed in stands against a run: the words are a command line, the script is under the bound, and none of its statements, run
 -- after the history that was there, each after the commands of those before it, meets a cause to be refused.
 pub record NothingRefuses (command : List (String Global)) (script : List ℕ) (h : History) : Type 0 where
-  pub words : is_command command ≡ true
+  pub words : is_some (command_of command) ≡ true
   pub short : length script < 2 ^ 40
   pub causes : NoneMeetsCause h (statements_of script)
 
--- where nothing stands against a run, and no count rose, it ends with 0, or where memory ran out
+-- an OPTIMIZE with FINAL, which takes up parts of whatever level (docs/definitions-of-runs.md, "Statements taken")
+abbrev pub merges_all : Item → Bool
+merges_all (Ok (statement.Create c)) = false
+merges_all (Ok (statement.Insert i)) = false
+merges_all (Ok (statement.Select s)) = false
+merges_all (Ok (statement.Explain s)) = false
+merges_all (Ok (statement.Optimize o)) = o.whole
+merges_all (Err why) = false
+
+-- where some statement of a script is an OPTIMIZE with FINAL, no visible part has the greatest level at the end
+abbrev pub MeetsNoFullPart : List ℕ → World → Type 0
+MeetsNoFullPart script after = list_any merges_all (statements_of script) ≡ true → HasNoFullPart after
+
+-- where nothing stands against a run, no count rose, and an OPTIMIZE with FINAL meets no part of the greatest level, it ends with 0, or where memory
+-- ran out
 abbrev pub IsComplete : List (String Global) → World → ℕ → World → Type 0
 IsComplete words before status after =
-    (kept : Told) (script written : List ℕ) → Starts before kept script written → NothingRefuses words script (history kept) → NoCountRose before after → (status ≡ 0) ⊎ (status ≡ 6)
+    (kept : Told) (script written : List ℕ) → Starts before kept script written → NothingRefuses words script (history kept) → NoCountRose before after → MeetsNoFullPart script after → (status ≡ 0) ⊎ (status ≡ 6)
 
 -- a run over a damaged root, by the number with which it ends: its line is written, or nothing, and what the disk and the annals tell is as it was,
 -- and so is the disk's mark
@@ -58,27 +74,13 @@ pub record OfDamage (before : World) (status : ℕ) (after : World) : Type 0 whe
 
 -- What a crash leaves, at whatever moment of the run. Where whatever a crash left of the disk before stood for the list of the annals, it holds
 -- all that was noted; where only the root as it read did, and has a name, that is so once opening has settled what it read, and before that nothing changed.
+-- The changes of the disk stand in the order of their marks.
 pub record OfCrashes (before after : World) : Type 0 where
   pub kept : (first : Told) (told : root.Told) → before.storage.annals ≡ Some first → before.storage.disk ≡ Some told → AllStand told before.storage.clock (history first)
       → LeavesOfScript before.source before.storage.failed after.storage first before.storage.clock
-  pub settles : (first : Told) (told : root.Told) → before.storage.annals ≡ Some first → before.storage.disk ≡ Some told → root.names_of told ≢ [] → AllStand told (before.storage.clock + 1) (history first)
+  pub settles : (first : Told) (told : root.Told) → before.storage.annals ≡ Some first → before.storage.disk ≡ Some told → root.names_of told ≢ [] → AllStand told (before.storage.clock + 1) (history first) → root.IsStamped before.storage.clock told
       → IsAsBefore before.storage after.storage before.sink after.sink
       ⊎ LeavesOfScript before.source before.storage.failed after.storage first (before.storage.clock + 1)
-
--- Why a run ends with its number: 2 exactly where the words are no command line; 3 exactly where the source's count rose, but for one that
--- can't rise; 4 and 5 only where the count of the sink or the disk rose; 8 only where 2^40 bytes were read; 0 and 1 only where the source was
--- read to its end and the disk's count stayed. A disk whose count can't rise is not opened.
-pub record OfCauses (words : List (String Global)) (before : World) (status : ℕ) (after : World) : Type 0 where
-  pub number : status ≤ 8
-  pub words_only : (status ≡ 2) ↔ (is_command words ≡ false)
-  pub read : status ≡ 3 → Rose before.source_failed after.source_failed
-  pub unfailed : (status ≡ 3 → ⊥) → after.source_failed ≡ before.source_failed
-  pub write : status ≡ 4 → Rose before.sink_failed after.sink_failed
-  pub disk : status ≡ 5 → Rose before.storage.failed after.storage.failed
-  pub long : status ≡ 8 → ConsumesMost before.source after.source
-  pub whole : (script : List ℕ) → before.source ≡ Some script → status ≤ 1 → (length script < 2 ^ 40) × (after.source ≡ Some [])
-  pub calm : status ≤ 1 → after.storage.failed ≡ before.storage.failed
-  pub full : before.storage.failed ≡ 2 ^ 64 - 1 → (status ≡ 2) ⊎ (status ≡ 5)
 
 -- the folder that was started, and what is known of the disk, the annals, the source and the sink, are as before
 pub record IsUntouched (before after : World) : Type 0 where
@@ -89,10 +91,28 @@ pub record IsUntouched (before after : World) : Type 0 where
   pub source : after.source ≡ before.source
   pub sink : after.sink ≡ before.sink
 
+-- Why a run ends with its number: 2 only where the words are no command line, and where they are none it ends with 2, or with 6, and nothing was
+-- touched; 3 exactly where the source's count rose, but for one that can't rise; 4 and 5 only where the count of the sink or the disk rose; 8 only
+-- where 2^40 bytes were read; 0 and 1 only where the source was read to its end and the disk's count stayed. A disk whose count can't rise is not
+-- opened.
+pub record OfCauses (words : List (String Global)) (before : World) (status : ℕ) (after : World) : Type 0 where
+  pub number : status ≤ 8
+  pub words_only : status ≡ 2 → command_of words ≡ None
+  pub no_command : command_of words ≡ None → ((status ≡ 2) ⊎ (status ≡ 6)) × IsUntouched before after
+  pub read : status ≡ 3 → Rose before.source_failed after.source_failed
+  pub unfailed : (status ≡ 3 → ⊥) → after.source_failed ≡ before.source_failed
+  pub write : status ≡ 4 → Rose before.sink_failed after.sink_failed
+  pub disk : status ≡ 5 → Rose before.storage.failed after.storage.failed
+  pub long : status ≡ 8 → ConsumesMost before.source after.source
+  pub whole : (script : List ℕ) → before.source ≡ Some script → status ≤ 1 → (length script < 2 ^ 40) × (after.source ≡ Some [])
+  pub calm : status ≤ 1 → after.storage.failed ≡ before.storage.failed
+  pub full : before.storage.failed ≡ 2 ^ 64 - 1 → (status ≡ 2) ⊎ ((status ≡ 5) ⊎ (status ≡ 6))
+
 -- the words are a command line, and the folder that was started is the one that they name
 pub record IsFolderOf (words : List (String Global)) (after : World) : Type 0 where
-  pub command : is_command words ≡ true
-  pub started : after.started ≡ Some (path_of words)
+  pub line : Line
+  pub says : command_of words ≡ Some line
+  pub started : after.started ≡ Some line.folder
 
 -- The folder of the run is that of the words. Where it is another, nothing was read, changed or written.
 abbrev pub OfFolder : List (String Global) → World → World → Type 0

@@ -1,5 +1,5 @@
 -- What a script that was served leaves (docs/definitions-of-runs.md, "Runs").
-use Rattle.std.specs.Prelude.{◌≡◌, ◌<◌, ℕ, true, List, [], ◌++◌, length, drop, All, Option, None, Some}
+use Rattle.std.specs.Prelude.{◌≡◌, ◌<◌, ℕ, Bool, true, List, [], ◌++◌, length, drop, All, Option, None, Some}
 use Rattle.std.specs.List.{concat, list_any}
 use Rattle.std.specs.Io.KnownBytes.{Appends}
 use Rattle.mt_values.specs.declared.annals.Noted.{Noted}
@@ -14,26 +14,28 @@ use Rattle.root_store.specs.Crashes.{Storage}
 use Rattle.root_store.specs.Stores.{CoreStands}
 use Rattle.replies.specs.Foreseen.{Foresees, history, is_unsettled}
 use Rattle.session.specs.Answers.{Turned}
+use Rattle.shared_store.specs.Levels.{has_greatest}
 use Rattle.mt_program.specs.Courses.{AreSettled, AreStopped, Course, GoesUnanswered, IsBegunBy, IsCut, Item, TalliesReplies, course_of, started}
 use Rattle.mt_program.specs.declared.serving.Ending.{Ending}
 use Rattle.mt_program.specs.declared.serving.Ending.TheVariants as ending
 use Rattle.replies.specs.declared.tally.Tally.{Tally}
 
 -- What statements met and left: the disk's count of faults at opening, what the disk told before them, what is known of the disk and the annals
--- after them, and the arm's count of faults after them.
+-- after them, the arm's count of faults after them, and whether some part has the greatest level then.
 pub record Stretch : Type 0 where
   pub opened : ℕ
   pub root : Option root.Told
   pub now : Storage
   pub arm : ℕ
+  pub full : Bool
 
 -- what was met and left over an open root
 abbrev pub stretch_of : {F : Type 0} → Turned F → Stretch
-stretch_of t = record { opened = t.was.store.opened; root = t.was.storage.disk; now = t.now.storage; arm = t.arm }
+stretch_of t = record { opened = t.was.store.opened; root = t.was.storage.disk; now = t.now.storage; arm = t.arm; full = has_greatest t.now.store }
 
--- the counts that a run may come to agree with those at its end
+-- what a run may come to agrees with the counts at its end, and with whether some part has the greatest level then
 abbrev pub MayComeTo : Stretch → Outside → Type 0
-MayComeTo s n = Foresees s.opened s.now.failed s.arm n
+MayComeTo s n = Foresees s.opened s.now.failed s.arm s.full n
 
 -- what is known of the bytes of a sink before statements and after them
 pub record Output : Type 0 where
@@ -41,7 +43,7 @@ pub record Output : Type 0 where
   pub after : Option (List ℕ)
 
 -- The annals list what they told and entries of session 0. The statements of the course ran, with its replies, whatever the counts come to, and
--- what is begun is theirs or was begun before. Where none of the replies says that a commit failed, the root stands for the list.
+-- what is begun is theirs or was begun before. Where none of the replies says that the commit of a command failed, the root stands for the list.
 pub record Ran (kept : Told) (s : Stretch) (course : Course) : Type 0 where
   pub now : Told
   pub more : List Noted
@@ -55,7 +57,7 @@ pub record Ran (kept : Told) (s : Stretch) (course : Course) : Type 0 where
   pub stopped : (n : Outside) → MayComeTo s n → AreStopped n (history now) (length kept.list) course.ran course.replies
   pub risen : list_any is_unsettled course.replies ≡ true → s.opened < s.now.failed
   pub begun : (n : Outside) → MayComeTo s n → IsBegunBy n kept now course
-  pub settled : AreSettled course.replies s.now.disk (history now)
+  pub settled : AreSettled course s.now.disk (history now)
 
 -- how far a script was served: its bytes, the place in them, and what the replies so far said
 pub record Progress : Type 0 where

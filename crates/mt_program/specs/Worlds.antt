@@ -1,10 +1,14 @@
 -- What is known of the outside of a run (docs/architecture.md, "Counts of faults").
-use Rattle.std.specs.Prelude.{◌≡◌, ℕ, List, Option, Some}
+use Rattle.std.specs.Prelude.{◌≡◌, ◌≤◌, ℕ, Bool, true, List, Option, Some}
+use Rattle.mt_base.specs.Limits.{level_limit}
 use Rattle.mt_values.specs.Annals.{Told}
 use Rattle.mt_outside.specs.Disk as root
 use Rattle.mt_model.specs.Outside.{Outside}
+use Rattle.part_set.specs.declared.root_name.RootName.{RootName}
+use Rattle.part_set.specs.declared.root_name.TablePart.{TablePart}
+use Rattle.part_set.specs.Visible.{IsVisible}
 use Rattle.root_store.specs.Crashes.{Storage}
-use Rattle.root_store.specs.Roots.{Stands}
+use Rattle.root_store.specs.Roots.{AreNamesRead, Stands}
 use Rattle.replies.specs.Foreseen.{history}
 
 -- What is known at a moment: of the disk and the annals, the path of the folder that was started, what the source has left, what was written to the
@@ -22,9 +26,28 @@ abbrev pub world : Storage → Option (List ℕ) → Option (List ℕ) → ℕ �
 world storage started source source_failed sink sink_failed =
     record { storage = storage; started = started; source = source; source_failed = source_failed; sink = sink; sink_failed = sink_failed }
 
--- the disk's counts of faults from one moment to another
-abbrev pub counts_of : World → World → Outside
-counts_of before after = record { opened = before.storage.failed; ended = after.storage.failed }
+-- a visible part among the names of a root has the greatest level (docs/definitions-of-runs.md, "Faults of the outside")
+pub record HasFullPart (names : root.Names) : Type 0 where
+  pub read : List RootName
+  pub are : AreNamesRead names read
+  pub part : TablePart
+  pub visible : IsVisible read part
+  pub full : level_limit ≤ part.name.level
+
+-- this is so only where it is so of the names of a disk that is known
+abbrev pub IsFullOnlyBy : Option root.Told → Bool → Type 0
+IsFullOnlyBy disk full = full ≡ true → (told : root.Told) → disk ≡ Some told → HasFullPart (root.names_of told)
+
+-- What the outside did from one moment to another: the disk's counts of faults, and whether a part has the greatest level at the end, which is so
+-- only where a visible part has it then (docs/definitions-of-runs.md, "Faults of the outside").
+pub record IsOutsideOf (before after : World) (n : Outside) : Type 0 where
+  pub opened : n.opened ≡ before.storage.failed
+  pub ended : n.ended ≡ after.storage.failed
+  pub full : IsFullOnlyBy after.storage.disk n.full
+
+-- no visible part has the greatest level (docs/definitions-of-runs.md, "Faults of the outside")
+abbrev pub HasNoFullPart : World → Type 0
+HasNoFullPart w = (told : root.Told) → w.storage.disk ≡ Some told → HasFullPart (root.names_of told) → ⊥
 
 -- All of it is known, and the root stands for the list of the annals.
 pub record Starts (w : World) (kept : Told) (script written : List ℕ) : Type 0 where

@@ -5,6 +5,7 @@ ghost use Rattle.mt_values.specs.Annals.{Told};
 ghost use Rattle.mt_values.specs.Script.{next_statement, statements_of};
 ghost use Rattle.mt_outside.specs.Causes.{Rose};
 ghost use Rattle.root_store.specs.Crashes.{KeepsThroughCrashes};
+ghost use Rattle.root_store.specs.Shown.{HasNoMark};
 ghost use Rattle.root_store.specs.Soundness.{HasSoundParts, RootStands};
 ghost use Rattle.session.specs.Answers.{Knows, Turned};
 ghost use Rattle.shared_store.specs.Engines.{GoesOn};
@@ -62,6 +63,8 @@ pub fn serve<F: Dir, R: Arm<Dir = F>, D: Disk<Arm = R>, A: Annals, K: Sink, G: G
     gate: &mut G,
     script: &[u8],
 ) -> Ending
+    requires { HasNoMark engine.old.store }
+
     // What is answered and written, and what a crash leaves.
     ensures run { let turned : Turned F = record {
       was = engine.old;

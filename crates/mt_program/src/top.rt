@@ -1,11 +1,12 @@
 // All that the program does.
-ghost use Rattle.std.specs.Prelude.{◌≡◌, ◌≢◌, ◌+◌, ◌⊎◌, ◌≤◌, ◌<◌, ◌^◌, ◌-◌, List, ℕ, [], Err, Ok, Some, true, IfErr, IfOk, IsErrAnd, IsErrOf, OnOk, is_some, length};
+ghost use Rattle.std.specs.Prelude.{◌≡◌, ◌≢◌, ◌+◌, ◌⊎◌, ◌≤◌, ◌<◌, ◌^◌, ◌-◌, Bool, List, ℕ, [], Err, Ok, Some, None, true, IfErr, IfOk, IsErrAnd, IsErrOf, OnOk, is_some, length};
 ghost use Rattle.mt_values.specs.Annals.{Told};
 ghost use Rattle.mt_outside.specs.Causes.{Rose};
 ghost use Rattle.mt_outside.specs.Disk as root;
 ghost use Rattle.root_opening.specs.declared.opening.Damage.{Damage as Damaged};
 ghost use Rattle.root_store.specs.Crashes.{AllStand, KeepsThroughCrashes};
 ghost use Rattle.root_opening.specs.Opening.{IsNotDamaged, IsRootDamage};
+ghost use Rattle.root_store.specs.Shown.{HasNoMark};
 ghost use Rattle.root_store.specs.Roots.{Stands};
 ghost use Rattle.root_store.specs.Soundness.{HasSoundParts, RootStands};
 ghost use Rattle.root_commits.specs.Turns.{storage};
@@ -14,21 +15,23 @@ ghost use Rattle.session.specs.Answers.{Knows, Turned};
 ghost use Rattle.shared_store.specs.Engines.{GoesOn};
 ghost use Rattle.mt_program.specs.Crashes.{IsAsBefore, IsGainedBy, LeavesOfScript};
 ghost use Rattle.mt_program.specs.Damage.{IsDamagedRoot, WritesDamage, WritesFault, damage_line};
-ghost use Rattle.mt_program.specs.Endings.{IsAnswered, IsEarly, LeftBy, MetNoDamage, status_of, status_of_error, status_of_stop};
+ghost use Rattle.mt_program.specs.Endings.{IsAnswered, IsEarly, LeftAtEnd, LeftBy, MetNoDamage, status_of, status_of_error, status_of_stop};
 ghost use Rattle.mt_program.specs.Headline.{Headline};
 ghost use Rattle.mt_program.specs.Promises.{IsUntouched, OfCrashes, Promises};
 ghost use Rattle.mt_program.specs.Serving.{Output, Stretch, stretch_of};
 ghost use Rattle.mt_program.specs.Worlds.{Starts, world};
+ghost use Rattle.command_line.specs.Words.{command_of, said};
 ghost use Rattle.run_streams.specs.Streams.{ConsumesMost};
-ghost use Rattle.run_streams.specs.Words.{is_command, path_of};
 
 use crate::Status;
 use crate::refusals::damage_line;
 use crate::serving::{Ending, serve};
+use command_line::{CommandLine, read_words};
+use mt_base::{NoMemory, Policy};
 use mt_outside::{Arm, Dir, Disk, DiskError, Gate, Sink, Source};
 use mt_values::Annals;
 use root_log::{Damage, OpenFault, open};
-use run_streams::{SourceStop, is_command_line, read_all, write_all};
+use run_streams::{SourceStop, read_all, write_all};
 use shared_store::Engine;
 use std::alloc::Global;
 use std::sync::Wait;
@@ -98,6 +101,8 @@ fn run_script<F: Dir, R: Arm<Dir = F>, D: Disk<Arm = R>, A: Annals, S: Source, K
     arm: &mut R,
     gate: &mut G,
 ) -> Result<Ending, Status>
+    requires { HasNoMark engine.old.store }
+
     // What is answered, and what a crash leaves.
     ensures leaves { let turned : Turned F = record {
       was = engine.old;
@@ -174,7 +179,7 @@ fn failed_root<K: Sink>(alloc: Global, sink: &mut K, fault: &OpenFault) -> Statu
     }
 }
 
-/// Opens the root and runs a script over it. `opened` is the disk's count before the root was opened.
+/// Opens the root and runs a script over it, with this policy of merges. `opened` is the disk's count before the root was opened.
 ///
 /// The status of a script that was not read, and of a root that was not opened.
 fn run_root<D: Disk, A: Annals, S: Source, K: Sink, G: Gate>(
@@ -185,24 +190,26 @@ fn run_root<D: Disk, A: Annals, S: Source, K: Sink, G: Gate>(
     disk: D,
     arm: &mut D::Arm,
     annals: A,
+    policy: Policy,
     gate: &mut G,
 ) -> Ended<Result<Ending, Status>, D, A>
     requires opened { opened ≤ D.failed disk }
     requires below { opened < 2 ^ 64 - 1 }
 
     // What is answered, and what is told of damage.
-    ensures leaves { let stretch : Stretch = record {
+    ensures leaves { let stretch : Bool → Stretch = λ full. record {
       opened = opened;
       root = D.told disk;
       now = storage (D.told result.disk) (D.clock result.disk) (D.failed result.disk)
           (A.told result.annals);
       arm = D.Arm.failed arm.new;
+      full = full;
     } in
         let output : Output = record { before = K.written sink.old; after = K.written sink.new } in
         (kept : Told) (told : root.Told) (script : List ℕ) → A.told annals ≡ Some kept
         → D.told disk ≡ Some told → Stands (root.names_of told) (history kept)
         → D.Arm.tells arm.old ≡ true → S.left source.old ≡ Some script
-        → LeftBy result.ended kept script stretch output }
+        → LeftAtEnd result.ended kept script stretch output }
     ensures opening { (told : root.Told) (damage : Damaged) → D.told disk ≡ Some told
         → IsRootDamage (root.names_of told) damage → IsErrAnd result.ended (λ ended.
         WritesDamage ended (damage_line damage) (K.failed sink.old) (K.failed sink.new)
@@ -226,7 +233,7 @@ fn run_root<D: Disk, A: Annals, S: Source, K: Sink, G: Gate>(
         (A.told result.annals) in
         (kept : Told) (told : root.Told) → A.told annals ≡ Some kept → D.told disk ≡ Some told
         → D.Arm.tells arm.old ≡ true → root.names_of told ≢ []
-        → AllStand told (D.clock disk + 1) (history kept)
+        → AllStand told (D.clock disk + 1) (history kept) → root.IsStamped (D.clock disk) told
         → IsAsBefore was now (K.written sink.old) (K.written sink.new)
         ⊎ LeavesOfScript (S.left source.old) opened now kept (D.clock disk + 1) }
 
@@ -267,7 +274,7 @@ fn run_root<D: Disk, A: Annals, S: Source, K: Sink, G: Gate>(
         }
     };
     store.opened = opened;
-    let mut engine = Engine::new(store, disk, annals);
+    let mut engine = Engine::new(store, disk, annals, policy);
     let ended = run_script(alloc, &mut engine, source, sink, arm, gate);
     let (disk, annals) = engine.into_outside();
     Ended {
@@ -315,7 +322,7 @@ fn started_arm<D: Disk>(alloc: Global, path: &str, disk: &mut D) -> Result<D::Ar
 /// Starts the disk, opens the root and runs the script. The arm is given back in each case.
 fn run_opened<D: Disk, A: Annals, S: Source, K: Sink, G: Gate>(
     alloc: Global,
-    path: &str,
+    line: &CommandLine<'_>,
     source: &mut S,
     sink: &mut K,
     disk: D,
@@ -356,7 +363,7 @@ fn run_opened<D: Disk, A: Annals, S: Source, K: Sink, G: Gate>(
         let after = world (storage (D.told result.disk) (D.clock result.disk)
         (D.failed result.disk) (A.told result.annals)) (D.started result.disk)
         (S.left source.new) (S.failed source.new) (K.written sink.new) (K.failed sink.new) in
-        (D.started result.disk ≡ Some path.now) ⊎ IsUntouched before after }
+        (D.started result.disk ≡ Some line.now.folder.now) ⊎ IsUntouched before after }
 
     // What was read, and why it ended so.
     ensures full { D.failed disk ≡ 2 ^ 64 - 1 → (result.ended ≡ Status.DiskFault)
@@ -381,7 +388,7 @@ fn run_opened<D: Disk, A: Annals, S: Source, K: Sink, G: Gate>(
 {
     let mut disk = disk;
     let opened = disk.faults();
-    let mut arm = match started_arm(alloc, path, &mut disk) {
+    let mut arm = match started_arm(alloc, line.folder, &mut disk) {
         Ok(arm) => arm,
         Err(ended) => {
             return Ended {
@@ -395,7 +402,17 @@ fn run_opened<D: Disk, A: Annals, S: Source, K: Sink, G: Gate>(
         ended,
         mut disk,
         annals,
-    } = run_root(alloc, opened, source, sink, disk, &mut arm, annals, gate);
+    } = run_root(
+        alloc,
+        opened,
+        source,
+        sink,
+        disk,
+        &mut arm,
+        annals,
+        line.policy,
+        gate,
+    );
     disk.take_back(arm);
     let ended = status_at_end(ended, opened < disk.faults());
     Ended {
@@ -405,13 +422,17 @@ fn run_opened<D: Disk, A: Annals, S: Source, K: Sink, G: Gate>(
     }
 }
 
-/// The folder that a command line names.
-#[tactic(auto, using(crate::proofs::Folder::third_word))]
-fn folder_of(words: &[String]) -> &str
-    requires { is_command words.now ≡ true }
-    ensures { result.now ≡ path_of words.now }
+/// The command line, or the status of a run that ends at its words.
+fn line_of<'a>(alloc: Global, words: &'a [String]) -> Result<CommandLine<'a>, Status>
+    ensures line { IfOk result (λ line. command_of words.now ≡ Some (said line)) }
+    ensures status { IfErr result (λ status.
+        ((status ≡ Status.NotWords) × (command_of words.now ≡ None)) ⊎ (status ≡ Status.NoMemory)) }
 {
-    &words[2]
+    match read_words(alloc, words) {
+        Ok(Some(line)) => Ok(line),
+        Ok(None) => Err(Status::NotWords),
+        Err(NoMemory) => Err(Status::NoMemory),
+    }
 }
 
 /// Runs a script over the root of a folder, as `run` does, and waits for nobody: so it returns.
@@ -431,24 +452,26 @@ pub fn run_alone<D: Disk, A: Annals, S: Source, K: Sink, G: Gate>(
         (D.failed result.disk) (A.told result.annals)) (D.started result.disk)
         (S.left source.new) (S.failed source.new) (K.written sink.new) (K.failed sink.new) in
         Promises words.now before result.status after }
-    ensures untouched { (result.status ≡ 2) ⊎ (D.failed disk ≡ 2 ^ 64 - 1)
+    ensures untouched { (command_of words.now ≡ None) ⊎ (D.failed disk ≡ 2 ^ 64 - 1)
         → (source.new ≡ source.old) × (sink.new ≡ sink.old) × (result.disk ≡ disk)
         × (result.annals ≡ annals) }
 {
-    if !is_command_line(words) {
-        let status = Status::NotWords.number();
-        return Done {
-            status,
-            disk,
-            annals,
-        };
-    }
-    let path = folder_of(words);
+    let line = match line_of(alloc, words) {
+        Ok(line) => line,
+        Err(early) => {
+            let status = early.number();
+            return Done {
+                status,
+                disk,
+                annals,
+            };
+        }
+    };
     let Ended {
         ended,
         disk,
         annals,
-    } = run_opened(alloc, path, source, sink, disk, annals, gate);
+    } = run_opened(alloc, &line, source, sink, disk, annals, gate);
     let status = ended.number();
     Done {
         status,
@@ -479,7 +502,7 @@ pub fn run<R: Threads + Wait + Sync, D: Disk, A: Annals, S: Source, K: Sink, G: 
         (D.failed result.disk) (A.told result.annals)) (D.started result.disk)
         (S.left source.new) (S.failed source.new) (K.written sink.new) (K.failed sink.new) in
         Promises words.now before result.status after }
-    ensures untouched { (result.status ≡ 2) ⊎ (D.failed disk ≡ 2 ^ 64 - 1)
+    ensures untouched { (command_of words.now ≡ None) ⊎ (D.failed disk ≡ 2 ^ 64 - 1)
         → (source.new ≡ source.old) × (sink.new ≡ sink.old) × (result.disk ≡ disk)
         × (result.annals ≡ annals) }
 {

@@ -22,7 +22,8 @@ use Rattle.root_store.specs.Soundness.{RootStands}
 use Rattle.root_store.specs.Stores.{CoreStands}
 use Rattle.mt_base.specs.declared.memory.NoMemory.{NoMemory}
 use Rattle.shared_store.specs.Engines.{GoesOn, IsOpen, Opened}
-use Rattle.session.specs.Answers.{AcceptsNothing, Answered, Answers, BeginsNext, EndsUnanswered, IsBegun, Knows, Turned}
+use Rattle.shared_store.specs.Levels.{has_greatest}
+use Rattle.session.specs.Answers.{AcceptsNothing, Answered, Answers, BeginsNext, EndsUnanswered, IsBegun, Knows, Turned, unsettles}
 use Rattle.replies.specs.Foreseen.{history, Foresees, is_unsettled}
 use Rattle.replies.proofs.Ends.{added_nothing, length_history, whole_front}
 use Rattle.replies.proofs.Refusing.{stops_first}
@@ -30,8 +31,8 @@ use Rattle.replies.proofs.Refusing.{stops_first}
 -- a statement that adds nothing
 pub answered_nothing : {F : Type 0} (files_of : F → Option Files) (kept now : Told) (st : Item) (t : Turned F) (reply : List ℕ)
     → t.now.storage.annals ≡ Some now → now.list ≡ kept.list → IsBegun kept now st (is_unsettled reply ≡ true) → CoreStands files_of (history kept) t.now.store
-    → ((n : Outside) → Foresees t.was.store.opened t.now.storage.failed t.arm n → Takes n (history kept) 0 st (length kept.list) (length kept.list) reply)
-    → (is_unsettled reply ≡ false → RootStands t.was.storage.disk (history kept) → RootStands t.now.storage.disk (history kept)) → Answered files_of kept st t reply
+    → ((n : Outside) → Foresees t.was.store.opened t.now.storage.failed t.arm (has_greatest t.now.store) n → Takes n (history kept) 0 st (length kept.list) (length kept.list) reply)
+    → (unsettles st reply ≡ false → RootStands t.was.storage.disk (history kept) → RootStands t.now.storage.disk (history kept)) → Answered files_of kept st t reply
 answered_nothing files_of kept now st t reply is same begun stands takes settled =
     let h : history now ≡ history kept = ap (map (λ (n : Noted). n.entry)) same in
     record {
@@ -91,7 +92,7 @@ keeps_nothing files_of kept st here arm knows = unanswered_nothing files_of kept
 
 -- a line in answer to such a statement
 pub answers_kept : {F : Type 0} (files_of : F → Option Files) (kept : Told) (st : Item) (here : Opened F) (arm : ℕ) (line : Result (List ℕ) NoMemory) (P : List ℕ → Type 0) → Knows files_of kept here → IfOk line (λ text. P text)
-    → ((reply : List ℕ) → P reply → (n : Outside) → Foresees here.store.opened here.storage.failed arm n → Takes n (history kept) 0 st (length kept.list) (length kept.list) reply)
+    → ((reply : List ℕ) → P reply → (n : Outside) → Foresees here.store.opened here.storage.failed arm (has_greatest here.store) n → Takes n (history kept) 0 st (length kept.list) (length kept.list) reply)
     → Answers files_of kept st (unturned here arm) line
 answers_kept files_of kept st here arm (Ok text) P knows is takes = answered_nothing files_of kept kept st (unturned here arm) text knows.told_is refl (inl (refl, refl)) knows.stands (takes text is) (λ calm before. before)
 answers_kept files_of kept st here arm (Err e) P knows is takes = keeps_nothing files_of kept st here arm knows
@@ -107,7 +108,7 @@ nothing_accepted here = record { store_is = record { tables = refl; parts = λ t
 
 -- a turn that did nothing
 pub stays_open : {F : Type 0} (here : Opened F) → IsOpen here → GoesOn here here
-stays_open here ready = record { found = ready; left = ready; opened = refl; started = refl; later = omega arith }
+stays_open here ready = record { found = ready; left = ready; opened = refl; policy = refl; started = refl; later = omega arith }
 
 -- the first command of a statement that is begun and was not accepted
 pub begins_first : (kept now : Told) (said : Statement) (next : Command) (rest : List Command) → now.list ≡ kept.list → commands_of (history kept) said ≡ Ok (next ∷ rest) → now.begun ≡ Some (entry_of 0 next)

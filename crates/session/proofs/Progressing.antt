@@ -21,6 +21,7 @@ use Rattle.durable_commit.specs.Commits.{entry_of}
 use Rattle.root_store.specs.Soundness.{RootStands}
 use Rattle.root_store.specs.Stores.{CoreStands}
 use Rattle.shared_store.specs.Engines.{Opened}
+use Rattle.shared_store.specs.Levels.{has_greatest}
 use Rattle.replies.specs.Foreseen.{Foresees, history, is_unsettled}
 use Rattle.replies.proofs.Ends.{added_nothing, length_history, whole_front}
 use Rattle.session.specs.Answers.{Answered, EndsUnanswered, IsBegun, Knows, Turned}
@@ -195,7 +196,7 @@ module _ {F : Type 0} (files_of : F → Option Files) (kept : Told) (was here : 
             rest,
             stops_next only l,
             subst (λ (k : ℕ). RefusedInTurn n (take (length l.now.list) (history l.now)) k c reply) counted
-                (subst (λ (h : History). RefusedInTurn n h before c reply) (sym (whole_front l.now ∙ same)) (r.takes n (subst (λ (o : ℕ). Foresees o new.storage.failed arm n) (sym opened) f))),
+                (subst (λ (h : History). RefusedInTurn n h before c reply) (sym (whole_front l.now ∙ same)) (r.takes n (subst (λ (o : ℕ). Foresees o new.storage.failed arm (has_greatest new.store) n) (sym opened) f))),
           )));
           settled = λ calm before. subst (RootStands new.storage.disk) (sym same) (r.settled calm (p.settled before));
         }

@@ -17,6 +17,8 @@ use Rattle.root_store.specs.Stores.{table_at}
 use Rattle.replies.specs.Causes.{HasCauses}
 use Rattle.replies.specs.Foreseen.{history}
 use Rattle.shared_store.specs.Engines.{GoesOn, GoesThroughCrashes, IsOpen, Opened, schema_kept}
+use Rattle.shared_store.specs.Levels.{LeavesParts}
+use Rattle.shared_store.proofs.Levels.{parts_stay, parts_then}
 use Rattle.session.specs.declared.sealing.SealedBlock.{SealedBlock}
 use Rattle.session.specs.Answers.{AcceptsNothing, Answered, EndsUnanswered, Knows, Turned}
 use Rattle.session.specs.Turns.{AcceptsInTurn, EndsInTurn, InTurn, IsPartFor, RefusesInTurn, commands_in_turn, in_turn, part_command}
@@ -31,6 +33,7 @@ on_and_on a b c first second = record {
   found = first.found;
   left = second.left;
   opened = second.opened ∙ first.opened;
+  policy = second.policy ∙ first.policy;
   started = second.started ∙ first.started;
   later = omega (arith, first.later, second.later);
 }
@@ -82,6 +85,7 @@ pub record Runs {F S : Type 0} (files_of : F → Option Files) (r : Taken F S) :
   pub goes_on : GoesOn r.was r.here
   pub calm : r.here.storage.failed ≡ r.was.storage.failed
   pub keeps : schema_kept (table_at r.here.store r.table) ≡ schema_kept (table_at r.was.store r.table)
+  pub parts : LeavesParts r.was.store r.here.store
   pub stopped : r.was.store.opened < r.was.storage.failed → AcceptsNothing r.was r.here
   pub crashes : (schema : Schema) → AreFor r.was r.table r.all schema → GoesThroughCrashes files_of r.was r.here
   pub held : (schema : Schema) → AreFor r.was r.table r.all schema → HasSoundParts files_of r.was.store → HasSoundParts files_of r.here.store
@@ -97,6 +101,7 @@ module _ {F S : Type 0} (files_of : F → Option Files) where
     goes_on = stays_open was ready;
     calm = refl;
     keeps = refl;
+    parts = parts_stay was.store;
     stopped = λ risen. nothing_accepted was;
     crashes = λ schema are first start keeps. keeps;
     held = λ schema are held. held;
@@ -146,6 +151,9 @@ module _ {F S : Type 0} (files_of : F → Option Files) where
         pub goes_next : GoesOn r.here new → GoesOn r.was new
         goes_next goes = on_and_on r.was r.here new run.goes_on goes
 
+        pub parts_next : LeavesParts r.here.store new.store → LeavesParts r.was.store new.store
+        parts_next turn = parts_then r.was.store r.here.store new.store run.parts turn
+
         pub stopped_next : (r.here.store.opened < r.here.storage.failed → AcceptsNothing r.here new) → r.was.store.opened < r.was.storage.failed → AcceptsNothing r.was new
         stopped_next turn risen =
             let opened = run.goes_on.opened in
@@ -168,18 +176,20 @@ module _ {F S : Type 0} (files_of : F → Option Files) where
 
         -- it was accepted
         pub run_on : GoesOn r.here new → new.storage.failed ≡ r.here.storage.failed → schema_kept (table_at new.store r.table) ≡ schema_kept (table_at r.here.store r.table)
+            → LeavesParts r.here.store new.store
             → (r.here.store.opened < r.here.storage.failed → AcceptsNothing r.here new)
             → ((schema : Schema) → schema_kept (table_at r.here.store r.table) ≡ Some schema → IsPartFor schema s → GoesThroughCrashes files_of r.here new)
             → ((schema : Schema) → schema_kept (table_at r.here.store r.table) ≡ Some schema → IsPartFor schema s → HasSoundParts files_of r.here.store → HasSoundParts files_of new.store)
             → ((kept : Told) (schema : Schema) → Knows files_of kept r.here → schema_kept (table_at r.here.store r.table) ≡ Some schema → IsPartFor schema s → AcceptsInTurn files_of kept (turn_of schema) turned)
             → Runs files_of (record { table = r.table; all = r.all; left = rest; was = r.was; here = new; accepted = r.accepted + 1 })
-        run_on goes calm schema_same stopped crashes held answers = record {
+        run_on goes calm schema_same parts stopped crashes held answers = record {
           done = run.done ++ s ∷ [];
           split = next_split ∙ sym (append_assoc run.done (s ∷ []) (in_turn rest));
           count = let count = run.count in omega (arith, count, length-append run.done (s ∷ []));
           goes_on = goes_next goes;
           calm = calm ∙ run.calm;
           keeps = schema_same ∙ run.keeps;
+          parts = parts_next parts;
           stopped = stopped_next stopped;
           crashes = crashes_next crashes;
           held = held_next held;

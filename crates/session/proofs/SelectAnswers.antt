@@ -6,6 +6,7 @@ use Rattle.mt_values.specs.declared.statement.Statement.TheVariants as statement
 use Rattle.mt_values.specs.Annals.{Told}
 use Rattle.mt_outside.specs.Files.{Files}
 use Rattle.shared_store.specs.Engines.{Opened}
+use Rattle.shared_store.specs.Levels.{has_greatest}
 use Rattle.session.specs.Answers.{Answers, Knows}
 use Rattle.session.proofs.Accepting.{answers_kept, unturned}
 use Rattle.replies.specs.Foreseen.{Explained, Selected}
@@ -14,7 +15,7 @@ use Rattle.replies.specs.Foreseen.{Explained, Selected}
 pub selected_answers : {F : Type 0} (files_of : F → Option Files) (kept : Told) (text : SelectText) (here : Opened F) (arm : ℕ) (result : Result (List ℕ) NoMemory)
     → Knows files_of kept here → IfOk result (λ reply. Selected kept text arm here.store.opened reply) → Answers files_of kept (Ok (statement.Select text)) (unturned here arm) result
 selected_answers files_of kept text here arm result knows chosen =
-    answers_kept files_of kept (Ok (statement.Select text)) here arm result (Selected kept text arm here.store.opened) knows chosen (λ reply takes n f. takes n here.storage.failed f)
+    answers_kept files_of kept (Ok (statement.Select text)) here arm result (Selected kept text arm here.store.opened) knows chosen (λ reply takes n f. takes n here.storage.failed (has_greatest here.store) f)
 
 -- and neither does an EXPLAIN
 pub explained_answers : {F : Type 0} (files_of : F → Option Files) (kept : Told) (text : SelectText) (here : Opened F) (arm : ℕ) (result : Result (List ℕ) NoMemory)

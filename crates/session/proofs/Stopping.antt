@@ -63,8 +63,8 @@ by_disk accepted table refused.Exists reply line outside = absurd outside
 by_disk accepted table (refused.Limit l) reply line outside = absurd outside
 
 -- the reply to a command that was not committed
-module _ {F : Type 0} (files_of : F → Option Files) (store : CoreStore F) (kept : Told) (s : CoreStands files_of (history kept) store) (before disk arm : ℕ) (cause : Refused) (reply : List ℕ) (n : Outside)
-    (f : Foresees store.opened disk arm n) (low : store.opened ≤ before) (later : before ≤ disk) (rose : cause ≡ refused.Disk → Rose before disk) where
+module _ {F : Type 0} (files_of : F → Option Files) (store : CoreStore F) (kept : Told) (s : CoreStands files_of (history kept) store) (before disk arm : ℕ) {levels : Bool} (cause : Refused) (reply : List ℕ) (n : Outside)
+    (f : Foresees store.opened disk arm levels n) (low : store.opened ≤ before) (later : before ≤ disk) (rose : cause ≡ refused.Disk → Rose before disk) where
   stopped_now : (accepted : ℕ) (table : List ℕ) → nat_lt store.opened before ≡ true → IsLineOf accepted table (refused.Stopped store.opened before) reply → TurnFailed n accepted reply
   stopped_now accepted table risen line = let high : store.opened < before = grind (arith, nat_tests) in was_stopped store.opened disk arm before accepted reply n high later line f
 
@@ -210,6 +210,7 @@ commit_line accepted table refused.Exists reply line = ap is_damage line
 commit_line accepted table (refused.Limit limit.Tables) reply line = ap is_damage line
 commit_line accepted table (refused.Limit limit.Parts) reply line = ap is_damage line
 commit_line accepted table (refused.Limit limit.Numbers) reply line = ap is_damage line
+commit_line accepted table (refused.Limit limit.Levels) reply line = ap is_damage line
 
 -- ---- the causes of such a reply
 
@@ -263,3 +264,4 @@ refused_says opened before disk arm_old arm_new accepted table refused.Exists re
 refused_says opened before disk arm_old arm_new accepted table (refused.Limit limit.Tables) reply line risen rose = says_script opened before disk arm_old arm_new reply (refusal.Past bound.Tables) line (inl (omega arith))
 refused_says opened before disk arm_old arm_new accepted table (refused.Limit limit.Parts) reply line risen rose = says_script opened before disk arm_old arm_new reply (refusal.Full room.Parts accepted) line (inl (omega arith))
 refused_says opened before disk arm_old arm_new accepted table (refused.Limit limit.Numbers) reply line risen rose = says_script opened before disk arm_old arm_new reply (refusal.Full room.Numbers accepted) line (inl (omega arith))
+refused_says opened before disk arm_old arm_new accepted table (refused.Limit limit.Levels) reply line risen rose = says_script opened before disk arm_old arm_new reply (refusal.Past bound.Levels) line (inl (omega arith))

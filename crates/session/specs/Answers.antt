@@ -1,8 +1,9 @@
 -- What the answer to a statement does to what the annals list and to the open root (docs/definitions-of-runs.md, "Statements taken").
-use Rattle.std.specs.Prelude.{◌≡◌, ◌⊎◌, ◌<◌, ℕ, true, false, List, ◌∷◌, ◌++◌, length, All, Option, None, Some, Result, Ok, MatchResult}
+use Rattle.std.specs.Prelude.{◌≡◌, ◌⊎◌, ◌<◌, ℕ, Bool, true, false, List, ◌∷◌, ◌++◌, length, All, Option, None, Some, Result, Ok, Err, MatchResult}
 use Rattle.mt_values.specs.declared.annals.Noted.{Noted}
 use Rattle.mt_values.specs.declared.command.Command.{Command}
 use Rattle.mt_values.specs.declared.statement.Statement.{Statement}
+use Rattle.mt_values.specs.declared.statement.Statement.TheVariants as statement
 use Rattle.mt_values.specs.Annals.{Told}
 use Rattle.mt_values.specs.Script.{Item}
 use Rattle.mt_outside.specs.Files.{Files}
@@ -15,6 +16,7 @@ use Rattle.root_store.specs.Soundness.{RootStands}
 use Rattle.root_store.specs.Stores.{CoreStands}
 use Rattle.mt_base.specs.declared.memory.NoMemory.{NoMemory}
 use Rattle.shared_store.specs.Engines.{Opened}
+use Rattle.shared_store.specs.Levels.{has_greatest}
 
 -- What a statement met and left: what was known of the open root before it, what is known after it, and the arm's count of faults after it.
 pub record Turned (F : Type 0) : Type 0 where
@@ -39,9 +41,19 @@ IsBegun kept now statement only =
     ⊎ ((now.begun ≡ None) × (length kept.list < length now.list))
     ⊎ (only × (done : List Command) × BeginsNext kept now statement done)
 
+-- The reply of a statement says that the commit of a command failed, so that the root may have its name or not. An OPTIMIZE has no command: where
+-- the commit of a merge failed, the root stands for the same list with the merged part's name or without (docs/crashes.md, "What each step keeps").
+abbrev pub unsettles : Item → List ℕ → Bool
+unsettles (Ok (statement.Create c)) reply = is_unsettled reply
+unsettles (Ok (statement.Insert i)) reply = is_unsettled reply
+unsettles (Ok (statement.Select s)) reply = is_unsettled reply
+unsettles (Ok (statement.Explain s)) reply = is_unsettled reply
+unsettles (Ok (statement.Optimize o)) reply = false
+unsettles (Err why) reply = is_unsettled reply
+
 -- The annals list what they told and these entries of session 0. The store stands for all of it, and the reply is one that the
 -- statement may have, whatever the outside comes to. A root that stood for what was told stands for what is told now, unless the
--- reply says that a commit failed.
+-- reply says that the commit of a command failed.
 pub record Answered {F : Type 0} (files_of : F → Option Files) (kept : Told) (statement : Item) (t : Turned F) (reply : List ℕ) : Type 0 where
   pub now : Told
   pub more : List Noted
@@ -50,8 +62,8 @@ pub record Answered {F : Type 0} (files_of : F → Option Files) (kept : Told) (
   pub begun : IsBegun kept now statement (is_unsettled reply ≡ true)
   pub sessions : All (λ (n : Noted). n.entry.session ≡ 0) more
   pub stands : CoreStands files_of (history now) t.now.store
-  pub takes : (n : Outside) → Foresees t.was.store.opened t.now.storage.failed t.arm n → Takes n (history now) 0 statement (length kept.list) (length now.list) reply
-  pub settled : is_unsettled reply ≡ false → RootStands t.was.storage.disk (history kept) → RootStands t.now.storage.disk (history now)
+  pub takes : (n : Outside) → Foresees t.was.store.opened t.now.storage.failed t.arm (has_greatest t.now.store) n → Takes n (history now) 0 statement (length kept.list) (length now.list) reply
+  pub settled : unsettles statement reply ≡ false → RootStands t.was.storage.disk (history kept) → RootStands t.now.storage.disk (history now)
 
 -- A statement that ended the run without a reply: the annals list the first of its commands as entries of session 0, or none. The store stands
 -- for all of it, and so does a root that stood for what was told.

@@ -9,8 +9,8 @@ use Rattle.durable_commit.specs.declared.causes.Limit.TheVariants as limit
 use Rattle.durable_commit.specs.declared.causes.Refused.{Refused}
 use Rattle.durable_commit.specs.declared.causes.Refused.TheVariants as refused
 
--- what a command on a table is refused for where it was not committed, after some of its statement's commands were accepted; nothing for want
--- of memory
+-- what a command on a table, or a merge of its parts, is refused for where it was not committed, after some of its statement's commands were
+-- accepted; nothing for want of memory
 abbrev pub refusal_of_commit : ℕ → List ℕ → Refused → Option Refusal
 refusal_of_commit accepted table refused.NoMemory = None
 refusal_of_commit accepted table refused.Disk = Some (refusal.Unsettled accepted)
@@ -19,6 +19,7 @@ refusal_of_commit accepted table refused.Exists = Some (refusal.TableExists tabl
 refusal_of_commit accepted table (refused.Limit limit.Tables) = Some (refusal.Past bound.Tables)
 refusal_of_commit accepted table (refused.Limit limit.Parts) = Some (refusal.Full room.Parts accepted)
 refusal_of_commit accepted table (refused.Limit limit.Numbers) = Some (refusal.Full room.Numbers accepted)
+refusal_of_commit accepted table (refused.Limit limit.Levels) = Some (refusal.Past bound.Levels)
 
 abbrev pub IsLineFor : Option Refusal → List ℕ → Type 0
 IsLineFor None line = ⊥

@@ -13,6 +13,7 @@ use Rattle.root_commits.specs.Commits.{IsSealedOf, insert_into, insert_of_block,
 use Rattle.root_store.specs.Soundness.{RootStands}
 use Rattle.root_store.specs.Stores.{CoreStands}
 use Rattle.replies.specs.Foreseen.{Foresees, history, is_unsettled}
+use Rattle.shared_store.specs.Levels.{has_greatest}
 use Rattle.session.specs.Answers.{Turned}
 use Rattle.session.specs.declared.sealing.SealedBlock.{SealedBlock}
 use Rattle.session.specs.declared.turns.TurnReply.{TurnReply}
@@ -73,7 +74,7 @@ pub record LeavesInTurn {F : Type 0} (files_of : F → Option Files) (kept : Tol
 -- still, unless the reply says that the commit failed (docs/definitions-of-runs.md, "Turns").
 pub record RefusesInTurn {F : Type 0} (files_of : F → Option Files) (kept : Told) (turn : InTurn) (t : Turned F) (reply : List ℕ) : Type 0 where
   pub leaves : LeavesInTurn files_of kept turn t (is_unsettled reply ≡ true)
-  pub takes : (n : Outside) → Foresees t.was.store.opened t.now.storage.failed t.arm n → RefusedInTurn n (history kept) turn.before turn.command reply
+  pub takes : (n : Outside) → Foresees t.was.store.opened t.now.storage.failed t.arm (has_greatest t.now.store) n → RefusedInTurn n (history kept) turn.before turn.command reply
   pub settled : is_unsettled reply ≡ false → RootStands t.was.storage.disk (history kept) → RootStands t.now.storage.disk (history kept)
 
 -- the run ended in the turn, without a reply (docs/definitions-of-runs.md, "Turns")

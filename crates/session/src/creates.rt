@@ -8,6 +8,7 @@ ghost use Rattle.root_store.specs.Soundness.{HasSoundParts};
 ghost use Rattle.replies.specs.Causes.{HasCauses};
 ghost use Rattle.session.specs.Answers.{AcceptsNothing, Answers, Knows, Turned};
 ghost use Rattle.shared_store.specs.Engines.{GoesOn, GoesThroughCrashes};
+ghost use Rattle.shared_store.specs.Levels.{LeavesParts};
 
 use crate::stopped::refused_line;
 use crate::{give_back, seal_entry};
@@ -56,6 +57,7 @@ pub fn create<F: Dir, R: Arm<Dir = F>, D: Disk<Arm = R>, A: Annals>(
     // What the root is then, and what stays.
     ensures held { R.tells arm.old ≡ true → HasSoundParts F.files engine.old.store
         → HasSoundParts F.files engine.new.store }
+    ensures parts { LeavesParts engine.old.store engine.new.store }
     ensures goes_on { GoesOn engine.old engine.new }
 
     // What the arm is then, and the counts of faults where there is no reply.

@@ -7,6 +7,7 @@ ghost use Rattle.root_store.specs.Soundness.{HasSoundParts};
 ghost use Rattle.replies.specs.Causes.{HasCauses};
 ghost use Rattle.session.specs.Answers.{AcceptsNothing, Answers, Knows, Turned};
 ghost use Rattle.shared_store.specs.Engines.{GoesOn, GoesThroughCrashes};
+ghost use Rattle.shared_store.specs.Levels.{LeavesParts};
 
 use crate::read_block;
 use crate::sealing::seal_blocks;
@@ -51,6 +52,7 @@ pub fn insert<F: Dir, R: Arm<Dir = F>, D: Disk<Arm = R>, A: Annals>(
     // What the root is then, and what stays.
     ensures held { R.tells arm.old ≡ true → HasSoundParts F.files engine.old.store
         → HasSoundParts F.files engine.new.store }
+    ensures parts { LeavesParts engine.old.store engine.new.store }
     ensures goes_on { GoesOn engine.old engine.new }
 
     // What the arm is then, and the counts of faults where there is no reply.

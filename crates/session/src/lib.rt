@@ -1,10 +1,12 @@
-//! Running one statement over a store: a CREATE, an INSERT, a SELECT or an EXPLAIN, from its text to its reply.
+//! Running one statement over a store: a CREATE, an INSERT, a SELECT, an EXPLAIN or an OPTIMIZE, from its text to its reply.
 #![tactic(auto)]
 
 mod creates;
 mod data;
 mod explains;
 mod inserts;
+mod merging;
+mod optimizes;
 mod sealing;
 mod selects;
 mod staging;
@@ -16,6 +18,8 @@ pub use creates::create;
 pub use data::read_block;
 pub use explains::{count_reads, explain};
 pub use inserts::insert;
+pub use merging::merge_work;
+pub use optimizes::optimize;
 pub use sealing::{SealedBlock, give_back_part, give_back_parts, seal_blocks};
 pub use selects::{scan, select};
 pub use staging::{give_back, seal_entry};

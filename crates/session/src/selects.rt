@@ -85,7 +85,7 @@ fn read_matches<R: Arm>(
         Ok(rows) => print(alloc, snap.length, columns, rows, picked.shown.as_slice()),
         Err((_, PartFault::NoMemory)) => Err(NoMemory),
         Err((_, PartFault::Fault)) => stage_line(DiskError::Fault, failed),
-        Err((part, PartFault::Damaged { file, .. })) => damaged(alloc, text, &part, file),
+        Err((part, PartFault::Damaged { file, .. })) => damaged(alloc, &text.table, &part, file),
     }
 }
 

@@ -3,14 +3,17 @@ ghost use Rattle.std.specs.Prelude.{◌≡◌, ◌<◌, ◌≤◌, true, false, 
 ghost use Rattle.mt_values.specs.Annals.{Told};
 ghost use Rattle.mt_model.specs.Refusals.{is_damage};
 ghost use Rattle.mt_model.specs.Written.{IsWritten};
+ghost use Rattle.root_store.specs.Shown.{HasNoMark};
 ghost use Rattle.root_store.specs.Soundness.{HasSoundParts};
 ghost use Rattle.replies.specs.Causes.{HasCauses};
 ghost use Rattle.session.specs.Answers.{AcceptsNothing, Answers, Knows, Turned};
 ghost use Rattle.shared_store.specs.Engines.{GoesOn, GoesThroughCrashes};
+ghost use Rattle.shared_store.specs.Levels.{LeavesParts};
 
 use crate::creates::create;
 use crate::explains::explain;
 use crate::inserts::insert;
+use crate::optimizes::optimize;
 use crate::selects::select;
 use mt_base::NoMemory;
 use mt_model::Refusal;
@@ -30,7 +33,8 @@ pub fn run_statement<F: Dir, R: Arm<Dir = F>, D: Disk<Arm = R>, A: Annals, G: Ga
     gate: &mut G,
     statement: Result<Statement, Cause>,
 ) -> Result<Reply, NoMemory>
-    requires { IsWritten statement }
+    requires written { IsWritten statement }
+    requires free { HasNoMark engine.old.store }
 
     // What is answered, and why.
     ensures answers { let turned : Turned F = record {
@@ -50,10 +54,11 @@ pub fn run_statement<F: Dir, R: Arm<Dir = F>, D: Disk<Arm = R>, A: Annals, G: Ga
         → GoesThroughCrashes F.files engine.old engine.new }
 
     // What the root is then, and what stays.
-    ensures undamaged { HasSoundParts F.files engine.old.store
+    ensures undamaged { R.tells arm.old ≡ true → HasSoundParts F.files engine.old.store
         → IfOk result (λ reply. is_damage reply ≡ false) }
     ensures held { R.tells arm.old ≡ true → HasSoundParts F.files engine.old.store
         → HasSoundParts F.files engine.new.store }
+    ensures parts { LeavesParts engine.old.store engine.new.store }
     ensures goes_on { GoesOn engine.old engine.new }
 
     // What the arm is then, and the counts of faults where there is no reply.
@@ -67,6 +72,7 @@ pub fn run_statement<F: Dir, R: Arm<Dir = F>, D: Disk<Arm = R>, A: Annals, G: Ga
         Ok(Statement::Insert(text)) => insert(alloc, engine, arm, &text),
         Ok(Statement::Select(text)) => select(alloc, engine, arm, gate, &text),
         Ok(Statement::Explain(text)) => explain(alloc, engine, &text),
+        Ok(Statement::Optimize(text)) => optimize(alloc, engine, arm, &text),
         Err(cause) => {
             engine.is_open();
             Reply::refused(alloc, &Refusal::of_cause(cause))

@@ -40,6 +40,7 @@ fn refusal_of(
             let room = Room::Numbers;
             Refusal::Full { room, accepted }
         }
+        Refused::Limit(Limit::Levels) => Refusal::Past(Bound::Levels),
     };
     Ok(Some(refusal))
 }

@@ -14,6 +14,7 @@ ghost use Rattle.replies.specs.Foreseen.{history};
 ghost use Rattle.session.specs.Answers.{AcceptsNothing, Answers, Knows, Turned};
 ghost use Rattle.session.specs.Turns.{IfAccepted, InTurn, IsPartFor, IsRowsFor, NoneFailed, TakesTurn, commands_in_turn, in_turn, part_command, reply_in};
 ghost use Rattle.shared_store.specs.Engines.{GoesOn, GoesThroughCrashes, schema_kept};
+ghost use Rattle.shared_store.specs.Levels.{LeavesParts};
 
 use crate::sealing::{SealedBlock, give_back_part, give_back_parts};
 use crate::stopped::refused_line;
@@ -81,6 +82,7 @@ fn commit_block<F: Dir, R: Arm<Dir = F>, D: Disk<Arm = R>, A: Annals>(
         → schema_kept (table_at engine.old.store table.now) ≡ Some schema
         → IsPartFor schema sealed → HasSoundParts F.files engine.old.store
         → HasSoundParts F.files engine.new.store }
+    ensures parts { LeavesParts engine.old.store engine.new.store }
     ensures goes_on { GoesOn engine.old engine.new }
     ensures schema { schema_kept (table_at engine.new.store table.now)
         ≡ schema_kept (table_at engine.old.store table.now) }
@@ -159,6 +161,7 @@ pub fn commit_parts<F: Dir, R: Arm<Dir = F>, D: Disk<Arm = R>, A: Annals>(
         → schema_kept (table_at engine.old.store table.now) ≡ Some schema
         → All (IsPartFor schema) (in_turn parts.items) → HasSoundParts F.files engine.old.store
         → HasSoundParts F.files engine.new.store }
+    ensures parts { LeavesParts engine.old.store engine.new.store }
     ensures goes_on { GoesOn engine.old engine.new }
 
     // What the arm is then, and the counts of faults where there is no reply.

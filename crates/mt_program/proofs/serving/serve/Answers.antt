@@ -11,6 +11,7 @@ use Rattle.mt_program.proofs.serving.serve.Goals as goal
 pub statements-init : goal.statements-init
 statements-init g c = record {
   goes_on = stays_open c.args.engine.now c.is_open.ensures;
+  free = c.requires;
   tells = refl;
   served = λ kept tells knows settled. served_none g.F.Dir.files kept c.args.script.now c.none-tally.result c.args.engine.now (g.R.Arm.failed c.args.arm.now) (g.K.Sink.written c.args.sink.now) knows settled c.none-tally.ensures.refused c.none-tally.ensures.damaged;
   held = λ tells held. held;
@@ -22,8 +23,8 @@ statements-init g c = record {
 }
 
 -- the statement is what the grammar gives
-pub run_statement-requires-after_bounds : goal.run_statement-requires-after_bounds
-run_statement-requires-after_bounds g c κs within =
+pub run_statement-requires-clause-written : goal.run_statement-requires-clause-written
+run_statement-requires-clause-written g c κs within =
     let found = subst (λ o. Found c.args.script.now c.statements.at o) c.in-Ok-Some.field-0-is c.in-Ok-Some.ensures.found in
     let left = one_statement c.args.script.now c.statements.at c.in-Ok-Some.found.1 c.in-Ok-Some.found.0 found in
     is_written (drop c.statements.at c.args.script.now) c.in-Ok-Some.found.0 (statements_of (drop (c.statements.at + c.in-Ok-Some.found.1) c.args.script.now)) left
@@ -49,7 +50,7 @@ returns-in-Err-run_statement-clause-run g c = λ kept tells knows settled.
     let s = c.statements.invariant.served kept tells knows settled in
     let found = subst (λ o. Found c.args.script.now c.statements.at o) c.in-Ok-Some.field-0-is c.in-Ok-Some.ensures.found in
     let left = one_statement c.args.script.now c.statements.at c.in-Ok-Some.found.1 c.in-Ok-Some.found.0 found in
-    let fits = follows start before after arm arm_after c.statements.invariant.goes_on done.goes_on done.later done.stopped in
+    let fits = follows start before after arm arm_after c.statements.invariant.goes_on done.goes_on done.later done.parts.levels done.stopped in
     served_unanswered g.F.Dir.files kept progress start before after arm arm_after output s fits c.in-Ok-Some.found.1 c.in-Ok-Some.found.0 left
     (done.answers s.ran.now (c.statements.invariant.tells ∙ tells) (record { told_is = s.ran.told_is; stands = s.stands }))
 
@@ -66,7 +67,7 @@ returns-in-Err-write_reply-clause-run g c = λ kept tells knows settled.
     let s = c.statements.invariant.served kept tells knows settled in
     let found = subst (λ o. Found c.args.script.now c.statements.at o) c.in-Ok-Some.field-0-is c.in-Ok-Some.ensures.found in
     let left = one_statement c.args.script.now c.statements.at c.in-Ok-Some.found.1 c.in-Ok-Some.found.0 found in
-    let fits = follows start before after arm arm_after c.statements.invariant.goes_on done.goes_on done.later done.stopped in
+    let fits = follows start before after arm arm_after c.statements.invariant.goes_on done.goes_on done.later done.parts.levels done.stopped in
     served_cut g.F.Dir.files kept progress start before after arm arm_after output s fits c.in-Ok-Some.found.1 c.in-Ok-Some.found.0 left c.in-Ok.reply
     (done.answers s.ran.now (c.statements.invariant.tells ∙ tells) (record { told_is = s.ran.told_is; stands = s.stands })) done.causes (g.K.Sink.written c.write_reply.new.sink) c.in-Err-write_reply.ensures.front
 
@@ -86,19 +87,20 @@ statements-preserved g c =
     let left = one_statement c.args.script.now at used st found in
     record {
       goes_on = goes_further start before after c.statements.invariant.goes_on done.goes_on;
+      free = done.parts.free c.statements.invariant.free;
       tells = done.tells ∙ c.statements.invariant.tells;
       served = λ kept tells knows settled.
           let progress : Progress = record { script = c.args.script.now; at = at; tally = c.statements.tally } in
           let output : Output = record { before = g.K.Sink.written c.args.sink.now; after = g.K.Sink.written c.statements.sink } in
           let written : Output = record { before = g.K.Sink.written c.args.sink.now; after = g.K.Sink.written c.write_reply.new.sink } in
           let s = c.statements.invariant.served kept tells knows settled in
-          let fits = follows start before after arm arm_after c.statements.invariant.goes_on done.goes_on done.later done.stopped in
+          let fits = follows start before after arm arm_after c.statements.invariant.goes_on done.goes_on done.later done.parts.levels done.stopped in
           let more = served_more files kept progress start before after arm arm_after output s fits used st left c.in-Ok.reply
           (done.answers s.ran.now (c.statements.invariant.tells ∙ tells) (record { told_is = s.ran.told_is; stands = s.stands })) done.causes written.after c.in-Ok-write_reply.ensures.all in
           subst (λ t. Served files kept (record { script = c.args.script.now; at = at + used; tally = t }) (turned start after arm_after) written) (sym c.in-Ok-write_reply.ensures.tally) more;
       held = λ tells held. done.held (c.statements.invariant.tells ∙ tells) (c.statements.invariant.held tells held);
       undamaged = λ tells held.
-          tallied_undamaged c.statements.tally c.in-Ok.reply c.in-Ok-write_reply.told c.in-Ok-write_reply.ensures.tally (c.statements.invariant.undamaged tells held) (done.undamaged (c.statements.invariant.held tells held));
+          tallied_undamaged c.statements.tally c.in-Ok.reply c.in-Ok-write_reply.told c.in-Ok-write_reply.ensures.tally (c.statements.invariant.undamaged tells held) (done.undamaged (c.statements.invariant.tells ∙ tells) (c.statements.invariant.held tells held));
       keeps = λ first start_mark tells keeps gained.
           let was = c.statements.invariant.keeps first start_mark tells keeps gained in (
             was.0 ++ st ∷ [],

@@ -10,6 +10,7 @@ use Rattle.mt_program.specs.Serving.{Output, Progress, Served}
 use Rattle.mt_program.specs.Crashes.{IsGainedBy}
 use Rattle.mt_program.proofs.ServedScripts.{turned}
 use Rattle.root_store.specs.Crashes.{KeepsThroughCrashes}
+use Rattle.root_store.specs.Shown.{HasNoMark}
 use Rattle.root_store.specs.Soundness.{HasSoundParts, RootStands}
 use Rattle.mt_program.proofs.serving.serve.Given as goal
 
@@ -22,6 +23,7 @@ invariant-statements g l =
     let output : Output = record { before = g.K.Sink.written l.initial.sink; after = g.K.Sink.written l.sink } in
     record {
       goes_on : GoesOn l.initial.engine l.engine;
+      free : HasNoMark l.engine.store;
       tells : arm_tells l.arm ≡ arm_tells l.initial.arm;
       served : (kept : Told) → arm_tells l.initial.arm ≡ true → Knows files kept l.initial.engine → RootStands l.initial.engine.storage.disk (history kept)
           → Served files kept progress (turned l.initial.engine l.engine (arm_faults l.arm)) output;

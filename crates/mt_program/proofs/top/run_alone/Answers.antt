@@ -1,20 +1,19 @@
-use Rattle.std.proofs.Common.{◌∙◌, ◌≡◌, Some, true, false, ap, inl, inr, rules}
-use Rattle.run_streams.specs.Words.{is_command}
-use Rattle.mt_program.proofs.Promising.{other_words, promised}
+use Rattle.std.proofs.Common.{◌∙◌, ◌≡◌, Some, inl, inr, sym}
+use Rattle.command_line.specs.Words.{command_of, said}
+use Rattle.mt_program.proofs.Promising.{not_some, promised, unread}
 use Rattle.mt_program.proofs.top.run_alone.Goals as goal
 
--- the words are none
-pub returns-then-not-is_command_line-clause-promises : goal.returns-then-not-is_command_line-clause-promises
-returns-then-not-is_command_line-clause-promises g c =
-    let none : is_command c.args.words.now ≡ false = search rules in
-    other_words c.args.words.now none _ c.number-status.result c.number-status.ensures
+-- the run ended at its words
+pub returns-in-Err-clause-promises : goal.returns-in-Err-clause-promises
+returns-in-Err-clause-promises g c = unread c.args.words.now c.in-Err.early c.in-Err.ensures.status _ c.number-status.result c.number-status.ensures
 
 -- what was run is all that is promised
 pub returns-clause-promises : goal.returns-clause-promises
 returns-clause-promises g c =
-    let command : is_command c.args.words.now ≡ true = search rules in
+    let line = said c.in-Ok.line in
+    let says : command_of c.args.words.now ≡ Some line = c.in-Ok.ensures.line in
     let done = c.run_opened-ended.ensures in
-    promised c.args.words.now command _ _ c.run_opened-ended.result.ended (record {
+    promised c.args.words.now line says _ _ c.run_opened-ended.result.ended (record {
       headline = done.headline;
       crashes = done.crashes;
       opening = done.opening;
@@ -31,6 +30,14 @@ returns-clause-promises g c =
       calm = done.calm;
       later = done.later;
     }) c.number-status-2.result c.number-status-2.ensures (elim done.folder [
-      | inl started ↦ inl (record { command = command; started = started ∙ ap Some c.folder_of-path.ensures })
+      | inl started ↦ inl (record { line = line; says = says; started = started })
       | inr same ↦ inr same
     ])
+
+pub returns-clause-untouched : goal.returns-clause-untouched
+returns-clause-untouched g c = λ cause. elim cause [
+  | inl none ↦ absurd (not_some (said c.in-Ok.line) (sym c.in-Ok.ensures.line ∙ none))
+  | inr full ↦ (
+      let same = c.run_opened-ended.ensures.full full in
+      (same.1, same.2, same.3, same.4))
+]

@@ -3,12 +3,13 @@ use Rattle.std.specs.Prelude.{is_some}
 use Rattle.std.proofs.lemmas.Bool.Decides.{nat_tests}
 use Rattle.mt_outside.specs.Causes.{Rose}
 use Rattle.mt_outside.specs.Disk as root
+use Rattle.mt_model.specs.Outside.{Outside}
 use Rattle.replies.specs.Foreseen.{history}
 use Rattle.mt_program.specs.Damage.{WritesDamage, damage_line}
 use Rattle.mt_program.specs.Endings.{IsAnswered}
 use Rattle.mt_program.specs.Headline.{NothingRan}
 use Rattle.mt_program.specs.Serving.{MayComeTo}
-use Rattle.mt_program.specs.Worlds.{counts_of, world}
+use Rattle.mt_program.specs.Worlds.{world}
 use Rattle.root_commits.specs.Turns.{storage}
 use Rattle.mt_program.proofs.Reopened.{stretch}
 use Rattle.mt_program.specs.declared.status.Status.{Status}
@@ -37,18 +38,20 @@ returns-clause-headline g c = λ kept script written starts.
     let before = world was (g.D.Disk.started c.args.disk) (g.S.Source.left c.args.source.now) (g.S.Source.failed c.args.source.now) (g.K.Sink.written c.args.sink.now) (g.K.Sink.failed c.args.sink.now) in
     let after = world now (g.D.Disk.started c.take_back.new.self) (g.S.Source.left c.run_root-ended.new.source) (g.S.Source.failed c.run_root-ended.new.source) (g.K.Sink.written c.run_root-ended.new.sink) (g.K.Sink.failed c.run_root-ended.new.sink) in
     let arm = g.D.Arm.Arm.failed c.run_root-ended.new.arm in
-    let s = stretch c.faults-opened.result (g.D.Disk.told c.started_arm.new.disk) ran arm in
+    let end = c.run_root-ended.ensures.leaves kept starts.told script starts.annals_is here starts.stands tells starts.source_is in
+    let s = stretch c.faults-opened.result (g.D.Disk.told c.started_arm.new.disk) ran arm end.full in
+    let n : Outside = record { opened = before.storage.failed; ended = after.storage.failed; full = end.full } in
     let opened = c.faults-opened.ensures in
     let later = c.run_root-ended.ensures.disk_later in
     let low : c.faults-opened.result ≤ g.D.Disk.failed c.run_root-ended.result.disk = omega arith in
-    let f : MayComeTo s (counts_of before after) = record {
+    let f : MayComeTo s n = record {
       opened_is = sym c.faults-opened.ensures;
       later = c.take_back.ensures.later;
       risen = λ some. risen_back (g.D.Disk.failed c.args.disk) (g.D.Disk.failed c.run_root-ended.result.disk) (g.D.Disk.failed c.take_back.new.self) (omega arith) (c.take_back.ensures.taken some);
+      stays = λ is. is;
     } in
-    let left = c.run_root-ended.ensures.leaves kept starts.told script starts.annals_is here starts.stands tells starts.source_is in
     let same : c.run_root-ended.result.ended ≡ Err status.DiskFault → NothingRan before after none_answered = λ fault.
-    let not = early_not_told c.run_root-ended.result.ended kept script s (output_of before after) fault left in
+    let not = early_not_told c.run_root-ended.result.ended kept script s (output_of before after) fault end.left in
     none_ran before after (
       c.take_back.ensures.told ∙ (not.2 ∙ c.in-Ok.ensures.told),
       c.take_back.ensures.clock ∙ (c.run_root-ended.ensures.mark (failed_is c.run_root-ended.result.ended fault) ∙ c.in-Ok.ensures.clock),
@@ -57,9 +60,9 @@ returns-clause-headline g c = λ kept script written starts.
       not.1,
     ) in
     by_status c.status_at_end-ended.ensures
-    (leaves_all before after kept script written s f refl c.take_back.ensures.told starts.sink_is (nat_lt c.faults-opened.result c.faults.result) c.run_root-ended.result.ended starts.stands.legal
+    (leaves_all before after kept script written s n (record { opened = refl; ended = refl; full = λ is told there. end.only is told (sym c.take_back.ensures.told ∙ there) }) f refl c.take_back.ensures.told starts.sink_is (nat_lt c.faults-opened.result c.faults.result) c.run_root-ended.result.ended starts.stands.legal
     (root_told (g.D.Disk.told c.started_arm.new.disk) starts.told (history kept) here starts.stands) (c.run_root-ended.ensures.sound kept starts.told starts.annals_is here starts.stands tells) c.run_root-ended.ensures.early
-    (c.run_root-ended.ensures.whole script starts.source_is) same left)
+    (c.run_root-ended.ensures.whole script starts.source_is) same end.left)
 
 pub returns-clause-opening : goal.returns-clause-opening
 returns-clause-opening g c = λ names damage is damaged.
@@ -149,7 +152,7 @@ returns-in-Err-clause-crashes g c = record {
   kept = λ kept told is known all.
       nothing_of_script told kept (storage (g.D.Disk.told c.started_arm.new.disk) (g.D.Disk.clock c.started_arm.new.disk) (g.D.Disk.failed c.started_arm.new.disk) (g.A.Annals.told c.args.annals)) _ (c.in-Err.ensures.told ∙ known) is
       (safe_opened told (g.D.Disk.clock c.args.disk) (g.D.Disk.clock c.started_arm.new.disk) kept.list all (inl c.in-Err.ensures.clock)) (g.S.Source.left c.args.source.now) _;
-  settles = λ kept told is known some all. inl (record { names = c.in-Err.ensures.told; mark = c.in-Err.ensures.clock; list = refl; output = refl });
+  settles = λ kept told is known some all stamped. inl (record { names = c.in-Err.ensures.told; mark = c.in-Err.ensures.clock; list = refl; output = refl });
 }
 
 pub returns-clause-crashes : goal.returns-clause-crashes
@@ -170,9 +173,9 @@ returns-clause-crashes g c =
           let from_start = subst (λ m. LeavesOfScript source c.faults-opened.result ran kept m) mark left in
           let from_opened = subst (λ m. LeavesOfScript source m ran kept (g.D.Disk.clock c.args.disk)) c.faults-opened.ensures from_start in
           left_moved ran now c.take_back.ensures.told c.take_back.ensures.clock refl back from_opened;
-      settles = λ kept told is known some all.
+      settles = λ kept told is known some all stamped.
           let tells = c.in-Ok.ensures.tells ∙ ap is_some known in
-          let left = c.run_root-ended.ensures.settles kept told is (names ∙ known) tells some (subst (λ m. AllStand told (m + 1) (history kept)) (sym mark) all) in
+          let left = c.run_root-ended.ensures.settles kept told is (names ∙ known) tells some (subst (λ m. AllStand told (m + 1) (history kept)) (sym mark) all) (subst (λ m. root.IsStamped m told) (sym mark) stamped) in
           elim left [
             | inl same ↦ inl (record { names = c.take_back.ensures.told ∙ (same.names ∙ names); mark = c.take_back.ensures.clock ∙ (same.mark ∙ mark); list = same.list; output = same.output })
             | inr leaves ↦ (

@@ -1,25 +1,31 @@
-use Rattle.std.proofs.Common.{◌∙◌, ◌+◌, ℕ, ap, arith, subst, refl, sym, inl, inr}
+use Rattle.std.proofs.Common.{◌∙◌, ◌+◌, ℕ, false, ap, arith, subst, refl, sym, inl, inr}
 use Rattle.mt_outside.specs.Disk.{names_of}
 use Rattle.replies.specs.Foreseen.{history}
 use Rattle.root_commits.specs.Turns.{storage}
 use Rattle.root_store.specs.Crashes.{IsCrashSafe, Storage, none_begun}
+use Rattle.root_store.specs.Shown.{HasNoMark}
 use Rattle.root_store.proofs.CrashMarks.{safe_at_start, stands_as_read}
 use Rattle.mt_program.specs.Serving.{Output}
 use Rattle.mt_program.proofs.Crashing.{keeps_opened, nothing_of_script}
 use Rattle.mt_program.proofs.Gaining.{gained_nothing}
 use Rattle.mt_program.proofs.Heading.{root_told, writes_damage, writes_nothing}
-use Rattle.mt_program.proofs.Reopened.{gained_root, keeps_root, knows_root, left_as, names_reopened, reopened, script_as, sound_reopened, sound_root, stands_reopened, stands_root}
+use Rattle.shared_store.specs.Levels.{has_greatest}
+use Rattle.mt_program.proofs.Reopened.{gained_root, greatest_reopened, images_reopened, images_settled, keeps_root, knows_root, left_as, names_reopened, reopened, script_as, shown_reopened, shows_full, sound_reopened, sound_root, stands_reopened, stands_root}
 use Rattle.mt_program.proofs.Undamaged.{not_opened}
 use Rattle.mt_program.proofs.top.run_root.Goals as goal
 
 -- the root was not opened
 pub returns-in-Err-clause-leaves : goal.returns-in-Err-clause-leaves
-returns-in-Err-clause-leaves g c = λ kept names script told is stands tells left. (
-  told,
-  writes_nothing c.in-Err.fault c.failed_root.result (g.K.Sink.failed c.args.sink.now) (g.K.Sink.failed c.failed_root.new.sink) (g.K.Sink.written c.args.sink.now) (g.K.Sink.written c.failed_root.new.sink)
-      (c.in-Err.ensures.stands names (history kept) is stands) c.failed_root.ensures.writes,
-  c.in-Err.ensures.told,
-)
+returns-in-Err-clause-leaves g c = λ kept names script told is stands tells left. record {
+  full = false;
+  only = λ full told there. cc;
+  left = (
+    told,
+    writes_nothing c.in-Err.fault c.failed_root.result (g.K.Sink.failed c.args.sink.now) (g.K.Sink.failed c.failed_root.new.sink) (g.K.Sink.written c.args.sink.now) (g.K.Sink.written c.failed_root.new.sink)
+        (c.in-Err.ensures.stands names (history kept) is stands) c.failed_root.ensures.writes,
+    c.in-Err.ensures.told,
+  );
+}
 
 pub returns-in-Err-clause-opening : goal.returns-in-Err-clause-opening
 returns-in-Err-clause-opening g c = λ names damage is damaged. (
@@ -40,10 +46,16 @@ new-engine-requires-after_bounds g c κs within =
     let later = c.in-Ok.ensures.later in
     record {
       names = λ still names is. names_reopened c.in-Ok.store c.args.opened names (c.in-Ok.ensures.names names (sym c.in-Ok.ensures.told ∙ is));
+      shown = λ still names is. shown_reopened c.in-Ok.store c.args.opened (names_of names) (c.in-Ok.ensures.shown names (sym c.in-Ok.ensures.told ∙ is));
+      greatest = λ names is. greatest_reopened c.in-Ok.store c.args.opened (names_of names) (c.in-Ok.ensures.shown names (sym c.in-Ok.ensures.told ∙ is));
       sound = sound_reopened c.in-Ok.store c.args.opened c.in-Ok.ensures.sound;
       opened = omega (arith, low, later);
       below = c.requires.below;
     }
+
+-- the parts of a root that is opened bear no mark
+pub run_script-ended-requires-after_bounds : goal.run_script-ended-requires-after_bounds
+run_script-ended-requires-after_bounds g c κs within = subst HasNoMark (sym c.new-engine.ensures.store) c.in-Ok.ensures.idle
 
 -- the script was served
 pub returns-clause-leaves : goal.returns-clause-leaves
@@ -56,9 +68,15 @@ returns-clause-leaves g c = λ kept names script told is stands tells left.
     let output : Output = record { before = g.K.Sink.written c.args.sink.now; after = g.K.Sink.written c.run_script-ended.new.sink } in
     let settled = root_told (g.D.Disk.told c.open.new.disk) names (history kept) (c.in-Ok.ensures.told ∙ is) stands in
     let core = stands_reopened c.in-Ok.store c.args.opened files (history kept) (c.in-Ok.ensures.stands names (history kept) is stands) in
-    left_as c.run_script-ended.result kept script output (g.D.Arm.Arm.failed c.run_script-ended.new.arm) root.store.opened c.args.opened root.storage.disk (g.D.Disk.told c.args.disk) c.run_script-ended.new.engine.storage _
-    (ap (λ x. x.opened) was.store) (ap (λ (x : Storage). x.disk) was.storage ∙ c.in-Ok.ensures.told) c.into_outside-disk.ensures.storage
-    (c.run_script-ended.ensures.leaves kept script (c.in-Ok.ensures.tells ∙ tells) (knows_root files root store here was.store was.storage kept told core) (stands_root files root store here was.store was.storage kept settled) left)
+    let end = c.run_script-ended.new.engine in
+    let full = has_greatest end.store in
+    record {
+      full = full;
+      only = λ is names there. shows_full end.store end.storage.failed names end.storage.disk c.run_script-ended.ensures.goes_on.left is (ap (λ (x : Storage). x.disk) c.into_outside-disk.ensures.storage ∙ there);
+      left = left_as c.run_script-ended.result kept script output (g.D.Arm.Arm.failed c.run_script-ended.new.arm) full root.store.opened c.args.opened root.storage.disk (g.D.Disk.told c.args.disk) end.storage _
+          (ap (λ x. x.opened) was.store) (ap (λ (x : Storage). x.disk) was.storage ∙ c.in-Ok.ensures.told) c.into_outside-disk.ensures.storage
+          (c.run_script-ended.ensures.leaves kept script (c.in-Ok.ensures.tells ∙ tells) (knows_root files root store here was.store was.storage kept told core) (stands_root files root store here was.store was.storage kept settled) left);
+    }
 
 pub returns-clause-sound : goal.returns-clause-sound
 returns-clause-sound g c = λ kept names told is stands tells.
@@ -89,14 +107,15 @@ returns-clause-crashes g c = λ kept told is known tells all.
     let store = reopened c.in-Ok.store c.args.opened in
     let core = stands_reopened c.in-Ok.store c.args.opened files (history kept) (c.in-Ok.ensures.stands told (history kept) known (stands_as_read told start (history kept) all)) in
     let here = storage (g.D.Disk.told c.open.new.disk) (g.D.Disk.clock c.open.new.disk) (g.D.Disk.failed c.open.new.disk) (g.A.Annals.told c.args.annals) in
-    let keeps = keeps_opened told kept here start (c.in-Ok.ensures.told ∙ known) is (c.in-Ok.ensures.crashes told kept.list known all) files store core in
+    let images = images_reopened c.in-Ok.store c.args.opened here.disk here.clock (c.in-Ok.ensures.images told (history kept) known all) in
+    let keeps = keeps_opened told kept here start (c.in-Ok.ensures.told ∙ known) is (c.in-Ok.ensures.crashes told kept.list known all) files store core images in
     script_as (g.S.Source.left c.args.source.now) root.store.opened c.args.opened c.run_script-ended.new.engine.storage _ kept start (ap (λ x. x.opened) was.store) c.into_outside-disk.ensures.storage
     (c.run_script-ended.ensures.through_crashes kept start (c.in-Ok.ensures.tells ∙ tells) (keeps_root files root store here was.store was.storage kept start keeps)
     (gained_root files root store here was.store was.storage kept (gained_nothing (g.A.Annals.told c.args.annals) kept is)))
 
 -- what a crash leaves once the names that were read are settled
 pub returns-in-Err-clause-settles : goal.returns-in-Err-clause-settles
-returns-in-Err-clause-settles g c = λ kept told is known tells some all.
+returns-in-Err-clause-settles g c = λ kept told is known tells some all stamped.
     let stands = stands_as_read told (g.D.Disk.clock c.args.disk + 1) (history kept) all in
     inl (record {
       names = c.in-Err.ensures.told;
@@ -107,7 +126,7 @@ returns-in-Err-clause-settles g c = λ kept told is known tells some all.
     })
 
 pub returns-clause-settles : goal.returns-clause-settles
-returns-clause-settles g c = λ kept told is known tells some all.
+returns-clause-settles g c = λ kept told is known tells some all stamped.
     let files = g.D.Arm.Dir.Dir.files in
     let root = c.new-engine.result in
     let was = c.new-engine.ensures in
@@ -116,7 +135,8 @@ returns-clause-settles g c = λ kept told is known tells some all.
     let core = stands_reopened c.in-Ok.store c.args.opened files (history kept) (c.in-Ok.ensures.stands told (history kept) known (stands_as_read told start (history kept) all)) in
     let safe = subst (λ (m : ℕ). IsCrashSafe told m (none_begun kept.list) kept.list start) (sym (c.in-Ok.ensures.settled told known some)) (safe_at_start told start kept.list all) in
     let here = storage (g.D.Disk.told c.open.new.disk) (g.D.Disk.clock c.open.new.disk) (g.D.Disk.failed c.open.new.disk) (g.A.Annals.told c.args.annals) in
-    let keeps = keeps_opened told kept here start (c.in-Ok.ensures.told ∙ known) is safe files store core in
+    let images = images_settled store told (g.D.Disk.clock c.args.disk) here.disk here.clock (c.in-Ok.ensures.told ∙ known) (c.in-Ok.ensures.settled told known some) stamped (shown_reopened c.in-Ok.store c.args.opened (names_of told) (c.in-Ok.ensures.shown told known)) in
+    let keeps = keeps_opened told kept here start (c.in-Ok.ensures.told ∙ known) is safe files store core images in
     inr (script_as (g.S.Source.left c.args.source.now) root.store.opened c.args.opened c.run_script-ended.new.engine.storage _ kept start (ap (λ x. x.opened) was.store) c.into_outside-disk.ensures.storage
     (c.run_script-ended.ensures.through_crashes kept start (c.in-Ok.ensures.tells ∙ tells) (keeps_root files root store here was.store was.storage kept start keeps)
     (gained_root files root store here was.store was.storage kept (gained_nothing (g.A.Annals.told c.args.annals) kept is))))

@@ -143,7 +143,7 @@ returns-in-Ok-clause-answers g c = λ kept store stands pinned.
     ap₂ (λ (r s : List ℕ). map (slice_get r) s) c.as_slice-2.ensures.value c.as_slice-in-Ok.ensures.value ∙ c.in_ok-picked.ensures.shown ∙ ap (map Some) c.as_slice.ensures in
     let shown_are = ap (map (key_of shown)) rows_are ∙ rows_shown rows read shown q.places have shown_is in
     let place : snap.length ≡ length kept.list = pinned.length_is ∙ (stands.length_is ∙ length_history kept) in
-    IfOk-weaker c.print.result _ _ (λ reply is n disk f.
+    IfOk-weaker c.print.result _ _ (λ reply is n disk full f.
     let printed = subst (λ (cs : List Cells). Printed (grid_of cs c.in-Ok.rows) shown snap.length reply) back is in
     let here = subst (λ (m : ℕ). Printed (grid_of new c.in-Ok.rows) shown m reply) place printed in
     inl (
@@ -162,7 +162,7 @@ returns-in-Err-default-Fault-clause-answers g c = λ kept store stands pinned.
     let schema = c.args.snap.now.schema in
     let there = snap_schema g.R.Dir.Dir.files (history kept) store stands text.table c.args.snap.now pinned in
     let rose = c.in-Err-default-Fault.ensures.fault c.in-Err-default-Fault.field-0-1-is in
-    IfOk-weaker c.stage_line.result _ _ (λ line is n disk f. select_failed n kept line text c.args.query.now (query_is text (history kept) schema there ∙ c.requires.query)
+    IfOk-weaker c.stage_line.result _ _ (λ line is n disk full f. select_failed n kept line text c.args.query.now (query_is text (history kept) schema there ∙ c.requires.query)
     (line_of_stage store.opened disk (g.R.Arm.failed c.add_matches.new.arm) (g.R.Arm.failed c.args.arm.now) failure.Fault line n is (λ same. rose) f)) c.stage_line.ensures.line
 
 -- what the outside did where it says so

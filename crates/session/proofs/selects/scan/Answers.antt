@@ -20,7 +20,7 @@ returns-in-Err-Refused-clause-answers g c = λ kept store stands pinned.
     let there = snap_schema g.R.Dir.Dir.files (history kept) store stands c.args.text.now.table c.args.snap.now pinned in
     let chosen = ap (λ (cs : List Column). query_of cs c.args.text.now) (sym c.as_slice.ensures)
     ∙ subst (Refuses (query_of c.as_slice.result.now c.args.text.now)) c.in-Err-Refused.field-0-is c.in-Err-Refused.ensures in
-    IfOk-weaker c.refused.result _ _ (λ line is n disk f. select_refused n kept line c.args.text.now c.in-Err-Refused.refusal (query_is c.args.text.now (history kept) c.args.snap.now.schema there ∙ chosen) is) (refused_as _ c.in-Err-Refused.refusal c.refused.result c.in-Err-Refused.refusal-is c.refused.ensures)
+    IfOk-weaker c.refused.result _ _ (λ line is n disk full f. select_refused n kept line c.args.text.now c.in-Err-Refused.refusal (query_is c.args.text.now (history kept) c.args.snap.now.schema there ∙ chosen) is) (refused_as _ c.in-Err-Refused.refusal c.refused.result c.in-Err-Refused.refusal-is c.refused.ensures)
 
 -- the columns of a table are not too many
 pub query_of-requires : goal.query_of-requires

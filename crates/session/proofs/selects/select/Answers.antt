@@ -20,7 +20,7 @@ returns-in_default-clause-answers g c = λ kept knows.
     let text = c.args.text.now in
     let here = c.args.engine.now in
     let none = no_table g.F.Dir.files (history kept) here.store knows.stands text.table (subst (Snaps here.store text.table) c.in_default.is c.in_ok-snap.ensures.snap) in
-    IfOk-weaker c.no_table_line.result _ _ (λ line is n disk f. select_refused n kept line text (refusal.NoTable text.table) (no_query text (history kept) none) is) c.no_table_line.ensures
+    IfOk-weaker c.no_table_line.result _ _ (λ line is n disk full f. select_refused n kept line text (refusal.NoTable text.table) (no_query text (history kept) none) is) c.no_table_line.ensures
 
 -- a table of the store has a schema that a table may have
 pub scan-reply-requires-after_bounds : goal.scan-reply-requires-after_bounds

@@ -6,6 +6,8 @@ use Rattle.mt_model.proofs.Causes.{OfScript}
 use Rattle.session.specs.Answers.{AcceptsNothing, Answers}
 use Rattle.root_store.specs.Soundness.{HasSoundParts}
 use Rattle.shared_store.specs.Engines.{GoesOn, GoesThroughCrashes, Opened}
+use Rattle.shared_store.specs.Levels.{LeavesParts}
+use Rattle.shared_store.proofs.Levels.{parts_stay}
 use Rattle.session.proofs.Accepting.{answers_kept, nothing_accepted, stays_open}
 use Rattle.session.proofs.SelectAnswers.{explained_answers, selected_answers}
 use Rattle.mt_values.specs.declared.statement.Cause.{Cause}
@@ -64,6 +66,9 @@ returns-in-Ok-Explain-clause-through_crashes g c = λ tells.
 pub returns-in-Ok-Explain-clause-stopped : goal.returns-in-Ok-Explain-clause-stopped
 returns-in-Ok-Explain-clause-stopped g c = λ risen. subst (λ (now : Opened _). AcceptsNothing c.args.engine.now now) (sym c.explain.ensures.stays) (nothing_accepted c.args.engine.now)
 
+pub returns-in-Ok-Explain-clause-parts : goal.returns-in-Ok-Explain-clause-parts
+returns-in-Ok-Explain-clause-parts g c = subst (λ (now : Opened _). LeavesParts c.args.engine.now.store now.store) (sym c.explain.ensures.stays) (parts_stay c.args.engine.now.store)
+
 pub returns-in-Ok-Explain-clause-held : goal.returns-in-Ok-Explain-clause-held
 returns-in-Ok-Explain-clause-held g c = λ tells held. subst (λ (now : Opened _). HasSoundParts g.F.Dir.files now.store) (sym c.explain.ensures.stays) held
 
@@ -81,6 +86,12 @@ pub returns-in-Err-clause-stopped : goal.returns-in-Err-clause-stopped
 returns-in-Err-clause-stopped g c = λ risen. nothing_accepted c.args.engine.now
 
 -- what the root is then
+pub returns-in-Err-clause-parts : goal.returns-in-Err-clause-parts
+returns-in-Err-clause-parts g c = parts_stay c.args.engine.now.store
+
+pub returns-in-Ok-Select-clause-parts : goal.returns-in-Ok-Select-clause-parts
+returns-in-Ok-Select-clause-parts g c = subst (λ (now : Opened _). LeavesParts c.args.engine.now.store now.store) (sym c.select.ensures.stays) (parts_stay c.args.engine.now.store)
+
 pub returns-in-Ok-Select-clause-held : goal.returns-in-Ok-Select-clause-held
 returns-in-Ok-Select-clause-held g c = λ tells held. subst (λ (now : Opened _). HasSoundParts g.F.Dir.files now.store) (sym c.select.ensures.stays) held
 
@@ -110,4 +121,4 @@ returns-in-Err-clause-causes g c =
 
 -- the reply does not tell of damage
 pub returns-in-Err-clause-undamaged : goal.returns-in-Err-clause-undamaged
-returns-in-Err-clause-undamaged g c = λ held. IfOk-weaker c.refused.result _ _ (λ line is. ap is_damage (is ∙ ap refusal_line c.of_cause.ensures) ∙ cause_line c.in-Err.cause) c.refused.ensures
+returns-in-Err-clause-undamaged g c = λ tells held. IfOk-weaker c.refused.result _ _ (λ line is. ap is_damage (is ∙ ap refusal_line c.of_cause.ensures) ∙ cause_line c.in-Err.cause) c.refused.ensures

@@ -6,7 +6,7 @@ use Rattle.mt_model.specs.Reply.{ok_line}
 use Rattle.session.specs.Answers.{Answered, EndsUnanswered}
 use Rattle.session.specs.declared.turns.TurnReply.{TurnReply}
 use Rattle.session.specs.Turns.{IfAccepted, IsRowsFor, NoneFailed, TakesTurn, part_command, reply_in}
-use Rattle.session.proofs.Running.{causes_same, counted, crashes_next, goes_next, held_next, of_next, of_rest, run_done, run_ended, run_on, run_refused, stopped_next}
+use Rattle.session.proofs.Running.{causes_same, counted, crashes_next, parts_next, goes_next, held_next, of_next, of_rest, run_done, run_ended, run_on, run_refused, stopped_next}
 use Rattle.session.proofs.turns.commit_parts.Goals as goal
 
 pub commit_block-requires-clause-rows : goal.commit_block-requires-clause-rows
@@ -33,7 +33,7 @@ turns-preserved g c =
     record {
       run = run_on g.F.Dir.files _ c.turns.invariant.run c.pop.new.self.items c.in-Some.sealed c.in-Some.ensures.items new arm done.goes_on
           (subst (λ (x : TurnReply). IfAccepted (Ok x) (λ _. new.storage.failed ≡ here.storage.failed)) is done.calm_disk)
-          done.schema done.stopped done.through_crashes done.held
+          done.schema done.parts done.stopped done.through_crashes done.held
           (λ kept schema knows has part. subst (λ (x : TurnReply). TakesTurn g.F.Dir.files kept (record { command = part_command schema c.args.table.now c.in-Some.sealed; before = c.turns.accepted }) (record { was = here; now = new; arm = arm }) (Ok x)) is
           (done.answers kept schema knows has part));
       reply = subst (λ (x : TurnReply). IfAccepted (Ok x) (λ reply. reply ≡ ok_line new.store.length)) is done.accepted;
@@ -67,6 +67,9 @@ returns-in-Ok-Refused-clause-causes g c =
     (g.R.Arm.failed c.commit_block.new.arm) c.in-Ok-Refused.line run.goes_on.opened run.calm c.turns.invariant.count (sym back)
     (subst (λ (x : TurnReply). HasCauses here.store.opened here.storage.failed new.storage.failed (g.R.Arm.failed c.turns.arm) (g.R.Arm.failed c.commit_block.new.arm) (reply_in x)) c.in-Ok-Refused.field-0-is c.in-Ok-Refused.ensures.causes)
 
+pub returns-in-Ok-Refused-clause-parts : goal.returns-in-Ok-Refused-clause-parts
+returns-in-Ok-Refused-clause-parts g c = parts_next g.F.Dir.files _ c.turns.invariant.run c.pop.new.self.items c.in-Some.sealed c.in-Some.ensures.items c.commit_block.new.engine 0 c.commit_block.ensures.parts
+
 pub returns-in-Ok-Refused-clause-stopped : goal.returns-in-Ok-Refused-clause-stopped
 returns-in-Ok-Refused-clause-stopped g c = stopped_next g.F.Dir.files _ c.turns.invariant.run c.pop.new.self.items c.in-Some.sealed c.in-Some.ensures.items c.commit_block.new.engine 0 c.commit_block.ensures.stopped
 
@@ -91,6 +94,9 @@ returns-in-Err-clause-answers g c = λ kept schema text knows has parts gives.
     let arm = g.R.Arm.failed c.commit_block.new.arm in
     subst (λ (n : ℕ). EndsUnanswered g.F.Dir.files kept (Ok (statement.Insert text)) (record { was = c.args.engine.now; now = new; arm = n })) (sym back)
     (run_ended g.F.Dir.files _ c.turns.invariant.run c.pop.new.self.items c.in-Some.sealed c.in-Some.ensures.items new arm kept schema text (record { has = has; are = parts }) knows gives (λ now known still part. c.in-Err.ensures.answers now schema known still part))
+
+pub returns-in-Err-clause-parts : goal.returns-in-Err-clause-parts
+returns-in-Err-clause-parts g c = parts_next g.F.Dir.files _ c.turns.invariant.run c.pop.new.self.items c.in-Some.sealed c.in-Some.ensures.items c.commit_block.new.engine 0 c.commit_block.ensures.parts
 
 pub returns-in-Err-clause-stopped : goal.returns-in-Err-clause-stopped
 returns-in-Err-clause-stopped g c = stopped_next g.F.Dir.files _ c.turns.invariant.run c.pop.new.self.items c.in-Some.sealed c.in-Some.ensures.items c.commit_block.new.engine 0 c.commit_block.ensures.stopped

@@ -1,0 +1,150 @@
+-- The rows of parts that are merged: rows of the table, of one partition, in the table's order.
+use Rattle.std.proofs.Common.{◌≡◌, ℕ, ◌+◌, ◌&&◌, Bool, true, false, List, [], ◌∷◌, ◌++◌, flat_map, get_or, refl, sym, ap, ◌∙◌, subst, Option, Some}
+use Rattle.std.specs.List.{All, AllByRecursion, AllZip}
+use Rattle.std.specs.List.Sorted.{IsSorted}
+use Rattle.std.proofs.lemmas.List.Concat.{flat_map-cons}
+use Rattle.std.proofs.lemmas.List.Elements.{All-append, All-cons, All-head, All-nil, All-tail}
+use Rattle.std.proofs.lemmas.List.Sorted.{All-permutation}
+use Rattle.mt_base.specs.declared.partition.Partition.{Partition}
+use Rattle.mt_values.specs.declared.command.Command.{Command}
+use Rattle.mt_values.specs.declared.command.Command.TheVariants as command
+use Rattle.mt_values.specs.declared.command.Insert.{Insert}
+use Rattle.mt_values.specs.declared.schema.Schema.{Schema}
+use Rattle.mt_values.specs.Tables.{partition_of, same_partition, sorting_cmp}
+use Rattle.mt_values.specs.Values.{Row}
+use Rattle.mt_values.proofs.RowPartitions.{values_fit}
+use Rattle.mt_outside.specs.Files.{Files}
+use Rattle.mt_model.specs.History.{History, IsInsertInto, IsLegal, schema_of}
+use Rattle.mt_model.specs.Live.{live, sorted}
+use Rattle.mt_model.specs.Numbers.{lies_within, within}
+use Rattle.mt_model.proofs.Determined.{sorting_total}
+use Rattle.mt_model.proofs.Sorting.{sorted_permutes}
+use Rattle.part_history.specs.declared.part.CorePart.{CorePart}
+use Rattle.part_history.specs.Parts.{PartStands}
+use Rattle.part_history.proofs.Numbered.{IsInto, all_into, kept, kept_if, live_within, sorted_by}
+use Rattle.part_history.proofs.OwnRows.{own_rows}
+use Rattle.part_reader.specs.declared.reading.Part.{Part}
+use Rattle.part_reader.specs.Parts.{PartHolds}
+use Rattle.part_set.specs.declared.kept.Kept.{Kept}
+use Rattle.part_set.specs.Sets.{parts_of}
+use Rattle.root_store.specs.declared.store.CoreStore.{CoreStore}
+use Rattle.root_store.specs.declared.store.Table.{Table}
+use Rattle.root_store.specs.Stores.{CoreStands, core_part, core_parts, table_at}
+use Rattle.root_store.proofs.Cores.{one_list}
+use Rattle.rule_law.specs.TableRows.{IsTableRow}
+use Rattle.rule_law.proofs.PartlyRows.{partly_table}
+use Rattle.row_merge.specs.Merged.{ArePartRows}
+use Rattle.session.proofs.Standing.{table_schema}
+
+-- ---- live rows
+
+module _ (schema : Schema) where
+  -- an INSERT adds rows of the table
+  insert_rows : (i : Insert) → IsInsertInto schema i → All (IsTableRow schema) (sorted (sorting_cmp schema) i.block.rows)
+  insert_rows i into =
+      let rows = i.block.rows in
+      All-permutation (IsTableRow schema) rows (sorted (sorting_cmp schema) rows) (sorted_permutes (sorting_cmp schema) (sorting_total schema) rows)
+      (λ k d below. record { typed = into.rows k d below; fits = values_fit (get_or rows k d) (into.values k d below); signed = into.signed k d below })
+
+  kept_rows : (p : Partition) (a b n : ℕ) (cs : List Command) → AllByRecursion (IsInto schema) cs → All (IsTableRow schema) (flat_map (sorted_by schema) (kept p a b n cs))
+  kept_rows p a b n [] all = All-nil (IsTableRow schema)
+  kept_rows p a b n (command.Create c ∷ cs) all = absurd all.0
+  kept_rows p a b n (command.Insert i ∷ cs) all = by (same_partition i.partition p) (lies_within a b n) (kept_rows p a b (n + 1) cs all.1)
+    where
+      by : (x y : Bool) → All (IsTableRow schema) (flat_map (sorted_by schema) (kept p a b (n + 1) cs))
+          → All (IsTableRow schema) (flat_map (sorted_by schema) (kept_if (x && y) (command.Insert i) (kept p a b (n + 1) cs)))
+      by true true more =
+          subst (All (IsTableRow schema)) (sym (flat_map-cons (sorted_by schema) (command.Insert i) (kept p a b (n + 1) cs)))
+          (All-append (IsTableRow schema) (sorted (sorting_cmp schema) i.block.rows) (flat_map (sorted_by schema) (kept p a b (n + 1) cs)) (insert_rows i all.0) more)
+      by true false more = more
+      by false y more = more
+
+module _ (h : History) (legal : IsLegal h) where
+  live_rows : (table : List ℕ) (schema : Schema) (p : Partition) (a b : ℕ) → schema_of table h ≡ Some schema → All (IsTableRow schema) (live table schema (within table p a b h))
+  live_rows table schema p a b there = subst (All (IsTableRow schema)) (sym (live_within table schema p a b h)) (kept_rows schema p a b 1 _ (all_into table h schema legal there))
+
+  -- the rows of a part that stands for the history
+  part_rows : (part : CorePart) (s : PartStands h part) → All (IsTableRow s.schema) part.rows
+  part_rows part s =
+      let name = part.name in
+      partly_table s.schema (live part.table s.schema (within part.table name.partition name.min_block name.max_block h)) part.rows (live_rows part.table s.schema name.partition name.min_block name.max_block s.there) s.partly
+
+  same_schema : (a b : Schema) → Some a ≡ Some b → a ≡ b
+  same_schema a b is = cc
+
+  are_part_rows : (schema : Schema) (part : CorePart) → schema_of part.table h ≡ Some schema → PartStands h part → All (λ (row : Row). partition_of schema row ≡ part.name.partition) part.rows → ArePartRows schema part.name.partition part.rows
+  are_part_rows schema part there s parted =
+      let same : s.schema ≡ schema = same_schema s.schema schema (sym s.there ∙ there) in
+      record {
+        own = subst (λ (x : Schema). All (IsTableRow x) part.rows) same (part_rows part s);
+        parted = parted;
+        rising = subst (λ (x : Schema). IsSorted (sorting_cmp x) part.rows) same s.rising;
+      }
+
+-- ---- lists, place by place
+
+module _ {A B : Type 0} (Q : A → B → Type 0) where
+  -- a list that goes with the first of two goes with its front
+  pub zip_parted : (xs ys : List A) (zs : List B) → AllZip Q (xs ++ ys) zs → (firsts rest : List B) × (zs ≡ firsts ++ rest) × AllZip Q xs firsts × AllZip Q ys rest
+  zip_parted [] ys zs zip = ([], zs, refl, tt, zip)
+  zip_parted (x ∷ xs) ys [] zip = absurd zip
+  zip_parted (x ∷ xs) ys (z ∷ zs) zip = let rest = zip_parted xs ys zs zip.1 in (z ∷ rest.0, rest.1, ap (λ (ws : List B). z ∷ ws) rest.2, (zip.0, rest.3), rest.4)
+
+module _ {F : Type 0} (files_of : F → Option Files) (schema : Schema) (table : List ℕ) where
+  abbrev Holds : Kept (Part F) → List Row → Type 0
+  Holds k rows = PartHolds files_of schema k.part rows
+
+  -- what holds of each part with its rows
+  each_part : (Q : CorePart → Type 0) (ks : List (Kept (Part F))) (rows : List (List Row)) → AllZip Holds ks rows → All Q (core_parts table ks rows) → AllZip (λ k r. Holds k r × Q (core_part table k r)) ks rows
+  each_part Q [] [] zip all = tt
+  each_part Q [] (r ∷ rows) zip all = absurd zip
+  each_part Q (k ∷ ks) [] zip all = absurd zip
+  each_part Q (k ∷ ks) (r ∷ rows) zip all = ((zip.0, All-head Q (core_part table k r) (core_parts table ks rows) all), each_part Q ks rows zip.1 (All-tail Q (core_part table k r) (core_parts table ks rows) all))
+
+  each_holds : (Q : Kept (Part F) → List Row → Type 0) (ks : List (Kept (Part F))) (rows : List (List Row)) → AllZip (λ k r. Holds k r × Q k r) ks rows → AllZip Holds ks rows
+  each_holds Q [] [] zip = tt
+  each_holds Q [] (r ∷ rows) zip = absurd zip
+  each_holds Q (k ∷ ks) [] zip = absurd zip
+  each_holds Q (k ∷ ks) (r ∷ rows) zip = (zip.0.0, each_holds Q ks rows zip.1)
+
+  -- of parts of one partition
+  all_rows : (partition : Partition) (ks : List (Kept (Part F))) (rows : List (List Row)) → All (λ (k : Kept (Part F)). k.name.partition ≡ partition) ks
+      → AllZip (λ k r. Holds k r × ArePartRows schema k.name.partition r) ks rows → All (ArePartRows schema partition) rows
+  all_rows partition [] [] own zip = All-nil (ArePartRows schema partition)
+  all_rows partition [] (r ∷ rows) own zip = absurd zip
+  all_rows partition (k ∷ ks) [] own zip = absurd zip
+  all_rows partition (k ∷ ks) (r ∷ rows) own zip =
+      let P = λ (x : Kept (Part F)). x.name.partition ≡ partition in
+      All-cons (ArePartRows schema partition) r rows (subst (λ (p : Partition). ArePartRows schema p r) (All-head P k ks own) zip.0.1) (all_rows partition ks rows (All-tail P k ks own) zip.1)
+
+-- ---- the parts of a work
+
+-- Parts of a table's partition that follow each other, of a store that stands for a history: whatever rows they hold are rows as a part of that
+-- partition has them.
+pub rows_of_sources : {F : Type 0} (files_of : F → Option Files) (h : History) (store : CoreStore F) → CoreStands files_of h store → (table : List ℕ) (t : Table) → table_at store table ≡ Some t → (partition : Partition)
+    (front sources back : List (Kept (Part F))) → parts_of store.set table ≡ front ++ (sources ++ back) → All (λ (k : Kept (Part F)). k.name.partition ≡ partition) sources
+    → (inputs : List (List Row)) → AllZip (λ (k : Kept (Part F)) (r : List Row). PartHolds files_of t.schema k.part r) sources inputs → All (ArePartRows t.schema partition) inputs
+rows_of_sources {F} files_of h store stands table t there partition front sources back parts_are own inputs held =
+    let p = stands.parts table t there in
+    let parts = parts_of store.set table in
+    let core = core_parts table parts p.rows in
+    let schema_is = table_schema files_of h store stands table t there in
+    let parted = own_rows h stands.legal table t.schema core schema_is p.stand in
+    let each = each_part files_of t.schema table (λ (x : CorePart). ArePartRows t.schema x.name.partition x.rows) parts p.rows p.hold
+    (λ k d below. are_part_rows h stands.legal t.schema (get_or core k d) (ap (λ u. schema_of u h) (p.stand.own k d below) ∙ schema_is) (p.stand.each k d below) (parted k d below)) in
+    let Q = λ (k : Kept (Part F)) (r : List Row). PartHolds files_of t.schema k.part r × ArePartRows t.schema k.name.partition r in
+    let whole = subst (λ (ks : List (Kept (Part F))). AllZip Q ks p.rows) parts_are each in
+    let first = zip_parted Q front (sources ++ back) p.rows whole in
+    let second = zip_parted Q sources back first.1 first.4 in
+    let same : second.0 ≡ inputs = one_list files_of t.schema sources second.0 inputs (each_holds files_of t.schema table (λ k r. ArePartRows t.schema k.name.partition r) sources second.0 second.3) held in
+    subst (All (ArePartRows t.schema partition)) same (all_rows files_of t.schema table partition sources second.0 own second.3)
+
+-- and there are such rows
+pub sources_hold : {F : Type 0} (files_of : F → Option Files) (h : History) (store : CoreStore F) → CoreStands files_of h store → (table : List ℕ) (t : Table) → table_at store table ≡ Some t
+    → (front sources back : List (Kept (Part F))) → parts_of store.set table ≡ front ++ (sources ++ back) → (inputs : List (List Row)) × AllZip (λ (k : Kept (Part F)) (r : List Row). PartHolds files_of t.schema k.part r) sources inputs
+sources_hold {F} files_of h store stands table t there front sources back parts_are =
+    let p = stands.parts table t there in
+    let Q = λ (k : Kept (Part F)) (r : List Row). PartHolds files_of t.schema k.part r in
+    let first = zip_parted Q front (sources ++ back) p.rows (subst (λ (ks : List (Kept (Part F))). AllZip Q ks p.rows) parts_are p.hold) in
+    let second = zip_parted Q sources back first.1 first.4 in
+    (second.0, second.3)

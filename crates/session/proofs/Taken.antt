@@ -1,0 +1,201 @@
+-- A work that was taken up, and its marks taken off again: the parts are as they were.
+use Rattle.std.proofs.Common.{◌≡◌, ℕ, ◌+◌, ◌<◌, ◌≤◌, Bool, true, false, cond, List, [], ◌∷◌, ◌++◌, length, map, take, drop, filter, get_or, refl, sym, ap, ap₂, ◌∙◌, subst, arith}
+use Rattle.std.proofs.lemmas.List.{length-drop, length-map, length-take-le}
+use Rattle.std.proofs.lemmas.List.Elements.{All-contains, All-drop, All-filter, All-head, All-map, All-tail, All-take, Contains-append_right, filter-append, filter_passes}
+use Rattle.std.proofs.lemmas.List.Kept.{AllPairs-filter}
+use Rattle.std.specs.List.{All, Contains as HasItem}
+use Rattle.mt_base.specs.declared.partition.Partition.{Partition}
+use Rattle.mt_values.specs.Tables.{same_partition}
+use Rattle.mt_model.proofs.Commands.{partition_is}
+use Rattle.part_set.specs.declared.kept.Kept.{Kept}
+use Rattle.part_set.specs.declared.run.Run.{Run}
+use Rattle.part_set.specs.Parts.{IsInBlockOrder, StandsClear, kept_in}
+use Rattle.part_set.specs.Runs.{EndsInOrder, IsMarked, IsRun, parts_of_run, with_mark}
+use Rattle.part_set.proofs.Items.{item_first}
+use Rattle.part_set.proofs.Swaps.{marked_names, named_ordered, pairs_across, pairs_back, run_parts}
+
+-- ---- lists
+
+drop_front : {X : Type 0} (xs ys : List X) → drop (length xs) (xs ++ ys) ≡ ys
+drop_front [] ys = refl
+drop_front (x ∷ xs) ys = drop_front xs ys
+
+take_front : {X : Type 0} (xs ys : List X) → take (length xs) (xs ++ ys) ≡ xs
+take_front [] ys = refl
+take_front {X} (x ∷ xs) ys = ap (λ (zs : List X). x ∷ zs) (take_front xs ys)
+
+-- a list all of which passes is what a filter keeps of it
+pub all_pass : {X : Type 0} (p : X → Bool) (xs : List X) → All (λ x. p x ≡ true) xs → filter p xs ≡ xs
+all_pass p [] all = refl
+all_pass {X} p (x ∷ xs) all = by (p x) (All-head (λ y. p y ≡ true) x xs all) (all_pass p xs (All-tail (λ y. p y ≡ true) x xs all))
+  where
+    by : (b : Bool) → b ≡ true → filter p xs ≡ xs → cond b (x ∷ filter p xs) (filter p xs) ≡ x ∷ xs
+    by true passes rest = ap (λ (ys : List X). x ∷ ys) rest
+    by false passes rest = cc
+
+some_first : {X : Type 0} (xs : List X) → 0 < length xs → (x : X) × (rest : List X) × (xs ≡ x ∷ rest)
+some_first [] some = absurd (omega arith)
+some_first (x ∷ xs) some = (x, xs, refl)
+
+module _ {P : Type 0} where
+  abbrev Clear : Kept P → Kept P → Type 0
+  Clear a b = StandsClear a.name b.name
+
+  abbrev IsIdle : Kept P → Type 0
+  IsIdle k = k.busy ≡ false
+
+  -- ---- where a part stands
+
+  -- no part stands clear before itself
+  not_itself : (k : Kept P) → EndsInOrder k → Clear k k → ⊥
+  not_itself k long clear = clear.apart (record { partition = refl; low = long; high = long })
+
+  tail_of : (x y : Kept P) (xs ys : List (Kept P)) → x ∷ xs ≡ y ∷ ys → xs ≡ ys
+  tail_of x y xs ys same = ap (λ (ks : List (Kept P)). drop 1 ks) same
+
+  head_of : (x y : Kept P) (xs ys : List (Kept P)) → x ∷ xs ≡ y ∷ ys → x ≡ y
+  head_of x y xs ys same = cc
+
+  -- a part stands at one place only
+  pub one_place : (k : Kept P) → EndsInOrder k → (xs us ys vs : List (Kept P)) → IsInBlockOrder (xs ++ k ∷ us) → xs ++ k ∷ us ≡ ys ++ k ∷ vs → xs ≡ ys
+  one_place k long [] us [] vs ordered same = refl
+  one_place k long [] us (y ∷ ys) vs ordered same =
+      let rest : us ≡ ys ++ k ∷ vs = tail_of k y us (ys ++ k ∷ vs) same in
+      let later : HasItem us k = subst (λ (ks : List (Kept P)). HasItem ks k) (sym rest) (Contains-append_right ys (k ∷ vs) k (item_first k vs)) in
+      absurd (not_itself k long (pairs_across Clear (k ∷ []) us ordered k k (item_first k []) later))
+  one_place k long (x ∷ xs) us [] vs ordered same =
+      let first : x ≡ k = head_of x k (xs ++ k ∷ us) vs same in
+      let clear = pairs_across Clear (x ∷ []) (xs ++ k ∷ us) ordered x k (item_first x []) (Contains-append_right xs (k ∷ us) k (item_first k us)) in
+      absurd (not_itself k long (subst (λ (a : Kept P). Clear a k) first clear))
+  one_place k long (x ∷ xs) us (y ∷ ys) vs ordered same =
+      let first : x ≡ y = head_of x y (xs ++ k ∷ us) (ys ++ k ∷ vs) same in
+      let rest : xs ++ k ∷ us ≡ ys ++ k ∷ vs = tail_of x y (xs ++ k ∷ us) (ys ++ k ∷ vs) same in
+      ap₂ (λ (a : Kept P) (ks : List (Kept P)). a ∷ ks) first (one_place k long xs us ys vs (pairs_back Clear (x ∷ []) (xs ++ k ∷ us) ordered) rest)
+
+  -- and so do some parts
+  pub one_place_of : (ks : List (Kept P)) → 0 < length ks → (xs us ys vs : List (Kept P)) → All EndsInOrder (xs ++ (ks ++ us)) → IsInBlockOrder (xs ++ (ks ++ us)) → xs ++ (ks ++ us) ≡ ys ++ (ks ++ vs) → xs ≡ ys
+  one_place_of [] some xs us ys vs long ordered same = absurd (omega arith)
+  one_place_of (k ∷ ks) some xs us ys vs long ordered same =
+      let here : HasItem (xs ++ k ∷ (ks ++ us)) k = Contains-append_right xs (k ∷ (ks ++ us)) k (item_first k (ks ++ us)) in
+      one_place k (All-contains EndsInOrder (xs ++ k ∷ (ks ++ us)) k long here) xs (ks ++ us) ys (ks ++ vs) ordered same
+
+  -- ---- marks
+
+  -- parts without marks, with marks and without them again
+  pub mark_twice : (ks : List (Kept P)) → All IsIdle ks → map (with_mark false) (map (with_mark true) ks) ≡ ks
+  mark_twice [] idle = refl
+  mark_twice (k ∷ ks) idle =
+      let here : with_mark false k ≡ k = ap (λ (b : Bool). record { name = k.name; part = k.part; busy = b }) (sym (All-head IsIdle k ks idle)) in
+      ap₂ (λ (x : Kept P) (xs : List (Kept P)). x ∷ xs) here (mark_twice ks (All-tail IsIdle k ks idle))
+
+  -- ---- a run among the parts of its partition
+
+  module _ (p : Partition) (run : Run) (before : List (Kept P)) (is_run : IsRun run (kept_in p before)) (ordered : IsInBlockOrder before) (long : All EndsInOrder before) where
+    abbrev is_own : Kept P → Bool
+    is_own k = same_partition k.name.partition p
+
+    abbrev mine : List (Kept P)
+    mine = kept_in p before
+
+    abbrev sources : List (Kept P)
+    sources = parts_of_run run mine
+
+    first_within : run.first ≤ length mine
+    first_within = let within = is_run.within in omega (arith, within)
+
+    long_sources : length sources ≡ run.count
+    long_sources =
+        let within = is_run.within in
+        let rest = length-drop run.first mine in
+        length-take-le run.count (drop run.first mine) (omega (arith, within, rest))
+
+    pub some_sources : 0 < length sources
+    some_sources = let long = long_sources in let some = is_run.some in omega (arith, long, some)
+
+    mine_ordered : IsInBlockOrder mine
+    mine_ordered = AllPairs-filter Clear is_own before ordered
+
+    split : mine ≡ take run.first mine ++ (sources ++ drop (run.first + run.count) mine)
+    split = run_parts run mine
+
+    own_sources : All (λ (k : Kept P). is_own k ≡ true) sources
+    own_sources = All-take (λ (k : Kept P). is_own k ≡ true) run.count (drop run.first mine) (All-drop (λ (k : Kept P). is_own k ≡ true) run.first mine (filter_passes is_own before))
+
+    module _ (front back : List (Kept P)) (before_is : before ≡ front ++ (sources ++ back)) where
+      mine_is : mine ≡ filter is_own front ++ (sources ++ filter is_own back)
+      mine_is =
+          ap (filter is_own) before_is
+          ∙ (filter-append is_own front (sources ++ back)
+          ∙ ap (λ (ks : List (Kept P)). filter is_own front ++ ks) (filter-append is_own sources back ∙ ap (λ (ks : List (Kept P)). ks ++ filter is_own back) (all_pass is_own sources own_sources)))
+
+      mine_long : All EndsInOrder mine
+      mine_long = All-filter is_own EndsInOrder before long
+
+      front_is : filter is_own front ≡ take run.first mine
+      front_is =
+          one_place_of sources some_sources (filter is_own front) (filter is_own back) (take run.first mine) (drop (run.first + run.count) mine)
+          (subst (All EndsInOrder) mine_is mine_long) (subst (λ (ks : List (Kept P)). IsInBlockOrder ks) mine_is mine_ordered) (sym mine_is ∙ split)
+
+      first_is : length (filter is_own front) ≡ run.first
+      first_is = ap (λ (ks : List (Kept P)). length ks) front_is ∙ length-take-le run.first mine first_within
+
+      -- others in their place
+      module _ (others : List (Kept P)) (own : All (λ (k : Kept P). is_own k ≡ true) others) (as_many : length others ≡ run.count) where
+        mine_now : kept_in p (front ++ (others ++ back)) ≡ filter is_own front ++ (others ++ filter is_own back)
+        mine_now =
+            filter-append is_own front (others ++ back)
+            ∙ ap (λ (ks : List (Kept P)). filter is_own front ++ ks) (filter-append is_own others back ∙ ap (λ (ks : List (Kept P)). ks ++ filter is_own back) (all_pass is_own others own))
+
+        run_now : parts_of_run run (kept_in p (front ++ (others ++ back))) ≡ others
+        run_now =
+            ap (parts_of_run run) mine_now
+            ∙ (ap (λ (n : ℕ). take run.count (drop n (filter is_own front ++ (others ++ filter is_own back)))) (sym first_is)
+            ∙ (ap (λ (ks : List (Kept P)). take run.count ks) (drop_front (filter is_own front) (others ++ filter is_own back))
+            ∙ (ap (λ (n : ℕ). take n (others ++ filter is_own back)) (sym as_many) ∙ take_front others (filter is_own back))))
+
+    module _ (after : List (Kept P)) (m : IsMarked p run true before after) where
+      abbrev marked : List (Kept P)
+      marked = map (with_mark true) sources
+
+      marked_own : All (λ (k : Kept P). is_own k ≡ true) marked
+      marked_own = All-map (λ (k : Kept P). is_own k ≡ true) (with_mark true) sources own_sources
+
+      as_many : length marked ≡ run.count
+      as_many = length-map sources (with_mark true) ∙ long_sources
+
+      -- the run has the same parts, with marks
+      pub run_marked : parts_of_run run (kept_in p after) ≡ marked
+      run_marked = ap (λ (ks : List (Kept P)). parts_of_run run (kept_in p ks)) m.after_is ∙ run_now m.front m.back m.before_is marked marked_own as_many
+
+      some_marked : 0 < length marked
+      some_marked = let count = as_many in let some = is_run.some in omega (arith, count, some)
+
+      -- and without them again all is as it was
+      pub unmarked : All IsIdle sources → All EndsInOrder after → IsInBlockOrder after → (last : List (Kept P)) → IsMarked p run false after last → last ≡ before
+      unmarked idle long_now ordered_now last n =
+          let from : after ≡ n.front ++ (marked ++ n.back) = n.before_is ∙ ap (λ (ks : List (Kept P)). n.front ++ (ks ++ n.back)) run_marked in
+          let same : m.front ++ (marked ++ m.back) ≡ n.front ++ (marked ++ n.back) = sym m.after_is ∙ from in
+          let front : m.front ≡ n.front =
+          one_place_of marked some_marked m.front m.back n.front n.back (subst (All EndsInOrder) m.after_is long_now) (subst (λ (ks : List (Kept P)). IsInBlockOrder ks) m.after_is ordered_now) same in
+          let rest : marked ++ m.back ≡ marked ++ n.back =
+          sym (drop_front m.front (marked ++ m.back)) ∙ (ap (λ (ks : List (Kept P)). drop (length m.front) ks) same
+          ∙ (ap (λ (ks : List (Kept P)). drop (length ks) (n.front ++ (marked ++ n.back))) front ∙ drop_front n.front (marked ++ n.back))) in
+          let back : m.back ≡ n.back = sym (drop_front marked m.back) ∙ (ap (λ (ks : List (Kept P)). drop (length marked) ks) rest ∙ drop_front marked n.back) in
+          n.after_is
+          ∙ (ap (λ (ks : List (Kept P)). n.front ++ (map (with_mark false) ks ++ n.back)) run_marked
+          ∙ (ap (λ (ks : List (Kept P)). n.front ++ (ks ++ n.back)) (mark_twice sources idle)
+          ∙ (ap₂ (λ (ks ls : List (Kept P)). ks ++ (sources ++ ls)) (sym front) (sym back) ∙ sym m.before_is)))
+
+  -- the parts stood in order before they had marks
+  pub ordered_before : (p : Partition) (run : Run) (busy : Bool) (before after : List (Kept P)) → IsMarked p run busy before after → IsInBlockOrder after → IsInBlockOrder before
+  ordered_before p run busy before after m ordered =
+      named_ordered after before
+      (ap (λ (ks : List (Kept P)). map (λ (k : Kept P). k.name) ks) m.before_is
+      ∙ (sym (marked_names busy m.front (parts_of_run run (kept_in p before)) m.back) ∙ ap (λ (ks : List (Kept P)). map (λ (k : Kept P). k.name) ks) (sym m.after_is))) ordered
+
+  -- those of a run are of its partition
+  pub sources_own : (p : Partition) (run : Run) (parts : List (Kept P)) → All (λ (k : Kept P). k.name.partition ≡ p) (parts_of_run run (kept_in p parts))
+  sources_own p run parts =
+      let is_own = λ (k : Kept P). same_partition k.name.partition p in
+      let passes = All-take (λ (k : Kept P). is_own k ≡ true) run.count (drop run.first (kept_in p parts)) (All-drop (λ (k : Kept P). is_own k ≡ true) run.first (kept_in p parts) (filter_passes is_own parts)) in
+      λ i d inside. partition_is (get_or (parts_of_run run (kept_in p parts)) i d).name.partition p (passes i d inside)
