@@ -5,11 +5,14 @@
     tests/answers.py cases         compares what it works out with the stdout of run_cases and of the cases of tests/built, where it can
     tests/answers.py fill < LINES  prints directives of run_cases with what they come to, to be put into its stdin and stdout
 
-It knows an outside without faults: CREATE, INSERT, SELECT and EXPLAIN over what this and earlier runs accepted. It is slow and plain: a
-SELECT asks each row, and only an EXPLAIN looks at boxes. Where an EXPLAIN passes over a granule it asks each of its rows too, and fails
-where one meets the condition.
+It knows CREATE, INSERT, SELECT, EXPLAIN and OPTIMIZE over what this and earlier runs accepted, merges by the policy of the run's words,
+a disk that stops or of which some calls fail, and what a crash may leave of its names. It is slow and plain: a SELECT asks each row, and
+only an EXPLAIN looks at boxes. Where an EXPLAIN passes over a granule it asks each of its rows too, and fails where one meets the
+condition. Where an engine's rule leaves a choice that would show, it fails: no case may rest on the code's choice.
 """
+import collections
 import hashlib
+import itertools
 import os
 import re
 import subprocess
@@ -305,12 +308,29 @@ class Reader:
         self.wants(b";")
         return "insert", table
 
+    def string(self):
+        if self.kind != "string":
+            self.fault()
+        return self.taken()
+
+    def optimize(self):
+        self.wants(b"TABLE")
+        table, partition = self.name(), None
+        if self.kind == "word" and self.takes(b"PARTITION"):
+            self.wants(b"ID")
+            partition = self.string()
+        whole = self.kind == "word" and self.takes(b"FINAL") is not None
+        self.wants(b";")
+        return "optimize", table, partition, whole
+
     def statement(self):
-        first = self.takes(b"CREATE", b"INSERT", b"SELECT", b"EXPLAIN") if self.kind == "word" else None
+        first = self.takes(b"CREATE", b"INSERT", b"SELECT", b"EXPLAIN", b"OPTIMIZE") if self.kind == "word" else None
         if first == b"CREATE":
             return self.create()
         if first == b"INSERT":
             return self.insert()
+        if first == b"OPTIMIZE":
+            return self.optimize()
         if first == b"EXPLAIN":
             self.wants(b"SELECT")
         elif first != b"SELECT":
@@ -606,47 +626,270 @@ def index_box(schema, index, rows, start):
     return box
 
 
-class Store:
-    """What was accepted: tables, each with its schema and its parts of a partition and sorted rows; and the list of the commands."""
+# ---- merges, by docs/engines.md
 
-    def __init__(self):
-        self.tables, self.commands = {}, []
+def wrapped(kind, number):
+    """A number at the width of a type."""
+    end = 1 << BITS[kind]
+    number %= end
+    return number - end if not kind.startswith(b"U") and number >= end // 2 else number
+
+
+def aggregate_of(function, kind, values):
+    """What the function of a column makes of its values."""
+    folded = values[0]
+    for value in values[1:]:
+        folded = {
+            b"any": lambda: folded, b"anyLast": lambda: value, b"min": lambda: min(folded, value), b"max": lambda: max(folded, value),
+            b"sum": lambda: wrapped(kind, folded + value), b"groupBitAnd": lambda: folded & value,
+            b"groupBitOr": lambda: folded | value, b"groupBitXor": lambda: folded ^ value,
+        }[function]()  # fmt: skip
+    return folded
+
+
+def the_one(rows):
+    """A row of several that are alike: which one is left is a choice of the code, on which no case may rest."""
+    assert all(row == rows[0] for row in rows), rows
+    return rows[0]
+
+
+def with_sums(schema, places, rows, row):
+    """A row with the sums of rows in the summed columns."""
+    kinds = [kind for _, kind, _ in schema["columns"]]
+    return [wrapped(kinds[place], sum(row[place] for row in rows)) if place in places else value for place, value in enumerate(row)]
+
+
+def collapsed(sign, rows):
+    states, cancels = [row for row in rows if row[sign] == 1], [row for row in rows if row[sign] == -1]
+    if len(states) != len(cancels):
+        return states[-1:] if len(states) > len(cancels) else cancels[:1]
+    return [cancels[0], states[-1]] if rows[-1][sign] == 1 else []
+
+
+def paired_off(sign, rows):
+    left = sum(row[sign] for row in rows)
+    alike = [row for row in rows if row[sign] * left > 0]
+    return [the_one(alike)] * abs(left) if abs(left) < len(alike) else alike
+
+
+def folded(schema, rows):
+    """What a merge leaves of the rows of one key."""
+    engine, named = schema["engine"]
+    if engine == PLAIN:
+        return rows
+    if engine == REPLACING:
+        return [max(enumerate(rows), key=lambda each: ([each[1][place] for place in named], each[0]))[1]]
+    if engine == SUMMING:
+        row = the_one([with_sums(schema, named, rows, row) for row in rows])
+        return [row] if any(row[place] for place in named) else []
+    if engine == COLLAPSING:
+        return collapsed(named[0], rows)
+    if engine == VERSIONED:
+        return paired_off(named[0], rows)
+    columns = zip(schema["columns"], zip(*rows))
+    return [[aggregate_of(function or b"any", kind, list(values)) for (_, kind, function), values in columns]]
+
+
+def merged(schema, parts):
+    """The part that neighbours become."""
+    places = order_of(schema)
+    key = lambda row: [row[place] for place in places]
+    rows = []
+    for _, group in itertools.groupby(sorted((row for part in parts for row in part["rows"]), key=key), key):
+        rows += folded(schema, list(group))
+    return {
+        "table": parts[0]["table"],
+        "partition": parts[0]["partition"],
+        "rows": rows,
+        "least": parts[0]["least"],
+        "greatest": parts[-1]["greatest"],
+        "level": 1 + max(part["level"] for part in parts),
+    }
+
+
+def are_near(left, right):
+    few, many = sorted([len(left["rows"]), len(right["rows"])])
+    return many <= 2 * few + 1000
+
+
+def text_of(partition):
+    """A partition's id."""
+    return b"all" if partition is None else b"%d" % partition
+
+
+class Fault(Exception):
+    """A call of the outside that fails."""
+
+
+class Unknown(Exception):
+    """What is asked is not worked out."""
+
+
+class Disk:
+    """A disk in memory: what was published, each a table with its schema or a part, how much of that is settled, its count of faults, and
+    that of its arm. It stops after some calls of its own, and the calls that are listed fail: each an arm, a stage and a kind, where they
+    are not the disk's, with its number among those."""
+
+    def __init__(self, published=(), stop=None, failing=()):
+        self.published, self.settled, self.faults, self.noted = list(published), len(published), 0, 0
+        self.plan(stop, failing)
+
+    def plan(self, stop, failing=()):
+        """What fails of the next run."""
+        self.stop, self.failing, self.made, self.arm_faults, self.stages = stop, set(failing), collections.Counter(), 0, 0
+
+    def call(self, arm, stage, kind):
+        """Makes a call."""
+        number = self.made[arm, stage, kind]
+        self.made[arm, stage, kind] += 1
+        is_stopped = arm is None and self.stop is not None and self.made_alone() > self.stop
+        if is_stopped or (arm, stage, kind, number) in self.failing:
+            self.faults += arm is None
+            self.arm_faults += arm is not None
+            raise Fault
+
+    def made_alone(self):
+        """How many calls the disk made that are no arm's."""
+        return sum(count for (arm, _, _), count in self.made.items() if arm is None)
+
+    def publish(self, change):
+        self.call(None, None, "publish")
+        self.published.append(change)
+
+    def sync(self):
+        self.call(None, None, "sync-names")
+        self.settled = len(self.published)
+
+    def write(self, files):
+        """Writes a stage of this many files, by one append each, and then syncs each of them."""
+        self.call(0, None, "stage")
+        for kind in ["append"] * files + ["sync"] * files:
+            self.call(0, self.stages, kind)
+        self.stages += 1
+
+    def read(self, parts, columns, calls):
+        """Reads that many columns of each part that has rows, of one granule, each by some calls: one for a granule, and two for a file, of
+        which the second meets its end."""
+        for _ in range(calls * columns * sum(len(part["rows"]) > 0 for part in parts)):
+            self.call(0, None, "read")
+
+    def image(self, choice):
+        """What a crash leaves by a choice: what is settled, and of the rest what its bits say."""
+        rest = self.published[self.settled:]
+        return Disk(self.published[:self.settled] + [change for bit, change in enumerate(rest) if choice >> bit & 1])
+
+
+def visible(parts):
+    """The parts that no other one of their partition covers, in block order."""
+    found = []
+    for part in sorted(parts, key=lambda part: (text_of(part["partition"]), part["least"], -part["greatest"], -part["level"])):
+        if not found or found[-1]["partition"] != part["partition"] or found[-1]["greatest"] < part["greatest"]:
+            found.append(part)
+    return found
+
+
+class Store:
+    """What was accepted: tables, each with its schema and its parts in block order, of a partition, blocks, a level and sorted rows; and
+    the list of the commands, of those before a run no more than their tables. The policy is that of merges."""
+
+    def __init__(self, policy=b"near", disk=None):
+        self.tables, self.commands, self.policy, self.disk, self.opened = {}, [], policy, disk or Disk(), 0
 
     @property
     def length(self):
         return len(self.commands)
 
+    def open(self):
+        """Opens what the disk lists: each entry and each visible part, and settles the names."""
+        self.tables, self.commands, self.opened = {}, [], self.disk.faults
+        for kind in "start", "arm", "list":
+            self.disk.call(None, None, kind)
+        published = self.disk.published
+        for change in published:
+            if "schema" in change:
+                own = visible(part for part in published if part["table"] == change["table"] and "schema" not in part)
+                self.tables[change["table"]] = change["schema"], own
+                self.commands += [(change["table"],)] * (1 + max([part["greatest"] for part in own], default=0))
+                for _ in range(1 + len(own)):
+                    self.disk.call(None, None, "open")
+        if published:
+            self.disk.sync()
+
+    def turn(self, change, accepted):
+        """Publishes a change and settles it, unless the disk failed before."""
+        if self.disk.faults > self.opened:
+            raise Refused(f"E17 {self.opened} {self.disk.faults} {accepted}")
+        try:
+            self.disk.publish(change)
+            self.disk.sync()
+        except Fault:
+            raise Refused(f"E16 {accepted}") from None
+
     def create(self, create):
-        schema = schema_of(create)
-        if create["table"] in self.tables:
-            raise Refused(b"E03 " + create["table"])
+        schema, table = schema_of(create), create["table"]
+        self.disk.write(1)
+        if table in self.tables:
+            raise Refused(b"E03 " + table)
         if len(self.tables) == 64:
             raise Refused(b"E12 tables 64")
-        self.tables[create["table"]] = schema, []
-        self.commands.append((create["table"], schema))
+        self.turn({"table": table, "schema": schema}, 0)
+        self.tables[table] = schema, []
+        self.note(table, schema)
         return f"OK {self.length}\n".encode()
+
+    def note(self, *command):
+        """Adds a command to the list."""
+        self.commands.append(command)
+        self.disk.noted += 1
+
+    def write(self, schema):
+        """Writes the stage of a part: its columns, its indexes, marks, keys and a manifest."""
+        self.disk.write(len(schema["columns"]) + len(schema["indexes"]) + 3)
 
     def insert(self, table, data):
         schema, parts = self.found(table)
         groups = {}
         for row in rows_of(schema, data):
             groups.setdefault(None if schema["partition"] is None else row[schema["partition"]], []).append(row)
+        for _ in groups:
+            self.write(schema)
         for accepted, (partition, rows) in enumerate(groups.items()):
-            if sum(part[0] == partition for part in parts) == 3000:
+            if len(self.parts_in(parts, partition)) == 3000:
                 raise Refused(f"E12 parts 3000 {accepted}")
-            parts.append((partition, sorted(rows, key=lambda row: [row[place] for place in order_of(schema)])))
-            self.commands.append((table, partition, rows))
+            number = sum(command[0] == table for command in self.commands)
+            own = sorted(rows, key=lambda row: [row[place] for place in order_of(schema)])
+            part = {"table": table, "partition": partition, "rows": own, "least": number, "greatest": number, "level": 0}
+            self.turn(part, accepted)
+            parts.append(part)
+            self.note(table, partition, rows)
         return f"OK {self.length}\n".encode()
 
-    def names(self):
-        """The names of the root, in the order of their bytes."""
-        found = []
-        for table, (_, parts) in self.tables.items():
-            found.append(table + b".create")
-            for number, (partition, _) in enumerate(parts, 1):
-                text = b"all" if partition is None else b"%d" % partition
-                found.append(b"%s.part_%s_%d_%d_0" % (table, text, number, number))
-        return sorted(found)
+    def parts_in(self, parts, partition):
+        """The parts of a partition, in block order."""
+        return [part for part in parts if part["partition"] == partition]
+
+    def merge(self, schema, parts, sources):
+        """Merges neighbours, and puts what they become in their place."""
+        self.disk.read(sources, len(schema["columns"]), 2)
+        self.write(schema)
+        part = merged(schema, sources)
+        self.turn(part, 0)
+        parts[:] = [part if each is sources[0] else each for each in parts if all(each is not source for source in sources[1:])]
+
+    def optimize(self, table, id, whole):
+        """One merge by the policy, or each partition to one part."""
+        schema, parts = self.found(table)
+        partitions = sorted({part["partition"] for part in parts if id is None or text_of(part["partition"]) == id}, key=lambda p: (p is not None, p))
+        for partition in partitions:
+            own = self.parts_in(parts, partition)
+            if whole:
+                self.merge(schema, parts, own)
+                continue
+            pairs = [pair for pair in zip(own, own[1:]) if self.policy != b"near" or are_near(*pair)]
+            if pairs:
+                self.merge(schema, parts, pairs[-1 if self.policy == b"tail" else 0])
+                break
+        return f"OK {self.length}\n".encode()
 
     def found(self, table):
         if table not in self.tables:
@@ -664,7 +907,10 @@ class Store:
 
     def select(self, *text):
         _, parts, places, condition = self.asked(*text)
-        rows = [row for _, rows in parts for row in rows if meets(condition, row)]
+        if condition != ("and", []) and self.disk.failing:
+            raise Unknown
+        self.disk.read(parts, len(set(places)), 1)
+        rows = [row for part in parts for row in part["rows"] if meets(condition, row)]
         found = sorted([row[place] for place in places] for row in rows)
         lines = [b"ROWS %d PREFIX %d" % (len(found), self.length)]
         for row in found:
@@ -674,8 +920,8 @@ class Store:
     def explain(self, *text):
         schema, parts, _, condition = self.asked(*text)
         chosen = []
-        for partition, rows in parts:
-            size = schema["granularity"]
+        for part in parts:
+            partition, rows, size = part["partition"], part["rows"], schema["granularity"]
             starts = range(0, len(rows), size)
             ends = [rows[start] for start in starts][1:] + rows[-1:]
             boxes = [[box_of(schema, partition, rows[start], end)] for start, end in zip(starts, ends)]
@@ -698,14 +944,33 @@ class Store:
     def run(self, script):
         """The status and the replies of a script."""
         status, replies = 0, []
+        try:
+            self.open()
+        except Fault:
+            return 5, b""
         for statement, data in statements_of(script):
             try:
                 replies.append(self.answer(statement, data))
+            except Fault:
+                replies.append(b"E15\n")
             except Refused as refusal:
                 line = refusal.line.encode() if isinstance(refusal.line, str) else refusal.line
                 replies.append(line + b"\n")
                 status = 1
-        return status, b"".join(replies)
+        self.disk.faults += self.disk.arm_faults
+        return 5 if self.disk.faults > self.opened else status, b"".join(replies)
+
+
+def names_of(disk):
+    """The names of a disk, in the order of their bytes."""
+    found = []
+    for change in disk.published:
+        if "schema" in change:
+            found.append(change["table"] + b".create")
+        else:
+            blocks = change["least"], change["greatest"], change["level"]
+            found.append(b"%s.part_%s_%d_%d_%d" % (change["table"], text_of(change["partition"]), *blocks))
+    return sorted(found)
 
 
 def bytes_of(text):
@@ -750,15 +1015,122 @@ def schema_shown(schema):
     return b", ".join(shown_columns + shown_parts)
 
 
-class Bench:
-    """What directives come to, where no fault, damage or crash is set up."""
+# ---- random events of the core
+
+class Dice:
+    """The numbers that look random of `random` and `courses`: those of a seed are the same each time."""
+
+    def __init__(self, seed):
+        self.state = seed
+
+    def below(self, end):
+        self.state = (self.state * 6364136223846793005 + 1442695040888963407) % (1 << 64)
+        return (self.state >> 32) % end
+
+
+class Course:
+    """The core while random events come, as a table's parts alone: for each table the partitions and blocks of its parts, and how many
+    commands were accepted."""
 
     def __init__(self):
-        self.case, self.script, self.store, self.left, self.named = b"", b"", None, None, {}
+        self.tables, self.length, self.snapshots = {}, 0, 0
 
-    def ran(self, store):
-        status, replies = store.run(self.script)
-        return b"%d, %d accepted: %s" % (status, store.length, shown(replies))
+    def accept(self, dice, table):
+        """What an accept gives, as what is done where it is not lost, and its outcome."""
+        if dice.below(8) == 0:
+            return self.create(table)
+        first, _ = dice.below(2), dice.below(3)
+        if table not in self.tables:
+            return None
+        return lambda: self.insert(table, first if table == "p" else None)
+
+    def create(self, table):
+        return None if table in self.tables else lambda: self.tables.update({table: (0, [])})
+
+    def insert(self, table, partition):
+        last, parts = self.tables[table]
+        self.tables[table] = last + 1, parts + [(partition, last + 1)]
+
+    def merge(self, dice, table):
+        """What a put gives, and how many parts it merges."""
+        number, first, count = dice.below(2), dice.below(2), dice.below(4)
+        partition = number if table == "p" else None
+        own = [part for part in self.tables.get(table, (0, []))[1] if part[0] == partition]
+        if not count or first + count > len(own):
+            return None, count
+        last, parts = self.tables[table]
+        gone = own[first + 1:first + count]
+        return lambda: self.tables.update({table: (last, [part for part in parts if part not in gone])}), count
+
+    def event(self, dice, pair, tally):
+        """One event, and what it came to."""
+        table = pair[1] if dice.below(8) == 0 else pair[0]
+        kind = dice.below(10)
+        if kind <= 4:
+            done = self.accept(dice, table)
+            tally["accepted" if done else "refused"] += 1
+        elif kind <= 6:
+            done, count = self.merge(dice, table)
+            tally["puts" if done else "refused"] += 1
+            tally["sources"] += count if done else 0
+        elif kind == 7:
+            kind, is_done = dice.below(5), dice.below(2) == 0
+            done = None
+            if kind in (1, 2):
+                done = self.accept(dice, table)
+            elif kind > 2:
+                done, _ = self.merge(dice, table)
+            done = done if is_done else None
+            tally["crashes"] += 1
+            self.snapshots = 0
+        elif kind == 8:
+            done = None
+            tally["taken" if table in self.tables else "refused"] += 1
+            self.snapshots += table in self.tables
+        else:
+            done = None
+            tally["read" if dice.below(2) < self.snapshots else "refused"] += 1
+        if done:
+            done()
+
+
+def courses(seed, lists):
+    """What random lists of events of the core come to: how many of each outcome there are. None leaves parts that do not stand."""
+    dice, tally = Dice(seed), collections.Counter()
+    for _ in range(lists):
+        pair = ["prst"[dice.below(4)] for _ in range(2)]
+        course = Course()
+        course.create(pair[0])()
+        tally["accepted"] += 1
+        events = dice.below(9) + 8
+        for _ in range(events):
+            course.event(dice, pair, tally)
+        tally["events"] += 1 + events
+    words = lists, *(tally[word] for word in ("events", "accepted", "puts", "sources", "taken", "read", "crashes", "refused"))
+    told = b"%d lists, %d events: %d accepted, %d puts of %d parts, %d snapshots, %d reads, %d crashes, %d refused; after 0 the parts do not stand"
+    return told % words
+
+
+class Bench:
+    """What directives come to, where no damage is set up and each root began empty."""
+
+    def __init__(self):
+        self.case, self.script, self.is_known, self.left, self.named = b"", b"", False, None, {}
+        self.set_up()
+
+    def set_up(self):
+        """Nothing fails of the next run, and its policy is the usual one."""
+        self.policy, self.stop, self.failing = b"near", None, []
+
+    def ran(self, disk, script):
+        """How a run of a script over a disk ends."""
+        status, replies = Store(self.policy, disk).run(script)
+        return b"%d, %d accepted: %s" % (status, disk.noted, shown(replies))
+
+    def run(self, disk):
+        """The same of the script that stands, with what is set up."""
+        disk.plan(self.stop, self.failing)
+        return self.ran(disk, self.script)
 
     def allows(self, rest):
         """Whether a script may leave the history of another one and print a text."""
@@ -767,9 +1139,60 @@ class Bench:
         wanted.run(self.named[second])
         return found.run(self.named[first])[1] == bytes_of(text[:-2]) and found.commands == wanted.commands
 
-    def told(self, line):
-        """The line that a directive comes to; nothing where none is worked out."""
-        word, _, rest = line.partition(b" ")
+    def each_stop(self, count):
+        """The runs of the script whose disk stops after each number of calls."""
+        for calls in range(count):
+            yield b"stop %d: %s" % (calls, self.ran(Disk(stop=calls), self.script))
+
+    def first_run(self, first):
+        """A first run, over an empty disk that stops: the disk that it leaves, and how it ends."""
+        disk = Disk(stop=first)
+        return disk, self.ran(disk, self.script)
+
+    def next_run(self, first, choice, calls, later):
+        """The first run, a crash by a choice, where there is one, and the next run, whose disk stops."""
+        disk, _ = self.first_run(first)
+        disk = disk if choice is None else disk.image(choice)
+        disk.plan(calls)
+        return disk, self.ran(disk, later)
+
+    def endings(self, *place):
+        """How the next run ends, and then the last ones, over each image of what it leaves, each answer once."""
+        disk, ending = self.next_run(*place)
+        for choice in choices_of(disk):
+            last = self.ran(self.next_run(*place)[0].image(choice), place[-1])
+            ending += b"" if ending.endswith(last) else b", then " + last
+        return ending
+
+    def next_runs(self, first, choice, calls, later):
+        """The endings over one root, equal neighbours once."""
+        before = None
+        for number in range(calls + 1):
+            ending = self.endings(first, choice, number, later)
+            if ending != before:
+                yield b"  %d: %s" % (number, ending)
+            before = ending
+
+    def stops(self, rest, is_crashed):
+        """The runs of a line of crashes or stops."""
+        firsts, calls, later = rest.split(b" ", 2)
+        for first in range(int(firsts) + 1):
+            disk, ending = self.first_run(first)
+            yield b"%d: %s" % (first, ending)
+            for choice in choices_of(disk) if is_crashed else [None]:
+                if choice is not None:
+                    yield b" crash %d" % choice
+                yield from self.next_runs(first, choice, int(calls), bytes_of(later))
+
+    def failing_call(self, rest):
+        """The call that a line says."""
+        arm, stage, kind, number = rest.split(b" ")
+        numbered = lambda word: None if word == b"-" else int(word)
+        return numbered(arm), numbered(stage), kind.decode(), int(number)
+
+    def set_line(self, word, rest):
+        """Sets up what a line says of the script and of the next run."""
+        words = re.fullmatch(rb"mergetree --path \S+(?: --policy[ =](near|head|tail))?", rest)
         if word == b"case":
             self.case = rest
         elif word in (b"script", b"add") or word in (b"check", b"run", b"again", b"probe") and rest:
@@ -777,30 +1200,72 @@ class Bench:
         elif word == b"repeat":
             count, _, text = rest.partition(b" ")
             self.script += int(count) * bytes_of(text)
-        if word == b"check":
-            return b"  %s: three alike, %s" % (self.case, self.ran(Store()))
-        if word == b"new":
-            self.store, self.left = None if rest else Store(), None
-        elif word == b"run" and self.store is not None:
-            self.left = Store()
-            return b"  %s: %s" % (self.case, self.ran(self.left))
-        elif word == b"again" and self.left is not None:
-            return b"  %s: %s" % (self.case, self.ran(self.left))
+        elif word == b"words" and words:
+            self.policy = words[1] or b"near"
+        elif word == b"stop":
+            self.stop = int(rest)
+        elif word == b"fail":
+            self.failing.append(self.failing_call(rest))
+        elif word == b"new":
+            self.is_known, self.left = not rest, None
         elif word == b"named":
             name, _, script = rest.partition(b" ")
             self.named[name] = bytes_of(script)
+        elif word not in KNOWN:
+            self.is_known, self.left = False, None
+        if word in (b"probe", b"check", b"each", b"crashes", b"stops"):
+            self.left = None
+
+    def answers(self, word, rest):
+        """What a line comes to, each line of it; nothing where none is worked out."""
+        if word == b"check":
+            yield b"three alike, " + self.ran(Disk(), self.script)
+        elif word == b"run" and self.is_known:
+            self.left = Disk()
+            yield self.run(self.left)
+        elif word == b"again" and self.left is not None:
+            yield self.run(self.left)
+        elif word == b"crash" and self.left is not None:
+            self.left = self.left.image(int(rest))
+        elif word == b"each" and rest.startswith(b"stop ") and self.is_known:
+            yield from self.each_stop(int(rest[len(b"stop "):]))
+        elif word in (b"crashes", b"stops"):
+            yield from self.stops(rest, word == b"crashes")
         elif word == b"twin" and rest.startswith(b"schema "):
             made = Store()
             made.run(bytes_of(rest[len(b"schema "):]))
-            return b"  %s: %s and %s" % (self.case, *[schema_shown(made.commands[0][1])] * 2)
+            yield b"%s and %s" % (*[schema_shown(made.commands[0][1])] * 2,)
+        elif word == b"courses":
+            yield courses(*map(int, rest.split(b" ")))
         elif word == b"allows":
-            return b"  %s: %s" % (self.case, b"true" if self.allows(rest) else b"false")
+            yield b"true" if self.allows(rest) else b"false"
         elif word == b"names" and self.left is not None:
-            names = self.left.names()
-            return b"  %s: %d names%s" % (self.case, len(names), b"".join(b" " + shown(name) for name in names))
-        elif word not in (b"case", b"script", b"add", b"repeat", b"names", b"left", b"bytes", b"twin", b"#", b""):
-            self.store = self.left = None
-        return None
+            names = names_of(self.left)
+            yield b"%d names%s" % (len(names), b"".join(b" " + shown(name) for name in names))
+
+    def told(self, line):
+        """The lines that a directive comes to; none where they are not worked out."""
+        word, _, rest = line.partition(b" ")
+        self.set_line(word, rest)
+        try:
+            return [b"  %s: %s" % (self.case, answer) for answer in self.answers(word, rest)]
+        except Unknown:
+            self.left = None
+            return []
+        finally:
+            if word in RUNS:
+                self.set_up()
+
+
+RUNS = {b"run", b"again", b"check", b"probe", b"crash", b"crashes", b"stops", b"each", b"names", b"left"}
+KNOWN = RUNS | {b"allows", b"courses", b"bytes", b"twin", b"#", b""}
+
+
+def choices_of(disk):
+    """The numbers of what a crash may leave, each without and with the loss of what was not synced."""
+    for choice in range(1 << len(disk.published) - disk.settled):
+        yield choice
+        yield choice + (1 << 63)
 
 
 def fill(lines):
@@ -808,8 +1273,7 @@ def fill(lines):
     bench = Bench()
     for line in lines:
         sys.stdout.buffer.write(line + b"\n")
-        told = bench.told(line)
-        if told is not None:
+        for told in bench.told(line):
             sys.stdout.buffer.write(told + b"\n")
 
 
@@ -824,11 +1288,10 @@ def compare_cases():
         while place < len(answers) and answers[place] != directive:
             place += 1
         place += 1
-        told = bench.told(directive)
-        if told is not None:
+        for number, told in enumerate(bench.told(directive), place):
             tried += 1
-            if answers[place:place + 1] != [told]:
-                differ.append((told, answers[place] if place < len(answers) else b""))
+            if answers[number:number + 1] != [told]:
+                differ.append((told, answers[number] if number < len(answers) else b""))
     return tried, differ
 
 

@@ -3,7 +3,7 @@
 
 The one word is the number of rounds, 20 if it is left out. A round is in a new folder, outside the repository: a first run makes two tables
 of the same rows, of which one has a random key, primary key, partition column and size of granules, and random skip indexes, and the other
-none of these; it inserts in one to three INSERTs. A second run over the folder has 60 SELECTs with a condition over each table, and an EXPLAIN of it. So a round shows
+none of these; it inserts in one to three INSERTs, and merges parts of the first table between them or not. A second run over the folder has 60 SELECTs with a condition over each table, and an EXPLAIN of it. So a round shows
 rows that are found however the table is parted, and numbers of granules. It prints its seed, and takes one from SEED; where a round differs
 it prints the script that shows it, and the status is 1. Where MERGETREE is set, it is the program that is run.
 """
@@ -80,6 +80,7 @@ def tables(chance):
             row += 1
             lines.append(f"{row}\t{chance.randint(0, 3)}\t{chance.randint(0, 6)}\t{chance.randint(-3, 3)}\t{chance.choice(TEXTS)}\n")
         script += "".join(f"INSERT INTO {table};\n{''.join(lines)}\\.\n" for table in "tu")
+        script += chance.choice(["", "", "OPTIMIZE TABLE t;\n", "OPTIMIZE TABLE t FINAL;\n"])
     return script
 
 

@@ -62,8 +62,12 @@
 //! - `core EVENT;EVENT ..`: what the core gives at each event, one after another, from the state before any event: `create TABLE`,
 //!   `insert TABLE NUMBER NUMBER`, `take TABLE`, `read SNAPSHOT`, `crash`, or `crash done` or `crash lost` with a create or an insert within
 //!   which the crash comes, and which is done or not. A table whose name begins with `p` has columns `p` and `a` of type UInt8, its partition
-//!   column and its key, and an insert adds one row of both numbers; each other table has one column `a` of type UInt8, its key, and an
-//!   insert adds a row of each number;
+//!   column and its key, and an insert adds one row of both numbers; one whose name begins with `r` or `s` has columns `a` and `b`, of which
+//!   `a` is the key, and an insert adds one row of both numbers, of which merges leave the last or the sum; each other table has one
+//!   column `a` of type UInt8, its key, and an insert adds a row of each number;
+//! - `courses SEED COUNT`: what comes of that many random lists of events of the core over such tables, with puts of merges of up to three
+//!   neighbours and with crashes within accepts and puts: how many of each outcome there were, and after how many events some visible
+//!   part of a table did not stand for the history;
 //! - `pin LENGTH NUMBER NUMBER`: what is pinned of a table with one part of two rows, at a length of the history: the schema, the part and
 //!   the length;
 //! - `twin KIND ..`: a value and its twins: `number NUMBER` (of 8, of 32 and of 64 bits), `name BYTES`, `type TYPE`, `schema SCRIPT` (of

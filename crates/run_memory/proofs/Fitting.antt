@@ -20,21 +20,10 @@ use Rattle.table_core.specs.Runs.{AddAll, AddsEntries, HasEntries, MayRun, entry
 use Rattle.table_core.specs.Steps.{GivesOutcome, MayAccept, MayCome}
 use Rattle.table_core.proofs.Telling.{run_entries}
 use Rattle.mt_model.proofs.Tables.{same_is}
-use Rattle.run_memory.specs.Events.{Fits, FitsAccept, event_schema, is_parted, of_numbers, parted}
+use Rattle.run_memory.specs.Events.{AreOfEvents, Fits, FitsAccept, FitsAfter, IsOfEvents, begins_with, event_schema, of_lasts, of_numbers, of_sums, parted}
 
--- a CREATE makes a table of the events
-IsOfNumbers : Command → Type 0
-IsOfNumbers (command.Create c) = c.schema ≡ event_schema c.table
-IsOfNumbers (command.Insert i) = Unit {0}
-
--- each table of a history is one of the events
-OfNumbers : History → Type 0
-OfNumbers [] = Unit {0}
-OfNumbers (e ∷ h) = IsOfNumbers e.command × OfNumbers h
-
-found_by : (table : List ℕ) (h : History) (schema : Schema) (c : Command) → IsOfNumbers c → first_of (schema_by table c) (schema_of table h) ≡ Some schema
+found_by : (table : List ℕ) (h : History) (schema : Schema) (c : Command) → IsOfEvents c → first_of (schema_by table c) (schema_of table h) ≡ Some schema
     → (schema_of table h ≡ Some schema → schema ≡ event_schema table) → schema ≡ event_schema table
-unfolding IsOfNumbers
 found_by table h schema (command.Create c) is first rest = named (same_bytes c.table table) refl first
   where
     named : (b : Bool) → same_bytes c.table table ≡ b → first_of (cond b (Some c.schema) None) (schema_of table h) ≡ Some schema → schema ≡ event_schema table
@@ -44,8 +33,7 @@ found_by table h schema (command.Create c) is first rest = named (same_bytes c.t
     named false apart same = rest same
 found_by table h schema (command.Insert i) is first rest = rest first
 
-found : (table : List ℕ) (h : History) (schema : Schema) → OfNumbers h → schema_of table h ≡ Some schema → schema ≡ event_schema table
-unfolding OfNumbers
+found : (table : List ℕ) (h : History) (schema : Schema) → AreOfEvents h → schema_of table h ≡ Some schema → schema ≡ event_schema table
 found table [] schema of is = cc
 found table (e ∷ h) schema of is = found_by table h schema e.command of.0 is (λ later. found table h schema of.1 later)
 
@@ -71,60 +59,138 @@ parted_is_table = record {
   few_indexes = omega arith;
 }
 
+of_lasts_is_table : IsTableSchema of_lasts
+of_lasts_is_table = record {
+  sound = refl;
+  key = omega arith;
+  primary = omega arith;
+  own = All-from_recursion (λ (place : ℕ). place < length of_lasts.columns) (0 ∷ []) (omega arith, tt);
+  few = omega arith;
+  indexed = All-nil (λ (index : SkipIndex). index.column < length of_lasts.columns);
+  few_indexes = omega arith;
+}
+
+of_sums_is_table : IsTableSchema of_sums
+of_sums_is_table = record {
+  sound = refl;
+  key = omega arith;
+  primary = omega arith;
+  own = All-from_recursion (λ (place : ℕ). place < length of_sums.columns) (0 ∷ []) (omega arith, tt);
+  few = omega arith;
+  indexed = All-nil (λ (index : SkipIndex). index.column < length of_sums.columns);
+  few_indexes = omega arith;
+}
+
 -- each table of the events has a schema that a table may have
 is_table : (table : List ℕ) → IsTableSchema (event_schema table)
-is_table table = by (is_parted table)
+is_table table = by (begins_with 112 table) (begins_with 114 table) (begins_with 115 table)
   where
-    by : (b : Bool) → IsTableSchema (cond b parted of_numbers)
-    by true = parted_is_table
-    by false = of_numbers_is_table
+    by : (p r s : Bool) → IsTableSchema (cond p parted (cond r of_lasts (cond s of_sums of_numbers)))
+    by true r s = parted_is_table
+    by false true s = of_lasts_is_table
+    by false false true = of_sums_is_table
+    by false false false = of_numbers_is_table
 
-may_accept : (h : History) (a : Accept) → OfNumbers h → FitsAccept a → MayAccept h a
+may_accept : (h : History) (a : Accept) → AreOfEvents h → FitsAccept a → MayAccept h a
 may_accept h (accept.Create session c) of fits = subst IsTableSchema (sym fits) (is_table c.table)
 may_accept h (accept.Insert session i) of fits = λ schema is. subst (λ s. IsInsertInto s i) (sym (found i.table h schema of is)) fits
 
-may_come : (h : History) (e : Event) → OfNumbers h → Fits e → MayCome h e
-may_come h (event.Accept a) of fits = may_accept h a of fits
-may_come h (event.TakeSnapshot table) of fits = tt
-may_come h (event.ReadSnapshot number) of fits = tt
-may_come h (event.Crash crash.Between) of fits = tt
-may_come h (event.Crash (crash.Within a done)) of fits = may_accept h a of fits
+may_come : (core : Core) (e : Event) → AreOfEvents core.history → Fits e → MayCome core e
+may_come core (event.Accept a) of fits = may_accept core.history a of fits
+may_come core (event.PutMerge m) of fits = absurd fits
+may_come core (event.TakeSnapshot table) of fits = tt
+may_come core (event.ReadSnapshot number) of fits = tt
+may_come core (event.Crash crash.Between) of fits = tt
+may_come core (event.Crash (crash.Within a done)) of fits = may_accept core.history a of fits
+may_come core (event.Crash (crash.WithinPut m done)) of fits = absurd fits
 
-both : (h more : History) → OfNumbers h → OfNumbers more → OfNumbers (h ++ more)
-unfolding OfNumbers
+both : (h more : History) → AreOfEvents h → AreOfEvents more → AreOfEvents (h ++ more)
 both [] more a b = b
 both (e ∷ h) more a b = (a.0, both h more a.1 b)
 
-one_entry : (a : Accept) → FitsAccept a → OfNumbers (entry_of_accept a ∷ [])
-unfolding OfNumbers IsOfNumbers
+one_entry : (a : Accept) → FitsAccept a → AreOfEvents (entry_of_accept a ∷ [])
 one_entry (accept.Create session c) fits = (fits, tt)
 one_entry (accept.Insert session i) fits = (tt, tt)
 
-no_entry : OfNumbers []
-unfolding OfNumbers
+no_entry : AreOfEvents []
 no_entry = tt
 
+-- an accept of an event makes a table of the events or adds rows of such a table
+Enters : Event → Type 0
+Enters (event.Accept a) = FitsAccept a
+Enters (event.PutMerge m) = Unit {0}
+Enters (event.TakeSnapshot table) = Unit {0}
+Enters (event.ReadSnapshot number) = Unit {0}
+Enters (event.Crash crash.Between) = Unit {0}
+Enters (event.Crash (crash.Within a done)) = FitsAccept a
+Enters (event.Crash (crash.WithinPut m done)) = Unit {0}
+
+enters : (e : Event) → Fits e → Enters e
+unfolding Enters
+enters (event.Accept a) fits = fits
+enters (event.PutMerge m) fits = tt
+enters (event.TakeSnapshot table) fits = tt
+enters (event.ReadSnapshot number) fits = tt
+enters (event.Crash crash.Between) fits = tt
+enters (event.Crash (crash.Within a done)) fits = fits
+enters (event.Crash (crash.WithinPut m done)) fits = tt
+
+enters_after : (core : Core) (e : Event) → FitsAfter core e → Enters e
+unfolding Enters
+enters_after core (event.Accept a) fits = fits
+enters_after core (event.PutMerge m) fits = tt
+enters_after core (event.TakeSnapshot table) fits = tt
+enters_after core (event.ReadSnapshot number) fits = tt
+enters_after core (event.Crash crash.Between) fits = tt
+enters_after core (event.Crash (crash.Within a done)) fits = fits
+enters_after core (event.Crash (crash.WithinPut m done)) fits = tt
+
 -- the entries that an event may add
-added : (e : Event) (given : Outcome) (entries : History) → Fits e → AddsEntries e given entries → OfNumbers entries
-added (event.Accept a) (outcome.Accepted place) entries fits is = subst OfNumbers (sym is) (one_entry a fits)
-added (event.Crash (crash.Within a true)) given entries fits (inl is) = subst OfNumbers (sym is) (one_entry a fits)
-added (event.Crash (crash.Within a true)) given entries fits (inr is) = subst OfNumbers (sym is) no_entry
-added e given entries fits is = subst OfNumbers (sym is) no_entry
+added : (e : Event) (given : Outcome) (entries : History) → Enters e → AddsEntries e given entries → AreOfEvents entries
+unfolding Enters
+added (event.Accept a) (outcome.Accepted place) entries fits is = subst AreOfEvents (sym is) (one_entry a fits)
+added (event.Crash (crash.Within a true)) given entries fits (inl is) = subst AreOfEvents (sym is) (one_entry a fits)
+added (event.Crash (crash.Within a true)) given entries fits (inr is) = subst AreOfEvents (sym is) no_entry
+added e given entries fits is = subst AreOfEvents (sym is) no_entry
 
-all_added : (e : Event) (given : Outcome) (entries : History) → Fits e → AddAll (e ∷ []) (given ∷ []) entries → OfNumbers entries
+all_added : (e : Event) (given : Outcome) (entries : History) → Enters e → AddAll (e ∷ []) (given ∷ []) entries → AreOfEvents entries
 all_added e given entries fits adds =
-    let last : OfNumbers adds.1 = subst OfNumbers (sym adds.3) no_entry in
-    subst OfNumbers (sym adds.4) (both adds.0 adds.1 (added e given adds.0 fits adds.2) last)
+    let last : AreOfEvents adds.1 = subst AreOfEvents (sym adds.3) no_entry in
+    subst AreOfEvents (sym adds.4) (both adds.0 adds.1 (added e given adds.0 fits adds.2) last)
 
-kept : (core next : Core) (e : Event) (given : Outcome) → OfNumbers core.history → Fits e → GivesOutcome core e given next → OfNumbers next.history
+kept : (core next : Core) (e : Event) (given : Outcome) → AreOfEvents core.history → Enters e → GivesOutcome core e given next → AreOfEvents next.history
 kept core next e given of fits gives =
     let has : HasEntries core (e ∷ []) (given ∷ []) next = run_entries (e ∷ []) (given ∷ []) core next (next, gives, refl) in
-    subst OfNumbers (sym has.2) (both core.history has.0 of (all_added e given has.0 fits has.1))
+    subst AreOfEvents (sym has.2) (both core.history has.0 of (all_added e given has.0 fits has.1))
 
-may_run : (events : List Event) (core : Core) → OfNumbers core.history → AllByRecursion Fits events → MayRun core events
+may_run : (events : List Event) (core : Core) → AreOfEvents core.history → AllByRecursion Fits events → MayRun core events
 may_run [] core of fits = tt
-may_run (e ∷ events) core of fits = (may_come core.history e of fits.0, λ given next gives. may_run events next (kept core next e given of fits.0 gives) fits.1)
+may_run (e ∷ events) core of fits = (may_come core e of fits.0, λ given next gives. may_run events next (kept core next e given of (enters e fits.0) gives) fits.1)
 
--- events over tables of numbers may run from the state before any event on
+-- events over tables of the events may run from the state before any event on
 pub fitting_run : (events : List Event) → All Fits events → MayRun empty_core events
 fitting_run events fits = may_run events empty_core no_entry (recursion_from_All Fits events fits)
+
+-- ---- one event after others
+
+-- such an event may come
+pub fitting_comes : (core : Core) (e : Event) → AreOfEvents core.history → FitsAfter core e → MayCome core e
+fitting_comes core (event.Accept a) of fits = may_accept core.history a of fits
+fitting_comes core (event.PutMerge m) of fits = fits
+fitting_comes core (event.TakeSnapshot table) of fits = tt
+fitting_comes core (event.ReadSnapshot number) of fits = tt
+fitting_comes core (event.Crash crash.Between) of fits = tt
+fitting_comes core (event.Crash (crash.Within a done)) of fits = may_accept core.history a of fits
+fitting_comes core (event.Crash (crash.WithinPut m done)) of fits = fits
+
+-- and each table of the history stays one of the events
+pub fitting_stays : (core next : Core) (e : Event) (given : Outcome) → AreOfEvents core.history → FitsAfter core e → GivesOutcome core e given next → AreOfEvents next.history
+fitting_stays core next e given of fits gives = kept core next e given of (enters_after core e fits) gives
+
+-- before any event there is no table
+pub none_of_events : AreOfEvents empty_core.history
+none_of_events = tt
+
+-- each table of the history has a schema that a table may have
+pub has_table_schema : (table : List ℕ) (h : History) (schema : Schema) → AreOfEvents h → schema_of table h ≡ Some schema → IsTableSchema schema
+has_table_schema table h schema of there = subst IsTableSchema (sym (found table h schema of there)) (is_table table)

@@ -1,16 +1,21 @@
 -- Events over tables of numbers: each of them may come, whatever came before.
 use Rattle.std.specs.Prelude.{◌≡◌, ℕ, List, [], ◌∷◌, Bool, false, None, Some, codes, if◌then◌else◌, nat_eq}
 use Rattle.mt_base.specs.Limits.{default_granularity}
+use Rattle.mt_values.specs.declared.command.Command.{Command}
+use Rattle.mt_values.specs.declared.command.Command.TheVariants as command
+use Rattle.mt_values.specs.declared.engine.Engine.{Engine}
 use Rattle.mt_values.specs.declared.engine.Engine.TheVariants as engine
 use Rattle.mt_values.specs.declared.schema.Schema.{Schema}
 use Rattle.mt_values.specs.declared.value.ColType.TheVariants as type
-use Rattle.mt_model.specs.History.{IsInsertInto}
+use Rattle.mt_model.specs.History.{History, IsInsertInto}
 use Rattle.table_core.specs.declared.event.Accept.{Accept}
 use Rattle.table_core.specs.declared.event.Accept.TheVariants as accept
 use Rattle.table_core.specs.declared.event.Crash.{Crash}
 use Rattle.table_core.specs.declared.event.Crash.TheVariants as crash
 use Rattle.table_core.specs.declared.event.Event.{Event}
 use Rattle.table_core.specs.declared.event.Event.TheVariants as event
+use Rattle.table_core.specs.Core.{Core}
+use Rattle.table_core.specs.Steps.{MayPut}
 
 -- the schema of a table with one partition: one column `a` of type UInt8, which is the key (docs/testing.md, "Cases: `run_cases`")
 abbrev pub of_numbers : Schema
@@ -36,14 +41,36 @@ parted = record {
   indexes = [];
 }
 
--- whether a table has several partitions: whether its name begins with a `p` (docs/testing.md, "Cases: `run_cases`")
-abbrev pub is_parted : List ℕ → Bool
-is_parted [] = false
-is_parted (letter ∷ letters) = nat_eq letter 112
+-- the schema of a table with columns `a` and `b` of type UInt8, of which the first is the key, and with an engine (docs/testing.md, "Cases: `run_cases`")
+abbrev pub of_pairs : Engine → Schema
+of_pairs rule = record {
+  columns = record { name = codes "a"; col_type = type.UInt8; function = None } ∷ record { name = codes "b"; col_type = type.UInt8; function = None } ∷ [];
+  engine = rule;
+  key = 0 ∷ [];
+  primary = 0 ∷ [];
+  partition = None;
+  granularity = default_granularity;
+  indexes = [];
+}
 
--- the schema of the table of this name (docs/testing.md, "Cases: `run_cases`")
+-- the schema of a table whose merges leave the last row of each key (docs/testing.md, "Cases: `run_cases`")
+abbrev pub of_lasts : Schema
+of_lasts = of_pairs (engine.Replacing None)
+
+-- the schema of a table whose merges leave the sum of each key (docs/testing.md, "Cases: `run_cases`")
+abbrev pub of_sums : Schema
+of_sums = of_pairs (engine.Summing (1 ∷ []))
+
+-- whether a name begins with a letter
+abbrev pub begins_with : ℕ → List ℕ → Bool
+begins_with letter [] = false
+begins_with letter (first ∷ letters) = nat_eq first letter
+
+-- the schema of the table of this name, by its first letter: `p`, `r`, `s` or another (docs/testing.md, "Cases: `run_cases`")
 abbrev pub event_schema : List ℕ → Schema
-event_schema table = if is_parted table then parted else of_numbers
+event_schema table =
+    if begins_with 112 table then parted
+    else (if begins_with 114 table then of_lasts else (if begins_with 115 table then of_sums else of_numbers))
 
 -- a CREATE makes such a table, and an INSERT has rows of such a table
 abbrev pub FitsAccept : Accept → Type 0
@@ -54,10 +81,36 @@ FitsAccept (accept.Insert session i) = IsInsertInto (event_schema i.table) i
 abbrev pub FitsCrash : Crash → Type 0
 FitsCrash crash.Between = Unit {0}
 FitsCrash (crash.Within a done) = FitsAccept a
+FitsCrash (crash.WithinPut m done) = ⊥
 
--- an event is such an accept, the taking or the reading of a snapshot, or such a crash
+-- an event is such an accept, the taking or the reading of a snapshot, or such a crash; none is a put
 abbrev pub Fits : Event → Type 0
 Fits (event.Accept a) = FitsAccept a
+Fits (event.PutMerge m) = ⊥
 Fits (event.TakeSnapshot table) = Unit {0}
 Fits (event.ReadSnapshot number) = Unit {0}
 Fits (event.Crash c) = FitsCrash c
+
+-- a crash after some events: the same, or within a put of what a merge may leave of the parts that are there
+abbrev pub FitsCrashAfter : Core → Crash → Type 0
+FitsCrashAfter core crash.Between = Unit {0}
+FitsCrashAfter core (crash.Within a done) = FitsAccept a
+FitsCrashAfter core (crash.WithinPut m done) = MayPut core m
+
+-- an event after some others: the same, or a put of what a merge may leave of the parts that are there
+abbrev pub FitsAfter : Core → Event → Type 0
+FitsAfter core (event.Accept a) = FitsAccept a
+FitsAfter core (event.PutMerge m) = MayPut core m
+FitsAfter core (event.TakeSnapshot table) = Unit {0}
+FitsAfter core (event.ReadSnapshot number) = Unit {0}
+FitsAfter core (event.Crash c) = FitsCrashAfter core c
+
+-- a CREATE makes a table of the events
+abbrev pub IsOfEvents : Command → Type 0
+IsOfEvents (command.Create c) = c.schema ≡ event_schema c.table
+IsOfEvents (command.Insert i) = Unit {0}
+
+-- each table of a history is one of the events
+abbrev pub AreOfEvents : History → Type 0
+AreOfEvents [] = Unit {0}
+AreOfEvents (e ∷ h) = IsOfEvents e.command × AreOfEvents h

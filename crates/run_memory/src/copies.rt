@@ -48,7 +48,8 @@ fn kept_part(alloc: Global, first: u8, second: u8) -> Result<Kept<CorePart>, NoM
     let table = Seq::from_slice(alloc, b"t")?;
     let part = part_of(alloc, &table, first, second)?;
     let name = first_part();
-    Ok(Kept { name, part })
+    let busy = false;
+    Ok(Kept { name, part, busy })
 }
 
 // A column without a function, whose name is one letter.
@@ -225,8 +226,8 @@ impl Answer {
         self.number(u64::from(index.granularity));
     }
 
-    // Prints the name of a part.
-    fn part_name(&mut self, name: &PartName) {
+    /// Prints the name of a part.
+    pub fn part_name(&mut self, name: &PartName) {
         match text(self.alloc, name) {
             Ok(text) => self.escaped(&text),
             Err(_) => self.note(false),

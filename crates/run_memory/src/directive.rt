@@ -54,6 +54,7 @@ impl Bench {
             "values" => self.answer.values(rest),
             "block" => self.answer.block(rest),
             "core" => self.answer.core(rest),
+            "courses" => self.answer.courses(rest),
             "pin" => self.answer.pin(rest),
             "twin" => self.answer.twin(&self.left, rest),
             "fold" => self.answer.rules(rest, false),

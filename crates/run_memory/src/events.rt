@@ -1,9 +1,10 @@
 // The core of the store as a machine: a list of events, and what each of them gives.
 ghost use Rattle.std.specs.Prelude.{◌≡◌, ◌∷◌, [], All, IfOk, IfSome, None};
+ghost use Rattle.mt_values.specs.declared.engine.Engine.TheVariants as engines;
 ghost use Rattle.mt_values.specs.declared.value.ColType.TheVariants as types;
 ghost use Rattle.mt_values.specs.declared.value.Value.TheVariants as value;
 ghost use Rattle.mt_model.specs.History.{IsInsertInto};
-ghost use Rattle.run_memory.specs.Events.{Fits, FitsAccept, FitsCrash, event_schema, is_parted, of_numbers, parted};
+ghost use Rattle.run_memory.specs.Events.{Fits, FitsAccept, FitsCrash, begins_with, event_schema, of_lasts, of_numbers, of_pairs, of_sums, parted};
 
 use crate::answer::Answer;
 use crate::text::first_word;
@@ -70,22 +71,48 @@ fn parted_schema(alloc: Global) -> Result<Schema, NoMemory>
     })
 }
 
-// Whether a table of the events has several partitions: whether its name begins with a `p`.
-fn is_parted(table: &Name) -> bool
-    ensures { result ≡ is_parted table.now }
+// The schema of a table of the events whose rows have a value: columns `a` and `b` of type UInt8, of which the first is the key, and an
+// engine.
+fn pairs_schema(alloc: Global, engine: Engine) -> Result<Schema, NoMemory>
+    ensures { IfOk result (λ schema. schema ≡ of_pairs engine) }
 {
-    table.as_slice().first() == Some(&b'p')
+    let mut columns = Seq::new(alloc);
+    columns.push(number_column(alloc, b'a')?)?;
+    columns.push(number_column(alloc, b'b')?)?;
+    Ok(Schema {
+        columns,
+        engine,
+        key: key_of(alloc, 0)?,
+        primary: key_of(alloc, 0)?,
+        partition: None,
+        granularity: DEFAULT_GRANULARITY,
+        indexes: Seq::new(alloc),
+    })
 }
 
-// The schema of a table of the events.
-fn event_schema(alloc: Global, table: &Name) -> Result<Schema, NoMemory>
+/// Whether the name of a table begins with a letter.
+pub fn begins_with(letter: u8, table: &Name) -> bool
+    ensures { result ≡ begins_with letter table.now }
+{
+    table.as_slice().first() == Some(&letter)
+}
+
+/// The schema of a table of the events, by the first letter of its name: `p` has several partitions, merges leave the last row of each key
+/// of `r` and the sum of each key of `s`, and others are plain.
+pub fn event_schema(alloc: Global, table: &Name) -> Result<Schema, NoMemory>
     ensures { IfOk result (λ schema. schema ≡ event_schema table.now) }
 {
-    if is_parted(table) {
-        parted_schema(alloc)
-    } else {
-        numbers_schema(alloc)
+    if begins_with(b'p', table) {
+        return parted_schema(alloc);
     }
+    if begins_with(b'r', table) {
+        return pairs_schema(alloc, Engine::Replacing(None));
+    }
+    if begins_with(b's', table) {
+        let summed = key_of(alloc, 1)?;
+        return pairs_schema(alloc, Engine::Summing(summed));
+    }
+    numbers_schema(alloc)
 }
 
 /// The row of a number.
@@ -134,15 +161,33 @@ fn parted_insert(alloc: Global, table: Name, first: u8, second: u8) -> Result<In
     })
 }
 
-// The rows that two numbers give a table of the events.
-fn insert_of(alloc: Global, table: Name, first: u8, second: u8) -> Result<Insert, NoMemory>
+// A row of two numbers, to be added to a table of the events whose rows have a value.
+fn pairs_insert(alloc: Global, table: Name, first: u8, second: u8) -> Result<Insert, NoMemory>
+    ensures lasts { IfOk result (λ insert. IsInsertInto of_lasts insert) }
+    ensures sums { IfOk result (λ insert. IsInsertInto of_sums insert) }
+    ensures table { IfOk result (λ insert. insert.table ≡ table) }
+{
+    let rows = [pair_row(alloc, first, second)?];
+    let partition = Partition::Whole;
+    let block = Block::from_rows(alloc, &[ColType::UInt8, ColType::UInt8], &rows)?;
+    Ok(Insert {
+        table,
+        partition,
+        block,
+    })
+}
+
+/// The rows that two numbers give a table of the events.
+pub fn insert_of(alloc: Global, table: Name, first: u8, second: u8) -> Result<Insert, NoMemory>
     ensures { IfOk result (λ insert. IsInsertInto (event_schema insert.table) insert) }
 {
-    if is_parted(&table) {
-        parted_insert(alloc, table, first, second)
-    } else {
-        whole_insert(alloc, table, first, second)
+    if begins_with(b'p', &table) {
+        return parted_insert(alloc, table, first, second);
     }
+    if begins_with(b'r', &table) || begins_with(b's', &table) {
+        return pairs_insert(alloc, table, first, second);
+    }
+    whole_insert(alloc, table, first, second)
 }
 
 // What a refusal is called.
@@ -153,6 +198,8 @@ fn reason(guard: Guard) -> &'static str {
         Guard::Creates => "too many tables",
         Guard::Numbers => "no number is left",
         Guard::NoSnapshot => "no such snapshot",
+        Guard::NotNeighbours => "no such neighbours",
+        Guard::Levels => "the level is too great",
     }
 }
 
@@ -239,6 +286,10 @@ impl Answer {
     fn outcome(&mut self, outcome: &Outcome) {
         match outcome {
             Outcome::Accepted { length } => self.counted("accepted ", *length),
+            Outcome::Put { name } => {
+                self.put("put ");
+                self.part_name(name);
+            }
             Outcome::Taken { number } => self.counted("snapshot ", *number),
             Outcome::Rows { rows, length } => {
                 self.lines_of(rows.as_slice());

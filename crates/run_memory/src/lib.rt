@@ -1,13 +1,15 @@
 //! Cases of runs: how their lines are read, what is set up for a run, the roots that it begins with, the outside in memory and what a crash
 //! may leave of it, and what is printed of a line; scripts with what the definitions allow of them, calls that no run makes, the core
-//! as a machine of events, the rules of engines over small tables, and copies of what is kept. What runs a script stands outside, as a `Machine`.
+//! as a machine of events, also of random ones with merges, the rules of engines over small tables, and copies of what is kept. What runs a script stands outside, as a `Machine`.
 #![tactic(auto)]
 
 mod answer;
 mod bench;
 mod calls;
 mod copies;
+mod courses;
 mod crashes;
+mod dice;
 mod directive;
 mod events;
 mod examples;
@@ -19,6 +21,7 @@ mod root;
 mod rules;
 mod setting;
 mod small;
+mod standing;
 mod text;
 
 pub use answer::Answer;

@@ -1,6 +1,7 @@
 // Random small lists of rows of one key, cut into runs, which the rules fold in every order of merging; each result is held against what
 // may be left (docs/testing.md, "Rules").
 use crate::answer::Answer;
+use crate::dice::Dice;
 use crate::held::Held;
 use crate::rules::{Asked, left_of};
 use crate::small::{Small, Writing, row_of};
@@ -13,27 +14,6 @@ use std::alloc::Global;
 const MOST_ROWS: u64 = 6;
 
 const MOST_RUNS: usize = 4;
-
-/// Numbers that look random: those of a seed are the same each time.
-#[derive(Drop)]
-struct Dice {
-    state: u64,
-}
-
-impl Dice {
-    // A number from 0 up to one less than the end.
-    fn below(&mut self, end: u64) -> u64 {
-        let next = self.state.wrapping_mul(6364136223846793005);
-        self.state = next.wrapping_add(1442695040888963407);
-        (self.state / 4294967296).checked_rem(end).unwrap_or(0)
-    }
-
-    // One of some letters.
-    fn letter(&mut self, letters: &[u8]) -> u8 {
-        let place = self.below(letters.len() as u64);
-        letters.get(place as usize).copied().unwrap_or(b'0')
-    }
-}
 
 /// What was asked so far, and what came of it.
 #[derive(Drop)]
@@ -244,7 +224,7 @@ impl Answer {
 
     // Asks the rule of a small table that many random lists.
     fn random_lists(&mut self, small: Small, held: Held, seed: u64, count: u64) {
-        let mut dice = Dice { state: seed };
+        let mut dice = Dice::new(seed);
         let mut tried = Tried {
             small,
             held,

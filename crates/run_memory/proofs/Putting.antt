@@ -1,0 +1,174 @@
+-- Merges of parts that stand for a history, whose rows are what a merge may leave of theirs.
+use Rattle.std.proofs.Common.{◌≡◌, ◌+◌, ◌≤◌, ◌&&◌, ℕ, Bool, true, false, cond, List, [], ◌∷◌, ◌++◌, Some, None, drop, filter, flat_map, get_or, length, map, take, refl, sym, ap, ◌∙◌, subst}
+use Rattle.std.specs.Prelude.{Result, Ok, Err, IfOk, OnErr, Vec}
+use Rattle.std.specs.List.{All, AllZip}
+use Rattle.std.specs.List.Sorted.{IsSorted}
+use Rattle.std.proofs.lemmas.List.{drop-map, take-map, length-map}
+use Rattle.std.proofs.lemmas.List.Concat.{flat_map-cons}
+use Rattle.std.proofs.lemmas.List.Elements.{All-append, All-cons, All-drop, All-filter, All-head, All-map, All-nil, All-tail, All-take}
+use Rattle.std.proofs.lemmas.List.Sorted.{All-permutation}
+use Rattle.std.specs.List.{AllByRecursion}
+use Rattle.mt_base.specs.declared.memory.NoMemory.{NoMemory}
+use Rattle.mt_base.specs.declared.partition.Partition.{Partition}
+use Rattle.mt_values.specs.declared.command.Command.{Command}
+use Rattle.mt_values.specs.declared.command.Command.TheVariants as command
+use Rattle.mt_values.specs.declared.command.Insert.{Insert}
+use Rattle.mt_values.specs.declared.schema.Schema.{Schema}
+use Rattle.mt_values.specs.Tables.{partition_of, same_partition, sorting_cmp}
+use Rattle.mt_values.specs.Values.{Row}
+use Rattle.mt_values.proofs.RowPartitions.{values_fit}
+use Rattle.mt_model.specs.History.{History, IsInsertInto, IsLegal, IsTableSchema, schema_of}
+use Rattle.mt_model.specs.Live.{live, sorted}
+use Rattle.mt_model.specs.Numbers.{lies_within, within}
+use Rattle.mt_model.proofs.Commands.{partition_is}
+use Rattle.mt_model.proofs.Determined.{sorting_total}
+use Rattle.mt_model.proofs.Sorting.{sorted_permutes}
+use Rattle.part_history.specs.declared.part.CorePart.{CorePart}
+use Rattle.part_history.specs.Merges.{MergeLeaves, with_rows}
+use Rattle.part_history.specs.Parts.{PartStands, TableStands, core_parts_of, parts_in}
+use Rattle.part_history.proofs.Numbered.{IsInto, all_into, kept, kept_if, live_within, sorted_by}
+use Rattle.part_history.proofs.OwnRows.{own_rows}
+use Rattle.rule_law.specs.TableRows.{IsTableRow}
+use Rattle.rule_law.proofs.PartlyRows.{partly_table}
+use Rattle.row_merge.specs.Merged.{ArePartRows, IsMergedOf, inputs_of}
+use Rattle.table_core.specs.declared.event.Merge.{Merge}
+use Rattle.table_core.specs.declared.event.Event.{Event}
+use Rattle.table_core.specs.declared.event.Outcome.{Outcome}
+use Rattle.table_core.specs.Core.{Core, IsCore, empty_core}
+use Rattle.table_core.specs.Steps.{GivesOutcome, MayPut, beside, sources_among}
+use Rattle.run_memory.specs.Events.{AreOfEvents, FitsAfter}
+use Rattle.run_memory.specs.Putting.{IsCourse, LeftOfRun, rows_of_each, run_of}
+use Rattle.run_memory.proofs.Fitting.{fitting_stays, has_table_schema, none_of_events}
+
+-- ---- the rows of a part that stands for a history are rows of its table
+
+module _ (schema : Schema) where
+  -- an INSERT adds rows of the table
+  insert_rows : (i : Insert) → IsInsertInto schema i → All (IsTableRow schema) (sorted (sorting_cmp schema) i.block.rows)
+  insert_rows i into =
+      let rows = i.block.rows in
+      All-permutation (IsTableRow schema) rows (sorted (sorting_cmp schema) rows) (sorted_permutes (sorting_cmp schema) (sorting_total schema) rows)
+      (λ k d below. record { typed = into.rows k d below; fits = values_fit (get_or rows k d) (into.values k d below); signed = into.signed k d below })
+
+  kept_rows : (p : Partition) (a b n : ℕ) (cs : List Command) → AllByRecursion (IsInto schema) cs → All (IsTableRow schema) (flat_map (sorted_by schema) (kept p a b n cs))
+  kept_rows p a b n [] all = All-nil (IsTableRow schema)
+  kept_rows p a b n (command.Create c ∷ cs) all = absurd all.0
+  kept_rows p a b n (command.Insert i ∷ cs) all = by (same_partition i.partition p) (lies_within a b n) (kept_rows p a b (n + 1) cs all.1)
+    where
+      by : (x y : Bool) → All (IsTableRow schema) (flat_map (sorted_by schema) (kept p a b (n + 1) cs))
+          → All (IsTableRow schema) (flat_map (sorted_by schema) (kept_if (x && y) (command.Insert i) (kept p a b (n + 1) cs)))
+      by true true more =
+          subst (All (IsTableRow schema)) (sym (flat_map-cons (sorted_by schema) (command.Insert i) (kept p a b (n + 1) cs)))
+          (All-append (IsTableRow schema) (sorted (sorting_cmp schema) i.block.rows) (flat_map (sorted_by schema) (kept p a b (n + 1) cs)) (insert_rows i all.0) more)
+      by true false more = more
+      by false y more = more
+
+module _ (h : History) (legal : IsLegal h) where
+  live_rows : (table : List ℕ) (schema : Schema) (p : Partition) (a b : ℕ) → schema_of table h ≡ Some schema → All (IsTableRow schema) (live table schema (within table p a b h))
+  live_rows table schema p a b there = subst (All (IsTableRow schema)) (sym (live_within table schema p a b h)) (kept_rows schema p a b 1 _ (all_into table h schema legal there))
+
+  part_rows : (part : CorePart) (s : PartStands h part) → All (IsTableRow s.schema) part.rows
+  part_rows part s =
+      let name = part.name in
+      partly_table s.schema (live part.table s.schema (within part.table name.partition name.min_block name.max_block h)) part.rows (live_rows part.table s.schema name.partition name.min_block name.max_block s.there) s.partly
+
+  same_schema : (a b : Schema) → Some a ≡ Some b → a ≡ b
+  same_schema a b is = cc
+
+  are_part_rows : (schema : Schema) (part : CorePart) → schema_of part.table h ≡ Some schema → PartStands h part → All (λ (row : Row). partition_of schema row ≡ part.name.partition) part.rows → ArePartRows schema part.name.partition part.rows
+  are_part_rows schema part there s parted =
+      let same : s.schema ≡ schema = same_schema s.schema schema (sym s.there ∙ there) in
+      record {
+        own = subst (λ (x : Schema). All (IsTableRow x) part.rows) same (part_rows part s);
+        parted = parted;
+        rising = subst (λ (x : Schema). IsSorted (sorting_cmp x) part.rows) same s.rising;
+      }
+
+  -- each part of a table has rows as a part of its partition has them
+  table_rows : (table : List ℕ) (schema : Schema) (parts : List CorePart) → schema_of table h ≡ Some schema → TableStands table parts h → All (λ (p : CorePart). ArePartRows schema p.name.partition p.rows) parts
+  table_rows table schema parts there stands =
+      let parted = own_rows h legal table schema parts there stands in
+      λ k d below. are_part_rows schema (get_or parts k d) (ap (λ u. schema_of u h) (stands.own k d below) ∙ there) (stands.each k d below) (parted k d below)
+
+-- ---- the parts of one partition
+
+own_partition : (schema : Schema) (partition : Partition) (parts : List CorePart) → All (λ (p : CorePart). ArePartRows schema p.name.partition p.rows) parts
+    → All (λ (p : CorePart). ArePartRows schema partition p.rows) (parts_in partition parts)
+own_partition schema partition [] all = All-nil (λ (p : CorePart). ArePartRows schema partition p.rows)
+own_partition schema partition (part ∷ parts) all = by (same_partition part.name.partition partition) refl (own_partition schema partition parts (All-tail (λ (p : CorePart). ArePartRows schema p.name.partition p.rows) part parts all))
+  where
+    by : (b : Bool) → same_partition part.name.partition partition ≡ b → All (λ (p : CorePart). ArePartRows schema partition p.rows) (parts_in partition parts)
+        → All (λ (p : CorePart). ArePartRows schema partition p.rows) (cond b (part ∷ parts_in partition parts) (parts_in partition parts))
+    by true same rest =
+        All-cons (λ (p : CorePart). ArePartRows schema partition p.rows) part (parts_in partition parts)
+        (subst (λ (q : Partition). ArePartRows schema q part.rows) (partition_is part.name.partition partition same) (All-head (λ (p : CorePart). ArePartRows schema p.name.partition p.rows) part parts all)) rest
+    by false same rest = rest
+
+-- ---- a run of them
+
+-- each part stands with its own rows
+with_own : (h : History) (parts : List CorePart) → All (PartStands h) parts → AllZip (λ (p : CorePart) (rows : List Row). PartStands h (with_rows p rows)) parts (rows_of_each parts)
+with_own h [] all = tt
+with_own h (part ∷ parts) all = (All-head (PartStands h) part parts all, with_own h parts (All-tail (PartStands h) part parts all))
+
+-- a put may come whose rows are what a merge may leave of the rows of its sources
+pub put_may : (core : Core) (m : Merge) (schema : Schema) (own : List (List Row)) → IsCore core → AreOfEvents core.history → schema_of m.table core.history ≡ Some schema
+    → own ≡ rows_of_each (parts_in m.partition (beside core m)) → LeftOfRun schema m.first m.count own m.rows → MayPut core m
+put_may core m schema own is of there own_is left = λ other others neighbours.
+    let h = core.history in
+    let parts = beside core m in
+    let sources = sources_among parts m in
+    let same : schema ≡ other = same_schema h is.legal schema other (sym there ∙ others) in
+    let stands = is.parts m.table in
+    let run = take m.count (drop m.first own) in
+    let run_is : run ≡ rows_of_each sources =
+    ap (λ (xs : List (List Row)). take m.count (drop m.first xs)) own_is
+    ∙ (ap (take m.count) (drop-map (λ (p : CorePart). p.rows) m.first (parts_in m.partition parts))
+    ∙ take-map (λ (p : CorePart). p.rows) m.count (drop m.first (parts_in m.partition parts))) in
+    let Own = λ (p : CorePart). ArePartRows schema m.partition p.rows in
+    let all : All Own (parts_in m.partition parts) = own_partition schema m.partition parts (table_rows h is.legal m.table schema parts there stands) in
+    let picked : All Own sources = All-take Own m.count (drop m.first (parts_in m.partition parts)) (All-drop Own m.first (parts_in m.partition parts) all) in
+    let rows : All (ArePartRows schema m.partition) run = subst (All (ArePartRows schema m.partition)) (sym run_is) (All-map (ArePartRows schema m.partition) (λ (p : CorePart). p.rows) sources picked) in
+    let each : All (PartStands h) sources =
+    All-take (PartStands h) m.count (drop m.first (parts_in m.partition parts)) (All-drop (PartStands h) m.first (parts_in m.partition parts)
+    (All-filter (λ (p : CorePart). same_partition p.name.partition m.partition) (PartStands h) parts stands.each)) in
+    let long : length own ≡ length (parts_in m.partition parts) = ap length own_is ∙ length-map (parts_in m.partition parts) (λ (p : CorePart). p.rows) in
+    let within : m.first + m.count ≤ length own = subst (λ (n : ℕ). m.first + m.count ≤ n) (sym long) neighbours.within in
+    let merged : IsMergedOf schema m.partition run m.rows = left within m.partition (has_table_schema m.table h schema of there) rows in
+    subst (λ (s : Schema). MergeLeaves h s sources m.rows) same (record {
+      inputs = run;
+      stand = subst (AllZip (λ (p : CorePart) (rows : List Row). PartStands h (with_rows p rows)) sources) (sym run_is) (with_own h sources each);
+      rising = merged.rows.rising;
+      merges = merged.merges;
+    })
+
+-- no part is there of a table that is not
+pub put_of_none : (core : Core) (m : Merge) → schema_of m.table core.history ≡ None → MayPut core m
+put_of_none core m none = λ schema there neighbours. absurd (clash schema (sym none ∙ there))
+  where
+    clash : (schema : Schema) → None ≡ Some schema → ⊥
+    clash schema e = cc
+
+-- ---- what is left of a run of inputs
+
+pub left_of : {A : Type 0} (schema : Schema) (own run : List (Vec Row A)) (first count : ℕ) (rows out : List Row) → run ≡ take count (drop first own) → rows ≡ out
+    → ((partition : Partition) → IsTableSchema schema → All (ArePartRows schema partition) (inputs_of run) → IsMergedOf schema partition (inputs_of run) out)
+    → LeftOfRun schema first count (inputs_of own) rows
+left_of {A} schema own run first count rows out run_is rows_are merged = λ within partition table all.
+    let items = λ (input : Vec Row A). input.items in
+    let same : run_of first count (inputs_of own) ≡ inputs_of run =
+    ap (take count) (drop-map items first own) ∙ (take-map items count (drop first own) ∙ ap (λ (xs : List (Vec Row A)). inputs_of xs) (sym run_is)) in
+    subst (λ (xs : List (List Row)). IsMergedOf schema partition xs rows) (sym same)
+    (subst (λ (r : List Row). IsMergedOf schema partition (inputs_of run) r) (sym rows_are) (merged partition table (subst (All (ArePartRows schema partition)) same all)))
+
+-- ---- the state in a course of events
+
+-- before any event
+pub begun : (core : Core) → IsCore core → core ≡ empty_core → IsCourse core
+begun core is empty = record { holds = is; tables = subst (λ (c : Core). AreOfEvents c.history) (sym empty) none_of_events }
+
+-- after one more
+pub stays : (core next : Core) (e : Event) (result : Result Outcome NoMemory) → AreOfEvents core.history → FitsAfter core e → IsCore next
+    → IfOk result (λ given. GivesOutcome core e given next) → OnErr result (next ≡ core) → IsCourse next
+stays core next e (Ok given) of fits is gives err = record { holds = is; tables = fitting_stays core next e given of fits gives }
+stays core next e (Err refused) of fits is gives err = record { holds = is; tables = subst (λ (c : Core). AreOfEvents c.history) (sym err) of }

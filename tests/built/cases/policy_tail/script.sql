@@ -1,0 +1,14 @@
+CREATE TABLE t (a UInt8, s String) ENGINE = ReplacingMergeTree ORDER BY a;
+INSERT INTO t;
+1	a
+2	b
+\.
+INSERT INTO t;
+1	c
+\.
+INSERT INTO t;
+2	d
+\.
+OPTIMIZE TABLE t;
+EXPLAIN SELECT * FROM t;
+SELECT * FROM t;
