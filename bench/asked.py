@@ -98,4 +98,5 @@ def main():
                 print(f"{program}, {name}: {cpu - opening:.1f} ms CPU beyond the {opening:.1f} ms of opening, {peak} KiB")
 
 
-main()
+if __name__ == "__main__":
+    main()

@@ -5,7 +5,9 @@
 // granules are read that may have a match by their keys and their partition: first the columns of the condition, and of those granules that
 // have a match the columns that are shown. It knows one table, `e (k UInt64, a UInt32, b Int64, s String, c UInt8)` with the key k, parted
 // by a or not at all, and no escapes; and of SELECTs `SELECT * FROM e` and some columns in the table's order, each with a condition of
-// comparisons of numbers that are joined by AND. With --times it tells the steps apart on standard error.
+// comparisons of numbers that are joined by AND. An OPTIMIZE reads back the columns of all parts of a table without partitions, sorts the
+// rows by their keys, those of equal keys as the parts have them, of which a replacing table keeps the last, and writes them as one part.
+// With --times it tells the steps apart on standard error.
 mod sha256;
 
 use sha256::sha256;
@@ -321,6 +323,12 @@ impl Part {
         Part { partition, folder, granules: None }
     }
 
+    /// The least block of the part's name.
+    fn least(&self) -> usize {
+        let name = self.folder.file_name().unwrap().to_str().unwrap();
+        name.split('_').nth(2).and_then(|number| number.parse().ok()).unwrap()
+    }
+
     /// Compares the digests of the part's files.
     fn check(&self) -> io::Result<()> {
         let manifest = read_sealed(&self.folder.join("manifest.bin"))?;
@@ -447,6 +455,7 @@ impl Steps {
 struct Table {
     root: PathBuf,
     is_parted: bool,
+    is_replacing: bool,
     parts: Vec<Part>,
     length: usize,
     steps: Steps,
@@ -464,15 +473,20 @@ impl Table {
         fs::create_dir(&stage)?;
         write_synced(&stage.join("entry.bin"), &sealed(entry))?;
         publish(root, &stage, "e.create")?;
+        Ok(Table::empty(root, text))
+    }
+
+    /// The table of the text of a CREATE, without parts.
+    fn empty(root: &Path, text: &[u8]) -> Table {
         let is_parted = text.windows(9).any(|word| word == b"PARTITION");
-        Ok(Table { root: root.to_path_buf(), is_parted, parts: Vec::new(), length: 1, steps: Steps::new() })
+        let is_replacing = text.windows(9).any(|word| word == b"Replacing");
+        Table { root: root.to_path_buf(), is_parted, is_replacing, parts: Vec::new(), length: 1, steps: Steps::new() }
     }
 
     /// Opens the table of a folder that is there. Each digest is compared.
     fn open(root: &Path) -> io::Result<Table> {
         let entry = read_sealed(&root.join("e.create").join("entry.bin"))?;
-        let is_parted = entry.windows(9).any(|word| word == b"PARTITION");
-        let mut table = Table { root: root.to_path_buf(), is_parted, parts: Vec::new(), length: 1, steps: Steps::new() };
+        let mut table = Table::empty(root, &entry);
         for folder in fs::read_dir(root)? {
             let folder = folder?;
             if folder.file_name().to_string_lossy().starts_with("e.part_") {
@@ -483,6 +497,7 @@ impl Table {
             }
         }
         table.length += table.parts.len();
+        table.parts.sort_by_key(Part::least);
         table.steps.end("open");
         Ok(table)
     }
@@ -529,6 +544,28 @@ impl Table {
         Ok(())
     }
 
+    /// Makes one part of all, which had one INSERT each.
+    fn optimize(&mut self) -> io::Result<()> {
+        let query = Query { shown: [true; 5], tests: Vec::new() };
+        let mut columns = Columns::default();
+        for part in &mut self.parts {
+            part.load()?;
+            part.add_matches(&query, &mut columns)?;
+        }
+        self.steps.end("read back and decode");
+        let mut pairs: Vec<(u64, u32)> = columns.k.iter().copied().zip(0..).collect();
+        pairs.sort_by_key(|pair| pair.0);
+        if self.is_replacing {
+            pairs = pairs.chunk_by(|left, right| left.0 == right.0).map(|key| key[key.len() - 1]).collect();
+        }
+        self.steps.end("merge");
+        let stage = self.stage(&columns, &pairs, 0)?;
+        let name = format!("e.part_all_1_{}_1", self.parts.len());
+        self.parts = vec![Part::of(publish(&self.root, &stage, &name)?)];
+        self.steps.end("publish");
+        Ok(())
+    }
+
     /// The reply to a SELECT.
     fn select(&mut self, line: &[u8]) -> io::Result<Vec<u8>> {
         let query = query_of(line).ok_or(io::ErrorKind::InvalidData)?;
@@ -563,6 +600,9 @@ fn main() -> io::Result<()> {
     while let Some(line) = lines.next() {
         if line.starts_with(b"INSERT") {
             table.insert(&mut lines)?;
+            writeln!(out, "OK {}", table.length)?;
+        } else if line.starts_with(b"OPTIMIZE") {
+            table.optimize()?;
             writeln!(out, "OK {}", table.length)?;
         } else if line.starts_with(b"SELECT") {
             out.write_all(&table.select(line)?)?;
