@@ -8,6 +8,7 @@ until there are no more (`refuse.c`, loaded into the program by LD_PRELOAD); in 
   open     no statement, over a folder with two tables that have parts
   select   two SELECTs, over the same
   where    SELECTs with conditions and EXPLAINs, over a folder with a table that has parts
+  optimize one merge, a merge of each partition to one part and a SELECT, over a folder with a table that has parts to merge
 The table has two skip indexes. Wanted are (docs/replies.md, "Statuses")
   of the run            status 6, and the replies to the first statements, whole; all replies and status 0 where the program did without
                         what was refused
@@ -51,7 +52,8 @@ def insert(*partitions):
 
 CREATE = Statement(TABLE, [[]])
 SELECT = Statement("SELECT * FROM t;\n", [])
-Sweep = collections.namedtuple("Sweep", "before script")
+# The statements of a script, and those before it; and whether the script merges parts.
+Sweep = collections.namedtuple("Sweep", "before script merges", defaults=[False])
 BASE = [CREATE, insert(1, 3, 1)]
 ASKED = [
     Statement("SELECT s FROM t WHERE a > 7 AND NOT p = 3;\n", [], b"ROWS 1 PREFIX 3\nrow 0\n"),
@@ -59,12 +61,14 @@ ASKED = [
     Statement("EXPLAIN SELECT s FROM t WHERE p = 3;\n", [], b"PARTS 1/2 GRANULES 1/2 PREFIX 3\n"),
     Statement("EXPLAIN SELECT a FROM t WHERE s = 'row 1';\n", [], b"PARTS 1/2 GRANULES 1/2 PREFIX 3\n"),
 ]
+MERGING = [Statement("OPTIMIZE TABLE t;\n", [], b"OK 7\n"), Statement("OPTIMIZE TABLE t FINAL;\n", [], b"OK 7\n"), SELECT]
 SWEEPS = {
     "new": Sweep([], [CREATE, insert(2, 1, 2, 3), SELECT]),
     "insert": Sweep(BASE, [insert(2, 1, 2, 3), insert(3, 2, 1), SELECT]),
     "open": Sweep([*BASE, Statement(OTHER, [[], []])], []),
     "select": Sweep([*BASE, Statement(OTHER, [[], []])], [SELECT, SELECT]),
     "where": Sweep(BASE, ASKED),
+    "optimize": Sweep([*BASE, insert(1, 3, 1), insert(1, 3)], MERGING, True),
 }
 
 
@@ -131,7 +135,7 @@ class Round:
 
 def root_differences(folder, found, before):
     """How the root differs that a round left, in which these files were before."""
-    if not commands_of(found.sweep.script) and files_of(folder) != before:
+    if not commands_of(found.sweep.script) and not found.sweep.merges and files_of(folder) != before:
         yield "files have changed"
     commands = commands_of(found.sweep.before + found.sweep.script)
     status, wrote = run(folder, SELECT.text.encode())
