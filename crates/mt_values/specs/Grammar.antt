@@ -511,11 +511,15 @@ insert lines ended =
     (expect (keyword (codes "FORMAT")) (λ _. expect format (λ _. ends (statement.Insert (record { table = table; lines = lines; ended = ended })))))
     (ends (statement.Insert (record { table = table; lines = lines; ended = ended }))))))
 
--- select = SELECT selected FROM name [ WHERE expr ]
+-- [ FINAL ]: whether it is there
+abbrev pub final : {S : Type 0} → Part S Bool
+final next = choose (is_word (is_keyword (codes "FINAL"))) (expect (keyword (codes "FINAL")) (λ _. next true)) (next false)
+
+-- select = SELECT selected FROM name [ FINAL ] [ WHERE expr ]
 abbrev pub select_text : {S : Type 0} → Part S SelectText
 select_text next =
     expect (keyword (codes "SELECT")) (λ _. selection (λ columns. expect (keyword (codes "FROM")) (λ _. expect name (λ table.
-    where_part (λ condition. next (record { columns = columns; table = table; condition = condition }))))))
+    final (λ is_final. where_part (λ condition. next (record { columns = columns; table = table; is_final = is_final; condition = condition })))))))
 
 abbrev pub select : Reader Statement
 select = select_text (λ asked. ends (statement.Select asked))
@@ -530,10 +534,6 @@ partition_id next =
     choose (is_word (is_keyword (codes "PARTITION")))
     (expect (keyword (codes "PARTITION")) (λ _. expect (keyword (codes "ID")) (λ _. expect string (λ id. next (Some id)))))
     (next None)
-
--- [ FINAL ]: whether it is there
-abbrev pub final : {S : Type 0} → Part S Bool
-final next = choose (is_word (is_keyword (codes "FINAL"))) (expect (keyword (codes "FINAL")) (λ _. next true)) (next false)
 
 -- optimize = OPTIMIZE TABLE name [ PARTITION ID string ] [ FINAL ]
 abbrev pub optimize : Reader Statement

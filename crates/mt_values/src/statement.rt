@@ -126,6 +126,8 @@ pub enum Selected {
 pub struct SelectText {
     pub columns: Selected,
     pub table: Name,
+    /// Whether it says FINAL: each key is folded wholly.
+    pub is_final: bool,
     /// What stands after WHERE; no condition where there is none.
     pub condition: Expr<TestText>,
 }

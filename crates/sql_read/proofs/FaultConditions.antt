@@ -245,8 +245,8 @@ term_lives (suc d) n s next ending = more_live n s (term_within d) (term_takes d
 
 -- ---- WHERE
 
-pub where_sound : {S : Type 0} (n : ℕ) (next : Condition TestText → Reader S) → ((c : Condition TestText) → Begun n (next c) (token.Symbol symbol.Semicolon)) → Sound n (where_part next) (token.Symbol symbol.Semicolon)
-where_sound n next ending =
+pub where_begun : {S : Type 0} (n : ℕ) (next : Condition TestText → Reader S) → ((c : Condition TestText) → Begun n (next c) (token.Symbol symbol.Semicolon)) → Begun n (where_part next) (token.Symbol symbol.Semicolon)
+where_begun n next ending =
     let found = some_lives (term_within depth_limit) (term_takes depth_limit) (term_lives depth_limit) n symbol.Semicolon next ending in
-    (choose_begun n (is_word (is_keyword (codes "WHERE"))) (expect (keyword (codes "WHERE")) (λ v. expr next)) (next Always) (token.Word (codes "WHERE")) (token.Symbol symbol.Semicolon) refl
-    (begun_live n (codes "WHERE") refl (expr next) found) (ending Always)).sound
+    choose_begun n (is_word (is_keyword (codes "WHERE"))) (expect (keyword (codes "WHERE")) (λ v. expr next)) (next Always) (token.Word (codes "WHERE")) (token.Symbol symbol.Semicolon) refl
+    (begun_live n (codes "WHERE") refl (expr next) found) (ending Always)

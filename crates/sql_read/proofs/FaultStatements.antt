@@ -30,7 +30,7 @@ use Rattle.sql_read.proofs.Listed.{one_name_takes}
 use Rattle.sql_read.specs.Places.{GoesOn, DeepFault, FirstFault, LongFault}
 use Rattle.sql_read.proofs.NextClauses.{by_partition, by_primary, by_settings, last_way, no_partition_way, no_primary_way}
 use Rattle.sql_read.proofs.Faults.{Told, done_good}
-use Rattle.sql_read.proofs.FaultConditions.{where_sound}
+use Rattle.sql_read.proofs.FaultConditions.{where_begun}
 use Rattle.sql_read.proofs.FaultTokens.{Begun, a_name, a_number, a_string, begun, choose_begun, digits_live, ends_begun, keyword_then, names_live, names_then, one_name_sound, passes, passing_apart, strings_live}
 use Rattle.sql_read.proofs.FaultParts.{Live, Sound, choose_this_sound, ends_sound, list_sound, live_of, symbol_apart}
 
@@ -178,19 +178,27 @@ module _ (n : ℕ) where
       keyword_then n (codes "INTO") refl (expect name rest) a_name
       (names_then n rest (token.Word (codes "FORMAT")) (λ table. format_sound n (statement.Insert (record { table = table; lines = lines; ended = ended }))))
 
+  -- FINAL may be left out, where a semicolon begins what follows it
+  final_begun : (next : Bool → Reader Statement) → ((whole : Bool) → Begun n (next whole) (token.Symbol symbol.Semicolon)) → Begun n (final next) (token.Symbol symbol.Semicolon)
+  final_begun next ending =
+      choose_begun n (is_word (is_keyword (codes "FINAL"))) (expect (keyword (codes "FINAL")) (λ v. next true)) (next false) (token.Word (codes "FINAL")) (token.Symbol symbol.Semicolon) refl
+      (begun n (codes "FINAL") refl (next true) (token.Symbol symbol.Semicolon) (ending true).sound) (ending false)
+
   -- what follows the columns of a SELECT, from which a statement is made
   rows_read : (SelectText → Statement) → Selected → Reader Statement
   rows_read made columns =
-      expect (keyword (codes "FROM")) (λ v. expect name (λ table. where_part (λ condition.
-      ends (made (record { columns = columns; table = table; condition = condition })))))
+      expect (keyword (codes "FROM")) (λ v. expect name (λ table. final (λ is_final. where_part (λ condition.
+      ends (made (record { columns = columns; table = table; is_final = is_final; condition = condition }))))))
 
   rows_read_sound : (made : SelectText → Statement) (columns : Selected) → Sound n (rows_read made columns) (token.Word (codes "FROM"))
   unfolding rows_read
   rows_read_sound made columns =
-      let of = λ (table : List ℕ) (condition : Condition TestText). made (record { columns = columns; table = table; condition = condition }) in
-      keyword_then n (codes "FROM") refl (expect name (λ table. where_part (λ condition. ends (of table condition)))) a_name
-      (names_then n (λ table. where_part (λ condition. ends (of table condition))) (token.Symbol symbol.Semicolon)
-      (λ table. where_sound n (λ condition. ends (of table condition)) (λ condition. ends_begun n (of table condition))))
+      let of = λ (table : List ℕ) (is_final : Bool) (condition : Condition TestText). made (record { columns = columns; table = table; is_final = is_final; condition = condition }) in
+      let rest = λ (table : List ℕ). final (λ is_final. where_part (λ condition. ends (of table is_final condition))) in
+      keyword_then n (codes "FROM") refl (expect name rest) a_name
+      (names_then n rest (token.Symbol symbol.Semicolon)
+      (λ table. (final_begun (λ is_final. where_part (λ condition. ends (of table is_final condition)))
+      (λ is_final. where_begun n (λ condition. ends (of table is_final condition)) (λ condition. ends_begun n (of table is_final condition)))).sound))
 
   -- what follows SELECT
   select_read : (SelectText → Statement) → Reader Statement
@@ -210,13 +218,7 @@ module _ (n : ℕ) where
       let made = λ (asked : SelectText). statement.Explain asked in
       keyword_then n (codes "SELECT") refl (select_read made) (token.Symbol symbol.Star) (select_read_sound made)
 
-  -- FINAL may be left out, where a semicolon begins what follows it
-  final_begun : (next : Bool → Reader Statement) → ((whole : Bool) → Begun n (next whole) (token.Symbol symbol.Semicolon)) → Begun n (final next) (token.Symbol symbol.Semicolon)
-  final_begun next ending =
-      choose_begun n (is_word (is_keyword (codes "FINAL"))) (expect (keyword (codes "FINAL")) (λ v. next true)) (next false) (token.Word (codes "FINAL")) (token.Symbol symbol.Semicolon) refl
-      (begun n (codes "FINAL") refl (next true) (token.Symbol symbol.Semicolon) (ending true).sound) (ending false)
-
-  -- and so may a partition
+  -- a partition may be left out, where a semicolon begins what follows it
   partition_begun : (next : Option (List ℕ) → Reader Statement) → ((id : Option (List ℕ)) → Begun n (next id) (token.Symbol symbol.Semicolon)) → Begun n (partition_id next) (token.Symbol symbol.Semicolon)
   partition_begun next ending =
       let id = strings_live n (λ id. next (Some id)) (λ id. live_of n (next (Some id)) (token.Symbol symbol.Semicolon) (ending (Some id)).sound) in

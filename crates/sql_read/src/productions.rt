@@ -157,17 +157,19 @@ impl Cursor<'_> {
         }))
     }
 
-    // SELECT selected FROM name [ WHERE expr ]
+    // SELECT selected FROM name [ FINAL ] [ WHERE expr ]
     fn select_text(&mut self, alloc: Global) -> Result<SelectText, Stop<Slip>>
         ensures { Reads select_text self.old result self.new }
     {
         self.keyword(b"SELECT")?;
         let columns = self.selection(alloc)?;
         let table = self.selected_table(alloc)?;
+        let is_final = self.skip_keyword(b"FINAL");
         let condition = self.condition(alloc)?;
         Ok(SelectText {
             columns,
             table,
+            is_final,
             condition,
         })
     }
