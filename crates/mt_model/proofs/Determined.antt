@@ -1,5 +1,5 @@
 -- A SELECT has one answer at a place of the history.
-use Rattle.std.proofs.Common.{◌≡◌, ℕ, Bool, true, ◌&&◌, List, map, filter, sym, ap, ◌∙◌, subst, Ok}
+use Rattle.std.proofs.Common.{◌≡◌, ℕ, Bool, true, false, ◌&&◌, List, map, filter, sym, ap, ◌∙◌, subst, Ok}
 use Rattle.std.specs.Ordering.{is_eq}
 use Rattle.std.specs.List.Sorted.{IsPermutation}
 use Rattle.std.specs.Cmp.{IsTotalOrder}
@@ -16,10 +16,11 @@ use Rattle.mt_values.specs.Tests.{eval}
 use Rattle.mt_values.proofs.Orders.{value_total, value_exact}
 use Rattle.mt_model.specs.History.{History}
 use Rattle.mt_model.specs.Live.{live, sorted}
+use Rattle.mt_model.specs.Final.{Sees}
 use Rattle.mt_model.specs.Partial.{Partly}
 use Rattle.mt_model.specs.Answer.{Answer, Prints}
 use Rattle.mt_model.proofs.Commands.{same_itself}
-use Rattle.mt_model.proofs.Merged.{partly_alike, partly_plain}
+use Rattle.mt_model.proofs.Merged.{folds_plain, partly_alike, partly_plain}
 use Rattle.mt_model.specs.declared.query.Query.{Query}
 use Rattle.mt_model.proofs.SameKeys.{permutes, exact_alike, exact_sorted, filter_after, filters_swap}
 use Rattle.mt_model.proofs.Sorting.{equal_is, sorted_keeps_where}
@@ -76,12 +77,17 @@ prints_once rows other a b moved one two =
     IsPermutation-trans one.order rows two.order (IsPermutation-sym rows one.order one.same) (IsPermutation-trans rows other two.order moved two.same) in
     one.lines_are ∙ ap (map line) (exact_sorted row_cmp row_total row_exact one.order two.order both one.rising two.rising) ∙ sym two.lines_are
 
+-- with FINAL too
+pub sees_permutes : (schema : Schema) (is_final : Bool) (rows x : List Row) → IsPlain schema → Sees schema is_final rows x → IsPermutation rows x
+sees_permutes schema true rows x plain folds = partly_permutes schema rows x plain (folds_plain schema rows x plain folds)
+sees_permutes schema false rows x plain partly = partly_permutes schema rows x plain partly
+
 -- the answer is determined
 pub answers_once : (h : History) (schema : Schema) (s : SelectText) (a b : List (List ℕ)) → IsPlain schema → Answer h schema s a → Answer h schema s b → a ≡ b
 answers_once h schema s a b plain one two =
     let rows = live s.table schema h in
     let moved : IsPermutation one.rows two.rows =
-    IsPermutation-trans one.rows rows two.rows (IsPermutation-sym rows one.rows (partly_permutes schema rows one.rows plain one.partly)) (partly_permutes schema rows two.rows plain two.partly) in
+    IsPermutation-trans one.rows rows two.rows (IsPermutation-sym rows one.rows (sees_permutes schema s.is_final rows one.rows plain one.seen)) (sees_permutes schema s.is_final rows two.rows plain two.seen) in
     let asked : Ok one.query ≡ Ok two.query = sym one.asked ∙ two.asked in
     let query : one.query ≡ two.query = cc in
     let shown : Query → List Row → List Row = λ q xs. map (key_of q.places) (filter (eval q.condition) xs) in

@@ -244,11 +244,14 @@ module _ (T : Token → Type 0) (Good : Statement → Type 0) where
       (expect_gives (grammar.the symbol.Star) _ (λ _. each selected.All))
       (list_gives grammar.one_name _ name_passes (λ names some. each (selected.Named names)))
 
+  final_passes : Passes grammar.final
+  final_passes next each = choose_gives (grammar.is_word (is_keyword (codes "FINAL"))) _ _ (expect_gives (grammar.keyword (codes "FINAL")) _ (λ _. each true)) (each false)
+
   select_passes : Passes grammar.select_text
   select_passes next each =
       expect_gives (grammar.keyword (codes "SELECT")) _ (λ _. selection_passes _ (λ columns.
       expect_gives (grammar.keyword (codes "FROM")) _ (λ _. expect_gives grammar.name _ (λ table.
-      where_passes _ (λ condition. each (record { columns = columns; table = table; condition = condition }))))))
+      final_passes _ (λ is_final. where_passes _ (λ condition. each (record { columns = columns; table = table; is_final = is_final; condition = condition })))))))
 
   select_gives : ((s : SelectText) → Good (statement.Select s)) → GivesAll grammar.select
   select_gives good = select_passes _ (λ asked. ends_gives (statement.Select asked) (good asked))
@@ -263,9 +266,6 @@ module _ (T : Token → Type 0) (Good : Statement → Type 0) where
       choose_gives (grammar.is_word (is_keyword (codes "PARTITION"))) _ _
       (expect_gives (grammar.keyword (codes "PARTITION")) _ (λ _. expect_gives (grammar.keyword (codes "ID")) _ (λ _. expect_gives grammar.string _ (λ id. each (Some id)))))
       (each None)
-
-  final_passes : Passes grammar.final
-  final_passes next each = choose_gives (grammar.is_word (is_keyword (codes "FINAL"))) _ _ (expect_gives (grammar.keyword (codes "FINAL")) _ (λ _. each true)) (each false)
 
   optimize_gives : ((o : OptimizeText) → Good (statement.Optimize o)) → GivesAll grammar.optimize
   optimize_gives good =

@@ -1,5 +1,5 @@
 -- What merges may leave of rows: of nothing merged, of merges after merges, and of rows beside others.
-use Rattle.std.proofs.Common.{◌≡◌, ℕ, zero, suc, ◌<◌, ◌&&◌, List, [], ◌∷◌, ◌++◌, Option, length, refl, sym, ap, ◌∙◌, subst, append_assoc, append-nil, length-append, arith}
+use Rattle.std.proofs.Common.{◌≡◌, Bool, true, false, ℕ, zero, suc, ◌<◌, ◌&&◌, List, [], ◌∷◌, ◌++◌, Option, length, refl, sym, ap, ◌∙◌, subst, append_assoc, append-nil, length-append, arith}
 use Rattle.std.specs.Ordering.{is_eq}
 use Rattle.std.proofs.lemmas.List.Elements.{filter-append}
 use Rattle.mt_base.specs.declared.partition.Partition.{Partition}
@@ -9,10 +9,11 @@ use Rattle.mt_values.specs.declared.engine.Engine.TheVariants as engine
 use Rattle.mt_values.specs.declared.schema.Schema.{Schema}
 use Rattle.mt_values.specs.Tables.{IsPlain, partition_of, same_partition, sorting_cmp}
 use Rattle.mt_values.specs.Values.{Row}
+use Rattle.mt_model.specs.Final.{FoldsAll, Sees}
 use Rattle.mt_model.specs.Folding.{Merges, MergesTimes, ComesFrom, Leaves}
 use Rattle.mt_model.specs.Live.{of_key}
 use Rattle.mt_model.specs.Partial.{MergesAll, Partly, TableRun, functions_of}
-use Rattle.mt_model.specs.Rules.{Run}
+use Rattle.mt_model.specs.Rules.{Folds, Run}
 
 -- ---- merges by any rule
 
@@ -117,6 +118,28 @@ partly_alike schema rows x same = λ partition row. (0, sym (same partition row)
 
 pub partly_itself : (schema : Schema) (rows : List Row) → Partly schema rows rows
 partly_itself schema rows = λ partition row. comes_itself (TableRun schema) (of_key schema partition row rows)
+
+-- FINAL leaves of the rows of a key of a plain table these rows
+plain_leaves : (functions : List (Option Aggregate)) (rows out : List Row) → Leaves (Folds engine.Plain functions) rows out → out ≡ rows
+plain_leaves functions [] out none = none
+plain_leaves functions (row ∷ rows) out folded = folded
+
+plain_folds : (functions : List (Option Aggregate)) (rows : List Row) → Leaves (Folds engine.Plain functions) rows rows
+plain_folds functions [] = refl
+plain_folds functions (row ∷ rows) = refl
+
+-- so of a plain table FINAL sees what a SELECT without it may see
+pub folds_plain : (schema : Schema) (rows x : List Row) → IsPlain schema → FoldsAll schema rows x → Partly schema rows x
+folds_plain schema rows x plain folds = partly_alike schema rows x (λ partition row.
+    plain_leaves (functions_of schema) (of_key schema partition row rows) (of_key schema partition row x)
+    (subst (λ (e : Engine). Leaves (Folds e (functions_of schema)) (of_key schema partition row rows) (of_key schema partition row x)) plain (folds partition row)))
+
+-- and the rows themselves
+pub sees_itself : (schema : Schema) (is_final : Bool) (rows : List Row) → IsPlain schema → Sees schema is_final rows rows
+sees_itself schema true rows plain = λ partition row.
+    subst (λ (e : Engine). Leaves (Folds e (functions_of schema)) (of_key schema partition row rows) (of_key schema partition row rows)) (sym plain)
+    (plain_folds (functions_of schema) (of_key schema partition row rows))
+sees_itself schema false rows plain = partly_itself schema rows
 
 -- what merges leave of what merges left
 pub partly_on : (schema : Schema) (rows x y : List Row) → Partly schema rows x → Partly schema x y → Partly schema rows y

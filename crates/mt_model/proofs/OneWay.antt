@@ -35,7 +35,7 @@ use Rattle.mt_model.proofs.Lists.{take_got}
 use Rattle.mt_model.proofs.Places.{stops_places, takes_places}
 use Rattle.mt_model.proofs.Determined.{answers_once, row_total}
 use Rattle.mt_model.proofs.Histories.{few_front, plain_front}
-use Rattle.mt_model.proofs.Merged.{partly_itself}
+use Rattle.mt_model.proofs.Merged.{sees_itself}
 use Rattle.mt_model.proofs.Sorting.{sorted_permutes, sorted_rises}
 
 -- ---- where all entries are session 0's, its places are the lengths of the history
@@ -158,7 +158,7 @@ lines_are h schema t lines plain there answer =
     let rows = live t.table schema h in
     let shown = map (key_of answer.query.places) (filter (eval answer.query.condition) rows) in
     let prints : Prints shown (lines_at t schema answer.query h) = record { order = sorted row_cmp shown; same = sorted_permutes row_cmp row_total shown; rising = sorted_rises row_cmp row_total shown; lines_are = refl } in
-    let own_answer : Answer h schema t (lines_at t schema answer.query h) = record { query = answer.query; asked = answer.asked; rows = rows; partly = partly_itself schema rows; prints = prints } in
+    let own_answer : Answer h schema t (lines_at t schema answer.query h) = record { query = answer.query; asked = answer.asked; rows = rows; seen = sees_itself schema t.is_final rows (plain t.table schema there); prints = prints } in
     answers_once h schema t lines (lines_at t schema answer.query h) (plain t.table schema there) answer own_answer
 
 -- ---- where no count rose and no part has the greatest level, the outside refuses nothing

@@ -1,5 +1,5 @@
 -- What an EXPLAIN answers (docs/definitions-of-runs.md, "Explained reads"; ClickHouse, EXPLAIN: indexes).
-use Rattle.std.specs.Prelude.{◌≡◌, ◌≤◌, ◌&&◌, ◌++◌, ◌∷◌, [], ℕ, Bool, List, All, Ok, Some, codes, length}
+use Rattle.std.specs.Prelude.{◌≡◌, ◌≤◌, ◌&&◌, ◌++◌, ◌∷◌, [], ℕ, Bool, true, false, List, All, Ok, Some, codes, length}
 use Rattle.std.specs.Fmt.{decimal}
 use Rattle.std.specs.List.{count_by, list_any, sum_by}
 use Rattle.std.specs.List.Sorted.{IsSorted}
@@ -10,6 +10,8 @@ use Rattle.mt_values.specs.declared.statement.SelectText.{SelectText}
 use Rattle.mt_values.specs.Conditions.{Condition}
 use Rattle.mt_values.specs.Tables.{same_partition, sorting_cmp}
 use Rattle.mt_values.specs.Values.{Row}
+use Rattle.mt_values.specs.Granules.{mark_keys}
+use Rattle.predicate.specs.Granules.{chosen_in}
 use Rattle.predicate.specs.Indexes.{chosen_of_rows}
 use Rattle.mt_model.specs.declared.counts.Counts.{Counts}
 use Rattle.mt_model.specs.declared.query.Query.{Query}
@@ -44,21 +46,23 @@ pub record PortionsStand (h : History) (table : List ℕ) (schema : Schema) (ps 
   pub each : All (PortionStands h table schema) ps
   pub once : (partition : Partition) (n : ℕ) → IsNumberOfInsert table partition n h → count_by (has_number partition n) ps ≡ 1
 
--- which granules of a portion's rows a condition leaves, by their marks and by each skip index of the table (docs/definitions.md, "Boxes of skip indexes")
-abbrev pub chosen_granules : Schema → Condition Test → Portion → List Bool
-chosen_granules schema c p = chosen_of_rows schema p.partition c p.rows
+-- Which granules of a portion's rows a condition leaves: by their marks and, without FINAL, by each skip index of the table (docs/definitions.md,
+-- "Boxes of skip indexes"; ClickHouse, SELECT: FINAL).
+abbrev pub chosen_granules : Schema → Bool → Condition Test → Portion → List Bool
+chosen_granules schema true c p = chosen_in schema p.partition c (mark_keys schema.primary schema.granularity p.rows)
+chosen_granules schema false c p = chosen_of_rows schema p.partition c p.rows
 
 -- whether a granule of a portion is chosen (docs/definitions-of-runs.md, "Explained reads")
-abbrev pub is_chosen : Schema → Condition Test → Portion → Bool
-is_chosen schema c p = list_any (λ chosen. chosen) (chosen_granules schema c p)
+abbrev pub is_chosen : Schema → Bool → Condition Test → Portion → Bool
+is_chosen schema is_final c p = list_any (λ chosen. chosen) (chosen_granules schema is_final c p)
 
 -- the numbers of an EXPLAIN over portions (docs/definitions-of-runs.md, "Explained reads")
-abbrev pub counts_of : Schema → Condition Test → List Portion → Counts
-counts_of schema c ps = record {
-  chosen_parts = count_by (is_chosen schema c) ps;
+abbrev pub counts_of : Schema → Bool → Condition Test → List Portion → Counts
+counts_of schema is_final c ps = record {
+  chosen_parts = count_by (is_chosen schema is_final c) ps;
   parts = length ps;
-  chosen_granules = sum_by (λ p. count_by (λ chosen. chosen) (chosen_granules schema c p)) ps;
-  granules = sum_by (λ p. length (chosen_granules schema c p)) ps;
+  chosen_granules = sum_by (λ p. count_by (λ chosen. chosen) (chosen_granules schema is_final c p)) ps;
+  granules = sum_by (λ p. length (chosen_granules schema is_final c p)) ps;
 }
 
 -- the line of an EXPLAIN (docs/replies.md, "Replies")
@@ -76,4 +80,4 @@ pub record Explains (h : History) (s : SelectText) (to : ℕ) (reply : List ℕ)
   pub asked : query_of schema.columns s ≡ Ok query
   pub portions : List Portion
   pub stand : PortionsStand h s.table schema portions
-  pub reply_is : reply ≡ explain_line (counts_of schema query.condition portions) to
+  pub reply_is : reply ≡ explain_line (counts_of schema s.is_final query.condition portions) to

@@ -5,6 +5,7 @@ pub mod Columns
 pub mod Commands
 pub mod Elements
 pub mod Explain
+pub mod Final
 pub mod Folding
 pub mod History
 pub mod Live

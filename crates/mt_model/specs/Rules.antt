@@ -236,7 +236,7 @@ abbrev pub FoldsAs : Bool → (List Row → List Row → Type 0) → List Row �
 FoldsAs true run rows out = run rows out
 FoldsAs false run rows out = LeavesLater run rows out
 
--- whether merges at any times leave the fold as it is (docs/engines.md, "FINAL")
+-- whether FINAL is one merge of all rows: of collapsing keys only where the signs alternate (docs/engines.md, "FINAL")
 abbrev pub is_settled : Engine → List Row → Bool
 is_settled (engine.Collapsing sign) rows = alternate sign rows
 is_settled engine rows = true

@@ -41,6 +41,7 @@ ghost use Rattle.mt_model.specs.History.{History, column_types, ArePlain, FewIns
 ghost use Rattle.mt_model.specs.Live.{live, sorted, of_key};
 ghost use Rattle.mt_model.specs.Partial.{MergesAll, Partly};
 ghost use Rattle.mt_model.specs.Answer.{Answer, Prints};
+ghost use Rattle.mt_model.specs.Final.{Sees};
 ghost use Rattle.mt_model.specs.Outside.{HasRisen, LevelFailed, Outside};
 ghost use Rattle.mt_model.specs.Refusals.{accepted_by, code, code_of, is_damage, is_refusal, refusal_line};
 ghost use Rattle.mt_model.specs.Reply.{create_turn, ok_line, rows_reply, schema_of_text};
@@ -132,13 +133,13 @@ pub fn merges_add_up()
         partition row rows }
 {}
 
-/// Whatever merges did, the rows of a plain table are its live rows, each as often, in another order at most.
-pub fn partly_is_a_permutation()
-    ensures { (schema : Schema) (rows x : List Row) → IsPlain schema → Partly schema rows x
-        → IsPermutation rows x }
+/// Whatever merges did, and with FINAL too, a SELECT sees of a plain table its live rows, each as often, in another order at most.
+pub fn plain_tables_show_their_rows()
+    ensures { (schema : Schema) (is_final : Bool) (rows x : List Row) → IsPlain schema
+        → Sees schema is_final rows x → IsPermutation rows x }
 {}
 
-/// A SELECT from a plain table at a place of a history has one answer only, whatever merges did.
+/// A SELECT from a plain table at a place of a history has one answer only, whatever merges did, with FINAL or without it.
 pub fn answers_are_determined()
     ensures { (h : History) (schema : Schema) (s : SelectText) (a b : List (List ℕ))
         → IsPlain schema → Answer h schema s a → Answer h schema s b → a ≡ b }

@@ -342,6 +342,26 @@ module _ (sign : ℕ) where
   kept_same true xs ys h = refl
   kept_same false xs ys h = h refl
 
+  -- the last of rows that alternate up to a cancel is no state
+  last_is_cancel : (state : Bool) (row : Row) (rows : List Row) → alternate_from state sign (row ∷ rows) ≡ true → next state (row ∷ rows) ≡ true → filter is_s (last_of (row ∷ rows)) ≡ []
+  last_is_cancel true row [] h e = absurd (clash e)
+    where
+      clash : false ≡ true → ⊥
+      clash e = cc
+  last_is_cancel false row [] h e = ap (λ b. cond b (row ∷ []) []) (other_sign (slice_get row sign) (head_cancel row [] h))
+  last_is_cancel state row (other ∷ rows) h e = last_is_cancel (not state) other rows (tail_alternates state row (other ∷ rows) h) e
+
+  -- the last row is left where it is a state
+  last_left : (then : Bool) (row : Row) (rows : List Row) → alternate_from true sign (row ∷ rows) ≡ true → next true (row ∷ rows) ≡ then → kept true then (row ∷ rows) ≡ filter is_s (last_of (row ∷ rows))
+  last_left true row rows h e = sym (last_is_cancel true row rows h e)
+  last_left false row rows h e =
+      let found = last_is_state true row rows h e in
+      found.is ∙ (sym (ap (λ b. cond b (found.row ∷ []) []) found.state) ∙ ap (filter is_s) (sym found.is))
+
+  pub alternating_left : (rows : List Row) → alternate sign rows ≡ true → collapsed sign rows ≡ filter is_s (last_of rows)
+  alternating_left [] h = refl
+  alternating_left (row ∷ rows) h = kept_is true row rows h ∙ last_left (next true (row ∷ rows)) row rows h refl
+
   merged_same : (before after : List Row) → alternate_from true sign before ≡ true → Merges (λ rows out. out ≡ collapsed sign rows) before after → collapsed sign after ≡ collapsed sign before
   merged_same before after h m =
       all_kept after (after_alternates before after h m)
