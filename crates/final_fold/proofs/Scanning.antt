@@ -19,7 +19,7 @@ use Rattle.part_set.specs.declared.kept.Kept.{Kept}
 use Rattle.final_fold.specs.Scans.{ArePlacesOf, HaveTypes, PartsHold, joined_rows, rows_kept, values_at}
 use Rattle.final_fold.proofs.Picking.{there}
 
-values_more : (rows more : List Row) (places : List ℕ) (columns : List Cells) → map (λ (c : Cells). c.values) columns ≡ values_at rows places
+pub values_more : (rows more : List Row) (places : List ℕ) (columns : List Cells) → map (λ (c : Cells). c.values) columns ≡ values_at rows places
     → map (λ (c : Cells). c.values) (with_columns more places columns) ≡ values_at (rows ++ more) places
 values_more rows more [] columns are = refl
 values_more rows more (p ∷ ps) [] are = cc

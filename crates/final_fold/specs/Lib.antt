@@ -1,4 +1,8 @@
 pub mod Asked
+pub mod Choices
+pub mod Cores
+pub mod Folded
+pub mod Keys
 pub mod Matches
 pub mod Picks
 pub mod Scans

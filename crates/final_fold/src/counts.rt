@@ -1,5 +1,5 @@
 // How many rows parts have, and how many answers of a mask are true.
-ghost use Rattle.std.specs.Prelude.{◌≡◌, ◌<◌, ◌^◌, IfSome};
+ghost use Rattle.std.specs.Prelude.{◌≡◌, ◌+◌, ◌<◌, ◌^◌, IfSome};
 ghost use Rattle.final_fold.specs.Matches.{count_true, some_true};
 ghost use Rattle.final_fold.specs.Scans.{rows_kept};
 
@@ -20,6 +20,18 @@ pub fn count_rows<F>(parts: &[Kept<Part<F>>]) -> Option<usize>
         return None;
     }
     Some(rows as usize)
+}
+
+/// Two numbers of rows together; none where a place of 32 bits can't count them.
+pub(crate) fn join_counts(some: usize, others: usize) -> Option<usize>
+    ensures sum { IfSome result (λ rows. rows ≡ some + others) }
+    ensures few { IfSome result (λ rows. rows < 2 ^ 32) }
+{
+    let sum = some.checked_add(others)?;
+    if sum > u32::MAX as usize {
+        return None;
+    }
+    Some(sum)
 }
 
 /// How many answers of a mask are true.

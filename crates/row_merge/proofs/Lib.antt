@@ -1,4 +1,5 @@
 pub mod Folds
+pub mod HistoryRows
 pub mod Keys
 pub mod Lent
 pub mod Merges

@@ -1,5 +1,5 @@
 -- The plan of a condition without a test has one answer for all granules.
-use Rattle.std.proofs.Common.{◌≡◌, ℕ, ◌-◌, ◌/◌, Bool, List, [], length, map, min, replicate, sym, ap, ◌∙◌}
+use Rattle.std.proofs.Common.{◌≡◌, ℕ, ◌-◌, ◌/◌, Bool, true, false, refl, List, [], length, map, min, replicate, sym, ap, ◌∙◌}
 use Rattle.std.specs.List.{fold, range_with_len}
 use Rattle.std.proofs.lemmas.List.{nil_from_length}
 use Rattle.std.proofs.lemmas.List.FromFn.{length-range_with_len}
@@ -14,7 +14,7 @@ use Rattle.predicate.specs.Masks.{both}
 use Rattle.predicate.specs.declared.extent.Can.{Can}
 use Rattle.predicate.specs.declared.extent.Extent.{Extent}
 use Rattle.primary_marks.proofs.GranuleBoxes.{chosen_by_place, is_chosen_at}
-use Rattle.select_plan.specs.Plans.{planned_part}
+use Rattle.select_plan.specs.Plans.{planned_part, read_of}
 use Rattle.predicate.proofs.Narrowing.{alike, narrowed_alike, untested}
 use Rattle.skip_index.specs.declared.index.Index.{Index}
 use Rattle.skip_index.specs.Choosing.{block_box, chosen_by}
@@ -35,14 +35,23 @@ module _ (c : Condition Test) (e : Extent) (none : tests_of c ≡ []) where
       alike (λ granule. (can c (block_box index [] (granule / index.span))).yes) answer (range_with_len 0 index.granules) (λ granule. one (block_box index [] (granule / index.span)))
       ∙ ap (λ n. replicate n answer) (length-range_with_len 0 index.granules)
 
+  pub marked_alike : {F : Type 0} (schema : Schema) (k : Kept (Part F)) → replicate (length k.part.loaded.marks - 1) answer ≡ chosen_in schema k.name.partition c k.part.loaded.marks
+  marked_alike schema k =
+      let marks = k.part.loaded.marks in
+      let n : ℕ = length marks - 1 in
+      sym (chosen_by_place schema k.name.partition c marks
+      ∙ alike (is_chosen_at schema k.name.partition c marks) answer (range_with_len 0 n) (λ granule. one _)
+      ∙ ap (λ m. replicate m answer) (length-range_with_len 0 n))
+
   pub planned_alike : {F : Type 0} (schema : Schema) (k : Kept (Part F))
       → replicate (fold (λ (n : ℕ) (index : Index). min n index.granules) (length k.part.loaded.marks - 1) k.part.loaded.indexes) answer ≡ planned_part schema c k
   planned_alike schema k =
-      let marks = k.part.loaded.marks in
-      let n : ℕ = length marks - 1 in
-      let first : chosen_in schema k.name.partition c marks ≡ replicate n answer =
-      chosen_by_place schema k.name.partition c marks
-      ∙ alike (is_chosen_at schema k.name.partition c marks) answer (range_with_len 0 n) (λ granule. one _)
-      ∙ ap (λ m. replicate m answer) (length-range_with_len 0 n) in
-      sym (ap (λ (chosen : List Bool). fold both chosen (map (λ (index : Index). chosen_by index c []) k.part.loaded.indexes)) first
-      ∙ narrowed_alike (λ (index : Index). chosen_by index c []) (λ (index : Index). index.granules) answer n k.part.loaded.indexes by_index)
+      sym (ap (λ (chosen : List Bool). fold both chosen (map (λ (index : Index). chosen_by index c []) k.part.loaded.indexes)) (sym (marked_alike schema k))
+      ∙ narrowed_alike (λ (index : Index). chosen_by index c []) (λ (index : Index). index.granules) answer (length k.part.loaded.marks - 1) k.part.loaded.indexes by_index)
+
+-- a condition without a test, with FINAL or without it
+pub read_alike : {F : Type 0} (schema : Schema) (is_final : Bool) (c : Condition Test) (e : Extent) (k : Kept (Part F)) (chosen : List Bool) (n : ℕ) → tests_of c ≡ [] → chosen ≡ replicate n (can c e).yes
+    → (is_final ≡ true → n ≡ length k.part.loaded.marks - 1)
+    → (is_final ≡ false → n ≡ fold (λ (m : ℕ) (index : Index). min m index.granules) (length k.part.loaded.marks - 1) k.part.loaded.indexes) → chosen ≡ read_of schema is_final c k
+read_alike schema true c e k chosen n none is folded plain = is ∙ (ap (λ m. replicate m (can c e).yes) (folded refl) ∙ marked_alike c e none schema k)
+read_alike schema false c e k chosen n none is folded plain = is ∙ (ap (λ m. replicate m (can c e).yes) (plain refl) ∙ planned_alike c e none schema k)

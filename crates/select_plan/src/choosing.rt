@@ -1,13 +1,17 @@
 // Making a plan: of each part of a pinned table which granules are read. A granule is read where the condition may be true in the box
-// of its marks and, for each skip index of the part, in the box of its block. Each box is asked by itself (docs/definitions.md,
-// "Boxes of granules" and "Boxes of skip indexes"). Without a condition every granule is read, and no box is made. A conjunct of the
-// condition is asked in those of these granules in the box of whose marks it may be false.
-ghost use Rattle.std.specs.Prelude.{◌≡◌, ◌-◌, [], ℕ, IfOk, fold, length, map, min};
+// of its marks and, without FINAL, for each skip index of the part in the box of its block. Each box is asked by itself
+// (docs/definitions.md, "Boxes of granules" and "Boxes of skip indexes"). Without a condition every granule is read, and no box is made.
+// A conjunct of the condition is asked in those of these granules in the box of whose marks it may be false; with FINAL in none, since it
+// is asked of folded rows.
+ghost use Rattle.std.specs.Prelude.{◌≡◌, ◌-◌, [], ℕ, IfOk, false, fold, length, map, min, replicate, true};
 ghost use Rattle.mt_values.specs.Conditions.{conjuncts_of, tests_of};
 ghost use Rattle.mt_values.specs.declared.schema.Schema.{Schema};
+ghost use Rattle.predicate.specs.Boxes.{can};
 ghost use Rattle.predicate.specs.Granules.{asked_in};
 ghost use Rattle.predicate.specs.Masks.{both};
-ghost use Rattle.select_plan.specs.Plans.{asked_over, planned, planned_part};
+ghost use Rattle.select_plan.specs.Plans.{asked_over, planned, read_of};
+ghost use Rattle.predicate.specs.declared.extent.Extent.{Extent};
+ghost use Rattle.skip_index.specs.Choosing.{chosen_by};
 ghost use Rattle.skip_index.specs.declared.index.Index.{Index};
 
 use crate::counting::Plan;
@@ -22,22 +26,29 @@ use primary_marks::{choose, unsure};
 use skip_index::choose as choose_by_index;
 use std::alloc::Global;
 
-/// The granules of a pinned table that a SELECT reads: those in whose boxes its condition may be true, by the marks of their part and
-/// by each of its skip indexes. A part without rows has none. A conjunct is asked in those of them in whose box, by the marks, it may
-/// be false.
+/// The granules of a pinned table that a SELECT reads: those in whose boxes its condition may be true, by the marks of their part and,
+/// without FINAL, by each of its skip indexes. A part without rows has none. Without FINAL a conjunct is asked in those of them in whose
+/// box, by the marks, it may be false.
 ///
 /// `NoMemory` where an allocation failed.
-pub fn plan<F>(alloc: Global, snap: &Snap<Part<F>>, query: &Query) -> Result<Plan, NoMemory>
-    ensures parts { IfOk result (λ p. p.parts.items ≡ planned snap.now query.now.condition) }
+pub fn plan<F>(
+    alloc: Global,
+    snap: &Snap<Part<F>>,
+    query: &Query,
+    is_final: bool,
+) -> Result<Plan, NoMemory>
+    ensures parts { IfOk result
+        (λ p. p.parts.items ≡ planned snap.now is_final query.now.condition) }
     ensures conjuncts { IfOk result (λ p. p.conjuncts.items ≡ conjuncts_of query.now.condition) }
-    ensures asked { IfOk result (λ p. p.asked.items ≡ asked_over snap.now query.now.condition) }
+    ensures asked { IfOk result
+        (λ p. p.asked.items ≡ asked_over snap.now is_final query.now.condition) }
 {
     let conjuncts = query.condition.conjuncts(alloc)?;
     let mut parts = Vec::with_capacity(alloc, snap.parts.len())?;
     let mut asked = Vec::with_capacity(alloc, snap.parts.len())?;
     for kept in &snap.parts {
-        let chosen = plan_part(alloc, &snap.schema, kept, &query.condition)?;
-        asked.push(ask(alloc, &snap.schema, kept, &conjuncts, &chosen)?)?;
+        let chosen = plan_part(alloc, &snap.schema, kept, &query.condition, is_final)?;
+        asked.push(ask(alloc, &snap.schema, kept, &conjuncts, &chosen, is_final)?)?;
         parts.push(Seq::of(chosen))?;
     }
     Ok(Plan {
@@ -47,7 +58,8 @@ pub fn plan<F>(alloc: Global, snap: &Snap<Part<F>>, query: &Query) -> Result<Pla
     })
 }
 
-/// Of each conjunct in which of a part's chosen granules it is asked: those in whose box, by the marks, it may be false.
+/// Of each conjunct in which of a part's chosen granules it is asked: those in whose box, by the marks, it may be false. With FINAL none
+/// is asked.
 ///
 /// `NoMemory` where an allocation failed.
 fn ask<F>(
@@ -56,11 +68,17 @@ fn ask<F>(
     kept: &Kept<Part<F>>,
     conjuncts: &[Expr<Test>],
     chosen: &[bool],
+    is_final: bool,
 ) -> Result<Seq<Seq<bool>>, NoMemory>
-    ensures { IfOk result (λ asked. asked ≡ map (λ d. both (asked_in schema.now
-        kept.now.name.partition d kept.now.part.loaded.marks) chosen.now) conjuncts.now) }
+    ensures plain { is_final ≡ false → IfOk result (λ asked. asked ≡ map (λ d. both
+        (asked_in schema.now kept.now.name.partition d kept.now.part.loaded.marks) chosen.now)
+        conjuncts.now) }
+    ensures folded { is_final ≡ true → IfOk result (λ asked. asked ≡ []) }
 {
     let mut asked = Seq::new(alloc);
+    if is_final {
+        return Ok(asked);
+    }
     for conjunct in conjuncts {
         let marks = &kept.part.loaded.marks;
         let own = unsure(alloc, schema, &kept.name.partition, conjunct, marks)?;
@@ -72,21 +90,47 @@ fn ask<F>(
 /// The granules of a part that a SELECT reads.
 ///
 /// `NoMemory` where an allocation failed.
-#[tactic(auto, using(predicate::proofs::Narrowing::narrowed_more, crate::proofs::Alike::no_tests))]
+#[tactic(auto, using(crate::proofs::Alike::no_tests))]
 fn plan_part<F>(
     alloc: Global,
     schema: &Schema,
     kept: &Kept<Part<F>>,
     condition: &Expr<Test>,
+    is_final: bool,
 ) -> Result<Vec<bool>, NoMemory>
-    ensures { IfOk result (λ v. v.items ≡ planned_part schema.now condition.now kept.now) }
+    ensures { IfOk result (λ v. v.items ≡ read_of schema.now is_final condition.now kept.now) }
 {
-    if condition.tests().is_empty() {
-        return plan_alike(alloc, kept, condition);
-    }
     let loaded = &kept.part.loaded;
-    let partition = &kept.name.partition;
-    let mut chosen = choose(alloc, schema, partition, condition, &loaded.marks)?;
+    if condition.tests().is_empty() {
+        return plan_alike(alloc, answers(loaded, is_final), condition);
+    }
+    let chosen = choose(
+        alloc,
+        schema,
+        &kept.name.partition,
+        condition,
+        &loaded.marks,
+    )?;
+    if is_final {
+        return Ok(chosen);
+    }
+    narrow(alloc, loaded, condition, chosen)
+}
+
+/// The granules that are chosen and that each skip index of a part leaves.
+///
+/// `NoMemory` where an allocation failed.
+#[tactic(auto, using(predicate::proofs::Narrowing::narrowed_more))]
+fn narrow(
+    alloc: Global,
+    loaded: &Loaded,
+    condition: &Expr<Test>,
+    chosen: Vec<bool>,
+) -> Result<Vec<bool>, NoMemory>
+    ensures { IfOk result (λ v. v.items ≡ fold both chosen.items
+        (map (λ (index : Index). chosen_by index condition.now []) loaded.now.indexes)) }
+{
+    let mut chosen = chosen;
     for index in loaded.indexes.as_slice() {
         let left = choose_by_index(alloc, index, condition, &[])?;
         chosen = both(alloc, &chosen, &left)?;
@@ -94,33 +138,34 @@ fn plan_part<F>(
     Ok(chosen)
 }
 
-/// The granules of a part that a SELECT reads whose condition has no test: all of them, or none. No box is made.
+/// So many granules of which a SELECT whose condition has no test reads all, or none. No box is made.
 ///
 /// `NoMemory` where an allocation failed.
-#[tactic(auto, using(crate::proofs::Alike::planned_alike))]
-fn plan_alike<F>(
-    alloc: Global,
-    kept: &Kept<Part<F>>,
-    condition: &Expr<Test>,
-) -> Result<Vec<bool>, NoMemory>
+fn plan_alike(alloc: Global, granules: usize, condition: &Expr<Test>) -> Result<Vec<bool>, NoMemory>
     requires { tests_of condition.now ≡ [] }
-    ensures { (schema : Schema)
-        → IfOk result (λ v. v.items ≡ planned_part schema condition.now kept.now) }
+    ensures { (e : Extent) → IfOk result
+        (λ v. v.items ≡ replicate granules (can condition.now e).yes) }
 {
     let unknown = Extent {
         columns: Seq::new(alloc),
     };
     let is_read = may_match(condition, &unknown);
-    Ok(vec![in alloc; is_read; answers(&kept.part.loaded)]?)
+    Ok(vec![in alloc; is_read; granules]?)
 }
 
-/// How many granules have an answer by the marks of a part and by each of its skip indexes: all, where it was written as a part.
+/// How many granules have an answer by the marks of a part and, without FINAL, by each of its skip indexes: all, where it was written as
+/// a part.
 #[tactic(auto, using(predicate::proofs::Narrowing::fold_further))]
-fn answers(loaded: &Loaded) -> usize
-    ensures { result ≡ fold (λ (n : ℕ) (index : Index). min n index.granules)
-        (length loaded.now.marks - 1) loaded.now.indexes }
+fn answers(loaded: &Loaded, is_final: bool) -> usize
+    ensures folded { is_final ≡ true → result ≡ length loaded.now.marks - 1 }
+    ensures plain { is_final ≡ false → result ≡ fold
+        (λ (n : ℕ) (index : Index). min n index.granules) (length loaded.now.marks - 1)
+        loaded.now.indexes }
 {
     let mut answers = loaded.marks.granules();
+    if is_final {
+        return answers;
+    }
     for index in loaded.indexes.as_slice().iter() {
         answers = answers.min(index.granules);
     }

@@ -7,4 +7,4 @@ mod laws;
 
 pub use choosing::plan;
 pub use counting::Plan;
-pub use laws::granules_are_read_where_each_box_may_match;
+pub use laws::{folded_matches_are_chosen, granules_are_read_where_each_box_may_match};

@@ -1,36 +1,20 @@
-use Rattle.std.proofs.Common.{◌≡◌, ◌∙◌, ◌<◌, [], Bool, List, ap, ap₂, arith, get_or, length, map, sym}
-use Rattle.std.specs.List.{fold}
-use Rattle.std.proofs.lemmas.List.{take_all}
-use Rattle.predicate.specs.Granules.{chosen_in}
-use Rattle.predicate.specs.Masks.{both}
-use Rattle.predicate.proofs.Narrowing.{narrowed_more}
-use Rattle.skip_index.specs.Choosing.{chosen_by}
-use Rattle.skip_index.specs.declared.index.Index.{Index}
+use Rattle.std.proofs.Common.{◌≡◌, [], replicate, rules}
+use Rattle.std.proofs.lemmas.Result.{IfOk-weaker}
+use Rattle.mt_values.specs.Conditions.{tests_of}
+use Rattle.predicate.specs.Boxes.{can}
+use Rattle.predicate.specs.declared.extent.Extent.{Extent}
+use Rattle.select_plan.specs.Plans.{read_of}
+use Rattle.select_plan.proofs.Alike.{no_tests, read_alike}
 use Rattle.select_plan.proofs.choosing.plan_part.Goals as goal
 
-pub loop-index-preserved : goal.loop-index-preserved
-loop-index-preserved g c =
+pub returns-then-is_empty : goal.returns-then-is_empty
+returns-then-is_empty g c =
+    let schema = c.args.schema.now in
     let condition = c.args.condition.now in
     let kept = c.args.kept.now in
-    let first : List Bool = chosen_in c.args.schema.now kept.name.partition condition kept.part.loaded.marks in
-    let left = λ (index : Index). chosen_by index condition [] in
-    let indexes = kept.part.loaded.indexes in
-    let i = c.loop-index.index-index in
-    let item = c.index-item.result in
-    let same : c.as_slice-index-items.result.now ≡ indexes = c.as_slice-index-items.ensures in
-    let below : i < length indexes = omega (arith, c.loop-index-test.true, ap length same) in
-    let is : item ≡ get_or indexes i item = c.index-item.is ∙ ap (λ (xs : List Index). get_or xs i item) same in
-    c.in_ok-chosen-2.ensures
-    ∙ ap₂ both (c.deref.ensures.value ∙ c.loop-index.invariant) (c.deref-in-loop-index.ensures.value ∙ c.in_ok-left.ensures ∙ ap left is)
-    ∙ sym (narrowed_more left first indexes i item below)
-
-pub returns : goal.returns
-returns g c =
-    let condition = c.args.condition.now in
-    let kept = c.args.kept.now in
-    let first : List Bool = chosen_in c.args.schema.now kept.name.partition condition kept.part.loaded.marks in
-    let left = λ (index : Index). chosen_by index condition [] in
-    let indexes = kept.part.loaded.indexes in
-    c.loop-index.invariant
-    ∙ ap (λ (xs : List Index). fold both first (map left xs))
-    (take_all c.loop-index.index-index indexes (omega (arith, c.loop-index-test.false, ap length c.as_slice-index-items.ensures)))
+    let n = c.answers.result in
+    let unknown : Extent = record { columns = [] } in
+    let none : tests_of condition ≡ [] = search (rules, no_tests) in
+    IfOk-weaker c.plan_alike.result (λ v. v.items ≡ replicate n (can condition unknown).yes) (λ v. v.items ≡ read_of schema c.args.is_final condition kept)
+    (λ v is. read_alike schema c.args.is_final condition unknown kept v.items n none is c.answers.ensures.folded c.answers.ensures.plain)
+    (c.plan_alike.ensures unknown)

@@ -1,0 +1,11 @@
+-- what the skip indexes so far leave
+use Rattle.std.proofs.Common.{◌≡◌, [], map, take}
+use Rattle.std.specs.List.{fold}
+use Rattle.predicate.specs.Masks.{both}
+use Rattle.skip_index.specs.Choosing.{chosen_by}
+use Rattle.skip_index.specs.declared.index.Index.{Index}
+use Rattle.select_plan.proofs.choosing.narrow.Given as goal
+
+abbrev pub invariant-loop-index : goal.invariant-loop-index
+invariant-loop-index l =
+    l.chosen.items ≡ fold both l.fn.chosen.items (map (λ (index : Index). chosen_by index l.condition []) (take l.index-index l.loaded.indexes))
