@@ -1,5 +1,5 @@
 -- Every reply that a statement may have, and the history that it comes to.
-use Rattle.std.proofs.Common.{◌≡◌, ◌⊎◌, ℕ, ◌≤◌, List, [], ◌∷◌, ◌++◌, All, Option, Some, None, Result, Ok, Err, drop, length, take, refl, sym, ap, ◌∙◌, subst, inl, inr, arith}
+use Rattle.std.proofs.Common.{◌≡◌, ℕ, List, [], ◌∷◌, All, Some, None, Result, Ok, Err, drop, length, take, refl, sym, ap, ◌∙◌, subst, inl, inr, arith}
 use Rattle.std.specs.List.{Contains}
 use Rattle.std.proofs.lemmas.List.{drop_at}
 use Rattle.mt_values.specs.declared.command.Entry.{Entry}
@@ -14,7 +14,6 @@ use Rattle.mt_model.specs.Reply.{rows_reply}
 use Rattle.mt_model.specs.Script.{IsNoExplain, OwnEntries}
 use Rattle.mt_model.specs.Session.{Takes, TakesStatement}
 use Rattle.mt_model.proofs.OneWay.{IsNoQuery, never_failed, same_step, stays_there}
-use Rattle.mt_model.proofs.Places.{takes_places}
 use Rattle.mt_plain.specs.Outcomes.{AreExactly}
 use Rattle.mt_plain.specs.Plain.{Grows, IsRepliedIn, calm, select_of}
 use Rattle.mt_plain.proofs.Answering.{calm_is}

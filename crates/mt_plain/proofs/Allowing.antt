@@ -1,8 +1,8 @@
 -- Where a text may have come to by the replies of statements.
-use Rattle.std.proofs.Common.{◌≡◌, ◌⊎◌, ◌↔◌, ℕ, ◌+◌, ◌-◌, ◌<◌, ◌≤◌, Bool, true, IfOk, List, [], ◌∷◌, ◌++◌, All, Option, Some, None, Result, Ok, Err, drop, get_or, length, take, refl, sym, ap, ap₂, ◌∙◌, subst, inl, inr, append-nil, arith, length-append, length-take, length-drop}
+use Rattle.std.proofs.Common.{◌≡◌, ◌⊎◌, ◌↔◌, ℕ, ◌+◌, ◌-◌, ◌<◌, ◌≤◌, Bool, true, IfOk, List, [], ◌∷◌, ◌++◌, All, Some, None, Result, Ok, Err, drop, get_or, length, take, refl, sym, ap, ◌∙◌, subst, inl, inr, arith, length-append, length-drop}
 use Rattle.std.specs.List.{Contains}
 use Rattle.std.proofs.Math.Seq.{take-add}
-use Rattle.std.proofs.lemmas.List.{at_drop_more, drop-drop, length-take-le, take-append-drop, take_all, take_more}
+use Rattle.std.proofs.lemmas.List.{at_drop_more, drop-drop, length-take-le, take_all, take_more}
 use Rattle.std.proofs.lemmas.List.Elements.{All-drop, All-get_or}
 use Rattle.mt_base.specs.declared.memory.NoMemory.{NoMemory}
 use Rattle.mt_values.specs.declared.command.Entry.{Entry}
@@ -15,8 +15,8 @@ use Rattle.mt_model.proofs.OneWay.{stays_there}
 use Rattle.mt_model.proofs.Places.{takes_places}
 use Rattle.mt_plain.specs.Outcomes.{AddsExactly, AreExactly, IsExactly}
 use Rattle.mt_plain.specs.Plain.{Grows, IsRepliedIn, OneStandsFrom, StandsFrom, calm}
-use Rattle.mt_plain.proofs.Exactly.{contains_cases, contains_first, contains_none, exactly_none}
-use Rattle.mt_plain.proofs.Merging.{adds_none, adds_then, drop_front, more_cases, more_here, more_left, take_front}
+use Rattle.mt_plain.proofs.Exactly.{contains_cases, contains_first, contains_none}
+use Rattle.mt_plain.proofs.Merging.{adds_then, drop_front, more_cases, more_here, more_left, take_front}
 use Rattle.mt_plain.proofs.Steps.{own_more, ran_all, ran_more}
 
 -- ---- a reply in a text

@@ -1,5 +1,5 @@
 -- The replies that a SELECT may have at the end of a history.
-use Rattle.std.proofs.Common.{◌≡◌, ◌⊎◌, ℕ, List, [], ◌∷◌, Option, Some, None, Result, Ok, Err, filter, length, map, take, refl, sym, ap, ap₂, ◌∙◌, subst, inl, inr, arith}
+use Rattle.std.proofs.Common.{◌≡◌, ◌⊎◌, ℕ, List, [], ◌∷◌, Some, None, Ok, Err, filter, length, map, refl, sym, ap, ap₂, ◌∙◌, subst, inl, inr, arith}
 use Rattle.std.specs.List.{Contains}
 use Rattle.std.specs.List.Sorted.{IsPermutation}
 use Rattle.std.proofs.lemmas.List.Sorted.{IsPermutation-map}
@@ -22,7 +22,7 @@ use Rattle.mt_model.specs.Session.{Selects, TakesStatement}
 use Rattle.mt_model.proofs.Determined.{filter_moved, prints_once, row_total}
 use Rattle.mt_model.proofs.OneWay.{IsCalm, never_failed}
 use Rattle.mt_model.proofs.Sorting.{sorted_permutes, sorted_rises}
-use Rattle.mt_plain.specs.Lefts.{AreLefts, lines_of, reply_of}
+use Rattle.mt_plain.specs.Lefts.{AreSeen, lines_of, reply_of}
 use Rattle.mt_plain.specs.Outcomes.{AreExactly}
 use Rattle.mt_plain.specs.Plain.{calm}
 use Rattle.mt_plain.proofs.Exactly.{contains_map, exactly_itself, map_contains}
@@ -58,23 +58,23 @@ abbrev pub RepliesAnswer : History → Schema → SelectText → List ℕ → Ty
 RepliesAnswer h schema t reply = (lines : List (List ℕ)) × Answer h schema t lines × (reply ≡ rows_reply lines (length h))
 
 pub answers_exactly : (h : History) (schema : Schema) (t : SelectText) (query : Query) (place : ℕ) (rows : List Row) (lefts : List (List Row)) (replies : List (List ℕ)) → query_of schema.columns t ≡ Ok query → place ≡ length h → rows ≡ live t.table schema h
-    → AreLefts schema rows lefts → replies ≡ map (reply_of query place) lefts → AreExactly replies (RepliesAnswer h schema t)
+    → AreSeen schema t.is_final rows lefts → replies ≡ map (reply_of query place) lefts → AreExactly replies (RepliesAnswer h schema t)
 answers_exactly h schema t query place rows lefts replies asked place_is rows_are are is reply = (λ h. into (subst (λ (zs : List (List ℕ)). Contains zs reply) is h), λ a. subst (λ (zs : List (List ℕ)). Contains zs reply) (sym is) (back a))
   where
-    here : AreLefts schema (live t.table schema h) lefts
-    here = subst (λ (rs : List Row). AreLefts schema rs lefts) rows_are are
+    here : AreSeen schema t.is_final (live t.table schema h) lefts
+    here = subst (λ (rs : List Row). AreSeen schema t.is_final rs lefts) rows_are are
 
     into : Contains (map (reply_of query place) lefts) reply → RepliesAnswer h schema t reply
     into own =
         let m = map_contains (reply_of query place) lefts reply own in
-        (lines_of query m.0, record { query = query; asked = asked; rows = m.0; partly = here.each m.0 m.1; prints = prints_of query m.0 }, m.2 ∙ ap (rows_reply (lines_of query m.0)) place_is)
+        (lines_of query m.0, record { query = query; asked = asked; rows = m.0; seen = here.each m.0 m.1; prints = prints_of query m.0 }, m.2 ∙ ap (rows_reply (lines_of query m.0)) place_is)
 
     back : RepliesAnswer h schema t reply → Contains (map (reply_of query place) lefts) reply
     back a =
         let answer = a.1 in
         let both : Ok answer.query ≡ Ok query = sym answer.asked ∙ asked in
         let same : answer.query ≡ query = cc in
-        let found = here.all answer.rows answer.partly in
+        let found = here.all answer.rows answer.seen in
         let prints : Prints (shown query answer.rows) a.0 = subst (λ (q : Query). Prints (shown q answer.rows) a.0) same answer.prints in
         let lines : a.0 ≡ lines_of query found.0 = lines_moved query answer.rows found.0 a.0 found.2 prints in
         subst (Contains (map (reply_of query place) lefts)) (sym (a.2 ∙ ap₂ rows_reply lines (sym place_is))) (contains_map (reply_of query place) lefts found.0 found.1)

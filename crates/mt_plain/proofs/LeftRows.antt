@@ -1,5 +1,5 @@
 -- What merges may leave of a table's rows, one partition and key after another.
-use Rattle.std.proofs.Common.{◌≡◌, ◌⊎◌, ◌&&◌, ◌∷◌, ◌++◌, ◌+◌, ◌<◌, ◌≤◌, ℕ, Bool, true, false, cond, not, List, [], Option, flat_map, get_or, length, map, take, refl, sym, ap, ap₂, ◌∙◌, subst, inl, inr, append-nil, arith}
+use Rattle.std.proofs.Common.{◌≡◌, ◌⊎◌, ◌↔◌, ◌&&◌, ◌∷◌, ◌++◌, ◌+◌, ◌<◌, ◌≤◌, ℕ, Bool, true, false, cond, not, List, [], Option, flat_map, get_or, length, map, take, refl, sym, ap, ap₂, ◌∙◌, subst, inl, inr, append-nil, arith}
 use Rattle.std.specs.List.{Contains, filter, list_all}
 use Rattle.std.specs.List.Sorted.{IsPermutation}
 use Rattle.std.specs.Ordering.{is_eq, ordering_reverse}
@@ -17,16 +17,17 @@ use Rattle.mt_values.specs.declared.engine.Aggregate.{Aggregate}
 use Rattle.mt_values.specs.declared.schema.Schema.{Schema}
 use Rattle.mt_values.specs.Tables.{partition_of, same_partition, sorting_cmp}
 use Rattle.mt_values.specs.Values.{Row}
-use Rattle.mt_model.specs.Folding.{ComesFrom}
+use Rattle.mt_model.specs.Final.{FoldsAll, Sees, TableFolds}
+use Rattle.mt_model.specs.Folding.{ComesFrom, Leaves}
 use Rattle.mt_model.specs.Live.{of_key}
-use Rattle.mt_model.specs.Partial.{Partly, TableRun, functions_of}
-use Rattle.mt_model.specs.Rules.{Run}
+use Rattle.mt_model.specs.Partial.{TableRun, functions_of}
+use Rattle.mt_model.specs.Rules.{Folds, FoldsAs, Run, is_settled}
 use Rattle.mt_model.proofs.Commands.{partition_is, same_itself}
 use Rattle.mt_model.proofs.Determined.{sorting_total}
-use Rattle.mt_model.proofs.Merged.{comes_itself, comes_none, of_key_append, partly_itself}
+use Rattle.mt_model.proofs.Merged.{comes_itself, comes_none, of_key_append}
 use Rattle.mt_model.proofs.SameKeys.{filter_after}
 use Rattle.mt_model.proofs.Sorting.{equal_is}
-use Rattle.mt_plain.specs.Lefts.{AreLefts, is_like, unlike}
+use Rattle.mt_plain.specs.Lefts.{AreSeen, KeySees, is_like, unlike}
 use Rattle.mt_plain.specs.Outcomes.{AreExactly}
 use Rattle.mt_plain.proofs.Exactly.{contains_cases, contains_first, contains_later, contains_map, contains_none, exactly_filtered, map_contains}
 
@@ -136,103 +137,165 @@ module _ (schema : Schema) where
       by true e = absurd (clash e)
       by false e = refl
 
-  -- ---- what is left
+  -- ---- what is seen of the rows of each key
 
-  -- of no rows
-  no_row : (x : List Row) → Partly schema [] x → x ≡ []
-  no_row [] partly = refl
-  no_row (r ∷ x) partly =
-      let own = of_key schema (partition_of schema r) r in
-      let none : own (r ∷ x) ≡ [] = comes_none (TableRun schema) (own (r ∷ x)) (partly (partition_of schema r) r) in
-      let some : own (r ∷ x) ≡ r ∷ own x = kept_first (is_like schema r r) r (own x) (like_itself r) in
-      let clash : r ∷ own x ≡ [] = sym some ∙ none in
-      cc
+  -- what is told of the rows of each partition and key
+  abbrev Keywise : (List Row → List Row → Type 0) → List Row → List Row → Type 0
+  Keywise told rows x = (p : Partition) (row : Row) → told (of_key schema p row rows) (of_key schema p row x)
 
-  pub lefts_none : (lefts : List (List Row)) → lefts ≡ [] ∷ [] → AreLefts schema [] lefts
-  lefts_none lefts is =
-      subst (AreLefts schema []) (sym is)
+  module _ (told : List Row → List Row → Type 0) (nothing : told [] []) (only_nothing : (x : List Row) → told [] x → x ≡ []) where
+    -- of no rows
+    no_row : (x : List Row) → Keywise told [] x → x ≡ []
+    no_row [] keys = refl
+    no_row (r ∷ x) keys =
+        let own = of_key schema (partition_of schema r) r in
+        let none : own (r ∷ x) ≡ [] = only_nothing (own (r ∷ x)) (keys (partition_of schema r) r) in
+        let some : own (r ∷ x) ≡ r ∷ own x = kept_first (is_like schema r r) r (own x) (like_itself r) in
+        let clash : r ∷ own x ≡ [] = sym some ∙ none in
+        cc
+
+    -- the rows of one key, and the rest
+    module _ (first : Row) (rows own rest : List Row) (own_is : own ≡ filter (is_like schema first) rows) (rest_is : rest ≡ unlike schema first rows) where
+      -- of the key of the row
+      of_first : (p : Partition) (row : Row) → in_key p row first ≡ true → (xs : List Row) → of_key schema p row xs ≡ filter (is_like schema first) xs
+      of_first p row e xs = filter_agree (in_key p row) (is_like schema first) (λ r. same_test p row first r e) xs
+
+      -- of another key
+      of_other : (p : Partition) (row : Row) → in_key p row first ≡ false → (xs : List Row) → of_key schema p row xs ≡ of_key schema p row (unlike schema first xs)
+      of_other p row e xs = filter_after (in_key p row) (λ r. not (is_like schema first r)) (λ r. other_test p row first r e) xs
+
+      -- what is told of the rows of the key, and then of the others
+      pub key_then : (a b : List Row) → told own a → list_all (is_like schema first) a ≡ true → Keywise told rest b → Keywise told rows (a ++ b)
+      key_then a b one alike other = λ p row. by p row (in_key p row first) refl
+        where
+          none : filter (is_like schema first) b ≡ []
+          none =
+              only_nothing (filter (is_like schema first) b)
+              (subst (λ (zs : List Row). told zs (filter (is_like schema first) b)) (ap (filter (is_like schema first)) rest_is ∙ none_left (is_like schema first) rows) (other (partition_of schema first) first))
+
+          by : (p : Partition) (row : Row) (t : Bool) → in_key p row first ≡ t → told (of_key schema p row rows) (of_key schema p row (a ++ b))
+          by p row true e =
+              let left_is : of_key schema p row rows ≡ own = of_first p row e rows ∙ sym own_is in
+              let right_is : of_key schema p row (a ++ b) ≡ a =
+              of_key_append schema p row a b
+              ∙ (ap₂ (λ (x y : List Row). x ++ y) (of_first p row e a ∙ keeps_all (is_like schema first) a alike) (of_first p row e b ∙ none) ∙ append-nil a) in
+              subst (λ (zs : List Row). told zs (of_key schema p row (a ++ b))) (sym left_is) (subst (told own) (sym right_is) one)
+          by p row false e =
+              let left_is : of_key schema p row rows ≡ of_key schema p row rest = of_other p row e rows ∙ ap (of_key schema p row) (sym rest_is) in
+              let right_is : of_key schema p row (a ++ b) ≡ of_key schema p row b =
+              of_key_append schema p row a b
+              ∙ ap (λ (zs : List Row). zs ++ of_key schema p row b) (drops_all (is_like schema first) (in_key p row) (λ r. other_test p row first r e) a alike) in
+              subst (λ (zs : List Row). told zs (of_key schema p row (a ++ b))) (sym left_is) (subst (told (of_key schema p row rest)) (sym right_is) (other p row))
+
+      -- and so of the others alone
+      rest_told : (x : List Row) → Keywise told rows x → Keywise told rest (unlike schema first x)
+      rest_told x keys = λ p row. by p row (in_key p row first) refl
+        where
+          by : (p : Partition) (row : Row) (t : Bool) → in_key p row first ≡ t → told (of_key schema p row rest) (of_key schema p row (unlike schema first x))
+          by p row true e =
+              let left_is : of_key schema p row rest ≡ [] = of_first p row e rest ∙ (ap (filter (is_like schema first)) rest_is ∙ none_left (is_like schema first) rows) in
+              let right_is : of_key schema p row (unlike schema first x) ≡ [] = of_first p row e (unlike schema first x) ∙ none_left (is_like schema first) x in
+              subst (λ (zs : List Row). told zs (of_key schema p row (unlike schema first x))) (sym left_is) (subst (told []) (sym right_is) nothing)
+          by p row false e =
+              let left_is : of_key schema p row rest ≡ of_key schema p row rows = ap (of_key schema p row) rest_is ∙ sym (of_other p row e rows) in
+              subst (λ (zs : List Row). told zs (of_key schema p row (unlike schema first x))) (sym left_is) (subst (told (of_key schema p row rows)) (of_other p row e x) (keys p row))
+
+      -- lists of the key, each with each list of the others after it
+      module _ (firsts lefts : List (List Row)) (key : AreExactly firsts (λ out. told own out × (list_all (is_like schema first) out ≡ true)))
+          (each_other : (x : List Row) → Contains lefts x → Keywise told rest x) (all_others : (x : List Row) → Keywise told rest x → (y : List Row) × Contains lefts y × IsPermutation x y) where
+        abbrev joined : List (List Row)
+        joined = flat_map (λ a. map (λ b. a ++ b) lefts) firsts
+
+        each_joined : (x : List Row) → Contains joined x → Keywise told rows x
+        each_joined x h =
+            let m = flat_contains (λ a. map (λ b. a ++ b) lefts) firsts x h in
+            let k = map_contains (λ b. m.0 ++ b) lefts x m.2 in
+            let known = (key m.0).0 m.1 in
+            subst (Keywise told rows) (sym k.2) (key_then m.0 k.0 known.0 known.1 (each_other k.0 k.1))
+
+        all_joined : (x : List Row) → Keywise told rows x → (y : List Row) × Contains joined y × IsPermutation x y
+        all_joined x keys =
+            let a = filter (is_like schema first) x in
+            let b = unlike schema first x in
+            let came : told own a = subst (λ (zs : List Row). told zs a) (sym own_is) (keys (partition_of schema first) first) in
+            let one : Contains firsts a = (key a).1 (came, all_filtered (is_like schema first) x) in
+            let found = all_others b (rest_told x keys) in (
+              a ++ found.0,
+              contains_flat (λ c. map (λ d. c ++ d) lefts) firsts a (a ++ found.0) one (contains_map (λ d. a ++ d) lefts found.0 found.1),
+              IsPermutation-trans x (a ++ b) (a ++ found.0) (IsPermutation-filter_both (is_like schema first) (λ r. not (is_like schema first r)) (λ r. refl) x) (IsPermutation-append a a b found.0 (IsPermutation-refl a) found.2),
+            )
+
+  -- ---- with FINAL and without it
+
+  nothing_seen : (is_final : Bool) → KeySees schema is_final [] []
+  nothing_seen true = refl
+  nothing_seen false = comes_itself (TableRun schema) []
+
+  only_nothing_seen : (is_final : Bool) (x : List Row) → KeySees schema is_final [] x → x ≡ []
+  only_nothing_seen true x none = none
+  only_nothing_seen false x came = comes_none (TableRun schema) x came
+
+  sees_keys : (is_final : Bool) (rows x : List Row) → Sees schema is_final rows x → Keywise (KeySees schema is_final) rows x
+  sees_keys true rows x seen = seen
+  sees_keys false rows x seen = seen
+
+  keys_see : (is_final : Bool) (rows x : List Row) → Keywise (KeySees schema is_final) rows x → Sees schema is_final rows x
+  keys_see true rows x keys = keys
+  keys_see false rows x keys = keys
+
+  none_sees : (is_final : Bool) → Sees schema is_final [] []
+  none_sees is_final = keys_see is_final [] [] (λ p row. nothing_seen is_final)
+
+  pub seen_none : (is_final : Bool) (lefts : List (List Row)) → lefts ≡ [] ∷ [] → AreSeen schema is_final [] lefts
+  seen_none is_final lefts is =
+      subst (AreSeen schema is_final []) (sym is)
       (record {
-        each = λ x h. subst (Partly schema []) (one x (contains_cases [] [] x h)) (partly_itself schema []);
-        all = λ x partly. ([], contains_first [] [], subst (λ (zs : List Row). IsPermutation zs []) (sym (no_row x partly)) (IsPermutation-refl []));
+        each = λ x h. subst (Sees schema is_final []) (one x (contains_cases [] [] x h)) (none_sees is_final);
+        all = λ x seen. (
+          [],
+          contains_first [] [],
+          subst (λ (zs : List Row). IsPermutation zs []) (sym (no_row (KeySees schema is_final) (nothing_seen is_final) (only_nothing_seen is_final) x (sees_keys is_final [] x seen))) (IsPermutation-refl []),
+        );
       })
     where
       one : (x : List Row) → ([] ≡ x) ⊎ Contains [] x → [] ≡ x
       one x (inl e) = e
       one x (inr h) = absurd (contains_none x h)
 
-  -- the rows of one key, and the rest
-  module _ (first : Row) (rows own rest : List Row) (firsts lefts : List (List Row)) (own_is : own ≡ filter (is_like schema first) rows) (rest_is : rest ≡ unlike schema first rows)
-      (key : AreExactly firsts (λ out. ComesFrom (TableRun schema) own out × (list_all (is_like schema first) out ≡ true))) (others : AreLefts schema rest lefts) where
-    abbrev joined : List (List Row)
-    joined = flat_map (λ a. map (λ b. a ++ b) lefts) firsts
+  pub seen_more : (is_final : Bool) (first : Row) (rows own rest : List Row) (firsts lefts : List (List Row)) → own ≡ filter (is_like schema first) rows → rest ≡ unlike schema first rows
+      → AreExactly firsts (λ out. KeySees schema is_final own out × (list_all (is_like schema first) out ≡ true)) → AreSeen schema is_final rest lefts
+      → (outs : List (List Row)) → outs ≡ flat_map (λ a. map (λ b. a ++ b) lefts) firsts → AreSeen schema is_final rows outs
+  seen_more is_final first rows own rest firsts lefts own_is rest_is key others outs is =
+      let told = KeySees schema is_final in
+      let nothing = nothing_seen is_final in
+      let only = only_nothing_seen is_final in
+      let each : (x : List Row) → Contains lefts x → Keywise told rest x = λ x h. sees_keys is_final rest x (others.each x h) in
+      let all : (x : List Row) → Keywise told rest x → (y : List Row) × Contains lefts y × IsPermutation x y = λ x keys. others.all x (keys_see is_final rest x keys) in
+      subst (AreSeen schema is_final rows) (sym is)
+      (record {
+        each = λ x h. keys_see is_final rows x (each_joined told nothing only first rows own rest own_is rest_is firsts lefts key each all x h);
+        all = λ x seen. all_joined told nothing only first rows own rest own_is rest_is firsts lefts key each all x (sees_keys is_final rows x seen);
+      })
 
-    -- of the key of the row
-    of_first : (p : Partition) (row : Row) → in_key p row first ≡ true → (xs : List Row) → of_key schema p row xs ≡ filter (is_like schema first) xs
-    of_first p row e xs = filter_agree (in_key p row) (is_like schema first) (λ r. same_test p row first r e) xs
+  -- a fold of the rows of the key, and then of the others
+  pub folds_more : (first : Row) (rows own rest a b : List Row) → own ≡ filter (is_like schema first) rows → rest ≡ unlike schema first rows
+      → Leaves (TableFolds schema) own a → list_all (is_like schema first) a ≡ true → FoldsAll schema rest b → FoldsAll schema rows (a ++ b)
+  folds_more first rows own rest a b own_is rest_is one alike other =
+      key_then (KeySees schema true) (nothing_seen true) (only_nothing_seen true) first rows own rest own_is rest_is a b one alike other
 
-    -- of another key
-    of_other : (p : Partition) (row : Row) → in_key p row first ≡ false → (xs : List Row) → of_key schema p row xs ≡ of_key schema p row (unlike schema first xs)
-    of_other p row e xs = filter_after (in_key p row) (λ r. not (is_like schema first r)) (λ r. other_test p row first r e) xs
+  pub folds_none : FoldsAll schema [] []
+  folds_none = none_sees true
 
-    each_left : (a b : List Row) → Contains firsts a → Contains lefts b → Partly schema rows (a ++ b)
-    each_left a b one other = λ p row. by p row (in_key p row first) refl
-      where
-        known : ComesFrom (TableRun schema) own a × (list_all (is_like schema first) a ≡ true)
-        known = (key a).0 one
+  -- what one merge leaves FINAL may leave
+  one_fold : (settled : Bool) (run : List Row → List Row → Type 0) (rows out : List Row) → 0 < length rows → run rows out → FoldsAs settled run rows out
+  one_fold true run rows out some left = left
+  one_fold false run [] out some left = absurd (omega (arith, some))
+  one_fold false run (row ∷ rows) out some left = record { merged = row ∷ rows; comes = comes_itself run (row ∷ rows); leaves = left }
 
-        none : filter (is_like schema first) b ≡ []
-        none =
-            comes_none (TableRun schema) (filter (is_like schema first) b)
-            (subst (λ (zs : List Row). ComesFrom (TableRun schema) zs (filter (is_like schema first) b)) (ap (filter (is_like schema first)) rest_is ∙ none_left (is_like schema first) rows) (others.each b other (partition_of schema first) first))
-
-        by : (p : Partition) (row : Row) (t : Bool) → in_key p row first ≡ t → ComesFrom (TableRun schema) (of_key schema p row rows) (of_key schema p row (a ++ b))
-        by p row true e =
-            let left_is : of_key schema p row rows ≡ own = of_first p row e rows ∙ sym own_is in
-            let right_is : of_key schema p row (a ++ b) ≡ a =
-            of_key_append schema p row a b
-            ∙ (ap₂ (λ (x y : List Row). x ++ y) (of_first p row e a ∙ keeps_all (is_like schema first) a known.1) (of_first p row e b ∙ none) ∙ append-nil a) in
-            subst (λ (zs : List Row). ComesFrom (TableRun schema) zs (of_key schema p row (a ++ b))) (sym left_is) (subst (ComesFrom (TableRun schema) own) (sym right_is) known.0)
-        by p row false e =
-            let left_is : of_key schema p row rows ≡ of_key schema p row rest = of_other p row e rows ∙ ap (of_key schema p row) (sym rest_is) in
-            let right_is : of_key schema p row (a ++ b) ≡ of_key schema p row b =
-            of_key_append schema p row a b
-            ∙ ap (λ (zs : List Row). zs ++ of_key schema p row b) (drops_all (is_like schema first) (in_key p row) (λ r. other_test p row first r e) a known.1) in
-            subst (λ (zs : List Row). ComesFrom (TableRun schema) zs (of_key schema p row (a ++ b))) (sym left_is) (subst (ComesFrom (TableRun schema) (of_key schema p row rest)) (sym right_is) (others.each b other p row))
-
-    rest_left : (x : List Row) → Partly schema rows x → Partly schema rest (unlike schema first x)
-    rest_left x partly = λ p row. by p row (in_key p row first) refl
-      where
-        by : (p : Partition) (row : Row) (t : Bool) → in_key p row first ≡ t → ComesFrom (TableRun schema) (of_key schema p row rest) (of_key schema p row (unlike schema first x))
-        by p row true e =
-            let left_is : of_key schema p row rest ≡ [] = of_first p row e rest ∙ (ap (filter (is_like schema first)) rest_is ∙ none_left (is_like schema first) rows) in
-            let right_is : of_key schema p row (unlike schema first x) ≡ [] = of_first p row e (unlike schema first x) ∙ none_left (is_like schema first) x in
-            subst (λ (zs : List Row). ComesFrom (TableRun schema) zs (of_key schema p row (unlike schema first x))) (sym left_is) (subst (ComesFrom (TableRun schema) []) (sym right_is) (comes_itself (TableRun schema) []))
-        by p row false e =
-            let left_is : of_key schema p row rest ≡ of_key schema p row rows = ap (of_key schema p row) rest_is ∙ sym (of_other p row e rows) in
-            subst (λ (zs : List Row). ComesFrom (TableRun schema) zs (of_key schema p row (unlike schema first x))) (sym left_is) (subst (ComesFrom (TableRun schema) (of_key schema p row rows)) (of_other p row e x) (partly p row))
-
-    all_left : (x : List Row) → Partly schema rows x → (y : List Row) × Contains joined y × IsPermutation x y
-    all_left x partly =
-        let a = filter (is_like schema first) x in
-        let b = unlike schema first x in
-        let came : ComesFrom (TableRun schema) own a = subst (λ (zs : List Row). ComesFrom (TableRun schema) zs a) (sym own_is) (partly (partition_of schema first) first) in
-        let one : Contains firsts a = (key a).1 (came, all_filtered (is_like schema first) x) in
-        let found = others.all b (rest_left x partly) in (
-          a ++ found.0,
-          contains_flat (λ c. map (λ d. c ++ d) lefts) firsts a (a ++ found.0) one (contains_map (λ d. a ++ d) lefts found.0 found.1),
-          IsPermutation-trans x (a ++ b) (a ++ found.0) (IsPermutation-filter_both (is_like schema first) (λ r. not (is_like schema first r)) (λ r. refl) x) (IsPermutation-append a a b found.0 (IsPermutation-refl a) found.2),
-        )
-
-    pub lefts_more : (outs : List (List Row)) → outs ≡ joined → AreLefts schema rows outs
-    lefts_more outs is =
-        subst (AreLefts schema rows) (sym is)
-        (record {
-          each = λ x h.
-              let m = flat_contains (λ a. map (λ b. a ++ b) lefts) firsts x h in
-              let k = map_contains (λ b. m.0 ++ b) lefts x m.2 in
-              subst (Partly schema rows) (sym k.2) (each_left m.0 k.0 m.1 k.1);
-          all = all_left;
-        })
+  pub run_leaves : (functions : List (Option Aggregate)) (rows out : List Row) → 0 < length rows → functions ≡ functions_of schema → Run schema.engine functions rows out → Leaves (TableFolds schema) rows out
+  run_leaves functions [] out some are left = absurd (omega (arith, some))
+  run_leaves functions (row ∷ rows) out some are left =
+      one_fold (is_settled schema.engine (row ∷ rows)) (TableRun schema) (row ∷ rows) out some (subst (λ (fs : List (Option Aggregate)). Run schema.engine fs (row ∷ rows) out) are left)
 
   -- the first row is like itself
   pub unlike_first : (first : Row) (others : List Row) → unlike schema first (first ∷ others) ≡ unlike schema first others
@@ -241,19 +304,53 @@ module _ (schema : Schema) where
   pub unlike_fewer : (first : Row) (rows : List Row) → length (unlike schema first rows) ≤ length rows
   unlike_fewer first rows = rw length-filter (count_by-le-length (λ r. not (is_like schema first r)) rows)
 
+  -- the rows of the key of the first are some
+  pub some_own : (first : Row) (others own : List Row) → own ≡ filter (is_like schema first) (first ∷ others) → 0 < length own
+  some_own first others own is =
+      let kept : filter (is_like schema first) (first ∷ others) ≡ first ∷ filter (is_like schema first) others = kept_first (is_like schema first first) first (filter (is_like schema first) others) (like_itself first) in
+      omega (arith, ap length (is ∙ kept))
+
   -- ---- the lists of one key
 
-  pub key_exactly : (row : Row) (own : List Row) (functions : List (Option Aggregate)) (lists outs : List (List Row)) → functions ≡ functions_of schema → AreExactly lists (ComesFrom (Run schema.engine functions) own)
-      → outs ≡ filter (list_all (is_like schema row)) lists → AreExactly outs (λ out. ComesFrom (TableRun schema) own out × (list_all (is_like schema row) out ≡ true))
-  key_exactly row own functions lists outs functions_are are is =
-      subst (λ (zs : List (List Row)). AreExactly zs (λ out. ComesFrom (TableRun schema) own out × (list_all (is_like schema row) out ≡ true))) (sym is)
-      (exactly_filtered (ComesFrom (TableRun schema) own) (λ out. ComesFrom (TableRun schema) own out × (list_all (is_like schema row) out ≡ true)) (list_all (is_like schema row)) lists
-      (subst (λ (fs : List (Option Aggregate)). AreExactly lists (ComesFrom (Run schema.engine fs) own)) functions_are are) (λ x came e. (came, e)) (λ x q. q))
+  -- of at least one row
+  pub folds_leave : (rows out : List Row) → 0 < length rows → TableFolds schema rows out → Leaves (TableFolds schema) rows out
+  folds_leave [] out some folds = absurd (omega (arith, some))
+  folds_leave (row ∷ rows) out some folds = folds
+
+  leave_folds : (rows out : List Row) → 0 < length rows → Leaves (TableFolds schema) rows out → TableFolds schema rows out
+  leave_folds [] out some leaves = absurd (omega (arith, some))
+  leave_folds (row ∷ rows) out some leaves = leaves
+
+  -- what may be seen of at least one row of a key, by its lists with FINAL or without it
+  abbrev ListsOf : Bool → List (Option Aggregate) → List Row → List Row → Type 0
+  ListsOf true functions own out = Folds schema.engine functions own out
+  ListsOf false functions own out = ComesFrom (Run schema.engine functions) own out
+
+  lists_see : (is_final : Bool) (own : List Row) → 0 < length own → (out : List Row) → ListsOf is_final (functions_of schema) own out ↔ KeySees schema is_final own out
+  lists_see true own some out = (folds_leave own out some, leave_folds own out some)
+  lists_see false own some out = (λ h. h, λ h. h)
+
+  pub key_exactly : (is_final : Bool) (row : Row) (own : List Row) (functions : List (Option Aggregate)) (lists outs : List (List Row)) → 0 < length own → functions ≡ functions_of schema
+      → (is_final ≡ true → AreExactly lists (Folds schema.engine functions own)) → (is_final ≡ false → AreExactly lists (ComesFrom (Run schema.engine functions) own))
+      → outs ≡ filter (list_all (is_like schema row)) lists → AreExactly outs (λ out. KeySees schema is_final own out × (list_all (is_like schema row) out ≡ true))
+  key_exactly is_final row own functions lists outs some functions_are folded merged is =
+      subst (λ (zs : List (List Row)). AreExactly zs (λ out. KeySees schema is_final own out × (list_all (is_like schema row) out ≡ true))) (sym is)
+      (exactly_filtered (KeySees schema is_final own) (λ out. KeySees schema is_final own out × (list_all (is_like schema row) out ≡ true)) (list_all (is_like schema row)) lists
+      (λ x. let from = by is_final folded merged x in let to = lists_see is_final own some x in (λ h. to.0 (from.0 h), λ h. from.1 (to.1 h))) (λ x seen e. (seen, e)) (λ x q. q))
+    where
+      by : (b : Bool) → (b ≡ true → AreExactly lists (Folds schema.engine functions own)) → (b ≡ false → AreExactly lists (ComesFrom (Run schema.engine functions) own))
+          → AreExactly lists (ListsOf b (functions_of schema) own)
+      by true f m = subst (λ (fs : List (Option Aggregate)). AreExactly lists (Folds schema.engine fs own)) functions_are (f refl)
+      by false f m = subst (λ (fs : List (Option Aggregate)). AreExactly lists (ComesFrom (Run schema.engine fs) own)) functions_are (m refl)
 
 none_of : (rows : List Row) → length rows ≡ 0 → rows ≡ []
 none_of [] e = refl
 none_of (row ∷ rows) e = absurd (omega arith)
 
-pub lefts_of_none : (schema : Schema) (rows none : List Row) (lefts : List (List Row)) → length rows ≡ 0 → none ≡ [] → lefts ≡ none ∷ [] → AreLefts schema rows lefts
-lefts_of_none schema rows none lefts size none_is is =
-    subst (λ (rs : List Row). AreLefts schema rs lefts) (sym (none_of rows size)) (lefts_none schema lefts (is ∙ ap (λ (r : List Row). r ∷ []) none_is))
+pub seen_of_none : (schema : Schema) (is_final : Bool) (rows none : List Row) (lefts : List (List Row)) → length rows ≡ 0 → none ≡ [] → lefts ≡ none ∷ [] → AreSeen schema is_final rows lefts
+seen_of_none schema is_final rows none lefts size none_is is =
+    subst (λ (rs : List Row). AreSeen schema is_final rs lefts) (sym (none_of rows size)) (seen_none schema is_final lefts (is ∙ ap (λ (r : List Row). r ∷ []) none_is))
+
+pub folds_of_none : (schema : Schema) (rows none : List Row) → length rows ≡ 0 → none ≡ [] → FoldsAll schema rows none
+folds_of_none schema rows none size none_is =
+    subst (λ (rs : List Row). FoldsAll schema rs none) (sym (none_of rows size)) (subst (FoldsAll schema []) (sym none_is) (folds_none schema))

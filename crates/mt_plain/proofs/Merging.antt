@@ -119,6 +119,29 @@ joined_again zero xs = refl
 joined_again (suc n) [] = refl
 joined_again (suc n) (x ∷ xs) = ap (λ zs. x ∷ zs) (joined_again n xs)
 
+-- what is made of one of some lists
+module _ (made : List Row → List Row → Type 0) where
+  abbrev pub OneMakes : List (List Row) → List Row → Type 0
+  OneMakes lists out = (from : List Row) × Contains lists from × made from out
+
+  pub one_of_none : (lists : List (List Row)) → AreExactly [] (OneMakes (take 0 lists))
+  one_of_none lists = exactly_none (OneMakes []) (λ out h. contains_none h.0 h.1)
+
+  pub one_of_more : (lists found new outs : List (List Row)) (i : ℕ) (d list : List Row) → i < length lists → list ≡ get_or lists i d → AreExactly found (OneMakes (take i lists)) → AreExactly outs (made list)
+      → AddsExactly found new (Contains outs) → AreExactly new (OneMakes (take (i + 1) lists))
+  one_of_more lists found new outs i d list below is before are adds out = (λ h. into ((adds out).0 h), λ h. back h.0 h.2 (more_cases lists i d h.0 below h.1))
+    where
+      earlier : OneMakes (take i lists) out → OneMakes (take (i + 1) lists) out
+      earlier h = (h.0, more_left lists i d h.0 below h.1, h.2)
+
+      into : Contains found out ⊎ Contains outs out → OneMakes (take (i + 1) lists) out
+      into (inl h) = earlier ((before out).0 h)
+      into (inr h) = (list, more_here lists i d list below (sym is), (are out).0 h)
+
+      back : (from : List Row) → made from out → Contains (take i lists) from ⊎ (get_or lists i d ≡ from) → Contains new out
+      back from m (inl h) = (adds out).1 (inl ((before out).1 (from, h, m)))
+      back from m (inr e) = (adds out).1 (inr ((are out).1 (subst (λ rs. made rs out) (sym (is ∙ e)) m)))
+
 module _ (run : List Row → List Row → Type 0) where
   -- a merge of a run that begins with the first row and is no longer than this
   abbrev pub UpTo : List Row → ℕ → List Row → Type 0
@@ -224,26 +247,6 @@ module _ (run : List Row → List Row → Type 0) where
         → AreExactly (outs ++ more) (Merges run (first ∷ others))
     merges_exactly outs later more firsts are is =
         exactly_joined (MergesFirst run (first ∷ others)) Later (Merges run (first ∷ others)) outs more firsts (begun later more are is) at_first at_later either
-
-  -- ---- one merge of each of some lists
-
-  pub one_of_none : (lists : List (List Row)) → AreExactly [] (MergesOneOf run (take 0 lists))
-  one_of_none lists = exactly_none (MergesOneOf run []) (λ after h. contains_none h.0 h.1)
-
-  pub one_of_more : (lists found new outs : List (List Row)) (i : ℕ) (d list : List Row) → i < length lists → list ≡ get_or lists i d → AreExactly found (MergesOneOf run (take i lists)) → AreExactly outs (Merges run list)
-      → AddsExactly found new (Contains outs) → AreExactly new (MergesOneOf run (take (i + 1) lists))
-  one_of_more lists found new outs i d list below is before are adds after = (λ h. into ((adds after).0 h), λ h. back h.0 h.2 (more_cases lists i d h.0 below h.1))
-    where
-      earlier : MergesOneOf run (take i lists) after → MergesOneOf run (take (i + 1) lists) after
-      earlier h = (h.0, more_left lists i d h.0 below h.1, h.2)
-
-      into : Contains found after ⊎ Contains outs after → MergesOneOf run (take (i + 1) lists) after
-      into (inl h) = earlier ((before after).0 h)
-      into (inr h) = (list, more_here lists i d list below (sym is), (are after).0 h)
-
-      back : (from : List Row) → Merges run from after → Contains (take i lists) from ⊎ (get_or lists i d ≡ from) → Contains new after
-      back from m (inl h) = (adds after).1 (inl ((before after).1 (from, h, m)))
-      back from m (inr e) = (adds after).1 (inr ((are after).1 (subst (λ rs. Merges run rs after) (sym (is ∙ e)) m)))
 
   -- ---- many merges
 

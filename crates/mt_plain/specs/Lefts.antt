@@ -1,5 +1,5 @@
--- What merges may leave of a table's rows, as a list of lists (docs/definitions.md, "Partly folded rows").
-use Rattle.std.specs.Prelude.{◌&&◌, ℕ, Bool, List, filter, map, not}
+-- What a SELECT may see of a table's rows, as a list of lists (docs/definitions.md, "Partly folded rows"; docs/engines.md, "FINAL").
+use Rattle.std.specs.Prelude.{◌&&◌, ℕ, Bool, true, false, List, filter, map, not}
 use Rattle.std.specs.List.{Contains}
 use Rattle.std.specs.List.Sorted.{IsPermutation}
 use Rattle.std.specs.Ordering.{is_eq}
@@ -10,8 +10,10 @@ use Rattle.mt_values.specs.Tables.{partition_of, same_partition, sorting_cmp}
 use Rattle.mt_values.specs.Tests.{eval}
 use Rattle.mt_values.specs.Values.{Row}
 use Rattle.mt_model.specs.declared.query.Query.{Query}
+use Rattle.mt_model.specs.Final.{Sees, TableFolds}
+use Rattle.mt_model.specs.Folding.{ComesFrom, Leaves}
 use Rattle.mt_model.specs.Live.{sorted}
-use Rattle.mt_model.specs.Partial.{Partly}
+use Rattle.mt_model.specs.Partial.{TableRun}
 use Rattle.mt_model.specs.Reply.{rows_reply}
 
 -- whether a row is of the partition and key of another
@@ -22,10 +24,15 @@ is_like schema row r = same_partition (partition_of schema r) (partition_of sche
 abbrev pub unlike : Schema → Row → List Row → List Row
 unlike schema row rows = filter (λ r. not (is_like schema row r)) rows
 
--- merges may leave each of these lists, and all that they may leave is one of these in another order
-pub record AreLefts (schema : Schema) (rows : List Row) (lefts : List (List Row)) : Type 0 where
-  pub each : (x : List Row) → Contains lefts x → Partly schema rows x
-  pub all : (x : List Row) → Partly schema rows x → (y : List Row) × Contains lefts y × IsPermutation x y
+-- what may be seen of the rows of one key: with FINAL their fold, without it what merges made of them
+abbrev pub KeySees : Schema → Bool → List Row → List Row → Type 0
+KeySees schema true rows out = Leaves (TableFolds schema) rows out
+KeySees schema false rows out = ComesFrom (TableRun schema) rows out
+
+-- a SELECT may see each of these lists, and all that it may see is one of these in another order
+pub record AreSeen (schema : Schema) (is_final : Bool) (rows : List Row) (lefts : List (List Row)) : Type 0 where
+  pub each : (x : List Row) → Contains lefts x → Sees schema is_final rows x
+  pub all : (x : List Row) → Sees schema is_final rows x → (y : List Row) × Contains lefts y × IsPermutation x y
 
 -- the lines of a query over rows
 abbrev pub lines_of : Query → List Row → List (List ℕ)

@@ -15,17 +15,18 @@ use mt_values::{Expr, Row, Schema, Test};
 use predicate::may_match;
 use std::alloc::Global;
 
-/// The numbers of an EXPLAIN with this condition over portions of a table of this schema.
+/// The numbers of an EXPLAIN with this condition, with FINAL or without it, over portions of a table of this schema.
 ///
 /// `NoMemory` where an allocation failed, and for 2^64 granules and more, which no memory holds.
 pub fn counts(
     alloc: Global,
     schema: &Schema,
+    is_final: bool,
     condition: &Expr<Test>,
     portions: &[Portion],
 ) -> Result<Counts, NoMemory>
-    ensures { IfOk result
-        (λ counts. counts ≡ explain.counts_of schema.now condition.now portions.now) }
+    ensures { IfOk result (λ counts. counts ≡ explain.counts_of schema.now is_final condition.now
+        portions.now) }
 {
     let mut counts = Counts {
         chosen_parts: 0,
@@ -34,7 +35,7 @@ pub fn counts(
         granules: 0,
     };
     for portion in portions {
-        let chosen = chosen_granules(alloc, schema, condition, portion)?;
+        let chosen = chosen_granules(alloc, schema, is_final, condition, portion)?;
         counts = with_part(&counts, &chosen)?;
     }
     Ok(counts)
@@ -77,19 +78,23 @@ fn sum(count: u64, more: usize) -> Result<u64, NoMemory>
     }
 }
 
-/// Which granules of a portion's rows a condition leaves: those that their marks choose, and each skip index of the table.
+/// Which granules of a portion's rows a condition leaves: those that their marks choose and, without FINAL, each skip index of the table.
 fn chosen_granules(
     alloc: Global,
     schema: &Schema,
+    is_final: bool,
     condition: &Expr<Test>,
     portion: &Portion,
 ) -> Result<Vec<bool>, NoMemory>
     ensures { IfOk result (λ chosen. chosen.items ≡ explain.chosen_granules schema.now
-        condition.now portion.now) }
+        is_final condition.now portion.now) }
 {
     let rows = portion.rows();
     let keys = mark_keys(alloc, schema, rows)?;
     let chosen = chosen_in(alloc, schema, portion.partition(), condition, &keys)?;
+    if is_final {
+        return Ok(chosen);
+    }
     narrowed(alloc, schema, condition, rows, chosen)
 }
 

@@ -33,5 +33,6 @@ pub fn explained(
     }
     let query = query_of(alloc, columns, asked)?;
     let portions = portions_of(alloc, &asked.table, schema, entries)?;
-    Ok(counts(alloc, schema, &query.condition, &portions)?)
+    let is_final = asked.is_final;
+    Ok(counts(alloc, schema, is_final, &query.condition, &portions)?)
 }

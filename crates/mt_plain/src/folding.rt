@@ -2,14 +2,56 @@
 ghost use Rattle.std.specs.Prelude.{◌≡◌, IfOk, IsTrue, length, ◌↔◌};
 ghost use Rattle.mt_model.specs.Folding.{Leaves};
 ghost use Rattle.mt_model.specs.Rules.{Folds, Run, is_settled};
-ghost use Rattle.mt_plain.specs.Outcomes.{FoldsWithin, LeavesAfter};
+ghost use Rattle.mt_plain.specs.Outcomes.{AreExactly, FoldsWithin, LeavesAfter};
 
 use crate::collapsing::alternate;
-use crate::merges::{is_among, merged};
-use crate::rules::{Rows, runs};
-use mt_base::NoMemory;
+use crate::merges::{add_each, all_merged, is_among, merged};
+use crate::rules::{Rows, only, runs};
+use mt_base::{NoMemory, Seq};
 use mt_values::{Aggregate, Engine, Row};
 use std::alloc::Global;
+
+/// Every list that FINAL may leave of at least one row of one key, each once.
+///
+/// `NoMemory` where an allocation failed, and as `all_merged` says.
+pub fn all_folded(
+    alloc: Global,
+    engine: &Engine,
+    functions: &[Option<Aggregate>],
+    rows: &[Row],
+) -> Result<Vec<Rows>, NoMemory>
+    ensures { IfOk result
+        (λ outs. AreExactly outs.items (Folds engine.now functions.now rows.now)) }
+{
+    if is_settled(engine, rows) {
+        return runs(alloc, engine, functions, rows);
+    }
+    let lists = all_merged(alloc, engine, functions, rows)?;
+    let mut outs = Vec::new(alloc);
+    for list in &lists {
+        let left = all_left(alloc, engine, functions, list.as_slice())?;
+        add_each(alloc, &mut outs, &left)?;
+    }
+    Ok(outs)
+}
+
+/// Every list that a fold of rows may leave: of no rows none.
+///
+/// `NoMemory` where an allocation failed, or where a sum needs more than 128 bits.
+fn all_left(
+    alloc: Global,
+    engine: &Engine,
+    functions: &[Option<Aggregate>],
+    rows: &[Row],
+) -> Result<Vec<Rows>, NoMemory>
+    ensures { IfOk result
+        (λ outs. AreExactly outs.items (Leaves (Run engine.now functions.now) rows.now)) }
+{
+    if rows.is_empty() {
+        return only(alloc, Seq::new(alloc));
+    }
+    runs(alloc, engine, functions, rows)
+}
 
 /// Whether FINAL may leave these rows of others of one key, after at most as many merges as there are of those.
 ///

@@ -1,51 +1,97 @@
-// What merges may leave of a table's rows (docs/definitions.md, "Partly folded rows").
-ghost use Rattle.std.specs.Prelude.{◌≡◌, ◌++◌, IfOk, filter, flat_map, map, true};
+// What a SELECT may see of a table's rows (docs/definitions.md, "Partly folded rows"; docs/engines.md, "FINAL").
+ghost use Rattle.std.specs.Prelude.{◌≡◌, ◌<◌, ◌++◌, IfOk, false, filter, flat_map, length, map, true};
 ghost use Rattle.std.specs.List.{list_all};
-ghost use Rattle.mt_model.specs.Folding.{ComesFrom};
+ghost use Rattle.mt_model.specs.Final.{FoldsAll, TableFolds};
+ghost use Rattle.mt_model.specs.Folding.{ComesFrom, Leaves};
 ghost use Rattle.mt_model.specs.Partial as partial;
-ghost use Rattle.mt_plain.specs.Lefts.{AreLefts, is_like, unlike};
+ghost use Rattle.mt_model.specs.Rules.{Folds, Run};
+ghost use Rattle.mt_plain.specs.Lefts.{AreSeen, KeySees, is_like, unlike};
 ghost use Rattle.mt_plain.specs.Outcomes.{AreExactly};
 
+use crate::folding::all_folded;
 use crate::merges::all_merged;
 use crate::partitions::partition_of;
-use crate::rules::{Rows, add_rows, only};
+use crate::rules::{Rows, add_rows, only, runs};
 use crate::{Order, compare, same_partition};
 use mt_base::{NoMemory, Seq, Twin};
-use mt_values::{Aggregate, Row, Schema};
+use mt_values::{Aggregate, Engine, Row, Schema};
 use std::alloc::Global;
 
-/// Every list that merges may leave of a table's rows, but for the order of rows of different keys: those of each key are taken by
-/// themselves.
+/// Every list that a SELECT may see of a table's rows, but for the order of rows of different keys: those of each key are taken by
+/// themselves. With FINAL each key is folded, without it merges may have left it anyhow.
 ///
 /// `NoMemory` where an allocation failed, and as `all_merged` says.
-pub fn partly_left(alloc: Global, schema: &Schema, rows: &[Row]) -> Result<Vec<Rows>, NoMemory>
-    ensures { IfOk result (λ lefts. AreLefts schema.now rows.now lefts.items) }
+pub fn all_seen(
+    alloc: Global,
+    schema: &Schema,
+    is_final: bool,
+    rows: &[Row],
+) -> Result<Vec<Rows>, NoMemory>
+    ensures { IfOk result (λ lefts. AreSeen schema.now is_final rows.now lefts.items) }
 {
     let Some((first, others)) = rows.split_first() else {
         return only(alloc, Seq::new(alloc));
     };
     let own = like(alloc, schema, first, rows)?;
     let rest = unlike(alloc, schema, first, others)?;
-    let firsts = left_of_key(alloc, schema, first, &own)?;
-    let lefts = partly_left(alloc, schema, &rest)?;
+    let firsts = seen_of_key(alloc, schema, is_final, first, &own)?;
+    let lefts = all_seen(alloc, schema, is_final, &rest)?;
     each_joined(alloc, &firsts, &lefts)
 }
 
-/// Every list of rows of a row's key that merges may leave of rows of that key.
+/// Rows that FINAL may leave of a table's rows: of each key what one merge of all its rows may leave.
+///
+/// `NoMemory` where an allocation failed, and as `folded_key` says.
+pub fn folded_rows(alloc: Global, schema: &Schema, rows: &[Row]) -> Result<Vec<Row>, NoMemory>
+    ensures { IfOk result (λ out. FoldsAll schema.now rows.now out.items) }
+{
+    let Some((first, others)) = rows.split_first() else {
+        return Ok(Vec::new(alloc));
+    };
+    let own = like(alloc, schema, first, rows)?;
+    let rest = unlike(alloc, schema, first, others)?;
+    let mut out = folded_key(alloc, schema, first, &own)?;
+    let mut more = folded_rows(alloc, schema, &rest)?;
+    out.append(&mut more)?;
+    Ok(out)
+}
+
+/// Rows of a row's key that FINAL may leave of at least one row of that key: some that one merge of all of them may leave.
+///
+/// `NoMemory` where an allocation failed, where a sum needs more than 128 bits, and where a merge leaves none of that key, which no rows of
+/// a table have.
+fn folded_key(alloc: Global, schema: &Schema, row: &Row, own: &[Row]) -> Result<Vec<Row>, NoMemory>
+    requires { 0 < length own.now }
+    ensures { IfOk result (λ out. Leaves (TableFolds schema.now) own.now out.items
+        × (list_all (is_like schema.now row.now) out.items ≡ true)) }
+{
+    let functions = functions_of(alloc, schema)?;
+    let lists = runs(alloc, &schema.engine, &functions, own)?;
+    for list in &lists {
+        if are_like(alloc, schema, row, list.as_slice())? {
+            return Ok(list.twin(alloc)?.into_vec());
+        }
+    }
+    Err(NoMemory)
+}
+
+/// Every list of rows of a row's key that a SELECT may see of at least one row of that key.
 ///
 /// `NoMemory` where an allocation failed, and as `all_merged` says.
-fn left_of_key(
+fn seen_of_key(
     alloc: Global,
     schema: &Schema,
+    is_final: bool,
     row: &Row,
     own: &[Row],
 ) -> Result<Vec<Rows>, NoMemory>
+    requires { 0 < length own.now }
     ensures { IfOk result (λ outs. AreExactly outs.items
-        (λ out. ComesFrom (partial.TableRun schema.now) own.now out
+        (λ out. KeySees schema.now is_final own.now out
         × (list_all (is_like schema.now row.now) out ≡ true))) }
 {
     let functions = functions_of(alloc, schema)?;
-    let lists = all_merged(alloc, &schema.engine, &functions, own)?;
+    let lists = lists_of_key(alloc, &schema.engine, &functions, is_final, own)?;
     let mut outs = Vec::new(alloc);
     for list in &lists {
         if are_like(alloc, schema, row, list.as_slice())? {
@@ -53,6 +99,27 @@ fn left_of_key(
         }
     }
     Ok(outs)
+}
+
+/// Every list that FINAL may leave of rows of one key, or without FINAL merges.
+///
+/// `NoMemory` as `all_merged` says.
+fn lists_of_key(
+    alloc: Global,
+    engine: &Engine,
+    functions: &[Option<Aggregate>],
+    is_final: bool,
+    own: &[Row],
+) -> Result<Vec<Rows>, NoMemory>
+    ensures folded { is_final ≡ true → IfOk result
+        (λ lists. AreExactly lists.items (Folds engine.now functions.now own.now)) }
+    ensures merged { is_final ≡ false → IfOk result (λ lists. AreExactly lists.items
+        (ComesFrom (Run engine.now functions.now) own.now)) }
+{
+    if is_final {
+        return all_folded(alloc, engine, functions, own);
+    }
+    all_merged(alloc, engine, functions, own)
 }
 
 /// The function of each column, where it has one.

@@ -92,7 +92,7 @@ fn merged_once(
 /// Adds lists, each unless it is one of those already.
 ///
 /// `NoMemory` where an allocation failed.
-fn add_each(alloc: Global, found: &mut Vec<Rows>, more: &[Rows]) -> Result<(), NoMemory>
+pub(crate) fn add_each(alloc: Global, found: &mut Vec<Rows>, more: &[Rows]) -> Result<(), NoMemory>
     ensures { OnOk result (AddsExactly found.old.items found.new.items (Contains more.now)) }
 {
     for list in more {

@@ -20,7 +20,7 @@ use std::alloc::Global;
 /// Runs one statement after the last entry of a history, over an outside without faults, and gives every reply that it may have there:
 /// a SELECT may have several, by what merges left. Of an EXPLAIN it gives one.
 ///
-/// `NoMemory` as `step` and `partly_left` say.
+/// `NoMemory` as `step` and `all_seen` say.
 pub fn replies_after(
     alloc: Global,
     history: &mut Vec<Entry>,

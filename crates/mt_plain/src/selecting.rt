@@ -2,6 +2,7 @@
 ghost use Rattle.std.specs.Prelude.{◌≡◌, ℕ, IfErr, IfOk, List, Ok, filter, length, map};
 ghost use Rattle.mt_base.specs.Stops.{Refuses};
 ghost use Rattle.mt_model.specs.Answer.{Answer};
+ghost use Rattle.mt_model.specs.Final.{Sees};
 ghost use Rattle.mt_model.specs.Queries.{query_of};
 ghost use Rattle.mt_model.specs.Reply.{rows_reply};
 ghost use Rattle.mt_values.specs.Order.{key_of};
@@ -11,7 +12,7 @@ ghost use Rattle.mt_plain.specs.Outcomes.{AreExactly};
 
 use super::lines::lines_of;
 use super::live::live_rows;
-use crate::lefts::partly_left;
+use crate::lefts::{all_seen, folded_rows};
 use crate::rules::Rows;
 use crate::{Order, all_lines, picked_rows, rows_reply, sorted_rows};
 use mt_base::{NoMemory, Seq, Stop, Twin};
@@ -38,15 +39,37 @@ pub fn answer(
         return Err(Stop::NoMemory);
     }
     let query = query_of(alloc, columns, select)?;
-    let rows = live_rows(alloc, &select.table, schema, entries)?;
+    let rows = one_seen(
+        alloc,
+        schema,
+        select.is_final,
+        live_rows(alloc, &select.table, schema, entries)?,
+    )?;
     let picked = shown(alloc, &query, &rows)?;
     Ok(lines_of(alloc, picked)?)
+}
+
+/// What a SELECT may see of a table's live rows: the rows themselves, or with FINAL a fold of each key.
+///
+/// `NoMemory` as `folded_rows` says.
+fn one_seen(
+    alloc: Global,
+    schema: &Schema,
+    is_final: bool,
+    live: Vec<Row>,
+) -> Result<Vec<Row>, NoMemory>
+    ensures { IfOk result (λ rows. Sees schema.now is_final live.items rows.items) }
+{
+    if is_final {
+        return folded_rows(alloc, schema, &live);
+    }
+    Ok(live)
 }
 
 /// Every reply that a SELECT from a table of this schema may have at the end of a history, by what merges left; or what it is refused
 /// for, as `answer` says.
 ///
-/// `Stop::NoMemory` as there, and as `partly_left` says.
+/// `Stop::NoMemory` as there, and as `all_seen` says.
 pub(crate) fn answers(
     alloc: Global,
     entries: &[Entry],
@@ -67,7 +90,7 @@ pub(crate) fn answers(
     }
     let query = query_of(alloc, columns, select)?;
     let rows = live_rows(alloc, &select.table, schema, entries)?;
-    let lefts = partly_left(alloc, schema, &rows)?;
+    let lefts = all_seen(alloc, schema, select.is_final, &rows)?;
     Ok(replies_of(alloc, &query, entries.len() as u64, &lefts)?)
 }
 

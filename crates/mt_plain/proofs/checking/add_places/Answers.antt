@@ -1,4 +1,4 @@
-use Rattle.std.proofs.Common.{◌∷◌, [], ℕ, List, subst, sym, ◌∙◌}
+use Rattle.std.proofs.Common.{◌∷◌, [], ℕ, List, subst}
 use Rattle.std.proofs.lemmas.List.{take_all}
 use Rattle.mt_plain.specs.Outcomes.{AddsExactly}
 use Rattle.mt_plain.specs.Plain.{OneStandsFrom, StandsFrom}

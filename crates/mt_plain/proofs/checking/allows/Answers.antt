@@ -1,13 +1,12 @@
-use Rattle.std.proofs.Common.{◌≡◌, ◌↔◌, ◌++◌, ◌∷◌, ◌≤◌, [], ℕ, true, IfOk, List, Result, drop, get_or, length, subst, sym, take, ap, ◌∙◌, arith}
+use Rattle.std.proofs.Common.{◌≡◌, ◌↔◌, ◌++◌, ◌∷◌, ◌≤◌, [], ℕ, true, IfOk, List, Result, drop, get_or, length, subst, sym, take, ap, ◌∙◌}
 use Rattle.std.specs.List.{Contains}
 use Rattle.std.proofs.lemmas.List.{at_drop_all, take_all}
 use Rattle.std.proofs.lemmas.List.Elements.{Contains-get_or}
 use Rattle.mt_values.specs.declared.statement.Cause.{Cause}
 use Rattle.mt_values.specs.declared.statement.Statement.{Statement}
 use Rattle.mt_model.specs.History.{History}
-use Rattle.mt_model.specs.Script.{ScriptRun}
 use Rattle.mt_plain.specs.Outcomes.{AreExactly}
-use Rattle.mt_plain.specs.Plain.{OneStandsFrom, calm}
+use Rattle.mt_plain.specs.Plain.{OneStandsFrom}
 use Rattle.mt_plain.proofs.Merging.{not_both}
 use Rattle.mt_plain.proofs.Allowing.{GoesOn, RanTo, all_goes, allowed_so, ended, exact_so, goes_further, none_ran, ran_on, script_ran}
 use Rattle.mt_plain.proofs.checking.allows.Goals as goal

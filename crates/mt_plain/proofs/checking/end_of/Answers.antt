@@ -1,4 +1,4 @@
-use Rattle.std.proofs.Common.{◌≡◌, ◌+◌, ◌-◌, ◌≤◌, ℕ, List, drop, length, refl, take, arith}
+use Rattle.std.proofs.Common.{◌+◌, ◌-◌, ◌≤◌, drop, length, refl, take, arith}
 use Rattle.std.specs.Cmp.Lexicographic.{same_text, other_text}
 use Rattle.mt_plain.proofs.Allowing.{ends_here, ends_nowhere}
 use Rattle.mt_plain.proofs.checking.end_of.Goals as goal

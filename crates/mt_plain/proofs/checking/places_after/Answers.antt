@@ -1,6 +1,5 @@
-use Rattle.std.proofs.Common.{[], ℕ, List, get_or, refl, subst, sym, ◌∙◌}
+use Rattle.std.proofs.Common.{[], ℕ, List, get_or, refl, subst, sym}
 use Rattle.std.proofs.lemmas.List.{take_all}
-use Rattle.std.proofs.lemmas.List.Elements.{All-get_or}
 use Rattle.mt_plain.specs.Outcomes.{AddsExactly}
 use Rattle.mt_plain.specs.Plain.{OneStandsFrom}
 use Rattle.mt_plain.proofs.Allowing.{no_place_yet, place_more, places_whole}

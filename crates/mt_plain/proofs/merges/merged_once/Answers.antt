@@ -11,7 +11,7 @@ use Rattle.mt_plain.proofs.merges.merged_once.Goals as goal
 pub loop-list-init : goal.loop-list-init
 loop-list-init c =
     let run = Run c.args.engine.now c.args.functions.now in
-    subst (λ (zs : List (List Row)). AreExactly zs (MergesOneOf run (take 0 c.args.lists.now))) (sym c.new-found.ensures.items) (one_of_none run c.args.lists.now)
+    subst (λ (zs : List (List Row)). AreExactly zs (MergesOneOf run (take 0 c.args.lists.now))) (sym c.new-found.ensures.items) (one_of_none (Merges run) c.args.lists.now)
 
 pub loop-list-preserved : goal.loop-list-preserved
 loop-list-preserved c =
@@ -19,7 +19,7 @@ loop-list-preserved c =
     let outs = c.in_ok-outs.outs.items in
     let are = subst (λ (rs : List Row). AreExactly outs (Merges run rs)) c.as_slice.ensures c.in_ok-outs.ensures in
     let adds = subst (λ (zs : List (List Row)). AddsExactly c.loop-list.found.items c.add_each.new.found.items (Contains zs)) c.deref.ensures.value c.in_ok-add_each.ensures in
-    one_of_more run c.args.lists.now c.loop-list.found.items c.add_each.new.found.items outs c.loop-list.list-index c.list-item.result c.list-item.result c.loop-list-test.true c.list-item.is c.loop-list.invariant are adds
+    one_of_more (Merges run) c.args.lists.now c.loop-list.found.items c.add_each.new.found.items outs c.loop-list.list-index c.list-item.result c.list-item.result c.loop-list-test.true c.list-item.is c.loop-list.invariant are adds
 
 pub returns : goal.returns
 returns c =

@@ -2,7 +2,7 @@
 use Rattle.std.proofs.Common.{◌≡◌, filter, take}
 use Rattle.std.specs.List.{list_all}
 use Rattle.mt_plain.specs.Lefts.{is_like}
-use Rattle.mt_plain.proofs.lefts.left_of_key.Given as goal
+use Rattle.mt_plain.proofs.lefts.seen_of_key.Given as goal
 
 abbrev pub invariant-loop-list : goal.invariant-loop-list
 invariant-loop-list l = l.outs.items ≡ filter (list_all (is_like l.schema l.row)) (take l.list-index l.list-items)
