@@ -48,7 +48,7 @@ pub struct Done<D, A> {
 // How a part of a run ended, with the disk and the annals.
 #[derive(Drop)]
 struct Ended<E, D, A> {
-    ended: E,
+    end: E,
     disk: D,
     annals: A,
 }
@@ -209,17 +209,17 @@ fn run_root<D: Disk, A: Annals, S: Source, K: Sink, G: Gate>(
         (kept : Told) (told : root.Told) (script : List ℕ) → A.told annals ≡ Some kept
         → D.told disk ≡ Some told → Stands (root.names_of told) (history kept)
         → D.Arm.tells arm.old ≡ true → S.left source.old ≡ Some script
-        → LeftAtEnd result.ended kept script stretch output }
+        → LeftAtEnd result.end kept script stretch output }
     ensures opening { (told : root.Told) (damage : Damaged) → D.told disk ≡ Some told
-        → IsRootDamage (root.names_of told) damage → IsErrAnd result.ended (λ ended.
+        → IsRootDamage (root.names_of told) damage → IsErrAnd result.end (λ ended.
         WritesDamage ended (damage_line damage) (K.failed sink.old) (K.failed sink.new)
         (K.written sink.old) (K.written sink.new)) × (D.told result.disk ≡ D.told disk)
         × (D.clock result.disk ≡ D.clock disk) × (A.told result.annals ≡ A.told annals) }
     ensures sound { (kept : Told) (told : root.Told) → A.told annals ≡ Some kept
         → D.told disk ≡ Some told → Stands (root.names_of told) (history kept)
-        → D.Arm.tells arm.old ≡ true → MetNoDamage result.ended }
+        → D.Arm.tells arm.old ≡ true → MetNoDamage result.end }
     ensures damaged { (told : root.Told) → D.told disk ≡ Some told → D.Arm.tells arm.old ≡ true
-        → MetNoDamage result.ended ⊎ IsDamagedRoot (root.names_of told) }
+        → MetNoDamage result.end ⊎ IsDamagedRoot (root.names_of told) }
 
     // What a crash leaves.
     ensures crashes { let now = storage (D.told result.disk) (D.clock result.disk)
@@ -239,21 +239,21 @@ fn run_root<D: Disk, A: Annals, S: Source, K: Sink, G: Gate>(
 
     // What was read, and why it ended early.
     ensures whole { (script : List ℕ) → S.left source.old ≡ Some script
-        → OnOk result.ended ((length script < 2 ^ 40) × (S.left source.new ≡ Some [])) }
-    ensures early { IfErr result.ended IsEarly }
-    ensures unread { IsErrOf result.ended Status.DiskFault → source.new ≡ source.old }
-    ensures mark { IsErrOf result.ended Status.DiskFault
+        → OnOk result.end ((length script < 2 ^ 40) × (S.left source.new ≡ Some [])) }
+    ensures early { IfErr result.end IsEarly }
+    ensures unread { IsErrOf result.end Status.DiskFault → source.new ≡ source.old }
+    ensures mark { IsErrOf result.end Status.DiskFault
         → D.clock result.disk ≡ D.clock disk }
-    ensures read { IsErrOf result.ended Status.ReadFault
+    ensures read { IsErrOf result.end Status.ReadFault
         → Rose (S.failed source.old) (S.failed source.new) }
-    ensures unfailed { (IsErrOf result.ended Status.ReadFault → ⊥)
+    ensures unfailed { (IsErrOf result.end Status.ReadFault → ⊥)
         → S.failed source.new ≡ S.failed source.old }
-    ensures disk { IsErrOf result.ended Status.DiskFault
+    ensures disk { IsErrOf result.end Status.DiskFault
         → Rose (D.failed disk) (D.failed result.disk)
         ⊎ Rose (D.Arm.failed arm.old) (D.Arm.failed arm.new) }
-    ensures long { IsErrOf result.ended Status.TooLong
+    ensures long { IsErrOf result.end Status.TooLong
         → ConsumesMost (S.left source.old) (S.left source.new) }
-    ensures write { result.ended ≡ Ok Ending.WriteFault
+    ensures write { result.end ≡ Ok Ending.WriteFault
         → Rose (K.failed sink.old) (K.failed sink.new) }
 
     // What stays, and what the counts of faults are.
@@ -265,23 +265,15 @@ fn run_root<D: Disk, A: Annals, S: Source, K: Sink, G: Gate>(
     let mut store = match open(alloc, &mut disk, arm) {
         Ok(store) => store,
         Err(fault) => {
-            let ended = Err(failed_root(alloc, sink, &fault));
-            return Ended {
-                ended,
-                disk,
-                annals,
-            };
+            let end = Err(failed_root(alloc, sink, &fault));
+            return Ended { end, disk, annals };
         }
     };
     store.opened = opened;
     let mut engine = Engine::new(store, disk, annals, policy);
-    let ended = run_script(alloc, &mut engine, source, sink, arm, gate);
+    let end = run_script(alloc, &mut engine, source, sink, arm, gate);
     let (disk, annals) = engine.into_outside();
-    Ended {
-        ended,
-        disk,
-        annals,
-    }
+    Ended { end, disk, annals }
 }
 
 /// Starts the disk at a path, and makes an arm of it.
@@ -337,17 +329,17 @@ fn run_opened<D: Disk, A: Annals, S: Source, K: Sink, G: Gate>(
         (D.failed result.disk) (A.told result.annals)) (D.started result.disk)
         (S.left source.new) (S.failed source.new) (K.written sink.new) (K.failed sink.new) in
         (kept : Told) (script written : List ℕ) → Starts before kept script written
-        → Headline result.ended before after kept script written }
+        → Headline result.end before after kept script written }
     ensures opening { (told : root.Told) (damage : Damaged) → D.told disk ≡ Some told
         → IsRootDamage (root.names_of told) damage
-        → WritesDamage result.ended (damage_line damage) (K.failed sink.old) (K.failed sink.new)
+        → WritesDamage result.end (damage_line damage) (K.failed sink.old) (K.failed sink.new)
         (K.written sink.old) (K.written sink.new) × (D.told result.disk ≡ D.told disk)
         × (D.clock result.disk ≡ D.clock disk) × (A.told result.annals ≡ A.told annals) }
     ensures sound { (kept : Told) (told : root.Told) → A.told annals ≡ Some kept
         → D.told disk ≡ Some told → Stands (root.names_of told) (history kept)
-        → result.ended ≡ Status.Damaged → ⊥ }
+        → result.end ≡ Status.Damaged → ⊥ }
     ensures damaged { (told : root.Told) → D.told disk ≡ Some told
-        → result.ended ≡ Status.Damaged → IsDamagedRoot (root.names_of told) }
+        → result.end ≡ Status.Damaged → IsDamagedRoot (root.names_of told) }
 
     // What a crash leaves, and which folder was opened.
     ensures crashes { let before = world (storage (D.told disk) (D.clock disk) (D.failed disk)
@@ -366,40 +358,34 @@ fn run_opened<D: Disk, A: Annals, S: Source, K: Sink, G: Gate>(
         (D.started result.disk ≡ Some line.now.folder.now) ⊎ IsUntouched before after }
 
     // What was read, and why it ended so.
-    ensures full { D.failed disk ≡ 2 ^ 64 - 1 → (result.ended ≡ Status.DiskFault)
+    ensures full { D.failed disk ≡ 2 ^ 64 - 1 → (result.end ≡ Status.DiskFault)
         × (source.new ≡ source.old) × (sink.new ≡ sink.old) × (result.disk ≡ disk)
         × (result.annals ≡ annals) }
     ensures whole { (script : List ℕ) → S.left source.old ≡ Some script
-        → IsAnswered result.ended → (length script < 2 ^ 40) × (S.left source.new ≡ Some []) }
-    ensures words { result.ended ≡ Status.NotWords → ⊥ }
+        → IsAnswered result.end → (length script < 2 ^ 40) × (S.left source.new ≡ Some []) }
+    ensures words { result.end ≡ Status.NotWords → ⊥ }
 
     // Which counts of faults rose.
-    ensures read { result.ended ≡ Status.ReadFault
+    ensures read { result.end ≡ Status.ReadFault
         → Rose (S.failed source.old) (S.failed source.new) }
-    ensures unfailed { (result.ended ≡ Status.ReadFault → ⊥)
+    ensures unfailed { (result.end ≡ Status.ReadFault → ⊥)
         → S.failed source.new ≡ S.failed source.old }
-    ensures write { result.ended ≡ Status.WriteFault
+    ensures write { result.end ≡ Status.WriteFault
         → Rose (K.failed sink.old) (K.failed sink.new) }
-    ensures disk { result.ended ≡ Status.DiskFault → Rose (D.failed disk) (D.failed result.disk) }
-    ensures long { result.ended ≡ Status.TooLong
+    ensures disk { result.end ≡ Status.DiskFault → Rose (D.failed disk) (D.failed result.disk) }
+    ensures long { result.end ≡ Status.TooLong
         → ConsumesMost (S.left source.old) (S.left source.new) }
-    ensures calm { IsAnswered result.ended → D.failed result.disk ≡ D.failed disk }
+    ensures calm { IsAnswered result.end → D.failed result.disk ≡ D.failed disk }
     ensures later { D.failed disk ≤ D.failed result.disk }
 {
     let mut disk = disk;
     let opened = disk.faults();
     let mut arm = match started_arm(alloc, line.folder, &mut disk) {
         Ok(arm) => arm,
-        Err(ended) => {
-            return Ended {
-                ended,
-                disk,
-                annals,
-            };
-        }
+        Err(end) => return Ended { end, disk, annals },
     };
     let Ended {
-        ended,
+        end,
         mut disk,
         annals,
     } = run_root(
@@ -414,12 +400,8 @@ fn run_opened<D: Disk, A: Annals, S: Source, K: Sink, G: Gate>(
         gate,
     );
     disk.take_back(arm);
-    let ended = status_at_end(ended, opened < disk.faults());
-    Ended {
-        ended,
-        disk,
-        annals,
-    }
+    let end = status_at_end(end, opened < disk.faults());
+    Ended { end, disk, annals }
 }
 
 /// The command line, or the status of a run that ends at its words.
@@ -467,12 +449,8 @@ pub fn run_alone<D: Disk, A: Annals, S: Source, K: Sink, G: Gate>(
             };
         }
     };
-    let Ended {
-        ended,
-        disk,
-        annals,
-    } = run_opened(alloc, &line, source, sink, disk, annals, gate);
-    let status = ended.number();
+    let Ended { end, disk, annals } = run_opened(alloc, &line, source, sink, disk, annals, gate);
+    let status = end.number();
     Done {
         status,
         disk,

@@ -124,5 +124,5 @@ module _ {F : Type 0} (store : CoreStore F) (table : List ℕ) (now : ℕ) where
         ]
 
 -- the store with other tables, which are the same
-pub same_tables : {F : Type 0} (old new : CoreStore F) → new.tables.entries ≡ old.tables.entries → new.set ≡ old.set → new.length ≡ old.length → new.opened ≡ old.opened → SameStore old new
-same_tables old new tables set len opened = record { tables = tables; parts = λ t. ap (λ x. parts_of x t) set; length_is = len; opened_is = opened }
+pub same_tables : {F : Type 0} (old new : CoreStore F) → new.tables.entries ≡ old.tables.entries → new.set ≡ old.set → new.mutations ≡ old.mutations → new.length ≡ old.length → new.opened ≡ old.opened → SameStore old new
+same_tables old new tables set mutations len opened = record { tables = tables; parts = λ t. ap (λ x. parts_of x t) set; mutations_are = mutations; length_is = len; opened_is = opened }

@@ -63,10 +63,11 @@ pub record StandsWhere {F : Type 0} (files_of : F → Option Files) (h : History
   pub store_stands : CoreStands files_of h store
   pub root_stands : holds → RootStands root h
 
--- the same tables and parts, whatever room there is for more
+-- the same tables, parts and mutations, whatever room there is for more
 pub record SameStore {F : Type 0} (old new : CoreStore F) : Type 0 where
   pub tables : new.tables.entries ≡ old.tables.entries
   pub parts : (table : List ℕ) → parts_of new.set table ≡ parts_of old.set table
+  pub mutations_are : new.mutations ≡ old.mutations
   pub length_is : new.length ≡ old.length
   pub opened_is : new.opened ≡ old.opened
 
@@ -76,6 +77,7 @@ pub record EntersTable {F : Type 0} (table : List ℕ) (schema : Schema) (old ne
   pub updates : Updates (slice_cmp nat_cmp) old.tables new.tables table (Some (fresh_table schema))
   pub count : length new.tables.entries ≡ length old.tables.entries + 1
   pub set_is : new.set ≡ old.set
+  pub mutations_are : new.mutations ≡ old.mutations
   pub length_is : new.length ≡ old.length + 1
   pub opened_is : new.opened ≡ old.opened
 
@@ -122,6 +124,7 @@ pub record EntersPart {F : Type 0} (table : List ℕ) (partition : Partition) (p
   pub added : IsAdded (parts_of old.set table) (record { name = fresh_part partition (t.drawn + 1); part = part; busy = false }) (parts_of new.set table)
   pub ordered : IsInBlockOrder (parts_of new.set table)
   pub others : (u : List ℕ) → u ≢ table → parts_of new.set u ≡ parts_of old.set u
+  pub mutations_are : new.mutations ≡ old.mutations
   pub length_is : new.length ≡ old.length + 1
   pub opened_is : new.opened ≡ old.opened
 

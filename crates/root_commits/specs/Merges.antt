@@ -100,5 +100,6 @@ pub record EntersMerge {F : Type 0} (files_of : F → Option Files) (m : Merging
   pub ordered : IsInBlockOrder (parts_of new.set m.table)
   pub others : (u : List ℕ) → u ≢ m.table → parts_of new.set u ≡ parts_of old.set u
   pub tables_are : new.tables ≡ old.tables
+  pub mutations_are : new.mutations ≡ old.mutations
   pub length_is : new.length ≡ old.length
   pub opened_is : new.opened ≡ old.opened

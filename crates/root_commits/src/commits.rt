@@ -16,7 +16,8 @@ ghost use Rattle.root_store.specs.Cores.{ShowsCore};
 ghost use Rattle.table_core.specs.declared.event.Accept.TheVariants as accept;
 ghost use Rattle.table_core.specs.Core.{Core};
 ghost use Rattle.root_store.specs.Stores.{fresh_table};
-ghost use Rattle.root_commits.specs.Commits.{EntersSealed, EntersTable, IsCause, IsSealedEntry, SameStore, StandsWhere, cause_of, fresh_part, IsSealedOf, insert_into, partition_of_block, refuses_create, refuses_part};
+ghost use Rattle.durable_commit.specs.Commits.{entry_of};
+ghost use Rattle.root_commits.specs.Commits.{EntersSealed, EntersTable, IsCause, IsSealedEntry, SameStore, StandsWhere, cause_of, fresh_part, IsSealedOf, insert_into, insert_of_block, partition_of_block, refuses_create, refuses_part};
 ghost use Rattle.root_commits.specs.Images.{LeavesAfter, LeavesOne, on_disk};
 ghost use Rattle.root_commits.specs.Turns.{Turns, storage, turn_of_create, turn_of_part, with_entry};
 ghost use Rattle.root_store.specs.Crashes.{KeepsThroughCrashes};
@@ -78,6 +79,7 @@ fn refuse_part<F>(
 }
 
 // What a commit takes with it: no memory is wanted for it any more.
+#[derive(Drop)]
 struct Ready {
     // The name of the root.
     name: Name,
@@ -183,6 +185,18 @@ fn prepare_part<P: Drop, A: Annals>(
     })
 }
 
+// What the annals list of the block that a session adds to a partition of a table.
+fn entry_of_part(session: u64, table: Name, partition: Partition, block: Block) -> Entry
+    ensures { result ≡ entry_of session (insert_of_block table partition block) }
+{
+    let command = Command::Insert(Insert {
+        table,
+        partition,
+        block,
+    });
+    Entry { session, command }
+}
+
 // The name of the part that the INSERT with this number into a partition makes.
 fn name_of_part(partition: Partition, number: u32) -> PartName
     ensures { result ≡ fresh_part partition number }
@@ -263,13 +277,10 @@ pub fn commit_create<D: Disk, A: Annals>(
         return Err(Returned { cause, back });
     }
     let before = store.length;
-    let ready = match prepare_create(alloc, &mut store.tables, annals, &create, before) {
-        Ok(ready) => ready,
-        Err(_) => {
-            let back = Some(sealed);
-            let cause = Refused::NoMemory;
-            return Err(Returned { cause, back });
-        }
+    let Ok(ready) = prepare_create(alloc, &mut store.tables, annals, &create, before) else {
+        let back = Some(sealed);
+        let cause = Refused::NoMemory;
+        return Err(Returned { cause, back });
     };
     let Ready {
         name,
@@ -277,14 +288,8 @@ pub fn commit_create<D: Disk, A: Annals>(
         length,
     } = ready;
     let command = Command::Create(create);
-    match turn(
-        alloc,
-        disk,
-        annals,
-        sealed,
-        &name,
-        Entry { session, command },
-    ) {
+    let entry = Entry { session, command };
+    match turn(alloc, disk, annals, sealed, &name, entry) {
         Ok(_) => {
             store.length = length;
             Ok(())
@@ -331,6 +336,7 @@ fn enter_part<F: Drop>(
         → Updates (slice_cmp nat_cmp) store.old.tables store.new.tables table.now
         (Some (record { schema = t.schema; drawn = name.max_block })) }
     ensures count { length store.new.tables.entries ≡ length store.old.tables.entries }
+    ensures mutations { store.new.mutations ≡ store.old.mutations }
     ensures length { store.new.length ≡ after }
     ensures opened { store.new.opened ≡ store.old.opened }
 {
@@ -428,33 +434,14 @@ pub fn commit_part<D: Disk, A: Annals>(
     }
     let fresh = name_of_part(partition, drawn + 1);
     let before = store.length;
-    let ready = match prepare_part(alloc, &mut store.set, annals, table, fresh, before) {
-        Ok(ready) => ready,
-        Err(_) => {
-            let back = Some(part);
-            let cause = Refused::NoMemory;
-            return Err(Returned { cause, back });
-        }
+    let Ok(ready) = prepare_part(alloc, &mut store.set, annals, table, fresh, before) else {
+        let back = Some(part);
+        let cause = Refused::NoMemory;
+        return Err(Returned { cause, back });
     };
-    let Ready {
-        name,
-        table: into,
-        length,
-    } = ready;
-    let command = Command::Insert(Insert {
-        table: into,
-        partition,
-        block,
-    });
+    let entry = entry_of_part(session, ready.table, partition, block);
     let SealedPart { sealed, loaded } = part;
-    let dir = match turn(
-        alloc,
-        disk,
-        annals,
-        sealed,
-        &name,
-        Entry { session, command },
-    ) {
+    let dir = match turn(alloc, disk, annals, sealed, &ready.name, entry) {
         Ok(dir) => dir,
         Err(error) => {
             let cause = Refused::of_disk(error);
@@ -462,6 +449,6 @@ pub fn commit_part<D: Disk, A: Annals>(
         }
     };
     let part = Part::of(dir, loaded);
-    enter_part(alloc, store, table, fresh, part, length);
+    enter_part(alloc, store, table, fresh, part, ready.length);
     Ok(())
 }

@@ -74,6 +74,7 @@ module _ {F : Type 0} where
     ordered = m.ordered;
     others = λ u other. m.others u other ∙ same.parts u;
     tables = m.tables ∙ same.tables;
+    mutations_are = m.mutations_are ∙ same.mutations_are;
     length_is = m.length_is ∙ same.length_is;
     opened_is = m.opened_is ∙ same.opened_is;
   }
@@ -141,7 +142,7 @@ module _ {F : Type 0} where
 
   pub marks_set : (work : Work F) (busy : Bool) (store : CoreStore F) (set : PartSet (Part F)) → IsMarked work.partition work.run busy (parts_of store.set work.table) (parts_of set work.table) → IsInBlockOrder (parts_of set work.table)
       → ((u : List ℕ) → u ≢ work.table → parts_of set u ≡ parts_of store.set u) → Marks work busy store (with_set store set)
-  marks_set work busy store set marked ordered others = record { marked = marked; ordered = ordered; others = others; tables = refl; length_is = refl; opened_is = refl }
+  marks_set work busy store set marked ordered others = record { marked = marked; ordered = ordered; others = others; tables = refl; mutations_are = refl; length_is = refl; opened_is = refl }
 
   -- a work was taken up, or there was no memory
   pub taking_alike : (old new : CoreStore F) (r : Result (Work F) NoMemory) → IfOk r (TakesUp old new) → OnErr r (new ≡ old) → StoresAlike old new

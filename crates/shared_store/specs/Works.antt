@@ -2,6 +2,9 @@
 use Rattle.std.specs.Prelude.{◌≡◌, ◌≢◌, ℕ, Bool, true, false, List, Option, None, Some, All, map}
 use Rattle.mt_outside.specs.Files.{Files}
 use Rattle.mt_model.specs.History.{History}
+use Rattle.merge_select.specs.declared.scope.Pick.{Pick}
+use Rattle.merge_select.specs.declared.scope.Scope.{Scope}
+use Rattle.merge_select.specs.Picks.{Choice, IsPick}
 use Rattle.part_reader.specs.declared.reading.Part.{Part}
 use Rattle.part_writer.specs.declared.loaded.Loaded.{Loaded}
 use Rattle.part_set.specs.declared.kept.Kept.{Kept}
@@ -32,6 +35,7 @@ pub record Marks {F : Type 0} (work : Work F) (busy : Bool) (old new : CoreStore
   pub ordered : IsInBlockOrder (parts_of new.set work.table)
   pub others : (u : List ℕ) → u ≢ work.table → parts_of new.set u ≡ parts_of old.set u
   pub tables : new.tables.entries ≡ old.tables.entries
+  pub mutations_are : new.mutations ≡ old.mutations
   pub length_is : new.length ≡ old.length
   pub opened_is : new.opened ≡ old.opened
 
@@ -44,6 +48,14 @@ pub record TakesUp {F : Type 0} (old new : CoreStore F) (work : Work F) : Type 0
   pub sources_are : work.sources.items ≡ parts_of_work old work
   pub idle : All (λ (k : Kept (Part F)). k.busy ≡ false) work.sources.items
   pub marks : Marks work true old new
+
+-- the parts of a work are the pair that is taken in a scope, by this choice (docs/engines.md, "Which parts are merged")
+pub record IsPicked {F : Type 0} (c : Choice (Part F)) (scope : Scope) (work : Work F) : Type 0 where
+  pub pick : Pick
+  pub is : IsPick c scope pick
+  pub table_is : work.table ≡ pick.table.now
+  pub partition_is : work.partition ≡ pick.partition
+  pub run_is : work.run ≡ pick.run
 
 -- a work was taken up, or none and nothing changed
 abbrev pub MayTakeUp : {F : Type 0} → Opened F → Opened F → Option (Work F) → Type 0

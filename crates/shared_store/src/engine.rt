@@ -2,7 +2,7 @@
 ghost use Rattle.std.specs.Prelude.{◌≡◌, ◌≤◌, ℕ, false, IfErr, IfNone, IfOk, IfSome, IsErr, IsSome, IsTrue, None, Ok, OnErr, OnOk, Some};
 ghost use Rattle.std.specs.Result.{MatchResult};
 ghost use Rattle.mt_values.specs.Annals.{Told};
-ghost use Rattle.merge_select.specs.Picks.{InScope, NoneIn};
+ghost use Rattle.merge_select.specs.Picks.{NoneIn};
 ghost use Rattle.merge_select.specs.Whole.{PicksAll};
 ghost use Rattle.mutation_queue.specs.Queue.{mutations_of};
 ghost use Rattle.part_name.specs.declared.part.PartName.{PartName as Named};
@@ -25,7 +25,7 @@ ghost use Rattle.root_store.specs.Stores.{CoreStands, table_at};
 ghost use Rattle.root_store.specs.declared.store.Table.{Table as Made};
 ghost use Rattle.shared_store.specs.Engines.{GoesOn, GoesThroughCrashes, IsOpen, Opened, Snaps, choice_of, disk_of, schema_kept};
 ghost use Rattle.shared_store.specs.Levels.{LeavesParts, any_greatest};
-ghost use Rattle.shared_store.specs.Works.{IsGone, Marks, MayTakeUp, StandsOn, TakesUp, WorkStands, merging_of};
+ghost use Rattle.shared_store.specs.Works.{IsGone, IsPicked, Marks, MayTakeUp, StandsOn, TakesUp, WorkStands, merging_of};
 
 use crate::work::{Put, TakeFault, Work, take_up, work_stands};
 use merge_select::{Busy, Pick, Scope, pick, pick_all};
@@ -306,8 +306,8 @@ impl<F: Dir, R: Arm<Dir = F>, D: Disk<Arm = R>, A: Annals> Engine<F, R, D, A> {
             (λ found. IfNone found (NoneIn (choice_of self.old) scope.entry)) }
         ensures low { IfOk result
             (λ found. IfSome found (λ work. any_greatest work.sources.items ≡ false)) }
-        ensures scope { IfOk result
-            (λ found. IfSome found (λ work. InScope scope.entry work.table work.partition)) }
+        ensures picks { IfOk result
+            (λ found. IfSome found (IsPicked (choice_of self.old) scope.entry)) }
         ensures err { OnErr result (self.new ≡ self.old) }
         ensures stands { StandsOn F.files self.old self.new }
         ensures goes_on { GoesOn self.old self.new }

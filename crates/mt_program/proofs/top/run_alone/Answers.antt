@@ -12,8 +12,8 @@ pub returns-clause-promises : goal.returns-clause-promises
 returns-clause-promises g c =
     let line = said c.in-Ok.line in
     let says : command_of c.args.words.now ≡ Some line = c.in-Ok.ensures.line in
-    let done = c.run_opened-ended.ensures in
-    promised c.args.words.now line says _ _ c.run_opened-ended.result.ended (record {
+    let done = c.run_opened-end.ensures in
+    promised c.args.words.now line says _ _ c.run_opened-end.result.end (record {
       headline = done.headline;
       crashes = done.crashes;
       opening = done.opening;
@@ -38,6 +38,6 @@ pub returns-clause-untouched : goal.returns-clause-untouched
 returns-clause-untouched g c = λ cause. elim cause [
   | inl none ↦ absurd (not_some (said c.in-Ok.line) (sym c.in-Ok.ensures.line ∙ none))
   | inr full ↦ (
-      let same = c.run_opened-ended.ensures.full full in
+      let same = c.run_opened-end.ensures.full full in
       (same.1, same.2, same.3, same.4))
 ]

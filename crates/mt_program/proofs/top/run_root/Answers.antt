@@ -54,8 +54,8 @@ new-engine-requires-after_bounds g c κs within =
     }
 
 -- the parts of a root that is opened bear no mark
-pub run_script-ended-requires-after_bounds : goal.run_script-ended-requires-after_bounds
-run_script-ended-requires-after_bounds g c κs within = subst HasNoMark (sym c.new-engine.ensures.store) c.in-Ok.ensures.idle
+pub run_script-end-requires-after_bounds : goal.run_script-end-requires-after_bounds
+run_script-end-requires-after_bounds g c κs within = subst HasNoMark (sym c.new-engine.ensures.store) c.in-Ok.ensures.idle
 
 -- the script was served
 pub returns-clause-leaves : goal.returns-clause-leaves
@@ -65,22 +65,22 @@ returns-clause-leaves g c = λ kept names script told is stands tells left.
     let was = c.new-engine.ensures in
     let store = reopened c.in-Ok.store c.args.opened in
     let here = storage (g.D.Disk.told c.open.new.disk) (g.D.Disk.clock c.open.new.disk) (g.D.Disk.failed c.open.new.disk) (g.A.Annals.told c.args.annals) in
-    let output : Output = record { before = g.K.Sink.written c.args.sink.now; after = g.K.Sink.written c.run_script-ended.new.sink } in
+    let output : Output = record { before = g.K.Sink.written c.args.sink.now; after = g.K.Sink.written c.run_script-end.new.sink } in
     let settled = root_told (g.D.Disk.told c.open.new.disk) names (history kept) (c.in-Ok.ensures.told ∙ is) stands in
     let core = stands_reopened c.in-Ok.store c.args.opened files (history kept) (c.in-Ok.ensures.stands names (history kept) is stands) in
-    let end = c.run_script-ended.new.engine in
+    let end = c.run_script-end.new.engine in
     let full = has_greatest end.store in
     record {
       full = full;
-      only = λ is names there. shows_full end.store end.storage.failed names end.storage.disk c.run_script-ended.ensures.goes_on.left is (ap (λ (x : Storage). x.disk) c.into_outside-disk.ensures.storage ∙ there);
-      left = left_as c.run_script-ended.result kept script output (g.D.Arm.Arm.failed c.run_script-ended.new.arm) full root.store.opened c.args.opened root.storage.disk (g.D.Disk.told c.args.disk) end.storage _
+      only = λ is names there. shows_full end.store end.storage.failed names end.storage.disk c.run_script-end.ensures.goes_on.left is (ap (λ (x : Storage). x.disk) c.into_outside-disk.ensures.storage ∙ there);
+      left = left_as c.run_script-end.result kept script output (g.D.Arm.Arm.failed c.run_script-end.new.arm) full root.store.opened c.args.opened root.storage.disk (g.D.Disk.told c.args.disk) end.storage _
           (ap (λ x. x.opened) was.store) (ap (λ (x : Storage). x.disk) was.storage ∙ c.in-Ok.ensures.told) c.into_outside-disk.ensures.storage
-          (c.run_script-ended.ensures.leaves kept script (c.in-Ok.ensures.tells ∙ tells) (knows_root files root store here was.store was.storage kept told core) (stands_root files root store here was.store was.storage kept settled) left);
+          (c.run_script-end.ensures.leaves kept script (c.in-Ok.ensures.tells ∙ tells) (knows_root files root store here was.store was.storage kept told core) (stands_root files root store here was.store was.storage kept settled) left);
     }
 
 pub returns-clause-sound : goal.returns-clause-sound
 returns-clause-sound g c = λ kept names told is stands tells.
-    c.run_script-ended.ensures.undamaged (c.in-Ok.ensures.tells ∙ tells)
+    c.run_script-end.ensures.undamaged (c.in-Ok.ensures.tells ∙ tells)
     (sound_root g.D.Arm.Dir.Dir.files c.new-engine.result (reopened c.in-Ok.store c.args.opened) _ c.new-engine.ensures.store c.new-engine.ensures.storage (c.in-Ok.ensures.held names is))
 
 -- damage was met only where the root is damaged
@@ -89,7 +89,7 @@ returns-in-Err-clause-damaged g c = λ names is tells. not_opened (names_of name
 
 pub returns-clause-damaged : goal.returns-clause-damaged
 returns-clause-damaged g c = λ names is tells.
-    inl (c.run_script-ended.ensures.undamaged (c.in-Ok.ensures.tells ∙ tells)
+    inl (c.run_script-end.ensures.undamaged (c.in-Ok.ensures.tells ∙ tells)
     (sound_root g.D.Arm.Dir.Dir.files c.new-engine.result (reopened c.in-Ok.store c.args.opened) _ c.new-engine.ensures.store c.new-engine.ensures.storage (c.in-Ok.ensures.held names is)))
 
 -- what a crash leaves
@@ -109,8 +109,8 @@ returns-clause-crashes g c = λ kept told is known tells all.
     let here = storage (g.D.Disk.told c.open.new.disk) (g.D.Disk.clock c.open.new.disk) (g.D.Disk.failed c.open.new.disk) (g.A.Annals.told c.args.annals) in
     let images = images_reopened c.in-Ok.store c.args.opened here.disk here.clock (c.in-Ok.ensures.images told (history kept) known all) in
     let keeps = keeps_opened told kept here start (c.in-Ok.ensures.told ∙ known) is (c.in-Ok.ensures.crashes told kept.list known all) files store core images in
-    script_as (g.S.Source.left c.args.source.now) root.store.opened c.args.opened c.run_script-ended.new.engine.storage _ kept start (ap (λ x. x.opened) was.store) c.into_outside-disk.ensures.storage
-    (c.run_script-ended.ensures.through_crashes kept start (c.in-Ok.ensures.tells ∙ tells) (keeps_root files root store here was.store was.storage kept start keeps)
+    script_as (g.S.Source.left c.args.source.now) root.store.opened c.args.opened c.run_script-end.new.engine.storage _ kept start (ap (λ x. x.opened) was.store) c.into_outside-disk.ensures.storage
+    (c.run_script-end.ensures.through_crashes kept start (c.in-Ok.ensures.tells ∙ tells) (keeps_root files root store here was.store was.storage kept start keeps)
     (gained_root files root store here was.store was.storage kept (gained_nothing (g.A.Annals.told c.args.annals) kept is)))
 
 -- what a crash leaves once the names that were read are settled
@@ -137,6 +137,6 @@ returns-clause-settles g c = λ kept told is known tells some all stamped.
     let here = storage (g.D.Disk.told c.open.new.disk) (g.D.Disk.clock c.open.new.disk) (g.D.Disk.failed c.open.new.disk) (g.A.Annals.told c.args.annals) in
     let images = images_settled store told (g.D.Disk.clock c.args.disk) here.disk here.clock (c.in-Ok.ensures.told ∙ known) (c.in-Ok.ensures.settled told known some) stamped (shown_reopened c.in-Ok.store c.args.opened (names_of told) (c.in-Ok.ensures.shown told known)) in
     let keeps = keeps_opened told kept here start (c.in-Ok.ensures.told ∙ known) is safe files store core images in
-    inr (script_as (g.S.Source.left c.args.source.now) root.store.opened c.args.opened c.run_script-ended.new.engine.storage _ kept start (ap (λ x. x.opened) was.store) c.into_outside-disk.ensures.storage
-    (c.run_script-ended.ensures.through_crashes kept start (c.in-Ok.ensures.tells ∙ tells) (keeps_root files root store here was.store was.storage kept start keeps)
+    inr (script_as (g.S.Source.left c.args.source.now) root.store.opened c.args.opened c.run_script-end.new.engine.storage _ kept start (ap (λ x. x.opened) was.store) c.into_outside-disk.ensures.storage
+    (c.run_script-end.ensures.through_crashes kept start (c.in-Ok.ensures.tells ∙ tells) (keeps_root files root store here was.store was.storage kept start keeps)
     (gained_root files root store here was.store was.storage kept (gained_nothing (g.A.Annals.told c.args.annals) kept is))))

@@ -48,7 +48,7 @@ pub returns-in-Some-clause-untouched : goal.returns-in-Some-clause-untouched
 returns-in-Some-clause-untouched g c = refl
 
 pub returns-in-Some-clause-enters : goal.returns-in-Some-clause-enters
-returns-in-Some-clause-enters g c = same_tables _ _ refl refl refl refl
+returns-in-Some-clause-enters g c = same_tables _ _ refl refl refl refl refl
 
 pub returns-in-Some-clause-stands : goal.returns-in-Some-clause-stands
 returns-in-Some-clause-stands g c = λ h s. tt
@@ -64,7 +64,7 @@ returns-in-Some-clause-opened g c = refl
 
 pub returns-in-Some-clause-images : goal.returns-in-Some-clause-images
 returns-in-Some-clause-images g c = λ h sealed stands one.
-    leaves_untouched _ _ h one _ _ refl refl (same_tables _ _ refl refl refl refl)
+    leaves_untouched _ _ h one _ _ refl refl (same_tables _ _ refl refl refl refl refl)
 
 pub returns-in-Some-clause-through_crashes : goal.returns-in-Some-clause-through_crashes
 returns-in-Some-clause-through_crashes g c = λ first start sealed keeps. keeps
@@ -73,53 +73,53 @@ pub returns-in-Some-clause-idle : goal.returns-in-Some-clause-idle
 returns-in-Some-clause-idle g c = λ idle. idle
 
 -- there was no memory
-pub returns-in-Err-clause-cause : goal.returns-in-Err-clause-cause
-returns-in-Err-clause-cause g c =
+pub returns-in_default-prepare_create-clause-cause : goal.returns-in_default-prepare_create-clause-cause
+returns-in_default-prepare_create-clause-cause g c =
     cause_shown (λ n. refuses_create c.args.store.now c.args.create.table n) _ _ _ c.refuse_create.ensures c.faults.ensures None _ c.in_default.is tt
 
-pub returns-in-Err-clause-turn : goal.returns-in-Err-clause-turn
-returns-in-Err-clause-turn g c = record {
+pub returns-in_default-prepare_create-clause-turn : goal.returns-in_default-prepare_create-clause-turn
+returns-in_default-prepare_create-clause-turn g c = record {
   returned = refl;
-  stays = ap (storage (g.D.Disk.told c.args.disk.now) (g.D.Disk.clock c.args.disk.now) (g.D.Disk.failed c.args.disk.now)) c.in-Err.ensures.told;
+  stays = ap (storage (g.D.Disk.told c.args.disk.now) (g.D.Disk.clock c.args.disk.now) (g.D.Disk.failed c.args.disk.now)) c.in_default-prepare_create.ensures.told;
   other = no_disk;
 }
 
-pub returns-in-Err-clause-untouched : goal.returns-in-Err-clause-untouched
-returns-in-Err-clause-untouched g c = refl
+pub returns-in_default-prepare_create-clause-untouched : goal.returns-in_default-prepare_create-clause-untouched
+returns-in_default-prepare_create-clause-untouched g c = refl
 
-pub returns-in-Err-clause-enters : goal.returns-in-Err-clause-enters
-returns-in-Err-clause-enters g c = same_tables _ _ c.in-Err.ensures.err refl refl refl
+pub returns-in_default-prepare_create-clause-enters : goal.returns-in_default-prepare_create-clause-enters
+returns-in_default-prepare_create-clause-enters g c = same_tables _ _ c.in_default-prepare_create.ensures.err refl refl refl refl
 
-pub returns-in-Err-clause-stands : goal.returns-in-Err-clause-stands
-returns-in-Err-clause-stands g c = λ h s. tt
+pub returns-in_default-prepare_create-clause-stands : goal.returns-in_default-prepare_create-clause-stands
+returns-in_default-prepare_create-clause-stands g c = λ h s. tt
 
-pub returns-in-Err-clause-held : goal.returns-in-Err-clause-held
-returns-in-Err-clause-held g c = λ held. held_same g.D.Arm.Dir.Dir.files c.args.store.now _ (returns-in-Err-clause-enters g c) held
+pub returns-in_default-prepare_create-clause-held : goal.returns-in_default-prepare_create-clause-held
+returns-in_default-prepare_create-clause-held g c = λ held. held_same g.D.Arm.Dir.Dir.files c.args.store.now _ (returns-in_default-prepare_create-clause-enters g c) held
 
-pub returns-in-Err-clause-ready : goal.returns-in-Err-clause-ready
-returns-in-Err-clause-ready g c = ready_same c.args.store.now _ (returns-in-Err-clause-enters g c) _ _ c.requires.ready
+pub returns-in_default-prepare_create-clause-ready : goal.returns-in_default-prepare_create-clause-ready
+returns-in_default-prepare_create-clause-ready g c = ready_same c.args.store.now _ (returns-in_default-prepare_create-clause-enters g c) _ _ c.requires.ready
 
-pub returns-in-Err-clause-opened : goal.returns-in-Err-clause-opened
-returns-in-Err-clause-opened g c = refl
+pub returns-in_default-prepare_create-clause-opened : goal.returns-in_default-prepare_create-clause-opened
+returns-in_default-prepare_create-clause-opened g c = refl
 
-pub returns-in-Err-clause-images : goal.returns-in-Err-clause-images
-returns-in-Err-clause-images g c = λ h sealed stands one.
-    leaves_untouched _ _ h one _ _ refl refl (returns-in-Err-clause-enters g c)
+pub returns-in_default-prepare_create-clause-images : goal.returns-in_default-prepare_create-clause-images
+returns-in_default-prepare_create-clause-images g c = λ h sealed stands one.
+    leaves_untouched _ _ h one _ _ refl refl (returns-in_default-prepare_create-clause-enters g c)
 
-pub returns-in-Err-clause-through_crashes : goal.returns-in-Err-clause-through_crashes
-returns-in-Err-clause-through_crashes g c = λ first start sealed keeps.
+pub returns-in_default-prepare_create-clause-through_crashes : goal.returns-in_default-prepare_create-clause-through_crashes
+returns-in_default-prepare_create-clause-through_crashes g c = λ first start sealed keeps.
     let was = storage (g.D.Disk.told c.args.disk.now) (g.D.Disk.clock c.args.disk.now) (g.D.Disk.failed c.args.disk.now) (g.A.Annals.told c.args.annals.now) in
     let now = storage (g.D.Disk.told c.args.disk.now) (g.D.Disk.clock c.args.disk.now) (g.D.Disk.failed c.args.disk.now) (g.A.Annals.told c.prepare_create.new.annals) in
-    kept_untouched g.D.Arm.Dir.Dir.files c.args.store.now _ first start was now (returns-in-Err-clause-enters g c) refl refl refl c.in-Err.ensures.told keeps
+    kept_untouched g.D.Arm.Dir.Dir.files c.args.store.now _ first start was now (returns-in_default-prepare_create-clause-enters g c) refl refl refl c.in_default-prepare_create.ensures.told keeps
 
-pub returns-in-Err-clause-idle : goal.returns-in-Err-clause-idle
-returns-in-Err-clause-idle g c = λ idle. idle_same c.args.store.now _ (returns-in-Err-clause-enters g c) idle
+pub returns-in_default-prepare_create-clause-idle : goal.returns-in_default-prepare_create-clause-idle
+returns-in_default-prepare_create-clause-idle g c = λ idle. idle_same c.args.store.now _ (returns-in_default-prepare_create-clause-enters g c) idle
 
 -- it was given to the disk, and not settled
 pub returns-clause-cause : goal.returns-clause-cause
 returns-clause-cause g c =
     cause_shown (λ n. refuses_create c.args.store.now c.args.create.table n) _ _ _ c.refuse_create.ensures c.faults.ensures None _ c.in_default.is
-    (outside_disk c.in-Err-turn.error c.take_out-cause.result c.take_out-cause.ensures.cause)
+    (outside_disk c.in-Err.error c.take_out-cause.result c.take_out-cause.ensures.cause)
 
 pub returns-clause-turn : goal.returns-clause-turn
 returns-clause-turn g c =
@@ -129,7 +129,7 @@ returns-clause-turn g c =
     doubt_as _ (turn_of_create c.args.session c.args.create c.args.sealed)
     (ap (λ (name : List ℕ). named_turn name c.args.sealed.files c.args.sealed.failed (entry_of c.args.session (command.Create c.args.create))) c.in-Ok.ensures.name)
     had was now (ap (storage (g.D.Disk.told c.args.disk.now) (g.D.Disk.clock c.args.disk.now) (g.D.Disk.failed c.args.disk.now)) c.in-Ok.ensures.told)
-    _ c.take_out-cause.result c.take_out-cause.ensures.cause c.in-Err-turn.ensures.turn
+    _ c.take_out-cause.result c.take_out-cause.ensures.cause c.in-Err.ensures.turn
 
 pub returns-clause-untouched : goal.returns-clause-untouched
 returns-clause-untouched g c = tt
@@ -138,7 +138,7 @@ pub returns-clause-enters : goal.returns-clause-enters
 returns-clause-enters g c =
     let key = c.args.create.table in
     let absent = shown_absent c.args.store.now key c.faults.result (sym c.refuse_create.ensures ∙ c.in_default.is) in
-    same_tables _ _ (taken_out c.args.store.now.tables.entries _ _ key _ (fresh_table c.args.create.schema) absent c.in-Ok.ensures.entries c.in-Ok.ensures.table c.take_out-cause.ensures.entries) refl refl refl
+    same_tables _ _ (taken_out c.args.store.now.tables.entries _ _ key _ (fresh_table c.args.create.schema) absent c.in-Ok.ensures.entries c.in-Ok.ensures.table c.take_out-cause.ensures.entries) refl refl refl refl
 
 pub returns-clause-stands : goal.returns-clause-stands
 returns-clause-stands g c = λ h s. tt
@@ -169,7 +169,7 @@ returns-clause-images g c = λ h sealed stands one.
     let store = c.args.store.now in
     let table = c.args.create.table in
     let none = none_shown (λ n. refuses_create store table n) _ _ _ c.refuse_create.ensures c.faults.ensures c.in_default.is in
-    let grows = grows_by_table g.D.Arm.Dir.Dir.files store h c.args.session stands sealed.files (c.in-Err-turn.ensures.sealed sealed.files sealed.sealed_are) c.args.create
+    let grows = grows_by_table g.D.Arm.Dir.Dir.files store h c.args.session stands sealed.files (c.in-Err.ensures.sealed sealed.files sealed.sealed_are) c.args.create
     (shown_absent store table _ none) (shown_few store table _ none) c.requires.schema c.requires.named sealed.holds in
     leaves_in_doubt (turn_of_create c.args.session c.args.create c.args.sealed) store _ was now h one sealed.files sealed.sealed_are grows c.take_out-cause.result (returns-clause-enters g c) (returns-clause-turn g c)
 
@@ -182,7 +182,7 @@ returns-clause-through_crashes g c = λ first start sealed keeps.
     let table = c.args.create.table in
     let none = none_shown (λ n. refuses_create store table n) _ _ _ c.refuse_create.ensures c.faults.ensures c.in_default.is in
     keeps_in_doubt files store _ first start (turn_of_create c.args.session c.args.create c.args.sealed) was now keeps (shown_calm store table _ none c.requires.ready.opened) sealed.files sealed.sealed_are
-    (λ h stands. grows_by_table files store h c.args.session stands sealed.files (c.in-Err-turn.ensures.sealed sealed.files sealed.sealed_are) c.args.create
+    (λ h stands. grows_by_table files store h c.args.session stands sealed.files (c.in-Err.ensures.sealed sealed.files sealed.sealed_are) c.args.create
     (shown_absent store table _ none) (shown_few store table _ none) c.requires.schema c.requires.named sealed.holds)
     c.take_out-cause.result c.requires.ready.below (returns-clause-enters g c) (returns-clause-turn g c)
 
@@ -223,7 +223,7 @@ returns-in-Ok-turn-clause-untouched g c = tt
 
 pub returns-in-Ok-turn-clause-enters : goal.returns-in-Ok-turn-clause-enters
 returns-in-Ok-turn-clause-enters g c =
-    record { absent = absent g c; updates = c.in-Ok.ensures.updates; count = c.in-Ok.ensures.count; set_is = refl; length_is = c.in-Ok.ensures.length; opened_is = refl }
+    record { absent = absent g c; updates = c.in-Ok.ensures.updates; count = c.in-Ok.ensures.count; set_is = refl; mutations_are = refl; length_is = c.in-Ok.ensures.length; opened_is = refl }
 
 pub returns-in-Ok-turn-clause-stands : goal.returns-in-Ok-turn-clause-stands
 returns-in-Ok-turn-clause-stands g c = λ h s.
@@ -288,8 +288,8 @@ returns-in-Ok-turn-clause-idle g c = λ idle. idle
 pub returns-in-Some-clause-event : goal.returns-in-Some-clause-event
 returns-in-Some-clause-event g c = λ core s. s
 
-pub returns-in-Err-clause-event : goal.returns-in-Err-clause-event
-returns-in-Err-clause-event g c = λ core s. shows_same g.D.Arm.Dir.Dir.files core c.args.store.now _ (returns-in-Err-clause-enters g c) s
+pub returns-in_default-prepare_create-clause-event : goal.returns-in_default-prepare_create-clause-event
+returns-in_default-prepare_create-clause-event g c = λ core s. shows_same g.D.Arm.Dir.Dir.files core c.args.store.now _ (returns-in_default-prepare_create-clause-enters g c) s
 
 pub returns-clause-event : goal.returns-clause-event
 returns-clause-event g c = λ core s. shows_same g.D.Arm.Dir.Dir.files core c.args.store.now _ (returns-clause-enters g c) s

@@ -135,7 +135,7 @@ pub returns-in-Some-clause-untouched : goal.returns-in-Some-clause-untouched
 returns-in-Some-clause-untouched g c = refl
 
 pub returns-in-Some-clause-enters : goal.returns-in-Some-clause-enters
-returns-in-Some-clause-enters g c = λ u at. record { tables = refl; parts = λ v. refl; length_is = refl; opened_is = refl }
+returns-in-Some-clause-enters g c = λ u at. record { tables = refl; parts = λ v. refl; mutations_are = refl; length_is = refl; opened_is = refl }
 
 pub returns-in-Some-clause-stands : goal.returns-in-Some-clause-stands
 returns-in-Some-clause-stands g c = λ h u at is s. tt
@@ -151,7 +151,7 @@ returns-in-Some-clause-opened g c = refl
 
 pub returns-in-Some-clause-images : goal.returns-in-Some-clause-images
 returns-in-Some-clause-images g c = λ h u at is stands one.
-    leaves_untouched _ _ h one _ _ refl refl (record { tables = refl; parts = λ v. refl; length_is = refl; opened_is = refl })
+    leaves_untouched _ _ h one _ _ refl refl (record { tables = refl; parts = λ v. refl; mutations_are = refl; length_is = refl; opened_is = refl })
 
 pub returns-in-Some-clause-through_crashes : goal.returns-in-Some-clause-through_crashes
 returns-in-Some-clause-through_crashes g c = λ u first start at is keeps. keeps
@@ -160,60 +160,60 @@ pub returns-in-Some-clause-idle : goal.returns-in-Some-clause-idle
 returns-in-Some-clause-idle g c = λ idle. idle
 
 -- there was no memory
-pub returns-in-Err-clause-cause : goal.returns-in-Err-clause-cause
-returns-in-Err-clause-cause g c = λ u at.
+pub returns-in_default-prepare_part-clause-cause : goal.returns-in_default-prepare_part-clause-cause
+returns-in_default-prepare_part-clause-cause g c = λ u at.
     let t : Table = c.index-found.result.now in
     shown_of c.args.store.now c.args.table.now c.args.block (g.D.Disk.failed c.args.disk.now) t u (Some refused.NoMemory) c.index-found.ensures at
     (cause_shown (λ n. refuses_part c.args.store.now c.args.table.now (partition_of_block t.schema c.args.block) t.drawn n) _ _ _ (shown_part c.args.store.now c.args.table.now _ _ c.index-found.result.now.drawn c.faults.result _ c.partition_at-partition.ensures c.refuse_part.ensures) c.faults.ensures None _ c.in_default.is tt)
 
-pub returns-in-Err-clause-turn : goal.returns-in-Err-clause-turn
-returns-in-Err-clause-turn g c = λ u at. record {
+pub returns-in_default-prepare_part-clause-turn : goal.returns-in_default-prepare_part-clause-turn
+returns-in_default-prepare_part-clause-turn g c = λ u at. record {
   returned = refl;
-  stays = ap (storage (g.D.Disk.told c.args.disk.now) (g.D.Disk.clock c.args.disk.now) (g.D.Disk.failed c.args.disk.now)) c.in-Err.ensures.told;
+  stays = ap (storage (g.D.Disk.told c.args.disk.now) (g.D.Disk.clock c.args.disk.now) (g.D.Disk.failed c.args.disk.now)) c.in_default-prepare_part.ensures.told;
   other = no_disk;
 }
 
-pub returns-in-Err-clause-untouched : goal.returns-in-Err-clause-untouched
-returns-in-Err-clause-untouched g c = refl
+pub returns-in_default-prepare_part-clause-untouched : goal.returns-in_default-prepare_part-clause-untouched
+returns-in_default-prepare_part-clause-untouched g c = refl
 
-pub returns-in-Err-clause-enters : goal.returns-in-Err-clause-enters
-returns-in-Err-clause-enters g c = λ u at. record { tables = refl; parts = c.in-Err.ensures.parts; length_is = refl; opened_is = refl }
+pub returns-in_default-prepare_part-clause-enters : goal.returns-in_default-prepare_part-clause-enters
+returns-in_default-prepare_part-clause-enters g c = λ u at. record { tables = refl; parts = c.in_default-prepare_part.ensures.parts; mutations_are = refl; length_is = refl; opened_is = refl }
 
-pub returns-in-Err-clause-stands : goal.returns-in-Err-clause-stands
-returns-in-Err-clause-stands g c = λ h u at is s. tt
+pub returns-in_default-prepare_part-clause-stands : goal.returns-in_default-prepare_part-clause-stands
+returns-in_default-prepare_part-clause-stands g c = λ h u at is s. tt
 
-pub returns-in-Err-clause-held : goal.returns-in-Err-clause-held
-returns-in-Err-clause-held g c = λ u at is held. held_same g.D.Arm.Dir.Dir.files c.args.store.now (record { tables = c.args.store.now.tables; set = c.prepare_part.new.set; mutations = c.args.store.now.mutations; length = c.args.store.now.length; opened = c.args.store.now.opened })
-    (record { tables = refl; parts = c.in-Err.ensures.parts; length_is = refl; opened_is = refl }) held
+pub returns-in_default-prepare_part-clause-held : goal.returns-in_default-prepare_part-clause-held
+returns-in_default-prepare_part-clause-held g c = λ u at is held. held_same g.D.Arm.Dir.Dir.files c.args.store.now (record { tables = c.args.store.now.tables; set = c.prepare_part.new.set; mutations = c.args.store.now.mutations; length = c.args.store.now.length; opened = c.args.store.now.opened })
+    (record { tables = refl; parts = c.in_default-prepare_part.ensures.parts; mutations_are = refl; length_is = refl; opened_is = refl }) held
 
-pub returns-in-Err-clause-ready : goal.returns-in-Err-clause-ready
-returns-in-Err-clause-ready g c = ready_same c.args.store.now _ (record { tables = refl; parts = c.in-Err.ensures.parts; length_is = refl; opened_is = refl }) _ _ c.requires.ready
+pub returns-in_default-prepare_part-clause-ready : goal.returns-in_default-prepare_part-clause-ready
+returns-in_default-prepare_part-clause-ready g c = ready_same c.args.store.now _ (record { tables = refl; parts = c.in_default-prepare_part.ensures.parts; mutations_are = refl; length_is = refl; opened_is = refl }) _ _ c.requires.ready
 
-pub returns-in-Err-clause-opened : goal.returns-in-Err-clause-opened
-returns-in-Err-clause-opened g c = refl
+pub returns-in_default-prepare_part-clause-opened : goal.returns-in_default-prepare_part-clause-opened
+returns-in_default-prepare_part-clause-opened g c = refl
 
-pub returns-in-Err-clause-images : goal.returns-in-Err-clause-images
-returns-in-Err-clause-images g c = λ h u at is stands one.
-    leaves_untouched _ _ h one _ _ refl refl (record { tables = refl; parts = c.in-Err.ensures.parts; length_is = refl; opened_is = refl })
+pub returns-in_default-prepare_part-clause-images : goal.returns-in_default-prepare_part-clause-images
+returns-in_default-prepare_part-clause-images g c = λ h u at is stands one.
+    leaves_untouched _ _ h one _ _ refl refl (record { tables = refl; parts = c.in_default-prepare_part.ensures.parts; mutations_are = refl; length_is = refl; opened_is = refl })
 
-pub returns-in-Err-clause-through_crashes : goal.returns-in-Err-clause-through_crashes
-returns-in-Err-clause-through_crashes g c = λ u first start at is keeps.
+pub returns-in_default-prepare_part-clause-through_crashes : goal.returns-in_default-prepare_part-clause-through_crashes
+returns-in_default-prepare_part-clause-through_crashes g c = λ u first start at is keeps.
     let was = storage (g.D.Disk.told c.args.disk.now) (g.D.Disk.clock c.args.disk.now) (g.D.Disk.failed c.args.disk.now) (g.A.Annals.told c.args.annals.now) in
     let now = storage (g.D.Disk.told c.args.disk.now) (g.D.Disk.clock c.args.disk.now) (g.D.Disk.failed c.args.disk.now) (g.A.Annals.told c.prepare_part.new.annals) in
-    kept_untouched g.D.Arm.Dir.Dir.files c.args.store.now _ first start was now (record { tables = refl; parts = c.in-Err.ensures.parts; length_is = refl; opened_is = refl }) refl refl refl c.in-Err.ensures.told keeps
+    kept_untouched g.D.Arm.Dir.Dir.files c.args.store.now _ first start was now (record { tables = refl; parts = c.in_default-prepare_part.ensures.parts; mutations_are = refl; length_is = refl; opened_is = refl }) refl refl refl c.in_default-prepare_part.ensures.told keeps
 
-pub returns-in-Err-clause-idle : goal.returns-in-Err-clause-idle
-returns-in-Err-clause-idle g c = λ idle. idle_same c.args.store.now (record { tables = c.args.store.now.tables; set = c.prepare_part.new.set; mutations = c.args.store.now.mutations; length = c.args.store.now.length; opened = c.args.store.now.opened }) (record { tables = refl; parts = c.in-Err.ensures.parts; length_is = refl; opened_is = refl }) idle
+pub returns-in_default-prepare_part-clause-idle : goal.returns-in_default-prepare_part-clause-idle
+returns-in_default-prepare_part-clause-idle g c = λ idle. idle_same c.args.store.now (record { tables = c.args.store.now.tables; set = c.prepare_part.new.set; mutations = c.args.store.now.mutations; length = c.args.store.now.length; opened = c.args.store.now.opened }) (record { tables = refl; parts = c.in_default-prepare_part.ensures.parts; mutations_are = refl; length_is = refl; opened_is = refl }) idle
 
 -- it was given to the disk, and not settled
-pub returns-in-Err-turn-clause-cause : goal.returns-in-Err-turn-clause-cause
-returns-in-Err-turn-clause-cause g c = λ u at.
+pub returns-in-Err-clause-cause : goal.returns-in-Err-clause-cause
+returns-in-Err-clause-cause g c = λ u at.
     let t : Table = c.index-found.result.now in
     shown_of c.args.store.now c.args.table.now c.args.block (g.D.Disk.failed c.args.disk.now) t u (Some c.of_disk-cause.result) c.index-found.ensures at
     (cause_shown (λ n. refuses_part c.args.store.now c.args.table.now (partition_of_block t.schema c.args.block) t.drawn n) _ _ _ (shown_part c.args.store.now c.args.table.now _ _ c.index-found.result.now.drawn c.faults.result _ c.partition_at-partition.ensures c.refuse_part.ensures) c.faults.ensures None _ c.in_default.is
-    (outside_disk c.in-Err-turn.error c.of_disk-cause.result c.of_disk-cause.ensures))
+    (outside_disk c.in-Err.error c.of_disk-cause.result c.of_disk-cause.ensures))
 
-in_doubt : (g : _) (c : goal.After-drop-name-inside g) → IsInDoubt (turn_of_part c.args.session c.args.table.now c.index-found.result.now c.args.block c.args.part.sealed) c.of_disk-cause.result
+in_doubt : (g : _) (c : goal.After-drop-ready g) → IsInDoubt (turn_of_part c.args.session c.args.table.now c.index-found.result.now c.args.block c.args.part.sealed) c.of_disk-cause.result
     (storage (g.D.Disk.told c.args.disk.now) (g.D.Disk.clock c.args.disk.now) (g.D.Disk.failed c.args.disk.now) (g.A.Annals.told c.args.annals.now))
     (storage (g.D.Disk.told c.turn.new.disk) (g.D.Disk.clock c.turn.new.disk) (g.D.Disk.failed c.turn.new.disk) (g.A.Annals.told c.turn.new.annals))
 in_doubt g c =
@@ -223,31 +223,31 @@ in_doubt g c =
     doubt_as _ (turn_of_part c.args.session c.args.table.now c.index-found.result.now c.args.block c.args.part.sealed)
     (turn_is c.args.session c.args.table.now c.index-found.result.now c.args.block c.args.part.sealed _ _
     (named_is c.args.table.now _ _ _ _ _ c.partition_at-partition.ensures c.name_of_part-fresh.ensures c.in-Ok.ensures.name)
-    (begun_is c.args.table.now _ _ _ c.args.block c.args.session c.in-Ok.ensures.table c.partition_at-partition.ensures))
+    (c.entry_of_part-entry.ensures ∙ begun_is c.args.table.now _ _ _ c.args.block c.args.session c.in-Ok.ensures.table c.partition_at-partition.ensures))
     had was now (ap (storage (g.D.Disk.told c.args.disk.now) (g.D.Disk.clock c.args.disk.now) (g.D.Disk.failed c.args.disk.now)) c.in-Ok.ensures.told)
-    _ c.of_disk-cause.result c.of_disk-cause.ensures c.in-Err-turn.ensures.turn
+    _ c.of_disk-cause.result c.of_disk-cause.ensures c.in-Err.ensures.turn
 
-pub returns-in-Err-turn-clause-turn : goal.returns-in-Err-turn-clause-turn
-returns-in-Err-turn-clause-turn g c = λ u at.
+pub returns-in-Err-clause-turn : goal.returns-in-Err-clause-turn
+returns-in-Err-clause-turn g c = λ u at.
     let was = storage (g.D.Disk.told c.args.disk.now) (g.D.Disk.clock c.args.disk.now) (g.D.Disk.failed c.args.disk.now) (g.A.Annals.told c.args.annals.now) in
     let now = storage (g.D.Disk.told c.turn.new.disk) (g.D.Disk.clock c.turn.new.disk) (g.D.Disk.failed c.turn.new.disk) (g.A.Annals.told c.turn.new.annals) in
     subst (λ (x : Table). IsInDoubt (turn_of_part c.args.session c.args.table.now x c.args.block c.args.part.sealed) c.of_disk-cause.result was now) (one_some (table_at c.args.store.now c.args.table.now) c.index-found.result.now u c.index-found.ensures at) (in_doubt g c)
 
-pub returns-in-Err-turn-clause-untouched : goal.returns-in-Err-turn-clause-untouched
-returns-in-Err-turn-clause-untouched g c = tt
+pub returns-in-Err-clause-untouched : goal.returns-in-Err-clause-untouched
+returns-in-Err-clause-untouched g c = tt
 
-pub returns-in-Err-turn-clause-enters : goal.returns-in-Err-turn-clause-enters
-returns-in-Err-turn-clause-enters g c = λ u at. record { tables = refl; parts = c.in-Ok.ensures.parts; length_is = refl; opened_is = refl }
+pub returns-in-Err-clause-enters : goal.returns-in-Err-clause-enters
+returns-in-Err-clause-enters g c = λ u at. record { tables = refl; parts = c.in-Ok.ensures.parts; mutations_are = refl; length_is = refl; opened_is = refl }
 
-pub returns-in-Err-turn-clause-stands : goal.returns-in-Err-turn-clause-stands
-returns-in-Err-turn-clause-stands g c = λ h u at is s. tt
+pub returns-in-Err-clause-stands : goal.returns-in-Err-clause-stands
+returns-in-Err-clause-stands g c = λ h u at is s. tt
 
-pub returns-in-Err-turn-clause-held : goal.returns-in-Err-turn-clause-held
-returns-in-Err-turn-clause-held g c = λ u at is held. held_same g.D.Arm.Dir.Dir.files c.args.store.now (record { tables = c.args.store.now.tables; set = c.prepare_part.new.set; mutations = c.args.store.now.mutations; length = c.args.store.now.length; opened = c.args.store.now.opened })
-    (record { tables = refl; parts = c.in-Ok.ensures.parts; length_is = refl; opened_is = refl }) held
+pub returns-in-Err-clause-held : goal.returns-in-Err-clause-held
+returns-in-Err-clause-held g c = λ u at is held. held_same g.D.Arm.Dir.Dir.files c.args.store.now (record { tables = c.args.store.now.tables; set = c.prepare_part.new.set; mutations = c.args.store.now.mutations; length = c.args.store.now.length; opened = c.args.store.now.opened })
+    (record { tables = refl; parts = c.in-Ok.ensures.parts; mutations_are = refl; length_is = refl; opened_is = refl }) held
 
-pub returns-in-Err-turn-clause-ready : goal.returns-in-Err-turn-clause-ready
-returns-in-Err-turn-clause-ready g c =
+pub returns-in-Err-clause-ready : goal.returns-in-Err-clause-ready
+returns-in-Err-clause-ready g c =
     let was = storage (g.D.Disk.told c.args.disk.now) (g.D.Disk.clock c.args.disk.now) (g.D.Disk.failed c.args.disk.now) (g.A.Annals.told c.args.annals.now) in
     let now = storage (g.D.Disk.told c.turn.new.disk) (g.D.Disk.clock c.turn.new.disk) (g.D.Disk.failed c.turn.new.disk) (g.A.Annals.told c.turn.new.annals) in
     let store = c.args.store.now in
@@ -259,7 +259,7 @@ returns-in-Err-turn-clause-ready g c =
     let sound = c.requires.ready.sound.tables table t c.index-found.ensures in
     let word : IsRootName (root.Part (part_called table (fresh_part partition (t.drawn + 1)))) = (sound.named, fresh_named partition t.drawn (block_spells table t.schema c.args.block sound.schema (c.requires.rows t c.index-found.ensures)) (shown_number store table _ partition t.drawn none)) in
     let turn = turn_of_part c.args.session c.args.table.now c.index-found.result.now c.args.block c.args.part.sealed in
-    ready_in_doubt c.args.store.now (record { tables = c.args.store.now.tables; set = c.prepare_part.new.set; mutations = c.args.store.now.mutations; length = c.args.store.now.length; opened = c.args.store.now.opened }) turn was now c.of_disk-cause.result (record { tables = refl; parts = c.in-Ok.ensures.parts; length_is = refl; opened_is = refl }) (in_doubt g c)
+    ready_in_doubt c.args.store.now (record { tables = c.args.store.now.tables; set = c.prepare_part.new.set; mutations = c.args.store.now.mutations; length = c.args.store.now.length; opened = c.args.store.now.opened }) turn was now c.of_disk-cause.result (record { tables = refl; parts = c.in-Ok.ensures.parts; mutations_are = refl; length_is = refl; opened_is = refl }) (in_doubt g c)
     (after_doubt (GreatestAreShown store) was.clock turn.name turn.files was.disk now.disk
     (λ told fs is.
     let shown = c.requires.ready.shown still told is in
@@ -267,11 +267,11 @@ returns-in-Err-turn-clause-ready g c =
     c.requires.ready.greatest (in_doubt g c).root)
     c.requires.ready
 
-pub returns-in-Err-turn-clause-opened : goal.returns-in-Err-turn-clause-opened
-returns-in-Err-turn-clause-opened g c = refl
+pub returns-in-Err-clause-opened : goal.returns-in-Err-clause-opened
+returns-in-Err-clause-opened g c = refl
 
-pub returns-in-Err-turn-clause-images : goal.returns-in-Err-turn-clause-images
-returns-in-Err-turn-clause-images g c = λ h u at is stands one.
+pub returns-in-Err-clause-images : goal.returns-in-Err-clause-images
+returns-in-Err-clause-images g c = λ h u at is stands one.
     let was = storage (g.D.Disk.told c.args.disk.now) (g.D.Disk.clock c.args.disk.now) (g.D.Disk.failed c.args.disk.now) (g.A.Annals.told c.args.annals.now) in
     let now = storage (g.D.Disk.told c.turn.new.disk) (g.D.Disk.clock c.turn.new.disk) (g.D.Disk.failed c.turn.new.disk) (g.A.Annals.told c.turn.new.annals) in
     let files = g.D.Arm.Dir.Dir.files in
@@ -280,13 +280,13 @@ returns-in-Err-turn-clause-images g c = λ h u at is stands one.
     let t : Table = c.index-found.result.now in
     let none = none_shown (λ n. refuses_part store table (partition_of_block t.schema c.args.block) t.drawn n) _ _ _ (shown_part c.args.store.now c.args.table.now _ _ c.index-found.result.now.drawn c.faults.result _ c.partition_at-partition.ensures c.refuse_part.ensures) c.faults.ensures c.in_default.is in
     let here = sealed_for t u c.args.block c.args.part.sealed.files c.args.part.loaded (one_some (table_at store table) t u c.index-found.ensures at) is in
-    let grows = grows_by_part files store h c.args.session stands here.files (c.in-Err-turn.ensures.sealed here.files here.sealed_are) table t c.args.block c.index-found.ensures
+    let grows = grows_by_part files store h c.args.session stands here.files (c.in-Err.ensures.sealed here.files here.sealed_are) table t c.args.block c.index-found.ensures
     (shown_number store table _ (partition_of_block t.schema c.args.block) t.drawn none) (c.requires.rows t c.index-found.ensures) here.holds in
     leaves_for c.args.session table t u c.args.block c.args.part.sealed _ _ h _ (one_some (table_at store table) t u c.index-found.ensures at)
-    (leaves_in_doubt (turn_of_part c.args.session c.args.table.now c.index-found.result.now c.args.block c.args.part.sealed) store (record { tables = c.args.store.now.tables; set = c.prepare_part.new.set; mutations = c.args.store.now.mutations; length = c.args.store.now.length; opened = c.args.store.now.opened }) was now h one here.files here.sealed_are grows c.of_disk-cause.result (record { tables = refl; parts = c.in-Ok.ensures.parts; length_is = refl; opened_is = refl }) (in_doubt g c))
+    (leaves_in_doubt (turn_of_part c.args.session c.args.table.now c.index-found.result.now c.args.block c.args.part.sealed) store (record { tables = c.args.store.now.tables; set = c.prepare_part.new.set; mutations = c.args.store.now.mutations; length = c.args.store.now.length; opened = c.args.store.now.opened }) was now h one here.files here.sealed_are grows c.of_disk-cause.result (record { tables = refl; parts = c.in-Ok.ensures.parts; mutations_are = refl; length_is = refl; opened_is = refl }) (in_doubt g c))
 
-pub returns-in-Err-turn-clause-through_crashes : goal.returns-in-Err-turn-clause-through_crashes
-returns-in-Err-turn-clause-through_crashes g c = λ u first start at is keeps.
+pub returns-in-Err-clause-through_crashes : goal.returns-in-Err-clause-through_crashes
+returns-in-Err-clause-through_crashes g c = λ u first start at is keeps.
     let was = storage (g.D.Disk.told c.args.disk.now) (g.D.Disk.clock c.args.disk.now) (g.D.Disk.failed c.args.disk.now) (g.A.Annals.told c.args.annals.now) in
     let now = storage (g.D.Disk.told c.turn.new.disk) (g.D.Disk.clock c.turn.new.disk) (g.D.Disk.failed c.turn.new.disk) (g.A.Annals.told c.turn.new.annals) in
     let files = g.D.Arm.Dir.Dir.files in
@@ -296,15 +296,15 @@ returns-in-Err-turn-clause-through_crashes g c = λ u first start at is keeps.
     let none = none_shown (λ n. refuses_part store table (partition_of_block t.schema c.args.block) t.drawn n) _ _ _ (shown_part c.args.store.now c.args.table.now _ _ c.index-found.result.now.drawn c.faults.result _ c.partition_at-partition.ensures c.refuse_part.ensures) c.faults.ensures c.in_default.is in
     let here = sealed_for t u c.args.block c.args.part.sealed.files c.args.part.loaded (one_some (table_at store table) t u c.index-found.ensures at) is in
     keeps_in_doubt files store _ first start (turn_of_part c.args.session c.args.table.now c.index-found.result.now c.args.block c.args.part.sealed) was now keeps (shown_part_calm store table _ (partition_of_block t.schema c.args.block) t.drawn none c.requires.ready.opened) here.files here.sealed_are
-    (λ h stands. grows_by_part files store h c.args.session stands here.files (c.in-Err-turn.ensures.sealed here.files here.sealed_are) table t c.args.block c.index-found.ensures
+    (λ h stands. grows_by_part files store h c.args.session stands here.files (c.in-Err.ensures.sealed here.files here.sealed_are) table t c.args.block c.index-found.ensures
     (shown_number store table _ (partition_of_block t.schema c.args.block) t.drawn none) (c.requires.rows t c.index-found.ensures) here.holds)
-    c.of_disk-cause.result c.requires.ready.below (record { tables = refl; parts = c.in-Ok.ensures.parts; length_is = refl; opened_is = refl }) (in_doubt g c)
+    c.of_disk-cause.result c.requires.ready.below (record { tables = refl; parts = c.in-Ok.ensures.parts; mutations_are = refl; length_is = refl; opened_is = refl }) (in_doubt g c)
 
-pub returns-in-Err-turn-clause-idle : goal.returns-in-Err-turn-clause-idle
-returns-in-Err-turn-clause-idle g c = λ idle. idle_same c.args.store.now (record { tables = c.args.store.now.tables; set = c.prepare_part.new.set; mutations = c.args.store.now.mutations; length = c.args.store.now.length; opened = c.args.store.now.opened }) (record { tables = refl; parts = c.in-Ok.ensures.parts; length_is = refl; opened_is = refl }) idle
+pub returns-in-Err-clause-idle : goal.returns-in-Err-clause-idle
+returns-in-Err-clause-idle g c = λ idle. idle_same c.args.store.now (record { tables = c.args.store.now.tables; set = c.prepare_part.new.set; mutations = c.args.store.now.mutations; length = c.args.store.now.length; opened = c.args.store.now.opened }) (record { tables = refl; parts = c.in-Ok.ensures.parts; mutations_are = refl; length_is = refl; opened_is = refl }) idle
 
 -- it was committed
-module _ (g : _) (c : goal.After-drop-name-inside-2 g) where
+module _ (g : _) (c : goal.After-drop-ready-2 g) where
   abbrev t : Table
   t = c.index-found.result.now
 
@@ -329,6 +329,7 @@ module _ (g : _) (c : goal.After-drop-name-inside-2 g) where
         (subst (λ (n : PartName). IsAdded (parts_of c.prepare_part.new.set c.args.table.now) (record { name = n; part = c.of-part.result; busy = false }) (parts_of c.enter_part.new.store.set c.args.table.now)) (fresh_is _ _ _ _ c.partition_at-partition.ensures c.name_of_part-fresh.ensures) c.enter_part.ensures.added);
     ordered = c.enter_part.ensures.ordered;
     others = λ u apart. c.enter_part.ensures.others u apart ∙ c.in-Ok.ensures.parts u;
+    mutations_are = c.enter_part.ensures.mutations;
     length_is = c.enter_part.ensures.length ∙ c.in-Ok.ensures.length;
     opened_is = c.enter_part.ensures.opened;
   }
@@ -356,7 +357,7 @@ module _ (g : _) (c : goal.After-drop-name-inside-2 g) where
       done_as _ (turn_of_part c.args.session c.args.table.now c.index-found.result.now c.args.block c.args.part.sealed)
       (turn_is c.args.session c.args.table.now c.index-found.result.now c.args.block c.args.part.sealed _ _
       (named_is c.args.table.now _ _ _ _ _ c.partition_at-partition.ensures c.name_of_part-fresh.ensures c.in-Ok.ensures.name)
-      (begun_is c.args.table.now _ _ _ c.args.block c.args.session c.in-Ok.ensures.table c.partition_at-partition.ensures))
+      (c.entry_of_part-entry.ensures ∙ begun_is c.args.table.now _ _ _ c.args.block c.args.session c.in-Ok.ensures.table c.partition_at-partition.ensures))
       had was now (ap (storage (g.D.Disk.told c.args.disk.now) (g.D.Disk.clock c.args.disk.now) (g.D.Disk.failed c.args.disk.now)) c.in-Ok.ensures.told)
       c.in-Ok-turn.ensures.turn
 
@@ -480,19 +481,19 @@ returns-in-Some-clause-event g c = λ core t s at is. tt
 pub returns-in-Some-clause-no_event : goal.returns-in-Some-clause-no_event
 returns-in-Some-clause-no_event g c = λ core s. s
 
+pub returns-in_default-prepare_part-clause-event : goal.returns-in_default-prepare_part-clause-event
+returns-in_default-prepare_part-clause-event g c = λ core t s at is. tt
+
+pub returns-in_default-prepare_part-clause-no_event : goal.returns-in_default-prepare_part-clause-no_event
+returns-in_default-prepare_part-clause-no_event g c = λ core s.
+    shows_same g.D.Arm.Dir.Dir.files core c.args.store.now _ (record { tables = refl; parts = c.in_default-prepare_part.ensures.parts; mutations_are = refl; length_is = refl; opened_is = refl }) s
+
 pub returns-in-Err-clause-event : goal.returns-in-Err-clause-event
 returns-in-Err-clause-event g c = λ core t s at is. tt
 
 pub returns-in-Err-clause-no_event : goal.returns-in-Err-clause-no_event
 returns-in-Err-clause-no_event g c = λ core s.
-    shows_same g.D.Arm.Dir.Dir.files core c.args.store.now _ (record { tables = refl; parts = c.in-Err.ensures.parts; length_is = refl; opened_is = refl }) s
-
-pub returns-in-Err-turn-clause-event : goal.returns-in-Err-turn-clause-event
-returns-in-Err-turn-clause-event g c = λ core t s at is. tt
-
-pub returns-in-Err-turn-clause-no_event : goal.returns-in-Err-turn-clause-no_event
-returns-in-Err-turn-clause-no_event g c = λ core s.
-    shows_same g.D.Arm.Dir.Dir.files core c.args.store.now _ (record { tables = refl; parts = c.in-Ok.ensures.parts; length_is = refl; opened_is = refl }) s
+    shows_same g.D.Arm.Dir.Dir.files core c.args.store.now _ (record { tables = refl; parts = c.in-Ok.ensures.parts; mutations_are = refl; length_is = refl; opened_is = refl }) s
 
 pub returns-clause-event : goal.returns-clause-event
 returns-clause-event g c = λ core u s at is.

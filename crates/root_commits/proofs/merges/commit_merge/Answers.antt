@@ -30,7 +30,7 @@ same_name asked name other = one_some asked name other
 
 -- the same store
 itself : {F : Type 0} (store : CoreStore F) → SameStore store store
-itself store = record { tables = refl; parts = λ u. refl; length_is = refl; opened_is = refl }
+itself store = record { tables = refl; parts = λ u. refl; mutations_are = refl; length_is = refl; opened_is = refl }
 
 -- its level would be too great
 pub returns-in_default-clause-cause : goal.returns-in_default-clause-cause
@@ -225,6 +225,7 @@ module _ (g : _) (c : goal.After-drop-name-inside-2 g) where
     ordered = c.swap.ensures.ordered;
     others = c.swap.ensures.others;
     tables_are = refl;
+    mutations_are = refl;
     length_is = refl;
     opened_is = refl;
   }

@@ -10,7 +10,7 @@ use Rattle.part_set.specs.Sets.{parts_of}
 use Rattle.root_store.specs.Shown.{HasNoMark}
 use Rattle.root_store.specs.Stores.{table_at}
 use Rattle.shared_store.specs.Engines.{Opened, choice_of}
-use Rattle.shared_store.specs.Works.{TakesUp}
+use Rattle.shared_store.specs.Works.{IsPicked, TakesUp}
 use Rattle.shared_store.proofs.Marked.{goes_seen, low_taken, on_seen, taking_alike}
 use Rattle.shared_store.proofs.Marking.{ready_alike}
 use Rattle.shared_store.proofs.Picked.{busy_marked, picked_idle, picked_low, picked_run, run_there, whole_idle, whole_run}
@@ -38,6 +38,14 @@ pub returns-clause-low : goal.returns-clause-low
 returns-clause-low g c =
     let p = c.in-Some.picked in
     low_taken c.self.inside.store c.in_ok-work.work p.table.now p.partition p.run (c.in_ok-work.ensures.of.0 ∙ c.in_ok-table.ensures) c.in_ok-work.ensures.of.1 c.in_ok-work.ensures.run c.in_ok-work.ensures.takes.sources_are (picked_low _ _ p c.in-Some.ensures.some)
+
+pub returns-clause-picks : goal.returns-clause-picks
+returns-clause-picks g c =
+    let work = c.in_ok-work.work in
+    let done = c.in_ok-work.ensures in
+    let p = c.in-Some.picked in
+    subst (λ (o : Opened _). IsPicked (choice_of o) c.args.scope work) c.self.view_is
+    (record { pick = p; is = c.in-Some.ensures.some; table_is = done.of.0 ∙ c.in_ok-table.ensures; partition_is = done.of.1; run_is = done.run })
 
 pub invariant_of-self : goal.invariant_of-self
 invariant_of-self g c = ready_alike c.self.inside.store c.take_up.new.store (taking_alike c.self.inside.store c.take_up.new.store c.take_up.result c.take_up.ensures.takes c.take_up.ensures.err) _ _ c.self.invariant
