@@ -104,7 +104,7 @@ in_any_case (Err e) p = p
 
 -- what was not touched
 pub nothing_accepted : {F : Type 0} (here : Opened F) → AcceptsNothing here here
-nothing_accepted here = record { store_is = record { tables = refl; parts = λ table. refl; length_is = refl; opened_is = refl }; storage_is = refl }
+nothing_accepted here = record { store_is = record { tables = refl; parts = λ table. refl; mutations_are = refl; length_is = refl; opened_is = refl }; storage_is = refl }
 
 -- a turn that did nothing
 pub stays_open : {F : Type 0} (here : Opened F) → IsOpen here → GoesOn here here

@@ -1,7 +1,7 @@
 -- Parts that hold rows, and what is told of damage.
 use Rattle.std.proofs.Common.{◌≡◌, ℕ, Bool, List, [], ◌∷◌, Option, Ok, subst}
 use Rattle.std.specs.List.{All}
-use Rattle.std.proofs.lemmas.List.Elements.{All-head, All-tail}
+use Rattle.std.proofs.lemmas.List.Elements.{All-cons, All-head, All-nil, All-tail}
 use Rattle.mt_base.specs.declared.name.FileId.{FileId}
 use Rattle.mt_base.specs.Files.{file_name}
 use Rattle.mt_values.specs.declared.manifest.FileMark.{FileMark}
@@ -22,10 +22,9 @@ use Rattle.part_set.specs.declared.kept.Kept.{Kept}
 use Rattle.part_set.specs.declared.kept.Snap.{Snap}
 use Rattle.root_store.specs.Soundness.{HoldsRows}
 use Rattle.final_fold.specs.declared.asking.Wanted.{Wanted}
-use Rattle.final_fold.specs.Matches.{ExplainsMatches}
 use Rattle.final_fold.specs.Scans.{PartsHold}
 use Rattle.select_plan.specs.Plans.{planned}
-use Rattle.session.specs.Selects.{IsAskedOf, TellsOfDamage}
+use Rattle.session.specs.Selects.{ExplainsRead, IsAskedOf, TellsOfDamage}
 
 -- parts of which each holds rows hold a list of rows, one after another
 pub all_hold : {F : Type 0} (files_of : F → Option Files) (schema : Schema) (parts : List (Kept (Part F))) → All (HoldsRows files_of schema) parts → (rows : List (List Row)) × PartsHold files_of schema parts rows
@@ -35,11 +34,18 @@ all_hold files_of schema (part ∷ parts) held =
     let rest = all_hold files_of schema parts (All-tail (HoldsRows files_of schema) part parts held) in
     (first.0 ∷ rest.0, (first.1, rest.1))
 
+-- and where parts hold a list of rows, each holds rows
+pub each_holds : {F : Type 0} (files_of : F → Option Files) (schema : Schema) (parts : List (Kept (Part F))) (rows : List (List Row)) → PartsHold files_of schema parts rows → All (HoldsRows files_of schema) parts
+each_holds files_of schema [] [] hold = All-nil (HoldsRows files_of schema)
+each_holds files_of schema [] (r ∷ rows) hold = absurd hold
+each_holds files_of schema (part ∷ parts) [] hold = absurd hold
+each_holds files_of schema (part ∷ parts) (r ∷ rows) hold = All-cons (HoldsRows files_of schema) part parts (r, hold.0) (each_holds files_of schema parts rows hold.1)
+
 -- a part that is damaged where a plan has it read
 pub tells_of_damage : {F : Type 0} (files_of : F → Option Files) (snap : Snap (Part F)) (text : SelectText) (reply : List ℕ) (query : Query) (read : Wanted) (parts : List (Kept (Part F))) (chosen : List (List Bool))
     (name : PartName) (file : FileId) (place : ℕ) (wanted found : FileMark) (why : PartFault)
-    → query_of snap.schema.columns text ≡ Ok query → ExplainsMatches files_of parts chosen read (name, why) → why ≡ fault.Damaged file place wanted found
-    → parts ≡ snap.parts.items → chosen ≡ planned snap query.condition → IsAskedOf snap query read → reply ≡ refusal_line (refusal.Damaged text.table (part_text name) (file_name file))
+    → query_of snap.schema.columns text ≡ Ok query → ExplainsRead files_of text.is_final parts chosen read (name, why) → why ≡ fault.Damaged file place wanted found
+    → parts ≡ snap.parts.items → chosen ≡ planned snap text.is_final query.condition → IsAskedOf snap query read → reply ≡ refusal_line (refusal.Damaged text.table (part_text name) (file_name file))
     → TellsOfDamage files_of snap text reply
 tells_of_damage files_of snap text reply query read parts chosen name file place wanted found why asked part why_is parts_are chosen_are read_is is =
     record {
@@ -52,8 +58,8 @@ tells_of_damage files_of snap text reply query read parts chosen name file place
       place = place;
       wanted = wanted;
       found = found;
-      part = subst (λ (ps : List (Kept (Part _))). ExplainsMatches files_of ps (planned snap query.condition) read (name, fault.Damaged file place wanted found)) parts_are
-          (subst (λ (cs : List (List Bool)). ExplainsMatches files_of parts cs read (name, fault.Damaged file place wanted found)) chosen_are
-          (subst (λ (w : PartFault). ExplainsMatches files_of parts chosen read (name, w)) why_is part));
+      part = subst (λ (ps : List (Kept (Part _))). ExplainsRead files_of text.is_final ps (planned snap text.is_final query.condition) read (name, fault.Damaged file place wanted found)) parts_are
+          (subst (λ (cs : List (List Bool)). ExplainsRead files_of text.is_final parts cs read (name, fault.Damaged file place wanted found)) chosen_are
+          (subst (λ (w : PartFault). ExplainsRead files_of text.is_final parts chosen read (name, w)) why_is part));
       reply_is = is;
     }

@@ -1,5 +1,5 @@
 -- From the plan of a table's parts to the answer of an EXPLAIN.
-use Rattle.std.proofs.Common.{◌≡◌, ℕ, ◌+◌, Bool, cond, List, [], ◌∷◌, length, map, refl, sym, ap, ap₂, ◌∙◌, Option, Some, Ok}
+use Rattle.std.proofs.Common.{◌≡◌, ℕ, ◌+◌, Bool, true, false, cond, List, [], ◌∷◌, length, map, refl, sym, ap, ap₂, ◌∙◌, Option, Some, Ok}
 use Rattle.std.specs.List.{count_by, list_any, sum_by}
 use Rattle.std.proofs.lemmas.List.{length-map}
 use Rattle.std.proofs.lemmas.List.Sums.{sum_by-cons}
@@ -17,10 +17,11 @@ use Rattle.mt_model.specs.Queries.{query_of}
 use Rattle.part_history.specs.Parts.{portion_of}
 use Rattle.part_reader.specs.declared.reading.Part.{Part}
 use Rattle.part_set.specs.declared.kept.Kept.{Kept}
-use Rattle.root_store.specs.Stores.{core_parts}
-use Rattle.select_plan.specs.Plans.{counts_over, planned_part}
+use Rattle.part_writer.specs.PartFiles.{loaded_of}
+use Rattle.root_store.specs.Stores.{core_part, core_parts}
+use Rattle.select_plan.specs.Plans.{counts_over, read_of}
 use Rattle.final_fold.specs.Scans.{PartsHold}
-use Rattle.session.proofs.Planned.{planned_is}
+use Rattle.session.proofs.Planned.{marked_is, planned_is}
 
 -- a sum over what becomes of each item is a sum over the items
 sum_map : {X Y : Type 0} (f : Y → ℕ) (g : X → Y) (xs : List X) → sum_by f (map g xs) ≡ sum_by (λ x. f (g x)) xs
@@ -34,32 +35,38 @@ same : (a b c d e f g h : ℕ) → a ≡ b → c ≡ d → e ≡ f → g ≡ h �
 same a b c d e f g h p q r s = cc
 
 -- the counts of portions are those of their granules
-pub counts_are : (schema : Schema) (c : Condition Test) (ps : List Portion) → counts_over (map (chosen_granules schema c) ps) ≡ counts_of schema c ps
-counts_are schema c ps =
-    let parts = map (chosen_granules schema c) ps in
-    same (count_by (list_any (λ b. b)) parts) (count_by (is_chosen schema c) ps) (length parts) (length ps)
-    (sum_by (count_by (λ b. b)) parts) (sum_by (λ p. count_by (λ b. b) (chosen_granules schema c p)) ps)
-    (sum_by length parts) (sum_by (λ p. length (chosen_granules schema c p)) ps)
-    (sum_map (λ (b : List Bool). cond (list_any (λ x. x) b) 1 0) (chosen_granules schema c) ps)
-    (length-map ps (chosen_granules schema c))
-    (sum_map (count_by (λ b. b)) (chosen_granules schema c) ps)
-    (sum_map length (chosen_granules schema c) ps)
+pub counts_are : (schema : Schema) (is_final : Bool) (c : Condition Test) (ps : List Portion) → counts_over (map (chosen_granules schema is_final c) ps) ≡ counts_of schema is_final c ps
+counts_are schema is_final c ps =
+    let chosen = chosen_granules schema is_final c in
+    let parts = map chosen ps in
+    same (count_by (list_any (λ b. b)) parts) (count_by (is_chosen schema is_final c) ps) (length parts) (length ps)
+    (sum_by (count_by (λ b. b)) parts) (sum_by (λ p. count_by (λ b. b) (chosen p)) ps)
+    (sum_by length parts) (sum_by (λ p. length (chosen p)) ps)
+    (sum_map (λ (b : List Bool). cond (list_any (λ x. x) b) 1 0) chosen ps)
+    (length-map ps chosen)
+    (sum_map (count_by (λ b. b)) chosen ps)
+    (sum_map length chosen ps)
 
 module _ {F : Type 0} (files_of : F → Option Files) (schema : Schema) (c : Condition Test) (table : List ℕ) where
+  -- of a part, with FINAL or without it
+  read_is : (is_final : Bool) (k : Kept (Part F)) (r : List Row) → k.part.loaded ≡ loaded_of schema r → read_of schema is_final c k ≡ chosen_granules schema is_final c (portion_of (core_part table k r))
+  read_is true k r loaded = marked_is schema c r k loaded
+  read_is false k r loaded = planned_is schema c r k loaded
+
   -- the plan of parts that hold rows chooses the granules of these rows
-  pub plan_is : (kept : List (Kept (Part F))) (rows : List (List Row)) → PartsHold files_of schema kept rows
-      → map (planned_part schema c) kept ≡ map (chosen_granules schema c) (map portion_of (core_parts table kept rows))
-  plan_is [] [] h = refl
-  plan_is [] (r ∷ rows) h = absurd h
-  plan_is (k ∷ kept) [] h = absurd h
-  plan_is (k ∷ kept) (r ∷ rows) h =
+  pub plan_is : (is_final : Bool) (kept : List (Kept (Part F))) (rows : List (List Row)) → PartsHold files_of schema kept rows
+      → map (read_of schema is_final c) kept ≡ map (chosen_granules schema is_final c) (map portion_of (core_parts table kept rows))
+  plan_is is_final [] [] h = refl
+  plan_is is_final [] (r ∷ rows) h = absurd h
+  plan_is is_final (k ∷ kept) [] h = absurd h
+  plan_is is_final (k ∷ kept) (r ∷ rows) h =
       ap₂ (λ (b : List Bool) (bs : List (List Bool)). b ∷ bs)
-      (planned_is schema c r k h.0.loaded_is)
-      (plan_is kept rows h.1)
+      (read_is is_final k r h.0.loaded_is)
+      (plan_is is_final kept rows h.1)
 
 -- an EXPLAIN's answer, from the portions of its table
 pub explains : (h : History) (s : SelectText) (schema : Schema) (q : Query) (ps : List Portion) (n : Counts) (place : ℕ) (reply : List ℕ)
-    → schema_of s.table h ≡ Some schema → query_of schema.columns s ≡ Ok q → PortionsStand h s.table schema ps → n ≡ counts_of schema q.condition ps
+    → schema_of s.table h ≡ Some schema → query_of schema.columns s ≡ Ok q → PortionsStand h s.table schema ps → n ≡ counts_of schema s.is_final q.condition ps
     → reply ≡ explain_line n place → Explains h s place reply
 explains h s schema q ps n place reply there asked stand counted is =
     record { schema = schema; there = there; query = q; asked = asked; portions = ps; stand = stand; reply_is = is ∙ ap (λ (m : Counts). explain_line m place) counted }

@@ -24,6 +24,7 @@ module _ {F : Type 0} (was now : Opened F) (b : IsAsBefore was now) (goes : Goes
   adds_as_before = record {
     goes_on = goes;
     tables = b.same.tables;
+    mutations_are = b.same.mutations_are;
     length_is = b.same.length_is;
     annals = ap (λ (s : Storage). s.annals) b.storage_is;
     parts = parts_same was.store now.store goes.left.sound b.same;

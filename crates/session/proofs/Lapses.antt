@@ -30,6 +30,7 @@ pub adds_none : {F : Type 0} (here : Opened F) → IsOpen here → AddsNoCommand
 adds_none here ready = record {
   goes_on = stays_open here ready;
   tables = refl;
+  mutations_are = refl;
   length_is = refl;
   annals = refl;
   parts = parts_stay here.store;
@@ -92,6 +93,7 @@ pub adds_then : {F : Type 0} (a b c : Opened F) → AddsNoCommand a b → AddsNo
 adds_then a b c first next = record {
   goes_on = on_and_on a b c first.goes_on next.goes_on;
   tables = next.tables ∙ first.tables;
+  mutations_are = next.mutations_are ∙ first.mutations_are;
   length_is = next.length_is ∙ first.length_is;
   annals = next.annals ∙ first.annals;
   parts = parts_then a.store b.store c.store first.parts next.parts;

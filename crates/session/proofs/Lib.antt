@@ -4,6 +4,7 @@ pub mod Beside
 pub mod Creating
 pub mod Damaged
 pub mod Explaining
+pub mod FinalReads
 pub mod Gaining
 pub mod GivenUp
 pub mod Inserting
@@ -21,6 +22,7 @@ pub mod PutEnds
 pub mod Putting
 pub mod Running
 pub mod SealedParts
+pub mod Seeing
 pub mod SelectAnswers
 pub mod SelectStanding
 pub mod Selecting

@@ -24,28 +24,30 @@ use Rattle.part_writer.specs.PartFiles.{loaded_of}
 use Rattle.predicate.specs.Granules.{asked_in}
 use Rattle.predicate.specs.Masks.{both}
 use Rattle.primary_marks.specs.Choosing.{ArePartOf}
-use Rattle.primary_marks.proofs.SkippedGranules.{asked_count, sure_meet}
+use Rattle.primary_marks.proofs.SkippedGranules.{asked_count, chosen_count, sure_meet}
 use Rattle.root_store.proofs.TableIndexes.{has_indexes}
 use Rattle.root_store.proofs.TableMarks.{has_marks}
 use Rattle.root_store.specs.Stores.{core_parts}
-use Rattle.select_plan.specs.Plans.{asked_of, asked_part, planned_part}
+use Rattle.select_plan.specs.Plans.{asked_of, asked_part, planned_part, read_of}
+use Rattle.row_merge.proofs.HistoryRows.{same_schema}
 use Rattle.final_fold.specs.Asked.{MeetUnasked, unasked_of}
 use Rattle.final_fold.proofs.Joining.{all_parts}
 use Rattle.final_fold.specs.Scans.{PartsHold}
-use Rattle.session.proofs.Planned.{planned_is, rows_count, rows_hold}
-
-same_schema : (a b : Schema) → Some a ≡ Some b → a ≡ b
-same_schema a b is = cc
+use Rattle.session.proofs.Planned.{marked_is, planned_is, rows_count, rows_hold}
 
 module _ {F : Type 0} (files_of : F → Option Files) (schema : Schema) (c : Condition Test) where
-  -- a plan says of each granule of parts that hold rows whether it is chosen
-  pub plans_count : (kept : List (Kept (Part F))) (rows : List (List Row)) → 0 < schema.granularity → PartsHold files_of schema kept rows
-      → AllZip (λ (b : List Bool) (r : List Row). length b ≡ granules schema.granularity (length r)) (map (planned_part schema c) kept) rows
-  plans_count [] [] some h = tt
-  plans_count [] (r ∷ rows) some h = absurd h
-  plans_count (k ∷ kept) [] some h = absurd h
-  plans_count (k ∷ kept) (r ∷ rows) some h =
-      (ap length (planned_is schema c r k h.0.loaded_is) ∙ rows_count schema c r k.name.partition some, plans_count kept rows some h.1)
+  -- a plan says of each granule of a part that holds rows whether it is chosen
+  reads_count_of : (is_final : Bool) (k : Kept (Part F)) (r : List Row) → 0 < schema.granularity → k.part.loaded ≡ loaded_of schema r → length (read_of schema is_final c k) ≡ granules schema.granularity (length r)
+  reads_count_of true k r some loaded = ap length (marked_is schema c r k loaded) ∙ chosen_count schema k.name.partition c schema.primary schema.granularity r some
+  reads_count_of false k r some loaded = ap length (planned_is schema c r k loaded) ∙ rows_count schema c r k.name.partition some
+
+  -- and of each part
+  pub reads_count : (is_final : Bool) (kept : List (Kept (Part F))) (rows : List (List Row)) → 0 < schema.granularity → PartsHold files_of schema kept rows
+      → AllZip (λ (b : List Bool) (r : List Row). length b ≡ granules schema.granularity (length r)) (map (read_of schema is_final c) kept) rows
+  reads_count is_final [] [] some h = tt
+  reads_count is_final [] (r ∷ rows) some h = absurd h
+  reads_count is_final (k ∷ kept) [] some h = absurd h
+  reads_count is_final (k ∷ kept) (r ∷ rows) some h = (reads_count_of is_final k r some h.0.loaded_is, reads_count is_final kept rows some h.1)
 
   module _ (h : History) (table : List ℕ) (fits : IsTableSchema schema) (there : schema_of table h ≡ Some schema)
       (below : All (λ (t : Test). t.column < length schema.columns) (tests_of c)) where
@@ -120,7 +122,7 @@ module _ {F : Type 0} (files_of : F → Option Files) (schema : Schema) (c : Con
     (below : All (λ (t : Test). t.column < length schema.columns) (tests_of c)) where
   -- of a part
   part_sure : (k : Kept (Part F)) (r : List Row) → k.part.loaded ≡ loaded_of schema r → ArePartOf schema k.name.partition r
-      → MeetUnasked schema.granularity (planned_part schema c k) (conjuncts_of c) (asked_part schema c k) r
+      → MeetUnasked schema.granularity (planned_part schema c k) (conjuncts_of c) (asked_part schema false c k) r
   part_sure k r loaded part =
       let marks : k.part.loaded.marks ≡ mark_keys schema.primary schema.granularity r = ap (λ (l : Loaded). l.marks) loaded in
       let some = (has_marks schema fits).granularity in
@@ -135,7 +137,7 @@ module _ {F : Type 0} (files_of : F → Option Files) (schema : Schema) (c : Con
   zip_sure : (kept : List (Kept (Part F))) (rows : List (List Row)) → PartsHold files_of schema kept rows
       → AllByRecursion (λ (p : CorePart). p.table ≡ table) (core_parts table kept rows)
       → AllByRecursion (PartStands h) (core_parts table kept rows) → AllByRecursion (λ (p : CorePart). All (λ (r : Row). partition_of schema r ≡ p.name.partition) p.rows) (core_parts table kept rows)
-      → AllZip (λ (p : List Bool × List (List Bool)) (r : List Row). MeetUnasked schema.granularity p.0 (conjuncts_of c) p.1 r) (pairs (map (planned_part schema c) kept) (map (asked_part schema c) kept)) rows
+      → AllZip (λ (p : List Bool × List (List Bool)) (r : List Row). MeetUnasked schema.granularity p.0 (conjuncts_of c) p.1 r) (pairs (map (planned_part schema c) kept) (map (asked_part schema false c) kept)) rows
   zip_sure [] [] hold tables stands own = tt
   zip_sure [] (r ∷ rows) hold tables stands own = absurd hold
   zip_sure (k ∷ kept) [] hold tables stands own = absurd hold
@@ -152,7 +154,7 @@ module _ {F : Type 0} (files_of : F → Option Files) (schema : Schema) (c : Con
 
   -- of parts that stand for a table each row of a chosen granule in which the plan does not ask a conjunct meets it
   pub plans_sure : (kept : List (Kept (Part F))) (rows : List (List Row)) → IsLegal h → PartsHold files_of schema kept rows → TableStands table (core_parts table kept rows) h
-      → AllZip (λ (p : List Bool × List (List Bool)) (r : List Row). MeetUnasked schema.granularity p.0 (conjuncts_of c) p.1 r) (pairs (map (planned_part schema c) kept) (map (asked_part schema c) kept)) rows
+      → AllZip (λ (p : List Bool × List (List Bool)) (r : List Row). MeetUnasked schema.granularity p.0 (conjuncts_of c) p.1 r) (pairs (map (planned_part schema c) kept) (map (asked_part schema false c) kept)) rows
   plans_sure kept rows legal hold stand =
       let ps = core_parts table kept rows in
       zip_sure kept rows hold (recursion_from_All (λ (p : CorePart). p.table ≡ table) ps stand.own) (recursion_from_All (PartStands h) ps stand.each)

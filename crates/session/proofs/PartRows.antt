@@ -1,27 +1,13 @@
 -- The rows of parts that are merged: rows of the table, of one partition, in the table's order.
-use Rattle.std.proofs.Common.{◌≡◌, ℕ, ◌+◌, ◌&&◌, Bool, true, false, List, [], ◌∷◌, ◌++◌, flat_map, get_or, refl, sym, ap, ◌∙◌, subst, Option, Some}
-use Rattle.std.specs.List.{All, AllByRecursion, AllZip}
-use Rattle.std.specs.List.Sorted.{IsSorted}
-use Rattle.std.proofs.lemmas.List.Concat.{flat_map-cons}
-use Rattle.std.proofs.lemmas.List.Elements.{All-append, All-cons, All-head, All-nil, All-tail}
-use Rattle.std.proofs.lemmas.List.Sorted.{All-permutation}
+use Rattle.std.proofs.Common.{◌≡◌, ℕ, List, [], ◌∷◌, ◌++◌, get_or, refl, ap, ◌∙◌, subst, Option, Some}
+use Rattle.std.specs.List.{All, AllZip}
+use Rattle.std.proofs.lemmas.List.Elements.{All-cons, All-head, All-nil, All-tail}
 use Rattle.mt_base.specs.declared.partition.Partition.{Partition}
-use Rattle.mt_values.specs.declared.command.Command.{Command}
-use Rattle.mt_values.specs.declared.command.Command.TheVariants as command
-use Rattle.mt_values.specs.declared.command.Insert.{Insert}
 use Rattle.mt_values.specs.declared.schema.Schema.{Schema}
-use Rattle.mt_values.specs.Tables.{partition_of, same_partition, sorting_cmp}
 use Rattle.mt_values.specs.Values.{Row}
-use Rattle.mt_values.proofs.RowPartitions.{values_fit}
 use Rattle.mt_outside.specs.Files.{Files}
-use Rattle.mt_model.specs.History.{History, IsInsertInto, IsLegal, schema_of}
-use Rattle.mt_model.specs.Live.{live, sorted}
-use Rattle.mt_model.specs.Numbers.{lies_within, within}
-use Rattle.mt_model.proofs.Determined.{sorting_total}
-use Rattle.mt_model.proofs.Sorting.{sorted_permutes}
+use Rattle.mt_model.specs.History.{History, schema_of}
 use Rattle.part_history.specs.declared.part.CorePart.{CorePart}
-use Rattle.part_history.specs.Parts.{PartStands}
-use Rattle.part_history.proofs.Numbered.{IsInto, all_into, kept, kept_if, live_within, sorted_by}
 use Rattle.part_history.proofs.OwnRows.{own_rows}
 use Rattle.part_reader.specs.declared.reading.Part.{Part}
 use Rattle.part_reader.specs.Parts.{PartHolds}
@@ -31,55 +17,9 @@ use Rattle.root_store.specs.declared.store.CoreStore.{CoreStore}
 use Rattle.root_store.specs.declared.store.Table.{Table}
 use Rattle.root_store.specs.Stores.{CoreStands, core_part, core_parts, table_at}
 use Rattle.root_store.proofs.Cores.{one_list}
-use Rattle.rule_law.specs.TableRows.{IsTableRow}
-use Rattle.rule_law.proofs.PartlyRows.{partly_table}
 use Rattle.row_merge.specs.Merged.{ArePartRows}
+use Rattle.row_merge.proofs.HistoryRows.{are_part_rows}
 use Rattle.session.proofs.Standing.{table_schema}
-
--- ---- live rows
-
-module _ (schema : Schema) where
-  -- an INSERT adds rows of the table
-  insert_rows : (i : Insert) → IsInsertInto schema i → All (IsTableRow schema) (sorted (sorting_cmp schema) i.block.rows)
-  insert_rows i into =
-      let rows = i.block.rows in
-      All-permutation (IsTableRow schema) rows (sorted (sorting_cmp schema) rows) (sorted_permutes (sorting_cmp schema) (sorting_total schema) rows)
-      (λ k d below. record { typed = into.rows k d below; fits = values_fit (get_or rows k d) (into.values k d below); signed = into.signed k d below })
-
-  kept_rows : (p : Partition) (a b n : ℕ) (cs : List Command) → AllByRecursion (IsInto schema) cs → All (IsTableRow schema) (flat_map (sorted_by schema) (kept p a b n cs))
-  kept_rows p a b n [] all = All-nil (IsTableRow schema)
-  kept_rows p a b n (command.Create c ∷ cs) all = absurd all.0
-  kept_rows p a b n (command.Insert i ∷ cs) all = by (same_partition i.partition p) (lies_within a b n) (kept_rows p a b (n + 1) cs all.1)
-    where
-      by : (x y : Bool) → All (IsTableRow schema) (flat_map (sorted_by schema) (kept p a b (n + 1) cs))
-          → All (IsTableRow schema) (flat_map (sorted_by schema) (kept_if (x && y) (command.Insert i) (kept p a b (n + 1) cs)))
-      by true true more =
-          subst (All (IsTableRow schema)) (sym (flat_map-cons (sorted_by schema) (command.Insert i) (kept p a b (n + 1) cs)))
-          (All-append (IsTableRow schema) (sorted (sorting_cmp schema) i.block.rows) (flat_map (sorted_by schema) (kept p a b (n + 1) cs)) (insert_rows i all.0) more)
-      by true false more = more
-      by false y more = more
-
-module _ (h : History) (legal : IsLegal h) where
-  live_rows : (table : List ℕ) (schema : Schema) (p : Partition) (a b : ℕ) → schema_of table h ≡ Some schema → All (IsTableRow schema) (live table schema (within table p a b h))
-  live_rows table schema p a b there = subst (All (IsTableRow schema)) (sym (live_within table schema p a b h)) (kept_rows schema p a b 1 _ (all_into table h schema legal there))
-
-  -- the rows of a part that stands for the history
-  part_rows : (part : CorePart) (s : PartStands h part) → All (IsTableRow s.schema) part.rows
-  part_rows part s =
-      let name = part.name in
-      partly_table s.schema (live part.table s.schema (within part.table name.partition name.min_block name.max_block h)) part.rows (live_rows part.table s.schema name.partition name.min_block name.max_block s.there) s.partly
-
-  same_schema : (a b : Schema) → Some a ≡ Some b → a ≡ b
-  same_schema a b is = cc
-
-  are_part_rows : (schema : Schema) (part : CorePart) → schema_of part.table h ≡ Some schema → PartStands h part → All (λ (row : Row). partition_of schema row ≡ part.name.partition) part.rows → ArePartRows schema part.name.partition part.rows
-  are_part_rows schema part there s parted =
-      let same : s.schema ≡ schema = same_schema s.schema schema (sym s.there ∙ there) in
-      record {
-        own = subst (λ (x : Schema). All (IsTableRow x) part.rows) same (part_rows part s);
-        parted = parted;
-        rising = subst (λ (x : Schema). IsSorted (sorting_cmp x) part.rows) same s.rising;
-      }
 
 -- ---- lists, place by place
 

@@ -100,6 +100,7 @@ module _ {F : Type 0} (files_of : F → Option Files) (was mid new : Opened F) (
         record {
           goes_on = went_on;
           tables = same.tables;
+          mutations_are = same.mutations_are;
           length_is = same.length_is;
           annals = annals_was;
           parts = parts_same was.store new.store goes.left.sound same;
@@ -161,6 +162,7 @@ module _ {F : Type 0} (files_of : F → Option Files) (was mid new : Opened F) (
       adds_done free calm = record {
         goes_on = went_on;
         tables = ap (λ (b : BTreeMap (List ℕ) Table). b.entries) e.tables_are ∙ t.takes.marks.tables;
+        mutations_are = e.mutations_are ∙ t.takes.marks.mutations_are;
         length_is = e.length_is ∙ t.takes.marks.length_is;
         annals = annals_was;
         parts = record { free = free; levels = keeps_by was.store new.store goes.left.sound greatest_stays };

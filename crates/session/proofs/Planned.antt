@@ -1,5 +1,5 @@
 -- What a plan chooses of a part that holds rows is what these rows choose, and so it skips no row that meets the condition.
-use Rattle.std.proofs.Common.{◌≡◌, ℕ, zero, suc, ◌+◌, ◌*◌, ◌/◌, ◌<◌, ◌≤◌, ◌⊎◌, inl, inr, Bool, false, List, [], ◌∷◌, All, Option, Some, None, slice_get, get_or, drop, length, map, take, refl, sym, ap, ap₂, ◌∙◌, subst, arith, add-one, mul_comm}
+use Rattle.std.proofs.Common.{◌≡◌, ℕ, zero, suc, ◌+◌, ◌*◌, ◌/◌, ◌<◌, ◌≤◌, ◌⊎◌, inl, inr, Bool, true, false, List, [], ◌∷◌, All, Option, Some, None, slice_get, get_or, drop, length, map, take, refl, sym, ap, ap₂, ◌∙◌, subst, arith, add-one, mul_comm}
 use Rattle.std.specs.List.{filter, fold, range_with_len}
 use Rattle.std.proofs.lemmas.Grind.{div_ceil_times}
 use Rattle.std.proofs.lemmas.List.{get_or_past}
@@ -29,7 +29,7 @@ use Rattle.predicate.specs.declared.extent.Known.TheVariants as known
 use Rattle.primary_marks.specs.Choosing.{ArePartOf}
 use Rattle.primary_marks.specs.Keys.{HasMarks}
 use Rattle.primary_marks.proofs.SkippedGranules.{chosen_count, chosen_pass, skipped_empty}
-use Rattle.select_plan.specs.Plans.{planned_part}
+use Rattle.select_plan.specs.Plans.{planned_part, read_of}
 use Rattle.skip_index.specs.declared.index.Index.{Index}
 use Rattle.skip_index.specs.Blocks.{index_at, index_of, no_index}
 use Rattle.skip_index.specs.Choosing.{chosen_by, is_unknown, known_by}
@@ -78,6 +78,10 @@ module _ (schema : Schema) (c : Condition Test) (r : List Row) where
   planned_is k is =
       ap (λ (l : Loaded). fold both (chosen_in schema k.name.partition c l.marks) (map (λ (index : Index). chosen_by index c []) l.indexes)) is
       ∙ ap (fold both (chosen_in schema k.name.partition c (mark_keys schema.primary schema.granularity r))) answers_are
+
+  -- and with FINAL what their marks choose
+  pub marked_is : {F : Type 0} (k : Kept (Part F)) → k.part.loaded ≡ loaded_of schema r → read_of schema true c k ≡ chosen_in schema k.name.partition c (mark_keys schema.primary schema.granularity r)
+  marked_is k is = ap (λ (l : Loaded). chosen_in schema k.name.partition c l.marks) is
 
   -- each granule has an answer
   pub rows_count : (partition : Partition) → 0 < schema.granularity → length (chosen_of_rows schema partition c r) ≡ granules schema.granularity (length r)

@@ -146,6 +146,7 @@ module _ {F : Type 0} (files_of : F → Option Files) (was mid : Opened F) (work
       | inl same ↦ subst (λ (v : List ℕ). parts_of new.set v ≡ parts_of was.store.set v) (same_is work.table u same) here
       | inr differ ↦ m.others u (other u differ) ∙ t.takes.marks.others u (other u differ)
     ];
+    mutations_are = m.mutations_are ∙ t.takes.marks.mutations_are;
     length_is = m.length_is ∙ t.takes.marks.length_is;
     opened_is = m.opened_is ∙ t.takes.marks.opened_is;
   }

@@ -43,6 +43,7 @@ nothing_twice a b c first second = record {
   store_is = record {
     tables = second.store_is.tables ∙ first.store_is.tables;
     parts = λ table. second.store_is.parts table ∙ first.store_is.parts table;
+    mutations_are = second.store_is.mutations_are ∙ first.store_is.mutations_are;
     length_is = second.store_is.length_is ∙ first.store_is.length_is;
     opened_is = second.store_is.opened_is ∙ first.store_is.opened_is;
   };

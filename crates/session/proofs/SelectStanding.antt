@@ -10,7 +10,7 @@ use Rattle.mt_model.specs.Partial.{Partly}
 use Rattle.part_reader.specs.declared.reading.Part.{Part}
 use Rattle.part_set.specs.declared.kept.Kept.{Kept}
 use Rattle.part_set.specs.Sets.{parts_of}
-use Rattle.part_history.specs.Parts.{TableStands, rows_of_parts}
+use Rattle.part_history.specs.Parts.{AreInBlockOrder, TableStands, rows_of_parts}
 use Rattle.part_history.proofs.Joined.{parts_joined}
 use Rattle.root_store.specs.declared.store.CoreStore.{CoreStore}
 use Rattle.root_store.specs.declared.store.Table.{Table}
@@ -31,6 +31,7 @@ pub record Held {F : Type 0} (files_of : F → Option Files) (h : History) (tabl
   pub rows : List (List Row)
   pub hold : PartsHold files_of schema parts rows
   pub stand : TableStands table (core_parts table parts rows) h
+  pub order : AreInBlockOrder (core_parts table parts rows)
   pub partly : Partly schema (live table schema h) (joined_rows rows)
 
 module _ {F : Type 0} (files_of : F → Option Files) (h : History) (store : CoreStore F) (s : CoreStands files_of h store) (table : List ℕ) where
@@ -52,6 +53,7 @@ module _ {F : Type 0} (files_of : F → Option Files) (h : History) (store : Cor
           rows = p.rows;
           hold = p.hold;
           stand = p.stand;
+          order = p.order;
           partly = subst (Partly t.schema (live table t.schema h)) (rows_joined files_of t.schema table (parts_of store.set table) p.rows p.hold)
               (parts_joined h table t.schema s.legal table_schema (core_parts table (parts_of store.set table) p.rows) p.stand p.order);
         }

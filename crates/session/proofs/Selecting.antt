@@ -18,7 +18,7 @@ use Rattle.mt_values.proofs.Grids.{All-range, IsPermutation-picked, length-picke
 use Rattle.mt_model.specs.declared.refusal.Refusal.{Refusal}
 use Rattle.mt_model.specs.History.{History, schema_of}
 use Rattle.mt_model.specs.Live.{sorted, live}
-use Rattle.mt_model.specs.Partial.{Partly}
+use Rattle.mt_model.specs.Final.{Sees}
 use Rattle.mt_model.specs.Answer.{Prints, Answer}
 use Rattle.mt_model.specs.Clauses.{column_place}
 use Rattle.mt_model.specs.declared.query.Query.{Query}
@@ -79,9 +79,9 @@ read_below schema s places own read is chosen same =
 
 -- a SELECT's answer, from the rows of its table
 pub selects : (h : History) (s : SelectText) (schema : Schema) (q : Query) (rows : List Row) (block : Grid) (shown : List ℕ) (place : ℕ) (reply : List ℕ)
-    → take place h ≡ h → schema_of s.table h ≡ Some schema → query_of schema.columns s ≡ Ok q → Partly schema (live s.table schema h) rows
+    → take place h ≡ h → schema_of s.table h ≡ Some schema → query_of schema.columns s ≡ Ok q → Sees schema s.is_final (live s.table schema h) rows
     → map (key_of shown) block.rows ≡ map (key_of q.places) (filter (eval q.condition) rows) → Printed block shown place reply → Selects h s place reply
-selects h s schema q rows block shown place reply all there asked partly rows_are p =
+selects h s schema q rows block shown place reply all there asked seen rows_are p =
     let ordered = map (key_of shown) (picked block.rows p.order) in
     let lines = map line ordered in
     let count : length lines ≡ length block.rows = length-map ordered line ∙ length-map (picked block.rows p.order) (key_of shown) ∙ length-picked shown block.rows p.order p.by in
@@ -91,7 +91,7 @@ selects h s schema q rows block shown place reply all there asked partly rows_ar
       rising = shown_rising shown (picked block.rows p.order) p.by.rising;
       lines_are = refl;
     }) in
-    let answer : Answer h schema s lines = record { query = q; asked = asked; rows = rows; partly = partly; prints = prints } in
+    let answer : Answer h schema s lines = record { query = q; asked = asked; rows = rows; seen = seen; prints = prints } in
     record {
       schema = schema;
       lines = lines;

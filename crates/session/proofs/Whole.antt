@@ -20,8 +20,10 @@ use Rattle.root_store.specs.declared.store.CoreStore.{CoreStore}
 use Rattle.shared_store.specs.declared.work.Work.{Work}
 use Rattle.shared_store.specs.Engines.{Opened}
 use Rattle.merge_select.specs.Whole.{PicksAll}
+use Rattle.mutation_queue.specs.declared.mutations.Mutations.{Mutations}
 use Rattle.mutation_queue.specs.declared.numbered.Mutation.{Mutation}
-use Rattle.session.specs.Merges.{AllAreFinal, AreFinal, ArePartitionsOf, BecameOne, ChangesOwn, IsFinal, KeepsBeside, parts_at, partitions_in}
+use Rattle.mutation_queue.specs.Queue.{mutations_of}
+use Rattle.session.specs.Merges.{AllAreFinal, AreFinal, ArePartitionsOf, BecameOne, ChangesOwn, IsFinal, IsFinalAt, KeepsBeside, parts_at, partitions_in}
 use Rattle.session.proofs.Lapses.{says_nothing}
 
 module _ {F : Type 0} where
@@ -48,27 +50,27 @@ module _ {F : Type 0} where
 -- ---- one partition
 
 -- no merge is to be done
-pub final_none : {F : Type 0} (was now : Opened F) (table : List ℕ) (p : Partition) (mutations : List Mutation) → now ≡ was → PicksAll mutations (parts_at was.store table p) (Ok None) → IsFinal (parts_at was.store table p) (parts_at now.store table p)
-final_none was now table p mutations same none = inr (ap (λ (o : Opened _). parts_at o.store table p) same, mutations, none)
+pub final_none : {F : Type 0} (was now : Opened F) (table : List ℕ) (p : Partition) → now ≡ was → PicksAll (mutations_of was.store.mutations table) (parts_at was.store table p) (Ok None) → IsFinalAt was.store now.store table p
+final_none was now table p same none = inr (ap (λ (o : Opened _). parts_at o.store table p) same, none)
 
-final_one : {P : Type 0} (was now : List (Kept P)) (result : Result (Option (List ℕ)) NoMemory) → IfOk result (λ found. IfNone found (BecameOne was now)) → IfOk result (λ found. IfNone found (IsFinal was now))
-final_one was now (Ok None) one = inl one
-final_one was now (Ok (Some reply)) one = tt
-final_one was now (Err e) one = tt
+final_one : {P : Type 0} (mutations : List Mutation) (was now : List (Kept P)) (result : Result (Option (List ℕ)) NoMemory) → IfOk result (λ found. IfNone found (BecameOne was now)) → IfOk result (λ found. IfNone found (IsFinal mutations was now))
+final_one mutations was now (Ok None) one = inl one
+final_one mutations was now (Ok (Some reply)) one = tt
+final_one mutations was now (Err e) one = tt
 
 -- it was, of all parts
 pub whole_of : {F : Type 0} (was now : CoreStore F) (work : Work F) (result : Result (Option (List ℕ)) NoMemory) → ChangesOwn was now work result → (table : List ℕ) (p : Partition) → work.table ≡ table → work.partition ≡ p
-    → work.sources.items ≡ parts_at was table p → IfOk result (λ found. IfNone found (IsFinal (parts_at was table p) (parts_at now table p)))
+    → work.sources.items ≡ parts_at was table p → IfOk result (λ found. IfNone found (IsFinalAt was now table p))
 whole_of {F} was now work result c table p table_is partition_is =
-    subst (λ (t : List ℕ). work.sources.items ≡ parts_at was t p → IfOk result (λ found. IfNone found (IsFinal (parts_at was t p) (parts_at now t p)))) table_is
-    (subst (λ (q : Partition). work.sources.items ≡ parts_at was work.table q → IfOk result (λ found. IfNone found (IsFinal (parts_at was work.table q) (parts_at now work.table q)))) partition_is
-    (λ all. final_one (parts_at was work.table work.partition) (parts_at now work.table work.partition) result (c.whole all)))
+    subst (λ (t : List ℕ). work.sources.items ≡ parts_at was t p → IfOk result (λ found. IfNone found (IsFinalAt was now t p))) table_is
+    (subst (λ (q : Partition). work.sources.items ≡ parts_at was work.table q → IfOk result (λ found. IfNone found (IsFinalAt was now work.table q))) partition_is
+    (λ all. final_one (mutations_of was.mutations work.table) (parts_at was work.table work.partition) (parts_at now work.table work.partition) result (c.whole all)))
 
 -- ---- one partition after another
 
 module _ {F : Type 0} (was mid now : CoreStore F) (table : List ℕ) (partitions : List Partition) (i : ℕ) (here : Partition) where
   module _ (inside : i < length partitions) (is : here ≡ get_or partitions i here) (ascend : AllPairs (λ a b. partition_rank a < partition_rank b) partitions)
-      (so : AreFinal was mid table (take i partitions)) (beside : KeepsBeside (λ t p. (t ≡ table) × (p ≡ here)) mid now) where
+      (so : AreFinal was mid table (take i partitions)) (beside : KeepsBeside (λ t p. (t ≡ table) × (p ≡ here)) mid now) (mutations_are : mid.mutations ≡ was.mutations) where
     more : take (i + 1) partitions ≡ take i partitions ++ here ∷ []
     more = take_more partitions i here inside ∙ ap (λ (p : Partition). take i partitions ++ p ∷ []) (sym is)
 
@@ -87,7 +89,7 @@ module _ {F : Type 0} (was mid now : CoreStore F) (table : List ℕ) (partitions
     stays_before = so.beside table here (λ w. fresh w.1)
 
     -- and now it had
-    pub done_more : IsFinal (parts_at mid table here) (parts_at now table here) → AreFinal was now table (take (i + 1) partitions)
+    pub done_more : IsFinalAt mid now table here → AreFinal was now table (take (i + 1) partitions)
     done_more final = record {
       each = λ p has. by p (Contains-push_cases (take i partitions) here p (subst (λ (ps : List Partition). HasItem ps p) more has));
       beside = λ t p other.
@@ -95,20 +97,21 @@ module _ {F : Type 0} (was mid now : CoreStore F) (table : List ℕ) (partitions
           ∙ so.beside t p (λ w. other (w.0, subst (λ (ps : List Partition). HasItem ps p) (sym more) (Contains-append_left (take i partitions) (here ∷ []) p w.1)));
     }
       where
-        by : (p : Partition) → HasItem (take i partitions) p ⊎ (here ≡ p) → IsFinal (parts_at was table p) (parts_at now table p)
+        by : (p : Partition) → HasItem (take i partitions) p ⊎ (here ≡ p) → IsFinalAt was now table p
         by p (inl old) =
             let apart : p ≢ here = λ same. fresh (subst (λ (q : Partition). HasItem (take i partitions) q) same old) in
-            subst (λ (ks : List (Kept (Part F))). IsFinal (parts_at was table p) ks) (sym (beside table p (λ w. apart w.1))) (so.each p old)
+            subst (λ (ks : List (Kept (Part F))). IsFinal (mutations_of was.mutations table) (parts_at was table p) ks) (sym (beside table p (λ w. apart w.1))) (so.each p old)
         by p (inr same) =
-            subst (λ (q : Partition). IsFinal (parts_at was table q) (parts_at now table q)) same
-            (subst (λ (ks : List (Kept (Part F))). IsFinal ks (parts_at now table here)) stays_before final)
+            subst (λ (q : Partition). IsFinalAt was now table q) same
+            (subst (λ (ms : Mutations). IsFinal (mutations_of ms table) (parts_at was table here) (parts_at now table here)) mutations_are
+            (subst (λ (ks : List (Kept (Part F))). IsFinal (mutations_of mid.mutations table) ks (parts_at now table here)) stays_before final))
 
 -- the next partition of the list, at its place
 pub done_at : {F : Type 0} (was mid now : CoreStore F) (table : List ℕ) (partitions : List Partition) (i : ℕ) (d : Partition) → i < length partitions → AllPairs (λ a b. partition_rank a < partition_rank b) partitions
-    → AreFinal was mid table (take i partitions) → KeepsBeside (λ t p. (t ≡ table) × (p ≡ get_or partitions i d)) mid now → IsFinal (parts_at mid table (get_or partitions i d)) (parts_at now table (get_or partitions i d))
+    → AreFinal was mid table (take i partitions) → KeepsBeside (λ t p. (t ≡ table) × (p ≡ get_or partitions i d)) mid now → mid.mutations ≡ was.mutations → IsFinalAt mid now table (get_or partitions i d)
     → AreFinal was now table (take (i + 1) partitions)
-done_at was mid now table partitions i d inside ascend so beside final =
-    done_more was mid now table partitions i (get_or partitions i d) inside (get_or_default partitions i d (get_or partitions i d) inside) ascend so beside final
+done_at was mid now table partitions i d inside ascend so beside mutations_are final =
+    done_more was mid now table partitions i (get_or partitions i d) inside (get_or_default partitions i d (get_or partitions i d) inside) ascend so beside mutations_are final
 
 -- a merge of one of the table's partitions changes no other table
 pub beside_table : {F : Type 0} (was mid now : CoreStore F) (table : List ℕ) (here : Partition) → KeepsBeside (λ t _. t ≡ table) was mid → KeepsBeside (λ t p. (t ≡ table) × (p ≡ here)) mid now → KeepsBeside (λ t _. t ≡ table) was now
@@ -138,13 +141,13 @@ module _ {F : Type 0} (was now : CoreStore F) (table : List ℕ) (partitions : L
       omega (arith, inside.1)
 
   -- each partition of the table is done
-  pub all_done : (p : Partition) → IsFinal (parts_at was table p) (parts_at now table p)
+  pub all_done : (p : Partition) → IsFinalAt was now table p
   all_done p = by (parts_at was table p) refl
     where
-      by : (ks : List (Kept (Part F))) → parts_at was table p ≡ ks → IsFinal (parts_at was table p) (parts_at now table p)
+      by : (ks : List (Kept (Part F))) → parts_at was table p ≡ ks → IsFinalAt was now table p
       by [] none =
           let absent = λ (w : (table ≡ table) × HasItem partitions p). (let some = named_in p w.1 in let long : length (parts_at was table p) ≡ 0 = ap (λ (ks : List (Kept (Part F))). length ks) none in absurd (omega (arith, some, long))) in
-          inr (done.beside table p absent, [], inl none)
+          inr (done.beside table p absent, inl none)
       by (k ∷ ks) some =
           let first : HasItem (parts_at was table p) k = subst (λ (ls : List (Kept (Part F))). HasItem ls k) (sym some) (item_first k ks) in
           let there = map_item (λ (l : Kept (Part F)). l.name.partition) parts k (mine_within p parts k first) in

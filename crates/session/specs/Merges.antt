@@ -22,6 +22,7 @@ use Rattle.part_set.specs.Parts.{IsInBlockOrder, kept_in, partition_rank}
 use Rattle.part_set.specs.Sets.{parts_of}
 use Rattle.merge_select.specs.Whole.{PicksAll}
 use Rattle.mutation_queue.specs.declared.numbered.Mutation.{Mutation}
+use Rattle.mutation_queue.specs.Queue.{mutations_of}
 use Rattle.part_reader.specs.declared.reading.Part.{Part}
 use Rattle.root_commits.specs.Merges.{name_of_merge}
 use Rattle.root_store.specs.declared.store.CoreStore.{CoreStore}
@@ -64,10 +65,15 @@ pub record BecameOne {P : Type 0} (was now : List (Kept P)) : Type 0 where
   pub name_is : name_of_merge was ≡ Some kept.name
   pub now_is : now ≡ kept ∷ []
 
--- FINAL is done with a partition: its parts became one; or they stay, since there is none, or mutations kept two neighbours apart (docs/engines.md,
--- "Which parts are merged"; ClickHouse, OPTIMIZE)
-abbrev pub IsFinal : {P : Type 0} → List (Kept P) → List (Kept P) → Type 0
-IsFinal was now = BecameOne was now ⊎ ((now ≡ was) × (mutations : List Mutation) × PicksAll mutations was (Ok None))
+-- FINAL is done with a partition: its parts became one; or they stay, since there is none, or the table's mutations keep two neighbours apart
+-- (docs/engines.md, "Which parts are merged"; ClickHouse, OPTIMIZE)
+abbrev pub IsFinal : {P : Type 0} → List Mutation → List (Kept P) → List (Kept P) → Type 0
+IsFinal mutations was now = BecameOne was now ⊎ ((now ≡ was) × PicksAll mutations was (Ok None))
+
+-- FINAL is done with a partition of a table: its parts then and now, and the mutations that were accepted of the table (docs/engines.md, "Which parts
+-- are merged")
+abbrev pub IsFinalAt : {F : Type 0} → CoreStore F → CoreStore F → List ℕ → Partition → Type 0
+IsFinalAt was now table p = IsFinal (mutations_of was.mutations table) (parts_at was table p) (parts_at now table p)
 
 -- a merge of a work's parts changes no other partition; where these are all parts of theirs, and were merged, they became one (docs/engines.md, "Merges")
 pub record ChangesOwn {F : Type 0} (was now : CoreStore F) (work : Work F) (result : Result (Option (List ℕ)) NoMemory) : Type 0 where
@@ -76,7 +82,7 @@ pub record ChangesOwn {F : Type 0} (was now : CoreStore F) (work : Work F) (resu
 
 -- after the merges of partitions of a table: FINAL is done with each of them, and no other partition has changed (docs/engines.md, "Which parts are merged")
 pub record AreFinal {F : Type 0} (was now : CoreStore F) (table : List ℕ) (partitions : List Partition) : Type 0 where
-  pub each : (p : Partition) → HasItem partitions p → IsFinal (parts_at was table p) (parts_at now table p)
+  pub each : (p : Partition) → HasItem partitions p → IsFinalAt was now table p
   pub beside : KeepsBeside (λ t p. (t ≡ table) × HasItem partitions p) was now
 
 -- the partitions that an OPTIMIZE names: of its table the one of its id, or each (ClickHouse, OPTIMIZE)
@@ -85,7 +91,7 @@ IsNamed text table partition = (table ≡ text.table) × IfSome text.partition (
 
 -- FINAL is done with each partition that an OPTIMIZE names (ClickHouse, OPTIMIZE)
 abbrev pub AllAreFinal : {F : Type 0} → OptimizeText → CoreStore F → CoreStore F → Type 0
-AllAreFinal text was now = (p : Partition) → IsNamed text text.table p → IsFinal (parts_at was text.table p) (parts_at now text.table p)
+AllAreFinal text was now = (p : Partition) → IsNamed text text.table p → IsFinalAt was now text.table p
 
 -- the reply says why a statement was refused (docs/replies.md, "Refusals")
 abbrev pub IsRefusal : List ℕ → Type 0
@@ -102,11 +108,12 @@ pub record Lapse (F : Type 0) : Type 0 where
   pub arm_was : ℕ
   pub arm : ℕ
 
--- Nothing was accepted, and nothing was begun: the tables and the length of the history stay, the annals are as they were, and no mark is left. A
--- root that was stopped before is as it was (docs/definitions-of-runs.md, "Statements taken").
+-- Nothing was accepted, and nothing was begun: the tables, the mutations and the length of the history stay, the annals are as they were, and no
+-- mark is left. A root that was stopped before is as it was (docs/definitions-of-runs.md, "Statements taken").
 pub record AddsNoCommand {F : Type 0} (was now : Opened F) : Type 0 where
   pub goes_on : GoesOn was now
   pub tables : now.store.tables.entries ≡ was.store.tables.entries
+  pub mutations_are : now.store.mutations ≡ was.store.mutations
   pub length_is : now.store.length ≡ was.store.length
   pub annals : now.storage.annals ≡ was.storage.annals
   pub parts : LeavesParts was.store now.store

@@ -40,7 +40,7 @@ pub fn count_reads<F: Dir>(
         Err(Stop::Refused(refusal)) => return Reply::refused(alloc, &refusal),
         Err(Stop::NoMemory) => return Err(NoMemory),
     };
-    let planned = plan(alloc, snap, &query)?;
+    let planned = plan(alloc, snap, &query, text.is_final)?;
     let Some(counts) = planned.counts() else {
         return Err(NoMemory);
     };

@@ -13,7 +13,7 @@ ghost use Rattle.root_store.specs.Soundness.{HasSoundParts};
 ghost use Rattle.root_store.specs.Stores.{table_at};
 ghost use Rattle.replies.specs.Causes.{HasCauses};
 ghost use Rattle.session.specs.Answers.{AcceptsNothing, Answers, Knows, Turned};
-ghost use Rattle.session.specs.Merges.{AllAreFinal, AreFinal, ArePartitionsOf, IsFinal, IsNamed, IsRefusal, KeepsBeside, Lapse, Merges, parts_at};
+ghost use Rattle.session.specs.Merges.{AllAreFinal, AreFinal, ArePartitionsOf, IsFinalAt, IsNamed, IsRefusal, KeepsBeside, Lapse, Merges};
 ghost use Rattle.shared_store.specs.Engines.{GoesOn, GoesThroughCrashes, IsOpen};
 ghost use Rattle.shared_store.specs.Levels.{LeavesParts};
 
@@ -129,8 +129,7 @@ fn merge_partition<F: Dir, R: Arm<Dir = F>, D: Disk<Arm = R>, A: Annals>(
     ensures beside { KeepsBeside (λ t p. (t ≡ table.now) × (p ≡ partition)) engine.old.store
         engine.new.store }
     ensures whole { IfOk result (λ found. IfNone found
-        (IsFinal (parts_at engine.old.store table.now partition)
-        (parts_at engine.new.store table.now partition))) }
+        (IsFinalAt engine.old.store engine.new.store table.now partition)) }
     ensures tells { R.tells arm.new ≡ R.tells arm.old }
 {
     engine.is_open();

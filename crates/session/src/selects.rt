@@ -17,7 +17,8 @@ ghost use Rattle.shared_store.specs.Engines.{IsOpen, IsSnapOf};
 ghost use Rattle.part_set.specs.declared.kept.Snap.{Snap};
 ghost use Rattle.part_reader.specs.declared.reading.Part.{Part};
 
-use final_fold::{Wanted, add_matches, count_rows, pick_columns};
+use crate::seen::add_seen;
+use final_fold::{Wanted, count_rows, pick_columns};
 use mt_base::{NoMemory, Stop};
 use mt_model::{Query, query_of};
 use mt_outside::{Arm, Dir, Disk, DiskError, Gate, Point, Who};
@@ -29,8 +30,8 @@ use select_plan::plan;
 use shared_store::Engine;
 use std::alloc::Global;
 
-/// The rows of a pinned table that meet a SELECT's condition, of its columns. Of a part the granules alone are read that the plan
-/// chooses, and a conjunct is asked where the plan says; a column is read once, however often it is named.
+/// What a SELECT sees of a pinned table and meets its condition, of its columns. Of a part the granules alone are read that the plan
+/// chooses; a column is read once, however often it is named.
 ///
 /// `NoMemory` where an allocation failed; the arm's count stays.
 fn read_matches<R: Arm>(
@@ -60,7 +61,7 @@ fn read_matches<R: Arm>(
     ensures later { R.failed arm.old ≤ R.failed arm.new }
     ensures memory { OnErr result (R.failed arm.new ≡ R.failed arm.old) }
 {
-    let planned = plan(alloc, snap, query)?;
+    let planned = plan(alloc, snap, query, text.is_final)?;
     let picked = pick_columns(alloc, snap.schema.columns.len(), query.places.as_slice())?;
     let conjuncts = planned.conjuncts.as_slice();
     let wanted = Wanted {
@@ -71,17 +72,8 @@ fn read_matches<R: Arm>(
     };
     let mut columns = empty_columns(alloc, &snap.schema, wanted.places)?;
     let failed = failed_line(alloc)?;
-    let parts = snap.parts.as_slice();
-    let asked = planned.asked.as_slice();
-    match add_matches(
-        alloc,
-        arm,
-        parts,
-        planned.parts.as_slice(),
-        asked,
-        &wanted,
-        &mut columns,
-    ) {
+    let is_final = text.is_final;
+    match add_seen(alloc, arm, snap, &planned, &wanted, is_final, &mut columns) {
         Ok(rows) => print(alloc, snap.length, columns, rows, picked.shown.as_slice()),
         Err((_, PartFault::NoMemory)) => Err(NoMemory),
         Err((_, PartFault::Fault)) => stage_line(DiskError::Fault, failed),

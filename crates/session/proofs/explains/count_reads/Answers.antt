@@ -64,9 +64,9 @@ returns-clause-answers g c = λ kept store stands pinned.
     let held = snap_held files (history kept) store stands text.table snap pinned in
     let asked : query_of schema.columns text ≡ Ok q = ap (λ (cs : List Column). query_of cs text) (sym c.as_slice.ensures) ∙ c.in-Ok.ensures in
     let ps : List Portion = map portion_of (core_parts text.table snap.parts.items held.rows) in
-    let counted : c.in-Some.counts ≡ counts_of schema q.condition ps =
-    c.in-Some.ensures ∙ ap counts_over (c.in_ok-planned.ensures.parts ∙ plan_is files schema q.condition text.table snap.parts.items held.rows held.hold)
-    ∙ counts_are schema q.condition ps in
+    let counted : c.in-Some.counts ≡ counts_of schema text.is_final q.condition ps =
+    c.in-Some.ensures ∙ ap counts_over (c.in_ok-planned.ensures.parts ∙ plan_is files schema q.condition text.table text.is_final snap.parts.items held.rows held.hold)
+    ∙ counts_are schema text.is_final q.condition ps in
     let place : snap.length ≡ length kept.list = pinned.length_is ∙ (stands.length_is ∙ length_history kept) in
     IfOk-weaker c.explained.result _ _ (λ reply is n.
     explains_all n kept reply text (explains (history kept) text schema q ps c.in-Some.counts (length kept.list) reply there asked

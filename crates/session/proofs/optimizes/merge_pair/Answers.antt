@@ -1,7 +1,9 @@
 use Rattle.std.proofs.Common.{◌≡◌, ℕ, Bool, List, false, refl, sym, subst}
 use Rattle.mt_base.specs.declared.partition.Partition.{Partition}
 use Rattle.merge_select.specs.Picks.{InScope}
+use Rattle.shared_store.specs.Engines.{choice_of}
 use Rattle.shared_store.specs.Levels.{any_greatest}
+use Rattle.shared_store.specs.Works.{IsPicked}
 use Rattle.mt_model.specs.History.{IsTableSchema}
 use Rattle.session.specs.Merges.{Merges}
 use Rattle.session.proofs.Lapses.{ended_stays, lapse, merges_ended, merges_stays}
@@ -49,7 +51,8 @@ pub returns-in-Ok-Some-clause-beside : goal.returns-in-Ok-Some-clause-beside
 returns-in-Ok-Some-clause-beside g c =
     let work = c.in-Ok-Some.work in
     let was = c.args.engine.now in
-    let here : InScope c.args.scope work.table work.partition = some_found (λ w. InScope c.args.scope w.table w.partition) c.in-Ok-Some.field-0 work c.in-Ok-Some.field-0-is c.in-Ok-Some.ensures.scope in
+    let x = some_found (IsPicked (choice_of was) c.args.scope) c.in-Ok-Some.field-0 work c.in-Ok-Some.field-0-is c.in-Ok-Some.ensures.picks in
+    let here : InScope c.args.scope work.table work.partition = subst (λ (u : List ℕ). InScope c.args.scope u work.partition) (sym x.table_is) (subst (λ (q : Partition). InScope c.args.scope x.pick.table.now q) (sym x.partition_is) x.is.in_scope) in
     beside_more (λ (t : List ℕ) (p : Partition). (t ≡ work.table) × (p ≡ work.partition)) (InScope c.args.scope) was.store c.merge_work.new.engine.store
     (λ t p w. subst (λ (q : Partition). InScope c.args.scope t q) (sym w.1) (subst (λ (u : List ℕ). InScope c.args.scope u work.partition) (sym w.0) here))
     (c.merge_work.ensures.changes was (taken g.F.Dir.files c.args.engine.now c.take_merge.new.self c.in-Ok-Some.field-0 c.in-Ok-Some.ensures.takes work c.in-Ok-Some.field-0-is c.take_merge.ensures.stands c.take_merge.ensures.goes_on)).beside

@@ -62,7 +62,7 @@ returns-in-Ok-Some-clause-beside g c =
 pub returns-in-Ok-None-clause-whole : goal.returns-in-Ok-None-clause-whole
 returns-in-Ok-None-clause-whole g c =
     let mutations = mutations_of c.args.engine.now.store.mutations c.args.table.now in
-    final_none c.args.engine.now c.take_all.new.self c.args.table.now c.args.partition mutations (none_taken c.args.engine.now c.take_all.new.self c.in-Ok-None.field-0 c.in-Ok-None.ensures.takes c.in-Ok-None.field-0-is)
+    final_none c.args.engine.now c.take_all.new.self c.args.table.now c.args.partition (none_taken c.args.engine.now c.take_all.new.self c.in-Ok-None.field-0 c.in-Ok-None.ensures.takes c.in-Ok-None.field-0-is)
     (subst (λ o. IfNone o (PicksAll mutations (kept_in c.args.partition (parts_of c.args.engine.now.store.set c.args.table.now)) (Ok None))) c.in-Ok-None.field-0-is c.in-Ok-None.ensures.none)
 
 pub returns-in-Ok-Some-clause-whole : goal.returns-in-Ok-Some-clause-whole

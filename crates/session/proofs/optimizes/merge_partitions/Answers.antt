@@ -23,7 +23,7 @@ loop-partition-preserved g c =
       tells = c.merge_partition.ensures.tells ∙ before.tells;
       beside = beside_table c.args.engine.now.store c.loop-partition.engine.store c.merge_partition.new.engine.store c.args.table.now _ before.beside c.merge_partition.ensures.beside;
       final = λ ascend.
-          done_at c.args.engine.now.store c.loop-partition.engine.store c.merge_partition.new.engine.store c.args.table.now c.args.partitions.now c.loop-partition.partition-index _ c.loop-partition-test.true ascend (before.final ascend) c.merge_partition.ensures.beside
+          done_at c.args.engine.now.store c.loop-partition.engine.store c.merge_partition.new.engine.store c.args.table.now c.args.partitions.now c.loop-partition.partition-index _ c.loop-partition-test.true ascend (before.final ascend) c.merge_partition.ensures.beside before.merges.adds.mutations_are
           (none_found _ c.in-Ok-None.field-0 c.in-Ok-None.field-0-is c.in-Ok-None.ensures.whole);
     }
 
