@@ -219,9 +219,10 @@ class Reader:
         columns = None if self.takes(b"*") else self.names()
         self.wants(b"FROM")
         table = self.name()
+        is_final = self.kind == "word" and self.takes(b"FINAL") is not None
         condition = self.expression(0) if self.takes(b"WHERE") else ("and", [])
         self.wants(b";")
-        return "explain" if is_explained else "select", table, columns, condition
+        return "explain" if is_explained else "select", table, columns, is_final, condition
 
     def clauses(self, create):
         while True:
@@ -690,13 +691,16 @@ def folded(schema, rows):
     return [[aggregate_of(function or b"any", kind, list(values)) for (_, kind, function), values in columns]]
 
 
+def folded_by_key(schema, rows):
+    """What a merge leaves of rows of one partition, key by key."""
+    key = lambda row: [row[place] for place in order_of(schema)]
+    groups = itertools.groupby(sorted(rows, key=key), key)
+    return [row for _, group in groups for row in folded(schema, list(group))]
+
+
 def merged(schema, parts):
     """The part that neighbours become."""
-    places = order_of(schema)
-    key = lambda row: [row[place] for place in places]
-    rows = []
-    for _, group in itertools.groupby(sorted((row for part in parts for row in part["rows"]), key=key), key):
-        rows += folded(schema, list(group))
+    rows = folded_by_key(schema, [row for part in parts for row in part["rows"]])
     return {
         "table": parts[0]["table"],
         "partition": parts[0]["partition"],
@@ -772,6 +776,13 @@ class Disk:
         which the second meets its end."""
         for _ in range(calls * columns * sum(len(part["rows"]) > 0 for part in parts)):
             self.call(0, None, "read")
+
+    def read_chosen(self, columns, chosen):
+        """Reads that many columns of the chosen granules of each part, column by column, and neighbouring granules at once."""
+        for own in chosen:
+            runs = sum(is_chosen and not before for before, is_chosen in zip([False] + own, own))
+            for _ in range(columns * runs):
+                self.call(0, None, "read")
 
     def image(self, choice):
         """What a crash leaves by a choice: what is settled, and of the rest what its bits say."""
@@ -905,32 +916,57 @@ class Store:
                 raise Refused(b"E04 " + name)
         return schema, parts, [schema["names"].index(name) for name in names], asked_of(schema, condition)
 
-    def select(self, *text):
-        _, parts, places, condition = self.asked(*text)
-        if condition != ("and", []) and self.disk.failing:
+    def seen(self, schema, parts, is_final, condition):
+        """The rows that a SELECT sees and that meet its condition: with FINAL what the chosen granules of each partition fold to, of which
+        it is asked as well that the granules which are not chosen would add nothing."""
+        if not is_final:
+            return [row for part in parts for row in part["rows"] if meets(condition, row)]
+        found = []
+        for partition in {part["partition"] for part in parts}:
+            own = self.parts_in(parts, partition)
+            wholly, chosen = [], []
+            for part in own:
+                wholly += part["rows"]
+                for granule, is_chosen in enumerate(self.chosen(schema, part, True, condition)):
+                    size = schema["granularity"]
+                    chosen += part["rows"][size * granule:size * granule + size] if is_chosen else []
+            rows = [row for row in folded_by_key(schema, chosen) if meets(condition, row)]
+            assert rows == [row for row in folded_by_key(schema, wholly) if meets(condition, row)]
+            found += rows
+        return found
+
+    def select(self, table, columns, is_final, condition):
+        schema, parts, places, condition = self.asked(table, columns, condition)
+        if is_final:
+            self.disk.read_chosen(len(schema["columns"]), [self.chosen(schema, part, True, condition) for part in parts])
+        elif condition != ("and", []) and self.disk.failing:
             raise Unknown
-        self.disk.read(parts, len(set(places)), 1)
-        rows = [row for part in parts for row in part["rows"] if meets(condition, row)]
+        else:
+            self.disk.read(parts, len(set(places)), 1)
+        rows = self.seen(schema, parts, is_final, condition)
         found = sorted([row[place] for place in places] for row in rows)
         lines = [b"ROWS %d PREFIX %d" % (len(found), self.length)]
         for row in found:
             lines.append(b"\t".join(escaped(value) if isinstance(value, bytes) else b"%d" % value for value in row))
         return b"\n".join(lines) + b"\n"
 
-    def explain(self, *text):
-        schema, parts, _, condition = self.asked(*text)
-        chosen = []
-        for part in parts:
-            partition, rows, size = part["partition"], part["rows"], schema["granularity"]
-            starts = range(0, len(rows), size)
-            ends = [rows[start] for start in starts][1:] + rows[-1:]
-            boxes = [[box_of(schema, partition, rows[start], end)] for start, end in zip(starts, ends)]
-            for index in schema["indexes"]:
-                for start, own in zip(starts, boxes):
-                    own.append(index_box(schema, index, rows, start))
-            chosen.append([all(can(condition, box)[0] for box in own) for own in boxes])
-            for start, is_chosen in zip(starts, chosen[-1]):
-                assert is_chosen or not any(meets(condition, row) for row in rows[start:start + size])
+    def chosen(self, schema, part, is_final, condition):
+        """Whether each granule of a part is chosen: by the box of its marks and, without FINAL, by that of its block of each skip index."""
+        partition, rows, size = part["partition"], part["rows"], schema["granularity"]
+        starts = range(0, len(rows), size)
+        ends = [rows[start] for start in starts][1:] + rows[-1:]
+        boxes = [[box_of(schema, partition, rows[start], end)] for start, end in zip(starts, ends)]
+        for index in [] if is_final else schema["indexes"]:
+            for start, own in zip(starts, boxes):
+                own.append(index_box(schema, index, rows, start))
+        chosen = [all(can(condition, box)[0] for box in own) for own in boxes]
+        for start, is_chosen in zip(starts, chosen):
+            assert is_chosen or not any(meets(condition, row) for row in rows[start:start + size])
+        return chosen
+
+    def explain(self, table, columns, is_final, condition):
+        schema, parts, _, condition = self.asked(table, columns, condition)
+        chosen = [self.chosen(schema, part, is_final, condition) for part in parts]
         told = sum(map(any, chosen)), len(parts), sum(map(sum, chosen)), sum(map(len, chosen)), self.length
         return b"PARTS %d/%d GRANULES %d/%d PREFIX %d\n" % told
 
@@ -1018,7 +1054,7 @@ def schema_shown(schema):
 # ---- random events of the core
 
 class Dice:
-    """The numbers that look random of `random` and `courses`: those of a seed are the same each time."""
+    """The numbers that look random of `random`, `courses` and `scripts`: those of a seed are the same each time."""
 
     def __init__(self, seed):
         self.state = seed
@@ -1026,6 +1062,9 @@ class Dice:
     def below(self, end):
         self.state = (self.state * 6364136223846793005 + 1442695040888963407) % (1 << 64)
         return (self.state >> 32) % end
+
+    def one_of(self, words):
+        return words[self.below(len(words))]
 
 
 class Course:
@@ -1109,6 +1148,156 @@ def courses(seed, lists):
     words = lists, *(tally[word] for word in ("events", "accepted", "puts", "sources", "taken", "read", "crashes", "refused"))
     told = b"%d lists, %d events: %d accepted, %d puts of %d parts, %d snapshots, %d reads, %d crashes, %d refused; after 0 the parts do not stand"
     return told % words
+
+
+# ---- random scripts over one small table
+
+DRAWN_COLUMNS = {
+    "p": ("UInt8", ["1", "2", "3", "0"], 2), "k": ("UInt8", ["2", "4", "3", "5"], 2), "j": ("UInt8", ["1", "2", "3", "0"], 2),
+    "e": ("UInt8", ["1", "2", "3", "0"], 3), "v": ("UInt8", ["0", "1", "2", "3"], 4), "n": ("UInt8", ["0", "1", "128", "255"], 4),
+    "m": ("Int8", ["0", "64", "-64", "-128"], 4), "g": ("Int8", ["1", "-1", "0", "2"], 2), "f": (None, ["1", "2", "4", "7"], 4),
+    "s": ("SimpleAggregateFunction(sum, UInt64)", ["0", "1", "9223372036854775808", "18446744073709551615"], 4),
+}  # fmt: skip
+DRAWN_ENGINES = [
+    ("MergeTree", "v"), ("ReplacingMergeTree", "v"), ("ReplacingMergeTree(e)", "ev"), ("SummingMergeTree", "nm"),
+    ("CollapsingMergeTree(g)", "vg"), ("VersionedCollapsingMergeTree(g, e)", "evg"), ("AggregatingMergeTree", "fsv"),
+]  # fmt: skip
+DRAWN_FUNCTIONS = ["any", "anyLast", "min", "max", "groupBitAnd", "groupBitOr", "groupBitXor"]
+DRAWN_REFUSALS = [
+    "SELECT * FROM u FINAL;", "SELECT z FROM t FINAL;", "SELECT * FROM t FINAL WHERE k = 300;", "SELECT * FROM t FINAL FINAL;",
+    "SELECT * FROM t WHERE z = 1;", "CREATE TABLE t (a UInt8) ENGINE = MergeTree ORDER BY a;", "OPTIMIZE TABLE u FINAL;",
+    "INSERT INTO t;\n7\n\\.\n",
+]  # fmt: skip
+MOST_DRAWN_ROWS, MOST_DRAWN_OF_KEY = 10, 4
+
+
+class DrawnTable:
+    """A table that is drawn, and the places of its rows so far: of each the partition and the key."""
+
+    def __init__(self, dice, is_settled):
+        self.dice, self.is_settled, self.places = dice, is_settled, []
+        self.engine, beside = dice.one_of(DRAWN_ENGINES)
+        self.is_parted, self.has_second = dice.below(2) == 0, dice.below(3) == 0
+        self.columns = "p" * self.is_parted + "k" + "j" * self.has_second + beside
+
+    def value(self, column):
+        """A value of a column that a literal says."""
+        return self.dice.one_of(DRAWN_COLUMNS[column][1])
+
+    def create(self):
+        types = [self.dice.one_of(DRAWN_FUNCTIONS) if column == "f" else None for column in self.columns]
+        elements = []
+        for column, function in zip(self.columns, types):
+            kind = f"SimpleAggregateFunction({function}, UInt8)" if function else DRAWN_COLUMNS[column][0]
+            elements.append(f"{column} {kind}")
+        index = self.dice.one_of(["", "minmax", "set(2)"])
+        if index:
+            column, granules = self.dice.one_of(self.columns), self.dice.one_of("123")
+            elements.append(f"INDEX i {column} TYPE {index} GRANULARITY {granules}")
+        parting = " PARTITION BY p" if self.is_parted else ""
+        key = self.dice.one_of(["(k, j)", "(k, j) PRIMARY KEY k"]) if self.has_second else "k"
+        ending = f"ORDER BY {key} SETTINGS index_granularity = {self.dice.one_of('123')};"
+        return f"CREATE TABLE t ({', '.join(elements)}) ENGINE = {self.engine}{parting} {ending}"
+
+    def cell(self, column, place, version, before):
+        """The value of a row's column. The signs of a settled key alternate, and versioned rows agree beside the sign."""
+        values, most = DRAWN_COLUMNS[column][1:]
+        if column in "pkj":
+            return values[place["pkj".index(column)]]
+        if column == "e" or column == "v" and self.engine.startswith("Versioned"):
+            return values[version]
+        if column == "g" and self.is_settled and self.engine.startswith("Collapsing"):
+            return values[before % 2]
+        return values[self.dice.below(most)]
+
+    def row(self):
+        """A row, nothing where the table or its key has enough."""
+        partition, key, second, version = (self.dice.below(end) for end in (2, 2, 2, 3))
+        place = partition if self.is_parted else 0, key, second if self.has_second else 0
+        before = self.places.count(place)
+        if len(self.places) >= MOST_DRAWN_ROWS or before >= MOST_DRAWN_OF_KEY:
+            return ""
+        cells = [self.cell(column, place, version, before) for column in self.columns]
+        self.places.append(place)
+        return "\t".join(cells) + "\n"
+
+    def insert(self):
+        return "INSERT INTO t;\n" + "".join(self.row() for _ in range(self.dice.below(3) + 1)) + "\\.\n"
+
+    def test(self):
+        column = self.dice.one_of(self.columns)
+        sign = self.dice.one_of(["=", "!=", "<", "<=", ">", ">="])
+        return f"{column} {sign} {self.value(column)}"
+
+    def condition(self):
+        kind = self.dice.below(8)
+        if kind < 2:
+            return ""
+        if kind in (4, 5):
+            return f" WHERE {self.test()} {('AND', 'OR')[kind - 4]} {self.test()}"
+        if kind == 7:
+            column = self.dice.one_of(self.columns)
+            return f" WHERE {column} IN ({self.value(column)}, {self.value(column)})"
+        return f" WHERE {'NOT ' if kind == 6 else ''}{self.test()}"
+
+    def select(self, is_final):
+        kind = self.dice.below(3)
+        columns = ", ".join(self.dice.one_of(self.columns) for _ in range(kind)) if kind else "*"
+        return f"SELECT {columns} FROM t{' FINAL' if is_final else ''}{self.condition()};"
+
+    def optimize(self):
+        id = self.dice.one_of(["", "", "", " PARTITION ID 'all'", " PARTITION ID '1'", " PARTITION ID '2'"])
+        return f"OPTIMIZE TABLE t{id}{self.dice.one_of(['', ' FINAL'])};"
+
+    def statements(self):
+        """The next statement, with what it is; an OPTIMIZE of a settled table with the same SELECT before and after it."""
+        kind = self.dice.below(16)
+        if kind < 4:
+            return [("insert", self.insert())]
+        if kind < 7:
+            if not self.is_settled:
+                return [("optimize", self.optimize())]
+            select = "final", self.select(True)
+            return [select, ("optimize", self.optimize()), select]
+        if kind < 11:
+            return [("final", self.select(True))]
+        if kind < 13:
+            return [("select", self.select(False))]
+        if kind < 15:
+            return [("explain", "EXPLAIN " + self.select(self.dice.below(2) == 0))]
+        return [("refused", self.dice.one_of(DRAWN_REFUSALS))]
+
+
+def drawn_script(dice, is_settled):
+    """A random script: the policy of its run, and its statements, each with what it is."""
+    policy = dice.one_of([b"near", b"head", b"tail"])
+    table = DrawnTable(dice, is_settled)
+    statements = [("create", table.create()), ("insert", table.insert()), ("insert", table.insert())]
+    for _ in range(dice.below(6) + 5):
+        statements += table.statements()
+    return policy, statements
+
+
+def scripts(seed, count):
+    """What random scripts come to: how many there are of what, and the digest of all that they print. None prints what it may not, and no
+    SELECT with FINAL prints another thing after a merge, where each key folds to one."""
+    dice, tally, printed = Dice(seed), collections.Counter(), b""
+    for number in range(count):
+        policy, statements = drawn_script(dice, number % 2 == 0)
+        replies = Store(policy).run("".join(text for _, text in statements).encode())[1]
+        printed += replies
+        told = re.findall(rb"[A-Z][^\n]*\n(?:[^A-Z][^\n]*\n)*", replies)
+        assert len(told) == len(statements)
+        tally["statements"] += len(statements)
+        tally["finals"] += sum(kind == "final" for kind, _ in statements)
+        tally["rows"] += sum(reply.count(b"\n") - 1 for reply in told)
+        tally["refusals"] += sum(reply.startswith(b"E") for reply in told)
+        pairs = [place for place, (kind, _) in enumerate(statements) if kind == "optimize"] if number % 2 == 0 else []
+        tally["pairs"] += len(pairs)
+        tally["changed"] += sum(told[place - 1] != told[place + 1] for place in pairs)
+    words = count, *(tally[word] for word in ("statements", "finals", "rows", "refusals", "changed", "pairs"))
+    told = b"%d scripts, %d statements: %d SELECTs with FINAL, %d rows, %d refusals; 0 not allowed, %d of %d pairs differ; " % words
+    return told + b"%d bytes, SHA-256 %s" % (len(printed), hashlib.sha256(printed).hexdigest().encode())
 
 
 class Bench:
@@ -1213,7 +1402,7 @@ class Bench:
             self.named[name] = bytes_of(script)
         elif word not in KNOWN:
             self.is_known, self.left = False, None
-        if word in (b"probe", b"check", b"each", b"crashes", b"stops"):
+        if word in (b"probe", b"check", b"each", b"crashes", b"stops", b"scripts"):
             self.left = None
 
     def answers(self, word, rest):
@@ -1237,6 +1426,8 @@ class Bench:
             yield b"%s and %s" % (*[schema_shown(made.commands[0][1])] * 2,)
         elif word == b"courses":
             yield courses(*map(int, rest.split(b" ")))
+        elif word == b"scripts":
+            yield scripts(*map(int, rest.split(b" ")))
         elif word == b"allows":
             yield b"true" if self.allows(rest) else b"false"
         elif word == b"names" and self.left is not None:
@@ -1258,7 +1449,7 @@ class Bench:
 
 
 RUNS = {b"run", b"again", b"check", b"probe", b"crash", b"crashes", b"stops", b"each", b"names", b"left"}
-KNOWN = RUNS | {b"allows", b"courses", b"bytes", b"twin", b"#", b""}
+KNOWN = RUNS | {b"allows", b"courses", b"scripts", b"bytes", b"twin", b"#", b""}
 
 
 def choices_of(disk):

@@ -10,6 +10,3 @@ pub use boxes::{can, may_match, may_match_column};
 pub use extent::{Can, Extent, Known};
 pub use laws::boxes_hide_no_match;
 pub use masks::{intersect, mask, mask_within};
-
-#[cfg(test)]
-mod tests;

@@ -19,6 +19,3 @@ pub use laws::{
 pub use marks::Marks;
 pub use places::{Places, read_places, spell_places};
 pub use reading::read;
-
-#[cfg(test)]
-mod tests;

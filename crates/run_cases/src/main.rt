@@ -49,7 +49,13 @@
 //!   to NEXTS; a crash; and a last run of that script over each root that this one may leave. A line for each first run has its answer, one
 //!   for each crash its choice, and after that one for each next run its answer, and after `then` the answers of the last runs, equal
 //!   ones once. A next run whose line would be that of the one before has none;
-//! - `stops FIRSTS NEXTS SCRIPT`: the same without the first crash.
+//! - `stops FIRSTS NEXTS SCRIPT`: the same without the first crash;
+//! - `scripts SEED COUNT`: that many random scripts, each over an empty disk and by one of the policies of merges. A script makes one table,
+//!   of any engine, adds few rows over few keys, merges, and asks SELECTs and EXPLAINs with FINAL and without it. In every other script the
+//!   rows of each key fold to one thing, and the same SELECT with FINAL stands before and after each OPTIMIZE. How many scripts and
+//!   statements there were is printed, how many SELECTs with FINAL, rows and refusals; how many outputs, without the replies to EXPLAINs,
+//!   the plain program does not allow; how many of the pairs of SELECTs print different things; and the number of all bytes that were
+//!   printed, with their digest.
 //!
 //! What is found without a run:
 //!

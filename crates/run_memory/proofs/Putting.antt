@@ -1,36 +1,23 @@
 -- Merges of parts that stand for a history, whose rows are what a merge may leave of theirs.
-use Rattle.std.proofs.Common.{◌≡◌, ◌+◌, ◌≤◌, ◌&&◌, ℕ, Bool, true, false, cond, List, [], ◌∷◌, ◌++◌, Some, None, drop, filter, flat_map, get_or, length, map, take, refl, sym, ap, ◌∙◌, subst}
+use Rattle.std.proofs.Common.{◌≡◌, ◌+◌, ◌≤◌, ℕ, Bool, true, false, cond, List, [], ◌∷◌, Some, None, drop, get_or, length, take, refl, sym, ap, ◌∙◌, subst}
 use Rattle.std.specs.Prelude.{Result, Ok, Err, IfOk, OnErr, Vec}
 use Rattle.std.specs.List.{All, AllZip}
-use Rattle.std.specs.List.Sorted.{IsSorted}
 use Rattle.std.proofs.lemmas.List.{drop-map, take-map, length-map}
-use Rattle.std.proofs.lemmas.List.Concat.{flat_map-cons}
-use Rattle.std.proofs.lemmas.List.Elements.{All-append, All-cons, All-drop, All-filter, All-head, All-map, All-nil, All-tail, All-take}
-use Rattle.std.proofs.lemmas.List.Sorted.{All-permutation}
-use Rattle.std.specs.List.{AllByRecursion}
+use Rattle.std.proofs.lemmas.List.Elements.{All-cons, All-drop, All-filter, All-head, All-map, All-nil, All-tail, All-take}
 use Rattle.mt_base.specs.declared.memory.NoMemory.{NoMemory}
 use Rattle.mt_base.specs.declared.partition.Partition.{Partition}
-use Rattle.mt_values.specs.declared.command.Command.{Command}
-use Rattle.mt_values.specs.declared.command.Command.TheVariants as command
-use Rattle.mt_values.specs.declared.command.Insert.{Insert}
 use Rattle.mt_values.specs.declared.schema.Schema.{Schema}
-use Rattle.mt_values.specs.Tables.{partition_of, same_partition, sorting_cmp}
+use Rattle.mt_values.specs.Tables.{same_partition}
 use Rattle.mt_values.specs.Values.{Row}
-use Rattle.mt_values.proofs.RowPartitions.{values_fit}
-use Rattle.mt_model.specs.History.{History, IsInsertInto, IsLegal, IsTableSchema, schema_of}
-use Rattle.mt_model.specs.Live.{live, sorted}
-use Rattle.mt_model.specs.Numbers.{lies_within, within}
+use Rattle.mt_model.specs.History.{History, IsLegal, IsTableSchema, schema_of}
+use Rattle.mt_model.specs.Numbers.{within}
 use Rattle.mt_model.proofs.Commands.{partition_is}
-use Rattle.mt_model.proofs.Determined.{sorting_total}
-use Rattle.mt_model.proofs.Sorting.{sorted_permutes}
 use Rattle.part_history.specs.declared.part.CorePart.{CorePart}
 use Rattle.part_history.specs.Merges.{MergeLeaves, with_rows}
-use Rattle.part_history.specs.Parts.{PartStands, TableStands, core_parts_of, parts_in}
-use Rattle.part_history.proofs.Numbered.{IsInto, all_into, kept, kept_if, live_within, sorted_by}
+use Rattle.part_history.specs.Parts.{PartStands, TableStands, parts_in}
 use Rattle.part_history.proofs.OwnRows.{own_rows}
-use Rattle.rule_law.specs.TableRows.{IsTableRow}
-use Rattle.rule_law.proofs.PartlyRows.{partly_table}
 use Rattle.row_merge.specs.Merged.{ArePartRows, IsMergedOf, inputs_of}
+use Rattle.row_merge.proofs.HistoryRows.{are_part_rows, same_schema}
 use Rattle.table_core.specs.declared.event.Merge.{Merge}
 use Rattle.table_core.specs.declared.event.Event.{Event}
 use Rattle.table_core.specs.declared.event.Outcome.{Outcome}
@@ -42,53 +29,12 @@ use Rattle.run_memory.proofs.Fitting.{fitting_stays, has_table_schema, none_of_e
 
 -- ---- the rows of a part that stands for a history are rows of its table
 
-module _ (schema : Schema) where
-  -- an INSERT adds rows of the table
-  insert_rows : (i : Insert) → IsInsertInto schema i → All (IsTableRow schema) (sorted (sorting_cmp schema) i.block.rows)
-  insert_rows i into =
-      let rows = i.block.rows in
-      All-permutation (IsTableRow schema) rows (sorted (sorting_cmp schema) rows) (sorted_permutes (sorting_cmp schema) (sorting_total schema) rows)
-      (λ k d below. record { typed = into.rows k d below; fits = values_fit (get_or rows k d) (into.values k d below); signed = into.signed k d below })
-
-  kept_rows : (p : Partition) (a b n : ℕ) (cs : List Command) → AllByRecursion (IsInto schema) cs → All (IsTableRow schema) (flat_map (sorted_by schema) (kept p a b n cs))
-  kept_rows p a b n [] all = All-nil (IsTableRow schema)
-  kept_rows p a b n (command.Create c ∷ cs) all = absurd all.0
-  kept_rows p a b n (command.Insert i ∷ cs) all = by (same_partition i.partition p) (lies_within a b n) (kept_rows p a b (n + 1) cs all.1)
-    where
-      by : (x y : Bool) → All (IsTableRow schema) (flat_map (sorted_by schema) (kept p a b (n + 1) cs))
-          → All (IsTableRow schema) (flat_map (sorted_by schema) (kept_if (x && y) (command.Insert i) (kept p a b (n + 1) cs)))
-      by true true more =
-          subst (All (IsTableRow schema)) (sym (flat_map-cons (sorted_by schema) (command.Insert i) (kept p a b (n + 1) cs)))
-          (All-append (IsTableRow schema) (sorted (sorting_cmp schema) i.block.rows) (flat_map (sorted_by schema) (kept p a b (n + 1) cs)) (insert_rows i all.0) more)
-      by true false more = more
-      by false y more = more
-
 module _ (h : History) (legal : IsLegal h) where
-  live_rows : (table : List ℕ) (schema : Schema) (p : Partition) (a b : ℕ) → schema_of table h ≡ Some schema → All (IsTableRow schema) (live table schema (within table p a b h))
-  live_rows table schema p a b there = subst (All (IsTableRow schema)) (sym (live_within table schema p a b h)) (kept_rows schema p a b 1 _ (all_into table h schema legal there))
-
-  part_rows : (part : CorePart) (s : PartStands h part) → All (IsTableRow s.schema) part.rows
-  part_rows part s =
-      let name = part.name in
-      partly_table s.schema (live part.table s.schema (within part.table name.partition name.min_block name.max_block h)) part.rows (live_rows part.table s.schema name.partition name.min_block name.max_block s.there) s.partly
-
-  same_schema : (a b : Schema) → Some a ≡ Some b → a ≡ b
-  same_schema a b is = cc
-
-  are_part_rows : (schema : Schema) (part : CorePart) → schema_of part.table h ≡ Some schema → PartStands h part → All (λ (row : Row). partition_of schema row ≡ part.name.partition) part.rows → ArePartRows schema part.name.partition part.rows
-  are_part_rows schema part there s parted =
-      let same : s.schema ≡ schema = same_schema s.schema schema (sym s.there ∙ there) in
-      record {
-        own = subst (λ (x : Schema). All (IsTableRow x) part.rows) same (part_rows part s);
-        parted = parted;
-        rising = subst (λ (x : Schema). IsSorted (sorting_cmp x) part.rows) same s.rising;
-      }
-
   -- each part of a table has rows as a part of its partition has them
   table_rows : (table : List ℕ) (schema : Schema) (parts : List CorePart) → schema_of table h ≡ Some schema → TableStands table parts h → All (λ (p : CorePart). ArePartRows schema p.name.partition p.rows) parts
   table_rows table schema parts there stands =
       let parted = own_rows h legal table schema parts there stands in
-      λ k d below. are_part_rows schema (get_or parts k d) (ap (λ u. schema_of u h) (stands.own k d below) ∙ there) (stands.each k d below) (parted k d below)
+      λ k d below. are_part_rows h legal schema (get_or parts k d) (ap (λ u. schema_of u h) (stands.own k d below) ∙ there) (stands.each k d below) (parted k d below)
 
 -- ---- the parts of one partition
 
@@ -118,7 +64,7 @@ put_may core m schema own is of there own_is left = λ other others neighbours.
     let h = core.history in
     let parts = beside core m in
     let sources = sources_among parts m in
-    let same : schema ≡ other = same_schema h is.legal schema other (sym there ∙ others) in
+    let same : schema ≡ other = same_schema schema other (sym there ∙ others) in
     let stands = is.parts m.table in
     let run = take m.count (drop m.first own) in
     let run_is : run ≡ rows_of_each sources =

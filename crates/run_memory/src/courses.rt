@@ -64,8 +64,8 @@ struct Tally {
     faults: u64,
 }
 
-// One more.
-fn more(count: &mut u64) {
+/// One more.
+pub fn more(count: &mut u64) {
     *count = count.saturating_add(1);
 }
 
@@ -340,8 +340,8 @@ fn random_courses(alloc: Global, seed: u64, count: u64) -> Result<Tally, NoMemor
 }
 
 impl Answer {
-    // Prints a count with a word after it.
-    fn tallied(&mut self, count: u64, what: &str) {
+    /// Prints a count with a word after it.
+    pub fn tallied(&mut self, count: u64, what: &str) {
         self.number(count);
         self.put(what);
     }

@@ -93,6 +93,7 @@ impl Bench {
             "each" => self.each(machine, rt, rest),
             "crashes" => self.stops(machine, rt, rest, true),
             "stops" => self.stops(machine, rt, rest, false),
+            "scripts" => self.scripts(machine, rt, rest),
             _ => self.answer.fail("no such directive"),
         }
     }

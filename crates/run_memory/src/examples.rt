@@ -38,8 +38,8 @@ fn first_schema(alloc: Global, history: &[Entry]) -> Option<Schema> {
 }
 
 impl Answer {
-    // The statements of a script, and why texts of it are refused.
-    fn statements(&mut self, script: &[u8]) -> Vec<Result<Statement, Cause>> {
+    /// The statements of a script, and why texts of it are refused.
+    pub fn statements(&mut self, script: &[u8]) -> Vec<Result<Statement, Cause>> {
         let mut statements = Vec::new(self.alloc);
         let mut rest = script;
         for _ in 0..MOST_STATEMENTS {

@@ -16,6 +16,3 @@ pub use index::Index;
 pub use laws::{blocks_are_read_in_one_way, blocks_of_rows_are_read, skipped_blocks_hold_no_match};
 pub use reading::read;
 pub use shapes::{BlockShape, IndexShape};
-
-#[cfg(test)]
-mod tests;
