@@ -2,10 +2,11 @@
 """Asks the built program random conditions over random tables, and compares its replies with those that `tests/answers.py` works out.
 
 The one word is the number of rounds, 20 if it is left out. A round is in a new folder, outside the repository: a first run makes two tables
-of the same rows, of which one has a random key, primary key, partition column and size of granules, and random skip indexes, and the other
-none of these; it inserts in one to three INSERTs, and merges parts of the first table between them or not. A second run over the folder has 60 SELECTs with a condition over each table, and an EXPLAIN of it. So a round shows
-rows that are found however the table is parted, and numbers of granules. It prints its seed, and takes one from SEED; where a round differs
-it prints the script that shows it, and the status is 1. Where MERGETREE is set, it is the program that is run.
+of the same rows, of which one has a random key, primary key, partition column and size of granules, random skip indexes, and the engine
+MergeTree or ReplacingMergeTree, and the other none of these; it inserts in one to three INSERTs, and merges parts of the first table between
+them or not. A second run over the folder has 60 SELECTs with a condition over each table, some of them with FINAL, and an EXPLAIN of each. So
+a round shows rows that are found and folded however the table is parted, and numbers of granules. It prints its seed, and takes one from SEED;
+where a round differs it prints the script that shows it, and the status is 1. Where MERGETREE is set, it is the program that is run.
 """
 import os
 import pathlib
@@ -23,6 +24,7 @@ from answers import Store  # pylint: disable=wrong-import-position
 COLUMNS = "i UInt32, p UInt8, k UInt64, v Int16, s String"
 TEXTS = ["", "a", "b", "ab", "A", "\\xff", "\\0", "it\\'s", "a\\\\"]
 KEYS = ["k", "k, v", "s, k", "p, k, s", "v", "v, s", "s, v, k, p"]
+ENGINES = ["MergeTree", "ReplacingMergeTree", "ReplacingMergeTree(p)"]
 SIGNS = ["=", "!=", "<>", "<", "<=", ">", ">="]
 
 
@@ -71,7 +73,7 @@ def tables(chance):
     columns = key.split(", ")
     parting = chance.choice(["", " PARTITION BY p", " PARTITION BY k"])
     primary = chance.choice(["", f" PRIMARY KEY ({', '.join(columns[:chance.randint(1, len(columns))])})"])
-    create = f"CREATE TABLE t ({elements(chance)}) ENGINE = MergeTree{parting} ORDER BY ({key}){primary}"
+    create = f"CREATE TABLE t ({elements(chance)}) ENGINE = {chance.choice(ENGINES)}{parting} ORDER BY ({key}){primary}"
     script = f"{create} SETTINGS index_granularity = {chance.randint(1, 5)};\nCREATE TABLE u ({COLUMNS}) ENGINE = MergeTree ORDER BY i;\n"
     row = 0
     for _ in range(chance.randint(1, 3)):
@@ -89,8 +91,8 @@ def questions(chance):
     script = ""
     for _ in range(60):
         asked = condition(chance, 3)
-        columns = chance.choice(["i", "*", "s, v", "k, k, p"])
-        script += "".join(f"SELECT {columns} FROM {table} WHERE {asked};\nEXPLAIN SELECT i FROM {table} WHERE {asked};\n" for table in "tu")
+        columns, final = chance.choice(["i", "*", "s, v", "k, k, p"]), chance.choice(["", " FINAL"])
+        script += "".join(f"{verb} FROM {table}{final} WHERE {asked};\n" for table in "tu" for verb in (f"SELECT {columns}", "EXPLAIN SELECT i"))
     return script
 
 

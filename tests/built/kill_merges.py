@@ -4,10 +4,11 @@
     tests/built/kill_merges.py [ROUNDS]
 
 A round is in a new folder. The script makes a table of each engine and then, over and over, adds rows to each and merges it: by the policy,
-and now and then to one part. The program is killed after a random part of the time that the whole script takes. The next run tells how many
-commands are there: as many as were acknowledged, or one more. It merges each table to one part, and what it prints then is what tests/answers.py
-works out of the first commands, that many, whatever was merged before the kill: rows were added whole or not at all, and no merge lost one or
-folded one twice. So that this is told apart from all else, signs alternate, and rows of one version agree beside the sign.
+and now and then to one part. The program is killed after a random part of the least time that the whole script took so far. The next run tells
+how many commands are there: as many as were acknowledged, or one more. It asks each table with FINAL, merges it to one part and asks it again,
+and what it prints is what tests/answers.py works out of the first commands, that many, whatever was merged before the kill: rows were added
+whole or not at all, and no merge lost one or folded one twice. So that this is told apart from all else, signs alternate, and rows of one
+version agree beside the sign.
 
 Only the process is killed, and the system goes on. The seed of the random parts is printed; where SEED is set, it is the seed. Where MERGETREE
 is set, it is the program that is run. Where in no round the program was killed before its end, nothing was tried, and the status is 1.
@@ -63,15 +64,19 @@ def run(folder, script, policy):
 
 
 def killed(folder, script, policy, delay):
-    """What the program wrote that was killed after some seconds, and whether it was running still."""
+    """What the program wrote that was killed after some seconds, and how many it took, or none where it was running still."""
     with open(script, "rb") as source, tempfile.TemporaryFile() as out:
+        begun = time.monotonic()
         program = subprocess.Popen([PROGRAM, "--path", folder, "--policy", policy], stdin=source, stdout=out)
-        time.sleep(delay)
-        is_running = program.poll() is None
-        program.kill()
-        program.wait()
+        try:
+            program.wait(timeout=delay)
+            took = time.monotonic() - begun
+        except subprocess.TimeoutExpired:
+            took = None
+            program.kill()
+            program.wait()
         out.seek(0)
-        return out.read(), is_running
+        return out.read(), took
 
 
 def difference(folder, written, made, policy):
@@ -86,7 +91,7 @@ def difference(folder, written, made, policy):
     if not told <= there <= told + 1:
         return f"{there} commands where {told} were acknowledged, status {status}"
     tables = list(TABLES)[:there]
-    ask = "".join(f"OPTIMIZE TABLE {table} FINAL;SELECT * FROM {table};" for table in tables)
+    ask = "".join(f"SELECT * FROM {table} FINAL;OPTIMIZE TABLE {table} FINAL;SELECT * FROM {table};" for table in tables)
     wanted = answers.Store()
     wanted.run("".join(command for command, _ in made[:there]).encode())
     status, found = run(folder, ask, policy)
@@ -112,10 +117,11 @@ def main():
             sys.exit(f"status {status} of the whole script")
         for number in range(rounds):
             folder, policy, delay = os.path.join(work, str(number)), POLICIES[number % 3], draw.random() * took
-            written, is_killed = killed(folder, script, policy, delay)
+            written, ended = killed(folder, script, policy, delay)
+            took = took if ended is None else min(took, ended)
             found = difference(folder, written, made, policy)
             print(f"{number + 1}: {policy}, {delay:.3f} s, {written.count(10)} answered: {found or 'ok'}")
-            tried, failed = tried + is_killed, failed + bool(found)
+            tried, failed = tried + (ended is None), failed + bool(found)
     print(f"{rounds} rounds, {tried} killed before the end, {failed} differ")
     sys.exit(0 if tried and not failed else 1)
 

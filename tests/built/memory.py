@@ -8,6 +8,7 @@ until there are no more (`refuse.c`, loaded into the program by LD_PRELOAD); in 
   open     no statement, over a folder with two tables that have parts
   select   two SELECTs, over the same
   where    SELECTs with conditions and EXPLAINs, over a folder with a table that has parts
+  final    SELECTs with FINAL, of which one has a condition, and an EXPLAIN, over a folder with a table that has parts to fold
   optimize one merge, a merge of each partition to one part and a SELECT, over a folder with a table that has parts to merge
 The table has two skip indexes. Wanted are (docs/replies.md, "Statuses")
   of the run            status 6, and the replies to the first statements, whole; all replies and status 0 where the program did without
@@ -61,6 +62,11 @@ ASKED = [
     Statement("EXPLAIN SELECT s FROM t WHERE p = 3;\n", [], b"PARTS 1/2 GRANULES 1/2 PREFIX 3\n"),
     Statement("EXPLAIN SELECT a FROM t WHERE s = 'row 1';\n", [], b"PARTS 1/2 GRANULES 1/2 PREFIX 3\n"),
 ]
+FOLDING = [
+    Statement("SELECT * FROM t FINAL;\n", []),
+    Statement("SELECT s FROM t FINAL WHERE a > 7 AND NOT p = 3;\n", [], b"ROWS 2 PREFIX 5\nrow 0\nrow 0\n"),
+    Statement("EXPLAIN SELECT s FROM t FINAL WHERE p = 3;\n", [], b"PARTS 2/4 GRANULES 2/4 PREFIX 5\n"),
+]
 MERGING = [Statement("OPTIMIZE TABLE t;\n", [], b"OK 7\n"), Statement("OPTIMIZE TABLE t FINAL;\n", [], b"OK 7\n"), SELECT]
 SWEEPS = {
     "new": Sweep([], [CREATE, insert(2, 1, 2, 3), SELECT]),
@@ -68,6 +74,7 @@ SWEEPS = {
     "open": Sweep([*BASE, Statement(OTHER, [[], []])], []),
     "select": Sweep([*BASE, Statement(OTHER, [[], []])], [SELECT, SELECT]),
     "where": Sweep(BASE, ASKED),
+    "final": Sweep([*BASE, insert(1, 3, 1)], FOLDING),
     "optimize": Sweep([*BASE, insert(1, 3, 1), insert(1, 3)], MERGING, True),
 }
 
