@@ -7,9 +7,14 @@
 // by a or not at all, and no escapes; and of SELECTs `SELECT * FROM e` and some columns in the table's order, each with a condition of
 // comparisons of numbers that are joined by AND. An OPTIMIZE reads back the columns of all parts of a table without partitions, sorts the
 // rows by their keys, those of equal keys as the parts have them, of which a replacing table keeps the last, and writes them as one part.
-// With --times it tells the steps apart on standard error.
+// A SELECT with FINAL of a table without partitions reads all columns of the granules that may have a match by their keys, as rows, folds
+// these by the rule of a plain, replacing, summing or collapsing table (merging.rs), and asks the condition of what is left. A collapsing
+// table has the sign in c, as an Int8, and is asked with FINAL alone. With --times it tells the steps apart on standard error.
+#[allow(dead_code)]
+mod merging;
 mod sha256;
 
+use merging::{merge_sorted, Collapsing, Plain, Replacing, Row, Summing, Value};
 use sha256::sha256;
 use std::collections::HashMap;
 use std::fs::{self, File};
@@ -28,6 +33,8 @@ const NAMES: [&str; 5] = ["k", "a", "b", "s", "c"];
 const KEY: usize = 0;
 const PARTITION: usize = 1;
 const BYTES: usize = 4;
+/// The places of the columns that a summing table sums.
+const SUMMED: [usize; 3] = [1, 2, 4];
 /// The bytes of a manifest in front of its first mark, of a digest, and of a mark.
 const HEADER: usize = 18;
 const DIGEST: usize = 32;
@@ -42,18 +49,54 @@ struct Columns {
     ends: Vec<usize>,
     bytes: Vec<u8>,
     c: Vec<u8>,
+    /// Whether c has signs, each kept as its byte.
+    is_signed: bool,
 }
 
 impl Columns {
+    fn new(is_signed: bool) -> Self {
+        Columns { is_signed, ..Columns::default() }
+    }
+
     fn text(&self, place: usize) -> &[u8] {
         let start = if place == 0 { 0 } else { self.ends[place - 1] };
         &self.bytes[start..self.ends[place]]
     }
 
     /// The values of a row in the columns behind the key, nothing in those that are not shown.
-    fn rest(&self, place: usize) -> (Option<u32>, Option<i64>, Option<&[u8]>, Option<u8>) {
+    fn rest(&self, place: usize) -> (Option<u32>, Option<i64>, Option<&[u8]>, Option<i16>) {
         let text = (place < self.ends.len()).then(|| self.text(place));
-        (self.a.get(place).copied(), self.b.get(place).copied(), text, self.c.get(place).copied())
+        let c = self.c.get(place).map(|&c| if self.is_signed { i16::from(c as i8) } else { c.into() });
+        (self.a.get(place).copied(), self.b.get(place).copied(), text, c)
+    }
+
+    /// The values of a row, where all columns are shown.
+    fn row(&self, place: usize) -> Row {
+        let c = self.c[place];
+        vec![
+            Value::UInt64(self.k[place]),
+            Value::UInt32(self.a[place]),
+            Value::Int64(self.b[place]),
+            Value::Text(self.text(place).to_vec()),
+            if self.is_signed { Value::Int8(c as i8) } else { Value::UInt8(c) },
+        ]
+    }
+
+    /// Adds the values of a row in the columns that are shown.
+    fn add_row(&mut self, row: &Row, shown: &[bool; 5]) {
+        for (value, _) in row.iter().zip(shown).filter(|(_, &is_shown)| is_shown) {
+            match value {
+                Value::UInt64(k) => self.k.push(*k),
+                Value::UInt32(a) => self.a.push(*a),
+                Value::Int64(b) => self.b.push(*b),
+                Value::Text(text) => {
+                    self.bytes.extend_from_slice(text);
+                    self.ends.push(self.bytes.len());
+                }
+                Value::UInt8(c) => self.c.push(*c),
+                Value::Int8(sign) => self.c.push(*sign as u8),
+            }
+        }
     }
 
     /// Adds of a column the values that are kept, of those that these bytes spell.
@@ -89,7 +132,8 @@ impl Columns {
         let text = fields.next()?;
         self.bytes.extend_from_slice(text);
         self.ends.push(self.bytes.len());
-        self.c.push(std::str::from_utf8(fields.next()?).ok()?.parse().ok()?);
+        let c = std::str::from_utf8(fields.next()?).ok()?;
+        self.c.push(if self.is_signed { c.parse::<i8>().ok()? as u8 } else { c.parse().ok()? });
         Some(())
     }
 
@@ -276,19 +320,27 @@ fn test_of(text: &str) -> Option<Test> {
     Some(Test { column, least, greatest })
 }
 
-/// What a SELECT asks: whether each column is shown, and tests that each row meets.
+impl Test {
+    fn meets(&self, row: &Row) -> bool {
+        (self.least..=self.greatest).contains(&row[self.column].number())
+    }
+}
+
+/// What a SELECT asks: whether each column is shown, whether it says FINAL, and tests that each row meets.
 struct Query {
     shown: [bool; 5],
+    is_final: bool,
     tests: Vec<Test>,
 }
 
 /// What the line of a SELECT asks.
 fn query_of(line: &[u8]) -> Option<Query> {
     let text = std::str::from_utf8(line).ok()?.strip_prefix("SELECT ")?.strip_suffix(";")?;
-    let (columns, condition) = text.split_once(" FROM e")?;
+    let (columns, rest) = text.split_once(" FROM e")?;
+    let condition = rest.strip_prefix(" FINAL").unwrap_or(rest);
     let shown = NAMES.map(|name| columns == "*" || columns.split(", ").any(|column| column == name));
     let tests = condition.strip_prefix(" WHERE ").map(|tests| tests.split(" AND ").map(test_of).collect());
-    Some(Query { shown, tests: tests.unwrap_or(Some(Vec::new()))? })
+    Some(Query { shown, is_final: condition.len() < rest.len(), tests: tests.unwrap_or(Some(Vec::new()))? })
 }
 
 /// What is kept of a part: where its granules begin in the columns, and the keys of their first rows; of both one more.
@@ -409,6 +461,17 @@ impl Part {
         Ok(keep.iter().filter(|&&is_kept| is_kept).count())
     }
 
+    /// The rows of the granules of which each test may be met by some row.
+    fn chosen_rows(&self, tests: &[Test], is_signed: bool) -> io::Result<Vec<Row>> {
+        let chosen = self.chosen(tests);
+        let keep = vec![true; chosen.iter().map(|&granule| self.rows(granule)).sum()];
+        let mut columns = Columns::new(is_signed);
+        for column in 0..5 {
+            columns.add(column, &self.read(column, &chosen)?, &keep);
+        }
+        Ok((0..keep.len()).map(|place| columns.row(place)).collect())
+    }
+
     /// The granules with a row that is kept, and which of their rows are.
     fn matched(&self, chosen: &[usize], keep: &[bool]) -> (Vec<usize>, Vec<bool>) {
         let (mut matched, mut keep_matched, mut rest) = (Vec::new(), Vec::new(), keep);
@@ -451,11 +514,43 @@ impl Steps {
     }
 }
 
+/// The engine of the table, which says what is left of rows of one key.
+#[derive(Clone, Copy, PartialEq)]
+enum Engine {
+    Plain,
+    Replacing,
+    Summing,
+    Collapsing,
+}
+
+impl Engine {
+    /// The engine of the text of a CREATE.
+    fn of(text: &[u8]) -> Engine {
+        let has = |word: &[u8]| text.windows(word.len()).any(|own| own == word);
+        match (has(b"Replacing"), has(b"Summing"), has(b"Collapsing")) {
+            (true, _, _) => Engine::Replacing,
+            (_, true, _) => Engine::Summing,
+            (_, _, true) => Engine::Collapsing,
+            _ => Engine::Plain,
+        }
+    }
+
+    /// What its rule leaves of the rows of each key, of sorted inputs.
+    fn folded(self, inputs: &[Vec<Row>]) -> Vec<Row> {
+        match self {
+            Engine::Plain => merge_sorted(inputs, &[KEY], &Plain),
+            Engine::Replacing => merge_sorted(inputs, &[KEY], &Replacing(None)),
+            Engine::Summing => merge_sorted(inputs, &[KEY], &Summing(SUMMED.to_vec())),
+            Engine::Collapsing => merge_sorted(inputs, &[KEY], &Collapsing(BYTES)),
+        }
+    }
+}
+
 /// The table, and how many commands were accepted.
 struct Table {
     root: PathBuf,
     is_parted: bool,
-    is_replacing: bool,
+    engine: Engine,
     parts: Vec<Part>,
     length: usize,
     steps: Steps,
@@ -479,8 +574,13 @@ impl Table {
     /// The table of the text of a CREATE, without parts.
     fn empty(root: &Path, text: &[u8]) -> Table {
         let is_parted = text.windows(9).any(|word| word == b"PARTITION");
-        let is_replacing = text.windows(9).any(|word| word == b"Replacing");
-        Table { root: root.to_path_buf(), is_parted, is_replacing, parts: Vec::new(), length: 1, steps: Steps::new() }
+        let engine = Engine::of(text);
+        Table { root: root.to_path_buf(), is_parted, engine, parts: Vec::new(), length: 1, steps: Steps::new() }
+    }
+
+    /// Whether c has signs.
+    fn is_signed(&self) -> bool {
+        self.engine == Engine::Collapsing
     }
 
     /// Opens the table of a folder that is there. Each digest is compared.
@@ -522,7 +622,7 @@ impl Table {
 
     /// Adds the rows of one INSERT, which end at a line `\.`: a stage for each of its partitions, and then a name for each.
     fn insert<'a>(&mut self, lines: &mut impl Iterator<Item = &'a [u8]>) -> io::Result<()> {
-        let mut columns = Columns::default();
+        let mut columns = Columns::new(self.is_signed());
         for line in lines.take_while(|&line| line != b"\\.") {
             columns.push(line).ok_or(io::ErrorKind::InvalidData)?;
         }
@@ -546,7 +646,10 @@ impl Table {
 
     /// Makes one part of all, which had one INSERT each.
     fn optimize(&mut self) -> io::Result<()> {
-        let query = Query { shown: [true; 5], tests: Vec::new() };
+        if !matches!(self.engine, Engine::Plain | Engine::Replacing) {
+            return Err(io::ErrorKind::InvalidData.into());
+        }
+        let query = Query { shown: [true; 5], is_final: false, tests: Vec::new() };
         let mut columns = Columns::default();
         for part in &mut self.parts {
             part.load()?;
@@ -555,7 +658,7 @@ impl Table {
         self.steps.end("read back and decode");
         let mut pairs: Vec<(u64, u32)> = columns.k.iter().copied().zip(0..).collect();
         pairs.sort_by_key(|pair| pair.0);
-        if self.is_replacing {
+        if self.engine == Engine::Replacing {
             pairs = pairs.chunk_by(|left, right| left.0 == right.0).map(|key| key[key.len() - 1]).collect();
         }
         self.steps.end("merge");
@@ -566,15 +669,38 @@ impl Table {
         Ok(())
     }
 
+    /// Adds what is left of the rows of each key, in all parts, and meets the tests, and gives how many rows that are.
+    fn add_folded(&mut self, query: &Query, columns: &mut Columns) -> io::Result<usize> {
+        let (mut inputs, mut count) = (Vec::new(), 0);
+        for part in &mut self.parts {
+            part.load()?;
+            inputs.push(part.chosen_rows(&query.tests, columns.is_signed)?);
+        }
+        self.steps.end("read back and decode");
+        for row in self.engine.folded(&inputs).iter().filter(|row| query.tests.iter().all(|test| test.meets(row))) {
+            columns.add_row(row, &query.shown);
+            count += 1;
+        }
+        self.steps.end("fold");
+        Ok(count)
+    }
+
     /// The reply to a SELECT.
     fn select(&mut self, line: &[u8]) -> io::Result<Vec<u8>> {
         let query = query_of(line).ok_or(io::ErrorKind::InvalidData)?;
-        let (mut columns, mut rows) = (Columns::default(), 0);
-        for part in &mut self.parts {
-            part.load()?;
-            rows += part.add_matches(&query, &mut columns)?;
+        if self.is_signed() && !query.is_final || self.is_parted && query.is_final {
+            return Err(io::ErrorKind::InvalidData.into());
         }
-        self.steps.end("read back and decode");
+        let (mut columns, mut rows) = (Columns::new(self.is_signed()), 0);
+        if query.is_final {
+            rows = self.add_folded(&query, &mut columns)?;
+        } else {
+            for part in &mut self.parts {
+                part.load()?;
+                rows += part.add_matches(&query, &mut columns)?;
+            }
+            self.steps.end("read back and decode");
+        }
         let order = order_of(&columns, rows);
         self.steps.end("sort the rows");
         let out = print(&columns, &order, self.length)?;

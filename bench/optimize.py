@@ -22,15 +22,32 @@ ENGINES = ["MergeTree", "ReplacingMergeTree"]
 ASK = "OPTIMIZE TABLE e FINAL;\n"
 
 
+def engine_text(engine):
+    """What stands in a CREATE of this engine in place of `c UInt8) ENGINE = MergeTree`."""
+    return b"c Int8) ENGINE = CollapsingMergeTree(c)" if engine == "CollapsingMergeTree" else b"c UInt8) ENGINE = %s" % engine.encode()
+
+
+def cut(engine, keys, states, line):
+    """A row with its key cut to one of these. Where rows are summed those of a key have one text, and where they are collapsed the signs
+    of a key alternate: a key is among the states while its last row is one. So FINAL has one answer."""
+    key, a, b, text, c = line.split(b"\t")
+    key = int(key) % keys
+    if engine == "SummingMergeTree":
+        text = b"event %014d" % key
+    if engine == "CollapsingMergeTree":
+        c = b"-1" if key in states else b"1"
+        states.symmetric_difference_update([key])
+    return b"%d\t%s\t%s\t%s\t%s" % (key, a, b, text, c)
+
+
 def script_of(engine, parts, rows):
     """The script that makes the table and its parts."""
     script = subprocess.run([sys.executable, HERE / "events.py", str(parts), str(rows), "0"], stdout=subprocess.PIPE, check=True).stdout
     if engine == "MergeTree":
         return script
-    keys = max(parts * rows // 10, 1)
-    lines = script.replace(b"ENGINE = MergeTree", b"ENGINE = ReplacingMergeTree").split(b"\n")
-    cut = lambda line: b"%d\t%s" % (int(line.split(b"\t", 1)[0]) % keys, line.split(b"\t", 1)[1])
-    return b"\n".join(cut(line) if b"\t" in line else line for line in lines)
+    keys, states = max(parts * rows // 10, 1), set()
+    lines = script.replace(b"c UInt8) ENGINE = MergeTree", engine_text(engine)).split(b"\n")
+    return b"\n".join(cut(engine, keys, states, line) if b"\t" in line else line for line in lines)
 
 
 def files_of(folder):
@@ -81,4 +98,5 @@ def main():
                 print(f"{program}: {cpu - opening:.1f} ms CPU beyond the {opening:.1f} ms of opening, {peak} KiB")
 
 
-main()
+if __name__ == "__main__":
+    main()
