@@ -2,11 +2,10 @@
 """Counts what the style of docs/CONTRIBUTING.md wants small, and prints each place with its file and line, and a total for each kind:
 
 contracts with more than seven clauses in a row, clauses wider than 100 columns, relations of specs/ with more than five explicit
-arguments, and
-functions of more than 40 lines, their contracts not counted. A blank line or a comment ends a row of clauses. It also compares the
-list of crates of docs/architecture.md with
-crates.txt, and each section of a page of docs/ that is cited with the headings of that page. It reads the repository alone, and takes a
-moment. The status is 0 whatever it finds, or 1 where the lists differ or a cited section is not on its page.
+arguments, and functions of more than 40 lines, their contracts not counted. A blank line or a comment ends a row of clauses. It also
+compares the crates of README.md's table and those of the picture in docs/architecture.md with crates.txt, and each section of a page of
+docs/ that is cited with the headings of that page. It reads the repository alone, and takes a moment. The status is 0 whatever it finds,
+or 1 where the crates differ or a cited section is not on its page.
 """
 import glob
 import os
@@ -119,25 +118,22 @@ def relations(path):
             yield number, begins[1], sum(map(explicit, pieces(rest[3:], "→")[:-1]))
 
 
-def crates_of_architecture():
-    """The crates of the table of docs/architecture.md, each with what it stands on."""
-    listed = {}
-    for line in lines_of("docs/architecture.md"):
-        cells = line.split(" | ")
-        name = re.match(r"^\| `(\w+)`$", cells[0])
-        if name and len(cells) == 3:
-            listed[name[1]] = set(re.findall(r"`(\w+)`", cells[2]))
-    return listed
+def crates_of_table():
+    """The crates of README.md's table, as its first column names them."""
+    rows = [line.split(" | ")[0] for line in lines_of("README.md") if line.startswith("| ")]
+    return [name for row in rows for name in re.findall(r"`(\w+)`", row)]
+
+
+def words_of_picture():
+    """The words of the picture of the layers in docs/architecture.md."""
+    text = "\n".join(lines_of("docs/architecture.md"))
+    return re.findall(r"\w+", text.split("## Layers", 1)[1].split("```")[1])
 
 
 def crates_of_list():
-    """The crates of crates.txt, each with those of the repository that it stands on."""
-    listed = {}
-    for line in lines_of("crates.txt"):
-        name, colon, low = line.split("#")[0].partition(":")
-        if colon:
-            listed[name.split()[0]] = set(low.split())
-    return {name: low & set(listed) for name, low in listed.items()}
+    """The crates of crates.txt."""
+    rows = [line.split("#")[0].partition(":") for line in lines_of("crates.txt")]
+    return [name.split()[0] for name, colon, _ in rows if colon]
 
 
 def report(title, places):
@@ -147,26 +143,31 @@ def report(title, places):
 
 
 def differences():
-    told, listed = crates_of_architecture(), crates_of_list()
-    for name in sorted(set(told) | set(listed)):
-        if name not in told:
-            yield f"docs/architecture.md lacks {name}"
-        elif name not in listed:
-            yield f"docs/architecture.md has {name}, which crates.txt lacks"
-        elif told[name] != listed[name]:
-            lacks, has = sorted(listed[name] - told[name]), sorted(told[name] - listed[name])
-            yield f"{name}: docs/architecture.md lacks {lacks}, and has {has} beyond crates.txt"
+    table, picture, listed = crates_of_table(), words_of_picture(), crates_of_list()
+    for name in listed:
+        if table.count(name) != 1:
+            yield f"the table of README.md has {name} {table.count(name)} times"
+        if name not in picture:
+            yield f"the picture of docs/architecture.md lacks {name}"
+    for name in sorted(set(table) - set(listed)):
+        yield f"the table of README.md has {name}, which crates.txt lacks"
+    # (other words of the picture have no underscore)
+    for name in sorted({word for word in picture if "_" in word} - set(listed)):
+        yield f"the picture of docs/architecture.md has {name}, which crates.txt lacks"
 
 
 def lost_citations():
     """The sections of pages of docs/ that are cited, in code, definitions or pages, and that the page has no heading of."""
     headings = {os.path.basename(path): set(re.findall(r"^#+ (.*)$", "\n".join(lines_of(path)), re.M)) for path in files("docs/*.md")}
     for path in [*files("README.md"), *files("docs/*.md"), *files("crates/*/*/**/*.rt"), *files("crates/*/*/**/*.antt")]:
-        for number, line in enumerate(lines_of(path), 1):
-            for page, sections in CITATION.findall(line):
-                for section in re.findall(r'"([^"]+)"', sections):
-                    if page in headings and section not in headings[page]:
-                        yield f"{path}:{number} {page} has no section {section}"
+        text = "\n".join(lines_of(path))
+        # Prose is wrapped between any two words, and in code each line of it begins as a comment.
+        for cited in CITATION.finditer(re.sub(r"\n *(?:(?:--|//[/!]?) )?", lambda it: " " * len(it[0]), text)):
+            number = text.count("\n", 0, cited.start()) + 1
+            for section in re.findall(r'"([^"]+)"', cited[2]):
+                section = re.sub(r" +", " ", section)
+                if cited[1] in headings and section not in headings[cited[1]]:
+                    yield f"{path}:{number} {cited[1]} has no section {section}"
 
 
 def main():
