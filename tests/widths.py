@@ -3,9 +3,10 @@
 
 contracts with more than seven clauses in a row, clauses wider than 100 columns, relations of specs/ with more than five explicit
 arguments, and functions of more than 40 lines, their contracts not counted. A blank line or a comment ends a row of clauses. It also
-compares the crates of README.md's table and those of the picture in docs/architecture.md with crates.txt, and each section of a page of
-docs/ that is cited with the headings of that page. It reads the repository alone, and takes a moment. The status is 0 whatever it finds,
-or 1 where the crates differ or a cited section is not on its page.
+compares the crates of README.md's table and those of the picture in docs/architecture.md with crates.txt, each section of a page of
+docs/ that is cited with the headings of that page, and each definition, function and case of docs/rules.md with the files. It reads the
+repository alone, and takes a moment. The status is 0 whatever it finds, or 1 where the crates differ, or where something that a page
+names is not there.
 """
 import glob
 import os
@@ -17,6 +18,7 @@ MOST_CLAUSES, MOST_COLUMNS, MOST_ARGUMENTS, MOST_LINES = 7, 100, 5, 40
 FUNCTION = re.compile(r"^( *)(?:pub(?:\([a-z]+\))? )?(?:const |unsafe )*fn (\w+)")
 CLAUSE = re.compile(r"^ *(?:requires|ensures)\b")
 RELATION = re.compile(r"^(?:pub record|abbrev pub) (\S+)(.*)$")
+RULE = re.compile(r"\| [^|]+ \| \[`(\w+)`\]\(\.\./([\w/.]+)\) \| `(\w+)` of `(\w+)` \| `([^|]+)` \|$")
 CITATION = re.compile(r'([\w-]+\.md)(?:\]\([^)]*\))?, ((?:"[^"]+"(?:, | and )?)+)')
 
 
@@ -170,6 +172,27 @@ def lost_citations():
                     yield f"{path}:{number} {cited[1]} has no section {section}"
 
 
+def lost_names():
+    """The definitions, functions and cases of docs/rules.md that are not where it says."""
+    cases = {line[5:] for line in lines_of("crates/run_cases/stdin") if line.startswith("case ")}
+    cases |= set(os.listdir(os.path.join(ROOT, "tests/built/cases")))
+    for number, line in enumerate(lines_of("docs/rules.md"), 1):
+        row = RULE.match(line)
+        if line.startswith("| ") and not row and "---" not in line and not line.startswith("| Rule |"):
+            yield f"docs/rules.md:{number} is no row of a rule"
+        if not row:
+            continue
+        definition, path, function, crate, case = row.groups()
+        there = os.path.isfile(os.path.join(ROOT, path)) and "\n".join(lines_of(path))
+        if not there or not re.search(rf"^(?:pub |abbrev |record |data )*{definition}(?: |$)", there, re.M):
+            yield f"docs/rules.md:{number} {path} has no {definition}"
+        source = "\n".join("\n".join(lines_of(file)) for file in files(f"crates/{crate}/src/**/*.rt"))
+        if not re.search(rf"\b(?:fn|struct) {function}\b", source):
+            yield f"docs/rules.md:{number} {crate} has no {function}"
+        if case not in cases:
+            yield f"docs/rules.md:{number} there is no case {case}"
+
+
 def main():
     found = [one for path in files("crates/*/src/**/*.rt") for one in functions(path)]
     many = [one for one in found if one.most_in_row > MOST_CLAUSES]
@@ -186,7 +209,9 @@ def main():
     report("differences between the lists of crates", differ)
     lost = list(lost_citations())
     report("cited sections that are not on their page", lost)
-    return 1 if differ or lost else 0
+    gone = list(lost_names())
+    report("names of docs/rules.md that are not there", gone)
+    return 1 if differ or lost or gone else 0
 
 
 if __name__ == "__main__":
