@@ -4,7 +4,7 @@
     tests/times.py build          from the log of bin/build, which must be of a build from nothing; writes bin/seconds.txt too
     tests/times.py try            runs bin/try on examples/first.sql, and tells what it took
 
-Run it with nothing else beside. It prints each page that it changes. For a build from nothing: a fresh clone, or `rm -rf crates/*/out`
+Run it with nothing else beside. It prints what it writes, with the page. For a build from nothing: a fresh clone, or `rm -rf crates/*/out`
 and then bin/build.
 """
 import datetime
@@ -12,6 +12,7 @@ import os
 import re
 import subprocess
 import sys
+import textwrap
 import time
 
 ROOT = os.path.dirname(os.path.dirname(os.path.realpath(__file__)))
@@ -27,18 +28,28 @@ def pages():
     yield from (os.path.join(docs, name) for name in sorted(os.listdir(docs)) if name.endswith(".md"))
 
 
+def wrapped(paragraph):
+    """The paragraph at the width of the pages, with no mark cut in two."""
+    whole = re.sub(r"<!--.*?-->", lambda mark: mark[0].replace(" ", "\0"), " ".join(paragraph.split()))
+    return textwrap.fill(whole, 120, break_long_words=False, break_on_hyphens=False).replace("\0", " ")
+
+
 def renew(name, text):
     """Puts the text between the marks of this name, in each page that has them. Gives how many have."""
     begun, found = f"<!-- time of {name} -->", 0
     for path in pages():
         with open(path, encoding="utf-8") as page:
-            was = page.read()
-        now = re.sub(rf"{re.escape(begun)}.*?<!-- end -->", lambda _: f"{begun}{text}<!-- end -->", was, flags=re.S)
-        found += begun in was
-        if now != was:
+            whole = page.read()
+        paragraphs = whole.split("\n\n")
+        for at, was in enumerate(paragraphs):
+            if begun in was:
+                found += 1
+                now = re.sub(rf"{re.escape(begun)}.*?<!-- end -->", lambda _: f"{begun}{text}<!-- end -->", was, flags=re.S)
+                paragraphs[at] = wrapped(now) + "\n" * was.endswith("\n")
+                print(f"{os.path.relpath(path, ROOT)}: {text}")
+        if "\n\n".join(paragraphs) != whole:
             with open(path, "w", encoding="utf-8") as page:
-                page.write(now)
-            print(f"{os.path.relpath(path, ROOT)}: {text}")
+                page.write("\n\n".join(paragraphs))
     return found
 
 
