@@ -1,0 +1,6 @@
+pub mod Fronts
+pub mod Keeping
+pub mod Lasting
+pub mod Places
+pub mod Ruled
+pub mod Turning
