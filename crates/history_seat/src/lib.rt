@@ -17,3 +17,6 @@ pub use room::Room;
 pub use seat::{Note, Seat};
 pub use steps::Entered;
 pub use view::{Kind, View};
+
+#[cfg(test)]
+mod tests;
