@@ -1,5 +1,5 @@
 -- What contracts see of the real outside: counts, where folders lie, and no contents (docs/architecture.md, "Counts of faults").
-use Rattle.std.specs.Prelude.{ℕ, List, Option}
+use Rattle.std.specs.Prelude.{ℕ, Bool, List, Option}
 use Rattle.mt_base.specs.declared.name.FileId.{FileId}
 
 -- the mark of a disk, how many of its calls have failed, as far as 64 bits count, and the path of the folder that it holds, which no other disk holds then
@@ -13,10 +13,11 @@ pub record StageState : Type 0 where
   pub failed : ℕ
   pub unsynced : List FileId
 
--- where a folder that is done lies, as the bytes of its path, and the number that its disk gave it
+-- where a folder that is done lies, as the bytes of its path, the number that its disk gave it, and whether no folder lies there, so that it has no files
 pub record DirState : Type 0 where
   pub path : List ℕ
   pub number : ℕ
+  pub hollow : Bool
 
 -- what reads or writes, and how many of its calls have failed, as far as 64 bits count
 pub record Counted (T : Type 0) : Type 0 where

@@ -1,8 +1,10 @@
 // What reads folders of a real disk and makes stages.
-ghost use Rattle.std.specs.Prelude.{◌≡◌, ◌≤◌, ℕ, IfOk, length};
+ghost use Rattle.std.specs.Prelude.{◌≡◌, ◌≤◌, ℕ, IfOk, IsTrue, MatchResult, length};
 
 use crate::folder::{RealDir, RealStage, file_path};
+use crate::guard::Guard;
 use crate::numbers::draw;
+use crate::root::Root;
 use crate::system::{Found, System, find, is_folder, open_to_read, read_at};
 use file_names::owned;
 use mt_base::{FileId, NoMemory};
@@ -26,6 +28,7 @@ pub struct RealArm<R> {
     rt: R,
     alloc: Global,
     root: String,
+    guard: Guard,
     number: u64,
     /// The number of its next stage.
     stages: u64,
@@ -44,12 +47,13 @@ impl<R: System> RealArm<R> {
     pub(crate) fn new(
         rt: &R,
         alloc: Global,
-        root: &str,
+        root: &Root,
         number: u64,
     ) -> Result<RealArm<R>, DiskError>
         ensures { IfOk result (λ a. a ≡ 0) }
     {
-        let root = owned(alloc, root)?;
+        let guard = root.guard(alloc)?;
+        let root = owned(alloc, root.path())?;
         let Ok(rt) = rt.clone() else {
             return Err(DiskError::NoMemory);
         };
@@ -57,6 +61,7 @@ impl<R: System> RealArm<R> {
             rt,
             alloc,
             root,
+            guard,
             number,
             stages: 0,
             kept: None,
@@ -72,6 +77,7 @@ impl<R: System> RealArm<R> {
             rt: _,
             alloc: _,
             root: _,
+            guard: _,
             number: _,
             stages: _,
             kept: _,
@@ -87,10 +93,11 @@ impl<R: System> RealArm<R> {
     {
         let stage = draw(&mut self.stages)?;
         let path = stage_path(alloc, &self.root, self.number, stage)?;
+        let guard = self.guard.share(alloc)?;
         let Ok(rt) = self.rt.clone() else {
             return Err(DiskError::NoMemory);
         };
-        RealStage::new(rt, alloc, path)
+        RealStage::new(rt, alloc, path, guard)
     }
 
     // Whether this is the file that is kept.
@@ -112,7 +119,7 @@ impl<R: System> RealArm<R> {
         Ok(())
     }
 
-    // Reads the bytes of a file from a place on. After an error it is not kept.
+    // Reads the bytes of a file from a place on. After an error it is not kept. What is no folder has no files.
     fn read_file(
         &mut self,
         dir: &RealDir,
@@ -122,7 +129,11 @@ impl<R: System> RealArm<R> {
     ) -> Result<usize, DiskError>
         ensures same { self.new ≡ self.old }
         ensures bound { IfOk result (λ n. n ≤ length buf.new) }
+        ensures hollow { IsTrue dir.now.hollow → MatchResult result (λ n. n ≡ 0) (λ _. ⊥) }
     {
+        if dir.is_hollow() {
+            return Ok(0);
+        }
         self.keep(dir, file)?;
         let count = match &self.kept {
             Some(opened) => read_at(&opened.handle, at, buf),

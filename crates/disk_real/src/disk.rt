@@ -6,7 +6,7 @@ use crate::arm::RealArm;
 use crate::folder::{RealDir, RealStage};
 use crate::numbers::draw;
 use crate::root::Root;
-use crate::system::{System, is_folder, names_in, publish_folder, sync_folder, take_away};
+use crate::system::{System, clear, is_no_folder, names_in, rename, sync_folder};
 use file_names::{path_in, root_name};
 use mt_base::{Name, NoMemory};
 use mt_outside::{Disk, DiskError, Faults};
@@ -75,14 +75,21 @@ impl<R: System> RealDisk<R> {
         Ok(())
     }
 
-    // The path of the folder. Before the start there is none.
-    fn path(&self) -> Result<&str, DiskError>
+    // The folder. Before the start there is none.
+    fn folder(&self) -> Result<&Root, DiskError>
         ensures { self.now.started ≡ None → IsErrOf result DiskError.Fault }
     {
         match &self.root {
-            Some(root) => Ok(root.path()),
+            Some(root) => Ok(root),
             None => Err(DiskError::Fault),
         }
+    }
+
+    // The path of the folder.
+    fn path(&self) -> Result<&str, DiskError>
+        ensures { self.now.started ≡ None → IsErrOf result DiskError.Fault }
+    {
+        Ok(self.folder()?.path())
     }
 
     // An arm with a number of its own.
@@ -92,7 +99,7 @@ impl<R: System> RealDisk<R> {
         ensures unstarted { self.old.started ≡ None → IsErr result }
     {
         let number = draw(&mut self.arms)?;
-        RealArm::new(&self.rt, alloc, self.path()?, number)
+        RealArm::new(&self.rt, alloc, self.folder()?, number)
     }
 
     // The path of the folder that has this name.
@@ -115,27 +122,34 @@ impl<R: System> RealDisk<R> {
         names_in(&self.rt, alloc, &here)
     }
 
+    // Nothing, where the folder lies under its path; a fault, where another one does, or none.
+    fn check(&self) -> Result<(), DiskError>
+        ensures unstarted { self.now.started ≡ None → IsErr result }
+    {
+        self.folder()?.check(&self.rt)
+    }
+
     // Settles the names in the folder.
     fn settle(&self) -> Result<(), DiskError>
         ensures unstarted { self.now.started ≡ None → IsErr result }
     {
-        sync_folder(&self.rt, self.path()?)
+        self.folder()?.settle(&self.rt)
     }
 
-    // The folder of a name.
+    // The folder of a name, or what has the name and is no folder.
     fn find(&mut self, alloc: Global, name: &Name) -> Result<RealDir, DiskError>
         ensures { self.new ≡ self.old }
     {
         let number = draw(&mut self.dirs)?;
         let path = self.path_of(alloc, name)?;
-        if is_folder(&self.rt, &path) {
-            Ok(RealDir::new(path, number))
+        if is_no_folder(&self.rt, &path)? {
+            Ok(RealDir::hollow(path, number))
         } else {
-            Err(DiskError::Fault)
+            Ok(RealDir::new(path, number))
         }
     }
 
-    // Gives a stage a name, if none of its calls had failed.
+    // Gives a stage a name, if none of its calls had failed and the folder lies under its path.
     fn give(
         &mut self,
         alloc: Global,
@@ -150,7 +164,9 @@ impl<R: System> RealDisk<R> {
         }
         let number = draw(&mut self.dirs)?;
         let path = self.path_of(alloc, name)?;
-        publish_folder(&self.rt, stage.path(), &path)?;
+        sync_folder(&self.rt, stage.path())?;
+        self.check()?;
+        rename(&self.rt, stage.path(), &path)?;
         Ok(RealDir::new(path, number))
     }
 
@@ -163,11 +179,18 @@ impl<R: System> RealDisk<R> {
         self.hide(&path, number)
     }
 
-    // Gives a folder the path of this removal, and once that is settled removes it with its files.
+    // Gives what has a path the path of this removal, and once that is settled removes it with its files. Before each step the folder is to lie under
+    // its path.
     fn hide(&self, path: &str, number: u64) -> Result<(), DiskError> {
-        let root = self.path()?;
-        let hidden = removed_path(self.alloc, root, number)?;
-        take_away(&self.rt, self.alloc, root, path, &hidden)
+        let root = self.folder()?;
+        let hidden = removed_path(self.alloc, root.path(), number)?;
+        root.check(&self.rt)?;
+        clear(&self.rt, self.alloc, &hidden)?;
+        root.check(&self.rt)?;
+        rename(&self.rt, path, &hidden)?;
+        root.settle(&self.rt)?;
+        root.check(&self.rt)?;
+        clear(&self.rt, self.alloc, &hidden)
     }
 }
 

@@ -1,9 +1,10 @@
 // Folders of the root: one that is being made, and one that is done.
-ghost use Rattle.std.specs.Prelude.{◌≡◌, ◌<◌, ◌↔◌, [], IfOk, IsTrue, OnErr, OnOk, string_bytes};
+ghost use Rattle.std.specs.Prelude.{◌≡◌, ◌<◌, ◌↔◌, [], IfOk, IsTrue, OnErr, OnOk, false, string_bytes, true};
 ghost use Rattle.disk_real.specs.Stages.{has, without};
 
+use crate::guard::Guard;
 use crate::handles::Handles;
-use crate::system::{System, fault, make_folder, open_at_end, remove_folder, sync_file};
+use crate::system::{System, clear, fault, make_folder, open_at_end, sync_file};
 use crate::tries::write_whole;
 use file_names::path_in;
 use mt_base::{FileId, NoMemory};
@@ -19,6 +20,8 @@ pub struct RealStage<R> {
     rt: R,
     alloc: Global,
     path: String,
+    /// Of the root that it lies in.
+    guard: Guard,
     handles: Handles,
     faults: Faults,
 }
@@ -31,11 +34,14 @@ impl<R> Model for RealStage<R> {
     ghost view = { λ s. record { failed = s.faults.count; unsynced = s.handles } };
 }
 
-/// A folder that is done. Its holds share one number, which no other folder of its disk has. Contracts see its path and that number.
+/// A folder that is done. Its holds share one number, which no other folder of its disk has. Contracts see its path, that number, and whether it is
+/// a folder at all.
 #[derive(Drop)]
 pub struct RealDir {
     path: String,
     number: u64,
+    /// Whether no folder has its name. It has no files then.
+    is_hollow: bool,
 }
 
 impl Model for RealDir {
@@ -44,7 +50,7 @@ impl Model for RealDir {
 
     ghost Value = { DirState };
 
-    ghost view = { λ d. record { path = string_bytes d.path; number = d.number } };
+    ghost view = { λ d. record { path = string_bytes d.path; number = d.number; hollow = d.is_hollow } };
 }
 
 impl RealDir {
@@ -52,8 +58,26 @@ impl RealDir {
     pub(crate) fn new(path: String, number: u64) -> RealDir
         ensures path { result.path ≡ string_bytes path }
         ensures number { result.number ≡ number }
+        ensures hollow { result.hollow ≡ false }
     {
-        RealDir { path, number }
+        RealDir {
+            path,
+            number,
+            is_hollow: false,
+        }
+    }
+
+    /// What stands at this path and is no folder: it reads as a folder without files.
+    pub(crate) fn hollow(path: String, number: u64) -> RealDir
+        ensures path { result.path ≡ string_bytes path }
+        ensures number { result.number ≡ number }
+        ensures hollow { result.hollow ≡ true }
+    {
+        RealDir {
+            path,
+            number,
+            is_hollow: true,
+        }
     }
 
     /// Its path.
@@ -61,6 +85,13 @@ impl RealDir {
         ensures { result.now ≡ self.now.path }
     {
         &self.path
+    }
+
+    /// Whether it is no folder, and has no files.
+    pub(crate) fn is_hollow(&self) -> bool
+        ensures { result ≡ self.now.hollow }
+    {
+        self.is_hollow
     }
 
     /// The number that its disk gave it.
@@ -80,6 +111,7 @@ impl Dir for RealDir {
         Ok(RealDir {
             path: String::from_str(alloc, &self.path)?,
             number: self.number,
+            is_hollow: self.is_hollow,
         })
     }
 }
@@ -91,16 +123,24 @@ pub(crate) fn file_path(alloc: Global, folder: &str, file: FileId) -> Result<Str
 }
 
 impl<R: System> RealStage<R> {
-    /// Makes the folder, without files, in place of one that an earlier run left there.
-    pub(crate) fn new(rt: R, alloc: Global, path: String) -> Result<RealStage<R>, DiskError>
+    /// Makes the folder, without files, in place of what stands there. Where another folder lies under the root's path, nothing is changed in that, and
+    /// it is a fault.
+    pub(crate) fn new(
+        rt: R,
+        alloc: Global,
+        path: String,
+        guard: Guard,
+    ) -> Result<RealStage<R>, DiskError>
         ensures none_failed { IfOk result (λ s. s.failed ≡ 0) }
         ensures none_open { IfOk result (λ s. s.unsynced ≡ []) }
     {
+        guard.check(&rt)?;
         make_folder(&rt, alloc, &path)?;
         Ok(RealStage {
             rt,
             alloc,
             path,
+            guard,
             handles: Handles::new(alloc),
             faults: Faults::none(),
         })
@@ -126,15 +166,17 @@ impl<R: System> RealStage<R> {
             rt: _,
             alloc: _,
             path: _,
+            guard: _,
             handles: _,
             faults,
         } = self;
         faults.count
     }
 
-    /// Removes the folder with its files, where it is there. It takes no memory, since no folder lies in it.
+    /// Removes the folder with its files, where it is there and its root lies under its path. It takes no memory, since no folder lies in it.
     pub(crate) fn remove(&self) -> Result<(), DiskError> {
-        remove_folder(&self.rt, self.alloc, &self.path)
+        self.guard.check(&self.rt)?;
+        clear(&self.rt, self.alloc, &self.path)
     }
 
     // Opens a file to be written at its end, where it is not open.

@@ -5,6 +5,7 @@
 mod arm;
 mod disk;
 mod folder;
+mod guard;
 mod handles;
 mod numbers;
 mod root;

@@ -47,6 +47,7 @@ fn memory_or_fault(error: io::Error) -> DiskError {
 enum Order<'a> {
     MakeFolder(&'a str),
     RemoveFolder(Global, &'a str),
+    RemoveFile(&'a str),
     Rename(&'a str, &'a str),
     // Makes sure that a crash leaves what is open as it is.
     Settle(&'a File),
@@ -57,6 +58,7 @@ fn perform_once<R: System>(rt: &R, order: Order) -> io::Result<()> {
     match order {
         Order::MakeFolder(path) => rt.create_dir(path),
         Order::RemoveFolder(alloc, path) => rt.remove_dir_all(alloc, path),
+        Order::RemoveFile(path) => rt.remove_file(path),
         Order::Rename(from, to) => rt.rename(from, to),
         Order::Settle(file) => file.sync_all(),
     }
@@ -99,11 +101,11 @@ pub(crate) fn make_where_missing<R: System>(rt: &R, path: &str) -> Result<(), Di
     }
 }
 
-/// Makes an empty folder, in place of what an earlier run left there.
+/// Makes an empty folder, in place of what stands there, whatever it is.
 pub(crate) fn make_folder<R: System>(rt: &R, alloc: Global, path: &str) -> Result<(), DiskError> {
     match perform(rt, Order::MakeFolder(path)) {
         Err(error) if error.kind() == ErrorKind::AlreadyExists => {
-            remove_folder(rt, alloc, path)?;
+            clear(rt, alloc, path)?;
             perform(rt, Order::MakeFolder(path)).map_err(fault)
         }
         made => made.map_err(fault),
@@ -118,9 +120,20 @@ pub(crate) fn sync_folder<R: System>(rt: &R, path: &str) -> Result<(), DiskError
     }
 }
 
-/// Removes a folder with its files, where it is there. It takes memory only where there are folders in it.
-pub(crate) fn remove_folder<R: System>(rt: &R, alloc: Global, path: &str) -> Result<(), DiskError> {
+// Removes what stands at a path: a folder with its files, a link and not what it leads to, or what else is no folder.
+fn remove_any<R: System>(rt: &R, alloc: Global, path: &str) -> io::Result<()> {
     match perform(rt, Order::RemoveFolder(alloc, path)) {
+        Err(error) if error.kind() == ErrorKind::NotADirectory => perform(
+            rt,
+            Order::RemoveFile(path),
+        ),
+        outcome => outcome,
+    }
+}
+
+/// Removes what stands at a path, whatever it is, where something does. It takes memory only where there are folders in a folder.
+pub(crate) fn clear<R: System>(rt: &R, alloc: Global, path: &str) -> Result<(), DiskError> {
+    match remove_any(rt, alloc, path) {
         Ok(()) => Ok(()),
         Err(error) if error.kind() == ErrorKind::NotFound => Ok(()),
         Err(error) => Err(memory_or_fault(error)),
@@ -128,40 +141,65 @@ pub(crate) fn remove_folder<R: System>(rt: &R, alloc: Global, path: &str) -> Res
 }
 
 /// Gives a folder another name.
-fn rename<R: System>(rt: &R, from: &str, to: &str) -> Result<(), DiskError> {
+pub(crate) fn rename<R: System>(rt: &R, from: &str, to: &str) -> Result<(), DiskError> {
     perform(rt, Order::Rename(from, to)).map_err(fault)
 }
 
-/// Settles the names in a folder, and gives it another name.
-pub(crate) fn publish_folder<R: System>(rt: &R, from: &str, to: &str) -> Result<(), DiskError> {
-    sync_folder(rt, from)?;
-    rename(rt, from, to)
+// What is looked at where a link stands at a path.
+#[derive(Clone, Copy)]
+enum Links {
+    // What it leads to.
+    Followed,
+    // The link.
+    Kept,
 }
 
-/// Gives a folder of the root another name, and once that is settled removes it with its files.
-pub(crate) fn take_away<R: System>(
-    rt: &R,
-    alloc: Global,
-    root: &str,
-    path: &str,
-    hidden: &str,
-) -> Result<(), DiskError> {
-    remove_folder(rt, alloc, hidden)?;
-    rename(rt, path, hidden)?;
-    sync_folder(rt, root)?;
-    remove_folder(rt, alloc, hidden)
+// The metadata of what stands at a path, asked again where that was interrupted.
+fn look<R: System>(rt: &R, path: &str, links: Links) -> io::Result<Metadata> {
+    for _ in 0..MOST_TRIES {
+        let found = match links {
+            Links::Followed => rt.metadata(path),
+            Links::Kept => rt.symlink_metadata(path),
+        };
+        match found {
+            Err(error) if error.kind() == ErrorKind::Interrupted => {}
+            outcome => return outcome,
+        }
+    }
+    Err(io::Error::from(ErrorKind::Interrupted))
+}
+
+/// The metadata of what stands at a path. A link is not followed.
+pub(crate) fn metadata_of<R: System>(rt: &R, path: &str) -> Result<Metadata, DiskError> {
+    look(rt, path, Links::Kept).map_err(fault)
 }
 
 /// Whether there is a folder.
 pub(crate) fn is_folder<R: System>(rt: &R, path: &str) -> bool {
-    for _ in 0..MOST_TRIES {
-        match rt.metadata(path) {
-            Err(error) if error.kind() == ErrorKind::Interrupted => {}
-            Err(_) => return false,
-            Ok(metadata) => return metadata.is_dir(),
-        }
+    match look(rt, path, Links::Followed) {
+        Ok(metadata) => metadata.is_dir(),
+        Err(_) => false,
     }
-    false
+}
+
+// Whether this is the error of a link that leads to nothing.
+fn leads_nowhere(kind: ErrorKind) -> bool {
+    kind == ErrorKind::NotFound
+        || kind == ErrorKind::NotADirectory
+        || kind == ErrorKind::FilesystemLoop
+}
+
+/// Whether what stands at a path is no folder, and no link to one. Where nothing does, that is a fault.
+pub(crate) fn is_no_folder<R: System>(rt: &R, path: &str) -> Result<bool, DiskError> {
+    let found = metadata_of(rt, path)?;
+    if !found.is_symlink() {
+        return Ok(!found.is_dir());
+    }
+    match look(rt, path, Links::Followed) {
+        Ok(metadata) => Ok(!metadata.is_dir()),
+        Err(error) if leads_nowhere(error.kind()) => Ok(true),
+        Err(error) => Err(fault(error)),
+    }
 }
 
 /// What lies at a path. A link is not followed.
@@ -187,15 +225,11 @@ fn kind_of(metadata: &Metadata) -> Found
 
 /// What lies at a path.
 pub(crate) fn find<R: System>(rt: &R, path: &str) -> Result<Found, DiskError> {
-    for _ in 0..MOST_TRIES {
-        match rt.symlink_metadata(path) {
-            Ok(metadata) => return Ok(kind_of(&metadata)),
-            Err(error) if error.kind() == ErrorKind::NotFound => return Ok(Found::Nothing),
-            Err(error) if error.kind() == ErrorKind::Interrupted => {}
-            Err(error) => return Err(fault(error)),
-        }
+    match look(rt, path, Links::Kept) {
+        Ok(metadata) => Ok(kind_of(&metadata)),
+        Err(error) if error.kind() == ErrorKind::NotFound => Ok(Found::Nothing),
+        Err(error) => Err(fault(error)),
     }
-    Err(DiskError::Fault)
 }
 
 /// Locks a file against all that lock it too, until it is closed. It is made where it is not there. One that is locked already is a fault, and so is

@@ -1,0 +1,8 @@
+CREATE TABLE t (a UInt8, s String) ENGINE = MergeTree ORDER BY a;
+INSERT INTO t;
+1	a
+\.
+INSERT INTO t;
+2	b
+\.
+OPTIMIZE TABLE t FINAL;

@@ -1,0 +1,5 @@
+INSERT INTO t;
+2	b
+1	a
+\.
+SELECT * FROM t;

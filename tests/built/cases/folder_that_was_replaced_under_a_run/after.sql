@@ -1,0 +1,3 @@
+SELECT * FROM u;
+SELECT * FROM t;
+SELECT * FROM v;

@@ -1,0 +1,5 @@
+INSERT INTO t;
+9	x
+\.
+CREATE TABLE v (a UInt8) ENGINE = MergeTree ORDER BY a;
+SELECT * FROM t;

@@ -1,0 +1,3 @@
+INSERT INTO t;
+9	x
+\.

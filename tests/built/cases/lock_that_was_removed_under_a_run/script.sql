@@ -1,0 +1,3 @@
+INSERT INTO t;
+1	a
+\.
