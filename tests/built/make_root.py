@@ -77,13 +77,18 @@ def folder_of(line, granule):
     return name, files_of(kinds.split(","), places, [row.split(",") for row in rows.split("/")], map(index_of, indexes), granule)
 
 
-granule = 8192  # rows
-for line in sys.stdin:
-    if line.startswith("granule "):
-        granule = int(line.split()[1])
-        continue
-    name, files = folder_of(line.rstrip("\n"), granule)
-    folder = pathlib.Path(sys.argv[1]) / name
-    folder.mkdir(parents=True)
-    for file, content in files.items():
-        (folder / file).write_bytes(content)
+def main():
+    granule = 8192  # rows
+    for line in sys.stdin:
+        if line.startswith("granule "):
+            granule = int(line.split()[1])
+            continue
+        name, files = folder_of(line.rstrip("\n"), granule)
+        folder = pathlib.Path(sys.argv[1]) / name
+        folder.mkdir(parents=True)
+        for file, content in files.items():
+            (folder / file).write_bytes(content)
+
+
+if __name__ == "__main__":
+    main()

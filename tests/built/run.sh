@@ -10,6 +10,8 @@
 #   sink           what is written to in place of a file that is compared
 #   closed         the numbers of the standard streams that are closed in the run, one a line
 #   words          the words of the command line after the program's name, one a line; none: --path d
+#   memory         how many KB of memory the run may take; none: as many as it wants
+#   stack          how many KB of stack the runs have; none: those of STACK, or as many as this script has
 #   size           the bytes of a small file system that is mounted for the case; where none can be mounted the case is skipped, aloud
 #   before.sql     a script that is run before, with the same words in the same folder
 #   change.sh      commands that change the folder of the run, after that script
@@ -24,7 +26,8 @@
 #   after.stdout   what the run at the end is to print, whatever its status
 #   files          what is to lie in the folder of the run at the end, in the order of the paths' bytes: a file as its path, a space
 #                  and its bytes in hexadecimal digits, an empty folder as its path and a slash; none: that is not compared
-# Where MERGETREE is set, it is the program that is run.
+# Where MERGETREE is set, it is the program that is run. Where STACK is set, the runs of all cases
+# have so many KB of stack, as with `STACK=128 tests/built/run.sh`.
 set -euo pipefail
 here=$(cd "$(dirname "$0")" && pwd -P)
 program=${MERGETREE:-$here/../../bin/mergetree}
@@ -96,21 +99,35 @@ differences() {
     fi
 }
 
+# Sets the stack of the runs that follow in this shell, where the case or STACK says it.
+limit_stack() {
+    local stack=${STACK:-}
+    if [ -e "$folder/stack" ]; then
+        stack=$(cat "$folder/stack")
+    fi
+    if [ -n "$stack" ]; then
+        ulimit -s "$stack"
+    fi
+}
+
 # Runs the program in the case's folder, with these words. The script is its input.
 run_in_room() {
-    (cd "$work/room" && exec timeout 60 "$program" "$@")
+    (cd "$work/room" && limit_stack && exec timeout 60 "$program" "$@")
 }
 
 # The same for as long as the case may take, with the standard streams closed that it wants closed.
 run_closed() {
-    local number closing= seconds=60
+    local number closing= seconds=60 memory=unlimited
     if [ -e "$folder/seconds" ]; then
         seconds=$(cat "$folder/seconds")
+    fi
+    if [ -e "$folder/memory" ]; then
+        memory=$(cat "$folder/memory")
     fi
     for number in $(cat "$folder/closed" 2>/dev/null); do
         closing="$closing $number>&-"
     done
-    (cd "$work/room" && exec timeout "$seconds" bash -c "exec \"\$0\" \"\$@\" $closing" "$program" "$@")
+    (cd "$work/room" && limit_stack && ulimit -v "$memory" && exec timeout "$seconds" bash -c "exec \"\$0\" \"\$@\" $closing" "$program" "$@")
 }
 
 # Starts the run beside the case's, and waits until it holds the folder and sleeps: it has opened the folder then, and waits for its
@@ -119,7 +136,7 @@ start_beside() {
     local tries
     rm -f "$work/later"
     mkfifo "$work/later"
-    (cd "$work/room" && exec "$program" "$@") <"$work/later" >"$work/beside" &
+    (cd "$work/room" && limit_stack && exec "$program" "$@") <"$work/later" >"$work/beside" &
     beside=$!
     exec {later}>"$work/later"
     for tries in $(seq 500); do
