@@ -1,10 +1,12 @@
 // What reads folders of a real disk and makes stages.
-ghost use Rattle.std.specs.Prelude.{◌≡◌, ◌≤◌, ℕ, IfOk, IsTrue, MatchResult, length};
+ghost use Rattle.std.specs.Prelude.{◌≡◌, ◌≤◌, ◌<◌, ℕ, IfOk, IsSomeAnd, IsTrue, MatchResult, length};
+ghost use Rattle.disk_real.specs.Sizes.{most_bytes};
 
 use crate::folder::{RealDir, RealStage, file_path};
 use crate::guard::Guard;
 use crate::numbers::draw;
 use crate::root::Root;
+use crate::sizes::is_past;
 use crate::system::{Found, System, find, is_folder, open_to_read, read_at};
 use file_names::owned;
 use mt_base::{FileId, NoMemory};
@@ -119,7 +121,8 @@ impl<R: System> RealArm<R> {
         Ok(())
     }
 
-    // Reads the bytes of a file from a place on. After an error it is not kept. What is no folder has no files.
+    // Reads the bytes of a file from a place on. After an error it is not kept. What is no folder has no files. A file that is longer than its format
+    // lets it be is read no further than a piece past that, so that it takes no more memory: it is damaged, whatever follows.
     fn read_file(
         &mut self,
         dir: &RealDir,
@@ -130,8 +133,10 @@ impl<R: System> RealArm<R> {
         ensures same { self.new ≡ self.old }
         ensures bound { IfOk result (λ n. n ≤ length buf.new) }
         ensures hollow { IsTrue dir.now.hollow → MatchResult result (λ n. n ≡ 0) (λ _. ⊥) }
+        ensures past { IsSomeAnd (most_bytes file) (λ most. most < at)
+            → MatchResult result (λ n. n ≡ 0) (λ _. ⊥) }
     {
-        if dir.is_hollow() {
+        if dir.is_hollow() || is_past(file, at) {
             return Ok(0);
         }
         self.keep(dir, file)?;

@@ -9,6 +9,7 @@ mod guard;
 mod handles;
 mod numbers;
 mod root;
+mod sizes;
 mod standard;
 mod streams;
 mod system;
