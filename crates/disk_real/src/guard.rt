@@ -1,7 +1,7 @@
 // Which folder lies under the path of a disk: its own, or one that was put there since.
 ghost use Rattle.std.specs.Prelude.{◌≡◌, ◌↔◌, IsTrue, OnOk, Some};
 
-use crate::system::{System, fault, metadata_of};
+use crate::system::{System, metadata_of, metadata_of_open};
 use file_names::owned;
 use mt_base::NoMemory;
 use mt_outside::DiskError;
@@ -43,13 +43,11 @@ pub(crate) struct Guard {
 impl Guard {
     /// That of a lock which was opened at this path.
     pub(crate) fn new(path: String, lock: &File) -> Result<Guard, DiskError> {
-        match lock.metadata() {
-            Ok(metadata) => Ok(Guard {
-                path,
-                lock: Identity::of(&metadata),
-            }),
-            Err(error) => Err(fault(error)),
-        }
+        let found = metadata_of_open(lock)?;
+        Ok(Guard {
+            path,
+            lock: Identity::of(&found),
+        })
     }
 
     /// Another one of the same lock.

@@ -174,6 +174,17 @@ pub(crate) fn metadata_of<R: System>(rt: &R, path: &str) -> Result<Metadata, Dis
     look(rt, path, Links::Kept).map_err(fault)
 }
 
+/// The metadata of an open file, asked again where that was interrupted.
+pub(crate) fn metadata_of_open(file: &File) -> Result<Metadata, DiskError> {
+    for _ in 0..MOST_TRIES {
+        match file.metadata() {
+            Err(error) if error.kind() == ErrorKind::Interrupted => {}
+            outcome => return outcome.map_err(fault),
+        }
+    }
+    Err(DiskError::Fault)
+}
+
 /// Whether there is a folder.
 pub(crate) fn is_folder<R: System>(rt: &R, path: &str) -> bool {
     match look(rt, path, Links::Followed) {
