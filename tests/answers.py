@@ -4,6 +4,7 @@
     tests/answers.py < SCRIPT      prints the replies to a script over an empty root, and ends with the status of its run
     tests/answers.py cases         compares what it works out with the stdout of run_cases and of the cases of tests/built, where it can
     tests/answers.py fill < LINES  prints directives of run_cases with what they come to, to be put into its stdin and stdout
+    tests/answers.py events SEED COUNT  prints that many random lists of events of the core, as directives of run_cases
 
 It knows CREATE, INSERT, SELECT, EXPLAIN and OPTIMIZE over what this and earlier runs accepted, merges by the policy of the run's words,
 a disk that stops or of which some calls fail, and what a crash may leave of its names. It is slow and plain: a SELECT asks each row, and
@@ -1051,10 +1052,10 @@ def schema_shown(schema):
     return b", ".join(shown_columns + shown_parts)
 
 
-# ---- random events of the core
+# ---- events of the core, and random ones
 
 class Dice:
-    """The numbers that look random of `random`, `courses` and `scripts`: those of a seed are the same each time."""
+    """Numbers that look random, as those of `random` of run_cases: those of a seed are the same each time."""
 
     def __init__(self, seed):
         self.state = seed
@@ -1067,86 +1068,92 @@ class Dice:
         return words[self.below(len(words))]
 
 
-class Course:
-    """The core while random events come, as a table's parts alone: for each table the partitions and blocks of its parts, and how many
-    commands were accepted."""
+def drawn_events(dice):
+    """A random list of events of the core, of which the first makes a table."""
+    most, other = ["prst"[dice.below(4)] for _ in range(2)]
+    events = [f"create {most}"]
 
-    def __init__(self):
-        self.tables, self.length, self.snapshots = {}, 0, 0
-
-    def accept(self, dice, table):
-        """What an accept gives, as what is done where it is not lost, and its outcome."""
+    def accept(table):
         if dice.below(8) == 0:
-            return self.create(table)
-        first, _ = dice.below(2), dice.below(3)
-        if table not in self.tables:
-            return None
-        return lambda: self.insert(table, first if table == "p" else None)
+            return f"create {table}"
+        return f"insert {table} {dice.below(2)} {dice.below(3)}"
 
-    def create(self, table):
-        return None if table in self.tables else lambda: self.tables.update({table: (0, [])})
-
-    def insert(self, table, partition):
-        last, parts = self.tables[table]
-        self.tables[table] = last + 1, parts + [(partition, last + 1)]
-
-    def merge(self, dice, table):
-        """What a put gives, and how many parts it merges."""
+    def put(table):
         number, first, count = dice.below(2), dice.below(2), dice.below(4)
-        partition = number if table == "p" else None
-        own = [part for part in self.tables.get(table, (0, []))[1] if part[0] == partition]
-        if not count or first + count > len(own):
-            return None, count
-        last, parts = self.tables[table]
-        gone = own[first + 1:first + count]
-        return lambda: self.tables.update({table: (last, [part for part in parts if part not in gone])}), count
+        return f"put {table} {number if table == 'p' else 'all'} {first} {count}"
 
-    def event(self, dice, pair, tally):
-        """One event, and what it came to."""
-        table = pair[1] if dice.below(8) == 0 else pair[0]
+    for _ in range(dice.below(9) + 8):
+        table = other if dice.below(8) == 0 else most
         kind = dice.below(10)
         if kind <= 4:
-            done = self.accept(dice, table)
-            tally["accepted" if done else "refused"] += 1
+            events.append(accept(table))
         elif kind <= 6:
-            done, count = self.merge(dice, table)
-            tally["puts" if done else "refused"] += 1
-            tally["sources"] += count if done else 0
+            events.append(put(table))
         elif kind == 7:
-            kind, is_done = dice.below(5), dice.below(2) == 0
-            done = None
-            if kind in (1, 2):
-                done = self.accept(dice, table)
-            elif kind > 2:
-                done, _ = self.merge(dice, table)
-            done = done if is_done else None
-            tally["crashes"] += 1
-            self.snapshots = 0
-        elif kind == 8:
-            done = None
-            tally["taken" if table in self.tables else "refused"] += 1
-            self.snapshots += table in self.tables
+            kind, done = dice.below(5), ("done", "lost")[dice.below(2)]
+            events.append(f"crash {done} {accept(table) if kind < 3 else put(table)}" if kind else "crash")
         else:
-            done = None
-            tally["read" if dice.below(2) < self.snapshots else "refused"] += 1
+            events.append(f"take {table}" if kind == 8 else f"read {dice.below(2)}")
+    return events
+
+
+class Course:
+    """The core while events come, as a table's parts alone: for each table the partitions and blocks of its parts; and what they came to."""
+
+    def __init__(self):
+        self.tables, self.snapshots, self.tally = {}, 0, collections.Counter()
+
+    def accepted(self, word, table, *numbers):
+        """What an accept does, nothing where it is refused."""
+        if word == "create":
+            return None if table in self.tables else lambda: self.tables.update({table: (0, [])})
+        if table not in self.tables:
+            return None
+        last, parts = self.tables[table]
+        partition = numbers[0] if table == "p" else "all"
+        return lambda: self.tables.update({table: (last + 1, parts + [(partition, last + 1)])})
+
+    def merged(self, table, partition, first, count):
+        """What a put does, nothing where it is refused."""
+        first, count = int(first), int(count)
+        last, parts = self.tables.get(table, (0, []))
+        own = [part for part in parts if part[0] == partition]
+        if not count or first + count > len(own):
+            return None
+        gone = own[first + 1:first + count]
+        return lambda: self.tables.update({table: (last, [part for part in parts if part not in gone])})
+
+    def done(self, word, *words):
+        """What an accept or a put does."""
+        return self.merged(*words) if word == "put" else self.accepted(word, *words)
+
+    def event(self, word, *words):
+        """One event."""
+        done, given = None, False
+        if word == "take":
+            given = words[0] in self.tables
+            self.snapshots += given
+        elif word == "read":
+            given = int(words[0]) < self.snapshots
+        elif word == "crash":
+            done = self.done(*words[1:]) if words and words[0] == "done" else None
+            given, self.snapshots = True, 0
+        else:
+            done = self.done(word, *words)
+            given = done is not None
+        self.tally[{"create": "insert"}.get(word, word) if given else "refused"] += 1
+        self.tally["sources"] += int(words[3]) if word == "put" and given else 0
         if done:
             done()
 
 
-def courses(seed, lists):
-    """What random lists of events of the core come to: how many of each outcome there are. None leaves parts that do not stand."""
-    dice, tally = Dice(seed), collections.Counter()
-    for _ in range(lists):
-        pair = ["prst"[dice.below(4)] for _ in range(2)]
-        course = Course()
-        course.create(pair[0])()
-        tally["accepted"] += 1
-        events = dice.below(9) + 8
-        for _ in range(events):
-            course.event(dice, pair, tally)
-        tally["events"] += 1 + events
-    words = lists, *(tally[word] for word in ("events", "accepted", "puts", "sources", "taken", "read", "crashes", "refused"))
-    told = b"%d lists, %d events: %d accepted, %d puts of %d parts, %d snapshots, %d reads, %d crashes, %d refused; after 0 the parts do not stand"
+def course(events):
+    """What a list of events of the core comes to: how many of each outcome there are. None leaves parts that do not stand."""
+    made = Course()
+    for event in events:
+        made.event(*event.split(" "))
+    words = len(events), *(made.tally[word] for word in ("insert", "put", "sources", "take", "read", "crash", "refused"))
+    told = b"%d events: %d accepted, %d puts of %d parts, %d snapshots, %d reads, %d crashes, %d refused; after 0 the parts do not stand"
     return told % words
 
 
@@ -1278,28 +1285,6 @@ def drawn_script(dice, is_settled):
     return policy, statements
 
 
-def scripts(seed, count):
-    """What random scripts come to: how many there are of what, and the digest of all that they print. None prints what it may not, and no
-    SELECT with FINAL prints another thing after a merge, where each key folds to one."""
-    dice, tally, printed = Dice(seed), collections.Counter(), b""
-    for number in range(count):
-        policy, statements = drawn_script(dice, number % 2 == 0)
-        replies = Store(policy).run("".join(text for _, text in statements).encode())[1]
-        printed += replies
-        told = re.findall(rb"[A-Z][^\n]*\n(?:[^A-Z][^\n]*\n)*", replies)
-        assert len(told) == len(statements)
-        tally["statements"] += len(statements)
-        tally["finals"] += sum(kind == "final" for kind, _ in statements)
-        tally["rows"] += sum(reply.count(b"\n") - 1 for reply in told)
-        tally["refusals"] += sum(reply.startswith(b"E") for reply in told)
-        pairs = [place for place, (kind, _) in enumerate(statements) if kind == "optimize"] if number % 2 == 0 else []
-        tally["pairs"] += len(pairs)
-        tally["changed"] += sum(told[place - 1] != told[place + 1] for place in pairs)
-    words = count, *(tally[word] for word in ("statements", "finals", "rows", "refusals", "changed", "pairs"))
-    told = b"%d scripts, %d statements: %d SELECTs with FINAL, %d rows, %d refusals; 0 not allowed, %d of %d pairs differ; " % words
-    return told + b"%d bytes, SHA-256 %s" % (len(printed), hashlib.sha256(printed).hexdigest().encode())
-
-
 class Bench:
     """What directives come to, where no damage is set up and each root began empty."""
 
@@ -1402,13 +1387,13 @@ class Bench:
             self.named[name] = bytes_of(script)
         elif word not in KNOWN:
             self.is_known, self.left = False, None
-        if word in (b"probe", b"check", b"each", b"crashes", b"stops", b"scripts"):
+        if word in (b"probe", b"check", b"each", b"crashes", b"stops"):
             self.left = None
 
     def answers(self, word, rest):
         """What a line comes to, each line of it; nothing where none is worked out."""
         if word == b"check":
-            yield b"three alike, " + self.ran(Disk(), self.script)
+            yield b"both alike, " + self.ran(Disk(), self.script)
         elif word == b"run" and self.is_known:
             self.left = Disk()
             yield self.run(self.left)
@@ -1424,10 +1409,8 @@ class Bench:
             made = Store()
             made.run(bytes_of(rest[len(b"schema "):]))
             yield b"%s and %s" % (*[schema_shown(made.commands[0][1])] * 2,)
-        elif word == b"courses":
-            yield courses(*map(int, rest.split(b" ")))
-        elif word == b"scripts":
-            yield scripts(*map(int, rest.split(b" ")))
+        elif word == b"course":
+            yield course(rest.decode().split(";"))
         elif word == b"allows":
             yield b"true" if self.allows(rest) else b"false"
         elif word == b"names" and self.left is not None:
@@ -1449,7 +1432,7 @@ class Bench:
 
 
 RUNS = {b"run", b"again", b"check", b"probe", b"crash", b"crashes", b"stops", b"each", b"names", b"left"}
-KNOWN = RUNS | {b"allows", b"courses", b"scripts", b"bytes", b"twin", b"#", b""}
+KNOWN = RUNS | {b"allows", b"course", b"bytes", b"twin", b"#", b""}
 
 
 def choices_of(disk):
@@ -1519,6 +1502,11 @@ def main():
     if sys.argv[1:] == ["fill"]:
         text = sys.stdin.buffer.read()
         fill(text.split(b"\n")[:-1])
+    elif sys.argv[1:2] == ["events"]:
+        dice = Dice(int(sys.argv[2]))
+        print(f"case lists of events of seed {sys.argv[2]}")
+        for _ in range(int(sys.argv[3])):
+            print("course " + ";".join(drawn_events(dice)))
     elif sys.argv[1:] == ["cases"]:
         failed = False
         for name, (tried, differ) in (("run_cases", compare_cases()), ("tests/built", compare_built())):

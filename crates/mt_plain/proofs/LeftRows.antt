@@ -17,11 +17,11 @@ use Rattle.mt_values.specs.declared.engine.Aggregate.{Aggregate}
 use Rattle.mt_values.specs.declared.schema.Schema.{Schema}
 use Rattle.mt_values.specs.Tables.{partition_of, same_partition, sorting_cmp}
 use Rattle.mt_values.specs.Values.{Row}
-use Rattle.mt_model.specs.Final.{FoldsAll, Sees, TableFolds}
+use Rattle.mt_model.specs.Final.{Sees, TableFolds}
 use Rattle.mt_model.specs.Folding.{ComesFrom, Leaves}
 use Rattle.mt_model.specs.Live.{of_key}
 use Rattle.mt_model.specs.Partial.{TableRun, functions_of}
-use Rattle.mt_model.specs.Rules.{Folds, FoldsAs, Run, is_settled}
+use Rattle.mt_model.specs.Rules.{Folds, Run}
 use Rattle.mt_model.proofs.Commands.{partition_is, same_itself}
 use Rattle.mt_model.proofs.Determined.{sorting_total}
 use Rattle.mt_model.proofs.Merged.{comes_itself, comes_none, of_key_append}
@@ -277,26 +277,6 @@ module _ (schema : Schema) where
         all = λ x seen. all_joined told nothing only first rows own rest own_is rest_is firsts lefts key each all x (sees_keys is_final rows x seen);
       })
 
-  -- a fold of the rows of the key, and then of the others
-  pub folds_more : (first : Row) (rows own rest a b : List Row) → own ≡ filter (is_like schema first) rows → rest ≡ unlike schema first rows
-      → Leaves (TableFolds schema) own a → list_all (is_like schema first) a ≡ true → FoldsAll schema rest b → FoldsAll schema rows (a ++ b)
-  folds_more first rows own rest a b own_is rest_is one alike other =
-      key_then (KeySees schema true) (nothing_seen true) (only_nothing_seen true) first rows own rest own_is rest_is a b one alike other
-
-  pub folds_none : FoldsAll schema [] []
-  folds_none = none_sees true
-
-  -- what one merge leaves FINAL may leave
-  one_fold : (settled : Bool) (run : List Row → List Row → Type 0) (rows out : List Row) → 0 < length rows → run rows out → FoldsAs settled run rows out
-  one_fold true run rows out some left = left
-  one_fold false run [] out some left = absurd (omega (arith, some))
-  one_fold false run (row ∷ rows) out some left = record { merged = row ∷ rows; comes = comes_itself run (row ∷ rows); leaves = left }
-
-  pub run_leaves : (functions : List (Option Aggregate)) (rows out : List Row) → 0 < length rows → functions ≡ functions_of schema → Run schema.engine functions rows out → Leaves (TableFolds schema) rows out
-  run_leaves functions [] out some are left = absurd (omega (arith, some))
-  run_leaves functions (row ∷ rows) out some are left =
-      one_fold (is_settled schema.engine (row ∷ rows)) (TableRun schema) (row ∷ rows) out some (subst (λ (fs : List (Option Aggregate)). Run schema.engine fs (row ∷ rows) out) are left)
-
   -- the first row is like itself
   pub unlike_first : (first : Row) (others : List Row) → unlike schema first (first ∷ others) ≡ unlike schema first others
   unlike_first first others = ap (λ b. cond (not b) (first ∷ unlike schema first others) (unlike schema first others)) (like_itself first)
@@ -350,7 +330,3 @@ none_of (row ∷ rows) e = absurd (omega arith)
 pub seen_of_none : (schema : Schema) (is_final : Bool) (rows none : List Row) (lefts : List (List Row)) → length rows ≡ 0 → none ≡ [] → lefts ≡ none ∷ [] → AreSeen schema is_final rows lefts
 seen_of_none schema is_final rows none lefts size none_is is =
     subst (λ (rs : List Row). AreSeen schema is_final rs lefts) (sym (none_of rows size)) (seen_none schema is_final lefts (is ∙ ap (λ (r : List Row). r ∷ []) none_is))
-
-pub folds_of_none : (schema : Schema) (rows none : List Row) → length rows ≡ 0 → none ≡ [] → FoldsAll schema rows none
-folds_of_none schema rows none size none_is =
-    subst (λ (rs : List Row). FoldsAll schema rs none) (sym (none_of rows size)) (subst (FoldsAll schema []) (sym none_is) (folds_none schema))

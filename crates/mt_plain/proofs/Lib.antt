@@ -2,7 +2,7 @@ pub mod Aggregating
 pub mod AllReplies
 pub mod Allowing
 pub mod Answering
-pub mod Coming
+pub mod Bits
 pub mod Equal
 pub mod Exactly
 pub mod Folded
@@ -11,6 +11,7 @@ pub mod Inserting
 pub mod LeftRows
 pub mod Merging
 pub mod Newest
+pub mod OwnRows
 pub mod Parting
 pub mod Rows
 pub mod Signs

@@ -1,6 +1,6 @@
 -- What one statement comes to, run after the last entry of a history, over an outside without faults.
 use Rattle.std.proofs.Common.{◌≡◌, ℕ, ◌+◌, ◌≤◌, List, [], ◌∷◌, ◌++◌, Option, Some, None, Result, Ok, Err, length, take, All, sym, ap, subst, ◌∙◌, inl, inr, arith, append-nil, length-append}
-use Rattle.std.specs.Prelude.{IfOk, OnOk}
+use Rattle.std.specs.Prelude.{IfOk}
 use Rattle.std.proofs.lemmas.List.Elements.{All-append}
 use Rattle.mt_values.specs.declared.command.Command.{Command}
 use Rattle.mt_values.specs.declared.command.Entry.{Entry}
@@ -15,14 +15,13 @@ use Rattle.mt_model.specs.Reply.{ok_line, rows_reply}
 use Rattle.mt_model.specs.Commands.{commands_of, none_on}
 use Rattle.mt_model.specs.declared.refusal.Refusal.{Refusal}
 use Rattle.mt_model.specs.declared.refusal.Refusal.TheVariants as refusal
-use Rattle.mt_model.specs.History.{History, IsLegal, entered, schema_of}
+use Rattle.mt_model.specs.History.{History, entered, schema_of}
 use Rattle.mt_model.specs.Refusals.{refusal_line}
 use Rattle.mt_model.specs.Queries.{query_for, query_of_select}
 use Rattle.mt_model.specs.Session.{AddsNothing, Accepts, StopsAfter, TurnRefuses, RefusedAs, SessionRun, Takes, TakesCommands, TakesStatement}
 use Rattle.mt_model.specs.Script.{ScriptRun}
 use Rattle.mt_model.proofs.Growing.{run_append, run_more, stays}
-use Rattle.mt_plain.specs.Plain.{Grows, MayFollow, TookTurns, calm, reply_at, unmerged_turn}
-use Rattle.mt_plain.proofs.Coming.{legal_turns}
+use Rattle.mt_plain.specs.Plain.{Grows, TookTurns, calm, reply_at, unmerged_turn}
 use Rattle.mt_plain.proofs.Turning.{Ends, ends, front_of, turn_refuses, whole}
 
 here : (h : History) → AddsNothing h 0 (length h) (length h)
@@ -31,10 +30,6 @@ here h = stays h 0 (length h) (omega arith)
 pub when_ok : {A E : Type 0} (r : Result A E) (P Q : A → Type 0) → ((x : A) → P x → Q x) → IfOk r P → IfOk r Q
 when_ok (Ok x) P Q then held = then x held
 when_ok (Err e) P Q then held = tt
-
-pub when_on : {A E : Type 0} (r : Result A E) (P : A → Type 0) (Q : Type 0) → ((x : A) → P x → Q) → IfOk r P → OnOk r Q
-when_on (Ok x) P Q then held = then x held
-when_on (Err e) P Q then held = tt
 
 refused_here : (h : History) (why : Refusal) (reply : List ℕ) → reply ≡ refusal_line why → RefusedAs h 0 (length h) (length h) why reply
 refused_here h why reply is = record { line = is; nothing = here h }
@@ -81,16 +76,10 @@ commands_take h new s cs reply gives took =
         subst (λ (x : History). TurnRefuses x (length ended.done) next why) (sym (whole new)) (turn_refuses new (length ended.done) next why refuses) in
         inr (inr (inr (ended.done, next, more, stops, inl (why, turn, line))))
 
-pub took_legal : (h new : History) (cs : List Command) (reply : List ℕ) → All (MayFollow h) cs → TookTurns cs h new reply → IsLegal h → IsLegal new
-took_legal h new cs reply may took legal = subst IsLegal (ap (λ t. t.history) took.after) (legal_turns 0 cs h may legal)
-
 -- ---- SELECT
 
 pub unselected_takes : (h : History) (t : SelectText) (why : Refusal) (reply : List ℕ) → query_of_select t h ≡ Err why → reply ≡ refusal_line why → TakesStatement calm h 0 (statement.Select t) (length h) (length h) reply
 unselected_takes h t why reply is line = inr (inl (why, subst (λ (x : History). query_of_select t x ≡ Err why) (sym (whole h)) is, refused_here h why reply line))
-
-pub no_table_takes : (h : History) (t : SelectText) (reply : List ℕ) → schema_of t.table h ≡ None → reply ≡ refusal_line (refusal.NoTable t.table) → TakesStatement calm h 0 (statement.Select t) (length h) (length h) reply
-no_table_takes h t reply none line = unselected_takes h t (refusal.NoTable t.table) reply (ap (query_for t) none) line
 
 pub answer_takes : (h : History) (schema : Schema) (t : SelectText) (lines : List (List ℕ)) (reply : List ℕ) → schema_of t.table h ≡ Some schema → Answer h schema t lines → reply ≡ rows_reply lines (length h)
     → TakesStatement calm h 0 (statement.Select t) (length h) (length h) reply

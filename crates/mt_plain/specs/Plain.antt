@@ -4,12 +4,11 @@ use Rattle.std.specs.List.{Contains}
 use Rattle.mt_values.specs.declared.command.Command.{Command}
 use Rattle.mt_values.specs.declared.command.Command.TheVariants as command
 use Rattle.mt_values.specs.declared.command.Entry.{Entry}
-use Rattle.mt_values.specs.declared.schema.Schema.{Schema}
 use Rattle.mt_values.specs.declared.statement.SelectText.{SelectText}
 use Rattle.mt_values.specs.declared.statement.Statement.TheVariants as statement
 use Rattle.mt_values.specs.Script.{Item}
 use Rattle.mt_model.specs.declared.refusal.Refusal.{Refusal}
-use Rattle.mt_model.specs.History.{FewInserts, History, IsInsertInto, IsTableSchema, entered, inserts, schema_of}
+use Rattle.mt_model.specs.History.{FewInserts, History, entered, inserts}
 use Rattle.mt_model.specs.Numbers.{last_number}
 use Rattle.mt_model.specs.Outside.{Outside}
 use Rattle.mt_model.specs.Refusals.{refusal_line}
@@ -51,11 +50,6 @@ pub record TookTurns (commands : List Command) (old new : History) (reply : List
   pub refused : Option Refusal
   pub after : after_turns 0 commands old ≡ record { history = new; refused = refused }
   pub reply_is : reply ≡ reply_at (length new) refused
-
--- a command may come after a history, if its turn refuses nothing
-abbrev pub MayFollow : History → Command → Type 0
-MayFollow h (command.Create c) = IsTableSchema c.schema
-MayFollow h (command.Insert i) = (schema : Schema) × (schema_of i.table h ≡ Some schema) × IsInsertInto schema i
 
 -- the history stayed or grew, and what was added is session 0's
 pub record Grows (old new : History) : Type 0 where

@@ -1,5 +1,5 @@
 // AggregatingMergeTree: one row, with each column's function of its values (docs/engines.md, "AggregatingMergeTree").
-ghost use Rattle.std.specs.Prelude.{◌≡◌, IfOk, Some, bit_and, bit_or, bit_xor};
+ghost use Rattle.std.specs.Prelude.{◌≡◌, ◌<◌, IfOk, Some};
 ghost use Rattle.std.specs.List.{fold, list_any, reduce};
 ghost use Rattle.mt_model.specs.Rules.{AreAggregatesFrom, IsAggregateOf, IsBest, LeavesAggregates, function_or_first, joined_bits};
 ghost use Rattle.mt_values.specs.declared.engine.Aggregate.TheVariants as aggregate;
@@ -212,48 +212,40 @@ fn joined_to(
 fn join(function: Aggregate, bits: &mut Value, value: &Value)
     ensures { bits.new ≡ joined_bits (join_by function) bits.old value.now }
 {
+    match (bits, value) {
+        (Value::UInt8(m), Value::UInt8(n)) => {
+            *m = joined(function, u64::from(*m), u64::from(*n)) as u8;
+        }
+        (Value::UInt16(m), Value::UInt16(n)) => {
+            *m = joined(function, u64::from(*m), u64::from(*n)) as u16;
+        }
+        (Value::UInt32(m), Value::UInt32(n)) => {
+            *m = joined(function, u64::from(*m), u64::from(*n)) as u32;
+        }
+        (Value::UInt64(m), Value::UInt64(n)) => *m = joined(function, *m, *n),
+        _ => {}
+    }
+}
+
+/// Two numbers joined bit by bit: those before the last bits, and then the last ones.
+fn joined(function: Aggregate, m: u64, n: u64) -> u64
+    ensures { result ≡ join_by function m n }
+{
+    if m == 0 && n == 0 {
+        return 0;
+    }
+    joined(function, m / 2, n / 2) * 2 + joined_last(function, m % 2, n % 2)
+}
+
+/// Two bits joined: whether both are set, whether one is, or whether just one is.
+fn joined_last(function: Aggregate, m: u64, n: u64) -> u64
+    requires first { m < 2 }
+    requires second { n < 2 }
+    ensures { result ≡ join_by function m n }
+{
     match function {
-        Aggregate::BitAnd => keep_shared_bits(bits, value),
-        Aggregate::BitOr => add_bits(bits, value),
-        _ => turn_bits(bits, value),
-    }
-}
-
-/// Keeps the bits that the value has too.
-fn keep_shared_bits(bits: &mut Value, value: &Value)
-    ensures { bits.new ≡ joined_bits bit_and bits.old value.now }
-{
-    match (bits, value) {
-        (Value::UInt8(m), Value::UInt8(n)) => *m &= *n,
-        (Value::UInt16(m), Value::UInt16(n)) => *m &= *n,
-        (Value::UInt32(m), Value::UInt32(n)) => *m &= *n,
-        (Value::UInt64(m), Value::UInt64(n)) => *m &= *n,
-        _ => {}
-    }
-}
-
-/// Adds the bits that the value has.
-fn add_bits(bits: &mut Value, value: &Value)
-    ensures { bits.new ≡ joined_bits bit_or bits.old value.now }
-{
-    match (bits, value) {
-        (Value::UInt8(m), Value::UInt8(n)) => *m |= *n,
-        (Value::UInt16(m), Value::UInt16(n)) => *m |= *n,
-        (Value::UInt32(m), Value::UInt32(n)) => *m |= *n,
-        (Value::UInt64(m), Value::UInt64(n)) => *m |= *n,
-        _ => {}
-    }
-}
-
-/// Turns the bits that the value has.
-fn turn_bits(bits: &mut Value, value: &Value)
-    ensures { bits.new ≡ joined_bits bit_xor bits.old value.now }
-{
-    match (bits, value) {
-        (Value::UInt8(m), Value::UInt8(n)) => *m ^= *n,
-        (Value::UInt16(m), Value::UInt16(n)) => *m ^= *n,
-        (Value::UInt32(m), Value::UInt32(n)) => *m ^= *n,
-        (Value::UInt64(m), Value::UInt64(n)) => *m ^= *n,
-        _ => {}
+        Aggregate::BitAnd => m * n,
+        Aggregate::BitOr => m.max(n),
+        _ => (m + n) % 2,
     }
 }

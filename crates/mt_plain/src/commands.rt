@@ -1,12 +1,11 @@
 // The commands that statements give.
-ghost use Rattle.std.specs.Prelude.{◌≡◌, ◌<◌, ◌^◌, All, Ok, IfErr, IfOk, length};
+ghost use Rattle.std.specs.Prelude.{◌≡◌, ◌<◌, ◌^◌, Ok, IfErr, IfOk, length};
 ghost use Rattle.mt_base.specs.Stops.{Refuses};
 ghost use Rattle.mt_values.specs.declared.statement.Statement.TheVariants as statement;
 ghost use Rattle.mt_values.specs.Grid.{AreRowsOf};
 ghost use Rattle.mt_model.specs.Commands as commands;
 ghost use Rattle.mt_model.specs.History as history;
 ghost use Rattle.mt_model.specs.Reply as reply;
-ghost use Rattle.mt_plain.specs.Plain.{MayFollow};
 
 use crate::{partitions_of, rows_in, rows_of, schema_of};
 use mt_base::{NoMemory, Stop, Twin};
@@ -44,7 +43,6 @@ pub fn insert_commands(
         (λ v. commands.commands_of entries.now (statement.Insert insert.now) ≡ Ok v.items) }
     ensures refused { IfErr result
         (Refuses (commands.commands_of entries.now (statement.Insert insert.now))) }
-    ensures may_come { IfOk result (λ v. All (MayFollow entries.now) v.items) }
 {
     let Some(schema) = schema_of(entries, &insert.table) else {
         return Err(Stop::Refused(Refusal::NoTable(insert.table.twin(alloc)?)));

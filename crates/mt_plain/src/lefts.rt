@@ -1,8 +1,7 @@
 // What a SELECT may see of a table's rows (docs/definitions.md, "Partly folded rows"; docs/engines.md, "FINAL").
 ghost use Rattle.std.specs.Prelude.{◌≡◌, ◌<◌, ◌++◌, IfOk, false, filter, flat_map, length, map, true};
 ghost use Rattle.std.specs.List.{list_all};
-ghost use Rattle.mt_model.specs.Final.{FoldsAll, TableFolds};
-ghost use Rattle.mt_model.specs.Folding.{ComesFrom, Leaves};
+ghost use Rattle.mt_model.specs.Folding.{ComesFrom};
 ghost use Rattle.mt_model.specs.Partial as partial;
 ghost use Rattle.mt_model.specs.Rules.{Folds, Run};
 ghost use Rattle.mt_plain.specs.Lefts.{AreSeen, KeySees, is_like, unlike};
@@ -11,7 +10,7 @@ ghost use Rattle.mt_plain.specs.Outcomes.{AreExactly};
 use crate::folding::all_folded;
 use crate::merges::all_merged;
 use crate::partitions::partition_of;
-use crate::rules::{Rows, add_rows, only, runs};
+use crate::rules::{Rows, add_rows, only};
 use crate::{Order, compare, same_partition};
 use mt_base::{NoMemory, Seq, Twin};
 use mt_values::{Aggregate, Engine, Row, Schema};
@@ -37,42 +36,6 @@ pub fn all_seen(
     let firsts = seen_of_key(alloc, schema, is_final, first, &own)?;
     let lefts = all_seen(alloc, schema, is_final, &rest)?;
     each_joined(alloc, &firsts, &lefts)
-}
-
-/// Rows that FINAL may leave of a table's rows: of each key what one merge of all its rows may leave.
-///
-/// `NoMemory` where an allocation failed, and as `folded_key` says.
-pub fn folded_rows(alloc: Global, schema: &Schema, rows: &[Row]) -> Result<Vec<Row>, NoMemory>
-    ensures { IfOk result (λ out. FoldsAll schema.now rows.now out.items) }
-{
-    let Some((first, others)) = rows.split_first() else {
-        return Ok(Vec::new(alloc));
-    };
-    let own = like(alloc, schema, first, rows)?;
-    let rest = unlike(alloc, schema, first, others)?;
-    let mut out = folded_key(alloc, schema, first, &own)?;
-    let mut more = folded_rows(alloc, schema, &rest)?;
-    out.append(&mut more)?;
-    Ok(out)
-}
-
-/// Rows of a row's key that FINAL may leave of at least one row of that key: some that one merge of all of them may leave.
-///
-/// `NoMemory` where an allocation failed, where a sum needs more than 128 bits, and where a merge leaves none of that key, which no rows of
-/// a table have.
-fn folded_key(alloc: Global, schema: &Schema, row: &Row, own: &[Row]) -> Result<Vec<Row>, NoMemory>
-    requires { 0 < length own.now }
-    ensures { IfOk result (λ out. Leaves (TableFolds schema.now) own.now out.items
-        × (list_all (is_like schema.now row.now) out.items ≡ true)) }
-{
-    let functions = functions_of(alloc, schema)?;
-    let lists = runs(alloc, &schema.engine, &functions, own)?;
-    for list in &lists {
-        if are_like(alloc, schema, row, list.as_slice())? {
-            return Ok(list.twin(alloc)?.into_vec());
-        }
-    }
-    Err(NoMemory)
 }
 
 /// Every list of rows of a row's key that a SELECT may see of at least one row of that key.

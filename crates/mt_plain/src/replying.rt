@@ -9,7 +9,7 @@ ghost use Rattle.mt_model.specs.Session.{Takes, TakesStatement};
 ghost use Rattle.mt_plain.specs.Outcomes.{AreExactly};
 ghost use Rattle.mt_plain.specs.Plain.{Grows, IsRepliedIn, calm, select_of};
 
-use crate::running::{refused, step};
+use crate::running::{refused, reply_to};
 use crate::schema_of;
 use crate::selecting::answers;
 use mt_base::{NoMemory, Seq, Stop, Twin};
@@ -20,7 +20,7 @@ use std::alloc::Global;
 /// Runs one statement after the last entry of a history, over an outside without faults, and gives every reply that it may have there:
 /// a SELECT may have several, by what merges left. Of an EXPLAIN it gives one.
 ///
-/// `NoMemory` as `step` and `all_seen` say.
+/// `NoMemory` as `reply_to` and `all_seen` say.
 pub fn replies_after(
     alloc: Global,
     history: &mut Vec<Entry>,
@@ -37,7 +37,7 @@ pub fn replies_after(
 {
     match select_of(statement) {
         Some(select) => select_replies(alloc, history, select),
-        None => only_text(alloc, step(alloc, history, statement)?),
+        None => only_text(alloc, reply_to(alloc, history, statement)?),
     }
 }
 

@@ -2,7 +2,6 @@
 ghost use Rattle.std.specs.Prelude.{◌≡◌, ℕ, IfErr, IfOk, List, Ok, filter, length, map};
 ghost use Rattle.mt_base.specs.Stops.{Refuses};
 ghost use Rattle.mt_model.specs.Answer.{Answer};
-ghost use Rattle.mt_model.specs.Final.{Sees};
 ghost use Rattle.mt_model.specs.Queries.{query_of};
 ghost use Rattle.mt_model.specs.Reply.{rows_reply};
 ghost use Rattle.mt_values.specs.Order.{key_of};
@@ -10,9 +9,8 @@ ghost use Rattle.mt_values.specs.Tests.{eval};
 ghost use Rattle.mt_plain.specs.Lefts.{reply_of};
 ghost use Rattle.mt_plain.specs.Outcomes.{AreExactly};
 
-use super::lines::lines_of;
 use super::live::live_rows;
-use crate::lefts::{all_seen, folded_rows};
+use crate::lefts::all_seen;
 use crate::rules::Rows;
 use crate::{Order, all_lines, picked_rows, rows_reply, sorted_rows};
 use mt_base::{NoMemory, Seq, Stop, Twin};
@@ -20,56 +18,10 @@ use mt_model::{Query, Refusal, query_of};
 use mt_values::{Bytes, Entry, Expr, Row, Schema, SelectText, Test};
 use std::alloc::Global;
 
-/// The lines of a SELECT from a table of this schema; or what it is refused for: the first name of it that is no column's, or
-/// else the first literal that does not belong to its column.
-///
-/// `Stop::NoMemory` where an allocation failed, and for a table of 2^32 columns and more, which no legal history has.
-pub fn answer(
-    alloc: Global,
-    entries: &[Entry],
-    schema: &Schema,
-    select: &SelectText,
-) -> Result<Vec<Bytes>, Stop<Refusal>>
-    ensures given { IfOk result (λ lines. Answer entries.now schema.now select.now lines.items) }
-    ensures refused { IfErr result
-        (Refuses (query_of schema.now.columns select.now)) }
-{
-    let columns = schema.columns.as_slice();
-    if columns.len() > u32::MAX as usize {
-        return Err(Stop::NoMemory);
-    }
-    let query = query_of(alloc, columns, select)?;
-    let rows = one_seen(
-        alloc,
-        schema,
-        select.is_final,
-        live_rows(alloc, &select.table, schema, entries)?,
-    )?;
-    let picked = shown(alloc, &query, &rows)?;
-    Ok(lines_of(alloc, picked)?)
-}
-
-/// What a SELECT may see of a table's live rows: the rows themselves, or with FINAL a fold of each key.
-///
-/// `NoMemory` as `folded_rows` says.
-fn one_seen(
-    alloc: Global,
-    schema: &Schema,
-    is_final: bool,
-    live: Vec<Row>,
-) -> Result<Vec<Row>, NoMemory>
-    ensures { IfOk result (λ rows. Sees schema.now is_final live.items rows.items) }
-{
-    if is_final {
-        return folded_rows(alloc, schema, &live);
-    }
-    Ok(live)
-}
-
 /// Every reply that a SELECT from a table of this schema may have at the end of a history, by what merges left; or what it is refused
-/// for, as `answer` says.
+/// for: the first name of it that is no column's, or else the first literal that does not belong to its column.
 ///
-/// `Stop::NoMemory` as there, and as `all_seen` says.
+/// `Stop::NoMemory` as `all_seen` says, and for a table of 2^32 columns and more, which no legal history has.
 pub(crate) fn answers(
     alloc: Global,
     entries: &[Entry],

@@ -37,8 +37,7 @@
 //! - `run [SCRIPT]`: over the root;
 //! - `probe [SCRIPT]`: the same, and whether the root, with each byte of its files, is as it was;
 //! - `again [SCRIPT]`: over what the last run left, with the commands that were accepted before;
-//! - `check [SCRIPT]`: over an empty disk, in whole pieces and by single bytes, and by the plain program: whether all three write and accept
-//!   the same;
+//! - `check [SCRIPT]`: over an empty disk, in whole pieces and by single bytes: whether both write and accept the same;
 //! - `names`: the names that the last run left, those that are not settled too;
 //! - `left NAME FILE`: the bytes of a file of such a name;
 //! - `crash CHOICE`: a crash after the last run, by the number of the choice; the commands that were accepted are forgotten;
@@ -49,13 +48,7 @@
 //!   to NEXTS; a crash; and a last run of that script over each root that this one may leave. A line for each first run has its answer, one
 //!   for each crash its choice, and after that one for each next run its answer, and after `then` the answers of the last runs, equal
 //!   ones once. A next run whose line would be that of the one before has none;
-//! - `stops FIRSTS NEXTS SCRIPT`: the same without the first crash;
-//! - `scripts SEED COUNT`: that many random scripts, each over an empty disk and by one of the policies of merges. A script makes one table,
-//!   of any engine, adds few rows over few keys, merges, and asks SELECTs and EXPLAINs with FINAL and without it. In every other script the
-//!   rows of each key fold to one thing, and the same SELECT with FINAL stands before and after each OPTIMIZE. How many scripts and
-//!   statements there were is printed, how many SELECTs with FINAL, rows and refusals; how many outputs, without the replies to EXPLAINs,
-//!   the plain program does not allow; how many of the pairs of SELECTs print different things; and the number of all bytes that were
-//!   printed, with their digest.
+//! - `stops FIRSTS NEXTS SCRIPT`: the same without the first crash.
 //!
 //! What is found without a run:
 //!
@@ -71,8 +64,9 @@
 //!   column and its key, and an insert adds one row of both numbers; one whose name begins with `r` or `s` has columns `a` and `b`, of which
 //!   `a` is the key, and an insert adds one row of both numbers, of which merges leave the last or the sum; each other table has one
 //!   column `a` of type UInt8, its key, and an insert adds a row of each number;
-//! - `courses SEED COUNT`: what comes of that many random lists of events of the core over such tables, with puts of merges of up to three
-//!   neighbours and with crashes within accepts and puts: how many of each outcome there were, and after how many events some visible
+//! - `course EVENT;EVENT ..`: what comes of events over such tables, one after another. There are also puts of merges, `put TABLE PARTITION
+//!   FIRST COUNT`, with the number of a partition or `all`, the place of the first part there and how many neighbours are merged, and crashes
+//!   within them, `crash done put ..` or `crash lost put ..`: how many of each outcome there were, and after how many events some visible
 //!   part of a table did not stand for the history;
 //! - `pin LENGTH NUMBER NUMBER`: what is pinned of a table with one part of two rows, at a length of the history: the schema, the part and
 //!   the length;

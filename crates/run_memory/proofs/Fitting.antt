@@ -173,6 +173,16 @@ fitting_run events fits = may_run events empty_core no_entry (recursion_from_All
 
 -- ---- one event after others
 
+-- an event that may come whatever came before
+pub fits_after : (core : Core) (e : Event) → Fits e → FitsAfter core e
+fits_after core (event.Accept a) fits = fits
+fits_after core (event.PutMerge m) fits = absurd fits
+fits_after core (event.TakeSnapshot table) fits = tt
+fits_after core (event.ReadSnapshot number) fits = tt
+fits_after core (event.Crash crash.Between) fits = tt
+fits_after core (event.Crash (crash.Within a done)) fits = fits
+fits_after core (event.Crash (crash.WithinPut m done)) fits = absurd fits
+
 -- such an event may come
 pub fitting_comes : (core : Core) (e : Event) → AreOfEvents core.history → FitsAfter core e → MayCome core e
 fitting_comes core (event.Accept a) of fits = may_accept core.history a of fits

@@ -253,16 +253,7 @@ impl Bench {
         self.told()
     }
 
-    // All that the plain program tells of the script, of which the status is that of the last run.
-    fn told_plain(&mut self) -> String {
-        let mut told = Answer::new(self.answer.alloc);
-        if let Some(left) = &self.left {
-            told.plain(left.status, &self.script);
-        }
-        self.answer.ended(told)
-    }
-
-    /// Runs a script over an empty disk, in whole pieces and by single bytes, and by the plain program.
+    /// Runs a script over an empty disk, in whole pieces and by single bytes.
     pub fn check<M: Machine, R: Threads + Wait + Sync>(
         &mut self,
         machine: &M,
@@ -272,10 +263,9 @@ impl Bench {
         self.set_any(script);
         let by_bytes = self.told_alone(machine, rt, true);
         let whole = self.told_alone(machine, rt, false);
-        let plain = self.told_plain();
         self.answer.open();
-        self.tell_ending(if by_bytes == whole && plain == whole {
-            "three alike, "
+        self.tell_ending(if by_bytes == whole {
+            "both alike, "
         } else {
             "not alike, "
         });

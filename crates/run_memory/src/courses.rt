@@ -1,27 +1,25 @@
-// Random lists of events of the core, with merges; after each event the visible parts are held against the history (docs/testing.md,
-// "Cases: `run_cases`").
-ghost use Rattle.std.specs.Prelude.{◌≡◌, ◌+◌, ◌≤◌, IfOk, drop, length, take};
+// Lists of events of the core, with merges; after each event the visible parts are held against the history (docs/testing.md,
+// "Events with merges").
+ghost use Rattle.std.specs.Prelude.{◌≡◌, ◌+◌, ◌≤◌, IfOk, IfSome, drop, length, take};
 ghost use Rattle.part_history.specs.Parts.{parts_in};
 ghost use Rattle.row_merge.specs.Merged.{inputs_of};
 ghost use Rattle.table_core.specs.Steps.{MayPut};
-ghost use Rattle.run_memory.specs.Events.{FitsAccept, FitsAfter, FitsCrashAfter};
+ghost use Rattle.run_memory.specs.Events.{FitsAfter};
 ghost use Rattle.run_memory.specs.Putting.{LeftOfRun, rows_of_each};
 
 use crate::answer::Answer;
-use crate::dice::Dice;
-use crate::events::{begins_with, event_schema, insert_of};
 use crate::standing::stand;
 use crate::text::first_word;
 use mt_base::{NoMemory, Partition, Seq, Twin};
 use mt_plain::same_partition;
-use mt_values::{Create, Name, Row, Schema};
+use mt_values::{Name, Row, Schema};
 use part_history::CorePart;
 use row_merge::merge_rows;
 use std::alloc::Global;
 use std::marker::Model;
-use table_core::{Accept, CoreState, Crash, Event, Merge, Outcome, step};
+use table_core::{CoreState, Crash, Event, Merge, Outcome, step};
 
-/// The first letters of the tables: with several partitions, with last rows, with sums, and plain.
+/// The tables: with several partitions, with last rows, with sums, and plain.
 const LETTERS: &[u8] = b"prst";
 
 /// The state of the core while events come one after another.
@@ -41,13 +39,6 @@ impl Model for Course {
     ghost invariant = { λ course. IsCourse course.state };
 }
 
-/// The tables of a list of events: one of which most events are, and another one, which may be the same.
-#[derive(Clone, Copy)]
-struct Pair {
-    most: u8,
-    other: u8,
-}
-
 /// How many events there were, and what came of them.
 #[derive(Clone, Copy)]
 struct Tally {
@@ -64,48 +55,9 @@ struct Tally {
     faults: u64,
 }
 
-/// One more.
-pub fn more(count: &mut u64) {
+// One more.
+fn more(count: &mut u64) {
     *count = count.saturating_add(1);
-}
-
-// The table of a letter.
-fn table_of(alloc: Global, letter: u8) -> Result<Name, NoMemory> {
-    Seq::from_slice(alloc, &[letter])
-}
-
-// The table of the next event.
-fn random_table(alloc: Global, dice: &mut Dice, pair: Pair) -> Result<Name, NoMemory> {
-    let letter = if dice.below(8) == 0 {
-        pair.other
-    } else {
-        pair.most
-    };
-    table_of(alloc, letter)
-}
-
-// A CREATE of a table.
-fn create_of(alloc: Global, table: Name) -> Result<Accept, NoMemory>
-    ensures { IfOk result FitsAccept }
-{
-    let session = 0;
-    let schema = event_schema(alloc, &table)?;
-    let create = Create { table, schema };
-    Ok(Accept::Create { session, create })
-}
-
-// A CREATE of a table, or an INSERT into it, which more often comes.
-fn random_accept(alloc: Global, dice: &mut Dice, table: Name) -> Result<Accept, NoMemory>
-    ensures { IfOk result FitsAccept }
-{
-    if dice.below(8) == 0 {
-        return create_of(alloc, table);
-    }
-    let session = 0;
-    let first = dice.small(2);
-    let second = dice.small(3);
-    let insert = insert_of(alloc, table, first, second)?;
-    Ok(Accept::Insert { session, insert })
 }
 
 // The rows of each part of a partition, one part after another.
@@ -199,61 +151,10 @@ impl Course {
         })
     }
 
-    // A merge of up to three neighbours of a table.
-    fn random_merge(&self, alloc: Global, dice: &mut Dice, table: Name) -> Result<Merge, NoMemory>
-        ensures { IfOk result (MayPut self.now) }
-    {
-        let number = dice.below(2);
-        let partition = if begins_with(b'p', &table) {
-            Partition::Number(number)
-        } else {
-            Partition::Whole
-        };
-        let first = usize::from(dice.small(2));
-        let count = usize::from(dice.small(4));
-        self.merge_of(alloc, table, partition, first, count)
-    }
-
-    // A crash between events, or within an accept or a put.
-    fn random_crash(&self, alloc: Global, dice: &mut Dice, table: Name) -> Result<Crash, NoMemory>
-        ensures { IfOk result (FitsCrashAfter self.now) }
-    {
-        let kind = dice.below(5);
-        let done = dice.below(2) == 0;
-        match kind {
-            0 => Ok(Crash::Between),
-            1 | 2 => {
-                let accept = random_accept(alloc, dice, table)?;
-                Ok(Crash::Within { accept, done })
-            }
-            _ => {
-                let merge = self.random_merge(alloc, dice, table)?;
-                Ok(Crash::WithinPut { merge, done })
-            }
-        }
-    }
-
-    // The next event.
-    fn random_event(&self, alloc: Global, dice: &mut Dice, pair: Pair) -> Result<Event, NoMemory>
-        ensures { IfOk result (FitsAfter self.now) }
-    {
-        let table = random_table(alloc, dice, pair)?;
-        match dice.below(10) {
-            0..=4 => Ok(Event::Accept(random_accept(alloc, dice, table)?)),
-            5..=6 => Ok(Event::PutMerge(self.random_merge(alloc, dice, table)?)),
-            7 => Ok(Event::Crash(self.random_crash(alloc, dice, table)?)),
-            8 => Ok(Event::TakeSnapshot { table }),
-            _ => {
-                let number = usize::from(dice.small(2));
-                Ok(Event::ReadSnapshot { number })
-            }
-        }
-    }
-
     // Whether the visible parts of each table stand for the history.
     fn stands(&self, alloc: Global) -> Result<bool, NoMemory> {
         for letter in LETTERS {
-            let table = table_of(alloc, *letter)?;
+            let table = Seq::from_slice(alloc, &[*letter])?;
             if let Some(schema) = self.state.schema(&table) {
                 let parts = self.state.parts(&table);
                 if !stand(alloc, &table, schema, parts, self.state.history())? {
@@ -304,51 +205,76 @@ fn turn(alloc: Global, course: &mut Course, event: Event, tally: &mut Tally) -> 
     Ok(())
 }
 
-// A list of events, of which the first makes a table.
-fn random_course(alloc: Global, dice: &mut Dice, tally: &mut Tally) -> Result<(), NoMemory> {
-    let most = dice.letter(LETTERS);
-    let other = dice.letter(LETTERS);
-    let pair = Pair { most, other };
-    let mut course = Course::new(alloc);
-    let create = create_of(alloc, table_of(alloc, most)?)?;
-    turn(alloc, &mut course, Event::Accept(create), tally)?;
-    for _ in 0..dice.below(9).saturating_add(8) {
-        let event = course.random_event(alloc, dice, pair)?;
-        turn(alloc, &mut course, event, tally)?;
-    }
-    Ok(())
-}
-
-// That many lists of events.
-fn random_courses(alloc: Global, seed: u64, count: u64) -> Result<Tally, NoMemory> {
-    let mut dice = Dice::new(seed);
-    let mut tally = Tally {
-        events: 0,
-        accepted: 0,
-        puts: 0,
-        sources: 0,
-        taken: 0,
-        read: 0,
-        crashes: 0,
-        refused: 0,
-        faults: 0,
-    };
-    for _ in 0..count {
-        random_course(alloc, &mut dice, &mut tally)?;
-    }
-    Ok(tally)
-}
-
 impl Answer {
-    /// Prints a count with a word after it.
-    pub fn tallied(&mut self, count: u64, what: &str) {
+    // The partition of a number, or `all`.
+    fn partition_of(&mut self, word: &str) -> Partition {
+        if word == "all" {
+            return Partition::Whole;
+        }
+        Partition::Number(self.number_of(word))
+    }
+
+    // A merge, as `p 1 0 2`: of a table, a partition, the place of its first part there, and how many parts.
+    fn merge(&mut self, course: &Course, text: &str) -> Option<Merge>
+        ensures { IfSome result (MayPut course.now) }
+    {
+        let (table, rest) = first_word(text);
+        let (partition, rest) = first_word(rest);
+        let (first, count) = first_word(rest);
+        let table = self.table_of(table);
+        let partition = self.partition_of(partition);
+        let first = usize::from(self.small_of(first));
+        let count = usize::from(self.small_of(count));
+        course
+            .merge_of(self.alloc, table, partition, first, count)
+            .ok()
+    }
+
+    // A crash within a put, which is done then or not.
+    fn crash_in_put(&mut self, course: &Course, text: &str, done: bool) -> Option<Event>
+        ensures { IfSome result (FitsAfter course.now) }
+    {
+        let merge = self.merge(course, text)?;
+        Some(Event::Crash(Crash::WithinPut { merge, done }))
+    }
+
+    // The next event, of a text: a put, as `put p 1 0 2`, a crash within one, as `crash done put p 1 0 2`, or another.
+    #[tactic(auto, using(crate::proofs::Fitting::fits_after))]
+    fn next_event(&mut self, course: &Course, text: &str) -> Option<Event>
+        ensures { IfSome result (FitsAfter course.now) }
+    {
+        if let Some(rest) = text.strip_prefix("put ") {
+            return Some(Event::PutMerge(self.merge(course, rest)?));
+        }
+        if let Some(rest) = text.strip_prefix("crash done put ") {
+            return self.crash_in_put(course, rest, true);
+        }
+        if let Some(rest) = text.strip_prefix("crash lost put ") {
+            return self.crash_in_put(course, rest, false);
+        }
+        let event = self.event(text)?;
+        Some(event)
+    }
+
+    // Lets the events of a line happen, one after another.
+    fn happen(&mut self, rest: &str, tally: &mut Tally) {
+        let mut course = Course::new(self.alloc);
+        for text in rest.split(';') {
+            if let Some(event) = self.next_event(&course, text) {
+                let done = turn(self.alloc, &mut course, event, tally);
+                self.note(done.is_ok());
+            }
+        }
+    }
+
+    // Prints a count with a word after it.
+    fn tallied(&mut self, count: u64, what: &str) {
         self.number(count);
         self.put(what);
     }
 
-    // Prints what came of lists of events.
-    fn tally(&mut self, lists: u64, tally: Tally) {
-        self.tallied(lists, " lists, ");
+    // Prints what came of a list of events.
+    fn tally(&mut self, tally: &Tally) {
         self.tallied(tally.events, " events: ");
         self.tallied(tally.accepted, " accepted, ");
         self.tallied(tally.puts, " puts of ");
@@ -360,15 +286,21 @@ impl Answer {
         self.tallied(tally.faults, " the parts do not stand");
     }
 
-    /// Prints what came of random lists of events of the core, and after how many events some parts did not stand for the history.
-    pub fn courses(&mut self, rest: &str) {
-        let (seed, count) = first_word(rest);
-        let seed = self.number_of(seed);
-        let count = self.number_of(count);
+    /// Prints what came of a list of events of the core, and after how many events some parts did not stand for the history.
+    pub fn course(&mut self, rest: &str) {
+        let mut tally = Tally {
+            events: 0,
+            accepted: 0,
+            puts: 0,
+            sources: 0,
+            taken: 0,
+            read: 0,
+            crashes: 0,
+            refused: 0,
+            faults: 0,
+        };
         self.open();
-        match random_courses(self.alloc, seed, count) {
-            Ok(tally) => self.tally(count, tally),
-            Err(_) => self.note(false),
-        }
+        self.happen(rest, &mut tally);
+        self.tally(&tally);
     }
 }

@@ -24,15 +24,4 @@ impl Dice {
         let place = self.below(letters.len() as u64);
         letters.get(place as usize).copied().unwrap_or(b'0')
     }
-
-    /// One of some words.
-    pub fn word(&mut self, words: &[&'static str]) -> &'static str {
-        let place = self.below(words.len() as u64);
-        words.get(place as usize).copied().unwrap_or("")
-    }
-
-    /// A number of 8 bits from 0 up to one less than the end.
-    pub fn small(&mut self, end: u64) -> u8 {
-        u8::try_from(self.below(end)).unwrap_or(0)
-    }
 }

@@ -54,7 +54,7 @@ impl Bench {
             "values" => self.answer.values(rest),
             "block" => self.answer.block(rest),
             "core" => self.answer.core(rest),
-            "courses" => self.answer.courses(rest),
+            "course" => self.answer.course(rest),
             "pin" => self.answer.pin(rest),
             "twin" => self.answer.twin(&self.left, rest),
             "fold" => self.answer.rules(rest, false),
@@ -93,7 +93,6 @@ impl Bench {
             "each" => self.each(machine, rt, rest),
             "crashes" => self.stops(machine, rt, rest, true),
             "stops" => self.stops(machine, rt, rest, false),
-            "scripts" => self.scripts(machine, rt, rest),
             _ => self.answer.fail("no such directive"),
         }
     }

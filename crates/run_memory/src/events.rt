@@ -90,16 +90,16 @@ fn pairs_schema(alloc: Global, engine: Engine) -> Result<Schema, NoMemory>
     })
 }
 
-/// Whether the name of a table begins with a letter.
-pub fn begins_with(letter: u8, table: &Name) -> bool
+// Whether the name of a table begins with a letter.
+fn begins_with(letter: u8, table: &Name) -> bool
     ensures { result ≡ begins_with letter table.now }
 {
     table.as_slice().first() == Some(&letter)
 }
 
-/// The schema of a table of the events, by the first letter of its name: `p` has several partitions, merges leave the last row of each key
-/// of `r` and the sum of each key of `s`, and others are plain.
-pub fn event_schema(alloc: Global, table: &Name) -> Result<Schema, NoMemory>
+// The schema of a table of the events, by the first letter of its name: `p` has several partitions, merges leave the last row of each key
+// of `r` and the sum of each key of `s`, and others are plain.
+fn event_schema(alloc: Global, table: &Name) -> Result<Schema, NoMemory>
     ensures { IfOk result (λ schema. schema ≡ event_schema table.now) }
 {
     if begins_with(b'p', table) {
@@ -177,8 +177,8 @@ fn pairs_insert(alloc: Global, table: Name, first: u8, second: u8) -> Result<Ins
     })
 }
 
-/// The rows that two numbers give a table of the events.
-pub fn insert_of(alloc: Global, table: Name, first: u8, second: u8) -> Result<Insert, NoMemory>
+// The rows that two numbers give a table of the events.
+fn insert_of(alloc: Global, table: Name, first: u8, second: u8) -> Result<Insert, NoMemory>
     ensures { IfOk result (λ insert. IsInsertInto (event_schema insert.table) insert) }
 {
     if begins_with(b'p', &table) {
@@ -204,8 +204,8 @@ fn reason(guard: Guard) -> &'static str {
 }
 
 impl Answer {
-    // The name of a table.
-    fn table_of(&mut self, text: &str) -> Name {
+    /// The name of a table.
+    pub fn table_of(&mut self, text: &str) -> Name {
         Seq::of(self.bytes_of(text))
     }
 
@@ -247,8 +247,8 @@ impl Answer {
         Some(Crash::Within { accept, done })
     }
 
-    // The event of a text.
-    fn event(&mut self, text: &str) -> Option<Event>
+    /// The event of a text, which is no put.
+    pub fn event(&mut self, text: &str) -> Option<Event>
         ensures { IfSome result Fits }
     {
         let (word, rest) = first_word(text);

@@ -1,8 +1,8 @@
-// Scripts with what they may print and the histories that they may leave, as the plain program's definitions say.
+// Scripts with what they may print and the histories that they may leave, as the definitions say.
 use crate::answer::Answer;
 use crate::text::first_word;
 use mt_base::{NoMemory, Twin};
-use mt_plain::{allows, run};
+use mt_plain::{allows, replies_after};
 use mt_values::{Cause, Command, Entry, Schema, Statement};
 use sql_read::{Next, next_statement};
 use std::alloc::Global;
@@ -54,20 +54,21 @@ impl Answer {
         statements
     }
 
-    /// Prints all that the plain program tells of a script, of which the status is that of another run.
-    pub fn plain(&mut self, status: u8, script: &[u8]) {
-        let statements = self.statements(script);
-        match run(self.alloc, &statements) {
-            Ok(plain) => self.told(status, &plain.history, &plain.out),
-            Err(_) => self.note(false),
+    // The history that the plain program comes to by these statements.
+    fn history_of(&mut self, statements: &[Result<Statement, Cause>]) -> Vec<Entry> {
+        let mut history = Vec::new(self.alloc);
+        for statement in statements {
+            let replies = replies_after(self.alloc, &mut history, statement);
+            self.note(replies.is_ok());
         }
+        history
     }
 
     /// The schema of the first table that the plain program makes by a script.
     pub fn schema_made(&mut self, script: &[u8]) -> Option<Schema> {
         let statements = self.statements(script);
-        let plain = run(self.alloc, &statements).ok()?;
-        first_schema(self.alloc, &plain.history)
+        let history = self.history_of(&statements);
+        first_schema(self.alloc, &history)
     }
 
     /// Keeps a script under a name.
@@ -91,12 +92,8 @@ impl Answer {
     fn allowed(&mut self, script: &[u8], other: &[u8], printed: &[u8]) {
         let script = self.statements(script);
         let other = self.statements(other);
-        match run(self.alloc, &other) {
-            Ok(plain) => {
-                self.answer_allowed(allows(self.alloc, &script, &plain.history, printed));
-            }
-            Err(_) => self.note(false),
-        }
+        let history = self.history_of(&other);
+        self.answer_allowed(allows(self.alloc, &script, &history, printed));
     }
 
     /// The same of scripts with names.

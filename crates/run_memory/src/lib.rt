@@ -1,7 +1,7 @@
 //! Cases of runs: how their lines are read, what is set up for a run, the roots that it begins with, the outside in memory and what a crash
-//! may leave of it, and what is printed of a line; scripts with what the definitions allow of them, also random ones, calls that no run
-//! makes, the core as a machine of events, also of random ones with merges, the rules of engines over small tables, and copies of what is
-//! kept. What runs a script stands outside, as a `Machine`.
+//! may leave of it, and what is printed of a line; scripts with what the definitions allow of them, calls that no run makes, the core as a
+//! machine of events, also with merges, the rules of engines over small tables, and copies of what is kept. What runs a script stands
+//! outside, as a `Machine`.
 #![tactic(auto)]
 
 mod answer;
@@ -12,7 +12,6 @@ mod courses;
 mod crashes;
 mod dice;
 mod directive;
-mod drawing;
 mod events;
 mod examples;
 mod filling;
@@ -21,7 +20,6 @@ mod left;
 mod random;
 mod root;
 mod rules;
-mod scripts;
 mod setting;
 mod small;
 mod standing;

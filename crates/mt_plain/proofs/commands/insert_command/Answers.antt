@@ -1,6 +1,6 @@
 use Rattle.std.proofs.Common.{◌≡◌, ◌<◌, length, ap, ◌∙◌, arith}
 use Rattle.mt_model.specs.Commands.{rows_in}
-use Rattle.mt_plain.proofs.Coming.{own_fewer, own_typed}
+use Rattle.mt_plain.proofs.OwnRows.{own_fewer, own_typed}
 use Rattle.mt_plain.proofs.commands.insert_command.Goals as goal
 
 pub from_rows-requires-clause-typed : goal.from_rows-requires-clause-typed

@@ -24,8 +24,8 @@ returns-in-Some-clause-all c =
     when_ok c.select_replies.result (λ replies. here replies.items c.deref.result.now) _
     (λ replies are other. select_all h c.args.statement.now t replies.items (sym c.in-Some.ensures) (subst (here replies.items) c.deref.ensures.value are)) c.select_replies.ensures
 
-pub returns-in_ok-step-in-None-clause-all : goal.returns-in_ok-step-in-None-clause-all
-returns-in_ok-step-in-None-clause-all c =
-    let r = c.in_ok-step-in-None.field-0.items in
+pub returns-in_ok-reply_to-in-None-clause-all : goal.returns-in_ok-reply_to-in-None-clause-all
+returns-in_ok-reply_to-in-None-clause-all c =
+    let r = c.in_ok-reply_to-in-None.field-0.items in
     when_ok c.only_text.result (λ replies. replies.items ≡ r ∷ []) _
-    (λ replies only. step_all c.args.history.now.items c.step.new.history.items c.args.statement.now r replies.items only c.in_ok-step-in-None.ensures.takes (sym c.in-None.ensures) c.in_ok-step-in-None.ensures.grows) c.only_text.ensures
+    (λ replies only. step_all c.args.history.now.items c.reply_to.new.history.items c.args.statement.now r replies.items only c.in_ok-reply_to-in-None.ensures.takes (sym c.in-None.ensures) c.in_ok-reply_to-in-None.ensures.grows) c.only_text.ensures

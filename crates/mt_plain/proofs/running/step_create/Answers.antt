@@ -1,7 +1,6 @@
 use Rattle.mt_values.specs.declared.statement.Statement.TheVariants as statement
 use Rattle.mt_plain.specs.Plain.{TookTurns}
-use Rattle.mt_plain.proofs.Coming.{creates_come}
-use Rattle.mt_plain.proofs.Steps.{commands_take, took_legal, when_ok, when_on}
+use Rattle.mt_plain.proofs.Steps.{commands_take, when_ok}
 use Rattle.mt_plain.proofs.running.step_create.Goals as goal
 
 pub returns-in-Ok-clause-takes : goal.returns-in-Ok-clause-takes
@@ -11,11 +10,3 @@ returns-in-Ok-clause-takes c =
     let cs = c.in-Ok.commands.items in
     let gives = c.in-Ok.ensures.given in
     when_ok c.take_turns.result (λ reply. TookTurns cs h new reply.items) _ (λ reply took. commands_take h new (statement.Create c.args.create.now) cs reply.items gives took) c.take_turns.ensures.took
-
-pub returns-in-Ok-clause-legal : goal.returns-in-Ok-clause-legal
-returns-in-Ok-clause-legal c =
-    let h = c.args.history.now.items in
-    let new = c.take_turns.new.history.items in
-    let cs = c.in-Ok.commands.items in
-    let gives = c.in-Ok.ensures.given in
-    when_on c.take_turns.result (λ reply. TookTurns cs h new reply.items) _ (λ reply took key legal. took_legal h new cs reply.items (creates_come h c.args.create.now cs gives key) took legal) c.take_turns.ensures.took

@@ -1,9 +1,9 @@
-use Rattle.std.proofs.Common.{◌≡◌, All, Ok, subst}
+use Rattle.std.proofs.Common.{◌≡◌, Ok, subst}
 use Rattle.mt_values.specs.declared.statement.Statement.TheVariants as statement
 use Rattle.mt_model.specs.Commands.{commands_of}
 use Rattle.mt_model.specs.History.{History}
-use Rattle.mt_plain.specs.Plain.{MayFollow, TookTurns}
-use Rattle.mt_plain.proofs.Steps.{commands_take, took_legal, when_ok, when_on}
+use Rattle.mt_plain.specs.Plain.{TookTurns}
+use Rattle.mt_plain.proofs.Steps.{commands_take, when_ok}
 use Rattle.mt_plain.proofs.running.step_insert.Goals as goal
 
 pub returns-in-Ok-clause-takes : goal.returns-in-Ok-clause-takes
@@ -15,12 +15,3 @@ returns-in-Ok-clause-takes c =
     let given = c.in-Ok.ensures.given in
     let gives : commands_of h s ≡ Ok cs = subst (λ (x : History). commands_of x s ≡ Ok cs) c.deref.ensures.value given in
     when_ok c.take_turns.result (λ reply. TookTurns cs h new reply.items) _ (λ reply took. commands_take h new s cs reply.items gives took) c.take_turns.ensures.took
-
-pub returns-in-Ok-clause-legal : goal.returns-in-Ok-clause-legal
-returns-in-Ok-clause-legal c =
-    let h = c.args.history.now.items in
-    let new = c.take_turns.new.history.items in
-    let cs = c.in-Ok.commands.items in
-    let come = c.in-Ok.ensures.may_come in
-    let may : All (MayFollow h) cs = subst (λ (x : History). All (MayFollow x) cs) c.deref.ensures.value come in
-    when_on c.take_turns.result (λ reply. TookTurns cs h new reply.items) _ (λ reply took legal. took_legal h new cs reply.items may took legal) c.take_turns.ensures.took
