@@ -1,6 +1,5 @@
 -- Numbers in bytes: bytes of a type's width are a number of it, and fewer begin none.
 use Rattle.std.proofs.Common.{◌≡◌, ◌≢◌, ℕ, zero, suc, ◌+◌, ◌*◌, ◌/◌, ◌%◌, ◌^◌, ◌<◌, ◌≤◌, List, [], ◌∷◌, ◌++◌, FitsSigned, refl, sym, ap, ◌∙◌, subst, length, length-append, length-drop, length-take-le, take, drop, take-append-drop, arith}
-use Rattle.std.proofs.Math.Nat.{lt-div-mul-add, mul-div-le, mul-le-mul_left}
 use Rattle.std.proofs.lemmas.Int.{of_z-to_z}
 use Rattle.std.proofs.lemmas.List.Elements.{All-cons, All-drop, All-nil, All-take}
 use mir.Facts.{sfits_to_z}
@@ -11,11 +10,11 @@ use Rattle.mt_values.specs.declared.value.ColType.TheVariants as type
 use Rattle.mt_values.specs.declared.value.Value.{Value}
 use Rattle.mt_values.specs.declared.value.Value.TheVariants as value
 use Rattle.mt_values.specs.ColumnBytes.{value_bytes}
-use Rattle.column_file.specs.Faults.{IsFirstFault, NoneBegins}
+use Rattle.column_file.specs.Faults.{NoneBegins}
 use Rattle.byte_numbers.specs.Fronts.{Begins}
 use Rattle.byte_numbers.proofs.Numbers.{AreBytes, number_of_1, number_of_2, number_of_4, number_of_8}
 use Rattle.column_file.specs.Spellings.{IsOfType, fewest_bytes}
-use Rattle.column_file.proofs.Reading.{AreRead, read_more, read_none, read_stuck}
+use Rattle.column_file.proofs.Reading.{AreRead, read_more, read_none}
 
 -- the signed number of these bits
 signed : (w : Width) (n : ℕ) → n < 2 ^ bits w → FitsSigned w (cast_signed w n)
@@ -112,22 +111,3 @@ numbers_read t bytes other are (suc n) room =
       length-append before.0 (number.0 ∷ []) ∙ omega (arith, before.1),
       subst (λ p. AreRead t bytes p (before.0 ++ number.0 ∷ [])) next (read_more number.0 size before.2 number.1 number.2),
     )
-
--- with fewer numbers than there should be, the bytes go wrong after the last whole one
-pub numbers_stuck : (t : ColType) (count size : ℕ) (bytes : List ℕ) → size ≡ fewest_bytes t → 0 < size → t ≢ type.Text → AreBytes bytes → length bytes / size < count → IsFirstFault t count bytes (size * (length bytes / size))
-numbers_stuck t count size bytes same some other are few =
-    let whole = length bytes / size in
-    let fits : size * whole ≤ length bytes = mul-div-le (length bytes) size in
-    let short : length bytes < whole * size + size = lt-div-mul-add some in
-    let read = numbers_read t bytes other are whole (subst (λ s. s * whole ≤ length bytes) same fits) in
-    let at : AreRead t bytes (size * whole) read.0 = subst (λ s. AreRead t bytes (s * whole) read.0) (sym same) read.2 in
-    read_stuck at (omega (arith, read.1)) (none_left t (drop (size * whole) bytes) other (omega (arith, same, length-drop (size * whole) bytes)))
-
--- otherwise so many numbers begin them
-pub numbers_whole : (t : ColType) (count size : ℕ) (bytes : List ℕ) → size ≡ fewest_bytes t → t ≢ type.Text → AreBytes bytes → count ≤ length bytes / size → (values : List Value) × (length values ≡ count) × AreRead t bytes (size * count) values
-numbers_whole t count size bytes same other are enough =
-    let whole = length bytes / size in
-    let fits : size * whole ≤ length bytes = mul-div-le (length bytes) size in
-    let less : size * count ≤ size * whole = mul-le-mul_left size enough in
-    let room : size * count ≤ length bytes = omega arith in
-    subst (λ s. (values : List Value) × (length values ≡ count) × AreRead t bytes (s * count) values) (sym same) (numbers_read t bytes other are count (subst (λ s. s * count ≤ length bytes) same room))

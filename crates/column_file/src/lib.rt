@@ -2,7 +2,6 @@
 #![tactic(auto)]
 
 mod cells;
-mod checking;
 mod decoding;
 mod encoding;
 mod laws;
@@ -10,7 +9,6 @@ mod picking;
 
 pub use byte_numbers::FormatFault;
 pub use cells::push_cell;
-pub use checking::check_column;
 pub use decoding::{cell_at, decode_column, decode_granule, decode_onto, end_at};
 pub use encoding::{ColumnBytes, encode_column};
 pub use laws::{bytes_are_read_in_one_way, granules_are_spelled, spellings_are_tested};

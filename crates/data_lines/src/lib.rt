@@ -4,5 +4,4 @@
 mod lines;
 mod section;
 
-pub use lines::line_end;
 pub use section::{Section, inserted};

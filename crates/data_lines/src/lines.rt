@@ -28,9 +28,9 @@ fn next_mark(text: &[u8]) -> Option<usize>
     memchr2_iter(b'\n', b'\\', text).next()
 }
 
-/// The place of the line feed that ends the line of data which a text begins with: the first that no backslash takes.
-/// None where no line feed ends the line. Takes no memory.
-pub fn line_end(text: &[u8]) -> Option<usize>
+// The place of the line feed that ends the line of data which a text begins with: the first that no backslash takes.
+// None where no line feed ends the line. Takes no memory.
+fn line_end(text: &[u8]) -> Option<usize>
     ensures parts { option_map (λ k. (take k text.now, drop (k + 1) text.now)) result
         ≡ line_from false text.now }
     ensures within { IfSome result (λ k. k < length text.now) }

@@ -3,6 +3,7 @@ pub mod Columns
 pub mod Fronts
 pub mod Grids
 pub mod KeyOrders
+pub mod Keywords
 pub mod Leads
 pub mod Limited
 pub mod Literals

@@ -25,6 +25,7 @@ use Rattle.part_history.specs.Parts.{AreInBlockOrder, PartStands, TableStands, b
 use Rattle.part_history.proofs.Numbered.{all_into, kept, kept_all, kept_apart, live_numbered, live_within, sorted_by}
 use Rattle.part_history.proofs.Orders.{blocks_rise, order_filtered}
 use Rattle.part_history.proofs.Ranges.{Begins, Climbs, IsOf, Range, Stays, count_cons, holds, ranges_joined}
+use Rattle.part_history.proofs.Schemas.{same_schema}
 
 -- the blocks of a part
 abbrev pub range_of : CorePart → Range
@@ -69,9 +70,6 @@ flat_maps f g (x ∷ xs) = ap (λ zs. flat_map f (g x) ++ zs) (flat_maps f g xs)
 module _ (h : History) (table : List ℕ) (schema : Schema) (legal : IsLegal h) (there : schema_of table h ≡ Some schema) where
   abbrev pub cs : List Command
   cs = numbered table h
-
-  same_schema : (a b : Schema) → Some a ≡ Some b → a ≡ b
-  same_schema a b is = cc
 
   -- what is needed of a part
   pub record Fits (p : CorePart) : Type 0 where

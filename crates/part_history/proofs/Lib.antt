@@ -9,3 +9,4 @@ pub mod Orders
 pub mod OwnRows
 pub mod Portions
 pub mod Ranges
+pub mod Schemas

@@ -19,6 +19,7 @@ use Rattle.mt_model.proofs.Merged.{comes_none}
 use Rattle.part_history.specs.declared.part.CorePart.{CorePart}
 use Rattle.part_history.specs.Parts.{PartStands, TableStands}
 use Rattle.part_history.proofs.Numbered.{all_into, kept_apart, live_within}
+use Rattle.part_history.proofs.Schemas.{same_schema}
 
 -- rows of which none has a key of another partition are of this one
 module _ (schema : Schema) (p : Partition) where
@@ -61,9 +62,6 @@ module _ (h : History) (legal : IsLegal h) where
       ap (of_key s.schema w row) (live_within part.table s.schema p a b h) ∙ kept_apart s.schema w row p a b 1 _ (all_into part.table h s.schema legal s.there) apart in
       comes_none (TableRun s.schema) (of_key s.schema w row part.rows)
       (subst (λ (rows : List Row). ComesFrom (TableRun s.schema) rows (of_key s.schema w row part.rows)) none (s.partly w row))
-
-  same_schema : (a b : Schema) → Some a ≡ Some b → a ≡ b
-  same_schema a b is = cc
 
   pub own_rows : (table : List ℕ) (schema : Schema) (parts : List CorePart) → schema_of table h ≡ Some schema → TableStands table parts h
       → All (λ (p : CorePart). All (λ (r : Row). partition_of schema r ≡ p.name.partition) p.rows) parts

@@ -9,6 +9,7 @@ use Rattle.mt_model.specs.Explain.{Portion, PortionStands, PortionsStand, has_nu
 use Rattle.mt_model.specs.History.{History, schema_of}
 use Rattle.part_history.specs.declared.part.CorePart.{CorePart}
 use Rattle.part_history.specs.Parts.{PartStands, TableStands, has_block, portion_of}
+use Rattle.part_history.proofs.Schemas.{same_schema}
 
 -- as many portions have a number as parts have it in their blocks
 counted : (partition : Partition) (n : ℕ) (parts : List CorePart) → count_by (has_number partition n) (map portion_of parts) ≡ count_by (has_block partition n) parts
@@ -19,9 +20,6 @@ counted partition n (p ∷ ps) =
     ∙ sym (sum_by-cons (λ (q : CorePart). cond (has_block partition n q) 1 0) p ps))
 
 module _ (h : History) (table : List ℕ) (schema : Schema) (there : schema_of table h ≡ Some schema) where
-  same_schema : (a b : Schema) → Some a ≡ Some b → a ≡ b
-  same_schema a b is = cc
-
   one : (p : CorePart) → p.table ≡ table → PartStands h p → PortionStands h table schema (portion_of p)
   one p own s =
       let same : s.schema ≡ schema = same_schema s.schema schema (sym s.there ∙ (ap (λ t. schema_of t h) own ∙ there)) in

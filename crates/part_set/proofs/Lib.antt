@@ -3,7 +3,6 @@ pub mod Filed
 pub mod GroupSteps
 pub mod Inserts
 pub mod Items
-pub mod Keywords
 pub mod Maps
 pub mod NameParts
 pub mod NamePlaces

@@ -1,30 +1,10 @@
 // Which words are names of tables.
 ghost use Rattle.std.specs.Prelude.{◌≡◌};
 ghost use Rattle.std.specs.List.{list_all};
-ghost use Rattle.mt_values.specs.Grammar.{is_reserved};
-ghost use Rattle.mt_values.specs.Tokens.{starts_word, in_word, is_keyword};
+ghost use Rattle.mt_values.specs.Tokens.{starts_word, in_word};
 ghost use Rattle.part_set.specs.RootNames.{is_one_word, is_table};
 
-// Whether the word is this keyword, in any case of its letters.
-fn is_keyword(keyword: &[u8], word: &[u8]) -> bool
-    ensures { result ≡ is_keyword keyword.now word.now }
-{
-    word.eq_ignore_ascii_case(keyword)
-}
-
-// Whether the word is no name.
-fn is_reserved(word: &[u8]) -> bool
-    ensures { result ≡ is_reserved word.now }
-{
-    is_keyword(b"AND", word)
-        || is_keyword(b"OR", word)
-        || is_keyword(b"NOT", word)
-        || is_keyword(b"IN", word)
-        || is_keyword(b"FROM", word)
-        || is_keyword(b"FINAL", word)
-        || is_keyword(b"WHERE", word)
-        || is_keyword(b"INDEX", word)
-}
+use mt_values::is_reserved;
 
 // Whether a word may begin with the byte.
 fn starts_word(byte: u8) -> bool

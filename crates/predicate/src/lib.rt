@@ -9,4 +9,4 @@ mod masks;
 pub use boxes::{can, may_match, may_match_column};
 pub use extent::{Can, Extent, Known};
 pub use laws::boxes_hide_no_match;
-pub use masks::{intersect, mask, mask_within};
+pub use masks::{intersect, mask_within};

@@ -1,6 +1,6 @@
 // The truth of a condition on each row of columns: joint by joint, over masks of all rows.
 ghost use Rattle.std.specs.Prelude.{◌≡◌, ◌<◌, ◌≤◌, ◌+◌, ◌∷◌, [], All, Bool, IfOk, List, length, map, not};
-ghost use Rattle.mt_values.specs.Grid.{Cells, rows_of, rows_within};
+ghost use Rattle.mt_values.specs.Grid.{Cells, rows_within};
 ghost use Rattle.mt_values.specs.Polish.{ComesTo};
 ghost use Rattle.mt_values.specs.Tests.{eval, meets_at};
 ghost use Rattle.mt_values.specs.declared.expr.Joint.{Joint};
@@ -101,22 +101,6 @@ impl Masks {
         unite(&mut mask, &last);
         self.push(mask)
     }
-}
-
-/// Whether the condition is true of each row of the columns, in the order of the rows. A test of a column that is not there is
-/// false of each row.
-///
-/// `NoMemory` where an allocation failed.
-pub fn mask(
-    alloc: Global,
-    condition: &Expr<Test>,
-    columns: &[ColumnData],
-    rows: usize,
-) -> Result<Vec<bool>, NoMemory>
-    requires { All (λ (c : Cells). length c.values ≡ rows) columns.now }
-    ensures { IfOk result (λ m. m.items ≡ map (eval condition.now) (rows_of columns.now rows)) }
-{
-    mask_within(alloc, condition, columns, 0, rows)
 }
 
 /// Whether the condition is true of each of so many rows of the columns, from a place on, counted from 0, in the order of the rows. A

@@ -7,6 +7,6 @@ pub use root_commits::{
 };
 pub use root_opening::{
     Damage, NameFault, OpenFault, damage_of_a_root_is_one, open, open_entry, read_names,
-    read_schema, roots_stand_by_their_stores, sound_roots_are_not_damaged, told_names_rise,
+    roots_stand_by_their_stores, sound_roots_are_not_damaged, told_names_rise,
 };
 pub use root_store::{CoreStore, Table};

@@ -112,7 +112,7 @@ fn schema_of_text(alloc: Global, table: &Name, text: &[u8]) -> Result<Option<Sch
 /// or is refused.
 ///
 /// `NoMemory` where an allocation failed.
-pub fn read_schema(alloc: Global, table: &Name, bytes: &[u8]) -> Result<Option<Schema>, NoMemory>
+fn read_schema(alloc: Global, table: &Name, bytes: &[u8]) -> Result<Option<Schema>, NoMemory>
     ensures read { IfOk result
         (λ found. IfSome found (λ schema. IsEntryWith table.now schema bytes.now)) }
     ensures sound { IfOk result (λ found. IfSome found IsTableSchema) }

@@ -10,7 +10,7 @@ mod opening;
 mod part_files;
 mod steps;
 
-pub use entries::{open_entry, read_schema};
+pub use entries::open_entry;
 pub use laws::{
     damage_of_a_root_is_one, roots_stand_by_their_stores, sound_roots_are_not_damaged,
     told_names_rise,

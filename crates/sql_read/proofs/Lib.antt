@@ -12,7 +12,6 @@ pub mod FaultTokens
 pub mod FirstWords
 pub mod Growth
 pub mod Joined
-pub mod Keywords
 pub mod Listed
 pub mod NextClauses
 pub mod Nexts

@@ -1,13 +1,16 @@
 // What is left of a statement's tokens, read from the left.
 ghost use Rattle.std.specs.Prelude.{◌≡◌, ◌<◌, ◌≤◌, Bool, length, OnOk, codes};
 ghost use Rattle.mt_values.specs.declared.token.Token.{Token};
-ghost use Rattle.mt_values.specs.Grammar.{comparison_of, exactly, fits_name, format, function, function_named, is_format, is_reserved, is_symbol, is_text, is_word, keyword, name, number, operator, passing, plain, same_bytes, string, the, type_named};
+ghost use Rattle.mt_values.specs.Grammar.{comparison_of, exactly, fits_name, format, function, function_named, is_format, is_symbol, is_text, is_word, keyword, name, number, operator, passing, plain, same_bytes, string, the, type_named};
 ghost use Rattle.mt_values.specs.Readers.{expect, place_of_next};
 ghost use Rattle.mt_values.specs.Tokens.{is_keyword};
 ghost use Rattle.sql_read.specs.Reads.{Reads, Skips, first_is};
 
 use mt_base::{NAME_LIMIT, Stop, Twin};
-use mt_values::{Aggregate, Bytes, ColType, Comparison, Name, Placed, Slip, Symbol, Token};
+use mt_values::{
+    Aggregate, Bytes, ColType, Comparison, Name, Placed, Slip, Symbol, Token, is_keyword,
+    is_reserved,
+};
 use std::alloc::Global;
 use std::marker::Model;
 
@@ -31,27 +34,6 @@ impl<'a> Model for Cursor<'a> {
     ghost Value = { List Placed };
 
     ghost view = { λ c. c.rest.now };
-}
-
-/// Whether the word is this keyword, in any case of its letters.
-pub fn is_keyword(keyword: &[u8], word: &[u8]) -> bool
-    ensures { result ≡ is_keyword keyword.now word.now }
-{
-    word.eq_ignore_ascii_case(keyword)
-}
-
-// Whether the word is no name.
-fn is_reserved(word: &[u8]) -> bool
-    ensures { result ≡ is_reserved word.now }
-{
-    is_keyword(b"AND", word)
-        || is_keyword(b"OR", word)
-        || is_keyword(b"NOT", word)
-        || is_keyword(b"IN", word)
-        || is_keyword(b"FROM", word)
-        || is_keyword(b"FINAL", word)
-        || is_keyword(b"WHERE", word)
-        || is_keyword(b"INDEX", word)
 }
 
 // Whether a name may be so long.

@@ -14,7 +14,6 @@ mod productions;
 mod script;
 mod tokens;
 
-pub use data_lines::line_end;
 pub use grammar::statement;
 pub use laws::{faults_are_first, whole_statements_stay};
 pub use script::{Next, next_statement};

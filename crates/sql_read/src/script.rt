@@ -9,12 +9,11 @@ ghost use Rattle.data_lines.specs.Sections.{line_said, section_said};
 ghost use Rattle.sql_read.specs.Scripts.{IsNext, next_of, parts_at};
 
 use crate::blanks::{Skipped, begins_with, behind, is_space, skipped_len};
-use crate::cursor::is_keyword;
 use crate::grammar::statement;
 use crate::tokens::{starts_word, word_len};
 use data_lines::{Section, inserted};
 use mt_base::Stop;
-use mt_values::{Cause, Place, Statement};
+use mt_values::{Cause, Place, Statement, is_keyword};
 use std::alloc::Global;
 
 /// What a script begins with.

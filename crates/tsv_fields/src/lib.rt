@@ -9,4 +9,4 @@ mod texts;
 
 pub use fields::{cell_of_field, field_at, mark_fields};
 pub use lines::{fault_of_count, fault_of_field, read_line};
-pub use printing::{write_row, write_row_at, write_rows, write_text};
+pub use printing::{write_row, write_rows, write_text};

@@ -98,7 +98,7 @@ pub fn write_row(values: &[Value], out: &mut Vec<u8>) -> Result<(), NoMemory>
 /// choice. A column may be chosen twice.
 ///
 /// `NoMemory` where an allocation failed; a part of the line may have been added then.
-pub fn write_row_at(
+fn write_row_at(
     block: &Block,
     place: usize,
     columns: &[u32],

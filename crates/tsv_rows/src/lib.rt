@@ -8,4 +8,4 @@ mod tests;
 
 pub use laws::printed_rows_are_read;
 pub use rows::{read_row, read_rows};
-pub use tsv_fields::{write_row, write_row_at, write_rows, write_text};
+pub use tsv_fields::{write_row, write_rows, write_text};
