@@ -6,6 +6,7 @@ use disk_real::{RealArm, RealDir, RealDisk, RealStage};
 use mt_base::{FileId, Name, Seq};
 use mt_outside::{Arm, Disk, DiskError, Stage};
 use std::alloc::Global;
+use std::fs::Files;
 use std::{fs, io};
 
 /// What is printed, and the first error of the calls that are to be done.
@@ -163,6 +164,40 @@ impl Told {
         self.ended("open ..", disk.open(self.alloc, &up).err());
     }
 
+    // Tells what is read of a name that is no folder's, and removes it.
+    fn hollow(
+        &mut self,
+        rt: &HostRuntime,
+        disk: &mut RealDisk<HostRuntime>,
+        arm: &mut RealArm<HostRuntime>,
+    ) {
+        let name = self.name(b"w.create");
+        let written = fs::write(rt, "root/w.create", "n").is_ok();
+        self.noted(written);
+        match disk.open(self.alloc, &name) {
+            Ok(dir) => self.read(arm, &dir, FileId::Entry, 0),
+            Err(error) => self.note(Some(error)),
+        }
+        self.note(disk.remove(&name).err());
+        self.count("root", count_of(rt, "root"));
+    }
+
+    // Tells that no stage is begun while another folder lies under the path of the one that is held. A fault of the arm.
+    fn moved(&mut self, rt: &HostRuntime, arm: &mut RealArm<HostRuntime>) {
+        let away = rt.rename("root", "moved").is_ok() && rt.create_dir("root").is_ok();
+        self.noted(away);
+        match arm.stage(self.alloc) {
+            Ok(stage) => {
+                arm.abandon(stage);
+                self.ended("stage", None);
+            }
+            Err(error) => self.ended("stage", Some(error)),
+        }
+        self.count("another root", count_of(rt, "root"));
+        let back = rt.remove_dir("root").is_ok() && rt.rename("moved", "root").is_ok();
+        self.noted(back);
+    }
+
     // Tells what is found of the folder that was published, and removes it.
     fn folder(
         &mut self,
@@ -202,6 +237,8 @@ impl Told {
             Ok(dir) => self.folder(rt, disk, arm, &dir, &name),
             Err(error) => self.note(Some(error)),
         }
+        self.hollow(rt, disk, arm);
+        self.moved(rt, arm);
     }
 
     // Tells that a folder is held: neither another disk nor this one can start over it. A fault of each.
