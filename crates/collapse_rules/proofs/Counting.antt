@@ -4,7 +4,7 @@ use Rattle.std.proofs.lemmas.List.Elements.{filter-append}
 use Rattle.std.proofs.lemmas.List.{length_push}
 use Rattle.std.specs.List.{list_any}
 use Rattle.mt_values.specs.Values.{Row}
-use Rattle.mt_model.specs.Rules.{HasSign, collapsed, ends_with_state, first_of, is_cancel, is_state, last_of}
+use Rattle.rule_law.specs.mt_model.Rules.{HasSign, collapsed, ends_with_state, first_of, is_cancel, is_state, last_of}
 use Rattle.rule_law.proofs.Alternating.{left_cancels, left_even, left_states, one_sign}
 use Rattle.rule_law.proofs.Newest.{last_after}
 use Rattle.collapse_rules.specs.Counted.{IsCounted}

@@ -8,7 +8,7 @@ use Rattle.mt_values.specs.declared.value.Value.{Value}
 use Rattle.mt_values.specs.declared.value.Value.TheVariants as value
 use Rattle.mt_values.specs.Grid.{column_of}
 use Rattle.mt_values.specs.Values.{Row}
-use Rattle.mt_model.specs.Rules.{HasSign, IsSublist, LeavesOneSign, is_cancel, is_sign, is_state, total}
+use Rattle.rule_law.specs.mt_model.Rules.{HasSign, IsSublist, LeavesOneSign, is_cancel, is_sign, is_state, total}
 use Rattle.rule_law.proofs.Alternating.{other_sign}
 use Rattle.rule_law.proofs.OneSign.{column_total, sub_before, sub_behind, sub_itself, sub_none, sub_of_sub}
 

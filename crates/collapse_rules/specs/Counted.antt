@@ -1,7 +1,7 @@
 -- What is kept of the rows of a collapsing key (docs/engines.md, "CollapsingMergeTree").
 use Rattle.std.specs.Prelude.{◌≡◌, ℕ, List, filter, length, option_to_list}
 use Rattle.mt_values.specs.Values.{Row}
-use Rattle.mt_model.specs.Rules.{ends_with_state, first_of, is_cancel, is_state, last_of}
+use Rattle.rule_law.specs.mt_model.Rules.{ends_with_state, first_of, is_cancel, is_state, last_of}
 use Rattle.collapse_rules.specs.declared.collapsing.Counted.{Counted}
 
 -- the numbers of both signs, the first cancel, the last state, and whether the last row is a state (docs/engines.md, "CollapsingMergeTree")

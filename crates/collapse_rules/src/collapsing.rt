@@ -1,7 +1,7 @@
 // CollapsingMergeTree: what is left is told by the numbers of both signs and by the last row (docs/engines.md, "CollapsingMergeTree").
 ghost use Rattle.std.specs.Prelude.{◌≡◌, ◌+◌, ◌++◌, ◌∷◌, [], IfOk, List, OnOk, option_to_list};
 ghost use Rattle.mt_values.specs.Values.{Row, types_of};
-ghost use Rattle.mt_model.specs.Rules.{Folds, HasSign, Run};
+ghost use Rattle.rule_law.specs.mt_model.Rules.{Folds, HasSign, Run};
 ghost use Rattle.mt_values.specs.declared.engine.Engine.TheVariants as engine;
 ghost use Rattle.mt_values.specs.Order.{key_of};
 ghost use Rattle.collapse_rules.specs.Counted.{IsCounted};

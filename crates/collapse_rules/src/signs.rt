@@ -1,6 +1,6 @@
 // The sign of a row.
 ghost use Rattle.std.specs.Prelude.{◌≡◌};
-ghost use Rattle.mt_model.specs.Rules.{is_state};
+ghost use Rattle.rule_law.specs.mt_model.Rules.{is_state};
 
 use mt_values::{Row, Value};
 

@@ -1,6 +1,6 @@
 // VersionedCollapsingMergeTree: pairs of different sign are deleted, whatever their order (docs/engines.md, "VersionedCollapsingMergeTree").
 ghost use Rattle.std.specs.Prelude.{◌≡◌, []};
-ghost use Rattle.mt_model.specs.Rules.{Folds, HasSign, Run};
+ghost use Rattle.rule_law.specs.mt_model.Rules.{Folds, HasSign, Run};
 ghost use Rattle.mt_values.specs.declared.engine.Engine.TheVariants as engine;
 ghost use Rattle.mt_values.specs.Order.{key_of};
 ghost use Rattle.mt_values.specs.Values.{types_of};

@@ -8,3 +8,4 @@ pub mod Tested
 pub mod TextParts
 pub mod Wanted
 pub mod Writing
+pub use Rattle.byte_numbers.proofs.Groups as ByteNumbersGroups

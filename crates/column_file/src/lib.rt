@@ -7,6 +7,7 @@ mod encoding;
 mod laws;
 mod picking;
 
+pub use byte_numbers;
 pub use byte_numbers::FormatFault;
 pub use cells::push_cell;
 pub use decoding::{cell_at, decode_column, decode_granule, decode_onto, end_at};

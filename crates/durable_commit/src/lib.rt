@@ -6,3 +6,4 @@ mod commits;
 
 pub use causes::{Limit, Refused, refuse_stopped, take_out};
 pub use commits::{commit, publish};
+pub use stage_dir;

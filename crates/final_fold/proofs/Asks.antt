@@ -20,10 +20,10 @@ use Rattle.mt_values.specs.Values.{Row, types_of}
 use Rattle.mt_values.proofs.Grids.{lengths_typed}
 use Rattle.mt_values.proofs.Parting.{conjuncts_eval}
 use Rattle.mt_outside.specs.Files.{Files}
-use Rattle.part_reader.specs.Granules.{chosen_count, chosen_of}
-use Rattle.part_reader.specs.Parts.{HoldsAt, PartHolds, with_columns}
-use Rattle.part_reader.proofs.CutRows.{chosen_every, rows_cut, with_empty}
-use Rattle.part_reader.proofs.Holding.{each_typed, holds_at, type_there}
+use Rattle.row_merge.specs.part_reader.Granules.{chosen_count, chosen_of}
+use Rattle.row_merge.specs.part_reader.Parts.{HoldsAt, PartHolds, with_columns}
+use Rattle.row_merge.proofs.PartReaderCutRows.{chosen_every, rows_cut, with_empty}
+use Rattle.row_merge.proofs.PartReaderHolding.{each_typed, holds_at, type_there}
 use Rattle.final_fold.specs.declared.asking.Task.{Task}
 use Rattle.final_fold.specs.declared.found.Matches.{Matches}
 use Rattle.final_fold.specs.declared.asking.Sieve.{Sieve}

@@ -11,12 +11,12 @@ use Rattle.mt_base.specs.declared.partition.Partition.{Partition}
 use Rattle.mt_values.specs.declared.schema.Schema.{Schema}
 use Rattle.mt_values.specs.Tables.{partition_of, sorting_cmp}
 use Rattle.mt_values.specs.Values.{Row}
-use Rattle.column_file.specs.Marks.{granules}
-use Rattle.mt_model.proofs.Determined.{sorting_total}
-use Rattle.part_reader.specs.Granules.{chosen_of}
-use Rattle.part_reader.proofs.CutRows.{chosen_every}
-use Rattle.rule_law.specs.TableRows.{IsTableRow}
-use Rattle.rule_law.proofs.Aggregated.{all_left, all_right}
+use Rattle.row_merge.specs.column_file.Marks.{granules}
+use Rattle.table_core.proofs.MtModelDetermined.{sorting_total}
+use Rattle.row_merge.specs.part_reader.Granules.{chosen_of}
+use Rattle.row_merge.proofs.PartReaderCutRows.{chosen_every}
+use Rattle.row_merge.specs.rule_law.TableRows.{IsTableRow}
+use Rattle.row_merge.proofs.RuleLawAggregated.{all_left, all_right}
 use Rattle.row_merge.specs.Merged.{ArePartRows}
 use Rattle.final_fold.specs.declared.asking.Wanted.{Wanted}
 use Rattle.final_fold.specs.Folded.{HidesNoMatch, SkipNoFold, SkipsNoFold, chosen_inputs, skipped_of}

@@ -6,20 +6,20 @@ use Rattle.mt_values.specs.declared.command.Command.TheVariants as command
 use Rattle.mt_values.specs.declared.command.Insert.{Insert}
 use Rattle.mt_values.specs.declared.schema.Schema.{Schema}
 use Rattle.mt_values.specs.Values.{Row}
-use Rattle.mt_model.specs.Final.{FoldsAll, KeysFoldOnce}
-use Rattle.mt_model.specs.History.{History, schema_of}
-use Rattle.mt_model.specs.Live.{live}
-use Rattle.mt_model.specs.Partial.{Partly}
-use Rattle.part_history.specs.declared.part.CorePart.{CorePart}
-use Rattle.part_history.specs.Parts.{AreInBlockOrder, PartStands, TableStands, core_parts_of, rows_of_parts}
-use Rattle.part_history.proofs.Joined.{parts_joined}
-use Rattle.part_history.proofs.Numbered.{legal_schema}
+use Rattle.table_core.specs.mt_model.Final.{FoldsAll, KeysFoldOnce}
+use Rattle.table_core.specs.mt_model.History.{History, schema_of}
+use Rattle.table_core.specs.mt_model.Live.{live}
+use Rattle.table_core.specs.mt_model.Partial.{Partly}
+use Rattle.table_core.specs.part_history.declared.part.CorePart.{CorePart}
+use Rattle.table_core.specs.part_history.Parts.{AreInBlockOrder, PartStands, TableStands, core_parts_of, rows_of_parts}
+use Rattle.table_core.proofs.PartHistoryJoined.{parts_joined}
+use Rattle.table_core.proofs.PartHistoryNumbered.{legal_schema}
 use Rattle.table_core.specs.declared.event.Event.{Event}
 use Rattle.table_core.specs.Core.{Core, IsCore, IsSnapshot, empty_core}
 use Rattle.table_core.proofs.Telling.{run_core}
-use Rattle.rule_law.specs.TableRows.{IsTableRow}
+use Rattle.row_merge.specs.rule_law.TableRows.{IsTableRow}
 use Rattle.row_merge.proofs.HistoryRows.{table_rows}
-use Rattle.rule_law.proofs.PartlyRows.{partly_table}
+use Rattle.row_merge.proofs.RuleLawPartlyRows.{partly_table}
 use Rattle.final_fold.specs.Cores.{LeadTo, MergesVisible}
 use Rattle.final_fold.proofs.FoldedAll.{partly_folds}
 use Rattle.final_fold.proofs.FoldedOnce.{rows_once}

@@ -8,13 +8,13 @@ use Rattle.mt_values.specs.declared.value.ColType.{ColType}
 use Rattle.mt_values.specs.Grid.{Cells}
 use Rattle.mt_values.specs.Schemas.{column_types}
 use Rattle.mt_outside.specs.Files.{Files}
-use Rattle.part_reader.specs.declared.reading.Part.{Part}
-use Rattle.part_reader.specs.declared.reading.PartFault.{PartFault}
-use Rattle.part_reader.specs.declared.reading.PartFault.TheVariants.{Fault, NoMemory, Damaged}
-use Rattle.part_reader.specs.Faults.{ExplainsAt, ExplainsEach}
-use Rattle.part_reader.specs.Granules.{ExplainsChosen, column_in}
-use Rattle.part_reader.proofs.CutRows.{explained_at}
-use Rattle.part_set.specs.declared.kept.Kept.{Kept}
+use Rattle.row_merge.specs.part_reader.declared.reading.Part.{Part}
+use Rattle.row_merge.specs.part_reader.declared.reading.PartFault.{PartFault}
+use Rattle.row_merge.specs.part_reader.declared.reading.PartFault.TheVariants.{Fault, NoMemory, Damaged}
+use Rattle.row_merge.specs.part_reader.Faults.{ExplainsAt, ExplainsEach}
+use Rattle.row_merge.specs.part_reader.Granules.{ExplainsChosen, column_in}
+use Rattle.row_merge.proofs.PartReaderCutRows.{explained_at}
+use Rattle.row_merge.specs.part_set.declared.kept.Kept.{Kept}
 use Rattle.final_fold.specs.declared.asking.Wanted.{Wanted}
 use Rattle.final_fold.specs.Asked.{IsWanted, named, tested}
 use Rattle.final_fold.specs.Matches.{AreAmong, ExplainsAsked, ExplainsMatches}

@@ -27,21 +27,21 @@ use Rattle.mt_values.specs.Tables.{partition_of, same_partition, sorting_cmp}
 use Rattle.mt_values.specs.Tests.{eval}
 use Rattle.mt_values.specs.Values.{Row}
 use Rattle.mt_values.proofs.Orders.{value_exact, value_total}
-use Rattle.mt_model.specs.declared.query.Query.{Query}
-use Rattle.mt_model.specs.Answer.{Answer, Prints}
-use Rattle.mt_model.specs.Final.{FoldOnce, FoldsAll, KeysFoldOnce, Sees}
-use Rattle.mt_model.specs.Folding.{Leaves}
-use Rattle.mt_model.specs.History.{History}
-use Rattle.mt_model.specs.Live.{live, of_key}
-use Rattle.mt_model.specs.Partial.{functions_of}
-use Rattle.mt_model.specs.Rules.{AreAggregatesFrom, Folds, FoldsAs, IsAggregateOf, IsSublist, LeavesOneSign, LeavesSums, Run, are_zero, function_or_first, is_cancel, is_settled, is_state, total, with_sums, wrapped_as}
-use Rattle.mt_model.proofs.Commands.{same_itself}
-use Rattle.mt_model.proofs.Determined.{filter_moved, prints_once, row_exact, row_total, sorting_total}
-use Rattle.mt_model.proofs.SameKeys.{filter_after, permutes}
-use Rattle.mt_model.proofs.Sorting.{equal_is}
-use Rattle.rule_law.proofs.Alternating.{other_sign}
-use Rattle.rule_law.proofs.Newest.{last_is, newest_is}
-use Rattle.rule_law.proofs.Ranges.{among}
+use Rattle.table_core.specs.mt_model.declared.query.Query.{Query}
+use Rattle.table_core.specs.mt_model.Answer.{Answer, Prints}
+use Rattle.table_core.specs.mt_model.Final.{FoldOnce, FoldsAll, KeysFoldOnce, Sees}
+use Rattle.table_core.specs.mt_model.Folding.{Leaves}
+use Rattle.table_core.specs.mt_model.History.{History}
+use Rattle.table_core.specs.mt_model.Live.{live, of_key}
+use Rattle.table_core.specs.mt_model.Partial.{functions_of}
+use Rattle.table_core.specs.mt_model.Rules.{AreAggregatesFrom, Folds, FoldsAs, IsAggregateOf, IsSublist, LeavesOneSign, LeavesSums, Run, are_zero, function_or_first, is_cancel, is_settled, is_state, total, with_sums, wrapped_as}
+use Rattle.table_core.proofs.MtModelCommands.{same_itself}
+use Rattle.table_core.proofs.MtModelDetermined.{filter_moved, prints_once, row_exact, row_total, sorting_total}
+use Rattle.table_core.proofs.MtModelSameKeys.{filter_after, permutes}
+use Rattle.table_core.proofs.MtModelSorting.{equal_is}
+use Rattle.row_merge.proofs.RuleLawAlternating.{other_sign}
+use Rattle.row_merge.proofs.RuleLawNewest.{last_is, newest_is}
+use Rattle.row_merge.proofs.RuleLawRanges.{among}
 
 -- ---- lists
 

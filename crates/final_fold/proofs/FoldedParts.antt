@@ -13,10 +13,10 @@ use Rattle.mt_values.specs.Schemas.{column_types}
 use Rattle.mt_values.specs.Tables.{partition_of, same_partition, sorting_columns}
 use Rattle.mt_values.specs.Tests.{eval}
 use Rattle.mt_values.specs.Values.{Row, types_of}
-use Rattle.mt_model.specs.History.{IsTableSchema}
-use Rattle.mt_model.specs.Partial.{MergesAll}
-use Rattle.rule_law.specs.TableRows.{IsTableRow}
-use Rattle.rule_law.proofs.TableRows.{run_table}
+use Rattle.table_core.specs.mt_model.History.{IsTableSchema}
+use Rattle.table_core.specs.mt_model.Partial.{MergesAll}
+use Rattle.row_merge.specs.rule_law.TableRows.{IsTableRow}
+use Rattle.row_merge.proofs.RuleLawTableRows.{run_table}
 use Rattle.row_merge.specs.Merged.{ArePartRows, IsMergedOf}
 use Rattle.final_fold.specs.declared.asking.Wanted.{Wanted}
 use Rattle.final_fold.specs.Keys.{SaysOfKeys, is_of_key}

@@ -13,14 +13,14 @@ use Rattle.mt_values.specs.Tables.{partition_of, same_partition}
 use Rattle.mt_values.specs.Tests.{eval}
 use Rattle.mt_values.specs.Values.{Row}
 use Rattle.mt_outside.specs.Files.{Files}
-use Rattle.mt_model.specs.History.{IsTableSchema}
-use Rattle.mt_model.specs.Partial.{MergesAll}
-use Rattle.mt_model.proofs.Commands.{same_itself}
-use Rattle.part_name.specs.declared.part.PartName.{PartName}
-use Rattle.part_reader.specs.declared.reading.Part.{Part}
-use Rattle.part_reader.specs.declared.reading.PartFault.{PartFault}
-use Rattle.part_reader.specs.Parts.{with_columns}
-use Rattle.part_set.specs.declared.kept.Kept.{Kept}
+use Rattle.table_core.specs.mt_model.History.{IsTableSchema}
+use Rattle.table_core.specs.mt_model.Partial.{MergesAll}
+use Rattle.table_core.proofs.MtModelCommands.{same_itself}
+use Rattle.table_core.specs.part_name.declared.part.PartName.{PartName}
+use Rattle.row_merge.specs.part_reader.declared.reading.Part.{Part}
+use Rattle.row_merge.specs.part_reader.declared.reading.PartFault.{PartFault}
+use Rattle.row_merge.specs.part_reader.Parts.{with_columns}
+use Rattle.row_merge.specs.part_set.declared.kept.Kept.{Kept}
 use Rattle.row_merge.specs.Merged.{ArePartRows, IsMergedOf}
 use Rattle.final_fold.specs.declared.asking.Wanted.{Wanted}
 use Rattle.final_fold.specs.Folded.{AddsFold, AddsMerge, AreOfPartitions, ExplainsFold, IsFolded, SkipNoFold, StandByPartition, chosen_inputs, count_in}

@@ -18,17 +18,17 @@ use Rattle.mt_values.specs.Engines.{is_sign}
 use Rattle.mt_values.specs.Grid.{column_of}
 use Rattle.mt_values.specs.Schemas.{column_types}
 use Rattle.mt_values.specs.Values.{Row, type_of, types_of}
-use Rattle.mt_model.specs.Final.{FoldsAll}
-use Rattle.mt_model.specs.Folding.{Leaves, LeavesLater}
-use Rattle.mt_model.specs.Live.{of_key}
-use Rattle.mt_model.specs.Partial.{functions_of}
-use Rattle.mt_model.specs.Rules.{Folds, FoldsAs, LeavesOneSign, LeavesSums, Run, alternate, are_zero, collapsed, ends_with_state, first_of, is_cancel, is_one_of, is_state, last_of, summed, total, with_sums, wrapped_as}
-use Rattle.rule_law.specs.TableRows.{IsTableRow}
-use Rattle.rule_law.proofs.Alternating.{alternating_left}
-use Rattle.rule_law.proofs.Kept.{collapsing_keeps, versioned_keeps}
-use Rattle.rule_law.proofs.PartlyRows.{merges_keep}
-use Rattle.rule_law.proofs.Summed.{sums_at}
-use Rattle.rule_law.proofs.Wrapping.{integer_wrapped, number_as}
+use Rattle.table_core.specs.mt_model.Final.{FoldsAll}
+use Rattle.table_core.specs.mt_model.Folding.{Leaves, LeavesLater}
+use Rattle.table_core.specs.mt_model.Live.{of_key}
+use Rattle.table_core.specs.mt_model.Partial.{functions_of}
+use Rattle.table_core.specs.mt_model.Rules.{Folds, FoldsAs, LeavesOneSign, LeavesSums, Run, alternate, are_zero, collapsed, ends_with_state, first_of, is_cancel, is_one_of, is_state, last_of, summed, total, with_sums, wrapped_as}
+use Rattle.row_merge.specs.rule_law.TableRows.{IsTableRow}
+use Rattle.row_merge.proofs.RuleLawAlternating.{alternating_left}
+use Rattle.row_merge.proofs.RuleLawKept.{collapsing_keeps, versioned_keeps}
+use Rattle.row_merge.proofs.RuleLawPartlyRows.{merges_keep}
+use Rattle.row_merge.proofs.RuleLawSummed.{sums_at}
+use Rattle.row_merge.proofs.RuleLawWrapping.{integer_wrapped, number_as}
 use Rattle.final_fold.specs.Choices.{signs_of, sums_of}
 use Rattle.final_fold.specs.Keys.{is_of_key}
 use Rattle.final_fold.proofs.FoldedOnce.{Down, Up, as_many_signs, between, later_of_all, first_of_all}

@@ -11,12 +11,12 @@ use Rattle.mt_values.specs.Grid.{AreRowsOf, Cells, column_of}
 use Rattle.mt_values.specs.Lists.{where_true}
 use Rattle.mt_values.specs.Values.{Row, types_of}
 use Rattle.mt_values.proofs.Grids.{length-column_of, lengths_typed}
-use Rattle.part_reader.specs.Columns.{AreEach}
-use Rattle.part_reader.specs.Granules.{chosen_of}
-use Rattle.part_reader.specs.Parts.{PartHolds, with_columns}
-use Rattle.part_reader.proofs.ChosenItems.{column_chosen}
-use Rattle.part_reader.proofs.CutRows.{chosen_every}
-use Rattle.column_file.specs.Spellings.{with_values}
+use Rattle.row_merge.specs.part_reader.Columns.{AreEach}
+use Rattle.row_merge.specs.part_reader.Granules.{chosen_of}
+use Rattle.row_merge.specs.part_reader.Parts.{PartHolds, with_columns}
+use Rattle.row_merge.proofs.PartReaderChosenItems.{column_chosen}
+use Rattle.row_merge.proofs.PartReaderCutRows.{chosen_every}
+use Rattle.row_merge.specs.column_file.Spellings.{with_values}
 use Rattle.mt_outside.specs.Files.{Files}
 use Rattle.final_fold.specs.declared.asking.Task.{Task}
 use Rattle.final_fold.specs.Asked.{AreSure, met_rows}

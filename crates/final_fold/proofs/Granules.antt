@@ -5,7 +5,7 @@ use Rattle.std.proofs.lemmas.List.{drop_all, drop_more, get_or_default, length-m
 use Rattle.std.proofs.lemmas.Bool.{cases_lt}
 use Rattle.mt_values.specs.Lists.{where_true}
 use Rattle.mt_values.proofs.Wheres.{passed_next, taken_next, where_append}
-use Rattle.part_reader.specs.Granules.{chosen_of}
+use Rattle.row_merge.specs.part_reader.Granules.{chosen_of}
 use Rattle.final_fold.specs.Matches.{AreAmong, count_true, granules_met, mask_met, some_true}
 
 -- ---- where a mask is true

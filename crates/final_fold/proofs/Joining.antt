@@ -11,7 +11,7 @@ use Rattle.mt_values.specs.Grid.{Cells, row_at, rows_of, rows_within}
 use Rattle.mt_values.specs.Lists.{run_of}
 use Rattle.mt_values.specs.Tests.{eval}
 use Rattle.mt_values.specs.Values.{Row}
-use Rattle.predicate.specs.Masks.{both}
+use Rattle.table_core.specs.predicate.Masks.{both}
 use Rattle.final_fold.specs.declared.asking.Sieve.{Sieve}
 use Rattle.final_fold.specs.Sieves.{joined_run, passes, passes_all, unasked}
 use Rattle.final_fold.proofs.Granules.{drop_granule, take_granule}

@@ -9,12 +9,12 @@ use Rattle.mt_base.specs.declared.partition.Partition.{Partition}
 use Rattle.mt_values.specs.declared.schema.Schema.{Schema}
 use Rattle.mt_values.specs.Tables.{partition_of, sorting_cmp}
 use Rattle.mt_values.specs.Values.{Row}
-use Rattle.mt_model.specs.Folding.{Leaves}
-use Rattle.mt_model.specs.Live.{of_key}
-use Rattle.mt_model.specs.Partial.{MergesAll, TableRun}
-use Rattle.mt_model.proofs.Commands.{same_itself}
-use Rattle.mt_model.proofs.Determined.{sorting_total}
-use Rattle.rule_law.proofs.PartlyRows.{holds_at}
+use Rattle.table_core.specs.mt_model.Folding.{Leaves}
+use Rattle.table_core.specs.mt_model.Live.{of_key}
+use Rattle.table_core.specs.mt_model.Partial.{MergesAll, TableRun}
+use Rattle.table_core.proofs.MtModelCommands.{same_itself}
+use Rattle.table_core.proofs.MtModelDetermined.{sorting_total}
+use Rattle.row_merge.proofs.RuleLawPartlyRows.{holds_at}
 use Rattle.final_fold.specs.Keys.{SaysOfKeys, is_of_key}
 
 pub no_clash : true ≡ false → ⊥

@@ -22,3 +22,10 @@ pub mod Scanning
 pub mod SomeRun
 pub mod Sure
 pub mod WholeColumns
+pub use Rattle.table_core.proofs.PartHistoryCounted
+pub use Rattle.table_core.proofs.PartHistoryJoined
+pub use Rattle.table_core.proofs.PartHistoryOrders
+pub use Rattle.table_core.proofs.PartHistoryOwnRows
+pub use Rattle.table_core.proofs.PartHistoryPortions
+pub use Rattle.row_merge.proofs.HistoryRows as RowMergeHistoryRows
+pub use Rattle.row_merge.proofs.RuleLawPartlyRows

@@ -18,18 +18,18 @@ use Rattle.mt_values.specs.Schemas.{column_types}
 use Rattle.mt_values.specs.Tables.{partition_of, same_partition, sorting_cmp, sorting_columns}
 use Rattle.mt_values.specs.Values.{Row}
 use Rattle.mt_values.proofs.Orders.{value_exact}
-use Rattle.mt_model.specs.Folding.{Leaves}
-use Rattle.mt_model.specs.History.{IsTableSchema}
-use Rattle.mt_model.specs.Live.{of_key}
-use Rattle.mt_model.specs.Partial.{MergesAll, TableRun, functions_of}
-use Rattle.mt_model.specs.Rules.{Run}
-use Rattle.mt_model.proofs.Commands.{partition_is}
-use Rattle.rule_law.specs.TableRows.{IsRowOf, IsTableRow}
-use Rattle.rule_law.proofs.Aggregated.{TakesRow, aggregating_keeps}
-use Rattle.rule_law.proofs.ApartColumns.{partition_apart, sorting_apart}
-use Rattle.rule_law.proofs.Kept.{collapsing_keeps, plain_keeps, replacing_keeps, versioned_keeps}
-use Rattle.rule_law.proofs.OneSum.{summing_keeps}
-use Rattle.rule_law.proofs.TableRows.{IsApart, even_columns, run_partition}
+use Rattle.table_core.specs.mt_model.Folding.{Leaves}
+use Rattle.table_core.specs.mt_model.History.{IsTableSchema}
+use Rattle.table_core.specs.mt_model.Live.{of_key}
+use Rattle.table_core.specs.mt_model.Partial.{MergesAll, TableRun, functions_of}
+use Rattle.table_core.specs.mt_model.Rules.{Run}
+use Rattle.table_core.proofs.MtModelCommands.{partition_is}
+use Rattle.row_merge.specs.rule_law.TableRows.{IsRowOf, IsTableRow}
+use Rattle.row_merge.proofs.RuleLawAggregated.{TakesRow, aggregating_keeps}
+use Rattle.row_merge.proofs.RuleLawApartColumns.{partition_apart, sorting_apart}
+use Rattle.row_merge.proofs.RuleLawKept.{collapsing_keeps, plain_keeps, replacing_keeps, versioned_keeps}
+use Rattle.row_merge.proofs.RuleLawOneSum.{summing_keeps}
+use Rattle.row_merge.proofs.RuleLawTableRows.{IsApart, even_columns, run_partition}
 use Rattle.final_fold.specs.Keys.{SaysOfKeys, is_of_key}
 use Rattle.final_fold.proofs.KeyTests.{merged_apart, no_clash, of_itself}
 use Rattle.final_fold.proofs.SomeRun.{run_of_some}

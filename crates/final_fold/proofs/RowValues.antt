@@ -5,7 +5,7 @@ use Rattle.std.specs.Option.{option_map}
 use Rattle.std.proofs.lemmas.List.{length-map, take_more}
 use Rattle.std.proofs.lemmas.List.Elements.{All-cons, All-head, All-nil, All-tail, filter-append, filter_map-append}
 use Rattle.std.proofs.lemmas.Option.{same_Some, slice_get-get_or, slice_get-map}
-use Rattle.column_file.specs.Spellings.{with_values}
+use Rattle.row_merge.specs.column_file.Spellings.{with_values}
 use Rattle.mt_values.specs.declared.schema.Column.{Column}
 use Rattle.mt_values.specs.declared.schema.Schema.{Schema}
 use Rattle.mt_values.specs.declared.value.ColType.{ColType}
@@ -14,8 +14,8 @@ use Rattle.mt_values.specs.declared.value.Value.TheVariants as value
 use Rattle.mt_values.specs.Grid.{Cells, column_of}
 use Rattle.mt_values.specs.Schemas.{column_types}
 use Rattle.mt_values.specs.Values.{Row, type_of, types_of}
-use Rattle.part_reader.specs.Parts.{with_columns}
-use Rattle.part_reader.proofs.Holding.{each_typed, type_there}
+use Rattle.row_merge.specs.part_reader.Parts.{with_columns}
+use Rattle.row_merge.proofs.PartReaderHolding.{each_typed, type_there}
 use Rattle.final_fold.specs.Scans.{ArePlacesOf, HaveTypes}
 
 any_value : Value

@@ -12,10 +12,10 @@ use Rattle.mt_values.specs.Values.{Row, types_of}
 use Rattle.mt_values.specs.Grid.{AreRowsOf, Cells, column_of}
 use Rattle.mt_values.specs.Schemas.{column_types}
 use Rattle.mt_outside.specs.Files.{Files}
-use Rattle.part_reader.specs.declared.reading.Part.{Part}
-use Rattle.part_writer.specs.declared.loaded.Loaded.{Loaded}
-use Rattle.part_reader.specs.Parts.{PartHolds, with_columns}
-use Rattle.part_set.specs.declared.kept.Kept.{Kept}
+use Rattle.row_merge.specs.part_reader.declared.reading.Part.{Part}
+use Rattle.row_merge.specs.part_writer.declared.loaded.Loaded.{Loaded}
+use Rattle.row_merge.specs.part_reader.Parts.{PartHolds, with_columns}
+use Rattle.row_merge.specs.part_set.declared.kept.Kept.{Kept}
 use Rattle.final_fold.specs.Scans.{ArePlacesOf, HaveTypes, PartsHold, joined_rows, rows_kept, values_at}
 use Rattle.final_fold.proofs.Picking.{there}
 

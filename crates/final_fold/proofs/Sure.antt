@@ -14,7 +14,7 @@ use Rattle.mt_values.specs.Lists.{where_true}
 use Rattle.mt_values.specs.Order.{key_of}
 use Rattle.mt_values.specs.Tests.{eval}
 use Rattle.mt_values.specs.Values.{Row}
-use Rattle.part_reader.specs.Granules.{chosen_of}
+use Rattle.row_merge.specs.part_reader.Granules.{chosen_of}
 use Rattle.final_fold.specs.declared.asking.Conjunct.{Conjunct}
 use Rattle.final_fold.specs.declared.asking.Sieve.{Sieve}
 use Rattle.final_fold.specs.Asked.{IsSieveOf, MeetUnasked, asked_somewhere, some_true, tested, unasked_of}

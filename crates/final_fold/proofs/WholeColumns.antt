@@ -12,12 +12,12 @@ use Rattle.mt_values.specs.Schemas.{column_types}
 use Rattle.mt_values.specs.Values.{Row, type_of, types_of}
 use Rattle.mt_values.proofs.Grids.{All-range, items_at_all}
 use Rattle.mt_outside.specs.Files.{Files}
-use Rattle.part_writer.specs.declared.loaded.Loaded.{Loaded}
-use Rattle.part_reader.specs.declared.reading.Part.{Part}
-use Rattle.part_reader.specs.Granules.{chosen_count, chosen_of}
-use Rattle.part_reader.specs.Parts.{HoldsAt, PartHolds, with_columns}
-use Rattle.part_reader.proofs.CutRows.{chosen_every, rows_cut}
-use Rattle.part_reader.proofs.Holding.{holds_at}
+use Rattle.row_merge.specs.part_writer.declared.loaded.Loaded.{Loaded}
+use Rattle.row_merge.specs.part_reader.declared.reading.Part.{Part}
+use Rattle.row_merge.specs.part_reader.Granules.{chosen_count, chosen_of}
+use Rattle.row_merge.specs.part_reader.Parts.{HoldsAt, PartHolds, with_columns}
+use Rattle.row_merge.proofs.PartReaderCutRows.{chosen_every, rows_cut}
+use Rattle.row_merge.proofs.PartReaderHolding.{holds_at}
 use Rattle.row_merge.specs.Merged.{inputs_of}
 use Rattle.row_merge.specs.MergedParts.{column_places}
 use Rattle.final_fold.specs.Folded.{chosen_inputs}

@@ -6,7 +6,7 @@ use Rattle.mt_values.specs.Conditions.{Condition, conjuncts_of, tests_of}
 use Rattle.mt_values.specs.Order.{key_of}
 use Rattle.mt_values.specs.Tests.{eval}
 use Rattle.mt_values.specs.Values.{Row}
-use Rattle.part_reader.specs.Granules.{chosen_of}
+use Rattle.row_merge.specs.part_reader.Granules.{chosen_of}
 use Rattle.final_fold.specs.declared.asking.Plan.{Plan}
 use Rattle.final_fold.specs.declared.asking.Sieve.{Sieve}
 use Rattle.final_fold.specs.declared.asking.Task.{Task}

@@ -2,8 +2,8 @@
 use Rattle.std.specs.Prelude.{ℕ, List}
 use Rattle.mt_values.specs.declared.schema.Schema.{Schema}
 use Rattle.mt_values.specs.Values.{Row}
-use Rattle.mt_model.specs.Partial.{MergesAll}
-use Rattle.part_history.specs.Parts.{core_parts_of, rows_of_parts}
+use Rattle.table_core.specs.mt_model.Partial.{MergesAll}
+use Rattle.table_core.specs.part_history.Parts.{core_parts_of, rows_of_parts}
 use Rattle.table_core.specs.declared.event.Event.{Event}
 use Rattle.table_core.specs.declared.event.Outcome.{Outcome}
 use Rattle.table_core.specs.Core.{Core, empty_core}

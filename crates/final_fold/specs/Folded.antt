@@ -9,16 +9,16 @@ use Rattle.mt_values.specs.Tables.{partition_of, same_partition}
 use Rattle.mt_values.specs.Tests.{eval}
 use Rattle.mt_values.specs.Values.{Row, types_of}
 use Rattle.mt_outside.specs.Files.{Files}
-use Rattle.column_file.specs.Marks.{granules}
-use Rattle.mt_model.specs.Partial.{MergesAll}
-use Rattle.part_name.specs.declared.part.PartName.{PartName}
-use Rattle.part_reader.specs.declared.reading.Part.{Part}
-use Rattle.part_reader.specs.declared.reading.PartFault.{PartFault}
-use Rattle.part_reader.specs.Faults.{ExplainsAt}
-use Rattle.part_reader.specs.Granules.{ExplainsChosen, chosen_of, column_in}
-use Rattle.part_reader.specs.Parts.{with_columns}
-use Rattle.part_set.specs.Parts.{partition_rank}
-use Rattle.part_set.specs.declared.kept.Kept.{Kept}
+use Rattle.row_merge.specs.column_file.Marks.{granules}
+use Rattle.table_core.specs.mt_model.Partial.{MergesAll}
+use Rattle.table_core.specs.part_name.declared.part.PartName.{PartName}
+use Rattle.row_merge.specs.part_reader.declared.reading.Part.{Part}
+use Rattle.row_merge.specs.part_reader.declared.reading.PartFault.{PartFault}
+use Rattle.row_merge.specs.part_reader.Faults.{ExplainsAt}
+use Rattle.row_merge.specs.part_reader.Granules.{ExplainsChosen, chosen_of, column_in}
+use Rattle.row_merge.specs.part_reader.Parts.{with_columns}
+use Rattle.row_merge.specs.part_set.Parts.{partition_rank}
+use Rattle.row_merge.specs.part_set.declared.kept.Kept.{Kept}
 use Rattle.row_merge.specs.Merged.{ArePartRows, IsMergedOf}
 use Rattle.row_merge.specs.MergedParts.{column_places}
 use Rattle.final_fold.specs.declared.asking.Wanted.{Wanted}

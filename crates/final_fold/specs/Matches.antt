@@ -1,7 +1,7 @@
 -- Which rows meet a condition, and in which granules they are (docs/architecture.md, "The way of a SELECT").
 use Rattle.std.specs.Prelude.{◌≡◌, ℕ, Bool, true, false, cond, List, [], ◌∷◌, ◌++◌, length, map, take, drop, slice_get, All, Option, Some}
 use Rattle.std.specs.List.{AllZip, filter, zip}
-use Rattle.column_file.specs.Marks.{granules}
+use Rattle.row_merge.specs.column_file.Marks.{granules}
 use Rattle.mt_values.specs.declared.expr.Test.{Test}
 use Rattle.mt_values.specs.Conditions.{Condition}
 use Rattle.mt_values.specs.Grid.{Cells}
@@ -10,13 +10,13 @@ use Rattle.mt_values.specs.Schemas.{column_types}
 use Rattle.mt_values.specs.Tests.{eval}
 use Rattle.mt_values.specs.Values.{Row}
 use Rattle.mt_outside.specs.Files.{Files}
-use Rattle.part_name.specs.declared.part.PartName.{PartName}
-use Rattle.part_reader.specs.declared.reading.Part.{Part}
-use Rattle.part_reader.specs.declared.reading.PartFault.{PartFault}
-use Rattle.part_reader.specs.Faults.{ExplainsAt}
-use Rattle.part_reader.specs.Granules.{ExplainsChosen, chosen_count, chosen_of, column_in}
-use Rattle.part_reader.specs.Parts.{PartHolds}
-use Rattle.part_set.specs.declared.kept.Kept.{Kept}
+use Rattle.table_core.specs.part_name.declared.part.PartName.{PartName}
+use Rattle.row_merge.specs.part_reader.declared.reading.Part.{Part}
+use Rattle.row_merge.specs.part_reader.declared.reading.PartFault.{PartFault}
+use Rattle.row_merge.specs.part_reader.Faults.{ExplainsAt}
+use Rattle.row_merge.specs.part_reader.Granules.{ExplainsChosen, chosen_count, chosen_of, column_in}
+use Rattle.row_merge.specs.part_reader.Parts.{PartHolds}
+use Rattle.row_merge.specs.part_set.declared.kept.Kept.{Kept}
 use Rattle.final_fold.specs.declared.asking.Task.{Task}
 use Rattle.final_fold.specs.declared.asking.Wanted.{Wanted}
 use Rattle.final_fold.specs.declared.found.Matches.{Matches}

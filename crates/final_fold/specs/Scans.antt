@@ -7,9 +7,9 @@ use Rattle.mt_values.specs.Grid.{Cells, column_of}
 use Rattle.mt_values.specs.Schemas.{column_types}
 use Rattle.mt_values.specs.Values.{Row}
 use Rattle.mt_outside.specs.Files.{Files}
-use Rattle.part_reader.specs.declared.reading.Part.{Part}
-use Rattle.part_reader.specs.Parts.{PartHolds}
-use Rattle.part_set.specs.declared.kept.Kept.{Kept}
+use Rattle.row_merge.specs.part_reader.declared.reading.Part.{Part}
+use Rattle.row_merge.specs.part_reader.Parts.{PartHolds}
+use Rattle.row_merge.specs.part_set.declared.kept.Kept.{Kept}
 
 -- each place is a column's
 abbrev pub ArePlacesOf : Schema → List ℕ → Type 0

@@ -4,7 +4,7 @@ use Rattle.std.specs.List.{list_all}
 use Rattle.mt_values.specs.Grid.{Cells, rows_of}
 use Rattle.mt_values.specs.Lists.{run_of}
 use Rattle.mt_values.specs.Tests.{eval}
-use Rattle.predicate.specs.Masks.{both}
+use Rattle.table_core.specs.predicate.Masks.{both}
 use Rattle.final_fold.specs.declared.asking.Sieve.{Sieve}
 
 -- of the items of chosen granules, one granule after another, those of granules in which it is not asked

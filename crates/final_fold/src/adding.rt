@@ -5,10 +5,10 @@ ghost use Rattle.mt_outside.specs.Causes.{Rose};
 ghost use Rattle.mt_values.specs.Grid.{Cells, column_of};
 ghost use Rattle.mt_values.specs.Schemas.{column_types};
 ghost use Rattle.mt_values.specs.Values.{Row};
-ghost use Rattle.column_file.specs.Marks.{granules};
-ghost use Rattle.column_file.specs.Spellings.{with_values};
-ghost use Rattle.part_reader.specs.Faults.{IsNoDamage};
-ghost use Rattle.part_reader.specs.Parts.{PartHolds, with_columns};
+ghost use Rattle.row_merge.specs.column_file.Marks.{granules};
+ghost use Rattle.row_merge.specs.column_file.Spellings.{with_values};
+ghost use Rattle.row_merge.specs.part_reader.Faults.{IsNoDamage};
+ghost use Rattle.row_merge.specs.part_reader.Parts.{PartHolds, with_columns};
 ghost use Rattle.final_fold.specs.Asked.{AreSure, IsTask, chosen_rows, met_rows};
 ghost use Rattle.final_fold.specs.Matches.{AreMatches, ExplainsAsked, count_true};
 ghost use Rattle.final_fold.specs.Scans.{HaveTypes};
@@ -18,7 +18,7 @@ use crate::counts::count_true;
 use crate::found::{Matches, find_matches};
 use mt_outside::Arm;
 use mt_values::ColumnData;
-use part_reader::{PartFault, add_granules, add_granules_where, count_chosen};
+use row_merge::part_reader::{PartFault, add_granules, add_granules_where, count_chosen};
 use std::alloc::Global;
 
 /// Adds the rows of a part's chosen granules that meet the condition to columns: of each the values at the wanted places. Returns

@@ -11,7 +11,7 @@ use crate::counts::some_true;
 use crate::pick_columns;
 use mt_base::{NoMemory, Seq, Twin};
 use mt_values::{Expr, Schema, Test};
-use part_reader::Part;
+use row_merge::part_reader::Part;
 use std::alloc::Global;
 
 /// What is wanted of the rows of a table's parts.

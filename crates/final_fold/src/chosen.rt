@@ -1,15 +1,15 @@
 // The rows of the chosen granules of parts, of each the values of all columns.
 ghost use Rattle.std.specs.Prelude.{◌≡◌, ◌<◌, ◌≤◌, ◌^◌, All, IfErr, IfOk, IsErrOf, List, OnOk, length};
 ghost use Rattle.std.specs.List.{range_with_len};
-ghost use Rattle.column_file.specs.Marks.{granules};
-ghost use Rattle.mt_model.specs.History.{IsTableSchema};
+ghost use Rattle.row_merge.specs.column_file.Marks.{granules};
+ghost use Rattle.table_core.specs.mt_model.History.{IsTableSchema};
 ghost use Rattle.mt_outside.specs.Causes.{Rose};
 ghost use Rattle.mt_values.specs.Grid.{AreRowsOf};
 ghost use Rattle.mt_values.specs.Schemas.{column_types};
 ghost use Rattle.mt_values.specs.Values.{Row};
-ghost use Rattle.part_reader.specs.Faults.{IsNoDamage};
-ghost use Rattle.part_reader.specs.Granules.{chosen_of};
-ghost use Rattle.part_reader.specs.Parts.{PartHolds};
+ghost use Rattle.row_merge.specs.part_reader.Faults.{IsNoDamage};
+ghost use Rattle.row_merge.specs.part_reader.Granules.{chosen_of};
+ghost use Rattle.row_merge.specs.part_reader.Parts.{PartHolds};
 ghost use Rattle.row_merge.specs.Merged.{inputs_of};
 ghost use Rattle.row_merge.specs.MergedParts.{column_places};
 ghost use Rattle.final_fold.specs.Folded.{ExplainsFold, ExplainsWhole, chosen_inputs};
@@ -20,10 +20,12 @@ use crate::asking::Wanted;
 use mt_base::{NoMemory, Seq};
 use mt_outside::Arm;
 use mt_values::{Block, Row, Schema};
-use part_name::PartName;
-use part_reader::{Part, PartFault, add_granules, count_chosen, empty_columns, rows_of_block};
-use part_set::Kept;
+use row_merge::part_reader::{
+    Part, PartFault, add_granules, count_chosen, empty_columns, rows_of_block,
+};
+use row_merge::part_set::Kept;
 use std::alloc::Global;
+use table_core::part_name::PartName;
 
 /// The rows of the chosen granules of each part, in order.
 ///

@@ -4,8 +4,8 @@ ghost use Rattle.final_fold.specs.Matches.{count_true, some_true};
 ghost use Rattle.final_fold.specs.Scans.{rows_kept};
 
 use mt_base::Rows;
-use part_reader::Part;
-use part_set::Kept;
+use row_merge::part_reader::Part;
+use row_merge::part_set::Kept;
 
 /// How many rows parts have together; none where a place of 32 bits can't count them.
 pub fn count_rows<F>(parts: &[Kept<Part<F>>]) -> Option<usize>

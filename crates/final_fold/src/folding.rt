@@ -3,16 +3,16 @@
 // none is missed.
 ghost use Rattle.std.specs.Prelude.{◌≡◌, ◌<◌, ◌≤◌, ◌+◌, ◌^◌, ◌∷◌, [], ℕ, All, IfErr, IfOk, IsErrOf, List, OnOk, filter_map, length, map, slice_get};
 ghost use Rattle.mt_base.specs.declared.partition.Partition.{Partition};
-ghost use Rattle.mt_model.specs.History.{IsTableSchema};
+ghost use Rattle.table_core.specs.mt_model.History.{IsTableSchema};
 ghost use Rattle.mt_outside.specs.Causes.{Rose};
 ghost use Rattle.mt_values.specs.Grid.{AreRowsOf, Cells};
 ghost use Rattle.mt_values.specs.Schemas.{column_types};
 ghost use Rattle.mt_values.specs.Tables.{same_partition};
 ghost use Rattle.mt_values.specs.Values.{Row, types_of};
-ghost use Rattle.part_reader.specs.Faults.{IsNoDamage};
-ghost use Rattle.part_reader.specs.Parts.{with_columns};
-ghost use Rattle.part_set.specs.declared.kept.Kept.{Kept};
-ghost use Rattle.primary_marks.specs.Keys.{HasMarks};
+ghost use Rattle.row_merge.specs.part_reader.Faults.{IsNoDamage};
+ghost use Rattle.row_merge.specs.part_reader.Parts.{with_columns};
+ghost use Rattle.row_merge.specs.part_set.declared.kept.Kept.{Kept};
+ghost use Rattle.row_merge.specs.primary_marks.Keys.{HasMarks};
 ghost use Rattle.row_merge.specs.Merged.{ArePartRows, inputs_of};
 ghost use Rattle.final_fold.specs.Asked.{IsWanted};
 ghost use Rattle.final_fold.specs.Folded.{AddsFold, AddsMerge, AreOfPartitions, ExplainsFold, IsFolded, SkipNoFold, StandByPartition, count_in};
@@ -25,11 +25,11 @@ use crate::counts::join_counts;
 use mt_base::{NoMemory, Partition, Seq};
 use mt_outside::Arm;
 use mt_values::{Cell, ColumnData, Row};
-use part_name::PartName;
-use part_reader::{Part, PartFault};
-use part_set::Kept;
 use row_merge::merge_rows;
+use row_merge::part_reader::{Part, PartFault};
+use row_merge::part_set::Kept;
 use std::alloc::Global;
+use table_core::part_name::PartName;
 
 /// Adds what FINAL sees of a table's parts to columns: of the rows that a merge leaves of all parts of each partition, those that meet a
 /// condition, of each the values at the wanted places. All columns of the chosen granules are read, and nothing of the others: no row of

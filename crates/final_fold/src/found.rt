@@ -1,10 +1,10 @@
 // Which rows of a part's chosen granules meet a condition, by the columns of the conjuncts that are asked.
 ghost use Rattle.std.specs.Prelude.{◌≡◌, ◌≤◌, IfErr, IfOk, IsErrOf, List, length};
-ghost use Rattle.column_file.specs.Marks.{granules};
+ghost use Rattle.row_merge.specs.column_file.Marks.{granules};
 ghost use Rattle.mt_outside.specs.Causes.{Rose};
 ghost use Rattle.mt_values.specs.Values.{Row};
-ghost use Rattle.part_reader.specs.Faults.{IsNoDamage};
-ghost use Rattle.part_reader.specs.Parts.{PartHolds};
+ghost use Rattle.row_merge.specs.part_reader.Faults.{IsNoDamage};
+ghost use Rattle.row_merge.specs.part_reader.Parts.{PartHolds};
 ghost use Rattle.final_fold.specs.Asked.{IsTask};
 ghost use Rattle.final_fold.specs.Matches.{AreMatches, ExplainsAsked, granules_met, mask_met};
 
@@ -14,7 +14,7 @@ use crate::sifting::{Read, sifted};
 use mt_base::NoMemory;
 use mt_outside::Arm;
 use mt_values::ColumnData;
-use part_reader::{PartFault, add_granules, count_chosen, empty_columns};
+use row_merge::part_reader::{PartFault, add_granules, count_chosen, empty_columns};
 use std::alloc::Global;
 
 /// What the condition is of the rows of a part's chosen granules.

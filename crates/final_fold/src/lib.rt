@@ -22,3 +22,4 @@ pub use laws::{
 };
 pub use matches::add_matches;
 pub use picked::{Picked, pick_columns};
+pub use row_merge;

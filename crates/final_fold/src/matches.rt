@@ -3,7 +3,7 @@ ghost use Rattle.std.specs.Prelude.{◌≡◌, ◌≤◌, ℕ, [], All, IfErr, I
 ghost use Rattle.mt_outside.specs.Causes.{Rose};
 ghost use Rattle.mt_values.specs.Grid.{Cells};
 ghost use Rattle.mt_values.specs.Values.{Row};
-ghost use Rattle.part_reader.specs.Faults.{IsNoDamage};
+ghost use Rattle.row_merge.specs.part_reader.Faults.{IsNoDamage};
 ghost use Rattle.final_fold.specs.Asked.{IsWanted};
 ghost use Rattle.final_fold.specs.Matches.{ExplainsMatches, HoldEachMatch, MeetWhereUnasked, SayOfEach, matching};
 ghost use Rattle.final_fold.specs.Scans.{HaveTypes, PartsHold, joined_rows, rows_kept, values_at};
@@ -13,10 +13,10 @@ use crate::asking::{Task, Wanted, make_plan};
 use mt_base::Seq;
 use mt_outside::Arm;
 use mt_values::ColumnData;
-use part_name::PartName;
-use part_reader::{Part, PartFault};
-use part_set::Kept;
+use row_merge::part_reader::{Part, PartFault};
+use row_merge::part_set::Kept;
 use std::alloc::Global;
+use table_core::part_name::PartName;
 
 /// Adds the rows of a table's parts that meet a condition to columns, part by part: of each the values at the wanted places. Of a
 /// part the granules alone are read that are chosen: first the columns of the conjuncts that are asked somewhere in it, each once, and

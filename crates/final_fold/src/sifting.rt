@@ -2,14 +2,14 @@
 // other row. The granules are gone over once for each conjunct.
 ghost use Rattle.std.specs.Prelude.{◌≡◌, ◌≤◌, All, IfOk, OnOk, length, false, get_or};
 ghost use Rattle.mt_values.specs.Grid.{Cells};
-ghost use Rattle.predicate.specs.Masks.{both};
+ghost use Rattle.table_core.specs.predicate.Masks.{both};
 ghost use Rattle.final_fold.specs.Sieves.{PassesUnasked, joined_run, passes, passes_all};
 
 use crate::asking::Sieve;
 use mt_base::NoMemory;
 use mt_values::ColumnData;
-use predicate::{intersect, mask_within};
 use std::alloc::Global;
+use table_core::predicate::{intersect, mask_within};
 
 /// What was read of a part: columns with the values of the rows of its chosen granules, one granule after another.
 #[derive(Clone, Copy)]

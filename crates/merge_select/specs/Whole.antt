@@ -3,7 +3,7 @@ use Rattle.std.specs.Prelude.{◌≡◌, ◌⊎◌, ℕ, ◌+◌, ◌<◌, true,
 use Rattle.std.specs.List.{All, AllWithin}
 use Rattle.mutation_queue.specs.declared.numbered.Mutation.{Mutation}
 use Rattle.mutation_queue.specs.Pending.{MayMerge}
-use Rattle.part_name.specs.declared.part.PartName.{PartName}
+use Rattle.part_set.specs.part_name.declared.part.PartName.{PartName}
 use Rattle.part_set.specs.declared.kept.Kept.{Kept}
 use Rattle.part_set.specs.declared.run.Run.{Run}
 use Rattle.merge_select.specs.declared.whole.Busy.{Busy}

@@ -8,7 +8,7 @@ ghost use Rattle.merge_select.specs.Whole.{AllMayMerge, AreParted, IsFirstBusy, 
 
 use mt_base::{Name, Partition};
 use mutation_queue::Mutations;
-use part_name::PartName;
+use part_set::part_name::PartName;
 use part_set::{Kept, PartSet, Run};
 
 /// A part that is to be merged bears a mark.

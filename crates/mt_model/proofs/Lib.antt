@@ -32,3 +32,4 @@ pub mod TextBounds
 pub mod Unended
 pub mod Unrefused
 pub mod Words
+pub use Rattle.predicate.proofs.Narrowing as PredicateNarrowing

@@ -19,3 +19,4 @@ pub mod Rules
 pub mod Script
 pub mod Session
 pub mod Written
+pub use Rattle.predicate.specs as predicate

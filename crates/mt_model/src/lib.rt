@@ -21,6 +21,7 @@ pub use laws::{
     scripts_run_in_one_way, sorting_keeps_each_key,
 };
 pub use lines::{explain_line, ok_line, refusal_line, rows_line};
+pub use predicate;
 pub use query::{Query, query_of};
 pub use refusal::{Bound, Reason, Refusal, Room};
 pub use resolving::resolve;

@@ -14,7 +14,7 @@ use Rattle.mt_values.specs.Grid.{column_of}
 use Rattle.mt_values.specs.Order.{value_cmp}
 use Rattle.mt_values.specs.Values.{Row}
 use Rattle.mt_values.proofs.Orders.{value_exact, value_total}
-use Rattle.mt_model.specs.Rules.{AreAggregatesFrom, IsAggregateOf, IsBest, LeavesAggregates, function_or_first, total, wrapped_as}
+use Rattle.part_history.specs.mt_model.Rules.{AreAggregatesFrom, IsAggregateOf, IsBest, LeavesAggregates, function_or_first, total, wrapped_as}
 use Rattle.mt_plain.specs.Outcomes.{AreExactly, IsExactly, passes_by}
 use Rattle.mt_plain.proofs.Exactly.{contains_between, exactly_none, exactly_one, parts_of}
 

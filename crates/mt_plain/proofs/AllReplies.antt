@@ -7,13 +7,13 @@ use Rattle.mt_values.specs.declared.statement.Cause.{Cause}
 use Rattle.mt_values.specs.declared.statement.Statement.{Statement}
 use Rattle.mt_values.specs.declared.statement.Statement.TheVariants as statement
 use Rattle.mt_values.specs.declared.statement.SelectText.{SelectText}
-use Rattle.mt_model.specs.Answer.{Answer}
-use Rattle.mt_model.specs.History.{History, schema_of}
-use Rattle.mt_model.specs.Queries.{query_of_select}
-use Rattle.mt_model.specs.Reply.{rows_reply}
-use Rattle.mt_model.specs.Script.{IsNoExplain, OwnEntries}
-use Rattle.mt_model.specs.Session.{Takes, TakesStatement}
-use Rattle.mt_model.proofs.OneWay.{IsNoQuery, never_failed, same_step, stays_there}
+use Rattle.part_history.specs.mt_model.Answer.{Answer}
+use Rattle.part_history.specs.mt_model.History.{History, schema_of}
+use Rattle.part_history.specs.mt_model.Queries.{query_of_select}
+use Rattle.part_history.specs.mt_model.Reply.{rows_reply}
+use Rattle.part_history.specs.mt_model.Script.{IsNoExplain, OwnEntries}
+use Rattle.part_history.specs.mt_model.Session.{Takes, TakesStatement}
+use Rattle.part_history.proofs.MtModelOneWay.{IsNoQuery, never_failed, same_step, stays_there}
 use Rattle.mt_plain.specs.Outcomes.{AreExactly}
 use Rattle.mt_plain.specs.Plain.{Grows, IsRepliedIn, calm, select_of}
 use Rattle.mt_plain.proofs.Answering.{calm_is}

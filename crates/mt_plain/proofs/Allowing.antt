@@ -8,11 +8,11 @@ use Rattle.mt_base.specs.declared.memory.NoMemory.{NoMemory}
 use Rattle.mt_values.specs.declared.command.Entry.{Entry}
 use Rattle.mt_values.specs.declared.statement.Cause.{Cause}
 use Rattle.mt_values.specs.declared.statement.Statement.{Statement}
-use Rattle.mt_model.specs.History.{History, FewInserts}
-use Rattle.mt_model.specs.Script.{HasNoExplain, IsNoExplain, OwnEntries, ScriptRun}
-use Rattle.mt_model.specs.Session.{AddsNothing, SessionRun, Takes}
-use Rattle.mt_model.proofs.OneWay.{stays_there}
-use Rattle.mt_model.proofs.Places.{takes_places}
+use Rattle.part_history.specs.mt_model.History.{History, FewInserts}
+use Rattle.part_history.specs.mt_model.Script.{HasNoExplain, IsNoExplain, OwnEntries, ScriptRun}
+use Rattle.part_history.specs.mt_model.Session.{AddsNothing, SessionRun, Takes}
+use Rattle.part_history.proofs.MtModelOneWay.{stays_there}
+use Rattle.part_history.proofs.MtModelPlaces.{takes_places}
 use Rattle.mt_plain.specs.Outcomes.{AddsExactly, AreExactly, IsExactly}
 use Rattle.mt_plain.specs.Plain.{Grows, IsRepliedIn, OneStandsFrom, StandsFrom, calm}
 use Rattle.mt_plain.proofs.Exactly.{contains_cases, contains_first, contains_none}

@@ -9,19 +9,19 @@ use Rattle.mt_values.specs.declared.statement.Statement.TheVariants as statement
 use Rattle.mt_values.specs.Order.{key_of, row_cmp}
 use Rattle.mt_values.specs.Tests.{eval}
 use Rattle.mt_values.specs.Values.{Row}
-use Rattle.mt_model.specs.Answer.{Answer, Prints}
-use Rattle.mt_model.specs.declared.query.Query.{Query}
-use Rattle.mt_model.specs.declared.refusal.Refusal.{Refusal}
-use Rattle.mt_model.specs.declared.refusal.Refusal.TheVariants as refusal
-use Rattle.mt_model.specs.History.{History, schema_of}
-use Rattle.mt_model.specs.Live.{live, sorted}
-use Rattle.mt_model.specs.Queries.{query_for, query_of, query_of_select}
-use Rattle.mt_model.specs.Refusals.{refusal_line}
-use Rattle.mt_model.specs.Reply.{rows_reply}
-use Rattle.mt_model.specs.Session.{Selects, TakesStatement}
-use Rattle.mt_model.proofs.Determined.{filter_moved, prints_once, row_total}
-use Rattle.mt_model.proofs.OneWay.{IsCalm, never_failed}
-use Rattle.mt_model.proofs.Sorting.{sorted_permutes, sorted_rises}
+use Rattle.part_history.specs.mt_model.Answer.{Answer, Prints}
+use Rattle.part_history.specs.mt_model.declared.query.Query.{Query}
+use Rattle.part_history.specs.mt_model.declared.refusal.Refusal.{Refusal}
+use Rattle.part_history.specs.mt_model.declared.refusal.Refusal.TheVariants as refusal
+use Rattle.part_history.specs.mt_model.History.{History, schema_of}
+use Rattle.part_history.specs.mt_model.Live.{live, sorted}
+use Rattle.part_history.specs.mt_model.Queries.{query_for, query_of, query_of_select}
+use Rattle.part_history.specs.mt_model.Refusals.{refusal_line}
+use Rattle.part_history.specs.mt_model.Reply.{rows_reply}
+use Rattle.part_history.specs.mt_model.Session.{Selects, TakesStatement}
+use Rattle.part_history.proofs.MtModelDetermined.{filter_moved, prints_once, row_total}
+use Rattle.part_history.proofs.MtModelOneWay.{IsCalm, never_failed}
+use Rattle.part_history.proofs.MtModelSorting.{sorted_permutes, sorted_rises}
 use Rattle.mt_plain.specs.Lefts.{AreSeen, lines_of, reply_of}
 use Rattle.mt_plain.specs.Outcomes.{AreExactly}
 use Rattle.mt_plain.specs.Plain.{calm}

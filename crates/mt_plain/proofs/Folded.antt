@@ -5,8 +5,8 @@ use Rattle.std.proofs.lemmas.Bool.Decides.{nat_tests}
 use Rattle.mt_values.specs.declared.engine.Aggregate.{Aggregate}
 use Rattle.mt_values.specs.declared.engine.Engine.{Engine}
 use Rattle.mt_values.specs.Values.{Row}
-use Rattle.mt_model.specs.Folding.{ComesFrom, Leaves}
-use Rattle.mt_model.specs.Rules.{Folds, FoldsAs, Run, is_settled}
+use Rattle.part_history.specs.mt_model.Folding.{ComesFrom, Leaves}
+use Rattle.part_history.specs.mt_model.Rules.{Folds, FoldsAs, Run, is_settled}
 use Rattle.mt_plain.specs.Outcomes.{AreExactly, FoldsAsWithin, LeavesAfter}
 use Rattle.mt_plain.proofs.Exactly.{exactly_itself}
 use Rattle.mt_plain.proofs.Merging.{OneMakes, more_cases}

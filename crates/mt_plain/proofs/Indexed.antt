@@ -11,10 +11,10 @@ use Rattle.mt_values.specs.Conditions.{Condition}
 use Rattle.mt_values.specs.Grid.{column_of}
 use Rattle.mt_values.specs.Order.{key_of}
 use Rattle.mt_values.specs.Values.{Row}
-use Rattle.predicate.specs.Boxes.{can, only_column}
-use Rattle.predicate.specs.Indexes.{chosen_by_blocks, kept_of}
-use Rattle.predicate.specs.declared.extent.Known.{Known}
-use Rattle.predicate.specs.declared.extent.Known.TheVariants as known
+use Rattle.part_history.specs.predicate.Boxes.{can, only_column}
+use Rattle.part_history.specs.predicate.Indexes.{chosen_by_blocks, kept_of}
+use Rattle.part_history.specs.predicate.declared.extent.Known.{Known}
+use Rattle.part_history.specs.predicate.declared.extent.Known.TheVariants as known
 
 -- ---- what is kept
 

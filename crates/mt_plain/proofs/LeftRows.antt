@@ -17,16 +17,16 @@ use Rattle.mt_values.specs.declared.engine.Aggregate.{Aggregate}
 use Rattle.mt_values.specs.declared.schema.Schema.{Schema}
 use Rattle.mt_values.specs.Tables.{partition_of, same_partition, sorting_cmp}
 use Rattle.mt_values.specs.Values.{Row}
-use Rattle.mt_model.specs.Final.{Sees, TableFolds}
-use Rattle.mt_model.specs.Folding.{ComesFrom, Leaves}
-use Rattle.mt_model.specs.Live.{of_key}
-use Rattle.mt_model.specs.Partial.{TableRun, functions_of}
-use Rattle.mt_model.specs.Rules.{Folds, Run}
-use Rattle.mt_model.proofs.Commands.{partition_is, same_itself}
-use Rattle.mt_model.proofs.Determined.{sorting_total}
-use Rattle.mt_model.proofs.Merged.{comes_itself, comes_none, of_key_append}
-use Rattle.mt_model.proofs.SameKeys.{filter_after}
-use Rattle.mt_model.proofs.Sorting.{equal_is}
+use Rattle.part_history.specs.mt_model.Final.{Sees, TableFolds}
+use Rattle.part_history.specs.mt_model.Folding.{ComesFrom, Leaves}
+use Rattle.part_history.specs.mt_model.Live.{of_key}
+use Rattle.part_history.specs.mt_model.Partial.{TableRun, functions_of}
+use Rattle.part_history.specs.mt_model.Rules.{Folds, Run}
+use Rattle.part_history.proofs.MtModelCommands.{partition_is, same_itself}
+use Rattle.part_history.proofs.MtModelDetermined.{sorting_total}
+use Rattle.part_history.proofs.MtModelMerged.{comes_itself, comes_none, of_key_append}
+use Rattle.part_history.proofs.MtModelSameKeys.{filter_after}
+use Rattle.part_history.proofs.MtModelSorting.{equal_is}
 use Rattle.mt_plain.specs.Lefts.{AreSeen, KeySees, is_like, unlike}
 use Rattle.mt_plain.specs.Outcomes.{AreExactly}
 use Rattle.mt_plain.proofs.Exactly.{contains_cases, contains_first, contains_later, contains_map, contains_none, exactly_filtered, map_contains}

@@ -20,3 +20,5 @@ pub mod Steps
 pub mod Summing
 pub mod Tallying
 pub mod Turning
+pub mod PredicateNarrowing
+pub mod MtModelLists

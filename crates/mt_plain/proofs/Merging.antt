@@ -5,8 +5,8 @@ use Rattle.std.proofs.lemmas.Bool.Decides.{nat_tests}
 use Rattle.std.proofs.lemmas.List.{take_more}
 use Rattle.std.proofs.lemmas.List.Elements.{Contains-append_cases, Contains-append_left, Contains-append_right, Contains-push, Contains-push_cases}
 use Rattle.mt_values.specs.Values.{Row}
-use Rattle.mt_model.specs.Folding.{ComesFrom, Merges, MergesTimes}
-use Rattle.mt_model.proofs.Merged.{comes_itself, comes_on}
+use Rattle.part_history.specs.mt_model.Folding.{ComesFrom, Merges, MergesTimes}
+use Rattle.part_history.proofs.MtModelMerged.{comes_itself, comes_on}
 use Rattle.mt_plain.specs.Outcomes.{AddsExactly, AreExactly, MergesFirst, MergesOneOf}
 use Rattle.mt_plain.proofs.Exactly.{contains_map, contains_none, exactly_itself, exactly_joined, exactly_none, map_contains}
 

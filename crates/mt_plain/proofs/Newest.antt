@@ -5,7 +5,7 @@ use Rattle.std.proofs.lemmas.Bool.Decides.{nat_tests}
 use Rattle.std.proofs.lemmas.List.Elements.{All-weaker, Contains-append_left, Contains-push, Contains-push_cases}
 use Rattle.std.proofs.lemmas.List.Sums.{AllPass-from_list_all, list_all-from_AllPass}
 use Rattle.mt_values.specs.Values.{Row}
-use Rattle.mt_model.specs.Rules.{LeavesNewest, version_at}
+use Rattle.part_history.specs.mt_model.Rules.{LeavesNewest, version_at}
 use Rattle.mt_plain.specs.Outcomes.{AreExactly, are_at_most, are_below}
 use Rattle.mt_plain.proofs.Exactly.{exactly_none}
 

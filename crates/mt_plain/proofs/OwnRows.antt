@@ -7,8 +7,8 @@ use Rattle.mt_values.specs.declared.value.ColType.{ColType}
 use Rattle.mt_values.specs.Grid.{AreRowsOf}
 use Rattle.mt_values.specs.Tables.{partition_of, same_partition}
 use Rattle.mt_values.specs.Values.{Row, types_of}
-use Rattle.mt_model.specs.Commands.{rows_in}
-use Rattle.mt_model.specs.History.{column_types}
+use Rattle.part_history.specs.mt_model.Commands.{rows_in}
+use Rattle.part_history.specs.mt_model.History.{column_types}
 
 -- those of some rows that are of a partition are rows of the same types
 pub own_typed : (schema : Schema) (partition : Partition) (rows own : List Row) (types : List ColType) → AreRowsOf (column_types schema) rows → own ≡ rows_in schema partition rows → types ≡ column_types schema → AreRowsOf types own

@@ -6,8 +6,8 @@ use Rattle.mt_base.specs.declared.partition.Partition.{Partition}
 use Rattle.mt_values.specs.declared.schema.Schema.{Schema}
 use Rattle.mt_values.specs.Tables.{partition_of, same_partition}
 use Rattle.mt_values.specs.Values.{Row}
-use Rattle.mt_model.specs.Commands.{partitions_of, other_partitions}
-use Rattle.mt_model.proofs.Commands.{partition_is, same_itself}
+use Rattle.part_history.specs.mt_model.Commands.{partitions_of, other_partitions}
+use Rattle.part_history.proofs.MtModelCommands.{partition_is, same_itself}
 use Rattle.mt_plain.specs.Once.{among, once_more}
 
 same_back : (p q : Partition) → same_partition p q ≡ true → same_partition q p ≡ true

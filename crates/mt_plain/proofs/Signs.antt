@@ -6,7 +6,7 @@ use Rattle.std.proofs.lemmas.Bool.Decides.{Decides-int_eq}
 use Rattle.std.proofs.lemmas.List.Sums.{AllPass-from_list_all, list_all-from_AllPass}
 use Rattle.mt_values.specs.Grid.{column_of}
 use Rattle.mt_values.specs.Values.{Row}
-use Rattle.mt_model.specs.Rules.{IsSublist, LeavesOneSign, is_cancel, is_state, last_of, total}
+use Rattle.part_history.specs.mt_model.Rules.{IsSublist, LeavesOneSign, is_cancel, is_state, last_of, total}
 use Rattle.mt_plain.specs.Outcomes.{AreExactly, has_one_sign, may_be_left}
 use Rattle.mt_plain.proofs.Exactly.{contains_map, exactly_filtered, exactly_itself, exactly_joined, map_contains}
 

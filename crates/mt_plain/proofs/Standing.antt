@@ -13,13 +13,13 @@ use Rattle.mt_values.specs.declared.command.Insert.{Insert}
 use Rattle.mt_values.specs.declared.schema.Schema.{Schema}
 use Rattle.mt_values.specs.Grammar.{same_bytes}
 use Rattle.mt_values.specs.Tables.{sorting_cmp}
-use Rattle.mt_model.specs.Explain.{Portion, PortionStands, PortionsStand, has_number}
-use Rattle.mt_model.specs.History.{History, first_of, schema_of}
-use Rattle.mt_model.specs.Live.{live, sorted}
-use Rattle.mt_model.specs.Partial.{Partly}
-use Rattle.mt_model.specs.Numbers.{IsNumberOfInsert, draws, numbered, within}
-use Rattle.mt_model.proofs.Histories.{numbered_more}
-use Rattle.mt_model.proofs.Tables.{itself_same, same_is}
+use Rattle.part_history.specs.mt_model.Explain.{Portion, PortionStands, PortionsStand, has_number}
+use Rattle.part_history.specs.mt_model.History.{History, first_of, schema_of}
+use Rattle.part_history.specs.mt_model.Live.{live, sorted}
+use Rattle.part_history.specs.mt_model.Partial.{Partly}
+use Rattle.part_history.specs.mt_model.Numbers.{IsNumberOfInsert, draws, numbered, within}
+use Rattle.part_history.proofs.MtModelHistories.{numbered_more}
+use Rattle.part_history.proofs.MtModelTables.{itself_same, same_is}
 use Rattle.part_history.specs.declared.part.CorePart.{CorePart}
 use Rattle.part_history.specs.Entered.{part_of_insert}
 use Rattle.part_history.specs.Parts.{PartStands, TableStands, has_block}

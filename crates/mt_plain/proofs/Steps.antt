@@ -10,17 +10,17 @@ use Rattle.mt_values.specs.declared.statement.Statement.TheVariants as statement
 use Rattle.mt_values.specs.declared.statement.OptimizeText.{OptimizeText}
 use Rattle.mt_values.specs.declared.statement.SelectText.{SelectText}
 use Rattle.mt_values.specs.declared.schema.Schema.{Schema}
-use Rattle.mt_model.specs.Answer.{Answer}
-use Rattle.mt_model.specs.Reply.{ok_line, rows_reply}
-use Rattle.mt_model.specs.Commands.{commands_of, none_on}
-use Rattle.mt_model.specs.declared.refusal.Refusal.{Refusal}
-use Rattle.mt_model.specs.declared.refusal.Refusal.TheVariants as refusal
-use Rattle.mt_model.specs.History.{History, entered, schema_of}
-use Rattle.mt_model.specs.Refusals.{refusal_line}
-use Rattle.mt_model.specs.Queries.{query_for, query_of_select}
-use Rattle.mt_model.specs.Session.{AddsNothing, Accepts, StopsAfter, TurnRefuses, RefusedAs, SessionRun, Takes, TakesCommands, TakesStatement}
-use Rattle.mt_model.specs.Script.{ScriptRun}
-use Rattle.mt_model.proofs.Growing.{run_append, run_more, stays}
+use Rattle.part_history.specs.mt_model.Answer.{Answer}
+use Rattle.part_history.specs.mt_model.Reply.{ok_line, rows_reply}
+use Rattle.part_history.specs.mt_model.Commands.{commands_of, none_on}
+use Rattle.part_history.specs.mt_model.declared.refusal.Refusal.{Refusal}
+use Rattle.part_history.specs.mt_model.declared.refusal.Refusal.TheVariants as refusal
+use Rattle.part_history.specs.mt_model.History.{History, entered, schema_of}
+use Rattle.part_history.specs.mt_model.Refusals.{refusal_line}
+use Rattle.part_history.specs.mt_model.Queries.{query_for, query_of_select}
+use Rattle.part_history.specs.mt_model.Session.{AddsNothing, Accepts, StopsAfter, TurnRefuses, RefusedAs, SessionRun, Takes, TakesCommands, TakesStatement}
+use Rattle.part_history.specs.mt_model.Script.{ScriptRun}
+use Rattle.part_history.proofs.MtModelGrowing.{run_append, run_more, stays}
 use Rattle.mt_plain.specs.Plain.{Grows, TookTurns, calm, reply_at, unmerged_turn}
 use Rattle.mt_plain.proofs.Turning.{Ends, ends, front_of, turn_refuses, whole}
 

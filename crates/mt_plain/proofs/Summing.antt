@@ -7,7 +7,7 @@ use Rattle.std.proofs.lemmas.List.{take_more}
 use Rattle.std.specs.List.{Contains}
 use Rattle.mt_values.specs.declared.value.Value.{Value}
 use Rattle.mt_values.specs.Values.{Row}
-use Rattle.mt_model.specs.Rules.{LeavesSums, are_zero, integer_of, total, with_sums}
+use Rattle.part_history.specs.mt_model.Rules.{LeavesSums, are_zero, integer_of, total, with_sums}
 use Rattle.mt_plain.specs.Outcomes.{AreExactly}
 use Rattle.mt_plain.proofs.Exactly.{contains_between, contains_map, map_contains, parts_of}
 

@@ -13,10 +13,10 @@ use Rattle.mt_values.specs.Conditions.{Condition}
 use Rattle.mt_values.specs.Granules.{granules}
 use Rattle.mt_values.specs.Values.{Row}
 use Rattle.mt_values.proofs.Grids.{range_more}
-use Rattle.predicate.specs.Boxes.{can}
-use Rattle.predicate.specs.Granules.{box_between, chosen_in, known_among}
-use Rattle.predicate.specs.declared.extent.Known.{Known}
-use Rattle.predicate.specs.declared.extent.Known.TheVariants as known
+use Rattle.part_history.specs.predicate.Boxes.{can}
+use Rattle.part_history.specs.predicate.Granules.{box_between, chosen_in, known_among}
+use Rattle.part_history.specs.predicate.declared.extent.Known.{Known}
+use Rattle.part_history.specs.predicate.declared.extent.Known.TheVariants as known
 
 -- ---- granules
 

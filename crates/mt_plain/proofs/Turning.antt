@@ -5,14 +5,14 @@ use Rattle.std.proofs.lemmas.List.Elements.{All-nil, All-cons, All-append}
 use Rattle.mt_values.specs.declared.command.Command.{Command}
 use Rattle.mt_values.specs.declared.command.Command.TheVariants as command
 use Rattle.mt_values.specs.declared.command.Entry.{Entry}
-use Rattle.mt_model.specs.declared.refusal.Refusal.{Refusal}
-use Rattle.mt_model.specs.declared.refusal.Refusal.TheVariants as refusal
-use Rattle.mt_model.specs.declared.refusal.Room.TheVariants as room
-use Rattle.mt_model.specs.History.{History, entered, inserts}
-use Rattle.mt_model.specs.Numbers.{last_number}
-use Rattle.mt_model.specs.Reply.{insert_turn}
-use Rattle.mt_model.specs.Session.{Accepts, Adds, TurnAllows, TurnRefuses}
-use Rattle.mt_model.proofs.Growing.{adds_last, adds_more}
+use Rattle.part_history.specs.mt_model.declared.refusal.Refusal.{Refusal}
+use Rattle.part_history.specs.mt_model.declared.refusal.Refusal.TheVariants as refusal
+use Rattle.part_history.specs.mt_model.declared.refusal.Room.TheVariants as room
+use Rattle.part_history.specs.mt_model.History.{History, entered, inserts}
+use Rattle.part_history.specs.mt_model.Numbers.{last_number}
+use Rattle.part_history.specs.mt_model.Reply.{insert_turn}
+use Rattle.part_history.specs.mt_model.Session.{Accepts, Adds, TurnAllows, TurnRefuses}
+use Rattle.part_history.proofs.MtModelGrowing.{adds_last, adds_more}
 use Rattle.mt_plain.specs.Plain.{AfterTurns, Grows, after_turns, unless_turn_refuses, unmerged_turn}
 
 -- the entries of a history that others were added to

@@ -9,12 +9,12 @@ use Rattle.mt_values.specs.Printing.{line}
 use Rattle.mt_values.specs.Tables.{partition_of, same_partition, sorting_cmp}
 use Rattle.mt_values.specs.Tests.{eval}
 use Rattle.mt_values.specs.Values.{Row}
-use Rattle.mt_model.specs.declared.query.Query.{Query}
-use Rattle.mt_model.specs.Final.{Sees, TableFolds}
-use Rattle.mt_model.specs.Folding.{ComesFrom, Leaves}
-use Rattle.mt_model.specs.Live.{sorted}
-use Rattle.mt_model.specs.Partial.{TableRun}
-use Rattle.mt_model.specs.Reply.{rows_reply}
+use Rattle.part_history.specs.mt_model.declared.query.Query.{Query}
+use Rattle.part_history.specs.mt_model.Final.{Sees, TableFolds}
+use Rattle.part_history.specs.mt_model.Folding.{ComesFrom, Leaves}
+use Rattle.part_history.specs.mt_model.Live.{sorted}
+use Rattle.part_history.specs.mt_model.Partial.{TableRun}
+use Rattle.part_history.specs.mt_model.Reply.{rows_reply}
 
 -- whether a row is of the partition and key of another
 abbrev pub is_like : Schema → Row → Row → Bool

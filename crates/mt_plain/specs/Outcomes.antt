@@ -9,8 +9,8 @@ use Rattle.mt_values.specs.declared.value.Value.{Value}
 use Rattle.mt_values.specs.Grid.{column_of}
 use Rattle.mt_values.specs.Order.{value_cmp}
 use Rattle.mt_values.specs.Values.{Row}
-use Rattle.mt_model.specs.Folding.{Leaves, Merges, MergesTimes}
-use Rattle.mt_model.specs.Rules.{Run, is_cancel, is_settled, is_state, total, version_at}
+use Rattle.part_history.specs.mt_model.Folding.{Leaves, Merges, MergesTimes}
+use Rattle.part_history.specs.mt_model.Rules.{Run, is_cancel, is_settled, is_state, total, version_at}
 
 -- these are all of which it holds, and no others (docs/engines.md, "Merges")
 abbrev pub AreExactly : {X : Type 0} → List X → (X → Type 0) → Type 0

@@ -7,14 +7,14 @@ use Rattle.mt_values.specs.declared.command.Entry.{Entry}
 use Rattle.mt_values.specs.declared.statement.SelectText.{SelectText}
 use Rattle.mt_values.specs.declared.statement.Statement.TheVariants as statement
 use Rattle.mt_values.specs.Script.{Item}
-use Rattle.mt_model.specs.declared.refusal.Refusal.{Refusal}
-use Rattle.mt_model.specs.History.{FewInserts, History, entered, inserts}
-use Rattle.mt_model.specs.Numbers.{last_number}
-use Rattle.mt_model.specs.Outside.{Outside}
-use Rattle.mt_model.specs.Refusals.{refusal_line}
-use Rattle.mt_model.specs.Reply.{create_turn, insert_turn, ok_line}
-use Rattle.mt_model.specs.Script.{OwnEntries}
-use Rattle.mt_model.specs.Session.{Takes}
+use Rattle.part_history.specs.mt_model.declared.refusal.Refusal.{Refusal}
+use Rattle.part_history.specs.mt_model.History.{FewInserts, History, entered, inserts}
+use Rattle.part_history.specs.mt_model.Numbers.{last_number}
+use Rattle.part_history.specs.mt_model.Outside.{Outside}
+use Rattle.part_history.specs.mt_model.Refusals.{refusal_line}
+use Rattle.part_history.specs.mt_model.Reply.{create_turn, insert_turn, ok_line}
+use Rattle.part_history.specs.mt_model.Script.{OwnEntries}
+use Rattle.part_history.specs.mt_model.Session.{Takes}
 
 -- an outside without a fault, and without a part of the greatest level
 abbrev pub calm : Outside

@@ -7,10 +7,10 @@ use Rattle.mt_values.specs.declared.command.Insert.{Insert}
 use Rattle.mt_values.specs.declared.schema.Schema.{Schema}
 use Rattle.mt_values.specs.Grammar.{same_bytes}
 use Rattle.mt_values.specs.Tables.{sorting_cmp}
-use Rattle.mt_model.specs.declared.counts.Counts.{Counts}
-use Rattle.mt_model.specs.Explain.{Portion}
-use Rattle.mt_model.specs.History.{History}
-use Rattle.mt_model.specs.Live.{sorted}
+use Rattle.part_history.specs.mt_model.declared.counts.Counts.{Counts}
+use Rattle.part_history.specs.mt_model.Explain.{Portion}
+use Rattle.part_history.specs.mt_model.History.{History}
+use Rattle.part_history.specs.mt_model.Live.{sorted}
 
 -- the portion of one INSERT with this number: its rows in the table's order
 abbrev pub portion_of : Schema → ℕ → Insert → Portion

@@ -1,7 +1,7 @@
 // AggregatingMergeTree: one row, with each column's function of its values (docs/engines.md, "AggregatingMergeTree").
 ghost use Rattle.std.specs.Prelude.{◌≡◌, ◌<◌, IfOk, Some};
 ghost use Rattle.std.specs.List.{fold, list_any, reduce};
-ghost use Rattle.mt_model.specs.Rules.{AreAggregatesFrom, IsAggregateOf, IsBest, LeavesAggregates, function_or_first, joined_bits};
+ghost use Rattle.part_history.specs.mt_model.Rules.{AreAggregatesFrom, IsAggregateOf, IsBest, LeavesAggregates, function_or_first, joined_bits};
 ghost use Rattle.mt_values.specs.declared.engine.Aggregate.TheVariants as aggregate;
 ghost use Rattle.mt_plain.specs.Outcomes.{AreExactly, IsExactly, join_by, passes_by};
 

@@ -6,7 +6,7 @@ use mt_values::{Block, ColType, Row};
 use std::alloc::Global;
 
 /// The rows of a block, in its order.
-#[tactic(auto, using(mt_model::proofs::Lists::take_got))]
+#[tactic(auto, using(crate::proofs::MtModelLists::take_got))]
 pub fn rows_of(alloc: Global, block: &Block) -> Result<Vec<Row>, NoMemory>
     ensures { IfOk result (λ rows. rows.items ≡ block.now.rows) }
 {
@@ -18,7 +18,7 @@ pub fn rows_of(alloc: Global, block: &Block) -> Result<Vec<Row>, NoMemory>
 }
 
 /// The types of a block's columns, in order.
-#[tactic(auto, using(mt_model::proofs::Lists::take_got))]
+#[tactic(auto, using(crate::proofs::MtModelLists::take_got))]
 fn types_of(alloc: Global, block: &Block) -> Result<Vec<ColType>, NoMemory>
     ensures { IfOk result (λ types. types.items ≡ block.now.types) }
 {

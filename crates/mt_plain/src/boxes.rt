@@ -1,11 +1,11 @@
 // The boxes of granules, as lists of what is known of each column.
 ghost use Rattle.std.specs.Prelude.{◌≡◌, ◌+◌, ◌≤◌, ◌^◌, ◌≤ℤ◌, ◌<ℤ◌, IfOk, IfSome, pos, slice_get};
 ghost use Rattle.mt_values.specs.Literals as literals;
-ghost use Rattle.predicate.specs.Granules as granules;
+ghost use Rattle.part_history.specs.predicate.Granules as granules;
 
 use mt_base::{NoMemory, Partition, Seq, Twin};
 use mt_values::{ColType, Row, Schema, Value, cmp_value};
-use predicate::{Extent, Known};
+use part_history::predicate::{Extent, Known};
 use std::alloc::Global;
 
 /// The box of a partition's rows from one primary key up to another.

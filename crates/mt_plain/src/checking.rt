@@ -1,8 +1,8 @@
 // Whether a history and a text are those of a script's run.
 ghost use Rattle.std.specs.Prelude.{◌≡◌, ◌≤◌, ◌↔◌, ◌∷◌, [], All, IfOk, IsTrue, OnOk, length, true};
 ghost use Rattle.std.specs.List.{Contains};
-ghost use Rattle.mt_model.specs.History.{FewInserts};
-ghost use Rattle.mt_model.specs.Script.{HasNoExplain, ScriptRun};
+ghost use Rattle.part_history.specs.mt_model.History.{FewInserts};
+ghost use Rattle.part_history.specs.mt_model.Script.{HasNoExplain, ScriptRun};
 ghost use Rattle.mt_plain.specs.Outcomes.{AddsExactly, AreExactly, IsExactly};
 ghost use Rattle.mt_plain.specs.Plain.{OneStandsFrom, StandsFrom, calm};
 

@@ -3,7 +3,7 @@ ghost use Rattle.std.specs.Prelude.{◌≡◌, ◌&&◌, ◌∷◌, IfOk, filter
 ghost use Rattle.std.specs.List.{list_all};
 ghost use Rattle.std.specs.Ordering.{int_eq};
 ghost use Rattle.mt_values.specs.Grid.{column_of};
-ghost use Rattle.mt_model.specs.Rules.{IsSublist, LeavesOneSign, alternate, collapsed, ends_with_state, first_of, is_cancel, is_state, last_of, left_of_signs, total};
+ghost use Rattle.part_history.specs.mt_model.Rules.{IsSublist, LeavesOneSign, alternate, collapsed, ends_with_state, first_of, is_cancel, is_state, last_of, left_of_signs, total};
 ghost use Rattle.mt_plain.specs.Outcomes.{AreExactly, has_one_sign, may_be_left};
 
 use crate::columns::values_at;

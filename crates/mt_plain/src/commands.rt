@@ -3,16 +3,16 @@ ghost use Rattle.std.specs.Prelude.{◌≡◌, ◌<◌, ◌^◌, Ok, IfErr, IfOk
 ghost use Rattle.mt_base.specs.Stops.{Refuses};
 ghost use Rattle.mt_values.specs.declared.statement.Statement.TheVariants as statement;
 ghost use Rattle.mt_values.specs.Grid.{AreRowsOf};
-ghost use Rattle.mt_model.specs.Commands as commands;
-ghost use Rattle.mt_model.specs.History as history;
-ghost use Rattle.mt_model.specs.Reply as reply;
+ghost use Rattle.part_history.specs.mt_model.Commands as commands;
+ghost use Rattle.part_history.specs.mt_model.History as history;
+ghost use Rattle.part_history.specs.mt_model.Reply as reply;
 
 use crate::{partitions_of, rows_in, rows_of, schema_of};
 use mt_base::{NoMemory, Stop, Twin};
-use mt_model::{Refusal, resolve};
 use mt_values::{
     Block, Command, Create, CreateText, Entry, Insert, InsertText, Name, Partition, Row, Schema,
 };
+use part_history::mt_model::{Refusal, resolve};
 use std::alloc::Global;
 use tsv_rows::read_rows;
 

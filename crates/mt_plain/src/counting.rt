@@ -2,17 +2,17 @@
 ghost use Rattle.std.specs.Prelude.{◌≡◌, ◌+◌, IfOk};
 ghost use Rattle.std.specs.List.{count_by, list_any};
 ghost use Rattle.mt_values.specs.Granules as granules;
-ghost use Rattle.mt_model.specs.Explain as explain;
-ghost use Rattle.predicate.specs.Granules as boxes;
+ghost use Rattle.part_history.specs.mt_model.Explain as explain;
+ghost use Rattle.part_history.specs.predicate.Granules as boxes;
 ghost use Rattle.mt_plain.specs.Portions as portions;
 
 use super::boxes::box_between;
 use super::narrowing::narrowed;
 use crate::{Portion, picked_rows};
 use mt_base::{NoMemory, Partition, Twin};
-use mt_model::Counts;
 use mt_values::{Expr, Row, Schema, Test};
-use predicate::may_match;
+use part_history::mt_model::Counts;
+use part_history::predicate::may_match;
 use std::alloc::Global;
 
 /// The numbers of an EXPLAIN with this condition, with FINAL or without it, over portions of a table of this schema.

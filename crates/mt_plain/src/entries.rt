@@ -1,6 +1,6 @@
 // Entries at the end of a history.
 ghost use Rattle.std.specs.Prelude.{◌≡◌, ◌∷◌, [], OnOk, OnErr};
-ghost use Rattle.mt_model.specs.History.{entered};
+ghost use Rattle.part_history.specs.mt_model.History.{entered};
 
 use mt_base::NoMemory;
 use mt_values::{Command, Entry};

@@ -1,15 +1,15 @@
 // The answers of EXPLAINs.
 ghost use Rattle.std.specs.Prelude.{◌≡◌, ℕ, IfErr, IfOk, Some};
 ghost use Rattle.mt_base.specs.Stops.{Refuses};
-ghost use Rattle.mt_model.specs.Explain.{Explains, explain_line};
-ghost use Rattle.mt_model.specs.History as history;
-ghost use Rattle.mt_model.specs.Queries.{query_of};
+ghost use Rattle.part_history.specs.mt_model.Explain.{Explains, explain_line};
+ghost use Rattle.part_history.specs.mt_model.History as history;
+ghost use Rattle.part_history.specs.mt_model.Queries.{query_of};
 
 use super::portions::portions_of;
 use crate::counts;
 use mt_base::{NoMemory, Stop};
-use mt_model::{Counts, Refusal, query_of};
 use mt_values::{Entry, Schema, SelectText};
+use part_history::mt_model::{Counts, Refusal, query_of};
 use std::alloc::Global;
 
 /// The numbers of an EXPLAIN of a table of this schema, where nothing was merged; or what it is refused for, as a SELECT is.

@@ -1,7 +1,7 @@
 // What FINAL may leave of rows of one key (docs/engines.md, "FINAL").
 ghost use Rattle.std.specs.Prelude.{◌≡◌, IfOk, IsTrue, length, ◌↔◌};
-ghost use Rattle.mt_model.specs.Folding.{Leaves};
-ghost use Rattle.mt_model.specs.Rules.{Folds, Run, is_settled};
+ghost use Rattle.part_history.specs.mt_model.Folding.{Leaves};
+ghost use Rattle.part_history.specs.mt_model.Rules.{Folds, Run, is_settled};
 ghost use Rattle.mt_plain.specs.Outcomes.{AreExactly, FoldsWithin, LeavesAfter};
 
 use crate::collapsing::alternate;

@@ -1,13 +1,13 @@
 // What skip indexes keep of rows, block by block.
 ghost use Rattle.std.specs.Prelude.{◌≡◌, IfOk, OnOk, fold};
 ghost use Rattle.std.specs.List.{list_any};
-ghost use Rattle.predicate.specs.Indexes as indexes;
+ghost use Rattle.part_history.specs.predicate.Indexes as indexes;
 
 use crate::columns::values_at;
 use crate::counting::granules;
 use mt_base::{NoMemory, SET_LIMIT, Seq, Twin};
 use mt_values::{IndexKind, Row, Schema, SkipIndex, Value, cmp_value};
-use predicate::Known;
+use part_history::predicate::Known;
 use std::alloc::Global;
 
 /// What a skip index of a table keeps of rows, block by block.
@@ -57,7 +57,7 @@ fn range_of(alloc: Global, values: &[Value]) -> Result<Known, NoMemory>
 }
 
 /// The least of a value and others.
-#[tactic(auto, using(predicate::proofs::Narrowing::fold_further))]
+#[tactic(auto, using(crate::proofs::PredicateNarrowing::fold_further))]
 fn least_of<'a>(first: &'a Value, others: &'a [Value]) -> &'a Value
     ensures { result.now ≡ fold indexes.lesser first.now others.now }
 {
@@ -69,7 +69,7 @@ fn least_of<'a>(first: &'a Value, others: &'a [Value]) -> &'a Value
 }
 
 /// The greatest of a value and others.
-#[tactic(auto, using(predicate::proofs::Narrowing::fold_further))]
+#[tactic(auto, using(crate::proofs::PredicateNarrowing::fold_further))]
 fn greatest_of<'a>(first: &'a Value, others: &'a [Value]) -> &'a Value
     ensures { result.now ≡ fold indexes.greater first.now others.now }
 {
@@ -120,7 +120,7 @@ fn most_kept(limit: u64) -> u64
 }
 
 /// Each value once, in the order in which they first occur.
-#[tactic(auto, using(predicate::proofs::Narrowing::fold_further))]
+#[tactic(auto, using(crate::proofs::PredicateNarrowing::fold_further))]
 fn distinct_of(alloc: Global, values: &[Value]) -> Result<Seq<Value>, NoMemory>
     ensures { IfOk result (λ distinct. distinct ≡ indexes.distinct_of values.now) }
 {

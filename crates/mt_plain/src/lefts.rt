@@ -1,9 +1,9 @@
 // What a SELECT may see of a table's rows (docs/definitions.md, "Partly folded rows"; docs/engines.md, "FINAL").
 ghost use Rattle.std.specs.Prelude.{◌≡◌, ◌<◌, ◌++◌, IfOk, false, filter, flat_map, length, map, true};
 ghost use Rattle.std.specs.List.{list_all};
-ghost use Rattle.mt_model.specs.Folding.{ComesFrom};
-ghost use Rattle.mt_model.specs.Partial as partial;
-ghost use Rattle.mt_model.specs.Rules.{Folds, Run};
+ghost use Rattle.part_history.specs.mt_model.Folding.{ComesFrom};
+ghost use Rattle.part_history.specs.mt_model.Partial as partial;
+ghost use Rattle.part_history.specs.mt_model.Rules.{Folds, Run};
 ghost use Rattle.mt_plain.specs.Lefts.{AreSeen, KeySees, is_like, unlike};
 ghost use Rattle.mt_plain.specs.Outcomes.{AreExactly};
 

@@ -53,4 +53,5 @@ pub use replying::replies_after;
 pub use rules::{Rows, runs};
 pub use sorting::sorted_rows;
 pub use tables::{creates, inserts, last_number, same_creates, schema_of};
+pub use tsv_rows;
 pub use turns::accept;

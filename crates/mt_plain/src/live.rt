@@ -1,6 +1,6 @@
 // The live rows of a table.
 ghost use Rattle.std.specs.Prelude.{◌≡◌, ◌++◌, IfOk, OnOk};
-ghost use Rattle.mt_model.specs.Live.{live, rows_after};
+ghost use Rattle.part_history.specs.mt_model.Live.{live, rows_after};
 
 use super::sorting::sorted_rows;
 use crate::{Order, rows_of};

@@ -2,8 +2,8 @@
 ghost use Rattle.std.specs.Prelude.{◌≡◌, ◌++◌, IfOk, IsTrue, List, OnOk, map, ◌↔◌};
 ghost use Rattle.std.specs.List.{Contains};
 ghost use Rattle.mt_values.specs.Values.{Row};
-ghost use Rattle.mt_model.specs.Folding.{ComesFrom, Merges, MergesTimes};
-ghost use Rattle.mt_model.specs.Rules.{Run};
+ghost use Rattle.part_history.specs.mt_model.Folding.{ComesFrom, Merges, MergesTimes};
+ghost use Rattle.part_history.specs.mt_model.Rules.{Run};
 ghost use Rattle.mt_plain.specs.Outcomes.{AddsExactly, AreExactly, MergesFirst, MergesOneOf};
 
 use crate::blocks::same_rows;

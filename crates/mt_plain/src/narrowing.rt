@@ -1,15 +1,15 @@
 // Which granules a condition leaves by what skip indexes keep of rows.
 ghost use Rattle.std.specs.Prelude.{◌≡◌, ◌/◌, IfOk, fold, length, map, slice_index_or};
-ghost use Rattle.predicate.specs.Boxes as boxes;
-ghost use Rattle.predicate.specs.Indexes as indexes;
-ghost use Rattle.predicate.specs.Masks as masks;
-ghost use Rattle.predicate.specs.declared.extent.Known.TheVariants as known;
+ghost use Rattle.part_history.specs.predicate.Boxes as boxes;
+ghost use Rattle.part_history.specs.predicate.Indexes as indexes;
+ghost use Rattle.part_history.specs.predicate.Masks as masks;
+ghost use Rattle.part_history.specs.predicate.declared.extent.Known.TheVariants as known;
 
 use crate::counting::granules;
 use crate::indexes::blocks_kept;
 use mt_base::{NoMemory, Seq, Twin};
 use mt_values::{Expr, Row, Schema, SkipIndex, Test};
-use predicate::{Extent, Known, may_match};
+use part_history::predicate::{Extent, Known, may_match};
 use std::alloc::Global;
 
 /// Of these answers for the granules of rows, those that each skip index of the table leaves too.
@@ -92,7 +92,7 @@ fn only_column(alloc: Global, column: u32, kept: Known) -> Result<Extent, NoMemo
 }
 
 /// The answers that are true in both lists, as far as both go.
-#[tactic(auto, using(predicate::proofs::Narrowing::both_next, predicate::proofs::Narrowing::both_past))]
+#[tactic(auto, using(crate::proofs::PredicateNarrowing::both_next, crate::proofs::PredicateNarrowing::both_past))]
 fn both(alloc: Global, some: &[bool], others: &[bool]) -> Result<Vec<bool>, NoMemory>
     ensures { IfOk result (λ answers. answers.items ≡ masks.both some.now others.now) }
 {

@@ -1,7 +1,7 @@
 // The partitions of rows.
 ghost use Rattle.std.specs.Prelude.{◌≡◌, IfOk, OnOk, slice_get};
 ghost use Rattle.mt_values.specs.Tables as tables;
-ghost use Rattle.mt_model.specs.Commands as commands;
+ghost use Rattle.part_history.specs.mt_model.Commands as commands;
 ghost use Rattle.mt_plain.specs.Once.{among, once_more};
 
 use mt_base::{NoMemory, Twin};

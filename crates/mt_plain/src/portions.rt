@@ -1,6 +1,6 @@
 // The portions of a table: nothing was merged, so each INSERT is one.
 ghost use Rattle.std.specs.Prelude.{◌≡◌, IfOk, OnOk};
-ghost use Rattle.mt_model.specs.Explain as explain;
+ghost use Rattle.part_history.specs.mt_model.Explain as explain;
 ghost use Rattle.mt_plain.specs.Portions as portions;
 
 use super::sorting::sorted_rows;
@@ -21,7 +21,7 @@ pub struct Portion {
 }
 
 impl Model for Portion {
-    ghost use Rattle.mt_model.specs.Explain as explain;
+    ghost use Rattle.part_history.specs.mt_model.Explain as explain;
 
     ghost Value = { explain.Portion };
 

@@ -31,7 +31,7 @@ fn line(alloc: Global, row: &Row) -> Result<Bytes, NoMemory>
 }
 
 /// Adds the fields of a row of at least one value, parted by tabs.
-#[tactic(auto, using(mt_model::proofs::Lists::fields_more))]
+#[tactic(auto, using(crate::proofs::MtModelLists::fields_more))]
 fn push_fields(
     alloc: Global,
     text: &mut Bytes,

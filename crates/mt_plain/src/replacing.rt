@@ -1,6 +1,6 @@
 // ReplacingMergeTree: the last row, or the newest (docs/engines.md, "ReplacingMergeTree").
 ghost use Rattle.std.specs.Prelude.{◌≡◌, ◌&&◌, IfOk};
-ghost use Rattle.mt_model.specs.Rules.{LeavesLast, LeavesNewest, version_at};
+ghost use Rattle.part_history.specs.mt_model.Rules.{LeavesLast, LeavesNewest, version_at};
 ghost use Rattle.mt_plain.specs.Outcomes.{AreExactly, are_at_most, are_below};
 
 use crate::partitions::number_at;

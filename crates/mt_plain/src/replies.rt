@@ -1,11 +1,11 @@
 // The reply of a SELECT.
 ghost use Rattle.std.specs.Prelude.{◌≡◌, ◌++◌, IfOk, OnOk};
 ghost use Rattle.std.specs.List.{concat};
-ghost use Rattle.mt_model.specs.Reply as reply;
+ghost use Rattle.part_history.specs.mt_model.Reply as reply;
 
 use mt_base::NoMemory;
-use mt_model::rows_line;
 use mt_values::Bytes;
+use part_history::mt_model::rows_line;
 use std::alloc::Global;
 
 /// The reply of a SELECT: its head, and its lines.
@@ -18,7 +18,7 @@ pub fn rows_reply(alloc: Global, lines: &[Bytes], place: u64) -> Result<Vec<u8>,
 }
 
 /// Adds lines at the end of a text.
-#[tactic(auto, using(mt_model::proofs::Lists::concat_more))]
+#[tactic(auto, using(crate::proofs::MtModelLists::concat_more))]
 fn push_lines(text: &mut Vec<u8>, lines: &[Bytes]) -> Result<(), NoMemory>
     ensures { OnOk result (text.new.items ≡ text.old.items ++ concat lines.now) }
 {

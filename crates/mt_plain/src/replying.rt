@@ -2,10 +2,10 @@
 ghost use Rattle.std.specs.Prelude.{◌≡◌, ◌∷◌, [], ℕ, IfOk, List, length, option_copied, take};
 ghost use Rattle.std.specs.List.{Contains};
 ghost use Rattle.mt_values.specs.declared.statement.Statement.TheVariants as statement;
-ghost use Rattle.mt_model.specs.History.{History};
-ghost use Rattle.mt_model.specs.Refusals.{refusal_line};
-ghost use Rattle.mt_model.specs.Script.{IsNoExplain};
-ghost use Rattle.mt_model.specs.Session.{Takes, TakesStatement};
+ghost use Rattle.part_history.specs.mt_model.History.{History};
+ghost use Rattle.part_history.specs.mt_model.Refusals.{refusal_line};
+ghost use Rattle.part_history.specs.mt_model.Script.{IsNoExplain};
+ghost use Rattle.part_history.specs.mt_model.Session.{Takes, TakesStatement};
 ghost use Rattle.mt_plain.specs.Outcomes.{AreExactly};
 ghost use Rattle.mt_plain.specs.Plain.{Grows, IsRepliedIn, calm, select_of};
 
@@ -13,8 +13,8 @@ use crate::running::{refused, reply_to};
 use crate::schema_of;
 use crate::selecting::answers;
 use mt_base::{NoMemory, Seq, Stop, Twin};
-use mt_model::Refusal;
 use mt_values::{Bytes, Cause, Entry, SelectText, Statement};
+use part_history::mt_model::Refusal;
 use std::alloc::Global;
 
 /// Runs one statement after the last entry of a history, over an outside without faults, and gives every reply that it may have there:

@@ -1,6 +1,6 @@
 // What one merge may leave of rows of one key, by each engine's rule (docs/engines.md).
 ghost use Rattle.std.specs.Prelude.{◌≡◌, ◌++◌, ◌∷◌, [], IfOk, OnOk};
-ghost use Rattle.mt_model.specs.Rules.{Run};
+ghost use Rattle.part_history.specs.mt_model.Rules.{Run};
 ghost use Rattle.mt_plain.specs.Outcomes.{AreExactly};
 
 use crate::aggregates::aggregates_left;

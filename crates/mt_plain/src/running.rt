@@ -1,8 +1,8 @@
 // Statements other than SELECTs, run at the end of a history.
 ghost use Rattle.std.specs.Prelude.{◌≡◌, IfOk, None, length};
 ghost use Rattle.mt_values.specs.declared.statement.Statement.TheVariants as statement;
-ghost use Rattle.mt_model.specs.Refusals as refusals;
-ghost use Rattle.mt_model.specs.Session.{Takes, TakesStatement};
+ghost use Rattle.part_history.specs.mt_model.Refusals as refusals;
+ghost use Rattle.part_history.specs.mt_model.Session.{Takes, TakesStatement};
 ghost use Rattle.mt_plain.specs.Plain.{Grows, TookTurns, calm, select_of};
 
 use super::commands::{create_commands, insert_commands};
@@ -10,10 +10,10 @@ use super::explaining::explained;
 use super::turns::accept;
 use crate::schema_of;
 use mt_base::{NoMemory, Stop, Twin};
-use mt_model::{Refusal, explain_line, ok_line, refusal_line};
 use mt_values::{
     Cause, Command, CreateText, Entry, InsertText, OptimizeText, SelectText, Statement,
 };
+use part_history::mt_model::{Refusal, explain_line, ok_line, refusal_line};
 use std::alloc::Global;
 
 /// Runs one statement that is no SELECT after the last entry of a history, over an outside without faults, and gives its reply.

@@ -1,9 +1,9 @@
 // The answers of SELECTs.
 ghost use Rattle.std.specs.Prelude.{◌≡◌, ℕ, IfErr, IfOk, List, Ok, filter, length, map};
 ghost use Rattle.mt_base.specs.Stops.{Refuses};
-ghost use Rattle.mt_model.specs.Answer.{Answer};
-ghost use Rattle.mt_model.specs.Queries.{query_of};
-ghost use Rattle.mt_model.specs.Reply.{rows_reply};
+ghost use Rattle.part_history.specs.mt_model.Answer.{Answer};
+ghost use Rattle.part_history.specs.mt_model.Queries.{query_of};
+ghost use Rattle.part_history.specs.mt_model.Reply.{rows_reply};
 ghost use Rattle.mt_values.specs.Order.{key_of};
 ghost use Rattle.mt_values.specs.Tests.{eval};
 ghost use Rattle.mt_plain.specs.Lefts.{reply_of};
@@ -14,8 +14,8 @@ use crate::lefts::all_seen;
 use crate::rules::Rows;
 use crate::{Order, all_lines, picked_rows, rows_reply, sorted_rows};
 use mt_base::{NoMemory, Seq, Stop, Twin};
-use mt_model::{Query, Refusal, query_of};
 use mt_values::{Bytes, Entry, Expr, Row, Schema, SelectText, Test};
+use part_history::mt_model::{Query, Refusal, query_of};
 use std::alloc::Global;
 
 /// Every reply that a SELECT from a table of this schema may have at the end of a history, by what merges left; or what it is refused

@@ -3,7 +3,7 @@ ghost use Rattle.std.specs.Prelude.{◌≡◌, ◌∷◌, [], IfOk, if◌then◌
 ghost use Rattle.std.specs.Int.{int_wrap, w16, w32, w64, w8};
 ghost use Rattle.std.specs.Ordering.{int_eq};
 ghost use Rattle.mt_values.specs.Grid.{column_of};
-ghost use Rattle.mt_model.specs.Rules.{LeavesSums, are_zero, integer_of, is_one_of, low_bits, summed, total, with_sums, wrapped_as};
+ghost use Rattle.part_history.specs.mt_model.Rules.{LeavesSums, are_zero, integer_of, is_one_of, low_bits, summed, total, with_sums, wrapped_as};
 ghost use Rattle.mt_plain.specs.Outcomes.{AreExactly};
 
 use crate::columns::values_at;

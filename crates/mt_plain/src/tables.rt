@@ -1,7 +1,7 @@
 // The tables of a history.
 ghost use Rattle.std.specs.Prelude.{◌≡◌, ◌↔◌, option_copied, true};
-ghost use Rattle.mt_model.specs.History as history;
-ghost use Rattle.mt_model.specs.Numbers as numbers;
+ghost use Rattle.part_history.specs.mt_model.History as history;
+ghost use Rattle.part_history.specs.mt_model.Numbers as numbers;
 
 use super::partitions::same_partition;
 use mt_values::{Command, Create, Entry, Name, Partition, Schema};

@@ -1,14 +1,14 @@
 // The turns of commands: which of them are accepted at the end of a history.
 ghost use Rattle.std.specs.Prelude.{◌≡◌, IfOk};
-ghost use Rattle.mt_model.specs.History as history;
-ghost use Rattle.mt_model.specs.Numbers as numbers;
-ghost use Rattle.mt_model.specs.Reply as reply;
+ghost use Rattle.part_history.specs.mt_model.History as history;
+ghost use Rattle.part_history.specs.mt_model.Numbers as numbers;
+ghost use Rattle.part_history.specs.mt_model.Reply as reply;
 ghost use Rattle.mt_plain.specs.Plain.{Grows, after_turns, unmerged_turn};
 
 use crate::{creates, enter, inserts, last_number, schema_of};
 use mt_base::{NUMBER_LIMIT, NoMemory, PART_LIMIT, TABLE_LIMIT, Twin};
-use mt_model::{Bound, Refusal, Room};
 use mt_values::{Command, Entry, Insert, Name};
+use part_history::mt_model::{Bound, Refusal, Room};
 use std::alloc::Global;
 
 /// Accepts commands of session 0 at the end of a history, each at its turn, up to the first that is refused, and says why

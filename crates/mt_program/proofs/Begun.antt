@@ -7,11 +7,11 @@ use Rattle.std.proofs.Math.Seq.{get_or-append_seam, take-append_seam}
 use Rattle.mt_values.specs.declared.annals.Noted.{Noted}
 use Rattle.mt_values.specs.declared.command.Command.{Command}
 use Rattle.mt_values.specs.Annals.{Told}
-use Rattle.mt_model.specs.History.{History}
-use Rattle.mt_model.specs.Outside.{Outside}
-use Rattle.mt_model.specs.Session.{IsNextCommand, SessionReplies}
-use Rattle.replies.specs.Foreseen.{history, is_unsettled}
-use Rattle.replies.proofs.Ends.{length_history}
+use Rattle.session.specs.mt_model.History.{History}
+use Rattle.session.specs.mt_model.Outside.{Outside}
+use Rattle.session.specs.mt_model.Session.{IsNextCommand, SessionReplies}
+use Rattle.session.specs.replies.Foreseen.{history, is_unsettled}
+use Rattle.session.proofs.RepliesEnds.{length_history}
 use Rattle.session.specs.Answers.{IsBegun}
 use Rattle.mt_program.specs.Courses.{Course, IsBegunBy, IsNextOf, Item, course_of, started}
 use Rattle.mt_program.proofs.Gaining.{next_of}

@@ -5,17 +5,17 @@ use Rattle.mt_values.specs.declared.annals.Noted.{Noted}
 use Rattle.mt_values.specs.declared.command.Entry.{Entry}
 use Rattle.mt_values.specs.Annals.{Told}
 use Rattle.mt_outside.specs.Disk as root
-use Rattle.mt_model.specs.History.{History}
-use Rattle.part_history.specs.declared.part.CorePart.{CorePart}
-use Rattle.part_history.specs.Parts.{PartStands}
-use Rattle.part_set.specs.declared.root_name.RootName.TheVariants as root_name
-use Rattle.part_set.proofs.Items.{item_none}
-use Rattle.part_set.specs.RootNames.{IsRootName}
-use Rattle.root_store.specs.Crashes.{AllStand, IsFirstOf, IsMarkAfter, Storage, entries_of, none_begun}
-use Rattle.root_store.specs.Roots.{PartIsThere, Stands}
-use Rattle.root_store.proofs.CrashMarks.{safe_stands}
-use Rattle.root_commits.proofs.StartedAgain.{started_again as one_again}
-use Rattle.replies.specs.Foreseen.{history}
+use Rattle.session.specs.mt_model.History.{History}
+use Rattle.session.specs.part_history.declared.part.CorePart.{CorePart}
+use Rattle.session.specs.part_history.Parts.{PartStands}
+use Rattle.root_log.specs.part_set.declared.root_name.RootName.TheVariants as root_name
+use Rattle.root_log.proofs.PartSetItems.{item_none}
+use Rattle.root_log.specs.part_set.RootNames.{IsRootName}
+use Rattle.root_log.specs.root_store.Crashes.{AllStand, IsFirstOf, IsMarkAfter, Storage, entries_of, none_begun}
+use Rattle.root_log.specs.root_store.Roots.{PartIsThere, Stands}
+use Rattle.root_log.proofs.RootStoreCrashMarks.{safe_stands}
+use Rattle.root_log.proofs.RootCommitsStartedAgain.{started_again as one_again}
+use Rattle.session.specs.replies.Foreseen.{history}
 use Rattle.mt_program.specs.declared.status.Status.{Status}
 use Rattle.mt_program.specs.Crashes.{LeavesForCrashes}
 use Rattle.mt_program.specs.Courses.{Item, any_unsettles}

@@ -9,17 +9,17 @@ use Rattle.std.proofs.Math.Seq.{take-append_seam}
 use Rattle.mt_values.specs.declared.annals.Noted.{Noted}
 use Rattle.mt_values.specs.declared.statement.Statement.TheVariants as statement
 use Rattle.mt_values.specs.Annals.{Told}
-use Rattle.mt_model.specs.History.{History}
-use Rattle.replies.proofs.Ends.{length_history}
+use Rattle.session.specs.mt_model.History.{History}
+use Rattle.session.proofs.RepliesEnds.{length_history}
 use Rattle.mt_values.specs.Script.{statements_of}
 use Rattle.mt_outside.specs.Causes.{Rose}
-use Rattle.mt_model.specs.Causes.{NoneMeetsCause}
-use Rattle.mt_model.proofs.Causes.{told_of_script}
-use Rattle.mt_model.proofs.Unrefused.{none_refused as calm_script}
-use Rattle.mt_model.specs.Outside.{Outside}
-use Rattle.replies.specs.Foreseen.{history, is_unsettled}
-use Rattle.mt_model.specs.Script.{ScriptReplies}
-use Rattle.mt_model.specs.Session.{AddsNothing, SessionReplies, Takes}
+use Rattle.session.specs.mt_model.Causes.{NoneMeetsCause}
+use Rattle.session.proofs.MtModelCauses.{told_of_script}
+use Rattle.session.proofs.MtModelUnrefused.{none_refused as calm_script}
+use Rattle.session.specs.mt_model.Outside.{Outside}
+use Rattle.session.specs.replies.Foreseen.{history, is_unsettled}
+use Rattle.session.specs.mt_model.Script.{ScriptReplies}
+use Rattle.session.specs.mt_model.Session.{AddsNothing, SessionReplies, Takes}
 use Rattle.session.specs.Answers.{unsettles}
 use Rattle.mt_program.specs.Courses.{Course, GoesUnanswered, Item, RunOf, any_unsettles, started, with_unanswered}
 use Rattle.mt_program.specs.Headline.{AnsweredAll, Headline}
@@ -27,7 +27,7 @@ use Rattle.mt_program.specs.Promises.{MeetsNoFullPart, merges_all}
 use Rattle.mt_program.specs.Worlds.{HasNoFullPart, World}
 use Rattle.mt_program.proofs.ServedScripts.{neither}
 use Rattle.mt_program.specs.Statuses.{status_number}
-use Rattle.run_streams.specs.Streams.{ConsumesMost}
+use Rattle.session.specs.run_streams.Streams.{ConsumesMost}
 use Rattle.mt_program.specs.declared.status.Status.{Status}
 use Rattle.mt_program.specs.declared.status.Status.TheVariants as status
 

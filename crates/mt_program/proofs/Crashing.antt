@@ -4,16 +4,16 @@ use Rattle.mt_values.specs.Annals.{Told}
 use Rattle.mt_values.specs.Script.{statements_of}
 use Rattle.mt_outside.specs.Disk as root
 use Rattle.mt_outside.specs.Files.{Files}
-use Rattle.root_store.specs.declared.store.CoreStore.{CoreStore}
-use Rattle.root_store.specs.Crashes.{AreCalm, AreCrashSafe, IsCrashSafe, KeepsThroughCrashes, Storage, entries_of, none_begun}
-use Rattle.root_store.specs.Shown.{ImagesShow}
-use Rattle.root_store.specs.Stores.{CoreStands}
-use Rattle.root_commits.proofs.CrashTurns.{calm_moved, safe_moved}
-use Rattle.root_store.proofs.CrashMarks.{safe_begun, some_one}
+use Rattle.root_log.specs.root_store.declared.store.CoreStore.{CoreStore}
+use Rattle.root_log.specs.root_store.Crashes.{AreCalm, AreCrashSafe, IsCrashSafe, KeepsThroughCrashes, Storage, entries_of, none_begun}
+use Rattle.root_log.specs.root_store.Shown.{ImagesShow}
+use Rattle.root_log.specs.root_store.Stores.{CoreStands}
+use Rattle.root_log.proofs.RootCommitsCrashTurns.{calm_moved, safe_moved}
+use Rattle.root_log.proofs.RootStoreCrashMarks.{safe_begun, some_one}
 use Rattle.mt_program.specs.Crashes.{IsGainedBy, LeavesForCrashes, LeavesOfScript}
 use Rattle.mt_program.specs.Courses.{Item}
 use Rattle.mt_program.proofs.Gaining.{gained_more, gained_nothing}
-use Rattle.shared_store.specs.Engines.{GoesOn, IsOpen, Opened}
+use Rattle.session.specs.shared_store.Engines.{GoesOn, IsOpen, Opened}
 
 -- the bytes that are told
 abbrev told_or_none : Option (List ℕ) → List ℕ

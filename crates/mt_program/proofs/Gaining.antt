@@ -8,18 +8,18 @@ use Rattle.mt_values.specs.declared.annals.Noted.{Noted}
 use Rattle.mt_values.specs.declared.command.Command.{Command}
 use Rattle.mt_values.specs.Annals.{Told}
 use Rattle.mt_outside.specs.Files.{Files}
-use Rattle.mt_model.specs.History.{History}
-use Rattle.mt_model.specs.Outside.{Outside}
-use Rattle.mt_model.specs.Session.{IsNextCommand, SessionGives, Unanswered}
-use Rattle.mt_model.proofs.Gained.{gives_append, gives_more, next_more, takes_give}
-use Rattle.mt_model.proofs.Growing.{stays}
-use Rattle.durable_commit.specs.Commits.{entry_of}
-use Rattle.replies.specs.Foreseen.{Foresees, history, is_unsettled}
-use Rattle.replies.proofs.Ends.{length_history}
-use Rattle.root_store.specs.Crashes.{StandsForKept}
+use Rattle.session.specs.mt_model.History.{History}
+use Rattle.session.specs.mt_model.Outside.{Outside}
+use Rattle.session.specs.mt_model.Session.{IsNextCommand, SessionGives, Unanswered}
+use Rattle.session.proofs.MtModelGained.{gives_append, gives_more, next_more, takes_give}
+use Rattle.session.proofs.MtModelGrowing.{stays}
+use Rattle.root_log.specs.durable_commit.Commits.{entry_of}
+use Rattle.session.specs.replies.Foreseen.{Foresees, history, is_unsettled}
+use Rattle.session.proofs.RepliesEnds.{length_history}
+use Rattle.root_log.specs.root_store.Crashes.{StandsForKept}
 use Rattle.session.specs.Answers.{Answered, BeginsNext, EndsUnanswered, IsBegun, Knows, Turned}
-use Rattle.shared_store.specs.Levels.{has_greatest}
-use Rattle.shared_store.specs.Engines.{Opened}
+use Rattle.session.specs.shared_store.Levels.{has_greatest}
+use Rattle.session.specs.shared_store.Engines.{Opened}
 use Rattle.mt_program.specs.Crashes.{IsGainedBy, MayBeBegunBy, MayBeNextOf}
 use Rattle.mt_program.specs.Courses.{Item}
 

@@ -11,33 +11,33 @@ use Rattle.mt_values.specs.declared.command.Entry.{Entry}
 use Rattle.mt_values.specs.Annals.{Told}
 use Rattle.mt_values.specs.Script.{statements_of}
 use Rattle.mt_outside.specs.Disk as root
-use Rattle.mt_model.specs.History.{History, IsLegal}
-use Rattle.mt_model.specs.Outside.{Outside}
-use Rattle.mt_model.specs.Script.{OwnEntries}
-use Rattle.mt_model.specs.Session.{AddsNothing}
-use Rattle.run_streams.specs.declared.streams.SourceStop.{SourceStop}
-use Rattle.run_streams.specs.declared.streams.SourceStop.TheVariants as unread
+use Rattle.session.specs.mt_model.History.{History, IsLegal}
+use Rattle.session.specs.mt_model.Outside.{Outside}
+use Rattle.session.specs.mt_model.Script.{OwnEntries}
+use Rattle.session.specs.mt_model.Session.{AddsNothing}
+use Rattle.session.specs.run_streams.declared.streams.SourceStop.{SourceStop}
+use Rattle.session.specs.run_streams.declared.streams.SourceStop.TheVariants as unread
 use Rattle.mt_program.specs.declared.serving.Ending.{Ending}
 use Rattle.mt_program.specs.declared.serving.Ending.TheVariants as ending
-use Rattle.replies.specs.declared.tally.Tally.{Tally}
+use Rattle.session.specs.replies.declared.tally.Tally.{Tally}
 use Rattle.mt_program.specs.declared.status.Status.{Status}
 use Rattle.mt_program.specs.declared.status.Status.TheVariants as status
-use Rattle.replies.specs.Foreseen.{history}
+use Rattle.session.specs.replies.Foreseen.{history}
 use Rattle.mt_program.specs.Endings.{IsAnswered, IsEarly, LeftBy, MetNoDamage, settled, status_of, status_of_stop}
 use Rattle.mt_program.specs.Headline.{AnsweredAll, AnsweredRead, EndsBy, Headline, NothingRan}
 use Rattle.mt_program.specs.Worlds.{IsOutsideOf, Starts, World}
 use Rattle.mt_program.specs.Statuses.{status_number}
 use Rattle.mt_program.specs.Courses.{Course, RunOf, course_of}
 use Rattle.mt_program.specs.Serving.{MayComeTo, Output, Ran, ServedBy, Stretch}
-use Rattle.root_opening.specs.declared.opening.Damage.{Damage}
-use Rattle.root_opening.specs.declared.opening.OpenFault.{OpenFault}
-use Rattle.root_opening.specs.declared.opening.OpenFault.TheVariants as fault
-use Rattle.root_opening.proofs.OneDamage.{one_damage}
-use Rattle.root_opening.specs.Opening.{IsNotDamaged, IsRootDamage, TellsDamage}
-use Rattle.root_store.specs.Roots.{Stands}
-use Rattle.root_store.specs.Soundness.{RootStands}
+use Rattle.root_log.specs.root_opening.declared.opening.Damage.{Damage}
+use Rattle.root_log.specs.root_opening.declared.opening.OpenFault.{OpenFault}
+use Rattle.root_log.specs.root_opening.declared.opening.OpenFault.TheVariants as fault
+use Rattle.root_log.proofs.RootOpeningOneDamage.{one_damage}
+use Rattle.root_log.specs.root_opening.Opening.{IsNotDamaged, IsRootDamage, TellsDamage}
+use Rattle.root_log.specs.root_store.Roots.{Stands}
+use Rattle.root_log.specs.root_store.Soundness.{RootStands}
 use Rattle.mt_program.specs.Damage.{WritesDamage, WritesFault, damage_line}
-use Rattle.replies.proofs.Ends.{added_nothing, length_history}
+use Rattle.session.proofs.RepliesEnds.{added_nothing, length_history}
 use Rattle.mt_program.proofs.ServedScripts.{none_stopped}
 
 known_after : (b xs : List ℕ) (before after : Option (List ℕ)) → before ≡ Some b → Appends before after xs → after ≡ Some (b ++ xs)

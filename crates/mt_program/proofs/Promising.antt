@@ -5,13 +5,13 @@ use Rattle.std.specs.declared.alloc.Global.{Global}
 use Rattle.mt_values.specs.Annals.{Told}
 use Rattle.mt_outside.specs.Causes.{Rose}
 use Rattle.mt_outside.specs.Disk as root
-use Rattle.root_opening.specs.declared.opening.Damage.{Damage}
-use Rattle.root_opening.specs.Opening.{IsRootDamage}
-use Rattle.root_store.specs.Roots.{Stands}
-use Rattle.root_store.proofs.CrashMarks.{safe_at_start}
-use Rattle.replies.specs.Foreseen.{history}
+use Rattle.root_log.specs.root_opening.declared.opening.Damage.{Damage}
+use Rattle.root_log.specs.root_opening.Opening.{IsRootDamage}
+use Rattle.root_log.specs.root_store.Roots.{Stands}
+use Rattle.root_log.proofs.RootStoreCrashMarks.{safe_at_start}
+use Rattle.session.specs.replies.Foreseen.{history}
 use Rattle.command_line.specs.Words.{Line, command_of}
-use Rattle.run_streams.specs.Streams.{ConsumesMost}
+use Rattle.session.specs.run_streams.Streams.{ConsumesMost}
 use Rattle.mt_program.specs.declared.status.Status.{Status}
 use Rattle.mt_program.specs.declared.status.Status.TheVariants as status
 use Rattle.mt_program.specs.Damage.{IsDamagedRoot, WritesDamage, damage_line}

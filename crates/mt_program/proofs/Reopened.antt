@@ -6,26 +6,26 @@ use Rattle.mt_outside.specs.Disk.{Image, IsStamped, Names, Survive, Told, names_
 use Rattle.mt_outside.specs.Files.{Files}
 use Rattle.mt_outside.proofs.Changes.{at_clock-none, before_clock-all}
 use Rattle.mt_outside.proofs.Crashes.{stamped_by}
-use Rattle.mt_model.specs.History.{History}
-use Rattle.root_store.specs.declared.store.CoreStore.{CoreStore}
+use Rattle.session.specs.mt_model.History.{History}
+use Rattle.root_log.specs.root_store.declared.store.CoreStore.{CoreStore}
 use Rattle.mt_values.specs.Annals as keeper
-use Rattle.replies.specs.Foreseen.{history}
+use Rattle.session.specs.replies.Foreseen.{history}
 use Rattle.session.specs.Answers.{Knows}
-use Rattle.part_set.specs.Sets.{parts_of}
-use Rattle.shared_store.specs.Levels.{has_greatest}
-use Rattle.shared_store.proofs.Levels.{greatest_there, name_here}
-use Rattle.shared_store.specs.Engines.{Opened}
-use Rattle.root_store.specs.Crashes.{KeepsThroughCrashes, Storage}
-use Rattle.root_store.specs.Shown.{AreShown, GreatestAreShown, ImagesShow, part_called}
-use Rattle.root_store.proofs.CrashOrder.{same_names}
-use Rattle.root_store.specs.Soundness.{HasSoundParts, IsNameUnder, IsReady, IsSoundStore, NamesFit, RootStands}
+use Rattle.root_log.specs.part_set.Sets.{parts_of}
+use Rattle.session.specs.shared_store.Levels.{has_greatest}
+use Rattle.session.proofs.SharedStoreLevels.{greatest_there, name_here}
+use Rattle.session.specs.shared_store.Engines.{Opened}
+use Rattle.root_log.specs.root_store.Crashes.{KeepsThroughCrashes, Storage}
+use Rattle.root_log.specs.root_store.Shown.{AreShown, GreatestAreShown, ImagesShow, part_called}
+use Rattle.root_log.proofs.RootStoreCrashOrder.{same_names}
+use Rattle.root_log.specs.root_store.Soundness.{HasSoundParts, IsNameUnder, IsReady, IsSoundStore, NamesFit, RootStands}
 use Rattle.mt_program.specs.Crashes.{IsGainedBy, LeavesOfScript}
 use Rattle.mt_program.specs.Endings.{LeftBy}
 use Rattle.mt_program.specs.Serving.{Output, Stretch}
 use Rattle.mt_program.specs.Worlds.{HasFullPart}
 use Rattle.mt_program.specs.declared.serving.Ending.{Ending}
 use Rattle.mt_program.specs.declared.status.Status.{Status}
-use Rattle.root_store.specs.Stores.{CoreStands}
+use Rattle.root_log.specs.root_store.Stores.{CoreStands}
 
 abbrev pub reopened : {F : Type 0} → CoreStore F → ℕ → CoreStore F
 reopened store opened = record { tables = store.tables; set = store.set; mutations = store.mutations; length = store.length; opened = opened }

@@ -9,31 +9,31 @@ use Rattle.mt_values.specs.declared.annals.Noted.{Noted}
 use Rattle.mt_values.specs.Annals.{Told}
 use Rattle.mt_values.specs.Script.{statements_of, next_statement, statement_and}
 use Rattle.mt_outside.specs.Files.{Files}
-use Rattle.mt_model.specs.History.{History}
-use Rattle.mt_model.specs.Refusals.{code_of, is_damage, is_refusal}
-use Rattle.mt_model.specs.Session.{SessionReplies}
-use Rattle.mt_model.specs.Written.{IsWritten}
-use Rattle.mt_model.proofs.Keys.{statements_are}
-use Rattle.mt_model.proofs.Replies.{replies_more, replies_append}
-use Rattle.replies.specs.declared.tally.Tally.{Tally}
-use Rattle.root_store.specs.Soundness.{RootStands}
+use Rattle.session.specs.mt_model.History.{History}
+use Rattle.session.specs.mt_model.Refusals.{code_of, is_damage, is_refusal}
+use Rattle.session.specs.mt_model.Session.{SessionReplies}
+use Rattle.session.specs.mt_model.Written.{IsWritten}
+use Rattle.session.proofs.MtModelKeys.{statements_are}
+use Rattle.session.proofs.MtModelReplies.{replies_more, replies_append}
+use Rattle.session.specs.replies.declared.tally.Tally.{Tally}
+use Rattle.root_log.specs.root_store.Soundness.{RootStands}
 use Rattle.session.specs.Answers.{AcceptsNothing, Answered, EndsUnanswered, Knows, Turned, unsettles}
-use Rattle.shared_store.specs.Levels.{KeepsGreatest, has_greatest}
-use Rattle.shared_store.specs.Engines.{GoesOn, Opened}
-use Rattle.root_store.specs.Crashes.{Storage}
+use Rattle.session.specs.shared_store.Levels.{KeepsGreatest, has_greatest}
+use Rattle.session.specs.shared_store.Engines.{GoesOn, Opened}
+use Rattle.root_log.specs.root_store.Crashes.{Storage}
 use Rattle.std.proofs.lemmas.Bool.Decides.{nat_tests}
-use Rattle.replies.specs.Causes.{HasCauses}
-use Rattle.replies.specs.Foreseen.{Foresees, history, is_unsettled}
+use Rattle.session.specs.replies.Causes.{HasCauses}
+use Rattle.session.specs.replies.Foreseen.{Foresees, history, is_unsettled}
 use Rattle.mt_program.specs.Courses.{AreStopped, Item, TalliesReplies, any_unsettles, course_of}
 use Rattle.mt_program.specs.Serving.{MayComeTo, Output, Progress, Ran, Served, ServedBy, stretch_of}
 use Rattle.mt_program.proofs.Begun.{begun_answered, begun_unanswered, replies_length}
-use Rattle.mt_model.specs.Outside.{Outside}
-use Rattle.replies.proofs.Ends.{length_history}
+use Rattle.session.specs.mt_model.Outside.{Outside}
+use Rattle.session.proofs.RepliesEnds.{length_history}
 use Rattle.mt_program.specs.declared.serving.Ending.TheVariants as ending
-use Rattle.replies.specs.Tallies.{tallied}
-use Rattle.run_streams.specs.Streams.{AppendsFront}
-use Rattle.replies.proofs.Counting.{foresees_before, some_counts}
-use Rattle.run_streams.proofs.Known.{appends_more, appends_none, sliced}
+use Rattle.session.specs.replies.Tallies.{tallied}
+use Rattle.session.specs.run_streams.Streams.{AppendsFront}
+use Rattle.session.proofs.RepliesCounting.{foresees_before, some_counts}
+use Rattle.session.proofs.RunStreamsKnown.{appends_more, appends_none, sliced}
 use Rattle.mt_values.proofs.ScriptBounds.{statements_of_step}
 
 -- what was read at a place of the script

@@ -1,12 +1,12 @@
 -- What a run tells of damage.
 use Rattle.std.proofs.Common.{◌≡◌, ℕ, ◌||◌, false, List, Result, ap, ◌∙◌, Bool, ◌⊎◌, inl, inr}
 use Rattle.mt_outside.specs.Disk.{Names}
-use Rattle.mt_model.specs.Refusals.{is_damage}
-use Rattle.replies.specs.declared.tally.Tally.{Tally}
-use Rattle.replies.specs.Tallies.{tallied}
-use Rattle.root_opening.specs.declared.opening.OpenFault.{OpenFault}
-use Rattle.root_opening.specs.declared.opening.OpenFault.TheVariants as opening
-use Rattle.root_opening.specs.Opening.{IsNotDamaged, TellsDamage}
+use Rattle.session.specs.mt_model.Refusals.{is_damage}
+use Rattle.session.specs.replies.declared.tally.Tally.{Tally}
+use Rattle.session.specs.replies.Tallies.{tallied}
+use Rattle.root_log.specs.root_opening.declared.opening.OpenFault.{OpenFault}
+use Rattle.root_log.specs.root_opening.declared.opening.OpenFault.TheVariants as opening
+use Rattle.root_log.specs.root_opening.Opening.{IsNotDamaged, TellsDamage}
 use Rattle.mt_program.specs.Damage.{IsDamagedRoot}
 use Rattle.mt_program.specs.Endings.{MetNoDamage, status_of}
 use Rattle.mt_program.specs.declared.serving.Ending.{Ending}

@@ -5,15 +5,15 @@ use Rattle.mt_values.specs.declared.command.Command.{Command}
 use Rattle.mt_values.specs.Annals.{Told}
 pub use Rattle.mt_values.specs.Script.{Item}
 use Rattle.mt_outside.specs.Disk as root
-use Rattle.mt_model.specs.History.{History}
-use Rattle.mt_model.specs.Outside.{Outside}
-use Rattle.mt_model.specs.Refusals.{is_refusal, is_damage}
-use Rattle.mt_model.specs.Script.{IsPrefix, OwnEntries}
-use Rattle.mt_model.specs.Session.{AddsNothing, IsNextCommand, SessionReplies, Unanswered}
-use Rattle.root_store.specs.Soundness.{RootStands}
-use Rattle.durable_commit.specs.Commits.{entry_of}
-use Rattle.replies.specs.Foreseen.{history, is_unsettled}
-use Rattle.replies.specs.declared.tally.Tally.{Tally}
+use Rattle.session.specs.mt_model.History.{History}
+use Rattle.session.specs.mt_model.Outside.{Outside}
+use Rattle.session.specs.mt_model.Refusals.{is_refusal, is_damage}
+use Rattle.session.specs.mt_model.Script.{IsPrefix, OwnEntries}
+use Rattle.session.specs.mt_model.Session.{AddsNothing, IsNextCommand, SessionReplies, Unanswered}
+use Rattle.root_log.specs.root_store.Soundness.{RootStands}
+use Rattle.root_log.specs.durable_commit.Commits.{entry_of}
+use Rattle.session.specs.replies.Foreseen.{history, is_unsettled}
+use Rattle.session.specs.replies.declared.tally.Tally.{Tally}
 use Rattle.session.specs.Answers.{unsettles}
 
 -- The statements that ran, in order, with their replies, and the one after them where it ran without a reply.

@@ -4,11 +4,11 @@ use Rattle.mt_values.specs.declared.annals.Noted.{Noted}
 use Rattle.mt_values.specs.declared.command.Command.{Command}
 use Rattle.mt_values.specs.Annals.{Told}
 use Rattle.mt_values.specs.Script.{statements_of}
-use Rattle.mt_model.specs.History.{History}
-use Rattle.mt_model.specs.Session.{IsNextCommand, SessionGives}
-use Rattle.durable_commit.specs.Commits.{entry_of}
-use Rattle.root_store.specs.Crashes.{AreCalm, AreCrashSafe, Storage}
-use Rattle.replies.specs.Foreseen.{history}
+use Rattle.session.specs.mt_model.History.{History}
+use Rattle.session.specs.mt_model.Session.{IsNextCommand, SessionGives}
+use Rattle.root_log.specs.durable_commit.Commits.{entry_of}
+use Rattle.root_log.specs.root_store.Crashes.{AreCalm, AreCrashSafe, Storage}
+use Rattle.session.specs.replies.Foreseen.{history}
 use Rattle.mt_program.specs.Courses.{Item}
 
 -- The next command of one of these statements, whose replies are not known: those before it gave each the first of its commands, or none, it ran

@@ -4,13 +4,13 @@ use Rattle.std.specs.Io.KnownBytes.{Appends}
 use Rattle.mt_values.specs.Printing.{escaped}
 use Rattle.mt_outside.specs.Causes.{Rose}
 use Rattle.mt_outside.specs.Disk.{Names}
-use Rattle.root_opening.specs.declared.opening.Damage.{Damage}
-use Rattle.root_opening.specs.declared.opening.Damage.TheVariants as damage
-use Rattle.root_opening.specs.declared.opening.OpenFault.{OpenFault}
-use Rattle.root_opening.specs.declared.opening.OpenFault.TheVariants as fault
-use Rattle.root_opening.specs.Opening.{IsRootDamage}
+use Rattle.root_log.specs.root_opening.declared.opening.Damage.{Damage}
+use Rattle.root_log.specs.root_opening.declared.opening.Damage.TheVariants as damage
+use Rattle.root_log.specs.root_opening.declared.opening.OpenFault.{OpenFault}
+use Rattle.root_log.specs.root_opening.declared.opening.OpenFault.TheVariants as fault
+use Rattle.root_log.specs.root_opening.Opening.{IsRootDamage}
 use Rattle.mt_base.specs.Files.{file_name}
-use Rattle.run_streams.specs.Streams.{AppendsFront}
+use Rattle.session.specs.run_streams.Streams.{AppendsFront}
 use Rattle.mt_program.specs.declared.status.Status.{Status}
 use Rattle.mt_program.specs.declared.status.Status.TheVariants as status
 

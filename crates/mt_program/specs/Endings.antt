@@ -5,9 +5,9 @@ use Rattle.mt_outside.specs.declared.disk.DiskError.{DiskError}
 use Rattle.mt_outside.specs.declared.disk.DiskError.TheVariants as failure
 use Rattle.mt_program.specs.declared.serving.Ending.{Ending}
 use Rattle.mt_program.specs.declared.serving.Ending.TheVariants as ending
-use Rattle.replies.specs.declared.tally.Tally.{Tally}
-use Rattle.run_streams.specs.declared.streams.SourceStop.{SourceStop}
-use Rattle.run_streams.specs.declared.streams.SourceStop.TheVariants as unread
+use Rattle.session.specs.replies.declared.tally.Tally.{Tally}
+use Rattle.session.specs.run_streams.declared.streams.SourceStop.{SourceStop}
+use Rattle.session.specs.run_streams.declared.streams.SourceStop.TheVariants as unread
 use Rattle.mt_program.specs.Serving.{Output, ServedBy, Stretch}
 use Rattle.mt_program.specs.Worlds.{IsFullOnlyBy}
 use Rattle.mt_program.specs.declared.status.Status.{Status}

@@ -4,10 +4,10 @@ use Rattle.std.specs.List.{concat}
 use Rattle.mt_values.specs.declared.annals.Noted.{Noted}
 use Rattle.mt_values.specs.Annals.{Told}
 use Rattle.mt_values.specs.Script.{statements_of}
-use Rattle.mt_model.specs.History.{IsLegal}
-use Rattle.mt_model.specs.Outside.{Outside}
+use Rattle.session.specs.mt_model.History.{IsLegal}
+use Rattle.session.specs.mt_model.Outside.{Outside}
 use Rattle.mt_program.specs.Statuses.{status_number}
-use Rattle.replies.specs.Foreseen.{history}
+use Rattle.session.specs.replies.Foreseen.{history}
 use Rattle.mt_program.specs.Courses.{AreSettled, Course, IsBegunBy, IsCut, Item, RunOf, TalliesReplies, started}
 use Rattle.mt_program.specs.Worlds.{IsOutsideOf, Starts, World}
 use Rattle.mt_program.specs.declared.status.Status.{Status}

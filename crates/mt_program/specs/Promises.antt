@@ -7,15 +7,15 @@ use Rattle.mt_values.specs.declared.statement.Statement.TheVariants as statement
 use Rattle.mt_values.specs.Script.{Item, statements_of}
 use Rattle.mt_outside.specs.Causes.{Rose}
 use Rattle.mt_outside.specs.Disk as root
-use Rattle.mt_model.specs.Causes.{NoneMeetsCause}
-use Rattle.mt_model.specs.History.{History}
-use Rattle.root_opening.specs.declared.opening.Damage.{Damage}
-use Rattle.root_opening.specs.Opening.{IsRootDamage}
-use Rattle.root_store.specs.Crashes.{AllStand}
-use Rattle.root_store.specs.Roots.{Stands}
-use Rattle.replies.specs.Foreseen.{history}
+use Rattle.session.specs.mt_model.Causes.{NoneMeetsCause}
+use Rattle.session.specs.mt_model.History.{History}
+use Rattle.root_log.specs.root_opening.declared.opening.Damage.{Damage}
+use Rattle.root_log.specs.root_opening.Opening.{IsRootDamage}
+use Rattle.root_log.specs.root_store.Crashes.{AllStand}
+use Rattle.root_log.specs.root_store.Roots.{Stands}
+use Rattle.session.specs.replies.Foreseen.{history}
 use Rattle.command_line.specs.Words.{Line, command_of}
-use Rattle.run_streams.specs.Streams.{ConsumesMost}
+use Rattle.session.specs.run_streams.Streams.{ConsumesMost}
 use Rattle.mt_program.specs.declared.status.Status.{Status}
 use Rattle.mt_program.specs.Statuses.{status_number}
 use Rattle.mt_program.specs.Crashes.{IsAsBefore, LeavesOfScript}

@@ -7,18 +7,18 @@ use Rattle.mt_values.specs.Annals.{Told}
 use Rattle.mt_values.specs.Script.{statements_of}
 use Rattle.mt_outside.specs.Disk as root
 use Rattle.mt_outside.specs.Files.{Files}
-use Rattle.mt_model.specs.History.{IsLegal}
-use Rattle.mt_model.specs.Outside.{Outside}
-use Rattle.mt_model.specs.Session.{SessionReplies}
-use Rattle.root_store.specs.Crashes.{Storage}
-use Rattle.root_store.specs.Stores.{CoreStands}
-use Rattle.replies.specs.Foreseen.{Foresees, history, is_unsettled}
+use Rattle.session.specs.mt_model.History.{IsLegal}
+use Rattle.session.specs.mt_model.Outside.{Outside}
+use Rattle.session.specs.mt_model.Session.{SessionReplies}
+use Rattle.root_log.specs.root_store.Crashes.{Storage}
+use Rattle.root_log.specs.root_store.Stores.{CoreStands}
+use Rattle.session.specs.replies.Foreseen.{Foresees, history, is_unsettled}
 use Rattle.session.specs.Answers.{Turned}
-use Rattle.shared_store.specs.Levels.{has_greatest}
+use Rattle.session.specs.shared_store.Levels.{has_greatest}
 use Rattle.mt_program.specs.Courses.{AreSettled, AreStopped, Course, GoesUnanswered, IsBegunBy, IsCut, Item, TalliesReplies, course_of, started}
 use Rattle.mt_program.specs.declared.serving.Ending.{Ending}
 use Rattle.mt_program.specs.declared.serving.Ending.TheVariants as ending
-use Rattle.replies.specs.declared.tally.Tally.{Tally}
+use Rattle.session.specs.replies.declared.tally.Tally.{Tally}
 
 -- What statements met and left: the disk's count of faults at opening, what the disk told before them, what is known of the disk and the annals
 -- after them, the arm's count of faults after them, and whether some part has the greatest level then.

@@ -3,13 +3,13 @@ use Rattle.std.specs.Prelude.{◌≡◌, ◌≤◌, ℕ, Bool, true, List, Optio
 use Rattle.mt_base.specs.Limits.{level_limit}
 use Rattle.mt_values.specs.Annals.{Told}
 use Rattle.mt_outside.specs.Disk as root
-use Rattle.mt_model.specs.Outside.{Outside}
-use Rattle.part_set.specs.declared.root_name.RootName.{RootName}
-use Rattle.part_set.specs.declared.root_name.TablePart.{TablePart}
-use Rattle.part_set.specs.Visible.{IsVisible}
-use Rattle.root_store.specs.Crashes.{Storage}
-use Rattle.root_store.specs.Roots.{AreNamesRead, Stands}
-use Rattle.replies.specs.Foreseen.{history}
+use Rattle.session.specs.mt_model.Outside.{Outside}
+use Rattle.root_log.specs.part_set.declared.root_name.RootName.{RootName}
+use Rattle.root_log.specs.part_set.declared.root_name.TablePart.{TablePart}
+use Rattle.root_log.specs.part_set.Visible.{IsVisible}
+use Rattle.root_log.specs.root_store.Crashes.{Storage}
+use Rattle.root_log.specs.root_store.Roots.{AreNamesRead, Stands}
+use Rattle.session.specs.replies.Foreseen.{history}
 
 -- What is known at a moment: of the disk and the annals, the path of the folder that was started, what the source has left, what was written to the
 -- sink, and how many calls have failed.

@@ -2,14 +2,14 @@
 ghost use Rattle.std.specs.Prelude.{◌≡◌, ◌+◌, ℕ, List, [], Some, false, length};
 ghost use Rattle.mt_values.specs.Annals.{Told};
 ghost use Rattle.mt_outside.specs.Disk as root;
-ghost use Rattle.root_store.specs.Crashes.{AllStand, IsFirstOf, IsMarkAfter, none_begun};
-ghost use Rattle.replies.specs.Foreseen.{history};
+ghost use Rattle.root_log.specs.root_store.Crashes.{AllStand, IsFirstOf, IsMarkAfter, none_begun};
+ghost use Rattle.session.specs.replies.Foreseen.{history};
 ghost use Rattle.mt_program.specs.declared.status.Status.{Status};
 ghost use Rattle.mt_program.specs.Crashes.{LeavesForCrashes};
 ghost use Rattle.mt_program.specs.Courses.{Item, any_unsettles};
 ghost use Rattle.mt_program.specs.Headline.{Headline};
 ghost use Rattle.mt_program.specs.Worlds.{BeginsAfter, Starts, World};
-ghost use Rattle.root_store.specs.Crashes.{Storage};
+ghost use Rattle.root_log.specs.root_store.Crashes.{Storage};
 
 /// An empty disk with annals that hold nothing meets all that is asked before a run. So does what a run leaves, where no reply says that the commit
 /// of a command failed. And so does a disk that was started again after a crash, at whatever moment, with one of the lists that the crash may have left:

@@ -8,8 +8,8 @@ mod status;
 mod top;
 
 pub use laws::premises_are_met;
-pub use replies::Tally;
-pub use run_streams::SourceStop;
 pub use serving::Ending;
+pub use session::replies::Tally;
+pub use session::run_streams::SourceStop;
 pub use status::Status;
 pub use top::{Done, run, run_alone};

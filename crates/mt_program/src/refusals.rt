@@ -4,8 +4,8 @@ ghost use Rattle.mt_program.specs.Damage.{damage_line};
 
 use mt_base::{NoMemory, joined};
 use root_log::Damage;
+use session::tsv_rows::write_text;
 use std::alloc::Global;
-use tsv_rows::write_text;
 
 /// The line of what keeps a root from being opened.
 pub fn damage_line(alloc: Global, damage: &Damage) -> Result<Vec<u8>, NoMemory>

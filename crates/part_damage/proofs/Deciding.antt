@@ -23,18 +23,18 @@ use Rattle.mt_values.specs.Manifests.{manifest_bytes, mark_bytes}
 use Rattle.mt_values.specs.Schemas.{column_types}
 use Rattle.mt_values.specs.Values.{Row}
 use Rattle.mt_outside.specs.Files.{Files, bytes_of}
-use Rattle.column_file.specs.Marks.{granules, keys_bytes, numbers_bytes}
-use Rattle.column_file.specs.Spellings.{Spells}
-use Rattle.column_file.specs.Tests.{spells}
-use Rattle.column_file.proofs.Tested.{spells_Decides}
-use Rattle.digest_file.specs.Frames.{framed}
-use Rattle.digest_file.specs.Spellings.{IsManifestOf, IsMark}
-use Rattle.digest_file.proofs.Manifests.{frame_from_manifest, manifest_first}
-use Rattle.primary_marks.specs.Keys.{IsKeyOf, IsPrimaryOf, KeyShape, ends_alone, granule_count, key_count, shape_of}
-use Rattle.primary_marks.specs.Places.{AreMarksOf, AreStartsOf}
-use Rattle.primary_marks.proofs.KeysOneWay.{keys_apart}
-use Rattle.column_file.proofs.Fronts.{even}
-use Rattle.primary_marks.proofs.Starts.{starts_apart}
+use Rattle.part_writer.specs.column_file.Marks.{granules, keys_bytes, numbers_bytes}
+use Rattle.part_writer.specs.column_file.Spellings.{Spells}
+use Rattle.part_writer.specs.column_file.Tests.{spells}
+use Rattle.part_writer.proofs.ColumnFileTested.{spells_Decides}
+use Rattle.part_writer.specs.digest_file.Frames.{framed}
+use Rattle.part_writer.specs.digest_file.Spellings.{IsManifestOf, IsMark}
+use Rattle.part_writer.proofs.DigestFileManifests.{frame_from_manifest, manifest_first}
+use Rattle.part_writer.specs.primary_marks.Keys.{IsKeyOf, IsPrimaryOf, KeyShape, ends_alone, granule_count, key_count, shape_of}
+use Rattle.part_writer.specs.primary_marks.Places.{AreMarksOf, AreStartsOf}
+use Rattle.part_writer.proofs.PrimaryMarksKeysOneWay.{keys_apart}
+use Rattle.part_writer.proofs.ColumnFileFronts.{even}
+use Rattle.part_writer.proofs.PrimaryMarksStarts.{starts_apart}
 use Rattle.part_writer.specs.PartFiles.{content_bytes, content_ids, mark_of, opened_ids}
 use Rattle.part_damage.specs.Marks.{mark_for}
 use Rattle.part_damage.specs.Sound.{FirstDamaged, FirstUnder, FirstUnsound, IsFirstUnlike, IsFirstWithout, IsManifestFor, IsReadable, IsSound, SpellsFile}

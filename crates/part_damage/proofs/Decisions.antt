@@ -12,14 +12,14 @@ use Rattle.mt_values.specs.declared.value.Value.{Value}
 use Rattle.mt_values.specs.declared.value.Value.TheVariants as value
 use Rattle.mt_values.specs.ColumnBytes.{column_bytes, value_bytes}
 use Rattle.mt_values.specs.Values.{FitsType, Row, type_of, types_of}
-use Rattle.column_file.specs.Marks.{numbers_bytes}
-use Rattle.column_file.specs.Spellings.{IsOfType}
-use Rattle.column_file.specs.Tests.{first_size}
-use Rattle.column_file.proofs.OneWay.{eight_apart, value_apart}
-use Rattle.column_file.proofs.Tested.{FirstIs, first_is}
-use Rattle.primary_marks.specs.Keys.{IsKeyOf}
-use Rattle.primary_marks.specs.Places.{AreStarts, AreStartsOf, RiseAbove}
-use Rattle.column_file.proofs.Fronts.{AreApart, even}
+use Rattle.part_writer.specs.column_file.Marks.{numbers_bytes}
+use Rattle.part_writer.specs.column_file.Spellings.{IsOfType}
+use Rattle.part_writer.specs.column_file.Tests.{first_size}
+use Rattle.part_writer.proofs.ColumnFileOneWay.{eight_apart, value_apart}
+use Rattle.part_writer.proofs.ColumnFileTested.{FirstIs, first_is}
+use Rattle.part_writer.specs.primary_marks.Keys.{IsKeyOf}
+use Rattle.part_writer.specs.primary_marks.Places.{AreStarts, AreStartsOf, RiseAbove}
+use Rattle.part_writer.proofs.ColumnFileFronts.{AreApart, even}
 
 -- it holds, or it does not
 abbrev pub Decided : Type 0 → Type 0

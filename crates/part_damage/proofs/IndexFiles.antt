@@ -19,24 +19,24 @@ use Rattle.mt_values.specs.declared.value.Value.TheVariants as value
 use Rattle.mt_values.specs.ColumnBytes.{column_bytes, value_bytes}
 use Rattle.mt_values.specs.Order.{value_cmp}
 use Rattle.mt_values.specs.Values.{Row}
-use Rattle.primary_marks.specs.Keys.{ArePartRows}
+use Rattle.part_writer.specs.primary_marks.Keys.{ArePartRows}
 use Rattle.mt_values.specs.Schemas.{is_large}
 use Rattle.mt_values.proofs.Orders.{value_exact, value_total}
-use Rattle.predicate.specs.declared.extent.Known.{Known}
-use Rattle.predicate.specs.declared.extent.Known.TheVariants as known
-use Rattle.column_file.specs.Spellings.{IsOfType}
-use Rattle.column_file.specs.Tests.{first_size}
-use Rattle.column_file.proofs.OneWay.{four_apart, value_apart}
-use Rattle.column_file.proofs.Tested.{FirstIs, first_is}
-use Rattle.column_file.proofs.Fronts.{even}
-use Rattle.skip_index.specs.declared.index.Index.{Index}
-use Rattle.skip_index.specs.declared.shapes.BlockShape.{BlockShape}
-use Rattle.skip_index.specs.declared.shapes.IndexShape.{IndexShape}
-use Rattle.skip_index.specs.Blocks.{HasIndex, blocks_bytes, distinct_of, index_at, index_bytes, index_of, known_bytes, most_kept}
-use Rattle.skip_index.specs.Files.{AreBlocksOf, AreDistinctOf, IsIndexFile, MayEnd, MayKeep, MayKeepNone, MayKeepSome, block_count, block_shape, has_more, index_with, shape_of}
-use Rattle.skip_index.specs.Faults.{IsIndexFault}
-use Rattle.skip_index.proofs.Written.{index_written}
-use Rattle.skip_index.proofs.OneWay.{known_apart, most_small, no_index as no_file, one_index as one_file, stands}
+use Rattle.part_writer.specs.predicate.declared.extent.Known.{Known}
+use Rattle.part_writer.specs.predicate.declared.extent.Known.TheVariants as known
+use Rattle.part_writer.specs.column_file.Spellings.{IsOfType}
+use Rattle.part_writer.specs.column_file.Tests.{first_size}
+use Rattle.part_writer.proofs.ColumnFileOneWay.{four_apart, value_apart}
+use Rattle.part_writer.proofs.ColumnFileTested.{FirstIs, first_is}
+use Rattle.part_writer.proofs.ColumnFileFronts.{even}
+use Rattle.part_writer.specs.skip_index.declared.index.Index.{Index}
+use Rattle.part_writer.specs.skip_index.declared.shapes.BlockShape.{BlockShape}
+use Rattle.part_writer.specs.skip_index.declared.shapes.IndexShape.{IndexShape}
+use Rattle.part_writer.specs.skip_index.Blocks.{HasIndex, blocks_bytes, distinct_of, index_at, index_bytes, index_of, known_bytes, most_kept}
+use Rattle.part_writer.specs.skip_index.Files.{AreBlocksOf, AreDistinctOf, IsIndexFile, MayEnd, MayKeep, MayKeepNone, MayKeepSome, block_count, block_shape, has_more, index_with, shape_of}
+use Rattle.part_writer.specs.skip_index.Faults.{IsIndexFault}
+use Rattle.part_writer.proofs.SkipIndexWritten.{index_written}
+use Rattle.part_writer.proofs.SkipIndexOneWay.{known_apart, most_small, no_index as no_file, one_index as one_file, stands}
 use Rattle.part_damage.specs.Sound.{AreBlocksFor}
 use Rattle.part_damage.proofs.Decisions.{Decided, Front, Fronts, both, decided, fronts, like}
 

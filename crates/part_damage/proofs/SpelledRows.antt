@@ -19,9 +19,9 @@ use Rattle.mt_values.specs.Values.{FitsType, Row, types_of}
 use Rattle.mt_values.proofs.Grids.{AreEven, AreRowsOf-rows_of, HaveTypeAt-typed, column_of-rows_of, columns_from, length-rows_of, lengths_typed, rows_of-columns_from, type_at}
 use Rattle.mt_values.proofs.OrderBy.{length_column}
 use Rattle.mt_outside.specs.Files.{Files, bytes_of}
-use Rattle.column_file.specs.Spellings.{IsOfType, IsSpelling, Spells}
-use Rattle.column_file.proofs.OneWay.{one_spelling}
-use Rattle.primary_marks.specs.Keys.{ArePartRows}
+use Rattle.part_writer.specs.column_file.Spellings.{IsOfType, IsSpelling, Spells}
+use Rattle.part_writer.proofs.ColumnFileOneWay.{one_spelling}
+use Rattle.part_writer.specs.primary_marks.Keys.{ArePartRows}
 use Rattle.part_writer.specs.PartFiles.{content_ids}
 use Rattle.part_writer.proofs.Contents.{content_at}
 use Rattle.part_writer.proofs.Filling.{rows_fit}

@@ -10,16 +10,16 @@ use Rattle.mt_values.specs.Grid.{column_of}
 use Rattle.mt_values.specs.Schemas.{column_types}
 use Rattle.mt_values.specs.Values.{Row}
 use Rattle.mt_outside.specs.Files.{Files, bytes_of}
-use Rattle.column_file.specs.Marks.{granules}
-use Rattle.column_file.specs.Spellings.{Spells}
-use Rattle.digest_file.specs.Spellings.{IsManifestOf}
-use Rattle.primary_marks.specs.Keys.{ArePartRows, IsPrimaryOf, shape_of}
-use Rattle.primary_marks.specs.Places.{AreMarksOf}
+use Rattle.part_writer.specs.column_file.Marks.{granules}
+use Rattle.part_writer.specs.column_file.Spellings.{Spells}
+use Rattle.part_writer.specs.digest_file.Spellings.{IsManifestOf}
+use Rattle.part_writer.specs.primary_marks.Keys.{ArePartRows, IsPrimaryOf, shape_of}
+use Rattle.part_writer.specs.primary_marks.Places.{AreMarksOf}
 use Rattle.part_writer.specs.PartFiles.{content_bytes, content_ids, mark_of, opened_ids}
 use Rattle.part_writer.specs.declared.loaded.Loaded.{Loaded}
-use Rattle.skip_index.specs.declared.index.Index.{Index}
-use Rattle.skip_index.specs.Blocks.{HasIndex}
-use Rattle.skip_index.specs.Files.{IsIndexFile, shape_of as index_shape}
+use Rattle.part_writer.specs.skip_index.declared.index.Index.{Index}
+use Rattle.part_writer.specs.skip_index.Blocks.{HasIndex}
+use Rattle.part_writer.specs.skip_index.Files.{IsIndexFile, shape_of as index_shape}
 use Rattle.part_damage.specs.Marks.{mark_for}
 
 -- ---- single files

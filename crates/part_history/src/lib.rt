@@ -8,4 +8,7 @@ pub use laws::{
     merged_parts_stand, parts_are_at_most_inserts, parts_are_portions, parts_stand_apart,
     parts_stand_as_histories_grow, parts_stand_for_live_rows, rows_are_of_their_partition,
 };
+pub use mt_model;
+pub use mt_model::predicate;
 pub use part::CorePart;
+pub use part_name;

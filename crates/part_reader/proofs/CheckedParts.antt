@@ -15,17 +15,17 @@ use Rattle.mt_values.specs.Grid.{column_of}
 use Rattle.mt_values.specs.Schemas.{column_types}
 use Rattle.mt_values.specs.Values.{Row}
 use Rattle.mt_outside.specs.Files.{Files, bytes_of}
-use Rattle.column_file.specs.Marks.{granule_places, granules, keys_bytes, mark_keys, places_bytes}
-use Rattle.primary_marks.specs.Keys.{HasMarks, shape_of}
-use Rattle.primary_marks.proofs.KeysOneWay.{one_primary}
-use Rattle.primary_marks.proofs.Starts.{one_marks}
-use Rattle.part_writer.specs.PartFiles.{content_bytes, content_ids, indexes_of, loaded_of, mark_of, opened_ids}
-use Rattle.part_writer.specs.declared.loaded.Loaded.{Loaded}
-use Rattle.part_writer.proofs.Contents.{content_at, content_skip, opened_length, opened_skip, skip_is}
+use Rattle.part_damage.specs.column_file.Marks.{granule_places, granules, keys_bytes, mark_keys, places_bytes}
+use Rattle.part_damage.specs.primary_marks.Keys.{HasMarks, shape_of}
+use Rattle.part_damage.proofs.PrimaryMarksKeysOneWay.{one_primary}
+use Rattle.part_damage.proofs.PrimaryMarksStarts.{one_marks}
+use Rattle.part_damage.specs.part_writer.PartFiles.{content_bytes, content_ids, indexes_of, loaded_of, mark_of, opened_ids}
+use Rattle.part_damage.specs.part_writer.declared.loaded.Loaded.{Loaded}
+use Rattle.part_damage.proofs.PartWriterContents.{content_at, content_skip, opened_length, opened_skip, skip_is}
 use Rattle.part_damage.specs.Marks.{mark_for}
 use Rattle.part_damage.specs.Sound.{AreBlocksFor, AreKeysFor, AreMarksFor, AreRowsRead, FirstUnsound, IsFirstWithout, IsLoadedOf, IsReadable, IsSound, SpellRows, SpellsFile}
-use Rattle.skip_index.specs.Blocks.{index_of}
-use Rattle.part_writer.specs.PartFiles.{HasIndexes}
+use Rattle.part_damage.specs.skip_index.Blocks.{index_of}
+use Rattle.part_damage.specs.part_writer.PartFiles.{HasIndexes}
 use Rattle.part_damage.proofs.IndexFiles.{index_spelled, one_index}
 use Rattle.part_damage.proofs.SpelledRows.{all_have, one_rows}
 use Rattle.part_reader.specs.declared.comparing.Agreement.{Agreement}

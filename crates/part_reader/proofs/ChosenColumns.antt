@@ -16,16 +16,16 @@ use Rattle.mt_values.specs.Grid.{Cells, column_of}
 use Rattle.mt_values.specs.Schemas.{column_types}
 use Rattle.mt_values.specs.Values.{Row}
 use Rattle.mt_outside.specs.Files.{Files, bytes_of}
-use Rattle.byte_numbers.specs.declared.faults.FormatFault.{FormatFault}
-use Rattle.byte_numbers.specs.declared.faults.FormatFault.TheVariants as format
-use Rattle.column_file.specs.Faults.{Explains, IsFirstFault}
-use Rattle.column_file.specs.Granules.{granule_start, marks_of, run_of}
-use Rattle.column_file.specs.Marks.{granules}
-use Rattle.column_file.specs.Spellings.{IsSpelling, with_values}
-use Rattle.column_file.proofs.Marked.{run_spelled}
-use Rattle.column_file.proofs.OneWay.{no_spelling}
-use Rattle.column_file.proofs.Reading.{gained_spelled}
-use Rattle.part_writer.specs.declared.loaded.Loaded.{Loaded}
+use Rattle.part_damage.specs.byte_numbers.declared.faults.FormatFault.{FormatFault}
+use Rattle.part_damage.specs.byte_numbers.declared.faults.FormatFault.TheVariants as format
+use Rattle.part_damage.specs.column_file.Faults.{Explains, IsFirstFault}
+use Rattle.part_damage.specs.column_file.Granules.{granule_start, marks_of, run_of}
+use Rattle.part_damage.specs.column_file.Marks.{granules}
+use Rattle.part_damage.specs.column_file.Spellings.{IsSpelling, with_values}
+use Rattle.part_damage.proofs.ColumnFileMarked.{run_spelled}
+use Rattle.part_damage.proofs.ColumnFileOneWay.{no_spelling}
+use Rattle.part_damage.proofs.ColumnFileReading.{gained_spelled}
+use Rattle.part_damage.specs.part_writer.declared.loaded.Loaded.{Loaded}
 use Rattle.part_damage.proofs.SpelledRows.{column_spelled, types_length}
 use Rattle.part_reader.specs.declared.files.Span.{Span}
 use Rattle.part_reader.specs.declared.reading.Part.{Part}

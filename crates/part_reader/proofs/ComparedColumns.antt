@@ -20,18 +20,18 @@ use Rattle.mt_values.specs.Values.{Row}
 use Rattle.mt_values.proofs.Grids.{lengths_typed}
 use Rattle.mt_values.proofs.OrderBy.{length_column}
 use Rattle.mt_outside.specs.Files.{Files, bytes_of}
-use Rattle.column_file.specs.Granules.{marks_of}
-use Rattle.column_file.specs.Marks.{granule_places, granules, mark_keys, with_final}
-use Rattle.column_file.specs.Spellings.{IsSpelling, Spells}
-use Rattle.column_file.proofs.OneWay.{one_spelling}
-use Rattle.primary_marks.specs.Keys.{ArePartRows, HasMarks}
-use Rattle.primary_marks.proofs.KeysRead.{slice_get-push_new, slice_get-push_old}
-use Rattle.part_writer.specs.PartFiles.{content_ids, indexes_of, loaded_of}
-use Rattle.skip_index.specs.Blocks.{blocks_of, index_of, index_over, kept_of, no_index}
-use Rattle.part_writer.specs.PartFiles.{HasIndexes}
+use Rattle.part_damage.specs.column_file.Granules.{marks_of}
+use Rattle.part_damage.specs.column_file.Marks.{granule_places, granules, mark_keys, with_final}
+use Rattle.part_damage.specs.column_file.Spellings.{IsSpelling, Spells}
+use Rattle.part_damage.proofs.ColumnFileOneWay.{one_spelling}
+use Rattle.part_damage.specs.primary_marks.Keys.{ArePartRows, HasMarks}
+use Rattle.part_damage.proofs.PrimaryMarksKeysRead.{slice_get-push_new, slice_get-push_old}
+use Rattle.part_damage.specs.part_writer.PartFiles.{content_ids, indexes_of, loaded_of}
+use Rattle.part_damage.specs.skip_index.Blocks.{blocks_of, index_of, index_over, kept_of, no_index}
+use Rattle.part_damage.specs.part_writer.PartFiles.{HasIndexes}
 use Rattle.part_reader.specs.Compared.{index_kept}
-use Rattle.part_writer.specs.declared.loaded.Loaded.{Loaded}
-use Rattle.part_writer.proofs.Contents.{IsColumnAt, content_length, numbered_is}
+use Rattle.part_damage.specs.part_writer.declared.loaded.Loaded.{Loaded}
+use Rattle.part_damage.proofs.PartWriterContents.{IsColumnAt, content_length, numbered_is}
 use Rattle.part_damage.specs.Sound.{AreChecked, AreRowsRead, IsReadAs, IsSound}
 use Rattle.part_damage.proofs.SpelledRows.{column_spelled, rows_of_bytes, types_length}
 use Rattle.part_reader.specs.declared.comparing.Agreement.{Agreement}

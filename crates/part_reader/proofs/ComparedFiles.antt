@@ -11,11 +11,11 @@ use Rattle.mt_values.specs.declared.value.ColType.{ColType}
 use Rattle.mt_values.specs.declared.value.ColType.TheVariants as type
 use Rattle.mt_values.specs.Schemas.{column_types}
 use Rattle.mt_outside.specs.Files.{Files, bytes_of}
-use Rattle.byte_numbers.specs.declared.faults.FormatFault.{FormatFault}
-use Rattle.byte_numbers.specs.declared.faults.FormatFault.TheVariants as format
-use Rattle.column_file.specs.Faults.{Explains, IsFirstFault}
-use Rattle.part_writer.specs.PartFiles.{mark_of}
-use Rattle.part_writer.specs.declared.loaded.Loaded.{Loaded}
+use Rattle.part_damage.specs.byte_numbers.declared.faults.FormatFault.{FormatFault}
+use Rattle.part_damage.specs.byte_numbers.declared.faults.FormatFault.TheVariants as format
+use Rattle.part_damage.specs.column_file.Faults.{Explains, IsFirstFault}
+use Rattle.part_damage.specs.part_writer.PartFiles.{mark_of}
+use Rattle.part_damage.specs.part_writer.declared.loaded.Loaded.{Loaded}
 use Rattle.part_damage.specs.Marks.{mark_for}
 use Rattle.part_damage.specs.Sound.{IsReadAs}
 use Rattle.part_damage.proofs.SpelledRows.{types_length}

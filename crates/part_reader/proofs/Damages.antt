@@ -11,17 +11,17 @@ use Rattle.mt_values.specs.declared.schema.Schema.{Schema}
 use Rattle.mt_values.specs.declared.value.ColType.{ColType}
 use Rattle.mt_values.specs.Values.{Row}
 use Rattle.mt_outside.specs.Files.{Files, bytes_of}
-use Rattle.column_file.specs.Faults.{IsFirstFault}
-use Rattle.column_file.specs.Marks.{granules}
-use Rattle.column_file.specs.Spellings.{Spells}
-use Rattle.column_file.proofs.OneWay.{no_spelling}
-use Rattle.digest_file.specs.Spellings.{IsManifestOf}
-use Rattle.digest_file.proofs.Manifests.{one_manifest}
-use Rattle.primary_marks.specs.Keys.{HasMarks, shape_of}
-use Rattle.primary_marks.proofs.KeysOneWay.{no_primary}
-use Rattle.primary_marks.proofs.Starts.{no_marks}
-use Rattle.part_writer.specs.PartFiles.{IsContent, content_bytes, content_ids, mark_of, opened_ids, skip_ids}
-use Rattle.part_writer.proofs.Contents.{content_known, opened_content, skip_at}
+use Rattle.part_damage.specs.column_file.Faults.{IsFirstFault}
+use Rattle.part_damage.specs.column_file.Marks.{granules}
+use Rattle.part_damage.specs.column_file.Spellings.{Spells}
+use Rattle.part_damage.proofs.ColumnFileOneWay.{no_spelling}
+use Rattle.part_damage.specs.digest_file.Spellings.{IsManifestOf}
+use Rattle.part_damage.proofs.DigestFileManifests.{one_manifest}
+use Rattle.part_damage.specs.primary_marks.Keys.{HasMarks, shape_of}
+use Rattle.part_damage.proofs.PrimaryMarksKeysOneWay.{no_primary}
+use Rattle.part_damage.proofs.PrimaryMarksStarts.{no_marks}
+use Rattle.part_damage.specs.part_writer.PartFiles.{IsContent, content_bytes, content_ids, mark_of, opened_ids, skip_ids}
+use Rattle.part_damage.proofs.PartWriterContents.{content_known, opened_content, skip_at}
 use Rattle.part_reader.specs.declared.reading.PartFault.{PartFault}
 use Rattle.part_reader.specs.declared.reading.PartFault.TheVariants.{Fault, NoMemory, Damaged}
 use Rattle.part_reader.specs.Damage.{ExplainsManifest, ExplainsManifestFile, GoesWrongAt, IsOpenedFault, IsSkipFault, Tells}
@@ -30,7 +30,7 @@ use Rattle.part_damage.specs.Marks.{mark_for}
 use Rattle.part_damage.specs.Sound.{AreBlocksUnder, AreChecked, AreIndexes, AreReadAs, FirstDamaged, FirstUnder, FirstUnsound, IsChecked, IsFirstUnlike, IsFirstWithout, IsManifestFor, IsReadAs, IsReadable, IsSound}
 use Rattle.part_damage.proofs.IndexFiles.{no_index}
 use Rattle.part_damage.proofs.SpelledRows.{one_rows}
-use Rattle.skip_index.specs.declared.index.Index.{Index}
+use Rattle.part_damage.specs.skip_index.declared.index.Index.{Index}
 use Rattle.part_reader.proofs.Opened.{one_indexes, there}
 use Rattle.part_reader.proofs.SameLists.{item_there}
 

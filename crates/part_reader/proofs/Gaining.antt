@@ -12,13 +12,13 @@ use Rattle.mt_values.specs.Grid.{AreRowsOf, Cells, column_of}
 use Rattle.mt_values.specs.Schemas.{column_types}
 use Rattle.mt_values.specs.Values.{FitsType, Row}
 use Rattle.mt_outside.specs.Files.{Files, bytes_of}
-use Rattle.column_file.specs.Spellings.{with_values}
-use Rattle.column_file.proofs.Reading.{gained_spelled}
-use Rattle.part_writer.specs.PartFiles.{manifest_of}
+use Rattle.part_damage.specs.column_file.Spellings.{with_values}
+use Rattle.part_damage.proofs.ColumnFileReading.{gained_spelled}
+use Rattle.part_damage.specs.part_writer.PartFiles.{manifest_of}
 use Rattle.part_reader.specs.declared.reading.Part.{Part}
 use Rattle.part_reader.specs.Columns.{AreEach, AreRead, IsRead}
 use Rattle.part_reader.specs.Parts.{HoldsAt, with_columns}
-use Rattle.part_writer.specs.declared.loaded.Loaded.{Loaded}
+use Rattle.part_damage.specs.part_writer.declared.loaded.Loaded.{Loaded}
 use Rattle.part_reader.proofs.Holding.{AreTyped, columns_held, columns_within, each_typed}
 use Rattle.part_damage.proofs.SpelledRows.{column_spelled}
 

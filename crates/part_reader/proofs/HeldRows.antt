@@ -13,22 +13,22 @@ use Rattle.mt_values.specs.Grid.{column_of}
 use Rattle.mt_values.specs.Schemas.{column_types}
 use Rattle.mt_values.specs.Values.{Row}
 use Rattle.mt_outside.specs.Files.{Files, bytes_of}
-use Rattle.column_file.specs.Marks.{granule_places, mark_keys}
-use Rattle.column_file.specs.Spellings.{Spells}
-use Rattle.digest_file.proofs.Manifests.{one_manifest}
-use Rattle.primary_marks.specs.Keys.{HasMarks}
-use Rattle.part_writer.specs.PartFiles.{IsContent, content_bytes, content_ids, loaded_of, manifest_of, mark_of, marks_of, opened_ids, with_bytes}
-use Rattle.part_writer.specs.declared.loaded.Loaded.{Loaded}
-use Rattle.part_writer.proofs.Contents.{all_content, content_at, content_known, content_skip, content_there, mark_at, marks_length, opened_skip, skip_is}
-use Rattle.part_writer.proofs.Folders.{has_bytes}
+use Rattle.part_damage.specs.column_file.Marks.{granule_places, mark_keys}
+use Rattle.part_damage.specs.column_file.Spellings.{Spells}
+use Rattle.part_damage.proofs.DigestFileManifests.{one_manifest}
+use Rattle.part_damage.specs.primary_marks.Keys.{HasMarks}
+use Rattle.part_damage.specs.part_writer.PartFiles.{IsContent, content_bytes, content_ids, loaded_of, manifest_of, mark_of, marks_of, opened_ids, with_bytes}
+use Rattle.part_damage.specs.part_writer.declared.loaded.Loaded.{Loaded}
+use Rattle.part_damage.proofs.PartWriterContents.{all_content, content_at, content_known, content_skip, content_there, mark_at, marks_length, opened_skip, skip_is}
+use Rattle.part_damage.proofs.PartWriterFolders.{has_bytes}
 use Rattle.part_reader.specs.declared.reading.Part.{Part}
 use Rattle.part_damage.specs.Marks.{mark_for}
 use Rattle.part_reader.specs.Parts.{FolderHolds, PartHolds}
 use Rattle.part_damage.specs.Sound.{AreBlocksFor, AreKeysFor, AreMarksFor, FirstDamaged, FirstUnder, FirstUnsound, IsFirstWithout, IsLoadedOf, IsManifestFor, IsReadable, IsSound, SpellRows, SpellsFile}
 use Rattle.part_damage.proofs.SpelledRows.{all_have, column_spelled, one_rows, types_length}
 use Rattle.part_reader.proofs.Holding.{file_held, mark_held, mark_placed, written_holds}
-use Rattle.skip_index.specs.Blocks.{index_of}
-use Rattle.part_writer.specs.PartFiles.{HasIndexes}
+use Rattle.part_damage.specs.skip_index.Blocks.{index_of}
+use Rattle.part_damage.specs.part_writer.PartFiles.{HasIndexes}
 use Rattle.part_reader.proofs.Damages.{opened_known}
 use Rattle.part_reader.proofs.Opened.{one_loaded}
 use Rattle.part_reader.proofs.SameLists.{item_there, same_list}

@@ -20,15 +20,15 @@ use Rattle.mt_values.specs.Manifests.{manifest_bytes}
 use Rattle.mt_values.specs.Schemas.{column_types}
 use Rattle.mt_values.specs.Values.{FitsType, Row}
 use Rattle.mt_outside.specs.Files.{Files, bytes_of}
-use Rattle.byte_numbers.specs.declared.faults.FormatFault.{FormatFault}
-use Rattle.byte_numbers.specs.declared.faults.FormatFault.TheVariants as format
-use Rattle.column_file.specs.Faults.{Explains, IsFirstFault}
-use Rattle.column_file.proofs.OneWay.{no_spelling}
-use Rattle.digest_file.specs.Spellings.{IsManifestOf}
-use Rattle.part_writer.specs.PartFiles.{IsContent, all_synced, content_bytes, content_ids, files_of_part, loaded_of, manifest_of, mark_of, with_bytes}
-use Rattle.part_writer.specs.declared.loaded.Loaded.{Loaded}
-use Rattle.part_writer.proofs.Contents.{IsColumnAt, all_content, content_all, mark_at, numbered_is}
-use Rattle.part_writer.proofs.Folders.{bytes_at, content_held, manifest_held, sealed_bytes}
+use Rattle.part_damage.specs.byte_numbers.declared.faults.FormatFault.{FormatFault}
+use Rattle.part_damage.specs.byte_numbers.declared.faults.FormatFault.TheVariants as format
+use Rattle.part_damage.specs.column_file.Faults.{Explains, IsFirstFault}
+use Rattle.part_damage.proofs.ColumnFileOneWay.{no_spelling}
+use Rattle.part_damage.specs.digest_file.Spellings.{IsManifestOf}
+use Rattle.part_damage.specs.part_writer.PartFiles.{IsContent, all_synced, content_bytes, content_ids, files_of_part, loaded_of, manifest_of, mark_of, with_bytes}
+use Rattle.part_damage.specs.part_writer.declared.loaded.Loaded.{Loaded}
+use Rattle.part_damage.proofs.PartWriterContents.{IsColumnAt, all_content, content_all, mark_at, numbered_is}
+use Rattle.part_damage.proofs.PartWriterFolders.{bytes_at, content_held, manifest_held, sealed_bytes}
 use Rattle.part_reader.specs.declared.reading.PartFault.{PartFault}
 use Rattle.part_reader.specs.declared.reading.PartFault.TheVariants.{Fault, NoMemory, Damaged}
 use Rattle.part_reader.specs.declared.reading.Part.{Part}

@@ -17,20 +17,20 @@ use Rattle.mt_values.specs.declared.schema.Schema.{Schema}
 use Rattle.mt_values.specs.declared.schema.SkipIndex.{SkipIndex}
 use Rattle.mt_values.specs.declared.value.Value.{Value}
 use Rattle.mt_values.specs.ColumnBytes.{column_bytes, value_bytes}
-use Rattle.column_file.specs.Marks.{granules}
-use Rattle.column_file.specs.Faults.{Explains, NoneBegins}
-use Rattle.column_file.specs.Spellings.{IsOfType, IsSpelling}
-use Rattle.column_file.proofs.Reading.{AreRead, read_more, read_none, read_stuck, read_within}
-use Rattle.byte_numbers.specs.declared.faults.FormatFault.{FormatFault}
-use Rattle.byte_numbers.specs.declared.faults.FormatFault.TheVariants.{Malformed}
-use Rattle.byte_numbers.specs.Fronts.{Begins}
-use Rattle.column_file.proofs.OneWay.{lists_apart}
-use Rattle.predicate.specs.declared.extent.Known.{Known}
+use Rattle.part_damage.specs.column_file.Marks.{granules}
+use Rattle.part_damage.specs.column_file.Faults.{Explains, NoneBegins}
+use Rattle.part_damage.specs.column_file.Spellings.{IsOfType, IsSpelling}
+use Rattle.part_damage.proofs.ColumnFileReading.{AreRead, read_more, read_none, read_stuck, read_within}
+use Rattle.part_damage.specs.byte_numbers.declared.faults.FormatFault.{FormatFault}
+use Rattle.part_damage.specs.byte_numbers.declared.faults.FormatFault.TheVariants.{Malformed}
+use Rattle.part_damage.specs.byte_numbers.Fronts.{Begins}
+use Rattle.part_damage.proofs.ColumnFileOneWay.{lists_apart}
+use Rattle.part_damage.specs.predicate.declared.extent.Known.{Known}
 use Rattle.mt_values.specs.Order.{value_cmp}
 use Rattle.mt_values.proofs.Orders.{value_exact, value_total}
-use Rattle.part_writer.specs.declared.loaded.Loaded.{Loaded}
-use Rattle.skip_index.specs.declared.index.Index.{Index}
-use Rattle.skip_index.specs.Blocks.{blocks_of, kept_of}
+use Rattle.part_damage.specs.part_writer.declared.loaded.Loaded.{Loaded}
+use Rattle.part_damage.specs.skip_index.declared.index.Index.{Index}
+use Rattle.part_damage.specs.skip_index.Blocks.{blocks_of, kept_of}
 use Rattle.part_reader.specs.declared.indexed.ColumnFile.{ColumnFile}
 use Rattle.part_reader.specs.Compared.{EndsAt, HasIndexOf, index_kept}
 use Rattle.part_reader.proofs.NumberMarks.{starts_below}

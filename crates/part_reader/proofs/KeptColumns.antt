@@ -13,9 +13,9 @@ use Rattle.mt_values.specs.Grid.{column_of}
 use Rattle.mt_values.specs.Order.{key_of}
 use Rattle.mt_values.specs.Values.{Row}
 use Rattle.mt_values.proofs.Grids.{length-column_of, slice_get-column_of}
-use Rattle.column_file.specs.Marks.{mark_keys, with_final}
-use Rattle.primary_marks.proofs.KeyRows.{length-found}
-use Rattle.primary_marks.proofs.MarkedRows.{All-with_final, with_final-map}
+use Rattle.part_damage.specs.column_file.Marks.{mark_keys, with_final}
+use Rattle.part_damage.proofs.PrimaryMarksKeyRows.{length-found}
+use Rattle.part_damage.proofs.PrimaryMarksMarkedRows.{All-with_final, with_final-map}
 use Rattle.part_reader.proofs.SameLists.{same_list}
 
 any_value : Value

@@ -18,3 +18,9 @@ pub mod Opened
 pub mod PickedValues
 pub mod SameLists
 pub mod SoundRows
+pub use Rattle.part_damage.proofs.DigestFilePieces
+pub use Rattle.part_damage.proofs.PartWriterContents
+pub use Rattle.part_damage.proofs.PrimaryMarksGranuleBoxes
+pub use Rattle.part_damage.proofs.PrimaryMarksMarkedRows
+pub use Rattle.part_damage.proofs.PrimaryMarksSkippedGranules
+pub use Rattle.part_damage.proofs.SkipIndexSkipped

@@ -14,16 +14,16 @@ use Rattle.mt_values.specs.declared.value.Value.{Value}
 use Rattle.mt_values.specs.Cells.{value_of}
 use Rattle.mt_values.specs.ColumnBytes.{column_bytes, value_bytes}
 use Rattle.mt_values.specs.Values.{type_of}
-use Rattle.byte_numbers.specs.declared.faults.FormatFault.{FormatFault}
-use Rattle.byte_numbers.specs.declared.faults.FormatFault.TheVariants.{NoMemory}
-use Rattle.byte_numbers.specs.Fronts.{Begins}
-use Rattle.column_file.specs.Faults.{Explains, IsFirstFault, NoneBegins}
-use Rattle.column_file.specs.Granules.{granule_start, marks_of}
-use Rattle.column_file.specs.Marks.{granules, with_final}
-use Rattle.column_file.specs.Spellings.{IsOfType}
-use Rattle.column_file.proofs.Reading.{AreRead, read_all, read_more, read_none, read_past, read_stuck, read_within}
-use Rattle.primary_marks.proofs.KeysRead.{slice_get-push_new, slice_get-push_old}
-use Rattle.primary_marks.proofs.MarkedRows.{last_only, map_on_range, starts_more}
+use Rattle.part_damage.specs.byte_numbers.declared.faults.FormatFault.{FormatFault}
+use Rattle.part_damage.specs.byte_numbers.declared.faults.FormatFault.TheVariants.{NoMemory}
+use Rattle.part_damage.specs.byte_numbers.Fronts.{Begins}
+use Rattle.part_damage.specs.column_file.Faults.{Explains, IsFirstFault, NoneBegins}
+use Rattle.part_damage.specs.column_file.Granules.{granule_start, marks_of}
+use Rattle.part_damage.specs.column_file.Marks.{granules, with_final}
+use Rattle.part_damage.specs.column_file.Spellings.{IsOfType}
+use Rattle.part_damage.proofs.ColumnFileReading.{AreRead, read_all, read_more, read_none, read_past, read_stuck, read_within}
+use Rattle.part_damage.proofs.PrimaryMarksKeysRead.{slice_get-push_new, slice_get-push_old}
+use Rattle.part_damage.proofs.PrimaryMarksMarkedRows.{last_only, map_on_range, starts_more}
 use Rattle.part_reader.specs.declared.comparing.ColumnMarks.{ColumnMarks}
 use Rattle.part_reader.specs.Compared.{AreBegun, AreMarksIn}
 

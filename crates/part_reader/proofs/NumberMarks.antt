@@ -17,17 +17,17 @@ use Rattle.mt_values.specs.declared.value.Value.{Value}
 use Rattle.mt_values.specs.declared.value.Value.TheVariants as value
 use Rattle.mt_values.specs.Cells.{value_of}
 use Rattle.mt_values.specs.ColumnBytes.{column_bytes, value_bytes}
-use Rattle.byte_numbers.specs.declared.faults.FormatFault.{FormatFault}
-use Rattle.byte_numbers.specs.declared.faults.FormatFault.TheVariants.{NoMemory}
-use Rattle.byte_numbers.specs.Fronts.{Begins}
-use Rattle.byte_numbers.proofs.Numbers.{AreBytes}
-use Rattle.column_file.specs.Faults.{Explains, NoneBegins}
-use Rattle.column_file.specs.Granules.{granule_start}
-use Rattle.column_file.specs.Spellings.{IsOfType, IsSpelling, fewest_bytes}
-use Rattle.column_file.proofs.Numbers.{length_number, numbers_read}
-use Rattle.column_file.proofs.OneWay.{value_apart}
-use Rattle.column_file.proofs.Reading.{AreRead, read_all}
-use Rattle.primary_marks.proofs.MarkedRows.{starts_more}
+use Rattle.part_damage.specs.byte_numbers.declared.faults.FormatFault.{FormatFault}
+use Rattle.part_damage.specs.byte_numbers.declared.faults.FormatFault.TheVariants.{NoMemory}
+use Rattle.part_damage.specs.byte_numbers.Fronts.{Begins}
+use Rattle.part_damage.proofs.ByteNumbersNumbers.{AreBytes}
+use Rattle.part_damage.specs.column_file.Faults.{Explains, NoneBegins}
+use Rattle.part_damage.specs.column_file.Granules.{granule_start}
+use Rattle.part_damage.specs.column_file.Spellings.{IsOfType, IsSpelling, fewest_bytes}
+use Rattle.part_damage.proofs.ColumnFileNumbers.{length_number, numbers_read}
+use Rattle.part_damage.proofs.ColumnFileOneWay.{value_apart}
+use Rattle.part_damage.proofs.ColumnFileReading.{AreRead, read_all}
+use Rattle.part_damage.proofs.PrimaryMarksMarkedRows.{starts_more}
 use Rattle.part_reader.specs.declared.comparing.ColumnMarks.{ColumnMarks}
 use Rattle.part_reader.specs.Compared.{AreBegun, AreMarksIn}
 use Rattle.part_reader.proofs.MarkedValues.{AreGone, Walk, gone_all, walk}

@@ -7,14 +7,14 @@ use Rattle.mt_base.specs.declared.name.FileId.TheVariants as file
 use Rattle.mt_values.specs.declared.schema.Schema.{Schema}
 use Rattle.mt_values.specs.Values.{Row}
 use Rattle.mt_outside.specs.Files.{Files, bytes_of}
-use Rattle.column_file.specs.Marks.{granules}
-use Rattle.digest_file.proofs.Manifests.{one_manifest}
-use Rattle.primary_marks.specs.Keys.{shape_of}
-use Rattle.primary_marks.proofs.KeysOneWay.{one_primary}
-use Rattle.primary_marks.proofs.Starts.{one_marks}
-use Rattle.part_writer.specs.declared.loaded.Loaded.{Loaded}
-use Rattle.part_writer.proofs.Contents.{skip_at}
-use Rattle.skip_index.specs.declared.index.Index.{Index}
+use Rattle.part_damage.specs.column_file.Marks.{granules}
+use Rattle.part_damage.proofs.DigestFileManifests.{one_manifest}
+use Rattle.part_damage.specs.primary_marks.Keys.{shape_of}
+use Rattle.part_damage.proofs.PrimaryMarksKeysOneWay.{one_primary}
+use Rattle.part_damage.proofs.PrimaryMarksStarts.{one_marks}
+use Rattle.part_damage.specs.part_writer.declared.loaded.Loaded.{Loaded}
+use Rattle.part_damage.proofs.PartWriterContents.{skip_at}
+use Rattle.part_damage.specs.skip_index.declared.index.Index.{Index}
 use Rattle.part_damage.proofs.IndexFiles.{one_index}
 use Rattle.part_damage.specs.Marks.{mark_for}
 use Rattle.part_reader.proofs.SameLists.{same_list}

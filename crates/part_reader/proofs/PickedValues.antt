@@ -16,11 +16,11 @@ use Rattle.mt_values.specs.Schemas.{column_types}
 use Rattle.mt_values.specs.Values.{Row}
 use Rattle.mt_values.proofs.Wheres.{where_append}
 use Rattle.mt_outside.specs.Files.{Files, bytes_of}
-use Rattle.column_file.specs.Granules.{run_of}
-use Rattle.column_file.specs.Marks.{granules}
-use Rattle.column_file.specs.Spellings.{IsSpelling, with_values}
-use Rattle.column_file.proofs.Wanted.{gained_where}
-use Rattle.part_writer.specs.declared.loaded.Loaded.{Loaded}
+use Rattle.part_damage.specs.column_file.Granules.{run_of}
+use Rattle.part_damage.specs.column_file.Marks.{granules}
+use Rattle.part_damage.specs.column_file.Spellings.{IsSpelling, with_values}
+use Rattle.part_damage.proofs.ColumnFileWanted.{gained_where}
+use Rattle.part_damage.specs.part_writer.declared.loaded.Loaded.{Loaded}
 use Rattle.part_reader.specs.declared.reading.Part.{Part}
 use Rattle.part_reader.specs.declared.reading.PartFault.{PartFault}
 use Rattle.part_reader.specs.declared.runs.Run.{Run}

@@ -12,20 +12,20 @@ use Rattle.mt_values.specs.Grid.{column_of}
 use Rattle.mt_values.specs.Schemas.{column_types}
 use Rattle.mt_values.specs.Values.{Row}
 use Rattle.mt_outside.specs.Files.{Files, bytes_of}
-use Rattle.column_file.specs.Marks.{granule_places, granules, mark_keys, marks_bytes, primary_bytes}
-use Rattle.digest_file.specs.Spellings.{IsMark}
-use Rattle.primary_marks.specs.Keys.{ArePartRows, HasMarks, IsPrimaryOf, shape_of}
-use Rattle.primary_marks.specs.Places.{AreMarksOf}
-use Rattle.primary_marks.proofs.ColumnStarts.{marks_written}
-use Rattle.primary_marks.proofs.KeyRowsOf.{keys_from_rows}
-use Rattle.part_writer.specs.PartFiles.{content_bytes, content_ids, indexes_of, loaded_of, manifest_of, mark_of}
-use Rattle.part_writer.proofs.Contents.{content_at, content_skip, mark_at, marks_length}
-use Rattle.part_writer.proofs.Folders.{bytes_at, content_held}
+use Rattle.part_damage.specs.column_file.Marks.{granule_places, granules, mark_keys, marks_bytes, primary_bytes}
+use Rattle.part_damage.specs.digest_file.Spellings.{IsMark}
+use Rattle.part_damage.specs.primary_marks.Keys.{ArePartRows, HasMarks, IsPrimaryOf, shape_of}
+use Rattle.part_damage.specs.primary_marks.Places.{AreMarksOf}
+use Rattle.part_damage.proofs.PrimaryMarksColumnStarts.{marks_written}
+use Rattle.part_damage.proofs.PrimaryMarksKeyRowsOf.{keys_from_rows}
+use Rattle.part_damage.specs.part_writer.PartFiles.{content_bytes, content_ids, indexes_of, loaded_of, manifest_of, mark_of}
+use Rattle.part_damage.proofs.PartWriterContents.{content_at, content_skip, mark_at, marks_length}
+use Rattle.part_damage.proofs.PartWriterFolders.{bytes_at, content_held}
 use Rattle.part_reader.specs.Parts.{FolderHolds}
 use Rattle.part_damage.specs.Sound.{AreBlocksFor, AreBlocksUnder, AreIndexes, AreKeysFor, AreMarksFor, IsLoadedOf, IsManifestFor}
-use Rattle.skip_index.specs.declared.index.Index.{Index}
-use Rattle.skip_index.specs.Blocks.{index_bytes, index_of}
-use Rattle.part_writer.specs.PartFiles.{HasIndexes}
+use Rattle.part_damage.specs.skip_index.declared.index.Index.{Index}
+use Rattle.part_damage.specs.skip_index.Blocks.{index_bytes, index_of}
+use Rattle.part_damage.specs.part_writer.PartFiles.{HasIndexes}
 use Rattle.part_damage.proofs.IndexFiles.{index_from_rows}
 use Rattle.part_reader.proofs.Holding.{mark_held}
 use Rattle.part_reader.proofs.SameLists.{mapped_at}

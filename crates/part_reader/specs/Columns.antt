@@ -5,7 +5,7 @@ use Rattle.mt_values.specs.declared.manifest.Manifest.{Manifest}
 use Rattle.mt_base.specs.declared.name.FileId.TheVariants as file
 use Rattle.mt_values.specs.Grid.{Cells}
 use Rattle.mt_outside.specs.Files.{Files, bytes_of}
-use Rattle.column_file.specs.Spellings.{GainsAll}
+use Rattle.part_damage.specs.column_file.Spellings.{GainsAll}
 
 -- bytes were read, those of the file of the part's column with this number where the folder tells, and a column got the values that they
 -- spell, one for each row

@@ -11,16 +11,16 @@ use Rattle.mt_values.specs.declared.value.ColType.{ColType}
 use Rattle.mt_values.specs.ColumnBytes.{column_bytes}
 use Rattle.mt_values.specs.Grid.{Cells, column_of}
 use Rattle.mt_values.specs.Schemas.{column_types}
-use Rattle.column_file.specs.Granules.{granule_start, marks_of}
-use Rattle.column_file.specs.Marks.{granules, with_final}
-use Rattle.column_file.specs.Spellings.{IsOfType, IsSpelling}
-use Rattle.column_file.specs.Faults.{Explains}
-use Rattle.byte_numbers.specs.Fronts.{Begins}
-use Rattle.byte_numbers.specs.declared.faults.FormatFault.{FormatFault}
-use Rattle.part_writer.specs.PartFiles.{mark_of}
-use Rattle.part_writer.specs.declared.loaded.Loaded.{Loaded}
-use Rattle.skip_index.specs.declared.index.Index.{Index}
-use Rattle.skip_index.specs.Blocks.{blocks_of, kept_of}
+use Rattle.part_damage.specs.column_file.Granules.{granule_start, marks_of}
+use Rattle.part_damage.specs.column_file.Marks.{granules, with_final}
+use Rattle.part_damage.specs.column_file.Spellings.{IsOfType, IsSpelling}
+use Rattle.part_damage.specs.column_file.Faults.{Explains}
+use Rattle.part_damage.specs.byte_numbers.Fronts.{Begins}
+use Rattle.part_damage.specs.byte_numbers.declared.faults.FormatFault.{FormatFault}
+use Rattle.part_damage.specs.part_writer.PartFiles.{mark_of}
+use Rattle.part_damage.specs.part_writer.declared.loaded.Loaded.{Loaded}
+use Rattle.part_damage.specs.skip_index.declared.index.Index.{Index}
+use Rattle.part_damage.specs.skip_index.Blocks.{blocks_of, kept_of}
 use Rattle.part_damage.specs.Marks.{mark_for}
 use Rattle.part_reader.specs.declared.comparing.Agreement.{Agreement}
 use Rattle.part_reader.specs.declared.comparing.ColumnMarks.{ColumnMarks}

@@ -7,18 +7,18 @@ use Rattle.mt_base.specs.declared.name.FileId.TheVariants as file
 use Rattle.mt_values.specs.declared.schema.Schema.{Schema}
 use Rattle.mt_values.specs.Schemas.{column_types}
 use Rattle.mt_outside.specs.Files.{Files, bytes_of}
-use Rattle.column_file.specs.Faults.{IsFirstFault as IsWrongAt}
-use Rattle.digest_file.specs.Faults.{IsFirstFault}
-use Rattle.digest_file.specs.Spellings.{IsManifest, IsManifestOf}
+use Rattle.part_damage.specs.column_file.Faults.{IsFirstFault as IsWrongAt}
+use Rattle.part_damage.specs.digest_file.Faults.{IsFirstFault}
+use Rattle.part_damage.specs.digest_file.Spellings.{IsManifest, IsManifestOf}
 use Rattle.mt_values.specs.Values.{Row}
-use Rattle.column_file.specs.Marks.{granules}
-use Rattle.primary_marks.specs.KeyFaults.{IsPrimaryFault}
-use Rattle.primary_marks.specs.Keys.{shape_of}
-use Rattle.primary_marks.specs.Places.{IsMarksFault}
-use Rattle.part_writer.specs.PartFiles.{content_ids, indexes_of, loaded_of, mark_of, opened_ids, skip_ids}
-use Rattle.part_writer.specs.declared.loaded.Loaded.{Loaded}
-use Rattle.skip_index.specs.Faults.{IsIndexFault}
-use Rattle.skip_index.specs.Files.{shape_of as index_shape}
+use Rattle.part_damage.specs.column_file.Marks.{granules}
+use Rattle.part_damage.specs.primary_marks.KeyFaults.{IsPrimaryFault}
+use Rattle.part_damage.specs.primary_marks.Keys.{shape_of}
+use Rattle.part_damage.specs.primary_marks.Places.{IsMarksFault}
+use Rattle.part_damage.specs.part_writer.PartFiles.{content_ids, indexes_of, loaded_of, mark_of, opened_ids, skip_ids}
+use Rattle.part_damage.specs.part_writer.declared.loaded.Loaded.{Loaded}
+use Rattle.part_damage.specs.skip_index.Faults.{IsIndexFault}
+use Rattle.part_damage.specs.skip_index.Files.{shape_of as index_shape}
 use Rattle.part_reader.specs.declared.reading.PartFault.{PartFault}
 use Rattle.part_reader.specs.declared.reading.PartFault.TheVariants.{Fault, NoMemory, Damaged}
 use Rattle.part_reader.specs.declared.reading.TheConstants.{NO_MARK}

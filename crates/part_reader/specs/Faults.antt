@@ -9,11 +9,11 @@ use Rattle.mt_values.specs.Grid.{Cells}
 use Rattle.mt_outside.specs.declared.disk.DiskError.{DiskError}
 use Rattle.mt_outside.specs.declared.disk.DiskError.TheVariants as disk
 use Rattle.mt_outside.specs.Files.{Files, bytes_of}
-use Rattle.byte_numbers.specs.declared.faults.FormatFault.{FormatFault}
-use Rattle.byte_numbers.specs.declared.faults.FormatFault.TheVariants as format
-use Rattle.column_file.specs.Faults.{IsFirstFault}
-use Rattle.part_writer.specs.PartFiles.{mark_of}
-use Rattle.part_writer.specs.declared.loaded.Loaded.{Loaded}
+use Rattle.part_damage.specs.byte_numbers.declared.faults.FormatFault.{FormatFault}
+use Rattle.part_damage.specs.byte_numbers.declared.faults.FormatFault.TheVariants as format
+use Rattle.part_damage.specs.column_file.Faults.{IsFirstFault}
+use Rattle.part_damage.specs.part_writer.PartFiles.{mark_of}
+use Rattle.part_damage.specs.part_writer.declared.loaded.Loaded.{Loaded}
 use Rattle.part_damage.specs.Marks.{mark_for}
 use Rattle.part_reader.specs.declared.reading.PartFault.{PartFault}
 use Rattle.part_reader.specs.declared.reading.PartFault.TheVariants.{Fault, NoMemory, Damaged}

@@ -8,9 +8,9 @@ use Rattle.mt_values.specs.declared.value.Value.{Value}
 use Rattle.mt_values.specs.Grid.{Cells}
 pub use Rattle.mt_values.specs.Granules.{chosen_of}
 use Rattle.mt_outside.specs.Files.{Files, bytes_of}
-use Rattle.column_file.specs.Granules.{marks_of}
-use Rattle.column_file.specs.Spellings.{GainsAll, IsSpelling, with_values}
-use Rattle.part_writer.specs.declared.loaded.Loaded.{Loaded}
+use Rattle.part_damage.specs.column_file.Granules.{marks_of}
+use Rattle.part_damage.specs.column_file.Spellings.{GainsAll, IsSpelling, with_values}
+use Rattle.part_damage.specs.part_writer.declared.loaded.Loaded.{Loaded}
 use Rattle.part_reader.specs.declared.files.Span.{Span}
 use Rattle.part_reader.specs.declared.reading.Part.{Part}
 use Rattle.part_reader.specs.declared.reading.PartFault.{PartFault}

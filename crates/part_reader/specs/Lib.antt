@@ -7,3 +7,8 @@ pub mod Granules
 pub mod Parts
 pub mod Picks
 pub mod Sound
+pub use Rattle.part_damage.specs.column_file
+pub use Rattle.part_damage.specs.digest_file
+pub use Rattle.part_damage.specs.part_writer
+pub use Rattle.part_damage.specs.primary_marks
+pub use Rattle.part_damage.specs.skip_index

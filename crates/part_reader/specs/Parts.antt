@@ -7,9 +7,9 @@ use Rattle.mt_values.specs.Grid.{AreRowsOf, Cells, column_of}
 use Rattle.mt_values.specs.Schemas.{column_types}
 use Rattle.mt_values.specs.Values.{FitsType, Row}
 use Rattle.mt_outside.specs.Files.{Files, bytes_of}
-use Rattle.column_file.specs.Spellings.{with_values}
-use Rattle.digest_file.specs.Spellings.{IsManifestOf}
-use Rattle.part_writer.specs.PartFiles.{HasBytes, IsContent, content_ids, files_of_part, loaded_of, manifest_of, with_bytes}
+use Rattle.part_damage.specs.column_file.Spellings.{with_values}
+use Rattle.part_damage.specs.digest_file.Spellings.{IsManifestOf}
+use Rattle.part_damage.specs.part_writer.PartFiles.{HasBytes, IsContent, content_ids, files_of_part, loaded_of, manifest_of, with_bytes}
 use Rattle.part_reader.specs.declared.reading.Part.{Part}
 
 -- a folder holds rows of a table: each of its files has the bytes that are written of them, and the manifest can be read back

@@ -3,8 +3,8 @@ use Rattle.std.specs.Prelude.{◌≡◌, ℕ, ◌+◌, ◌⊎◌, Bool, List, le
 use Rattle.mt_values.specs.declared.value.Value.{Value}
 use Rattle.mt_values.specs.Grid.{Cells}
 use Rattle.mt_values.specs.Lists.{where_true}
-use Rattle.column_file.specs.Picks.{GainsWhere}
-use Rattle.column_file.specs.Spellings.{with_values}
+use Rattle.part_damage.specs.column_file.Picks.{GainsWhere}
+use Rattle.part_damage.specs.column_file.Spellings.{with_values}
 use Rattle.part_reader.specs.declared.files.Span.{Span}
 use Rattle.part_reader.specs.declared.runs.Run.{Run}
 use Rattle.part_reader.specs.Granules.{HoldsValues, IsSpanOf, IsSpanRead, PartColumn, chosen_of}

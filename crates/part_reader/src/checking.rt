@@ -4,9 +4,9 @@ ghost use Rattle.mt_outside.specs.Causes.{Rose};
 ghost use Rattle.mt_outside.specs.Files.{Files};
 ghost use Rattle.mt_values.specs.Values.{Row};
 ghost use Rattle.mt_values.specs.declared.manifest.FileMark.{FileMark};
-ghost use Rattle.part_writer.specs.PartFiles.{IsContent, indexes_of, loaded_of};
-ghost use Rattle.primary_marks.specs.Keys.{HasMarks};
-ghost use Rattle.part_writer.specs.PartFiles.{HasIndexes};
+ghost use Rattle.part_damage.specs.part_writer.PartFiles.{IsContent, indexes_of, loaded_of};
+ghost use Rattle.part_damage.specs.primary_marks.Keys.{HasMarks};
+ghost use Rattle.part_damage.specs.part_writer.PartFiles.{HasIndexes};
 ghost use Rattle.part_reader.specs.Compared.{IsCompared};
 ghost use Rattle.part_reader.specs.Damage.{ExplainsCheck, GoesWrongAlone, Tells};
 ghost use Rattle.part_reader.specs.DamagedFile.{damaged_file};
@@ -21,7 +21,7 @@ use crate::marked::{mark_at, mark_found, misspelled};
 use crate::reading::{NO_MARK, Part, PartFault};
 use mt_outside::Arm;
 use mt_values::{FileId, FileMark, Manifest, Schema};
-use part_writer::{Loaded, content_count, content_file};
+use part_damage::part_writer::{Loaded, content_count, content_file};
 use std::alloc::Global;
 
 /// Nothing, where each file of which the part's manifest has a mark has it, the files of the columns spell as many rows as the manifest

@@ -2,8 +2,8 @@
 ghost use Rattle.std.specs.Prelude.{All, ◌≡◌, ◌≢◌, ◌<◌, ◌-◌, ◌*◌, ◌↔◌, ◌&&◌, ◌++◌, ◌∷◌, [], ℕ, true, IfErr, IfOk, IsTrue, List, MatchOption, MatchResult, None, OnOk, Some, length, slice_get, take};
 ghost use Rattle.std.specs.List.{cons_option};
 ghost use Rattle.std.specs.Option.{IfSome, option_map};
-ghost use Rattle.column_file.specs.Faults.{Explains};
-ghost use Rattle.column_file.specs.Spellings.{IsSpelling, fewest_bytes};
+ghost use Rattle.part_damage.specs.column_file.Faults.{Explains};
+ghost use Rattle.part_damage.specs.column_file.Spellings.{IsSpelling, fewest_bytes};
 ghost use Rattle.mt_values.specs.declared.value.ColType.TheVariants as type;
 ghost use Rattle.mt_values.specs.declared.value.Value.{Value};
 ghost use Rattle.mt_values.specs.Cells.{value_of};
@@ -11,16 +11,16 @@ ghost use Rattle.mt_values.specs.ColumnBytes.{column_bytes};
 ghost use Rattle.mt_values.specs.Grid.{column_of};
 ghost use Rattle.mt_values.specs.Schemas.{column_types};
 ghost use Rattle.mt_values.specs.Values.{type_of};
-ghost use Rattle.primary_marks.specs.Keys.{HasMarks};
+ghost use Rattle.part_damage.specs.primary_marks.Keys.{HasMarks};
 ghost use Rattle.part_reader.specs.Compared.{AreBegun, AreMarksIn, IsColumnCompared, both_agree, first_of, unlike_file, whole};
-ghost use Rattle.part_writer.specs.PartFiles.{HasIndexes};
+ghost use Rattle.part_damage.specs.part_writer.PartFiles.{HasIndexes};
 
 use crate::indexed::{ColumnFile, unlike_index};
-use column_file::{FormatFault, cell_at, end_at};
 use mt_base::Seq;
 use mt_values::{Cell, ColType, ColumnData, FileId, Schema, cmp_cells};
-use part_writer::Loaded;
-use primary_marks::Marks;
+use part_damage::column_file::{FormatFault, cell_at, end_at};
+use part_damage::part_writer::Loaded;
+use part_damage::primary_marks::Marks;
 use std::alloc::Global;
 
 /// Whether the places, the keys and the skip indexes that are kept of a part are those of the columns gone over.

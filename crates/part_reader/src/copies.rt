@@ -5,7 +5,7 @@ use crate::reading::Part;
 use mt_base::{NoMemory, Seq, Twin};
 use mt_outside::Dir;
 use mt_values::Manifest;
-use part_writer::Loaded;
+use part_damage::part_writer::Loaded;
 use std::alloc::Global;
 
 impl<D: Dir> Twin for Part<D> {

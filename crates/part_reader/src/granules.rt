@@ -2,7 +2,7 @@
 ghost use Rattle.std.specs.Prelude.{◌≡◌, ◌+◌, ◌<◌, ◌≤◌, ◌^◌, ℕ, All, IfErr, IfOk, IsErrOf, List, OnOk, length, map, slice_get};
 ghost use Rattle.std.specs.List.{filter_map};
 ghost use Rattle.std.specs.Option.{IfSome};
-ghost use Rattle.column_file.specs.Marks.{granules};
+ghost use Rattle.part_damage.specs.column_file.Marks.{granules};
 ghost use Rattle.mt_outside.specs.Causes.{Rose};
 ghost use Rattle.mt_base.specs.declared.name.FileId.TheVariants as file;
 ghost use Rattle.mt_values.specs.declared.schema.Schema.{Schema};
@@ -20,7 +20,7 @@ use crate::runs::{Run, add_run, row_count};
 use mt_base::NoMemory;
 use mt_outside::Arm;
 use mt_values::{Block, ColumnData, Row};
-use part_writer::Loaded;
+use part_damage::part_writer::Loaded;
 use std::alloc::Global;
 
 /// Adds the values that the rows of the chosen granules have in the part's columns at these places, counted from 0, each to its own

@@ -1,21 +1,21 @@
 // What is kept of the skip indexes of a part, compared with the values of a column, block by block.
 ghost use Rattle.std.specs.Prelude.{◌≡◌, ◌↔◌, ◌++◌, ◌+◌, ◌*◌, ◌<◌, ◌≤◌, IfErr, IfOk, IsTrue, List, Some, length, map, slice_get};
 ghost use Rattle.std.specs.List.{range_with_len};
-ghost use Rattle.column_file.specs.Faults.{Explains};
-ghost use Rattle.column_file.specs.Spellings.{IsSpelling};
+ghost use Rattle.part_damage.specs.column_file.Faults.{Explains};
+ghost use Rattle.part_damage.specs.column_file.Spellings.{IsSpelling};
 ghost use Rattle.mt_values.specs.declared.value.Value.{Value as Kept};
-ghost use Rattle.predicate.specs.declared.extent.Known.TheVariants as known;
-ghost use Rattle.skip_index.specs.Blocks.{blocks_of, kept_of};
-ghost use Rattle.part_writer.specs.PartFiles.{HasIndexes};
+ghost use Rattle.part_damage.specs.predicate.declared.extent.Known.TheVariants as known;
+ghost use Rattle.part_damage.specs.skip_index.Blocks.{blocks_of, kept_of};
+ghost use Rattle.part_damage.specs.part_writer.PartFiles.{HasIndexes};
 ghost use Rattle.part_reader.specs.Compared.{index_kept};
 ghost use Rattle.part_reader.specs.Compared.{EndsAt, HasIndexOf, IsFirstFailing, IsReadFrom};
 
-use column_file::{FormatFault, cell_at};
 use mt_base::{NoMemory, Seq};
 use mt_values::{ColType, ColumnData, IndexKind, Schema, SkipIndex, Value, cmp_value};
-use part_writer::Loaded;
-use predicate::Known;
-use skip_index::{Index, kept_of};
+use part_damage::column_file::{FormatFault, cell_at};
+use part_damage::part_writer::Loaded;
+use part_damage::predicate::Known;
+use part_damage::skip_index::{Index, kept_of};
 use std::alloc::Global;
 
 /// The bytes of a column's file, the column's number, and of what type and how many its values are to be.

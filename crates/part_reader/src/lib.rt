@@ -21,6 +21,7 @@ pub use files::{Span, read_file};
 pub use granules::{add_granules, count_chosen, read_granules};
 pub use laws::{damage_is_one_file, parts_hold_what_was_written, sound_parts_hold_rows};
 pub use opening::open_part;
+pub use part_damage::{column_file, digest_file, part_writer, primary_marks, skip_index};
 pub use picked_rows::add_granules_where;
 pub use reading::{NO_MARK, Part, PartFault, read_columns};
 pub use runs::Run;

@@ -1,14 +1,14 @@
 // The marks that a manifest has of files, and what is said of bytes that were read of them.
 ghost use Rattle.std.specs.Prelude.{◌≡◌, ◌+◌, MatchResult, Some, length, slice_get};
-ghost use Rattle.part_writer.specs.PartFiles.{mark_of};
+ghost use Rattle.part_damage.specs.part_writer.PartFiles.{mark_of};
 ghost use Rattle.part_reader.specs.Faults.{ExplainsBytes, FitsAfter, fault_after, fault_of, wanted_of};
 ghost use Rattle.part_damage.specs.Marks.{mark_for};
 
 use crate::reading::{NO_MARK, PartFault};
-use column_file::FormatFault;
-use digest_file::mark_of;
 use mt_values::{FileId, FileMark, Manifest, Schema};
-use part_writer::Loaded;
+use part_damage::column_file::FormatFault;
+use part_damage::digest_file::mark_of;
+use part_damage::part_writer::Loaded;
 
 /// What an error says of a file whose bytes have the mark of the manifest, which is this one.
 pub fn misspelled(file: FileId, mark: FileMark, error: FormatFault) -> PartFault

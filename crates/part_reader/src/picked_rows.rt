@@ -1,8 +1,8 @@
 // The values that wanted rows of chosen granules have: a mask says which of their rows are wanted, and the values of the others are
 // passed over in the bytes.
 ghost use Rattle.std.specs.Prelude.{◌≡◌, ◌+◌, ◌<◌, ◌≤◌, ◌^◌, ◌∷◌, [], IfErr, IsErrOf, List, OnOk, Some, length, slice_get};
-ghost use Rattle.column_file.specs.Marks.{granules};
-ghost use Rattle.column_file.specs.Spellings.{with_values};
+ghost use Rattle.part_damage.specs.column_file.Marks.{granules};
+ghost use Rattle.part_damage.specs.column_file.Spellings.{with_values};
 ghost use Rattle.mt_base.specs.declared.name.FileId.TheVariants as file;
 ghost use Rattle.mt_outside.specs.Causes.{Rose};
 ghost use Rattle.mt_values.specs.declared.schema.Schema.{Schema};
@@ -19,9 +19,9 @@ use crate::files::read_span;
 use crate::marked::misread;
 use crate::reading::{Part, PartFault};
 use crate::runs::{Run, row_count, span_of, unplaced};
-use column_file::decode_where;
 use mt_outside::Arm;
 use mt_values::{ColumnData, FileId};
+use part_damage::column_file::decode_where;
 use std::alloc::Global;
 
 /// Adds the values that the wanted rows of the chosen granules have in the part's column with this number, counted from 0, to a

@@ -13,10 +13,10 @@ ghost use Rattle.part_reader.specs.Parts.{HoldsAt, with_columns};
 
 use crate::files::read_file;
 use crate::marked::misread;
-use column_file::decode_onto;
 use mt_outside::{Arm, DiskError};
 use mt_values::{ColumnData, FileId, FileMark, Rows};
-use part_writer::Loaded;
+use part_damage::column_file::decode_onto;
+use part_damage::part_writer::Loaded;
 use std::alloc::{AllocError, Global};
 use thiserror::Error;
 

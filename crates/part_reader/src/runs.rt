@@ -7,11 +7,11 @@ ghost use Rattle.part_reader.specs.Granules.{ExplainsRun, IsRunAdded, IsSpanOf, 
 use crate::files::{Span, read_span};
 use crate::marked::{misread, wanted_of};
 use crate::reading::{Part, PartFault};
-use column_file::decode_onto;
 use mt_outside::Arm;
 use mt_values::{ColumnData, FileId};
-use part_writer::Loaded;
-use primary_marks::Places;
+use part_damage::column_file::decode_onto;
+use part_damage::part_writer::Loaded;
+use part_damage::primary_marks::Places;
 use std::alloc::Global;
 
 /// Granules of a part that stand one after another: the first of them, counted from 0, and how many.

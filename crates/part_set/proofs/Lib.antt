@@ -17,3 +17,5 @@ pub mod Shelving
 pub mod Showings
 pub mod Swaps
 pub mod Visibles
+pub use Rattle.part_name.proofs.Merging as PartNameMerging
+pub use Rattle.part_name.proofs.Texts as PartNameTexts

@@ -9,3 +9,4 @@ pub mod Sets
 pub mod Shelf
 pub mod Shows
 pub mod Visible
+pub use Rattle.part_name.specs as part_name

@@ -17,6 +17,7 @@ mod word;
 
 pub use kept::{Kept, Snap};
 pub use laws::{places_are_in_byte_order, root_names_are_told_apart};
+pub use part_name;
 pub use root_name::{RootName, TablePart, read_name, spell_name};
 pub use roots::{SetFault, visible};
 pub use run::Run;

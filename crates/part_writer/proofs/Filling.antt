@@ -23,7 +23,7 @@ use Rattle.mt_outside.specs.declared.disk.Written.{Written}
 use Rattle.mt_outside.specs.Files.{Files}
 use Rattle.stage_dir.specs.Stages.{names_in, settled, written}
 use Rattle.part_writer.specs.PartFiles.{all_synced, column_ids, content_bytes, content_ids, files_of_part, indexes_of, loaded_of, manifest_of, marks_of, skip_ids, with_bytes}
-use Rattle.column_file.specs.Marks.{granule_places, mark_keys, marks_bytes, primary_bytes}
+use Rattle.primary_marks.specs.column_file.Marks.{granule_places, mark_keys, marks_bytes, primary_bytes}
 use Rattle.primary_marks.proofs.MarkedRows.{map-map}
 use Rattle.skip_index.specs.declared.index.Index.{Index}
 use Rattle.skip_index.specs.Blocks.{index_bytes, index_of}

@@ -12,7 +12,7 @@ use Rattle.mt_values.specs.Grid.{column_of}
 use Rattle.mt_values.specs.ColumnBytes.{column_bytes}
 use Rattle.mt_values.specs.Manifests.{manifest_bytes}
 use Rattle.mt_outside.specs.Files.{Files, bytes_of}
-use Rattle.column_file.specs.Marks.{granule_places, mark_keys, marks_bytes, primary_bytes}
+use Rattle.primary_marks.specs.column_file.Marks.{granule_places, mark_keys, marks_bytes, primary_bytes}
 use Rattle.skip_index.specs.declared.index.Index.{Index}
 use Rattle.skip_index.specs.Blocks.{HasIndex, index_bytes, index_of}
 use Rattle.part_writer.specs.declared.loaded.Loaded.{Loaded}

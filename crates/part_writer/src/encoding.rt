@@ -5,16 +5,16 @@ ghost use Rattle.mt_values.specs.ColumnBytes.{column_bytes};
 ghost use Rattle.mt_values.specs.Grid.{column_of, picked};
 ghost use Rattle.mt_values.specs.Schemas.{column_types};
 ghost use Rattle.mt_values.specs.Values.{FitsType, Row};
-ghost use Rattle.column_file.specs.Marks.{granule_places, mark_keys};
+ghost use Rattle.primary_marks.specs.column_file.Marks.{granule_places, mark_keys};
 ghost use Rattle.part_writer.specs.PartFiles.{content_bytes, content_ids, indexes_of};
 ghost use Rattle.primary_marks.specs.Keys.{HasMarks};
 ghost use Rattle.skip_index.specs.Blocks.{IsCounted, index_bytes};
 ghost use Rattle.skip_index.specs.declared.index.Index.{Index as Kept};
 ghost use Rattle.part_writer.specs.PartFiles.{HasIndexes};
 
-use column_file::{ColumnBytes, encode_column};
 use mt_base::{NoMemory, Seq};
 use mt_values::{Block, Bytes, Schema};
+use primary_marks::column_file::{ColumnBytes, encode_column};
 use primary_marks::{Marks, Places, build, spell, spell_places};
 use skip_index::{Index, build as build_index, spell as spell_index};
 use std::alloc::Global;

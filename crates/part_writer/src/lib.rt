@@ -8,6 +8,10 @@ mod loaded;
 mod writing;
 
 pub use content::{content_count, content_file};
+pub use digest_file;
 pub use laws::content_is_one_list;
 pub use loaded::Loaded;
+pub use primary_marks;
+pub use primary_marks::{column_file, predicate};
+pub use skip_index;
 pub use writing::{SealedPart, write_part};

@@ -8,9 +8,9 @@ use Rattle.std.proofs.lemmas.List.{drop-drop, drop_all, length-map, take_all}
 use Rattle.std.proofs.lemmas.List.FromFn.{map-range_with_len_more}
 use Rattle.std.proofs.lemmas.List.Elements.{All-cons, All-head, All-nil, All-push, All-tail}
 use Rattle.std.proofs.lemmas.Option.{slice_get-get_or}
-use Rattle.byte_numbers.specs.declared.faults.FormatFault.{FormatFault}
-use Rattle.byte_numbers.specs.declared.faults.FormatFault.TheVariants.{NoMemory, Malformed}
-use Rattle.byte_numbers.specs.Fronts.{Begins}
+use Rattle.column_file.specs.byte_numbers.declared.faults.FormatFault.{FormatFault}
+use Rattle.column_file.specs.byte_numbers.declared.faults.FormatFault.TheVariants.{NoMemory, Malformed}
+use Rattle.column_file.specs.byte_numbers.Fronts.{Begins}
 use Rattle.mt_values.specs.declared.value.ColType.{ColType}
 use Rattle.mt_values.specs.ColumnBytes.{column_bytes}
 use Rattle.mt_values.specs.Grid.{Cells, row_at, rows_of}

@@ -4,9 +4,9 @@ use Rattle.std.specs.Int.{w64, to_le_bytes}
 use Rattle.std.proofs.lemmas.Bool.Decides.{nat_tests}
 use Rattle.std.proofs.lemmas.List.{drop_all, drop-drop, nil_from_length}
 use Rattle.std.proofs.lemmas.List.Elements.{All-head, All-nil, All-push}
-use Rattle.byte_numbers.specs.declared.faults.FormatFault.{FormatFault}
-use Rattle.byte_numbers.specs.declared.faults.FormatFault.TheVariants.{NoMemory, Malformed}
-use Rattle.byte_numbers.specs.Fronts.{Begins}
+use Rattle.column_file.specs.byte_numbers.declared.faults.FormatFault.{FormatFault}
+use Rattle.column_file.specs.byte_numbers.declared.faults.FormatFault.TheVariants.{NoMemory, Malformed}
+use Rattle.column_file.specs.byte_numbers.Fronts.{Begins}
 use Rattle.column_file.specs.Marks.{numbers_bytes, places_bytes}
 use Rattle.column_file.proofs.OneWay.{eight_apart}
 use Rattle.column_file.proofs.Fronts.{AreApart, Longer, even, longer, spelled_last}

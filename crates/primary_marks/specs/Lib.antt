@@ -5,3 +5,5 @@ pub mod KeyFaults
 pub mod Places
 pub mod Rising
 pub mod Spans
+pub use Rattle.column_file.specs as column_file
+pub use Rattle.predicate.specs as predicate

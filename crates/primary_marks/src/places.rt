@@ -8,7 +8,7 @@ ghost use Rattle.std.specs.Prelude.{◌≡◌, ◌≤◌, ◌++◌, ◌∷◌, �
 ghost use Rattle.column_file.specs.Marks.{numbers_bytes, places_bytes};
 ghost use Rattle.primary_marks.specs.Places.{AreMarksOf, AreStarts, BeginStarts, ExplainsMarks, ExplainsStarts, IsNextStart, NoStartFollows};
 
-use byte_numbers::{FormatFault, first_u64, push_u64};
+use column_file::byte_numbers::{FormatFault, first_u64, push_u64};
 use column_file::end_at;
 use mt_base::{NoMemory, Seq};
 use mt_values::Bytes;

@@ -10,7 +10,7 @@ ghost use Rattle.primary_marks.specs.KeyFaults.{ExplainsPrimary};
 ghost use Rattle.primary_marks.specs.Keys.{HasMarks, IsPrimaryOf, key_shape, primary_types, shape_of};
 
 use crate::marks::Marks;
-use byte_numbers::FormatFault;
+use column_file::byte_numbers::FormatFault;
 use column_file::{cell_at, end_at};
 use mt_base::{NoMemory, Seq};
 use mt_values::{Cell, ColType, ColumnData, Schema, cmp_cells};

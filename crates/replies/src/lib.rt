@@ -11,7 +11,10 @@ mod writing;
 
 pub use forming::{MergeReplies, Replies, merge_replies, replies_after};
 pub use lines::{damaged, data_line, failed_line, no_table_line, stage_line, unsettled_line};
+pub use mt_model;
 pub use printing::{explained, print};
 pub use reply::Reply;
+pub use run_streams;
 pub use tally::Tally;
+pub use tsv_rows;
 pub use writing::write_reply;

@@ -15,22 +15,22 @@ use Rattle.mt_values.specs.Grammar.{same_bytes}
 use Rattle.mt_values.specs.Grid.{Grid}
 use Rattle.mt_values.specs.Values.{Row}
 use Rattle.mt_outside.specs.Files.{Files}
-use Rattle.mt_model.specs.History.{History, IsInsertInto, IsTableSchema, creates, entered, schema_of}
-use Rattle.mt_model.specs.Numbers.{numbered}
-use Rattle.mt_model.proofs.Tables.{itself_same}
-use Rattle.part_writer.specs.declared.loaded.Loaded.{Loaded}
-use Rattle.part_reader.specs.declared.reading.Part.{Part}
-use Rattle.part_reader.specs.Parts.{PartHolds}
-use Rattle.part_set.specs.declared.kept.Kept.{Kept}
-use Rattle.part_set.specs.declared.set.PartSet.{PartSet}
-use Rattle.part_set.specs.Sets as sets
-use Rattle.part_history.specs.declared.part.CorePart.{CorePart}
-use Rattle.part_history.specs.Entered.{part_of_insert}
-use Rattle.part_history.specs.Parts.{AreInBlockOrder, core_parts_of}
-use Rattle.table_core.specs.declared.event.Accept.TheVariants as accept
-use Rattle.table_core.specs.Core.{Core}
-use Rattle.table_core.specs.Steps.{AddsPart}
-use Rattle.table_core.proofs.Stepping.{parts_added_apart}
+use Rattle.root_store.specs.mt_model.History.{History, IsInsertInto, IsTableSchema, creates, entered, schema_of}
+use Rattle.root_store.specs.mt_model.Numbers.{numbered}
+use Rattle.root_store.proofs.MtModelTables.{itself_same}
+use Rattle.root_store.specs.part_writer.declared.loaded.Loaded.{Loaded}
+use Rattle.root_store.specs.part_reader.declared.reading.Part.{Part}
+use Rattle.root_store.specs.part_reader.Parts.{PartHolds}
+use Rattle.root_store.specs.part_set.declared.kept.Kept.{Kept}
+use Rattle.root_store.specs.part_set.declared.set.PartSet.{PartSet}
+use Rattle.root_store.specs.part_set.Sets as sets
+use Rattle.root_store.specs.part_history.declared.part.CorePart.{CorePart}
+use Rattle.root_store.specs.part_history.Entered.{part_of_insert}
+use Rattle.root_store.specs.part_history.Parts.{AreInBlockOrder, core_parts_of}
+use Rattle.root_store.specs.table_core.declared.event.Accept.TheVariants as accept
+use Rattle.root_store.specs.table_core.Core.{Core}
+use Rattle.root_store.specs.table_core.Steps.{AddsPart}
+use Rattle.root_store.proofs.TableCoreStepping.{parts_added_apart}
 use Rattle.root_store.specs.declared.store.CoreStore.{CoreStore}
 use Rattle.root_store.specs.declared.store.Table.{Table}
 use Rattle.root_store.specs.Cores.{ShowsCore, ShowsParts}

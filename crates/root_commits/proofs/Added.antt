@@ -12,12 +12,12 @@ use Rattle.std.specs.declared.cmp.Ordering.TheVariants.{Less, Equal, Greater}
 use Rattle.mt_outside.specs.declared.disk.Change.TheVariants.{Publish}
 use Rattle.mt_outside.specs.Disk.{Names, files_at}
 use Rattle.mt_outside.specs.Files.{Files}
-use Rattle.part_set.specs.declared.root_name.RootName.{RootName}
-use Rattle.part_set.specs.RootNames.{IsRootName, root_text}
-use Rattle.part_set.proofs.Items.{item_first, item_none}
-use Rattle.part_set.proofs.NameTexts.{root_names_same}
-use Rattle.part_set.proofs.Orphans.{item_more}
-use Rattle.stage_dir.proofs.Lookups.{other_kept, published_at}
+use Rattle.root_store.specs.part_set.declared.root_name.RootName.{RootName}
+use Rattle.root_store.specs.part_set.RootNames.{IsRootName, root_text}
+use Rattle.root_store.proofs.PartSetItems.{item_first, item_none}
+use Rattle.root_store.proofs.PartSetNameTexts.{root_names_same}
+use Rattle.root_store.proofs.PartSetOrphans.{item_more}
+use Rattle.durable_commit.proofs.StageDirLookups.{other_kept, published_at}
 use Rattle.root_store.specs.Roots.{AreNamesRead, HasFolder}
 use Rattle.root_store.proofs.Items.{item_either}
 

@@ -16,21 +16,21 @@ use Rattle.mt_values.specs.RootNames.{create_name, part_name}
 use Rattle.mt_values.specs.Values.{Row}
 use Rattle.mt_outside.specs.Disk.{MayBecome}
 use Rattle.mt_outside.specs.Files.{Files, bytes_of}
-use Rattle.mt_model.specs.History.{History, IsInsertInto, IsTableSchema, creates, entered, schema_of}
-use Rattle.part_name.specs.PartNames.{IsPartition, part_text}
-use Rattle.part_reader.specs.declared.reading.Part.{Part}
-use Rattle.part_set.specs.declared.root_name.RootName.{RootName}
-use Rattle.part_set.specs.declared.root_name.RootName.TheVariants as root
-use Rattle.part_set.specs.RootNames.{IsRootName, is_table}
-use Rattle.part_set.specs.Visible.{HasPart}
-use Rattle.part_writer.specs.PartFiles.{files_of_part, manifest_of}
-use Rattle.digest_file.specs.Spellings.{IsManifestOf}
-use Rattle.stage_dir.specs.Stages.{AreSealed}
-use Rattle.stage_dir.proofs.Images.{is_synced-sealed}
-use Rattle.part_history.specs.Entered.{next_number}
+use Rattle.root_store.specs.mt_model.History.{History, IsInsertInto, IsTableSchema, creates, entered, schema_of}
+use Rattle.root_store.specs.part_name.PartNames.{IsPartition, part_text}
+use Rattle.root_store.specs.part_reader.declared.reading.Part.{Part}
+use Rattle.root_store.specs.part_set.declared.root_name.RootName.{RootName}
+use Rattle.root_store.specs.part_set.declared.root_name.RootName.TheVariants as root
+use Rattle.root_store.specs.part_set.RootNames.{IsRootName, is_table}
+use Rattle.root_store.specs.part_set.Visible.{HasPart}
+use Rattle.root_store.specs.part_writer.PartFiles.{files_of_part, manifest_of}
+use Rattle.root_store.specs.digest_file.Spellings.{IsManifestOf}
+use Rattle.durable_commit.specs.stage_dir.Stages.{AreSealed}
+use Rattle.durable_commit.proofs.StageDirImages.{is_synced-sealed}
+use Rattle.root_store.specs.part_history.Entered.{next_number}
 use Rattle.root_store.specs.declared.store.CoreStore.{CoreStore}
 use Rattle.root_store.specs.declared.store.Table.{Table}
-use Rattle.part_history.proofs.Numbered.{legal_schema}
+use Rattle.root_store.proofs.PartHistoryNumbered.{legal_schema}
 use Rattle.root_commits.specs.Commits.{EntersPart, EntersTable, fresh_part, insert_into, insert_of_block, part_rows, partition_of_block}
 use Rattle.root_store.specs.Entries.{EntryHolds}
 use Rattle.root_store.specs.Roots.{FolderHolds, Stands}

@@ -8,7 +8,7 @@ use Rattle.mt_outside.specs.Disk.{Image, IsStamped, MayBecome, MayPut, Names, Si
 use Rattle.mt_outside.specs.Files.{Files}
 use Rattle.mt_outside.proofs.Changes.{at_clock-none, before_clock-all, names_after_last, since-sync, since-with_change}
 use Rattle.mt_outside.proofs.Crashes.{image_as_read, image_published, stamped_by, stamped_change, stamped_sync, survive_inserted}
-use Rattle.mt_model.specs.History.{History}
+use Rattle.root_store.specs.mt_model.History.{History}
 use Rattle.root_store.specs.declared.store.CoreStore.{CoreStore}
 use Rattle.root_store.specs.ByteOrder.{AreInByteOrder}
 use Rattle.root_store.specs.Crashes.{AllStand}

@@ -6,13 +6,13 @@ use Rattle.mt_base.specs.declared.partition.Partition.{Partition}
 use Rattle.mt_values.specs.RootNames.{create_name, part_name}
 use Rattle.mt_outside.specs.Disk.{Names, files_at}
 use Rattle.mt_outside.specs.Files.{Files}
-use Rattle.mt_model.specs.History.{History, schema_of}
-use Rattle.mt_model.specs.Numbers.{numbered}
-use Rattle.part_name.specs.PartNames.{IsPartition, part_text}
-use Rattle.part_set.specs.declared.root_name.RootName.{RootName}
-use Rattle.part_set.specs.declared.root_name.RootName.TheVariants as root
-use Rattle.part_set.specs.RootNames.{IsRootName, root_text}
-use Rattle.part_history.specs.Entered.{next_number}
+use Rattle.root_store.specs.mt_model.History.{History, schema_of}
+use Rattle.root_store.specs.mt_model.Numbers.{numbered}
+use Rattle.root_store.specs.part_name.PartNames.{IsPartition, part_text}
+use Rattle.root_store.specs.part_set.declared.root_name.RootName.{RootName}
+use Rattle.root_store.specs.part_set.declared.root_name.RootName.TheVariants as root
+use Rattle.root_store.specs.part_set.RootNames.{IsRootName, root_text}
+use Rattle.root_store.specs.part_history.Entered.{next_number}
 use Rattle.root_commits.specs.Commits.{fresh_part}
 use Rattle.root_store.specs.Roots.{Stands}
 use Rattle.root_commits.proofs.FreeNames.{entries_differ, entry_is_no_part, fresh_named, parts_differ}

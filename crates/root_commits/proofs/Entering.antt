@@ -12,19 +12,19 @@ use Rattle.mt_values.specs.declared.schema.Schema.{Schema}
 use Rattle.mt_values.specs.Grammar.{same_bytes}
 use Rattle.mt_values.specs.Values.{Row}
 use Rattle.mt_outside.specs.Files.{Files}
-use Rattle.mt_model.specs.History.{History, IsAllowed, IsLegal, IsLegalAfter, IsTableSchema, creates, entered, first_of, is_create, schema_of}
-use Rattle.mt_model.specs.Numbers.{IsNumberOfInsert, draws, last_number, numbered}
-use Rattle.mt_model.proofs.Histories.{legal_push, numbered_more, schema_kept, schema_more}
-use Rattle.mt_model.proofs.Lists.{get_past}
-use Rattle.mt_model.proofs.Tables.{itself_same, same_is}
-use Rattle.part_reader.specs.declared.reading.Part.{Part}
-use Rattle.part_reader.specs.Parts.{PartHolds}
-use Rattle.part_set.specs.declared.kept.Kept.{Kept}
-use Rattle.part_set.specs.declared.set.PartSet.{PartSet}
-use Rattle.part_set.specs.Sets.{parts_of}
-use Rattle.part_history.specs.declared.part.CorePart.{CorePart}
-use Rattle.part_history.specs.Parts.{AreInBlockOrder, PartStands, TableStands}
-use Rattle.part_history.proofs.Growing.{table_kept}
+use Rattle.root_store.specs.mt_model.History.{History, IsAllowed, IsLegal, IsLegalAfter, IsTableSchema, creates, entered, first_of, is_create, schema_of}
+use Rattle.root_store.specs.mt_model.Numbers.{IsNumberOfInsert, draws, last_number, numbered}
+use Rattle.root_store.proofs.MtModelHistories.{legal_push, numbered_more, schema_kept, schema_more}
+use Rattle.root_store.proofs.MtModelLists.{get_past}
+use Rattle.root_store.proofs.MtModelTables.{itself_same, same_is}
+use Rattle.root_store.specs.part_reader.declared.reading.Part.{Part}
+use Rattle.root_store.specs.part_reader.Parts.{PartHolds}
+use Rattle.root_store.specs.part_set.declared.kept.Kept.{Kept}
+use Rattle.root_store.specs.part_set.declared.set.PartSet.{PartSet}
+use Rattle.root_store.specs.part_set.Sets.{parts_of}
+use Rattle.root_store.specs.part_history.declared.part.CorePart.{CorePart}
+use Rattle.root_store.specs.part_history.Parts.{AreInBlockOrder, PartStands, TableStands}
+use Rattle.root_store.proofs.PartHistoryGrowing.{table_kept}
 use Rattle.root_store.specs.declared.store.CoreStore.{CoreStore}
 use Rattle.root_store.specs.declared.store.Table.{Table}
 use Rattle.root_store.specs.Stores.{fresh_table}

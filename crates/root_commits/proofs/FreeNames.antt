@@ -20,13 +20,13 @@ use Rattle.mt_outside.specs.Disk.{Told, Names, names_of, files_at, put, with_cha
 use Rattle.mt_outside.specs.declared.disk.Change.TheVariants.{Publish}
 use Rattle.mt_outside.proofs.Changes.{names_after_last}
 use Rattle.mt_outside.specs.Files.{Files}
-use Rattle.part_name.specs.declared.part.PartName.{PartName}
-use Rattle.part_name.specs.PartNames.{IsMutation, IsPartition, IsPartName, joined, last_text, part_text, partition_text}
-use Rattle.part_name.proofs.Texts.{names_same}
-use Rattle.part_reader.specs.declared.reading.Part.{Part}
-use Rattle.part_set.specs.RootNames.{HasNoDot}
-use Rattle.part_set.proofs.Dots.{no_dot_in}
-use Rattle.part_set.proofs.Maps.{found_is}
+use Rattle.root_store.specs.part_name.declared.part.PartName.{PartName}
+use Rattle.root_store.specs.part_name.PartNames.{IsMutation, IsPartition, IsPartName, joined, last_text, part_text, partition_text}
+use Rattle.root_store.proofs.PartNameTexts.{names_same}
+use Rattle.root_store.specs.part_reader.declared.reading.Part.{Part}
+use Rattle.root_store.specs.part_set.RootNames.{HasNoDot}
+use Rattle.root_store.proofs.PartSetDots.{no_dot_in}
+use Rattle.root_store.proofs.PartSetMaps.{found_is}
 use Rattle.root_store.specs.declared.store.CoreStore.{CoreStore}
 use Rattle.root_store.specs.declared.store.Table.{Table}
 use Rattle.root_store.specs.Stores.{fresh_table}

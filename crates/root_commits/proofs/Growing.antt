@@ -16,24 +16,24 @@ use Rattle.mt_values.specs.RootNames.{create_name}
 use Rattle.mt_values.specs.Tables.{sorting_cmp}
 use Rattle.mt_outside.specs.Disk.{Names, files_at}
 use Rattle.mt_outside.specs.Files.{Files}
-use Rattle.mt_model.specs.History.{History, IsInsertInto, IsTableSchema, creates, entered, schema_of}
-use Rattle.mt_model.specs.Live.{sorted}
-use Rattle.mt_model.specs.Numbers.{numbered}
-use Rattle.mt_model.proofs.Commands.{own_partition}
-use Rattle.mt_model.proofs.Histories.{legal_push, schema_kept}
-use Rattle.mt_model.proofs.Tables.{same_is}
-use Rattle.part_set.specs.declared.root_name.RootName.{RootName}
-use Rattle.part_set.specs.declared.root_name.RootName.TheVariants as root
-use Rattle.part_set.specs.declared.root_name.TablePart.{TablePart}
-use Rattle.part_set.specs.RootNames.{IsRootName, is_table, root_text}
-use Rattle.part_set.specs.Visible.{Covers, HasPart, IsVisible}
-use Rattle.part_history.specs.declared.part.CorePart.{CorePart}
-use Rattle.part_history.specs.Parts.{TableStands, core_parts_of}
-use Rattle.part_history.specs.Entered.{next_number, part_of_insert}
-use Rattle.part_history.proofs.Apart.{ends_below}
-use Rattle.part_history.proofs.Growing.{drawn_apart, table_grown, table_kept}
+use Rattle.root_store.specs.mt_model.History.{History, IsInsertInto, IsTableSchema, creates, entered, schema_of}
+use Rattle.root_store.specs.mt_model.Live.{sorted}
+use Rattle.root_store.specs.mt_model.Numbers.{numbered}
+use Rattle.root_store.proofs.MtModelCommands.{own_partition}
+use Rattle.root_store.proofs.MtModelHistories.{legal_push, schema_kept}
+use Rattle.root_store.proofs.MtModelTables.{same_is}
+use Rattle.root_store.specs.part_set.declared.root_name.RootName.{RootName}
+use Rattle.root_store.specs.part_set.declared.root_name.RootName.TheVariants as root
+use Rattle.root_store.specs.part_set.declared.root_name.TablePart.{TablePart}
+use Rattle.root_store.specs.part_set.RootNames.{IsRootName, is_table, root_text}
+use Rattle.root_store.specs.part_set.Visible.{Covers, HasPart, IsVisible}
+use Rattle.root_store.specs.part_history.declared.part.CorePart.{CorePart}
+use Rattle.root_store.specs.part_history.Parts.{TableStands, core_parts_of}
+use Rattle.root_store.specs.part_history.Entered.{next_number, part_of_insert}
+use Rattle.root_store.proofs.PartHistoryApart.{ends_below}
+use Rattle.root_store.proofs.PartHistoryGrowing.{drawn_apart, table_grown, table_kept}
 use Rattle.root_store.specs.ByteOrder.{AreInByteOrder}
-use Rattle.part_history.proofs.Numbered.{legal_schema}
+use Rattle.root_store.proofs.PartHistoryNumbered.{legal_schema}
 use Rattle.root_commits.specs.Commits.{fresh_part}
 use Rattle.root_store.specs.Entries.{EntryHolds, HoldsEntry, entry_name}
 use Rattle.root_store.specs.Roots.{FolderHolds, HasFolder, IsOfEntry, PartIsThere, Stands, named}

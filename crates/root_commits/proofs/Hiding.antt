@@ -2,12 +2,12 @@
 use Rattle.std.proofs.Common.{◌≡◌, ◌≢◌, ℕ, ◌<◌, ◌≤◌, List, sym, ap, ◌∙◌, subst, arith, inl, inr, ◌⊎◌}
 use Rattle.std.proofs.lemmas.List.Elements.{All-contains}
 use Rattle.std.specs.List.{All}
-use Rattle.part_name.specs.PartNames.{IsPartName, Meet}
-use Rattle.part_set.specs.declared.root_name.RootName.{RootName}
-use Rattle.part_set.specs.declared.root_name.RootName.TheVariants as root
-use Rattle.part_set.specs.declared.root_name.TablePart.{TablePart}
-use Rattle.part_set.specs.RootNames.{IsRootName}
-use Rattle.part_set.specs.Visible.{Covers, HasPart, IsVisible}
+use Rattle.root_store.specs.part_name.PartNames.{IsPartName, Meet}
+use Rattle.root_store.specs.part_set.declared.root_name.RootName.{RootName}
+use Rattle.root_store.specs.part_set.declared.root_name.RootName.TheVariants as root
+use Rattle.root_store.specs.part_set.declared.root_name.TablePart.{TablePart}
+use Rattle.root_store.specs.part_set.RootNames.{IsRootName}
+use Rattle.root_store.specs.part_set.Visible.{Covers, HasPart, IsVisible}
 use Rattle.root_commits.proofs.Added.{read_or_new, read_with, still_read}
 
 same_part : (p q : TablePart) → root.Part p ≡ root.Part q → p ≡ q

@@ -12,20 +12,20 @@ use Rattle.mt_values.specs.Grammar.{same_bytes}
 use Rattle.mt_values.specs.Grid.{Grid}
 use Rattle.mt_values.specs.Values.{Row}
 use Rattle.mt_outside.specs.Files.{Files}
-use Rattle.mt_model.specs.History.{History, IsInsertInto, entered, is_create, schema_of}
-use Rattle.mt_model.specs.Numbers.{last_number, numbered}
-use Rattle.mt_model.proofs.Histories.{legal_push, numbered_more, schema_more}
-use Rattle.mt_model.proofs.Tables.{itself_same}
-use Rattle.part_writer.specs.declared.loaded.Loaded.{Loaded}
-use Rattle.part_reader.proofs.Holding.{written_holds}
-use Rattle.part_reader.specs.declared.reading.Part.{Part}
-use Rattle.part_reader.specs.Parts.{PartHolds}
-use Rattle.part_set.specs.declared.kept.Kept.{Kept}
-use Rattle.part_set.specs.Sets.{parts_of}
-use Rattle.part_history.specs.declared.part.CorePart.{CorePart}
-use Rattle.part_history.specs.Parts.{AreInBlockOrder, TableStands}
-use Rattle.part_history.specs.Entered.{part_of_insert}
-use Rattle.part_history.proofs.Growing.{drawn_apart, drawn_here, table_grown, table_kept}
+use Rattle.root_store.specs.mt_model.History.{History, IsInsertInto, entered, is_create, schema_of}
+use Rattle.root_store.specs.mt_model.Numbers.{last_number, numbered}
+use Rattle.root_store.proofs.MtModelHistories.{legal_push, numbered_more, schema_more}
+use Rattle.root_store.proofs.MtModelTables.{itself_same}
+use Rattle.root_store.specs.part_writer.declared.loaded.Loaded.{Loaded}
+use Rattle.root_store.proofs.PartReaderHolding.{written_holds}
+use Rattle.root_store.specs.part_reader.declared.reading.Part.{Part}
+use Rattle.root_store.specs.part_reader.Parts.{PartHolds}
+use Rattle.root_store.specs.part_set.declared.kept.Kept.{Kept}
+use Rattle.root_store.specs.part_set.Sets.{parts_of}
+use Rattle.root_store.specs.part_history.declared.part.CorePart.{CorePart}
+use Rattle.root_store.specs.part_history.Parts.{AreInBlockOrder, TableStands}
+use Rattle.root_store.specs.part_history.Entered.{part_of_insert}
+use Rattle.root_store.proofs.PartHistoryGrowing.{drawn_apart, drawn_here, table_grown, table_kept}
 use Rattle.root_store.specs.declared.store.CoreStore.{CoreStore}
 use Rattle.root_store.specs.declared.store.Table.{Table}
 use Rattle.root_commits.specs.Commits.{EntersSealed, IsSealedOf, fresh_part, insert_into, insert_of_block, part_rows, partition_of_block}

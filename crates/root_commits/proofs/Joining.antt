@@ -4,9 +4,9 @@ use Rattle.std.proofs.lemmas.List.{map_push, take_more}
 use Rattle.std.proofs.lemmas.List.Sums.{fold_push}
 use Rattle.std.specs.List.{fold}
 use Rattle.mt_base.specs.Limits.{level_limit}
-use Rattle.part_name.specs.declared.part.PartName.{PartName}
-use Rattle.part_name.specs.Merged.{joined_name, raised}
-use Rattle.part_set.specs.declared.kept.Kept.{Kept}
+use Rattle.root_store.specs.part_name.declared.part.PartName.{PartName}
+use Rattle.root_store.specs.part_name.Merged.{joined_name, raised}
+use Rattle.root_store.specs.part_set.declared.kept.Kept.{Kept}
 use Rattle.root_commits.specs.Merges.{name_of_merge, within_levels}
 use Rattle.root_commits.proofs.MergeCauses.{raised_within}
 

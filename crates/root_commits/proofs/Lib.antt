@@ -33,3 +33,18 @@ pub mod StartedAgain
 pub mod TurnCrashes
 pub mod Turning
 pub mod Updated
+pub use Rattle.root_store.proofs.MtModelTables
+pub use Rattle.root_store.proofs.PartReaderCutRows
+pub use Rattle.root_store.proofs.PartReaderHolding
+pub use Rattle.root_store.proofs.PartSetItems
+pub use Rattle.root_store.proofs.PartSetMaps
+pub use Rattle.root_store.proofs.PartSetOrders
+pub use Rattle.root_store.proofs.PartSetOrphans
+pub use Rattle.root_store.proofs.PartSetShelving
+pub use Rattle.root_store.proofs.PartSetSwaps
+pub use Rattle.root_store.proofs.PartWriterContents
+pub use Rattle.root_store.proofs.Cores as RootStoreCores
+pub use Rattle.root_store.proofs.EntryReads as RootStoreEntryReads
+pub use Rattle.root_store.proofs.Items as RootStoreItems
+pub use Rattle.root_store.proofs.TableIndexes as RootStoreTableIndexes
+pub use Rattle.root_store.proofs.TableMarks as RootStoreTableMarks

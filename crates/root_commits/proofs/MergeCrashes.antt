@@ -5,15 +5,15 @@ use Rattle.std.specs.Option.{ForSome, option_map}
 use Rattle.mt_values.specs.Annals as keeper
 use Rattle.mt_values.specs.RootNames.{part_name}
 use Rattle.mt_outside.specs.Files.{Files}
-use Rattle.mt_model.specs.History.{History, schema_of}
-use Rattle.part_name.specs.declared.part.PartName.{PartName}
-use Rattle.part_name.specs.PartNames.{part_text}
-use Rattle.part_set.specs.declared.root_name.RootName.{RootName}
-use Rattle.part_set.specs.Parts.{IsInBlockOrder, kept_in}
-use Rattle.part_set.specs.Runs.{EndsInOrder, IsRun}
-use Rattle.part_set.specs.Sets.{parts_of}
-use Rattle.part_set.specs.Visible.{HasPart}
-use Rattle.stage_dir.specs.Stages.{AreSealed}
+use Rattle.root_store.specs.mt_model.History.{History, schema_of}
+use Rattle.root_store.specs.part_name.declared.part.PartName.{PartName}
+use Rattle.root_store.specs.part_name.PartNames.{part_text}
+use Rattle.root_store.specs.part_set.declared.root_name.RootName.{RootName}
+use Rattle.root_store.specs.part_set.Parts.{IsInBlockOrder, kept_in}
+use Rattle.root_store.specs.part_set.Runs.{EndsInOrder, IsRun}
+use Rattle.root_store.specs.part_set.Sets.{parts_of}
+use Rattle.root_store.specs.part_set.Visible.{HasPart}
+use Rattle.durable_commit.specs.stage_dir.Stages.{AreSealed}
 use Rattle.durable_commit.specs.declared.causes.Refused.{Refused}
 use Rattle.root_store.specs.declared.store.CoreStore.{CoreStore}
 use Rattle.root_store.specs.declared.store.Table.{Table}

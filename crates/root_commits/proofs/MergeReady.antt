@@ -14,16 +14,16 @@ use Rattle.mt_values.specs.RootNames.{part_name}
 use Rattle.mt_values.specs.Tables.{MayHavePartition}
 use Rattle.mt_outside.specs.Disk.{Told, names_of, put}
 use Rattle.mt_outside.specs.Files.{Files}
-use Rattle.mt_model.proofs.Tables.{itself_same, same_is}
-use Rattle.part_name.specs.declared.part.PartName.{PartName}
-use Rattle.part_name.specs.PartNames.{part_text}
-use Rattle.part_reader.specs.declared.reading.Part.{Part}
-use Rattle.part_reader.proofs.Holding.{written_holds}
-use Rattle.part_set.specs.declared.kept.Kept.{Kept}
-use Rattle.part_set.specs.Parts.{IsInBlockOrder, kept_in}
-use Rattle.part_set.specs.Runs.{EndsInOrder}
-use Rattle.part_set.specs.Sets.{parts_of}
-use Rattle.part_set.proofs.Maps.{true_or_false}
+use Rattle.root_store.proofs.MtModelTables.{itself_same, same_is}
+use Rattle.root_store.specs.part_name.declared.part.PartName.{PartName}
+use Rattle.root_store.specs.part_name.PartNames.{part_text}
+use Rattle.root_store.specs.part_reader.declared.reading.Part.{Part}
+use Rattle.root_store.proofs.PartReaderHolding.{written_holds}
+use Rattle.root_store.specs.part_set.declared.kept.Kept.{Kept}
+use Rattle.root_store.specs.part_set.Parts.{IsInBlockOrder, kept_in}
+use Rattle.root_store.specs.part_set.Runs.{EndsInOrder}
+use Rattle.root_store.specs.part_set.Sets.{parts_of}
+use Rattle.root_store.proofs.PartSetMaps.{true_or_false}
 use Rattle.durable_commit.specs.declared.causes.Refused.{Refused}
 use Rattle.root_store.specs.declared.store.CoreStore.{CoreStore}
 use Rattle.root_store.specs.declared.store.Table.{Table}

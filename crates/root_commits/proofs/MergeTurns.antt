@@ -6,15 +6,15 @@ use Rattle.mt_values.specs.RootNames.{part_name}
 use Rattle.mt_outside.specs.declared.disk.Change.TheVariants.{Publish}
 use Rattle.mt_outside.specs.Disk.{MayBecome, Names, Told, files_at, names_of, put, with_change}
 use Rattle.mt_outside.specs.Files.{Files}
-use Rattle.mt_model.specs.History.{History}
-use Rattle.part_name.specs.declared.part.PartName.{PartName}
-use Rattle.part_name.specs.PartNames.{part_text}
-use Rattle.part_reader.specs.declared.reading.Part.{Part}
-use Rattle.part_set.specs.declared.kept.Kept.{Kept}
-use Rattle.part_set.specs.Parts.{IsInBlockOrder, kept_in}
-use Rattle.part_set.specs.Runs.{EndsInOrder, IsRun, parts_of_run}
-use Rattle.part_set.specs.Sets.{parts_of}
-use Rattle.stage_dir.specs.Stages.{AreSealed}
+use Rattle.root_store.specs.mt_model.History.{History}
+use Rattle.root_store.specs.part_name.declared.part.PartName.{PartName}
+use Rattle.root_store.specs.part_name.PartNames.{part_text}
+use Rattle.root_store.specs.part_reader.declared.reading.Part.{Part}
+use Rattle.root_store.specs.part_set.declared.kept.Kept.{Kept}
+use Rattle.root_store.specs.part_set.Parts.{IsInBlockOrder, kept_in}
+use Rattle.root_store.specs.part_set.Runs.{EndsInOrder, IsRun, parts_of_run}
+use Rattle.root_store.specs.part_set.Sets.{parts_of}
+use Rattle.durable_commit.specs.stage_dir.Stages.{AreSealed}
 use Rattle.durable_commit.specs.declared.causes.Refused.{Refused}
 use Rattle.durable_commit.specs.Commits.{stopped_by}
 use Rattle.root_store.specs.declared.store.CoreStore.{CoreStore}
@@ -32,7 +32,7 @@ use Rattle.root_commits.proofs.MergeReady.{table_of_run}
 use Rattle.root_commits.proofs.MergedNames.{first_of, of_run}
 use Rattle.root_commits.proofs.MergedShown.{merged_free, merged_word}
 use Rattle.root_commits.proofs.Updated.{one_some}
-use Rattle.part_set.proofs.Shelving.{mine_within}
+use Rattle.root_store.proofs.PartSetShelving.{mine_within}
 
 -- Nothing is shown against the merge, and this is its part's name.
 pub record MayMerge {F : Type 0} (store : CoreStore F) (m : Merging) (failed : ℕ) (told : Option Told) (name : PartName) : Type 0 where

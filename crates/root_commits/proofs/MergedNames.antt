@@ -6,21 +6,21 @@ use Rattle.std.proofs.Math.Nat.{le-max_left, le-max_right}
 use Rattle.std.specs.List.{All, AllByRecursion, Contains as HasItem, fold, slice_get}
 use Rattle.mt_base.specs.declared.partition.Partition.{Partition}
 use Rattle.mt_values.specs.Tables.{same_partition}
-use Rattle.mt_model.proofs.Commands.{partition_is}
-use Rattle.part_name.specs.declared.part.PartName.{PartName}
-use Rattle.part_name.specs.Merged.{RiseFrom, joined_name, last_name, later_mutation, merged_name}
-use Rattle.part_name.specs.PartNames.{Before, Contains, IsPartName, Meet}
-use Rattle.part_name.proofs.Merging.{merged_contains, merged_greatest, merged_least, merged_named, merged_partition}
-use Rattle.part_set.specs.declared.kept.Kept.{Kept}
-use Rattle.part_set.specs.declared.run.Run.{Run}
-use Rattle.part_set.specs.Parts.{IsInBlockOrder, StandsClear, kept_in, partition_rank}
-use Rattle.part_set.specs.Passes.{last_of}
-use Rattle.part_set.specs.Runs.{EndsInOrder, Spans, parts_of_run}
-use Rattle.part_set.proofs.Items.{item_first}
-use Rattle.part_set.proofs.Orphans.{item_more}
-use Rattle.part_set.proofs.Orders.{block_low}
-use Rattle.part_set.proofs.Shelving.{mine_has, mine_within}
-use Rattle.part_set.proofs.Swaps.{pairs_across, pairs_back, pairs_front, run_parts, swapped_ordered}
+use Rattle.root_store.proofs.MtModelCommands.{partition_is}
+use Rattle.root_store.specs.part_name.declared.part.PartName.{PartName}
+use Rattle.root_store.specs.part_name.Merged.{RiseFrom, joined_name, last_name, later_mutation, merged_name}
+use Rattle.root_store.specs.part_name.PartNames.{Before, Contains, IsPartName, Meet}
+use Rattle.root_store.proofs.PartNameMerging.{merged_contains, merged_greatest, merged_least, merged_named, merged_partition}
+use Rattle.root_store.specs.part_set.declared.kept.Kept.{Kept}
+use Rattle.root_store.specs.part_set.declared.run.Run.{Run}
+use Rattle.root_store.specs.part_set.Parts.{IsInBlockOrder, StandsClear, kept_in, partition_rank}
+use Rattle.root_store.specs.part_set.Passes.{last_of}
+use Rattle.root_store.specs.part_set.Runs.{EndsInOrder, Spans, parts_of_run}
+use Rattle.root_store.proofs.PartSetItems.{item_first}
+use Rattle.root_store.proofs.PartSetOrphans.{item_more}
+use Rattle.root_store.proofs.PartSetOrders.{block_low}
+use Rattle.root_store.proofs.PartSetShelving.{mine_has, mine_within}
+use Rattle.root_store.proofs.PartSetSwaps.{pairs_across, pairs_back, pairs_front, run_parts, swapped_ordered}
 use Rattle.root_store.proofs.Items.{map_item, mapped, unfiltered}
 use Rattle.root_commits.specs.Merges.{name_of_merge}
 

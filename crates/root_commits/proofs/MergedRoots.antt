@@ -13,23 +13,23 @@ use Rattle.mt_values.specs.Tables.{same_partition}
 use Rattle.mt_values.specs.Values.{Row}
 use Rattle.mt_outside.specs.Disk.{Names, files_at}
 use Rattle.mt_outside.specs.Files.{Files}
-use Rattle.mt_model.specs.History.{History, schema_of}
-use Rattle.mt_model.specs.Numbers.{IsNumberOfInsert}
-use Rattle.mt_model.proofs.Commands.{partition_is, same_itself}
-use Rattle.mt_model.proofs.Tables.{itself_same, same_is}
-use Rattle.part_name.specs.declared.part.PartName.{PartName}
-use Rattle.part_name.specs.PartNames.{Meet}
-use Rattle.part_set.specs.declared.root_name.RootName.{RootName}
-use Rattle.part_set.specs.declared.root_name.RootName.TheVariants as root
-use Rattle.part_set.specs.declared.root_name.TablePart.{TablePart}
-use Rattle.part_set.specs.RootNames.{IsRootName, root_text}
-use Rattle.part_set.specs.Visible.{Covers, HasPart, IsVisible}
-use Rattle.part_set.proofs.Items.{item_first}
-use Rattle.part_set.proofs.Maps.{true_or_false}
-use Rattle.part_set.proofs.Orphans.{item_more}
-use Rattle.part_history.specs.declared.part.CorePart.{CorePart}
-use Rattle.part_history.specs.Parts.{PartStands, TableStands, core_parts_of, has_block}
-use Rattle.part_history.proofs.Growing.{count_push}
+use Rattle.root_store.specs.mt_model.History.{History, schema_of}
+use Rattle.root_store.specs.mt_model.Numbers.{IsNumberOfInsert}
+use Rattle.root_store.proofs.MtModelCommands.{partition_is, same_itself}
+use Rattle.root_store.proofs.MtModelTables.{itself_same, same_is}
+use Rattle.root_store.specs.part_name.declared.part.PartName.{PartName}
+use Rattle.root_store.specs.part_name.PartNames.{Meet}
+use Rattle.root_store.specs.part_set.declared.root_name.RootName.{RootName}
+use Rattle.root_store.specs.part_set.declared.root_name.RootName.TheVariants as root
+use Rattle.root_store.specs.part_set.declared.root_name.TablePart.{TablePart}
+use Rattle.root_store.specs.part_set.RootNames.{IsRootName, root_text}
+use Rattle.root_store.specs.part_set.Visible.{Covers, HasPart, IsVisible}
+use Rattle.root_store.proofs.PartSetItems.{item_first}
+use Rattle.root_store.proofs.PartSetMaps.{true_or_false}
+use Rattle.root_store.proofs.PartSetOrphans.{item_more}
+use Rattle.root_store.specs.part_history.declared.part.CorePart.{CorePart}
+use Rattle.root_store.specs.part_history.Parts.{PartStands, TableStands, core_parts_of, has_block}
+use Rattle.root_store.proofs.PartHistoryGrowing.{count_push}
 use Rattle.root_store.specs.Entries.{HoldsEntry}
 use Rattle.root_store.specs.Roots.{FolderHolds, IsOfEntry, PartIsThere, Stands, named}
 use Rattle.root_store.proofs.Blocks.{blocks}

@@ -7,23 +7,23 @@ use Rattle.mt_values.specs.Grammar.{same_bytes}
 use Rattle.mt_values.specs.RootNames.{part_name}
 use Rattle.mt_outside.specs.Disk.{Names, files_at}
 use Rattle.mt_outside.specs.Files.{Files}
-use Rattle.mt_model.proofs.Tables.{itself_same, same_is}
-use Rattle.part_name.specs.declared.part.PartName.{PartName}
-use Rattle.part_name.specs.PartNames.{Contains, Meet, part_text}
-use Rattle.part_reader.specs.declared.reading.Part.{Part}
-use Rattle.part_set.specs.declared.kept.Kept.{Kept}
-use Rattle.part_set.specs.declared.root_name.RootName.TheVariants as root
-use Rattle.part_set.specs.declared.root_name.TablePart.{TablePart}
-use Rattle.part_set.specs.Parts.{HasName, IsInBlockOrder, StandsClear, kept_in}
-use Rattle.part_set.specs.RootNames.{IsRootName}
-use Rattle.part_set.specs.Runs.{EndsInOrder}
-use Rattle.part_set.specs.Sets.{parts_of}
-use Rattle.part_set.specs.Visible.{HasPart, IsVisible}
-use Rattle.part_set.proofs.Items.{item_first}
-use Rattle.part_set.proofs.Maps.{true_or_false}
-use Rattle.part_set.proofs.NameTexts.{root_names_same}
-use Rattle.part_set.proofs.Orphans.{item_more}
-use Rattle.part_set.proofs.Swaps.{pairs_across, pairs_back}
+use Rattle.root_store.proofs.MtModelTables.{itself_same, same_is}
+use Rattle.root_store.specs.part_name.declared.part.PartName.{PartName}
+use Rattle.root_store.specs.part_name.PartNames.{Contains, Meet, part_text}
+use Rattle.root_store.specs.part_reader.declared.reading.Part.{Part}
+use Rattle.root_store.specs.part_set.declared.kept.Kept.{Kept}
+use Rattle.root_store.specs.part_set.declared.root_name.RootName.TheVariants as root
+use Rattle.root_store.specs.part_set.declared.root_name.TablePart.{TablePart}
+use Rattle.root_store.specs.part_set.Parts.{HasName, IsInBlockOrder, StandsClear, kept_in}
+use Rattle.root_store.specs.part_set.RootNames.{IsRootName}
+use Rattle.root_store.specs.part_set.Runs.{EndsInOrder}
+use Rattle.root_store.specs.part_set.Sets.{parts_of}
+use Rattle.root_store.specs.part_set.Visible.{HasPart, IsVisible}
+use Rattle.root_store.proofs.PartSetItems.{item_first}
+use Rattle.root_store.proofs.PartSetMaps.{true_or_false}
+use Rattle.root_store.proofs.PartSetNameTexts.{root_names_same}
+use Rattle.root_store.proofs.PartSetOrphans.{item_more}
+use Rattle.root_store.proofs.PartSetSwaps.{pairs_across, pairs_back}
 use Rattle.root_store.specs.declared.store.CoreStore.{CoreStore}
 use Rattle.root_store.specs.Shown.{AreShown, GreatestAreShown, part_called}
 use Rattle.root_store.proofs.Items.{item_either, map_item, mapped}

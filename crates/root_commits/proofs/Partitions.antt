@@ -8,9 +8,9 @@ use Rattle.mt_values.specs.declared.value.ColType.{ColType}
 use Rattle.mt_values.specs.declared.value.ColType.TheVariants as type
 use Rattle.mt_values.specs.Grid.{Grid}
 use Rattle.mt_values.specs.Tables.{IsPartitionBy, MayHavePartition, numbers_of, numbers_of_column}
-use Rattle.mt_model.specs.History.{IsInsertInto, IsTableSchema}
-use Rattle.mt_model.proofs.Commands.{own_partition}
-use Rattle.part_name.specs.PartNames.{IsPartition}
+use Rattle.root_store.specs.mt_model.History.{IsInsertInto, IsTableSchema}
+use Rattle.root_store.proofs.MtModelCommands.{own_partition}
+use Rattle.root_store.specs.part_name.PartNames.{IsPartition}
 use Rattle.root_commits.specs.Commits.{insert_into, partition_of_block}
 
 -- each type has numbers of 64 bits alone

@@ -5,14 +5,14 @@ use Rattle.std.proofs.lemmas.List.Sums.{sum_by-insert}
 use Rattle.std.specs.List.{All, AllZip, Contains as HasItem, insert}
 use Rattle.mt_base.specs.declared.partition.Partition.{Partition}
 use Rattle.mt_values.specs.Values.{Row}
-use Rattle.mt_model.specs.History.{History}
-use Rattle.part_reader.specs.declared.reading.Part.{Part}
-use Rattle.part_set.specs.declared.kept.Kept.{Kept}
-use Rattle.part_set.specs.Parts.{IsAdded, NoneMeets}
-use Rattle.part_set.proofs.Items.{item_cases}
-use Rattle.part_history.specs.declared.part.CorePart.{CorePart}
-use Rattle.part_history.specs.Parts.{PartStands, TableStands, has_block}
-use Rattle.part_history.proofs.Growing.{count_push}
+use Rattle.root_store.specs.mt_model.History.{History}
+use Rattle.root_store.specs.part_reader.declared.reading.Part.{Part}
+use Rattle.root_store.specs.part_set.declared.kept.Kept.{Kept}
+use Rattle.root_store.specs.part_set.Parts.{IsAdded, NoneMeets}
+use Rattle.root_store.proofs.PartSetItems.{item_cases}
+use Rattle.root_store.specs.part_history.declared.part.CorePart.{CorePart}
+use Rattle.root_store.specs.part_history.Parts.{PartStands, TableStands, has_block}
+use Rattle.root_store.proofs.PartHistoryGrowing.{count_push}
 use Rattle.root_commits.specs.Commits.{fresh_part}
 use Rattle.root_store.specs.Stores.{core_part, core_parts}
 

@@ -15,29 +15,29 @@ use Rattle.mt_values.specs.declared.schema.Schema.{Schema}
 use Rattle.mt_values.specs.Grammar.{same_bytes}
 use Rattle.mt_values.specs.Values.{Row}
 use Rattle.mt_outside.specs.Files.{Files}
-use Rattle.mt_model.specs.History.{History, schema_of}
-use Rattle.mt_model.specs.Numbers.{IsNumberOfInsert}
-use Rattle.mt_model.proofs.Tables.{itself_same, same_is}
-use Rattle.part_name.specs.declared.part.PartName.{PartName}
-use Rattle.part_reader.specs.declared.reading.Part.{Part}
-use Rattle.part_reader.specs.Parts.{PartHolds}
-use Rattle.part_reader.proofs.Holding.{written_holds}
-use Rattle.part_set.specs.declared.kept.Kept.{Kept}
-use Rattle.part_set.specs.Parts.{IsInBlockOrder, kept_in}
-use Rattle.part_set.specs.Runs.{EndsInOrder, IsRun}
-use Rattle.part_set.specs.Sets.{parts_of}
-use Rattle.part_set.proofs.Items.{item_first}
-use Rattle.part_set.proofs.Maps.{true_or_false}
-use Rattle.part_history.specs.declared.part.CorePart.{CorePart}
-use Rattle.part_history.specs.Merges.{MergeLeaves, names_of, with_rows}
-use Rattle.part_name.specs.Merged.{merged_of}
-use Rattle.part_history.specs.Parts.{AreInBlockOrder, PartStands, block_cmp, core_parts_of, has_block}
-use Rattle.table_core.specs.declared.event.Merge.{Merge}
-use Rattle.table_core.specs.declared.store.Run.{Run}
-use Rattle.table_core.specs.Core.{Core}
-use Rattle.table_core.specs.Steps.{HasNeighbours, SwapsParts, sources_among}
-use Rattle.table_core.specs.Store.{parts_below}
-use Rattle.table_core.proofs.Neighbours.{sources_stand}
+use Rattle.root_store.specs.mt_model.History.{History, schema_of}
+use Rattle.root_store.specs.mt_model.Numbers.{IsNumberOfInsert}
+use Rattle.root_store.proofs.MtModelTables.{itself_same, same_is}
+use Rattle.root_store.specs.part_name.declared.part.PartName.{PartName}
+use Rattle.root_store.specs.part_reader.declared.reading.Part.{Part}
+use Rattle.root_store.specs.part_reader.Parts.{PartHolds}
+use Rattle.root_store.proofs.PartReaderHolding.{written_holds}
+use Rattle.root_store.specs.part_set.declared.kept.Kept.{Kept}
+use Rattle.root_store.specs.part_set.Parts.{IsInBlockOrder, kept_in}
+use Rattle.root_store.specs.part_set.Runs.{EndsInOrder, IsRun}
+use Rattle.root_store.specs.part_set.Sets.{parts_of}
+use Rattle.root_store.proofs.PartSetItems.{item_first}
+use Rattle.root_store.proofs.PartSetMaps.{true_or_false}
+use Rattle.root_store.specs.part_history.declared.part.CorePart.{CorePart}
+use Rattle.root_store.specs.part_history.Merges.{MergeLeaves, names_of, with_rows}
+use Rattle.root_store.specs.part_name.Merged.{merged_of}
+use Rattle.root_store.specs.part_history.Parts.{AreInBlockOrder, PartStands, block_cmp, core_parts_of, has_block}
+use Rattle.root_store.specs.table_core.declared.event.Merge.{Merge}
+use Rattle.root_store.specs.table_core.declared.store.Run.{Run}
+use Rattle.root_store.specs.table_core.Core.{Core}
+use Rattle.root_store.specs.table_core.Steps.{HasNeighbours, SwapsParts, sources_among}
+use Rattle.root_store.specs.table_core.Store.{parts_below}
+use Rattle.root_store.proofs.TableCoreNeighbours.{sources_stand}
 use Rattle.root_store.specs.declared.store.CoreStore.{CoreStore}
 use Rattle.root_store.specs.declared.store.Table.{Table}
 use Rattle.root_store.specs.Cores.{ShowsCore, ShowsParts}

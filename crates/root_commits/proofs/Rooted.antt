@@ -11,14 +11,14 @@ use Rattle.mt_values.specs.RootNames.{create_name, part_name}
 use Rattle.mt_outside.specs.declared.disk.Change.TheVariants.{Publish}
 use Rattle.mt_outside.specs.Disk.{Names, Told, files_at, names_of, put, with_change}
 use Rattle.mt_outside.specs.Files.{Files}
-use Rattle.mt_model.specs.History.{History, IsInsertInto, IsTableSchema, creates, entered, schema_of}
-use Rattle.part_name.specs.PartNames.{part_text}
-use Rattle.part_writer.specs.declared.loaded.Loaded.{Loaded}
-use Rattle.part_set.specs.RootNames.{is_table}
-use Rattle.part_history.specs.Entered.{next_number}
+use Rattle.root_store.specs.mt_model.History.{History, IsInsertInto, IsTableSchema, creates, entered, schema_of}
+use Rattle.root_store.specs.part_name.PartNames.{part_text}
+use Rattle.root_store.specs.part_writer.declared.loaded.Loaded.{Loaded}
+use Rattle.root_store.specs.part_set.RootNames.{is_table}
+use Rattle.root_store.specs.part_history.Entered.{next_number}
 use Rattle.root_store.specs.declared.store.CoreStore.{CoreStore}
 use Rattle.root_store.specs.declared.store.Table.{Table}
-use Rattle.part_history.proofs.Numbered.{legal_schema}
+use Rattle.root_store.proofs.PartHistoryNumbered.{legal_schema}
 use Rattle.root_commits.specs.Commits.{IsSealedOf, fresh_part, insert_into, insert_of_block, part_rows, partition_of_block}
 use Rattle.root_store.specs.Entries.{EntryHolds}
 use Rattle.root_store.specs.Roots.{FolderHolds, Stands}

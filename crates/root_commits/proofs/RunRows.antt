@@ -4,18 +4,18 @@ use Rattle.std.specs.List.{AllByRecursion, AllZip}
 use Rattle.mt_base.specs.declared.partition.Partition.{Partition}
 use Rattle.mt_values.specs.Tables.{same_partition}
 use Rattle.mt_values.specs.Values.{Row}
-use Rattle.mt_model.specs.History.{History}
-use Rattle.part_name.specs.declared.part.PartName.{PartName}
-use Rattle.part_reader.specs.declared.reading.Part.{Part}
-use Rattle.part_set.specs.declared.kept.Kept.{Kept}
-use Rattle.part_set.specs.declared.run.Run.{Run}
-use Rattle.part_set.specs.Parts.{kept_in}
-use Rattle.part_set.specs.Runs.{IsRun, parts_of_run}
-use Rattle.part_history.specs.declared.part.CorePart.{CorePart}
-use Rattle.part_history.specs.Merges.{names_of, with_rows}
-use Rattle.part_history.specs.Parts.{PartStands, parts_in}
-use Rattle.table_core.specs.declared.event.Merge.{Merge}
-use Rattle.table_core.specs.Steps.{HasNeighbours, sources_among}
+use Rattle.root_store.specs.mt_model.History.{History}
+use Rattle.root_store.specs.part_name.declared.part.PartName.{PartName}
+use Rattle.root_store.specs.part_reader.declared.reading.Part.{Part}
+use Rattle.root_store.specs.part_set.declared.kept.Kept.{Kept}
+use Rattle.root_store.specs.part_set.declared.run.Run.{Run}
+use Rattle.root_store.specs.part_set.Parts.{kept_in}
+use Rattle.root_store.specs.part_set.Runs.{IsRun, parts_of_run}
+use Rattle.root_store.specs.part_history.declared.part.CorePart.{CorePart}
+use Rattle.root_store.specs.part_history.Merges.{names_of, with_rows}
+use Rattle.root_store.specs.part_history.Parts.{PartStands, parts_in}
+use Rattle.root_store.specs.table_core.declared.event.Merge.{Merge}
+use Rattle.root_store.specs.table_core.Steps.{HasNeighbours, sources_among}
 use Rattle.root_store.specs.Stores.{core_part, core_parts}
 
 -- of rows by part, those of the parts of a partition

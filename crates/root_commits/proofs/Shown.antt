@@ -11,21 +11,21 @@ use Rattle.mt_values.specs.Grammar.{same_bytes}
 use Rattle.mt_values.specs.RootNames.{create_name, part_name}
 use Rattle.mt_outside.specs.Disk.{MayPut, Names, Told, names_of, put}
 use Rattle.mt_outside.specs.Files.{Files}
-use Rattle.mt_model.proofs.Tables.{itself_same, same_is}
-use Rattle.part_name.specs.declared.part.PartName.{PartName}
-use Rattle.part_name.specs.PartNames.{IsPartName, part_text}
-use Rattle.part_reader.specs.declared.reading.Part.{Part}
-use Rattle.part_set.specs.declared.kept.Kept.{Kept}
-use Rattle.part_set.specs.declared.root_name.RootName.{RootName}
-use Rattle.part_set.specs.declared.root_name.RootName.TheVariants as root
-use Rattle.part_set.specs.declared.root_name.TablePart.{TablePart}
-use Rattle.part_set.specs.declared.set.PartSet.{PartSet}
-use Rattle.part_set.specs.Parts.{HasName}
-use Rattle.part_set.specs.RootNames.{IsRootName, is_table, root_text}
-use Rattle.part_set.specs.Sets.{parts_of}
-use Rattle.part_set.specs.Visible.{HasPart, IsVisible}
-use Rattle.part_set.proofs.Items.{item_cases, item_kept, item_new}
-use Rattle.part_set.proofs.Maps.{true_or_false}
+use Rattle.root_store.proofs.MtModelTables.{itself_same, same_is}
+use Rattle.root_store.specs.part_name.declared.part.PartName.{PartName}
+use Rattle.root_store.specs.part_name.PartNames.{IsPartName, part_text}
+use Rattle.root_store.specs.part_reader.declared.reading.Part.{Part}
+use Rattle.root_store.specs.part_set.declared.kept.Kept.{Kept}
+use Rattle.root_store.specs.part_set.declared.root_name.RootName.{RootName}
+use Rattle.root_store.specs.part_set.declared.root_name.RootName.TheVariants as root
+use Rattle.root_store.specs.part_set.declared.root_name.TablePart.{TablePart}
+use Rattle.root_store.specs.part_set.declared.set.PartSet.{PartSet}
+use Rattle.root_store.specs.part_set.Parts.{HasName}
+use Rattle.root_store.specs.part_set.RootNames.{IsRootName, is_table, root_text}
+use Rattle.root_store.specs.part_set.Sets.{parts_of}
+use Rattle.root_store.specs.part_set.Visible.{HasPart, IsVisible}
+use Rattle.root_store.proofs.PartSetItems.{item_cases, item_kept, item_new}
+use Rattle.root_store.proofs.PartSetMaps.{true_or_false}
 use Rattle.root_store.specs.declared.store.CoreStore.{CoreStore}
 use Rattle.root_store.specs.declared.store.Table.{Table}
 use Rattle.root_store.specs.Roots.{AreNamesRead}

@@ -7,7 +7,7 @@ use Rattle.std.specs.Map.{lookup}
 use Rattle.std.specs.Option.{ForSome}
 use Rattle.std.specs.Ordering.{nat_cmp}
 use Rattle.std.proofs.lemmas.Bool.{false≢true}
-use Rattle.part_set.proofs.Maps.{true_or_false}
+use Rattle.root_store.proofs.PartSetMaps.{true_or_false}
 use Rattle.std.proofs.lemmas.List.Elements.{All-nil, All-weaker}
 use Rattle.mt_base.specs.declared.partition.Partition.{Partition}
 use Rattle.mt_values.specs.declared.schema.Schema.{Schema}
@@ -15,13 +15,13 @@ use Rattle.mt_values.specs.Grammar.{same_bytes}
 use Rattle.mt_values.specs.Tables.{MayHavePartition}
 use Rattle.mt_outside.specs.Causes.{Rose}
 use Rattle.mt_outside.specs.Disk.{Told, names_of}
-use Rattle.mt_model.specs.History.{IsTableSchema}
-use Rattle.mt_model.proofs.Tables.{itself_same, same_is}
-use Rattle.part_reader.specs.declared.reading.Part.{Part}
-use Rattle.part_set.specs.declared.kept.Kept.{Kept}
-use Rattle.part_set.specs.declared.set.PartSet.{PartSet}
-use Rattle.part_set.specs.RootNames.{is_table}
-use Rattle.part_set.specs.Sets.{parts_of}
+use Rattle.root_store.specs.mt_model.History.{IsTableSchema}
+use Rattle.root_store.proofs.MtModelTables.{itself_same, same_is}
+use Rattle.root_store.specs.part_reader.declared.reading.Part.{Part}
+use Rattle.root_store.specs.part_set.declared.kept.Kept.{Kept}
+use Rattle.root_store.specs.part_set.declared.set.PartSet.{PartSet}
+use Rattle.root_store.specs.part_set.RootNames.{is_table}
+use Rattle.root_store.specs.part_set.Sets.{parts_of}
 use Rattle.durable_commit.specs.declared.causes.Refused.{Refused}
 use Rattle.durable_commit.specs.declared.causes.Refused.TheVariants as refused
 use Rattle.root_store.specs.declared.store.CoreStore.{CoreStore}

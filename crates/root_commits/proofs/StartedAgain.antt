@@ -9,15 +9,15 @@ use Rattle.mt_outside.specs.Disk.{Image, IsStartedAgain, MayLead, Names, Survive
 use Rattle.mt_outside.specs.Files.{Files}
 use Rattle.mt_outside.proofs.Changes.{survive_same}
 use Rattle.mt_outside.proofs.Crashes.{image_as_read}
-use Rattle.mt_model.specs.History.{History}
-use Rattle.mt_model.specs.Numbers.{numbered}
-use Rattle.mt_model.proofs.Tables.{same_is}
-use Rattle.part_set.specs.declared.root_name.RootName.{RootName}
-use Rattle.part_set.specs.declared.root_name.TablePart.{TablePart}
-use Rattle.part_set.specs.Visible.{HasPart}
-use Rattle.part_history.specs.declared.part.CorePart.{CorePart}
-use Rattle.part_history.specs.Parts.{has_block, core_parts_of}
-use Rattle.part_history.proofs.Numbered.{insert_drawn}
+use Rattle.root_store.specs.mt_model.History.{History}
+use Rattle.root_store.specs.mt_model.Numbers.{numbered}
+use Rattle.root_store.proofs.MtModelTables.{same_is}
+use Rattle.root_store.specs.part_set.declared.root_name.RootName.{RootName}
+use Rattle.root_store.specs.part_set.declared.root_name.TablePart.{TablePart}
+use Rattle.root_store.specs.part_set.Visible.{HasPart}
+use Rattle.root_store.specs.part_history.declared.part.CorePart.{CorePart}
+use Rattle.root_store.specs.part_history.Parts.{has_block, core_parts_of}
+use Rattle.root_store.proofs.PartHistoryNumbered.{insert_drawn}
 use Rattle.root_store.specs.ByteOrder.{AreInByteOrder}
 use Rattle.root_store.specs.Crashes.{AllStand, IsCrashSafe, IsFirstOf, IsMarkAfter, entries_of}
 use Rattle.root_store.specs.Roots.{AreNamesRead, Stands, named}

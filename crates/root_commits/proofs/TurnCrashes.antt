@@ -4,7 +4,7 @@ use Rattle.std.specs.Option.{ForSome}
 use Rattle.mt_values.specs.Annals as keeper
 use Rattle.mt_outside.specs.Disk.{Told, names_of}
 use Rattle.mt_outside.specs.Files.{Files}
-use Rattle.mt_model.specs.History.{History}
+use Rattle.root_store.specs.mt_model.History.{History}
 use Rattle.durable_commit.specs.declared.causes.Refused.{Refused}
 use Rattle.root_commits.specs.declared.commits.Returned.{Returned}
 use Rattle.root_store.specs.declared.store.CoreStore.{CoreStore}

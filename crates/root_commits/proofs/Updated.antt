@@ -4,8 +4,8 @@ use Rattle.std.specs.BTreeMap.{Updates, is_at}
 use Rattle.std.specs.Cmp.Lexicographic.{slice_cmp}
 use Rattle.std.specs.Ordering.{nat_cmp}
 use Rattle.mt_values.specs.Grammar.{same_bytes}
-use Rattle.mt_model.proofs.Tables.{itself_same, same_is}
-use Rattle.part_set.proofs.Maps.{found_is, true_or_false}
+use Rattle.root_store.proofs.MtModelTables.{itself_same, same_is}
+use Rattle.root_store.proofs.PartSetMaps.{found_is, true_or_false}
 use Rattle.std.proofs.lemmas.Bool.{false_from_ne_true}
 use Rattle.root_store.specs.declared.store.CoreStore.{CoreStore}
 use Rattle.root_store.specs.declared.store.Table.{Table}

@@ -13,16 +13,16 @@ use Rattle.mt_values.specs.declared.command.Command.TheVariants as command
 use Rattle.mt_values.specs.Grid.{Grid}
 use Rattle.mt_values.specs.Tables.{partition_of, sorting_cmp}
 use Rattle.mt_values.specs.Values.{Row}
-use Rattle.mt_model.specs.Live.{sorted}
+use Rattle.root_store.specs.mt_model.Live.{sorted}
 use Rattle.mt_outside.specs.Disk.{Told}
 use Rattle.mt_outside.specs.Files.{Files}
-use Rattle.mt_model.specs.History.{History}
-use Rattle.part_name.specs.declared.part.PartName.{PartName}
-use Rattle.part_reader.specs.declared.reading.Part.{Part}
-use Rattle.part_writer.specs.declared.loaded.Loaded.{Loaded}
-use Rattle.part_writer.specs.PartFiles.{loaded_of}
-use Rattle.part_set.specs.Parts.{IsAdded, IsInBlockOrder, kept_in}
-use Rattle.part_set.specs.Sets.{parts_of}
+use Rattle.root_store.specs.mt_model.History.{History}
+use Rattle.root_store.specs.part_name.declared.part.PartName.{PartName}
+use Rattle.root_store.specs.part_reader.declared.reading.Part.{Part}
+use Rattle.root_store.specs.part_writer.declared.loaded.Loaded.{Loaded}
+use Rattle.root_store.specs.part_writer.PartFiles.{loaded_of}
+use Rattle.root_store.specs.part_set.Parts.{IsAdded, IsInBlockOrder, kept_in}
+use Rattle.root_store.specs.part_set.Sets.{parts_of}
 use Rattle.durable_commit.specs.declared.causes.Limit.TheVariants as limit
 use Rattle.durable_commit.specs.declared.causes.Refused.{Refused}
 use Rattle.durable_commit.specs.declared.causes.Refused.TheVariants as refused

@@ -4,14 +4,14 @@ use Rattle.mt_values.specs.declared.schema.Schema.{Schema}
 use Rattle.mt_values.specs.Grid.{Grid}
 use Rattle.mt_values.specs.Values.{Row}
 use Rattle.mt_outside.specs.Files.{Files}
-use Rattle.part_name.specs.declared.part.PartName.{PartName}
-use Rattle.table_core.specs.declared.event.Accept.{Accept}
-use Rattle.table_core.specs.declared.event.Accept.TheVariants as accept
-use Rattle.table_core.specs.declared.event.Event.TheVariants as event
-use Rattle.table_core.specs.declared.event.Merge.{Merge}
-use Rattle.table_core.specs.declared.event.Outcome.TheVariants as outcome
-use Rattle.table_core.specs.Core.{Core}
-use Rattle.table_core.specs.Steps.{GivesOutcome, MayAccept, MayCome}
+use Rattle.root_store.specs.part_name.declared.part.PartName.{PartName}
+use Rattle.root_store.specs.table_core.declared.event.Accept.{Accept}
+use Rattle.root_store.specs.table_core.declared.event.Accept.TheVariants as accept
+use Rattle.root_store.specs.table_core.declared.event.Event.TheVariants as event
+use Rattle.root_store.specs.table_core.declared.event.Merge.{Merge}
+use Rattle.root_store.specs.table_core.declared.event.Outcome.TheVariants as outcome
+use Rattle.root_store.specs.table_core.Core.{Core}
+use Rattle.root_store.specs.table_core.Steps.{GivesOutcome, MayAccept, MayCome}
 use Rattle.root_store.specs.declared.store.CoreStore.{CoreStore}
 use Rattle.root_store.specs.Cores.{ShowsCore}
 use Rattle.root_commits.specs.Commits.{insert_into, partition_of_block}

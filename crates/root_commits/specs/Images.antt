@@ -2,7 +2,7 @@
 use Rattle.std.specs.Prelude.{◌≡◌, ◌≢◌, ◌⊎◌, ℕ, Option, Result, Some}
 use Rattle.std.specs.Result.{MatchResult}
 use Rattle.mt_outside.specs.Disk.{Image, Names, Since, Told}
-use Rattle.mt_model.specs.History.{History}
+use Rattle.root_store.specs.mt_model.History.{History}
 use Rattle.durable_commit.specs.declared.causes.Refused.TheVariants as refused
 use Rattle.root_commits.specs.declared.commits.Returned.{Returned}
 use Rattle.root_store.specs.declared.store.CoreStore.{CoreStore}

@@ -8,19 +8,19 @@ use Rattle.mt_values.specs.declared.schema.Schema.{Schema}
 use Rattle.mt_values.specs.Tables.{sorting_cmp}
 use Rattle.mt_values.specs.Values.{Row}
 use Rattle.mt_outside.specs.Files.{Files}
-use Rattle.mt_model.specs.Partial.{MergesAll}
-use Rattle.part_name.specs.declared.part.PartName.{PartName}
-use Rattle.part_name.specs.Merged.{merged_of}
-use Rattle.part_reader.specs.declared.reading.Part.{Part}
-use Rattle.part_reader.specs.Parts.{PartHolds}
-use Rattle.part_writer.specs.declared.loaded.Loaded.{Loaded}
-use Rattle.part_writer.specs.PartFiles.{loaded_of}
-use Rattle.part_set.specs.declared.kept.Kept.{Kept}
-use Rattle.part_set.specs.declared.run.Run.{Run}
-use Rattle.part_set.specs.Parts.{IsInBlockOrder, kept_in}
-use Rattle.part_set.specs.Runs.{IsSwapped, parts_of_run}
-use Rattle.part_set.specs.Sets.{parts_of}
-use Rattle.stage_dir.specs.Stages.{Filled}
+use Rattle.root_store.specs.mt_model.Partial.{MergesAll}
+use Rattle.root_store.specs.part_name.declared.part.PartName.{PartName}
+use Rattle.root_store.specs.part_name.Merged.{merged_of}
+use Rattle.root_store.specs.part_reader.declared.reading.Part.{Part}
+use Rattle.root_store.specs.part_reader.Parts.{PartHolds}
+use Rattle.root_store.specs.part_writer.declared.loaded.Loaded.{Loaded}
+use Rattle.root_store.specs.part_writer.PartFiles.{loaded_of}
+use Rattle.root_store.specs.part_set.declared.kept.Kept.{Kept}
+use Rattle.root_store.specs.part_set.declared.run.Run.{Run}
+use Rattle.root_store.specs.part_set.Parts.{IsInBlockOrder, kept_in}
+use Rattle.root_store.specs.part_set.Runs.{IsSwapped, parts_of_run}
+use Rattle.root_store.specs.part_set.Sets.{parts_of}
+use Rattle.durable_commit.specs.stage_dir.Stages.{Filled}
 use Rattle.durable_commit.specs.declared.causes.Limit.TheVariants as limit
 use Rattle.durable_commit.specs.declared.causes.Refused.{Refused}
 use Rattle.durable_commit.specs.declared.causes.Refused.TheVariants as refused

@@ -11,9 +11,9 @@ use Rattle.mt_values.specs.RootNames.{create_name, part_name}
 use Rattle.mt_outside.specs.Causes.{Rose}
 use Rattle.mt_outside.specs.Disk.{MayPut, Told, put}
 use Rattle.mt_outside.specs.Files.{Files}
-use Rattle.mt_model.specs.History.{History}
-use Rattle.part_name.specs.PartNames.{part_text}
-use Rattle.stage_dir.specs.Stages.{Filled}
+use Rattle.root_store.specs.mt_model.History.{History}
+use Rattle.root_store.specs.part_name.PartNames.{part_text}
+use Rattle.durable_commit.specs.stage_dir.Stages.{Filled}
 use Rattle.durable_commit.specs.declared.causes.Refused.{Refused}
 use Rattle.durable_commit.specs.declared.causes.Refused.TheVariants as refused
 use Rattle.durable_commit.specs.Commits.{IsOutside, Notes, entry_of}

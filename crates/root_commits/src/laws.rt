@@ -4,7 +4,7 @@ ghost use Rattle.mt_values.specs.declared.annals.Noted.{Noted};
 ghost use Rattle.mt_values.specs.Annals as keeper;
 ghost use Rattle.mt_outside.specs.Disk.{IsStartedAgain, Names, Told, names_of};
 ghost use Rattle.mt_outside.specs.Files.{Files};
-ghost use Rattle.mt_model.specs.History.{History};
+ghost use Rattle.root_store.specs.mt_model.History.{History};
 ghost use Rattle.root_store.specs.ByteOrder.{AreInByteOrder};
 ghost use Rattle.root_store.specs.Crashes.{AllStand, IsCrashSafe, IsFirstOf, IsMarkAfter, entries_of, none_begun};
 ghost use Rattle.root_store.specs.Roots.{Stands};

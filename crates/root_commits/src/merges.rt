@@ -3,12 +3,12 @@ ghost use Rattle.std.specs.Prelude.{◌≡◌, ℕ, Option, Some, IfErr, IfSome,
 ghost use Rattle.std.specs.List.{fold};
 ghost use Rattle.std.specs.Result.{MatchResult};
 ghost use Rattle.mt_values.specs.Annals.{Told};
-ghost use Rattle.mt_model.specs.History.{History};
-ghost use Rattle.part_name.specs.declared.part.PartName.{PartName as Named};
-ghost use Rattle.part_name.specs.Merged.{joined_name};
-ghost use Rattle.part_set.specs.Parts.{kept_in};
-ghost use Rattle.part_set.specs.Runs.{IsRun, parts_of_run};
-ghost use Rattle.part_set.specs.Sets.{parts_of};
+ghost use Rattle.root_store.specs.mt_model.History.{History};
+ghost use Rattle.root_store.specs.part_name.declared.part.PartName.{PartName as Named};
+ghost use Rattle.root_store.specs.part_name.Merged.{joined_name};
+ghost use Rattle.root_store.specs.part_set.Parts.{kept_in};
+ghost use Rattle.root_store.specs.part_set.Runs.{IsRun, parts_of_run};
+ghost use Rattle.root_store.specs.part_set.Sets.{parts_of};
 ghost use Rattle.root_commits.specs.Commits.{IsCause, SameStore, StandsWhere, cause_of};
 ghost use Rattle.root_commits.specs.Events.{IsPut};
 ghost use Rattle.root_commits.specs.Images.{LeavesAfter, LeavesOne, on_disk};
@@ -20,7 +20,7 @@ ghost use Rattle.root_store.specs.Crashes.{KeepsThroughCrashes};
 ghost use Rattle.root_store.specs.Soundness.{HasSoundParts, IsReady, RootStands};
 ghost use Rattle.root_store.specs.Stores.{CoreStands, table_at};
 ghost use Rattle.root_store.specs.declared.store.Table.{Table as Made};
-ghost use Rattle.table_core.specs.Core.{Core};
+ghost use Rattle.root_store.specs.table_core.Core.{Core};
 
 use crate::Returned;
 use crate::commits::name_of_table_part;
@@ -28,11 +28,11 @@ use durable_commit::{Limit, Refused, publish, refuse_stopped};
 use mt_base::Partition;
 use mt_outside::{Arm, Disk};
 use mt_values::Name;
-use part_name::{PartName, join, raise};
-use part_reader::Part;
-use part_set::{Kept, Run};
-use part_writer::SealedPart;
 use root_store::CoreStore;
+use root_store::part_name::{PartName, join, raise};
+use root_store::part_reader::Part;
+use root_store::part_set::{Kept, Run};
+use root_store::part_writer::SealedPart;
 use std::alloc::Global;
 
 // A name and those of parts joined.

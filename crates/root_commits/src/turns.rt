@@ -3,14 +3,14 @@ ghost use Rattle.std.specs.Prelude.{◌≡◌, None, IfOk};
 ghost use Rattle.std.specs.Option.{ForSome};
 ghost use Rattle.std.specs.Result.{MatchResult};
 ghost use Rattle.mt_outside.specs.Disk.{files_at, names_of};
-ghost use Rattle.stage_dir.specs.Stages.{AreSealed};
+ghost use Rattle.durable_commit.specs.stage_dir.Stages.{AreSealed};
 ghost use Rattle.durable_commit.specs.Commits.{refused_by_disk};
 ghost use Rattle.root_commits.specs.Turns.{IsDone, IsInDoubt, Turn, storage};
 
 use durable_commit::commit;
+use durable_commit::stage_dir::Sealed;
 use mt_outside::{Arm, Disk, DiskError};
 use mt_values::{Annals, Entry, Name};
-use stage_dir::Sealed;
 use std::alloc::Global;
 
 /// Publishes what was sealed under a free name, settles it and notes the entry, for which the annals have room.

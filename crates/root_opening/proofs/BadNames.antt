@@ -4,12 +4,12 @@ use Rattle.std.proofs.lemmas.List.Elements.{All-contains, recursion_from_All}
 use Rattle.std.specs.List.{AllByRecursion, Contains as HasItem, slice_get}
 use Rattle.mt_outside.specs.Disk.{Names}
 use Rattle.mt_outside.specs.Files.{Files}
-use Rattle.mt_model.specs.History.{History}
-use Rattle.part_set.specs.declared.root_name.RootName.{RootName}
-use Rattle.part_set.specs.RootNames.{IsRootName, root_text}
-use Rattle.part_set.proofs.Items.{item_first}
-use Rattle.part_set.proofs.NameTexts.{root_names_same}
-use Rattle.part_set.proofs.Orphans.{item_more}
+use Rattle.root_store.specs.mt_model.History.{History}
+use Rattle.root_store.specs.part_set.declared.root_name.RootName.{RootName}
+use Rattle.root_store.specs.part_set.RootNames.{IsRootName, root_text}
+use Rattle.root_store.proofs.PartSetItems.{item_first}
+use Rattle.root_store.proofs.PartSetNameTexts.{root_names_same}
+use Rattle.root_store.proofs.PartSetOrphans.{item_more}
 use Rattle.root_store.specs.ByteOrder.{AreInByteOrder}
 use Rattle.root_store.specs.Damage.{IsBadName, IsFirstBadName, is_entry_name}
 use Rattle.root_store.specs.Roots.{Stands}

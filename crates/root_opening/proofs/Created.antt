@@ -7,12 +7,12 @@ use Rattle.mt_values.specs.declared.statement.Statement.{Statement}
 use Rattle.mt_values.specs.declared.statement.Statement.TheVariants as statement
 use Rattle.mt_values.specs.Grammar.{same_bytes}
 use Rattle.mt_values.specs.Script.{statements_of}
-use Rattle.mt_model.specs.declared.refusal.Refusal.{Refusal}
-use Rattle.mt_model.specs.History.{IsTableSchema}
-use Rattle.mt_model.specs.Reply.{schema_of_text}
-use Rattle.mt_model.specs.Written.{IsWritten}
-use Rattle.mt_model.proofs.Keys.{statements_are}
-use Rattle.mt_model.proofs.Tables.{schema_is}
+use Rattle.root_store.specs.mt_model.declared.refusal.Refusal.{Refusal}
+use Rattle.root_store.specs.mt_model.History.{IsTableSchema}
+use Rattle.root_store.specs.mt_model.Reply.{schema_of_text}
+use Rattle.root_store.specs.mt_model.Written.{IsWritten}
+use Rattle.root_store.proofs.MtModelKeys.{statements_are}
+use Rattle.root_store.proofs.MtModelTables.{schema_is}
 use Rattle.root_store.specs.Entries.{schema_of_statement, schema_of_items, schema_of_entry}
 
 ok_is : (r : Result Schema Refusal) (schema : Schema) → result_ok r ≡ Some schema → r ≡ Ok schema

@@ -6,7 +6,7 @@ use Rattle.mt_values.specs.declared.statement.Cause.{Cause}
 use Rattle.mt_values.specs.declared.statement.Statement.{Statement}
 use Rattle.mt_values.specs.Script.{Step, next_statement, statement_and, statements_of}
 use Rattle.mt_values.proofs.ScriptBounds.{statements_of_step}
-use Rattle.digest_file.specs.Spellings.{IsEntryOf}
+use Rattle.root_store.specs.digest_file.Spellings.{IsEntryOf}
 use Rattle.root_store.specs.Entries.{IsEntryWith, schema_of_statement, schema_of_items, schema_of_entry}
 use Rattle.root_store.proofs.EntryReads.{reads_as}
 

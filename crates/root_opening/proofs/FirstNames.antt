@@ -10,10 +10,10 @@ use Rattle.std.specs.List.{filter, slice_get}
 use Rattle.std.specs.List.Sorted.{IsStrictlySortedBy}
 use Rattle.std.specs.Option.{option_map}
 use Rattle.std.specs.Ordering.{nat_cmp}
-use Rattle.part_set.specs.declared.root_name.RootName.{RootName}
-use Rattle.part_set.specs.NameOrder.{Rise}
-use Rattle.part_set.specs.RootNames.{IsRootName, root_text}
-use Rattle.part_set.proofs.NameTexts.{root_names_same}
+use Rattle.root_store.specs.part_set.declared.root_name.RootName.{RootName}
+use Rattle.root_store.specs.part_set.NameOrder.{Rise}
+use Rattle.root_store.specs.part_set.RootNames.{IsRootName, root_text}
+use Rattle.root_store.proofs.PartSetNameTexts.{root_names_same}
 use Rattle.root_store.specs.Damage.{IsBadName, is_entry_name, most_tables}
 use Rattle.root_opening.specs.Names.{AreNamesOf, IsFirstBadText, IsOfPlace, TellsBad, creates_in}
 use Rattle.root_opening.specs.declared.names.NameFault.{NameFault}

@@ -5,15 +5,15 @@ use Rattle.std.proofs.lemmas.Option.{slice_get_read}
 use Rattle.mt_base.specs.declared.name.FileId.{FileId}
 use Rattle.mt_outside.specs.Disk.{Names}
 use Rattle.mt_outside.specs.Files.{Files}
-use Rattle.mt_model.specs.History.{IsTableSchema}
-use Rattle.part_reader.specs.declared.reading.Part.{Part}
-use Rattle.part_reader.specs.DamagedFile.{damaged_file}
-use Rattle.part_reader.proofs.DamagedFiles.{file_told}
-use Rattle.part_reader.proofs.HeldRows.{undamaged_rows}
-use Rattle.part_reader.specs.Sound.{IsLoadedOf}
-use Rattle.part_set.specs.declared.kept.Kept.{Kept}
-use Rattle.part_set.specs.declared.root_name.RootName.TheVariants as root
-use Rattle.part_set.specs.Sets.{parts_of}
+use Rattle.root_store.specs.mt_model.History.{IsTableSchema}
+use Rattle.root_store.specs.part_reader.declared.reading.Part.{Part}
+use Rattle.root_store.specs.part_reader.DamagedFile.{damaged_file}
+use Rattle.root_store.proofs.PartReaderDamagedFiles.{file_told}
+use Rattle.root_store.proofs.PartReaderHeldRows.{undamaged_rows}
+use Rattle.root_store.specs.part_reader.Sound.{IsLoadedOf}
+use Rattle.root_store.specs.part_set.declared.kept.Kept.{Kept}
+use Rattle.root_store.specs.part_set.declared.root_name.RootName.TheVariants as root
+use Rattle.root_store.specs.part_set.Sets.{parts_of}
 use Rattle.root_store.specs.declared.store.CoreStore.{CoreStore}
 use Rattle.root_store.specs.declared.store.Table.{Table}
 use Rattle.root_store.specs.Damage.{DamagedAt}

@@ -5,15 +5,15 @@ use Rattle.mt_outside.specs.Disk.{Image, Names, Survive, Told, names_of}
 use Rattle.mt_outside.specs.Files.{Files}
 use Rattle.mt_outside.proofs.Changes.{at_clock-none, before_clock-all}
 use Rattle.mt_outside.proofs.Crashes.{stamped_by}
-use Rattle.mt_model.specs.History.{History}
-use Rattle.part_name.specs.declared.part.PartName.{PartName}
-use Rattle.part_set.specs.declared.root_name.RootName.{RootName}
-use Rattle.part_set.specs.declared.root_name.RootName.TheVariants as root
-use Rattle.part_set.specs.declared.root_name.TablePart.{TablePart}
-use Rattle.part_set.specs.Parts.{HasName}
-use Rattle.part_set.specs.Sets.{parts_of}
-use Rattle.part_set.specs.Visible.{IsVisible}
-use Rattle.part_set.proofs.Items.{item_none}
+use Rattle.root_store.specs.mt_model.History.{History}
+use Rattle.root_store.specs.part_name.declared.part.PartName.{PartName}
+use Rattle.root_store.specs.part_set.declared.root_name.RootName.{RootName}
+use Rattle.root_store.specs.part_set.declared.root_name.RootName.TheVariants as root
+use Rattle.root_store.specs.part_set.declared.root_name.TablePart.{TablePart}
+use Rattle.root_store.specs.part_set.Parts.{HasName}
+use Rattle.root_store.specs.part_set.Sets.{parts_of}
+use Rattle.root_store.specs.part_set.Visible.{IsVisible}
+use Rattle.root_store.proofs.PartSetItems.{item_none}
 use Rattle.root_store.specs.declared.store.CoreStore.{CoreStore}
 use Rattle.root_store.specs.Crashes.{AllStand}
 use Rattle.root_store.specs.Roots.{AreNamesRead, Stands}

@@ -12,20 +12,20 @@ use Rattle.mt_values.specs.RootNames.{create_name}
 use Rattle.mt_values.specs.Tables.{MayHavePartition}
 use Rattle.mt_outside.specs.Disk.{Names, files_at}
 use Rattle.mt_outside.specs.Files.{Files}
-use Rattle.mt_model.specs.History.{IsTableSchema}
-use Rattle.part_name.specs.declared.part.PartName.{PartName}
-use Rattle.part_reader.specs.declared.reading.Part.{Part}
-use Rattle.part_set.specs.declared.kept.Kept.{Kept}
-use Rattle.part_set.specs.declared.root_name.RootName.{RootName}
-use Rattle.part_set.specs.declared.root_name.RootName.TheVariants as root
-use Rattle.part_set.specs.declared.root_name.TablePart.{TablePart}
-use Rattle.part_set.specs.Parts.{HasName, IsAdded, IsInBlockOrder}
-use Rattle.part_set.specs.RootNames.{root_text}
-use Rattle.part_set.specs.Sets.{parts_of}
-use Rattle.part_set.specs.Visible.{HasPart, HasTable, IsVisible}
-use Rattle.part_set.proofs.Items.{item_cases, item_kept, item_new, item_none}
-use Rattle.part_set.proofs.Maps.{found_is, true_or_false}
-use Rattle.part_set.proofs.Orphans.{same_itself}
+use Rattle.root_store.specs.mt_model.History.{IsTableSchema}
+use Rattle.root_store.specs.part_name.declared.part.PartName.{PartName}
+use Rattle.root_store.specs.part_reader.declared.reading.Part.{Part}
+use Rattle.root_store.specs.part_set.declared.kept.Kept.{Kept}
+use Rattle.root_store.specs.part_set.declared.root_name.RootName.{RootName}
+use Rattle.root_store.specs.part_set.declared.root_name.RootName.TheVariants as root
+use Rattle.root_store.specs.part_set.declared.root_name.TablePart.{TablePart}
+use Rattle.root_store.specs.part_set.Parts.{HasName, IsAdded, IsInBlockOrder}
+use Rattle.root_store.specs.part_set.RootNames.{root_text}
+use Rattle.root_store.specs.part_set.Sets.{parts_of}
+use Rattle.root_store.specs.part_set.Visible.{HasPart, HasTable, IsVisible}
+use Rattle.root_store.proofs.PartSetItems.{item_cases, item_kept, item_new, item_none}
+use Rattle.root_store.proofs.PartSetMaps.{found_is, true_or_false}
+use Rattle.root_store.proofs.PartSetOrphans.{same_itself}
 use Rattle.root_store.specs.declared.store.CoreStore.{CoreStore}
 use Rattle.root_store.specs.declared.store.Table.{Table}
 use Rattle.root_store.specs.Stores.{fresh_table}

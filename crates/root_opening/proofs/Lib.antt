@@ -15,3 +15,6 @@ pub mod OneDamage
 pub mod Opened
 pub mod Settled
 pub mod Standing
+pub use Rattle.root_store.proofs.PartSetItems
+pub use Rattle.root_store.proofs.CrashMarks as RootStoreCrashMarks
+pub use Rattle.root_store.proofs.CrashOrder as RootStoreCrashOrder

@@ -3,11 +3,11 @@ use Rattle.std.proofs.Common.{◌≡◌, Option, None, sym, subst}
 use Rattle.mt_base.specs.declared.name.FileId.{FileId}
 use Rattle.mt_values.specs.declared.schema.Schema.{Schema}
 use Rattle.mt_outside.specs.Files.{Files}
-use Rattle.part_writer.specs.declared.loaded.Loaded.{Loaded}
-use Rattle.part_reader.specs.declared.reading.PartFault.{PartFault}
-use Rattle.part_reader.specs.Damage.{Tells}
-use Rattle.part_reader.specs.DamagedFile.{damaged_file}
-use Rattle.part_reader.specs.Sound.{IsLoadedOf}
+use Rattle.root_store.specs.part_writer.declared.loaded.Loaded.{Loaded}
+use Rattle.root_store.specs.part_reader.declared.reading.PartFault.{PartFault}
+use Rattle.root_store.specs.part_reader.Damage.{Tells}
+use Rattle.root_store.specs.part_reader.DamagedFile.{damaged_file}
+use Rattle.root_store.specs.part_reader.Sound.{IsLoadedOf}
 
 module _ (schema : Schema) (files : Files) (loaded : Loaded) where
   loaded_own : IsLoadedOf schema files loaded → IsLoadedOf loaded.schema files loaded

@@ -8,10 +8,10 @@ use Rattle.std.specs.List.{All, AllByRecursion, filter}
 use Rattle.std.specs.List.Sorted.{IsStrictlySortedBy}
 use Rattle.std.specs.Ordering.{nat_cmp}
 use Rattle.std.specs.declared.cmp.Ordering.TheVariants.{Less}
-use Rattle.part_set.specs.declared.root_name.RootName.{RootName}
-use Rattle.part_set.specs.NameOrder.{Rise, name_cmp}
-use Rattle.part_set.specs.RootNames.{IsRootName, root_text}
-use Rattle.part_set.proofs.NameTexts.{root_names_same}
+use Rattle.root_store.specs.part_set.declared.root_name.RootName.{RootName}
+use Rattle.root_store.specs.part_set.NameOrder.{Rise, name_cmp}
+use Rattle.root_store.specs.part_set.RootNames.{IsRootName, root_text}
+use Rattle.root_store.proofs.PartSetNameTexts.{root_names_same}
 use Rattle.root_store.specs.Damage.{is_entry_name, most_tables}
 use Rattle.root_opening.specs.Names.{AreNamesOf, IsBadBehind, IsFirstBadText, creates_in}
 

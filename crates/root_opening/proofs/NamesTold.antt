@@ -6,7 +6,7 @@ use Rattle.std.specs.List.{slice_get}
 use Rattle.std.specs.Option.{option_map}
 use Rattle.mt_outside.specs.Disk.{Names}
 use Rattle.mt_outside.specs.Files.{Files}
-use Rattle.part_set.specs.declared.root_name.RootName.{RootName}
+use Rattle.root_store.specs.part_set.declared.root_name.RootName.{RootName}
 use Rattle.root_store.specs.Damage.{IsFirstBadName}
 use Rattle.root_opening.specs.Names.{AreNamesOf, IsFirstBadText}
 use Rattle.root_store.specs.Roots.{AreNamesRead}

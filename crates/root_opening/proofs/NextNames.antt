@@ -14,22 +14,22 @@ use Rattle.mt_base.specs.declared.name.FileId.{FileId}
 use Rattle.mt_values.specs.RootNames.{create_name, part_name}
 use Rattle.mt_outside.specs.Disk.{Names, Told, files_at, names_of}
 use Rattle.mt_outside.specs.Files.{Files}
-use Rattle.part_name.specs.declared.part.PartName.{PartName}
-use Rattle.part_name.specs.PartNames.{Meet, part_text}
-use Rattle.part_reader.specs.declared.reading.Part.{Part}
-use Rattle.part_set.specs.declared.kept.Kept.{Kept}
-use Rattle.part_set.specs.declared.root_name.RootName.{RootName}
-use Rattle.part_set.specs.declared.root_name.RootName.TheVariants as root
-use Rattle.part_set.specs.declared.root_name.TablePart.{TablePart}
-use Rattle.part_set.specs.Parts.{HasName, IsInBlockOrder, NoneMeets}
-use Rattle.part_set.specs.RootNames.{IsRootName, root_text}
-use Rattle.part_set.specs.Sets.{parts_of}
-use Rattle.part_set.specs.Visible.{HasPart, HasTable, IsVisible}
-use Rattle.part_set.proofs.Items.{item_none}
-use Rattle.part_set.proofs.Maps.{true_or_false}
-use Rattle.part_set.proofs.NamePlaces.{places_told}
-use Rattle.part_set.proofs.Orphans.{same_itself, table_found}
-use Rattle.part_set.proofs.Visibles.{table_there}
+use Rattle.root_store.specs.part_name.declared.part.PartName.{PartName}
+use Rattle.root_store.specs.part_name.PartNames.{Meet, part_text}
+use Rattle.root_store.specs.part_reader.declared.reading.Part.{Part}
+use Rattle.root_store.specs.part_set.declared.kept.Kept.{Kept}
+use Rattle.root_store.specs.part_set.declared.root_name.RootName.{RootName}
+use Rattle.root_store.specs.part_set.declared.root_name.RootName.TheVariants as root
+use Rattle.root_store.specs.part_set.declared.root_name.TablePart.{TablePart}
+use Rattle.root_store.specs.part_set.Parts.{HasName, IsInBlockOrder, NoneMeets}
+use Rattle.root_store.specs.part_set.RootNames.{IsRootName, root_text}
+use Rattle.root_store.specs.part_set.Sets.{parts_of}
+use Rattle.root_store.specs.part_set.Visible.{HasPart, HasTable, IsVisible}
+use Rattle.root_store.proofs.PartSetItems.{item_none}
+use Rattle.root_store.proofs.PartSetMaps.{true_or_false}
+use Rattle.root_store.proofs.PartSetNamePlaces.{places_told}
+use Rattle.root_store.proofs.PartSetOrphans.{same_itself, table_found}
+use Rattle.root_store.proofs.PartSetVisibles.{table_there}
 use Rattle.root_opening.specs.declared.steps.Root.{Root}
 use Rattle.root_opening.specs.declared.opening.Damage.TheVariants as damage
 use Rattle.root_opening.specs.declared.opening.OpenFault.{OpenFault}

@@ -8,13 +8,13 @@ use Rattle.mt_values.specs.declared.schema.Schema.{Schema}
 use Rattle.mt_values.specs.RootNames.{create_name}
 use Rattle.mt_outside.specs.Disk.{Names, files_at}
 use Rattle.mt_outside.specs.Files.{Files}
-use Rattle.mt_model.specs.History.{History}
-use Rattle.part_set.specs.declared.root_name.RootName.{RootName}
-use Rattle.part_set.specs.declared.root_name.RootName.TheVariants as root
-use Rattle.part_set.specs.declared.root_name.TablePart.{TablePart}
-use Rattle.part_set.specs.RootNames.{root_text}
-use Rattle.part_set.specs.Visible.{HasNoOrphan, HasNoOverlap, IsFirstOrphan, IsFirstOverlap, IsOrphan, OverlapAt, Overlapping, OrphanAt}
-use Rattle.part_set.proofs.Passes.{there}
+use Rattle.root_store.specs.mt_model.History.{History}
+use Rattle.root_store.specs.part_set.declared.root_name.RootName.{RootName}
+use Rattle.root_store.specs.part_set.declared.root_name.RootName.TheVariants as root
+use Rattle.root_store.specs.part_set.declared.root_name.TablePart.{TablePart}
+use Rattle.root_store.specs.part_set.RootNames.{root_text}
+use Rattle.root_store.specs.part_set.Visible.{HasNoOrphan, HasNoOverlap, IsFirstOrphan, IsFirstOverlap, IsOrphan, OverlapAt, Overlapping, OrphanAt}
+use Rattle.root_store.proofs.PartSetPasses.{there}
 use Rattle.root_opening.specs.declared.opening.Damage.{Damage}
 use Rattle.root_opening.specs.declared.opening.Damage.TheVariants as damage
 use Rattle.root_store.specs.ByteOrder.{AreInByteOrder}

@@ -13,15 +13,15 @@ use Rattle.std.specs.Option.{option_map}
 use Rattle.mt_base.specs.declared.name.FileId.{FileId}
 use Rattle.mt_outside.specs.Disk.{Names, Told, names_of}
 use Rattle.mt_outside.specs.Files.{Files}
-use Rattle.mt_model.specs.History.{History}
-use Rattle.part_set.specs.declared.root_name.RootName.{RootName}
-use Rattle.part_set.specs.declared.root_name.RootName.TheVariants as root
-use Rattle.part_set.specs.declared.roots.SetFault.{SetFault}
-use Rattle.part_set.specs.declared.roots.SetFault.TheVariants as set
-use Rattle.part_set.specs.Clashes.{IsFault}
-use Rattle.part_set.specs.RootNames.{root_text}
-use Rattle.part_set.specs.Visible.{HasNoOrphan, HasNoOverlap, IsFirstOrphan, IsFirstOverlap, IsOrphan, Overlapping}
-use Rattle.part_set.proofs.Passes.{there}
+use Rattle.root_store.specs.mt_model.History.{History}
+use Rattle.root_store.specs.part_set.declared.root_name.RootName.{RootName}
+use Rattle.root_store.specs.part_set.declared.root_name.RootName.TheVariants as root
+use Rattle.root_store.specs.part_set.declared.roots.SetFault.{SetFault}
+use Rattle.root_store.specs.part_set.declared.roots.SetFault.TheVariants as set
+use Rattle.root_store.specs.part_set.Clashes.{IsFault}
+use Rattle.root_store.specs.part_set.RootNames.{root_text}
+use Rattle.root_store.specs.part_set.Visible.{HasNoOrphan, HasNoOverlap, IsFirstOrphan, IsFirstOverlap, IsOrphan, Overlapping}
+use Rattle.root_store.proofs.PartSetPasses.{there}
 use Rattle.root_opening.specs.declared.opening.Damage.{Damage}
 use Rattle.root_opening.specs.declared.opening.Damage.TheVariants as damage
 use Rattle.root_opening.specs.declared.opening.OpenFault.{OpenFault}

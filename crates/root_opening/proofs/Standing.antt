@@ -23,32 +23,32 @@ use Rattle.mt_values.specs.Tables.{same_partition}
 use Rattle.mt_values.specs.Values.{Row}
 use Rattle.mt_outside.specs.Disk.{Names, files_at}
 use Rattle.mt_outside.specs.Files.{Files}
-use Rattle.mt_model.specs.History.{History, schema_of}
-use Rattle.mt_model.specs.Numbers.{IsNumberOfInsert, last_number, lies_within, numbered}
-use Rattle.mt_model.proofs.Tables.{itself_same, same_is}
-use Rattle.part_name.specs.declared.part.PartName.{PartName}
-use Rattle.part_name.specs.PartNames.{Meet}
-use Rattle.part_writer.specs.PartFiles.{loaded_of}
-use Rattle.part_reader.specs.declared.reading.Part.{Part}
-use Rattle.part_reader.specs.Parts.{PartHolds}
-use Rattle.part_reader.proofs.Holding.{written_holds}
-use Rattle.part_reader.proofs.Opened.{one_loaded}
-use Rattle.part_reader.proofs.SoundRows.{written_loaded}
-use Rattle.part_set.specs.declared.kept.Kept.{Kept}
-use Rattle.part_set.specs.declared.root_name.RootName.{RootName}
-use Rattle.part_set.specs.declared.root_name.RootName.TheVariants as root
-use Rattle.part_set.specs.declared.root_name.TablePart.{TablePart}
-use Rattle.part_set.specs.Parts.{IsInBlockOrder}
-use Rattle.part_set.specs.RootNames.{root_text}
-use Rattle.part_set.specs.Sets as sets
-use Rattle.part_set.specs.Visible.{HasTable, IsVisible}
-use Rattle.part_set.proofs.Items.{item_first, item_none}
-use Rattle.part_set.proofs.Maps.{found_is}
-use Rattle.part_set.proofs.Orphans.{item_more}
-use Rattle.part_history.specs.declared.part.CorePart.{CorePart}
-use Rattle.part_history.specs.Parts.{PartStands, has_block, core_parts_of}
-use Rattle.part_history.proofs.Growing.{number_drawn}
-use Rattle.part_history.proofs.Numbered.{insert_drawn, legal_schema}
+use Rattle.root_store.specs.mt_model.History.{History, schema_of}
+use Rattle.root_store.specs.mt_model.Numbers.{IsNumberOfInsert, last_number, lies_within, numbered}
+use Rattle.root_store.proofs.MtModelTables.{itself_same, same_is}
+use Rattle.root_store.specs.part_name.declared.part.PartName.{PartName}
+use Rattle.root_store.specs.part_name.PartNames.{Meet}
+use Rattle.root_store.specs.part_writer.PartFiles.{loaded_of}
+use Rattle.root_store.specs.part_reader.declared.reading.Part.{Part}
+use Rattle.root_store.specs.part_reader.Parts.{PartHolds}
+use Rattle.root_store.proofs.PartReaderHolding.{written_holds}
+use Rattle.root_store.proofs.PartReaderOpened.{one_loaded}
+use Rattle.root_store.proofs.PartReaderSoundRows.{written_loaded}
+use Rattle.root_store.specs.part_set.declared.kept.Kept.{Kept}
+use Rattle.root_store.specs.part_set.declared.root_name.RootName.{RootName}
+use Rattle.root_store.specs.part_set.declared.root_name.RootName.TheVariants as root
+use Rattle.root_store.specs.part_set.declared.root_name.TablePart.{TablePart}
+use Rattle.root_store.specs.part_set.Parts.{IsInBlockOrder}
+use Rattle.root_store.specs.part_set.RootNames.{root_text}
+use Rattle.root_store.specs.part_set.Sets as sets
+use Rattle.root_store.specs.part_set.Visible.{HasTable, IsVisible}
+use Rattle.root_store.proofs.PartSetItems.{item_first, item_none}
+use Rattle.root_store.proofs.PartSetMaps.{found_is}
+use Rattle.root_store.proofs.PartSetOrphans.{item_more}
+use Rattle.root_store.specs.part_history.declared.part.CorePart.{CorePart}
+use Rattle.root_store.specs.part_history.Parts.{PartStands, has_block, core_parts_of}
+use Rattle.root_store.proofs.PartHistoryGrowing.{number_drawn}
+use Rattle.root_store.proofs.PartHistoryNumbered.{insert_drawn, legal_schema}
 use Rattle.root_store.specs.declared.store.CoreStore.{CoreStore}
 use Rattle.root_store.specs.declared.store.Table.{Table}
 use Rattle.root_store.specs.Roots.{FolderHolds, Stands, named}

@@ -8,22 +8,22 @@ use Rattle.mt_outside.specs.declared.disk.DiskError.{DiskError}
 use Rattle.mt_outside.specs.declared.disk.DiskError.TheVariants as failure
 use Rattle.mt_outside.specs.Disk.{Names, Told, files_at, names_of}
 use Rattle.mt_outside.specs.Files.{Files}
-use Rattle.mt_model.specs.History.{IsTableSchema}
-use Rattle.part_name.specs.declared.part.PartName.{PartName}
-use Rattle.part_reader.specs.declared.reading.Part.{Part}
-use Rattle.part_reader.specs.DamagedFile.{damaged_file}
-use Rattle.part_reader.specs.Sound.{IsLoadedOf}
-use Rattle.part_set.specs.declared.kept.Kept.{Kept}
-use Rattle.part_set.specs.declared.root_name.RootName.{RootName}
-use Rattle.part_set.specs.declared.root_name.TablePart.{TablePart}
-use Rattle.part_set.specs.declared.roots.SetFault.{SetFault}
-use Rattle.part_set.specs.declared.roots.SetFault.TheVariants as set
-use Rattle.part_set.specs.NameOrder.{Rise}
-use Rattle.part_set.specs.Parts.{HasName, IsInBlockOrder}
-use Rattle.part_set.specs.RootNames.{root_text}
-use Rattle.part_set.specs.Sets.{parts_of}
-use Rattle.part_set.specs.Shows.{Shows}
-use Rattle.part_set.specs.Visible.{HasPart, HasTable, IsVisible}
+use Rattle.root_store.specs.mt_model.History.{IsTableSchema}
+use Rattle.root_store.specs.part_name.declared.part.PartName.{PartName}
+use Rattle.root_store.specs.part_reader.declared.reading.Part.{Part}
+use Rattle.root_store.specs.part_reader.DamagedFile.{damaged_file}
+use Rattle.root_store.specs.part_reader.Sound.{IsLoadedOf}
+use Rattle.root_store.specs.part_set.declared.kept.Kept.{Kept}
+use Rattle.root_store.specs.part_set.declared.root_name.RootName.{RootName}
+use Rattle.root_store.specs.part_set.declared.root_name.TablePart.{TablePart}
+use Rattle.root_store.specs.part_set.declared.roots.SetFault.{SetFault}
+use Rattle.root_store.specs.part_set.declared.roots.SetFault.TheVariants as set
+use Rattle.root_store.specs.part_set.NameOrder.{Rise}
+use Rattle.root_store.specs.part_set.Parts.{HasName, IsInBlockOrder}
+use Rattle.root_store.specs.part_set.RootNames.{root_text}
+use Rattle.root_store.specs.part_set.Sets.{parts_of}
+use Rattle.root_store.specs.part_set.Shows.{Shows}
+use Rattle.root_store.specs.part_set.Visible.{HasPart, HasTable, IsVisible}
 use Rattle.root_opening.specs.declared.opening.Damage.{Damage}
 use Rattle.root_opening.specs.declared.opening.Damage.TheVariants as damage
 use Rattle.root_opening.specs.declared.opening.OpenFault.{OpenFault}

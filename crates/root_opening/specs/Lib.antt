@@ -1,3 +1,5 @@
 pub mod Keeping
 pub mod Names
 pub mod Opening
+pub use Rattle.root_store.specs.part_set
+pub use Rattle.root_store.specs as root_store

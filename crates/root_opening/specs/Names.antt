@@ -1,7 +1,7 @@
 -- The names of a root, as they are read one after the other.
 use Rattle.std.specs.Prelude.{◌≡◌, ◌⊎◌, ⊤, ℕ, ◌≤◌, List, map, length, filter, take, slice_get, All, Some, true}
-use Rattle.part_set.specs.declared.root_name.RootName.{RootName}
-use Rattle.part_set.specs.RootNames.{IsRootName, root_text}
+use Rattle.root_store.specs.part_set.declared.root_name.RootName.{RootName}
+use Rattle.root_store.specs.part_set.RootNames.{IsRootName, root_text}
 use Rattle.root_opening.specs.declared.names.NameFault.{NameFault}
 use Rattle.root_opening.specs.declared.names.NameFault.TheVariants as fault
 use Rattle.root_store.specs.Damage.{IsBadName, is_entry_name, most_tables}

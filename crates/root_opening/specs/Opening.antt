@@ -2,9 +2,9 @@
 use Rattle.std.specs.Prelude.{◌≡◌, ⊤, ℕ, ◌≤◌, List, length, filter, slice_get, Some}
 use Rattle.mt_base.specs.declared.name.FileId.{FileId}
 use Rattle.mt_outside.specs.Disk.{Names}
-use Rattle.part_set.specs.declared.root_name.RootName.{RootName}
-use Rattle.part_set.specs.RootNames.{root_text}
-use Rattle.part_set.specs.Visible.{HasNoOrphan, HasNoOverlap, IsFirstOrphan, IsFirstOverlap}
+use Rattle.root_store.specs.part_set.declared.root_name.RootName.{RootName}
+use Rattle.root_store.specs.part_set.RootNames.{root_text}
+use Rattle.root_store.specs.part_set.Visible.{HasNoOrphan, HasNoOverlap, IsFirstOrphan, IsFirstOverlap}
 use Rattle.root_opening.specs.declared.opening.Damage.{Damage}
 use Rattle.root_opening.specs.declared.opening.Damage.TheVariants as damage
 use Rattle.root_opening.specs.declared.opening.OpenFault.{OpenFault}

@@ -5,7 +5,7 @@ ghost use Rattle.mt_base.specs.declared.name.FileId.TheVariants as file;
 ghost use Rattle.mt_values.specs.Tables.{MayHavePartition};
 ghost use Rattle.mt_outside.specs.Causes.{Rose};
 ghost use Rattle.mt_outside.specs.Disk.{Told, files_at, names_of};
-ghost use Rattle.mt_model.specs.History.{IsTableSchema};
+ghost use Rattle.root_store.specs.mt_model.History.{IsTableSchema};
 ghost use Rattle.root_store.specs.Damage.{EntryDamaged, PartDamaged};
 ghost use Rattle.root_store.specs.Entries.{EntryHolds};
 ghost use Rattle.root_opening.specs.Keeping.{IsDamageOf, IsPartRead, TellsFile};
@@ -15,8 +15,8 @@ use crate::{Damage, OpenFault, check_files, open_entry};
 use mt_base::Twin;
 use mt_outside::{Arm, Disk};
 use mt_values::{FileId, Name, Schema};
-use part_reader::{Part, PartFault};
-use part_set::TablePart;
+use root_store::part_reader::{Part, PartFault};
+use root_store::part_set::TablePart;
 use std::alloc::Global;
 
 // The damage of a file in the folder of a name.

@@ -4,15 +4,15 @@ ghost use Rattle.mt_values.specs.declared.schema.Schema.{Schema};
 ghost use Rattle.mt_values.specs.Script.{next_statement, statement_and, statements_of};
 ghost use Rattle.mt_outside.specs.Causes.{Rose};
 ghost use Rattle.mt_outside.specs.Files.{Files};
-ghost use Rattle.mt_model.specs.History.{IsTableSchema};
+ghost use Rattle.root_store.specs.mt_model.History.{IsTableSchema};
 ghost use Rattle.root_store.specs.Entries.{EntryHolds, IsEntryWith, schema_of_statement, schema_of_items, schema_of_entry};
 
-use digest_file::read_entry;
 use mt_base::{NoMemory, Seq, Stop};
-use mt_model::resolve;
 use mt_outside::{Arm, DiskError};
 use mt_values::{FileId, Name, Schema, Statement};
-use part_reader::{PartFault, read_file};
+use root_store::digest_file::read_entry;
+use root_store::mt_model::resolve;
+use root_store::part_reader::{PartFault, read_file};
 use sql_read::{Next, next_statement};
 use std::alloc::Global;
 

@@ -2,9 +2,9 @@
 ghost use Rattle.std.specs.Prelude.{◌≡◌, ◌≤◌, ℕ, List, filter, length};
 ghost use Rattle.mt_base.specs.declared.name.FileId.{FileId};
 ghost use Rattle.mt_outside.specs.Disk.{Names, Told, names_of};
-ghost use Rattle.mt_model.specs.History.{History};
-ghost use Rattle.part_set.specs.declared.root_name.RootName.{RootName};
-ghost use Rattle.part_set.specs.Visible.{HasNoOrphan, HasNoOverlap};
+ghost use Rattle.root_store.specs.mt_model.History.{History};
+ghost use Rattle.root_store.specs.part_set.declared.root_name.RootName.{RootName};
+ghost use Rattle.root_store.specs.part_set.Visible.{HasNoOrphan, HasNoOverlap};
 ghost use Rattle.root_opening.specs.declared.opening.Damage.{Damage};
 ghost use Rattle.root_store.specs.declared.store.CoreStore.{CoreStore};
 ghost use Rattle.root_store.specs.ByteOrder.{AreInByteOrder};

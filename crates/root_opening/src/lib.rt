@@ -18,4 +18,6 @@ pub use laws::{
 pub use names::{NameFault, read_names};
 pub use opening::{Damage, OpenFault, open};
 pub use part_files::check_files;
+pub use root_store;
+pub use sql_read;
 pub use steps::{Root, commands_of, settle, shows};

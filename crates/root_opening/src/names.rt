@@ -3,14 +3,14 @@ ghost use Rattle.std.specs.Prelude.{◌≡◌, ◌≤◌, ◌<◌, ℕ, true, If
 ghost use Rattle.std.specs.Cmp.Lexicographic.{slice_cmp};
 ghost use Rattle.std.specs.List.Sorted.{IsStrictlySortedBy};
 ghost use Rattle.std.specs.Ordering.{nat_cmp};
-ghost use Rattle.part_set.specs.NameOrder.{Rise};
-ghost use Rattle.part_set.specs.RootNames.{IsRootName, root_text};
+ghost use Rattle.root_store.specs.part_set.NameOrder.{Rise};
+ghost use Rattle.root_store.specs.part_set.RootNames.{IsRootName, root_text};
 ghost use Rattle.root_store.specs.Damage.{is_entry_name, most_tables};
 ghost use Rattle.root_opening.specs.Names.{AreNamesOf, IsBadBehind, IsFirstBadText, IsOfPlace, TellsBad, creates_in};
 
 use mt_base::{NoMemory, ROOT_TABLE_LIMIT, Seq};
 use mt_values::Name;
-use part_set::{RootName, read_name};
+use root_store::part_set::{RootName, read_name};
 use std::alloc::Global;
 
 /// Why the names of a root are not read.

@@ -2,14 +2,14 @@
 ghost use Rattle.std.specs.Prelude.{◌≡◌, ◌≤◌, IfErr, IfOk, IsErrOf, OnOk, Some, None};
 ghost use Rattle.mt_outside.specs.Causes.{Rose};
 ghost use Rattle.mt_outside.specs.Files.{Files};
-ghost use Rattle.mt_model.specs.History.{IsTableSchema};
-ghost use Rattle.part_reader.specs.Damage.{Tells};
-ghost use Rattle.part_reader.specs.DamagedFile.{damaged_file};
-ghost use Rattle.part_reader.specs.Sound.{IsLoadedOf};
+ghost use Rattle.root_store.specs.mt_model.History.{IsTableSchema};
+ghost use Rattle.root_store.specs.part_reader.Damage.{Tells};
+ghost use Rattle.root_store.specs.part_reader.DamagedFile.{damaged_file};
+ghost use Rattle.root_store.specs.part_reader.Sound.{IsLoadedOf};
 
 use mt_outside::Arm;
 use mt_values::Schema;
-use part_reader::{Part, PartFault, check_part, open_part};
+use root_store::part_reader::{Part, PartFault, check_part, open_part};
 use std::alloc::Global;
 
 /// The part with this folder, opened, and each of its files checked.

@@ -1,12 +1,12 @@
 // The names of a root: which parts are shown, how many commands there are, and how the names are settled.
 ghost use Rattle.std.specs.Prelude.{◌≡◌, ◌≢◌, ◌⊎◌, ◌+◌, ◌↔◌, [], IsTrue, OnErr, OnOk};
 ghost use Rattle.mt_outside.specs.DiskCauses.{HasDiskCause};
-ghost use Rattle.part_set.specs.Shows.{Shows};
-ghost use Rattle.part_set.specs.Visible.{IsVisible};
+ghost use Rattle.root_store.specs.part_set.Shows.{Shows};
+ghost use Rattle.root_store.specs.part_set.Visible.{IsVisible};
 
 use mt_outside::{Disk, DiskError};
 use mt_values::Name;
-use part_set::{PartSet, RootName, TablePart};
+use root_store::part_set::{PartSet, RootName, TablePart};
 
 /// The names of a root, as they are spelled and as they are read, and its visible parts.
 #[derive(Drop)]

@@ -2,12 +2,12 @@
 use Rattle.std.proofs.Common.{◌≡◌, ℕ, ◌≤◌, Bool, true, false, ◌&&◌, refl, nat_le}
 use Rattle.std.proofs.lemmas.Bool.{leb-true}
 use Rattle.mt_base.specs.declared.partition.Partition.{Partition}
-use Rattle.part_name.specs.declared.part.PartName.{PartName}
-use Rattle.part_history.specs.declared.part.CorePart.{CorePart}
+use Rattle.part_set.specs.part_name.declared.part.PartName.{PartName}
+use Rattle.table_core.specs.part_history.declared.part.CorePart.{CorePart}
 use Rattle.mt_values.specs.Tables.{same_partition}
-use Rattle.mt_model.specs.Numbers.{lies_within}
-use Rattle.mt_model.proofs.Commands.{partition_is}
-use Rattle.part_history.specs.Parts.{has_block}
+use Rattle.table_core.specs.mt_model.Numbers.{lies_within}
+use Rattle.table_core.proofs.MtModelCommands.{partition_is}
+use Rattle.table_core.specs.part_history.Parts.{has_block}
 
 both : (a b : Bool) → a && b ≡ true → (a ≡ true) × (b ≡ true)
 both true b is = (refl, is)

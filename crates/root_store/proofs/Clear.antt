@@ -6,13 +6,13 @@ use Rattle.std.specs.List.{Contains as HasItem}
 use Rattle.mt_base.specs.declared.partition.Partition.{Partition}
 use Rattle.mt_values.specs.Grammar.{same_bytes}
 use Rattle.mt_outside.specs.Disk.{Names}
-use Rattle.mt_model.specs.History.{History}
-use Rattle.mt_model.proofs.Tables.{itself_same}
+use Rattle.table_core.specs.mt_model.History.{History}
+use Rattle.table_core.proofs.MtModelTables.{itself_same}
 use Rattle.part_set.specs.declared.root_name.TablePart.{TablePart}
 use Rattle.part_set.specs.Visible.{Overlap}
-use Rattle.part_history.specs.declared.part.CorePart.{CorePart}
-use Rattle.part_history.specs.Parts.{PartStands, has_block, core_parts_of}
-use Rattle.part_history.proofs.Apart.{has_at}
+use Rattle.table_core.specs.part_history.declared.part.CorePart.{CorePart}
+use Rattle.table_core.specs.part_history.Parts.{PartStands, has_block, core_parts_of}
+use Rattle.table_core.proofs.PartHistoryApart.{has_at}
 use Rattle.root_store.specs.Roots.{Stands, named}
 use Rattle.root_store.proofs.Items.{filtered, two_count}
 use Rattle.root_store.proofs.Orphaned.{of_core, part_named}

@@ -16,18 +16,18 @@ use Rattle.mt_values.specs.declared.schema.Schema.{Schema}
 use Rattle.mt_values.specs.Grammar.{same_bytes}
 use Rattle.mt_values.specs.Values.{Row}
 use Rattle.mt_outside.specs.Files.{Files}
-use Rattle.mt_model.specs.History.{History, IsLegal, schema_of}
-use Rattle.mt_model.specs.Numbers.{IsNumberOfInsert}
-use Rattle.mt_model.proofs.Lists.{get_past}
-use Rattle.mt_model.proofs.Tables.{same_is}
+use Rattle.table_core.specs.mt_model.History.{History, IsLegal, schema_of}
+use Rattle.table_core.specs.mt_model.Numbers.{IsNumberOfInsert}
+use Rattle.table_core.proofs.MtModelLists.{get_past}
+use Rattle.table_core.proofs.MtModelTables.{same_is}
 use Rattle.part_reader.specs.declared.reading.Part.{Part}
 use Rattle.part_reader.specs.Parts.{PartHolds}
 use Rattle.part_reader.proofs.HeldRows.{one_held}
 use Rattle.part_set.specs.declared.kept.Kept.{Kept}
 use Rattle.part_set.specs.Sets as sets
 use Rattle.part_set.proofs.Maps.{found_is}
-use Rattle.part_history.specs.declared.part.CorePart.{CorePart}
-use Rattle.part_history.specs.Parts.{AreInBlockOrder, PartStands, TableStands, core_parts_of}
+use Rattle.table_core.specs.part_history.declared.part.CorePart.{CorePart}
+use Rattle.table_core.specs.part_history.Parts.{AreInBlockOrder, PartStands, TableStands, core_parts_of}
 use Rattle.table_core.specs.Core.{Core, IsCore, IsSnapshot}
 use Rattle.table_core.proofs.Keeping.{none_numbered, others_none, own_all}
 use Rattle.root_store.specs.declared.store.CoreStore.{CoreStore}

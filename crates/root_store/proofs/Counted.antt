@@ -7,10 +7,10 @@ use Rattle.mt_values.specs.declared.command.Command.TheVariants as command
 use Rattle.mt_values.specs.declared.command.Entry.{Entry}
 use Rattle.mt_values.specs.declared.schema.Schema.{Schema}
 use Rattle.mt_values.specs.Grammar.{same_bytes}
-use Rattle.mt_model.specs.History.{History, IsAllowed, IsLegal, IsLegalAfter, creates, first_of, is_create, schema_by, schema_of}
-use Rattle.mt_model.proofs.Tables.{itself_same, same_is}
-use Rattle.mt_model.specs.Numbers.{draws, numbered}
-use Rattle.mt_model.proofs.Histories.{schema_kept, schema_more}
+use Rattle.table_core.specs.mt_model.History.{History, IsAllowed, IsLegal, IsLegalAfter, creates, first_of, is_create, schema_by, schema_of}
+use Rattle.table_core.proofs.MtModelTables.{itself_same, same_is}
+use Rattle.table_core.specs.mt_model.Numbers.{draws, numbered}
+use Rattle.table_core.proofs.MtModelHistories.{schema_kept, schema_more}
 
 -- the table of a command
 abbrev pub table_by : Command → List ℕ

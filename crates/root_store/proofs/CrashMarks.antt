@@ -9,7 +9,7 @@ use Rattle.mt_values.specs.Annals as keeper
 use Rattle.mt_outside.specs.Disk.{Image, Names, Since, Told, at_clock, names_of}
 use Rattle.mt_outside.proofs.Changes.{image_from_left, left_at_all, since-sync, survive_same}
 use Rattle.mt_outside.proofs.Crashes.{image_as_read, image_synced, stamped_sync}
-use Rattle.mt_model.specs.History.{History}
+use Rattle.table_core.specs.mt_model.History.{History}
 use Rattle.root_store.specs.Crashes.{AllStand, BeginsWith, HoldsFirst, IsCrashSafe, IsFirstOf, IsMarkAfter, entries_of, none_begun}
 use Rattle.root_store.specs.Roots.{Stands}
 

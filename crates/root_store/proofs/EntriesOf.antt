@@ -10,9 +10,9 @@ use Rattle.mt_values.specs.declared.schema.Schema.{Schema}
 use Rattle.mt_values.specs.Grammar.{same_bytes}
 use Rattle.mt_values.specs.RootNames.{create_name}
 use Rattle.mt_outside.specs.Disk.{Names}
-use Rattle.mt_model.specs.History.{History, IsAllowed, IsLegal, IsLegalAfter, first_of, schema_by, schema_of}
-use Rattle.mt_model.proofs.Histories.{schema_more}
-use Rattle.mt_model.proofs.Tables.{itself_same, same_is}
+use Rattle.table_core.specs.mt_model.History.{History, IsAllowed, IsLegal, IsLegalAfter, first_of, schema_by, schema_of}
+use Rattle.table_core.proofs.MtModelHistories.{schema_more}
+use Rattle.table_core.proofs.MtModelTables.{itself_same, same_is}
 use Rattle.part_set.specs.declared.root_name.RootName.TheVariants as root
 use Rattle.part_set.specs.Visible.{HasTable}
 use Rattle.part_set.proofs.Items.{item_first, item_none}

@@ -11,12 +11,12 @@ use Rattle.mt_values.specs.declared.statement.Statement.{Statement}
 use Rattle.mt_values.specs.declared.statement.Statement.TheVariants as statement
 use Rattle.mt_values.specs.Grammar.{same_bytes}
 use Rattle.mt_values.specs.Script.{statements_of}
-use Rattle.mt_model.specs.declared.refusal.Refusal.{Refusal}
-use Rattle.mt_model.specs.Commands.{commands_of, create_commands, no_commands}
-use Rattle.mt_model.specs.Queries.{query_of_select}
-use Rattle.mt_model.specs.declared.query.Query.{Query}
-use Rattle.mt_model.specs.Reply.{schema_of_text}
-use Rattle.mt_model.proofs.Tables.{itself_same, same_is}
+use Rattle.table_core.specs.mt_model.declared.refusal.Refusal.{Refusal}
+use Rattle.table_core.specs.mt_model.Commands.{commands_of, create_commands, no_commands}
+use Rattle.table_core.specs.mt_model.Queries.{query_of_select}
+use Rattle.table_core.specs.mt_model.declared.query.Query.{Query}
+use Rattle.table_core.specs.mt_model.Reply.{schema_of_text}
+use Rattle.table_core.proofs.MtModelTables.{itself_same, same_is}
 use Rattle.root_store.specs.Entries.{ReadsAs, create_of, schema_of_statement, schema_of_items, schema_of_entry, entry_text}
 
 abbrev Item : Type 0

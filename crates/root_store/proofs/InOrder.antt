@@ -11,8 +11,8 @@ use Rattle.part_reader.specs.declared.reading.Part.{Part}
 use Rattle.part_set.specs.declared.kept.Kept.{Kept}
 use Rattle.part_set.specs.Parts.{IsInBlockOrder, StandsClear, partition_rank}
 use Rattle.part_set.proofs.Items.{item_first}
-use Rattle.part_history.specs.declared.part.CorePart.{CorePart}
-use Rattle.part_history.specs.Parts.{AreInBlockOrder, block_cmp, partition_cmp}
+use Rattle.table_core.specs.part_history.declared.part.CorePart.{CorePart}
+use Rattle.table_core.specs.part_history.Parts.{AreInBlockOrder, block_cmp, partition_cmp}
 use Rattle.root_store.specs.Stores.{core_part, core_parts}
 
 not_below : (p q : Partition) (m n : ℕ) → (nat_lt (partition_rank p) (partition_rank q) || (nat_eq (partition_rank p) (partition_rank q) && nat_le m n)) ≡ true

@@ -5,15 +5,15 @@ use Rattle.std.proofs.lemmas.List.Elements.{All-contains}
 use Rattle.std.specs.List.{Contains as HasItem}
 use Rattle.std.specs.Option.{IsSome}
 use Rattle.mt_outside.specs.Disk.{Names}
-use Rattle.mt_model.specs.History.{History}
-use Rattle.part_name.specs.declared.part.PartName.{PartName}
-use Rattle.part_name.specs.PartNames.{IsPartName}
+use Rattle.table_core.specs.mt_model.History.{History}
+use Rattle.part_set.specs.part_name.declared.part.PartName.{PartName}
+use Rattle.part_set.specs.part_name.PartNames.{IsPartName}
 use Rattle.part_set.specs.declared.root_name.RootName.{RootName}
 use Rattle.part_set.specs.declared.root_name.RootName.TheVariants.{Create, Part}
 use Rattle.part_set.specs.declared.root_name.TablePart.{TablePart}
 use Rattle.part_set.specs.RootNames.{IsRootName}
 use Rattle.part_set.specs.Visible.{Covers, HasPart, HasTable, IsOrphan, IsVisible}
-use Rattle.part_history.specs.declared.part.CorePart.{CorePart}
+use Rattle.table_core.specs.part_history.declared.part.CorePart.{CorePart}
 use Rattle.root_store.specs.Roots.{PartIsThere, Stands, named}
 use Rattle.root_store.proofs.EntriesOf.{table_entry}
 use Rattle.root_store.proofs.Items.{mapped}

@@ -12,8 +12,8 @@ use Rattle.std.specs.Ordering.{nat_cmp}
 use Rattle.mt_values.specs.RootNames.{create_name}
 use Rattle.mt_outside.specs.Disk.{Names, files_at}
 use Rattle.mt_outside.specs.Files.{Files}
-use Rattle.part_name.specs.declared.part.PartName.{PartName}
-use Rattle.part_name.specs.PartNames.{IsMutation, IsPartName, joined, last_text, part_text, partition_text}
+use Rattle.part_set.specs.part_name.declared.part.PartName.{PartName}
+use Rattle.part_set.specs.part_name.PartNames.{IsMutation, IsPartName, joined, last_text, part_text, partition_text}
 use Rattle.part_set.specs.declared.root_name.RootName.{RootName}
 use Rattle.part_set.specs.declared.root_name.RootName.TheVariants.{Create, Part}
 use Rattle.part_set.specs.declared.root_name.TablePart.{TablePart}

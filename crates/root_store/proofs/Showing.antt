@@ -4,7 +4,7 @@ use Rattle.std.proofs.lemmas.List.Elements.{All-nil}
 use Rattle.mt_outside.specs.Disk.{Names}
 use Rattle.root_store.specs.declared.store.CoreStore.{CoreStore}
 use Rattle.root_store.specs.Shown.{AreShown, GreatestAreShown, IsShown, part_called}
-use Rattle.part_name.specs.declared.part.PartName.{PartName}
+use Rattle.part_set.specs.part_name.declared.part.PartName.{PartName}
 use Rattle.part_reader.specs.declared.reading.Part.{Part}
 use Rattle.part_set.specs.declared.kept.Kept.{Kept}
 use Rattle.part_set.specs.declared.set.PartSet.{PartSet}

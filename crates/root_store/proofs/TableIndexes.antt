@@ -9,10 +9,10 @@ use Rattle.mt_values.specs.declared.schema.Schema.{Schema}
 use Rattle.mt_values.specs.declared.schema.SchemaFault.TheVariants as fault
 use Rattle.mt_values.specs.Schemas.{has_large_set, has_no_span}
 use Rattle.mt_values.proofs.RowPartitions.{sets_sound, spans_sound}
-use Rattle.mt_model.specs.History.{IsTableSchema}
-use Rattle.part_writer.specs.PartFiles.{HasIndexes}
+use Rattle.table_core.specs.mt_model.History.{IsTableSchema}
+use Rattle.part_reader.specs.part_writer.PartFiles.{HasIndexes}
 use Rattle.root_store.proofs.TableMarks.{has_marks}
-use Rattle.skip_index.specs.Blocks.{index_at, no_index}
+use Rattle.part_reader.specs.skip_index.Blocks.{index_at, no_index}
 
 -- where the place of no item is found, each fails the test
 none_found : {X Y : Type 0} (f : ℕ → Y) (p : X → Bool) (xs : List X) → option_map f (position p xs) ≡ None → (n : ℕ) (d : X) → n < length xs → p (get_or xs n d) ≡ false

@@ -6,9 +6,9 @@ use Rattle.mt_values.specs.declared.schema.Schema.{Schema}
 use Rattle.mt_values.specs.declared.schema.SchemaFault.TheVariants as fault
 use Rattle.mt_values.specs.Schemas.{granularity_fault}
 use Rattle.mt_values.proofs.RowPartitions.{granularity_sound}
-use Rattle.mt_model.specs.History.{IsTableSchema}
-use Rattle.mt_model.proofs.OwnColumns.{primary_own}
-use Rattle.primary_marks.specs.Keys.{HasMarks}
+use Rattle.table_core.specs.mt_model.History.{IsTableSchema}
+use Rattle.table_core.proofs.MtModelOwnColumns.{primary_own}
+use Rattle.part_reader.specs.primary_marks.Keys.{HasMarks}
 
 -- where no rule for granules is broken, a granule has a row
 granule_rows : (rows : ℕ) → granularity_fault rows ≡ None → 0 < rows

@@ -11,8 +11,8 @@ use Rattle.mt_values.specs.declared.schema.Schema.{Schema}
 use Rattle.mt_values.specs.Grammar.{same_bytes}
 use Rattle.mt_values.specs.RootNames.{create_name}
 use Rattle.mt_outside.specs.Disk.{Names}
-use Rattle.mt_model.specs.History.{History, schema_of}
-use Rattle.mt_model.proofs.Tables.{itself_same, same_is}
+use Rattle.table_core.specs.mt_model.History.{History, schema_of}
+use Rattle.table_core.proofs.MtModelTables.{itself_same, same_is}
 use Rattle.part_set.specs.declared.root_name.RootName.{RootName}
 use Rattle.part_set.specs.declared.root_name.RootName.TheVariants.{Create, Part}
 use Rattle.part_set.specs.RootNames.{root_text}

@@ -12,8 +12,8 @@ use Rattle.mt_values.specs.RootNames.{create_name}
 use Rattle.mt_values.specs.Tables.{MayHavePartition}
 use Rattle.mt_outside.specs.Disk.{Names, files_at}
 use Rattle.mt_outside.specs.Files.{Files}
-use Rattle.mt_model.specs.History.{History, schema_of}
-use Rattle.digest_file.proofs.Pieces.{fronts_apart}
+use Rattle.table_core.specs.mt_model.History.{History, schema_of}
+use Rattle.part_reader.proofs.DigestFilePieces.{fronts_apart}
 use Rattle.part_reader.specs.DamagedFile.{damaged_file}
 use Rattle.part_reader.proofs.DamagedFiles.{file_is}
 use Rattle.part_reader.proofs.HeldRows.{written_undamaged}
@@ -22,10 +22,10 @@ use Rattle.part_set.specs.declared.root_name.RootName.TheVariants as root
 use Rattle.part_set.specs.declared.root_name.TablePart.{TablePart}
 use Rattle.part_set.specs.RootNames.{root_text}
 use Rattle.part_set.specs.Visible.{IsVisible}
-use Rattle.part_history.specs.declared.part.CorePart.{CorePart}
-use Rattle.part_history.specs.Parts.{core_parts_of}
-use Rattle.part_history.proofs.Apart.{may_have}
-use Rattle.part_history.proofs.Numbered.{legal_schema}
+use Rattle.table_core.specs.part_history.declared.part.CorePart.{CorePart}
+use Rattle.table_core.specs.part_history.Parts.{core_parts_of}
+use Rattle.table_core.proofs.PartHistoryApart.{may_have}
+use Rattle.table_core.proofs.PartHistoryNumbered.{legal_schema}
 use Rattle.root_store.specs.Damage.{DamagedAt, IsDamaged, PartDamaged}
 use Rattle.root_store.specs.Entries.{EntryHolds, ReadsAs, create_of}
 use Rattle.root_store.specs.Roots.{FolderHolds, HasFolder, Stands}

@@ -4,12 +4,12 @@ use Rattle.std.specs.List.{AllZip}
 use Rattle.mt_values.specs.declared.schema.Schema.{Schema}
 use Rattle.mt_values.specs.Values.{Row}
 use Rattle.mt_outside.specs.Files.{Files}
-use Rattle.mt_model.specs.History.{History}
+use Rattle.table_core.specs.mt_model.History.{History}
 use Rattle.part_reader.specs.declared.reading.Part.{Part}
 use Rattle.part_reader.specs.Parts.{PartHolds}
 use Rattle.part_set.specs.declared.kept.Kept.{Kept}
 use Rattle.part_set.specs.Sets as sets
-use Rattle.part_history.specs.Parts.{core_parts_of}
+use Rattle.table_core.specs.part_history.Parts.{core_parts_of}
 use Rattle.table_core.specs.Core.{Core, IsCore}
 use Rattle.root_store.specs.declared.store.CoreStore.{CoreStore}
 use Rattle.root_store.specs.declared.store.Table.{Table}

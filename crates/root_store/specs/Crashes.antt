@@ -6,8 +6,8 @@ use Rattle.mt_values.specs.declared.command.Entry.{Entry}
 use Rattle.mt_values.specs.Annals as keeper
 use Rattle.mt_outside.specs.Disk.{Image, IsStamped, LeftAt, Names, Since, Told}
 use Rattle.mt_outside.specs.Files.{Files}
-use Rattle.mt_model.specs.History.{History}
-pub use Rattle.mt_model.specs.History.{entries_of}
+use Rattle.table_core.specs.mt_model.History.{History}
+pub use Rattle.table_core.specs.mt_model.History.{entries_of}
 use Rattle.root_store.specs.declared.store.CoreStore.{CoreStore}
 use Rattle.root_store.specs.Roots.{Stands}
 use Rattle.root_store.specs.Shown.{ImagesShow}

@@ -14,8 +14,8 @@ use Rattle.mt_values.specs.Manifests.{entry_bytes}
 use Rattle.mt_values.specs.RootNames.{create_name}
 use Rattle.mt_values.specs.Script.{statements_of}
 use Rattle.mt_outside.specs.Files.{Files, bytes_of}
-use Rattle.mt_model.specs.Commands.{commands_of}
-use Rattle.mt_model.specs.Reply.{schema_of_text}
+use Rattle.table_core.specs.mt_model.Commands.{commands_of}
+use Rattle.table_core.specs.mt_model.Reply.{schema_of_text}
 
 -- the text of a statement that has an entry, from its first token up to its semicolon (docs/formats.md, "Entries")
 abbrev pub entry_text : Statement → Option (List ℕ)

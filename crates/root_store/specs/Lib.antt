@@ -7,3 +7,12 @@ pub mod Roots
 pub mod Shown
 pub mod Soundness
 pub mod Stores
+pub use Rattle.part_reader.specs.digest_file
+pub use Rattle.table_core.specs.mt_model
+pub use Rattle.mutation_queue.specs as mutation_queue
+pub use Rattle.table_core.specs.part_history
+pub use Rattle.part_set.specs.part_name
+pub use Rattle.part_reader.specs as part_reader
+pub use Rattle.part_set.specs as part_set
+pub use Rattle.part_reader.specs.part_writer
+pub use Rattle.table_core.specs as table_core

@@ -5,15 +5,15 @@ use Rattle.mt_values.specs.declared.command.Entry.{Entry}
 use Rattle.mt_values.specs.declared.schema.Schema.{Schema}
 use Rattle.mt_outside.specs.Disk.{Names, files_at}
 use Rattle.mt_outside.specs.Files.{Files}
-use Rattle.mt_model.specs.History.{History, IsLegal, schema_of}
+use Rattle.table_core.specs.mt_model.History.{History, IsLegal, schema_of}
 use Rattle.part_set.specs.declared.root_name.RootName.{RootName}
 use Rattle.part_set.specs.declared.root_name.RootName.TheVariants as root
 use Rattle.part_set.specs.declared.root_name.TablePart.{TablePart}
 use Rattle.part_set.specs.RootNames.{IsRootName, root_text}
 use Rattle.part_set.specs.Visible.{HasPart, IsVisible}
 pub use Rattle.part_reader.specs.Parts.{FolderHolds}
-use Rattle.part_history.specs.declared.part.CorePart.{CorePart}
-use Rattle.part_history.specs.Parts.{PartsStand}
+use Rattle.table_core.specs.part_history.declared.part.CorePart.{CorePart}
+use Rattle.table_core.specs.part_history.Parts.{PartsStand}
 use Rattle.root_store.specs.Entries.{HoldsEntry, entry_name}
 
 -- the root has a folder of this name, and it is so

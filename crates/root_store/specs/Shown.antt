@@ -3,7 +3,7 @@ use Rattle.std.specs.Prelude.{◌≡◌, ◌≤◌, ◌↔◌, ℕ, List, All, O
 use Rattle.std.specs.Option.{ForSome}
 use Rattle.mt_base.specs.Limits.{level_limit}
 use Rattle.mt_outside.specs.Disk.{Image, Names, Told}
-use Rattle.part_name.specs.declared.part.PartName.{PartName}
+use Rattle.part_set.specs.part_name.declared.part.PartName.{PartName}
 use Rattle.part_reader.specs.declared.reading.Part.{Part}
 use Rattle.part_set.specs.declared.kept.Kept.{Kept}
 use Rattle.part_set.specs.declared.root_name.RootName.{RootName}

@@ -8,9 +8,9 @@ use Rattle.mt_values.specs.Tables.{MayHavePartition}
 use Rattle.mt_values.specs.Values.{Row}
 use Rattle.mt_outside.specs.Disk.{Told, names_of}
 use Rattle.mt_outside.specs.Files.{Files}
-use Rattle.mt_model.specs.History.{History, IsTableSchema}
-use Rattle.part_name.specs.declared.part.PartName.{PartName}
-use Rattle.part_name.specs.PartNames.{IsPartName, part_text}
+use Rattle.table_core.specs.mt_model.History.{History, IsTableSchema}
+use Rattle.part_set.specs.part_name.declared.part.PartName.{PartName}
+use Rattle.part_set.specs.part_name.PartNames.{IsPartName, part_text}
 use Rattle.part_reader.specs.declared.reading.Part.{Part}
 use Rattle.part_reader.specs.Parts.{PartHolds}
 use Rattle.part_set.specs.declared.kept.Kept.{Kept}

@@ -10,10 +10,10 @@ use Rattle.mt_values.specs.RootNames.{create_name}
 use Rattle.mt_values.specs.Values.{Row}
 use Rattle.mt_outside.specs.Disk.{Names, files_at}
 use Rattle.mt_outside.specs.Files.{Files}
-use Rattle.mt_model.specs.History.{History, IsLegal, creates, schema_of}
-use Rattle.mt_model.specs.Numbers.{last_number}
+use Rattle.table_core.specs.mt_model.History.{History, IsLegal, creates, schema_of}
+use Rattle.table_core.specs.mt_model.Numbers.{last_number}
 use Rattle.part_reader.specs.declared.reading.Part.{Part}
-use Rattle.part_name.specs.declared.part.PartName.{PartName}
+use Rattle.part_set.specs.part_name.declared.part.PartName.{PartName}
 use Rattle.part_reader.specs.Parts.{PartHolds}
 use Rattle.part_reader.specs.Sound.{IsLoadedOf}
 use Rattle.part_set.specs.declared.kept.Kept.{Kept}
@@ -24,8 +24,8 @@ use Rattle.part_set.specs.Parts.{IsInBlockOrder}
 use Rattle.part_set.specs.RootNames.{root_text}
 use Rattle.part_set.specs.Sets.{parts_of}
 use Rattle.part_set.specs.Visible.{HasTable, IsVisible}
-use Rattle.part_history.specs.declared.part.CorePart.{CorePart}
-use Rattle.part_history.specs.Parts.{AreInBlockOrder, TableStands}
+use Rattle.table_core.specs.part_history.declared.part.CorePart.{CorePart}
+use Rattle.table_core.specs.part_history.Parts.{AreInBlockOrder, TableStands}
 use Rattle.root_store.specs.declared.store.CoreStore.{CoreStore}
 use Rattle.root_store.specs.declared.store.Table.{Table}
 use Rattle.root_store.specs.Entries.{EntryHolds}

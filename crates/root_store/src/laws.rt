@@ -1,6 +1,6 @@
 // What follows of a store that stands for a history. The function has an empty body and the law as its contract.
 ghost use Rattle.std.specs.Prelude.{All};
-ghost use Rattle.mt_model.specs.History.{History};
+ghost use Rattle.table_core.specs.mt_model.History.{History};
 ghost use Rattle.table_core.specs.Core.{Core, IsCore, IsSnapshot};
 ghost use Rattle.root_store.specs.declared.store.CoreStore.{CoreStore};
 ghost use Rattle.root_store.specs.Cores.{ShowsCore, ShowsCoreOf};

@@ -5,4 +5,9 @@ mod laws;
 mod store;
 
 pub use laws::stores_show_the_core;
+pub use part_reader;
+pub use part_reader::{digest_file, part_writer};
+pub use part_set;
+pub use part_set::part_name;
 pub use store::{CoreStore, Table, put_table};
+pub use table_core::mt_model;

@@ -13,7 +13,7 @@ use Rattle.std.proofs.lemmas.List.Elements.{All-cons, All-filter, All-head, All-
 use Rattle.mt_values.specs.declared.value.Value.{Value}
 use Rattle.mt_values.specs.Order.{key_cmp, key_of, value_cmp}
 use Rattle.mt_values.specs.Values.{Row}
-use Rattle.mt_model.specs.Folding.{Leaves}
+use Rattle.part_history.specs.mt_model.Folding.{Leaves}
 use Rattle.row_merge.specs.Merged.{IsFoldOf, alike, rows_of}
 use Rattle.row_merge.proofs.Keys.{key_exact, key_total}
 use Rattle.row_merge.proofs.Lent.{back_of, front_of, next_is}

@@ -13,16 +13,16 @@ use Rattle.mt_values.specs.declared.schema.Schema.{Schema}
 use Rattle.mt_values.specs.Tables.{partition_of, same_partition, sorting_cmp}
 use Rattle.mt_values.specs.Values.{Row}
 use Rattle.mt_values.proofs.RowPartitions.{values_fit}
-use Rattle.mt_model.specs.History.{History, IsInsertInto, IsLegal, schema_of}
-use Rattle.mt_model.specs.Live.{live, sorted}
-use Rattle.mt_model.specs.Numbers.{lies_within, numbered, within}
-use Rattle.mt_model.proofs.Determined.{sorting_total}
-use Rattle.mt_model.proofs.Sorting.{sorted_permutes}
+use Rattle.part_history.specs.mt_model.History.{History, IsInsertInto, IsLegal, schema_of}
+use Rattle.part_history.specs.mt_model.Live.{live, sorted}
+use Rattle.part_history.specs.mt_model.Numbers.{lies_within, numbered, within}
+use Rattle.part_history.proofs.MtModelDetermined.{sorting_total}
+use Rattle.part_history.proofs.MtModelSorting.{sorted_permutes}
 use Rattle.part_history.specs.declared.part.CorePart.{CorePart}
 use Rattle.part_history.specs.Parts.{PartStands}
 use Rattle.part_history.proofs.Numbered.{IsInto, all_into, kept, kept_if, live_numbered, live_within, sorted_by}
-use Rattle.rule_law.specs.TableRows.{IsTableRow}
-use Rattle.rule_law.proofs.PartlyRows.{partly_table}
+use Rattle.rule_replacing.specs.rule_law.TableRows.{IsTableRow}
+use Rattle.rule_replacing.proofs.RuleLawPartlyRows.{partly_table}
 use Rattle.row_merge.specs.Merged.{ArePartRows}
 
 -- ---- live rows

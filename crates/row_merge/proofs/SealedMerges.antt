@@ -18,9 +18,9 @@ use Rattle.mt_values.proofs.Grids.{All-range, items_at_all}
 use Rattle.mt_outside.specs.Files.{Files}
 use Rattle.mt_outside.specs.declared.disk.DiskError.{DiskError}
 use Rattle.mt_outside.specs.declared.disk.DiskError.TheVariants as disk
-use Rattle.digest_file.specs.Spellings.{IsManifestOf}
-use Rattle.part_writer.specs.declared.loaded.Loaded.{Loaded}
-use Rattle.part_writer.specs.PartFiles.{all_synced, files_of_part, loaded_of}
+use Rattle.part_reader.specs.digest_file.Spellings.{IsManifestOf}
+use Rattle.part_reader.specs.part_writer.declared.loaded.Loaded.{Loaded}
+use Rattle.part_reader.specs.part_writer.PartFiles.{all_synced, files_of_part, loaded_of}
 use Rattle.part_reader.specs.declared.reading.Part.{Part}
 use Rattle.part_reader.specs.declared.reading.PartFault.{PartFault}
 use Rattle.part_reader.specs.Faults.{ExplainsAt, FaultOf}

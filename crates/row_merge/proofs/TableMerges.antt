@@ -10,15 +10,15 @@ use Rattle.mt_values.specs.declared.schema.Schema.{Schema}
 use Rattle.mt_values.specs.Order.{HasPlaces, key_cmp}
 use Rattle.mt_values.specs.Tables.{partition_of, same_partition, sorting_cmp, sorting_columns}
 use Rattle.mt_values.specs.Values.{Row, type_of}
-use Rattle.mt_model.specs.Folding.{Leaves}
-use Rattle.mt_model.specs.History.{IsTableSchema}
-use Rattle.mt_model.specs.Live.{of_key}
-use Rattle.mt_model.specs.Partial.{Partly, TableRun}
-use Rattle.mt_model.proofs.OwnColumns.{sorting_own}
-use Rattle.rule_law.specs.TableRows.{IsTableRow}
-use Rattle.rule_law.proofs.ApartColumns.{partition_apart}
-use Rattle.rule_law.proofs.PartlyRows.{holds_at, partly_keeps}
-use Rattle.rule_law.proofs.TableRows.{run_partition, run_table}
+use Rattle.part_history.specs.mt_model.Folding.{Leaves}
+use Rattle.part_history.specs.mt_model.History.{IsTableSchema}
+use Rattle.part_history.specs.mt_model.Live.{of_key}
+use Rattle.part_history.specs.mt_model.Partial.{Partly, TableRun}
+use Rattle.part_history.proofs.MtModelOwnColumns.{sorting_own}
+use Rattle.rule_replacing.specs.rule_law.TableRows.{IsTableRow}
+use Rattle.rule_replacing.proofs.RuleLawApartColumns.{partition_apart}
+use Rattle.rule_replacing.proofs.RuleLawPartlyRows.{holds_at, partly_keeps}
+use Rattle.rule_replacing.proofs.RuleLawTableRows.{run_partition, run_table}
 use Rattle.row_merge.specs.Merged.{AreMergeable, AreOrdered, ArePartRows, IsFoldOf, IsMergeOf, IsMergedOf, alike, rows_of_all}
 use Rattle.row_merge.proofs.Keys.{key_total}
 use Rattle.row_merge.proofs.Merges.{all_of_all}

@@ -12,12 +12,12 @@ use Rattle.mt_values.specs.Engines.{is_sign, keeps_sign, sign_place}
 use Rattle.mt_values.specs.Schemas.{column_types}
 use Rattle.mt_values.specs.Tables.{has_sign, sorting_columns}
 use Rattle.mt_values.specs.Values.{Row}
-use Rattle.mt_model.specs.History.{IsTableSchema}
-use Rattle.mt_model.specs.Partial.{TableRun, functions_of}
-use Rattle.mt_model.specs.Rules.{HasSign, Run, is_one_of}
-use Rattle.rule_law.specs.TableRows.{IsTableRow}
-use Rattle.rule_law.proofs.ApartColumns.{sorting_apart}
-use Rattle.rule_law.proofs.TableRows.{IsApart, even_columns}
+use Rattle.part_history.specs.mt_model.History.{IsTableSchema}
+use Rattle.part_history.specs.mt_model.Partial.{TableRun, functions_of}
+use Rattle.part_history.specs.mt_model.Rules.{HasSign, Run, is_one_of}
+use Rattle.rule_replacing.specs.rule_law.TableRows.{IsTableRow}
+use Rattle.rule_replacing.proofs.RuleLawApartColumns.{sorting_apart}
+use Rattle.rule_replacing.proofs.RuleLawTableRows.{IsApart, even_columns}
 use Rattle.row_merge.specs.Merged.{ArePartRows, inputs_of}
 
 -- ---- signs

@@ -1,2 +1,8 @@
 pub mod Merged
 pub mod MergedParts
+pub use Rattle.part_reader.specs.column_file
+pub use Rattle.part_reader.specs as part_reader
+pub use Rattle.part_set.specs as part_set
+pub use Rattle.part_reader.specs.part_writer
+pub use Rattle.part_reader.specs.primary_marks
+pub use Rattle.rule_replacing.specs.rule_law

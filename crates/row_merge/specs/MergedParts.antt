@@ -6,9 +6,9 @@ use Rattle.mt_values.specs.declared.schema.Schema.{Schema}
 use Rattle.mt_values.specs.Schemas.{column_types}
 use Rattle.mt_values.specs.Values.{Row}
 use Rattle.mt_outside.specs.Files.{Files}
-use Rattle.part_name.specs.declared.part.PartName.{PartName}
-use Rattle.part_writer.specs.declared.loaded.Loaded.{Loaded}
-use Rattle.part_writer.specs.PartFiles.{loaded_of}
+use Rattle.part_history.specs.part_name.declared.part.PartName.{PartName}
+use Rattle.part_reader.specs.part_writer.declared.loaded.Loaded.{Loaded}
+use Rattle.part_reader.specs.part_writer.PartFiles.{loaded_of}
 use Rattle.part_reader.specs.declared.reading.Part.{Part}
 use Rattle.part_reader.specs.declared.reading.PartFault.{PartFault}
 use Rattle.part_reader.specs.Faults.{ExplainsAt, ExplainsColumn}

@@ -2,8 +2,8 @@
 ghost use Rattle.std.specs.Prelude.{◌≡◌, All, IfOk};
 ghost use Rattle.std.specs.List.{list_all};
 ghost use Rattle.mt_base.specs.declared.partition.Partition.{Partition};
-ghost use Rattle.mt_model.specs.History.{IsTableSchema};
-ghost use Rattle.mt_model.specs.Partial.{functions_of};
+ghost use Rattle.part_history.specs.mt_model.History.{IsTableSchema};
+ghost use Rattle.part_history.specs.mt_model.Partial.{functions_of};
 ghost use Rattle.mt_values.specs.Grid.{AreRowsOf};
 ghost use Rattle.mt_values.specs.Schemas.{column_types};
 ghost use Rattle.mt_values.specs.Tables.{has_sign};

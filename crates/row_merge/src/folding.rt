@@ -7,7 +7,7 @@ ghost use Rattle.row_merge.specs.Merged.{AreOrdered, IsFoldOf, rows_of};
 use crate::order::count_up_to;
 use mt_base::NoMemory;
 use mt_values::Row;
-use rule_law::RowRule;
+use rule_replacing::rule_law::RowRule;
 use std::alloc::Global;
 
 /// What the rule leaves of rows in the order by the columns at these places.

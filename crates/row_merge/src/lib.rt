@@ -9,8 +9,16 @@ mod order;
 mod parts;
 
 pub use choosing::merge_rows;
+pub use collapse_rules;
 pub use merging::merge_sorted;
+pub use part_reader;
+pub use part_reader::{column_file, digest_file, part_writer, primary_marks, skip_index};
+pub use part_set;
 pub use parts::merge_parts;
+pub use rule_aggregating;
+pub use rule_replacing;
+pub use rule_replacing::rule_law;
+pub use rule_summing;
 
 #[cfg(test)]
 mod tests;

@@ -2,7 +2,7 @@
 ghost use Rattle.std.specs.Prelude.{◌≡◌, ◌<◌, ◌≤◌, ◌^◌, true, All, IfErr, IfOk, IsErrOf, List, OnOk, length};
 ghost use Rattle.std.specs.List.{range_with_len};
 ghost use Rattle.mt_base.specs.declared.partition.Partition.{Partition};
-ghost use Rattle.mt_model.specs.History.{IsTableSchema};
+ghost use Rattle.part_history.specs.mt_model.History.{IsTableSchema};
 ghost use Rattle.mt_outside.specs.Causes.{Rose};
 ghost use Rattle.mt_outside.specs.DiskCauses.{HasDiskCause};
 ghost use Rattle.mt_values.specs.Grid.{AreRowsOf};
@@ -10,8 +10,8 @@ ghost use Rattle.mt_values.specs.Schemas.{column_types};
 ghost use Rattle.mt_values.specs.Values.{Row};
 ghost use Rattle.part_reader.specs.Faults.{IsNoDamage};
 ghost use Rattle.part_reader.specs.Parts.{PartHolds};
-ghost use Rattle.part_writer.specs.PartFiles.{HasIndexes};
-ghost use Rattle.primary_marks.specs.Keys.{HasMarks};
+ghost use Rattle.part_reader.specs.part_writer.PartFiles.{HasIndexes};
+ghost use Rattle.part_reader.specs.primary_marks.Keys.{HasMarks};
 ghost use Rattle.row_merge.specs.Merged.{ArePartRows, inputs_of};
 ghost use Rattle.row_merge.specs.MergedParts.{ExplainsMerge, ExplainsPart, IsSealedMerge, IsSealedPart, PartsHold};
 
@@ -19,10 +19,10 @@ use crate::choosing::merge_rows;
 use mt_base::{NoMemory, Rows};
 use mt_outside::{Arm, DiskError};
 use mt_values::{Block, Row, Schema};
-use part_name::PartName;
+use part_history::part_name::PartName;
+use part_reader::part_writer::{SealedPart, write_part};
 use part_reader::{Part, PartFault, empty_columns, read_columns, rows_of_block};
 use part_set::Kept;
-use part_writer::{SealedPart, write_part};
 use std::alloc::Global;
 
 /// The part that a merge makes of parts of one partition, sealed: what the rule of the table's engine leaves of their rows, also where

@@ -2,7 +2,7 @@
 use crate::{merge_rows, merge_sorted};
 use mt_base::{NoMemory, Seq};
 use mt_values::{ColType, Column, Engine, Row, Schema, Value};
-use rule_law::RowRule;
+use rule_replacing::rule_law::RowRule;
 use rule_replacing::{PlainRule, ReplacingRule};
 use std::alloc::Global;
 use std::mem;

@@ -14,7 +14,7 @@ use Rattle.mt_values.specs.declared.value.Value.{Value}
 use Rattle.mt_values.specs.declared.value.Value.TheVariants as value
 use Rattle.mt_values.specs.Order.{rank_of, value_cmp}
 use Rattle.mt_values.specs.Values.{FitsType, type_of}
-use Rattle.mt_model.specs.Rules.{IsAggregateOf, IsBest, integer_of, total, wrapped_as}
+use Rattle.rule_law.specs.mt_model.Rules.{IsAggregateOf, IsBest, integer_of, total, wrapped_as}
 use Rattle.rule_aggregating.specs.Folded.{FoldsIn, plus}
 use Rattle.rule_law.proofs.Aggregated.{aggregate_type, greater_order, less_order, passes_not}
 use Rattle.rule_law.proofs.OneSign.{total_after}

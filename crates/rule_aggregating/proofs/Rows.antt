@@ -10,7 +10,7 @@ use Rattle.mt_values.specs.declared.value.ColType.TheVariants as type
 use Rattle.mt_values.specs.declared.value.Value.{Value}
 use Rattle.mt_values.specs.Grid.{column_of}
 use Rattle.mt_values.specs.Values.{FitsType, Row, type_of, types_of}
-use Rattle.mt_model.specs.Rules.{AreAggregatesFrom, IsAggregateOf}
+use Rattle.rule_law.specs.mt_model.Rules.{AreAggregatesFrom, IsAggregateOf}
 use Rattle.rule_aggregating.specs.Folded.{FoldsAt, FoldsIn, any_value}
 use Rattle.rule_aggregating.proofs.OneMore.{one_value}
 use Rattle.rule_law.proofs.Aggregated.{TakesRow, aggregate_at, aggregates_at_all, aggregates_length, column_of_one, column_typed, function_at, taken_types}

@@ -4,7 +4,7 @@ use Rattle.mt_values.specs.declared.engine.Aggregate.{Aggregate}
 use Rattle.mt_values.specs.declared.value.Value.{Value}
 use Rattle.mt_values.specs.Values.{Row, type_of}
 pub use Rattle.rule_law.specs.Added.{any_value, plus}
-use Rattle.mt_model.specs.Rules.{IsAggregateOf, function_or_first, integer_of, wrapped_as}
+use Rattle.rule_law.specs.mt_model.Rules.{IsAggregateOf, function_or_first, integer_of, wrapped_as}
 
 -- where the one is what a function makes of some values, the last is what it makes of them and of one value more of their type (docs/engines.md, "AggregatingMergeTree")
 abbrev pub FoldsIn : Aggregate → Value → Value → Value → Type 0

@@ -1,6 +1,6 @@
 // AggregatingMergeTree: one row of a key stays, each value by the function of its column (docs/engines.md, "AggregatingMergeTree").
 ghost use Rattle.std.specs.Prelude.{◌≡◌, All, None, Some, length, slice_get};
-ghost use Rattle.mt_model.specs.Rules.{AreAggregatesFrom, Folds, Run};
+ghost use Rattle.rule_law.specs.mt_model.Rules.{AreAggregatesFrom, Folds, Run};
 ghost use Rattle.mt_values.specs.Values.{types_of};
 ghost use Rattle.mt_values.specs.declared.engine.Engine.TheVariants as engine;
 ghost use Rattle.rule_law.proofs.Aggregated.{aggregating_keeps, aggregating_law, aggregating_stays};

@@ -1,7 +1,7 @@
 // One row more, folded into the values that are kept, each by the function of its column.
 ghost use Rattle.std.specs.Prelude.{◌≡◌, ◌<◌, ℕ, None, OnOk, bit_and, bit_or, bit_xor, get_or, length, set};
 ghost use Rattle.mt_values.specs.Values.{FitsType};
-ghost use Rattle.mt_model.specs.Rules.{function_or_first, joined_bits};
+ghost use Rattle.rule_law.specs.mt_model.Rules.{function_or_first, joined_bits};
 ghost use Rattle.rule_aggregating.specs.Folded.{FoldsAt, FoldsIn, any_value};
 
 use mt_base::{NoMemory, Twin};

@@ -1,7 +1,7 @@
 // Worked examples (docs/engines.md, "AggregatingMergeTree"): the functions have empty bodies and the examples as their contracts.
 ghost use Rattle.std.specs.Prelude.{◌≡◌, ◌∷◌, [], ℕ, List, None, Some, bit_and, bit_or, bit_xor};
 ghost use Rattle.std.specs.List.{reduce};
-ghost use Rattle.mt_model.specs.Rules.{LeavesAggregates, joined_bits};
+ghost use Rattle.rule_law.specs.mt_model.Rules.{LeavesAggregates, joined_bits};
 ghost use Rattle.mt_values.specs.declared.engine.Aggregate.TheVariants.{AnyLast, Max};
 ghost use Rattle.mt_values.specs.declared.value.Value.TheVariants.{Text, UInt8};
 ghost use Rattle.mt_values.specs.Values.{Row};

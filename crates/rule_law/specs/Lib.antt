@@ -1,2 +1,3 @@
 pub mod Added
 pub mod TableRows
+pub use Rattle.mt_model.specs as mt_model

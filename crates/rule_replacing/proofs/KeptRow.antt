@@ -4,7 +4,7 @@ use Rattle.std.specs.List.{All}
 use Rattle.std.proofs.lemmas.List.Elements.{All-nil, All-cons, All-append, All-push, All-same}
 use Rattle.mt_values.specs.Values.{Row}
 use Rattle.mt_values.specs.declared.engine.Engine.TheVariants as engine
-use Rattle.mt_model.specs.Rules.{Run, LeavesNewest, version_at}
+use Rattle.rule_law.specs.mt_model.Rules.{Run, LeavesNewest, version_at}
 use Rattle.rule_replacing.specs.Replaced.{replaces}
 
 -- the row that comes takes the place of the one that was kept, or does not

@@ -1,1 +1,2 @@
 pub mod Replaced
+pub use Rattle.rule_law.specs as rule_law

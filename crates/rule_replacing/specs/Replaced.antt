@@ -1,6 +1,6 @@
 -- Which of two rows stays (docs/engines.md, "ReplacingMergeTree").
 use Rattle.std.specs.Prelude.{ℕ, Bool, true, nat_le, Option, None, Some}
-use Rattle.mt_model.specs.Rules.{version_at}
+use Rattle.rule_law.specs.mt_model.Rules.{version_at}
 use Rattle.mt_values.specs.Values.{Row}
 
 -- a later row takes the place of an earlier one, where there is a version only if the later has no lesser one (docs/engines.md, "ReplacingMergeTree")

@@ -6,3 +6,4 @@ mod replacing;
 
 pub use plain::PlainRule;
 pub use replacing::ReplacingRule;
+pub use rule_law;

@@ -1,6 +1,6 @@
 // MergeTree: all rows of a key stay, in their order (docs/engines.md, "MergeTree").
 ghost use Rattle.std.specs.Prelude.{◌≡◌, []};
-ghost use Rattle.mt_model.specs.Rules.{Folds, Run};
+ghost use Rattle.rule_law.specs.mt_model.Rules.{Folds, Run};
 ghost use Rattle.mt_values.specs.declared.engine.Engine.TheVariants as engine;
 ghost use Rattle.mt_values.specs.Order.{key_of};
 ghost use Rattle.mt_values.specs.Values.{types_of};

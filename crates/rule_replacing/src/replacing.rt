@@ -1,6 +1,6 @@
 // ReplacingMergeTree: the last row of a key stays, or the last of those with the greatest version (docs/engines.md, "ReplacingMergeTree").
 ghost use Rattle.std.specs.Prelude.{◌≡◌, ◌∷◌, [], IsTrue, ◌↔◌, ◌≤◌, None, Some};
-ghost use Rattle.mt_model.specs.Rules.{Folds, Run};
+ghost use Rattle.rule_law.specs.mt_model.Rules.{Folds, Run};
 ghost use Rattle.mt_values.specs.declared.engine.Engine.TheVariants as engine;
 ghost use Rattle.mt_values.specs.Order.{key_of};
 ghost use Rattle.mt_values.specs.Values.{types_of};

@@ -10,7 +10,7 @@ use Rattle.mt_values.specs.declared.value.Value.TheVariants as value
 use Rattle.mt_values.specs.Grid.{column_of}
 use Rattle.mt_values.specs.Order.{rank_of}
 use Rattle.mt_values.specs.Values.{Row, type_of, types_of}
-use Rattle.mt_model.specs.Rules.{integer_of, is_one_of, summed, total, with_sums, with_sums_from, wrapped_as}
+use Rattle.rule_law.specs.mt_model.Rules.{integer_of, is_one_of, summed, total, with_sums, with_sums_from, wrapped_as}
 use Rattle.rule_law.proofs.OneSign.{column_total}
 use Rattle.rule_law.proofs.OneSum.{all_one}
 use Rattle.rule_law.proofs.Summed.{type_at, value_at}

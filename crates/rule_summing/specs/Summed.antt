@@ -5,7 +5,7 @@ use Rattle.mt_values.specs.declared.value.Value.{Value}
 use Rattle.mt_values.specs.Grid.{column_of}
 use Rattle.mt_values.specs.Values.{Row}
 pub use Rattle.rule_law.specs.Added.{any_value, plus}
-use Rattle.mt_model.specs.Rules.{integer_of, is_one_of, total, with_sums, wrapped_as}
+use Rattle.rule_law.specs.mt_model.Rules.{integer_of, is_one_of, total, with_sums, wrapped_as}
 
 -- one of the rows, with the sums of all of them in its summed columns (docs/engines.md, "SummingMergeTree")
 pub record HasSums (places : List ℕ) (rows : List Row) (sums : Row) : Type 0 where

@@ -1,6 +1,6 @@
 // SummingMergeTree: one row of a key stays, with the sums of the summed columns (docs/engines.md, "SummingMergeTree").
 ghost use Rattle.std.specs.Prelude.{◌≡◌, [], All, false};
-ghost use Rattle.mt_model.specs.Rules.{Folds, Run, is_one_of};
+ghost use Rattle.rule_law.specs.mt_model.Rules.{Folds, Run, is_one_of};
 ghost use Rattle.mt_values.specs.Values.{types_of};
 ghost use Rattle.mt_values.specs.declared.engine.Engine.TheVariants as engine;
 ghost use Rattle.rule_law.proofs.OneSum.{summing_keeps, summing_law, summing_types};

@@ -1,7 +1,7 @@
 // The sums of rows in some of their columns, which wrap at each column's width (docs/engines.md, "Sums").
 ghost use Rattle.std.specs.Prelude.{◌≡◌, ◌<◌, ◌∷◌, [], get_or, length, set, pos};
 ghost use Rattle.std.specs.Ordering.{int_eq};
-ghost use Rattle.mt_model.specs.Rules.{are_zero, integer_of, is_one_of, summed, with_sums, wrapped_as};
+ghost use Rattle.rule_law.specs.mt_model.Rules.{are_zero, integer_of, is_one_of, summed, with_sums, wrapped_as};
 ghost use Rattle.rule_summing.specs.Summed.{added_at, any_value, changed_from, is_zero_at};
 
 use mt_values::{Row, Value};

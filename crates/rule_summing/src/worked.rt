@@ -1,6 +1,6 @@
 // Worked examples of sums (docs/engines.md, "SummingMergeTree"): the functions have empty bodies and the examples as their contracts.
 ghost use Rattle.std.specs.Prelude.{◌≡◌, ◌∷◌, [], negsuc, pos, true};
-ghost use Rattle.mt_model.specs.Rules.{are_zero, with_sums, wrapped_as};
+ghost use Rattle.rule_law.specs.mt_model.Rules.{are_zero, with_sums, wrapped_as};
 ghost use Rattle.mt_values.specs.declared.value.Value.TheVariants.{Int8, UInt64, UInt8};
 
 /// 18446744073709551615 and 1 of UInt64 sum to 0, 255 and 2 of UInt8 to 1, and 127 and 1 of Int8 to -128.

@@ -90,8 +90,8 @@
 //!   of FINAL, which is asked after each merge, may not be.
 #![tactic(auto)]
 
-use disk_mem::{MemSource, OpenGate};
 use mt_program::run;
+use run_memory::disk_mem::{MemSource, OpenGate};
 use run_memory::{Bench, Left, Machine};
 use std::alloc::Global;
 use std::io;

@@ -7,7 +7,7 @@ use Rattle.mt_values.specs.declared.command.Command.TheVariants as command
 use Rattle.mt_values.specs.declared.schema.Schema.{Schema}
 use Rattle.mt_values.specs.declared.schema.SkipIndex.{SkipIndex}
 use Rattle.mt_values.specs.Grammar.{same_bytes}
-use Rattle.mt_model.specs.History.{History, IsInsertInto, IsTableSchema, first_of, schema_by, schema_of}
+use Rattle.table_core.specs.mt_model.History.{History, IsInsertInto, IsTableSchema, first_of, schema_by, schema_of}
 use Rattle.table_core.specs.declared.event.Accept.{Accept}
 use Rattle.table_core.specs.declared.event.Accept.TheVariants as accept
 use Rattle.table_core.specs.declared.event.Crash.TheVariants as crash
@@ -19,7 +19,7 @@ use Rattle.table_core.specs.Core.{Core, empty_core}
 use Rattle.table_core.specs.Runs.{AddAll, AddsEntries, HasEntries, MayRun, entry_of_accept}
 use Rattle.table_core.specs.Steps.{GivesOutcome, MayAccept, MayCome}
 use Rattle.table_core.proofs.Telling.{run_entries}
-use Rattle.mt_model.proofs.Tables.{same_is}
+use Rattle.table_core.proofs.MtModelTables.{same_is}
 use Rattle.run_memory.specs.Events.{AreOfEvents, Fits, FitsAccept, FitsAfter, IsOfEvents, begins_with, event_schema, of_lasts, of_numbers, of_sums, parted}
 
 found_by : (table : List ℕ) (h : History) (schema : Schema) (c : Command) → IsOfEvents c → first_of (schema_by table c) (schema_of table h) ≡ Some schema

@@ -9,13 +9,13 @@ use Rattle.mt_base.specs.declared.partition.Partition.{Partition}
 use Rattle.mt_values.specs.declared.schema.Schema.{Schema}
 use Rattle.mt_values.specs.Tables.{same_partition}
 use Rattle.mt_values.specs.Values.{Row}
-use Rattle.mt_model.specs.History.{History, IsLegal, IsTableSchema, schema_of}
-use Rattle.mt_model.specs.Numbers.{within}
-use Rattle.mt_model.proofs.Commands.{partition_is}
-use Rattle.part_history.specs.declared.part.CorePart.{CorePart}
-use Rattle.part_history.specs.Merges.{MergeLeaves, with_rows}
-use Rattle.part_history.specs.Parts.{PartStands, TableStands, parts_in}
-use Rattle.part_history.proofs.OwnRows.{own_rows}
+use Rattle.table_core.specs.mt_model.History.{History, IsLegal, IsTableSchema, schema_of}
+use Rattle.table_core.specs.mt_model.Numbers.{within}
+use Rattle.table_core.proofs.MtModelCommands.{partition_is}
+use Rattle.table_core.specs.part_history.declared.part.CorePart.{CorePart}
+use Rattle.table_core.specs.part_history.Merges.{MergeLeaves, with_rows}
+use Rattle.table_core.specs.part_history.Parts.{PartStands, TableStands, parts_in}
+use Rattle.table_core.proofs.PartHistoryOwnRows.{own_rows}
 use Rattle.row_merge.specs.Merged.{ArePartRows, IsMergedOf, inputs_of}
 use Rattle.row_merge.proofs.HistoryRows.{are_part_rows, same_schema}
 use Rattle.table_core.specs.declared.event.Merge.{Merge}

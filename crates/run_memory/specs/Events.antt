@@ -7,7 +7,7 @@ use Rattle.mt_values.specs.declared.engine.Engine.{Engine}
 use Rattle.mt_values.specs.declared.engine.Engine.TheVariants as engine
 use Rattle.mt_values.specs.declared.schema.Schema.{Schema}
 use Rattle.mt_values.specs.declared.value.ColType.TheVariants as type
-use Rattle.mt_model.specs.History.{History, IsInsertInto}
+use Rattle.table_core.specs.mt_model.History.{History, IsInsertInto}
 use Rattle.table_core.specs.declared.event.Accept.{Accept}
 use Rattle.table_core.specs.declared.event.Accept.TheVariants as accept
 use Rattle.table_core.specs.declared.event.Crash.{Crash}

@@ -3,8 +3,8 @@ use Rattle.std.specs.Prelude.{ℕ, ◌+◌, ◌≤◌, List, All, drop, length, 
 use Rattle.mt_base.specs.declared.partition.Partition.{Partition}
 use Rattle.mt_values.specs.declared.schema.Schema.{Schema}
 use Rattle.mt_values.specs.Values.{Row}
-use Rattle.mt_model.specs.History.{IsTableSchema}
-use Rattle.part_history.specs.declared.part.CorePart.{CorePart}
+use Rattle.table_core.specs.mt_model.History.{IsTableSchema}
+use Rattle.table_core.specs.part_history.declared.part.CorePart.{CorePart}
 use Rattle.row_merge.specs.Merged.{ArePartRows, IsMergedOf}
 use Rattle.table_core.specs.Core.{Core, IsCore}
 use Rattle.run_memory.specs.Events.{AreOfEvents}

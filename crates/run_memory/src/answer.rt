@@ -1,6 +1,6 @@
 // What is printed of a line.
-use digest_file::mark_of;
 use mt_values::FileMark;
+use row_merge::digest_file::mark_of;
 use std::alloc::Global;
 use std::mem;
 

@@ -1,11 +1,11 @@
 // Calls that no run makes: the row of a line alone, the values of bytes alone, and a block from rows.
 use crate::answer::Answer;
 use crate::text::first_word;
-use column_file::{FormatFault, decode_column, decode_granule};
 use mt_base::{DEFAULT_GRANULARITY, NoMemory, Seq};
+use mt_plain::tsv_rows::{read_row, write_row};
 use mt_values::{Block, ColType, Column, Engine, Row, Schema, Value};
+use row_merge::column_file::{FormatFault, decode_column, decode_granule};
 use std::alloc::Global;
-use tsv_rows::{read_row, write_row};
 
 // The type of this name.
 fn type_of(word: &str) -> Option<ColType> {

@@ -3,22 +3,22 @@ use crate::answer::Answer;
 use crate::events::{number_row, numbers_schema};
 use crate::left::Left;
 use crate::text::first_word;
-use digest_file::mark_of;
 use disk_mem::MemDir;
 use mt_base::{NoMemory, Partition, Rows, Seq, Twin};
 use mt_values::{
     Aggregate, Cell, ColType, Column, ColumnData, Engine, IndexKind, Manifest, Name, Schema,
     SkipIndex, Value,
 };
-use part_history::CorePart;
-use part_name::{PartName, text};
-use part_reader::Part;
-use part_set::{Kept, PartSet, Snap};
-use part_writer::Loaded;
-use predicate::Known;
-use primary_marks::Marks;
-use skip_index::Index;
+use row_merge::digest_file::mark_of;
+use row_merge::part_reader::Part;
+use row_merge::part_set::{Kept, PartSet, Snap};
+use row_merge::part_writer::Loaded;
+use row_merge::primary_marks::Marks;
+use row_merge::skip_index::Index;
 use std::alloc::Global;
+use table_core::part_history::CorePart;
+use table_core::part_name::{PartName, text};
+use table_core::predicate::Known;
 
 // The name of the part that the first INSERT into a table makes.
 fn first_part() -> PartName {

@@ -1,7 +1,7 @@
 // Lists of events of the core, with merges; after each event the visible parts are held against the history (docs/testing.md,
 // "Events with merges").
 ghost use Rattle.std.specs.Prelude.{◌≡◌, ◌+◌, ◌≤◌, IfOk, IfSome, drop, length, take};
-ghost use Rattle.part_history.specs.Parts.{parts_in};
+ghost use Rattle.table_core.specs.part_history.Parts.{parts_in};
 ghost use Rattle.row_merge.specs.Merged.{inputs_of};
 ghost use Rattle.table_core.specs.Steps.{MayPut};
 ghost use Rattle.run_memory.specs.Events.{FitsAfter};
@@ -13,10 +13,10 @@ use crate::text::first_word;
 use mt_base::{NoMemory, Partition, Seq, Twin};
 use mt_plain::same_partition;
 use mt_values::{Name, Row, Schema};
-use part_history::CorePart;
 use row_merge::merge_rows;
 use std::alloc::Global;
 use std::marker::Model;
+use table_core::part_history::CorePart;
 use table_core::{CoreState, Crash, Event, Merge, Outcome, step};
 
 /// The tables: with several partitions, with last rows, with sums, and plain.

@@ -3,7 +3,7 @@ ghost use Rattle.std.specs.Prelude.{◌≡◌, ◌∷◌, [], All, IfOk, IfSome,
 ghost use Rattle.mt_values.specs.declared.engine.Engine.TheVariants as engines;
 ghost use Rattle.mt_values.specs.declared.value.ColType.TheVariants as types;
 ghost use Rattle.mt_values.specs.declared.value.Value.TheVariants as value;
-ghost use Rattle.mt_model.specs.History.{IsInsertInto};
+ghost use Rattle.table_core.specs.mt_model.History.{IsInsertInto};
 ghost use Rattle.run_memory.specs.Events.{Fits, FitsAccept, FitsCrash, begins_with, event_schema, of_lasts, of_numbers, of_pairs, of_sums, parted};
 
 use crate::answer::Answer;

@@ -27,6 +27,7 @@ mod text;
 
 pub use answer::Answer;
 pub use bench::{Bench, Machine};
+pub use disk_mem;
 pub use examples::Example;
 pub use left::Left;
 pub use root::{File, Folder, Shared};

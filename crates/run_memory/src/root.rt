@@ -1,9 +1,9 @@
 // The root that a run begins with, as lines set it up: as earlier runs may have left it, built by the formats of its files.
 use crate::answer::Answer;
 use crate::text::first_word;
-use digest_file::mark_of;
 use mt_base::Seq;
 use mt_values::{FileId, Name};
+use row_merge::digest_file::mark_of;
 
 /// What the first bytes of a manifest are: its kind and the version of the format.
 const FIRST: &[u8] = b"MTP1\x01\x00";

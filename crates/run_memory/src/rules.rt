@@ -2,14 +2,14 @@
 use crate::answer::Answer;
 use crate::small::{Small, row_of};
 use crate::text::first_word;
-use collapse_rules::{CollapsingRule, VersionedRule};
 use mt_base::{NoMemory, Seq};
 use mt_values::Row;
+use row_merge::collapse_rules::{CollapsingRule, VersionedRule};
 use row_merge::merge_sorted;
-use rule_aggregating::AggregatingRule;
-use rule_law::RowRule;
-use rule_replacing::{PlainRule, ReplacingRule};
-use rule_summing::SummingRule;
+use row_merge::rule_aggregating::AggregatingRule;
+use row_merge::rule_law::RowRule;
+use row_merge::rule_replacing::{PlainRule, ReplacingRule};
+use row_merge::rule_summing::SummingRule;
 use std::alloc::Global;
 
 /// How a list without rows is written.

@@ -2,8 +2,8 @@
 use mt_base::{NoMemory, Partition, Twin};
 use mt_plain::{Order, Portion, all_merged, compare, portions_of, same_partition, sorted_rows};
 use mt_values::{Aggregate, Entry, Name, Row, Schema};
-use part_history::CorePart;
 use std::alloc::Global;
+use table_core::part_history::CorePart;
 
 // Whether an INSERT of a number, from 1, is in a part by its partition and its number.
 fn is_in(part: &CorePart, partition: Partition, number: usize) -> bool {

@@ -8,16 +8,16 @@ use Rattle.mt_values.specs.declared.schema.Schema.{Schema}
 use Rattle.mt_values.specs.Conditions.{Condition, tests_of}
 use Rattle.part_reader.specs.declared.reading.Part.{Part}
 use Rattle.part_set.specs.declared.kept.Kept.{Kept}
-use Rattle.predicate.specs.Boxes.{can}
-use Rattle.predicate.specs.Granules.{chosen_in}
-use Rattle.predicate.specs.Masks.{both}
-use Rattle.predicate.specs.declared.extent.Can.{Can}
-use Rattle.predicate.specs.declared.extent.Extent.{Extent}
-use Rattle.primary_marks.proofs.GranuleBoxes.{chosen_by_place, is_chosen_at}
+use Rattle.mt_model.specs.predicate.Boxes.{can}
+use Rattle.mt_model.specs.predicate.Granules.{chosen_in}
+use Rattle.mt_model.specs.predicate.Masks.{both}
+use Rattle.mt_model.specs.predicate.declared.extent.Can.{Can}
+use Rattle.mt_model.specs.predicate.declared.extent.Extent.{Extent}
+use Rattle.part_reader.proofs.PrimaryMarksGranuleBoxes.{chosen_by_place, is_chosen_at}
 use Rattle.select_plan.specs.Plans.{planned_part, read_of}
-use Rattle.predicate.proofs.Narrowing.{alike, narrowed_alike, untested}
-use Rattle.skip_index.specs.declared.index.Index.{Index}
-use Rattle.skip_index.specs.Choosing.{block_box, chosen_by}
+use Rattle.mt_model.proofs.PredicateNarrowing.{alike, narrowed_alike, untested}
+use Rattle.part_reader.specs.skip_index.declared.index.Index.{Index}
+use Rattle.part_reader.specs.skip_index.Choosing.{block_box, chosen_by}
 
 -- a condition of no tests has none
 pub no_tests : (c : Condition Test) → length (tests_of c) ≡ 0 → tests_of c ≡ []

@@ -5,7 +5,7 @@ use Rattle.std.specs.Option.{unwrap_or}
 use Rattle.std.proofs.lemmas.Bool.{false≢true}
 use Rattle.std.proofs.lemmas.List.Elements.{All-cons, All-head, All-nil, All-tail}
 use Rattle.std.proofs.lemmas.Option.{none-some, slice_get_past}
-use Rattle.predicate.specs.Masks.{both}
+use Rattle.mt_model.specs.predicate.Masks.{both}
 
 abbrev no_answers : List Bool
 no_answers = []

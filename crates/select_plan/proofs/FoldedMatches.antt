@@ -29,12 +29,12 @@ use Rattle.mt_values.specs.Tests.{eval}
 use Rattle.mt_values.specs.Values.{Row, type_of, types_of}
 use Rattle.mt_values.proofs.Orders.{value_exact}
 use Rattle.mt_values.proofs.RowPartitions.{prefix_sound}
-use Rattle.column_file.specs.Marks.{granules, mark_keys, with_final}
-use Rattle.predicate.specs.Granules.{chosen_in}
-use Rattle.primary_marks.specs.Choosing.{ArePartOf}
-use Rattle.primary_marks.specs.Keys.{HasMarks}
-use Rattle.primary_marks.proofs.MarkedRows.{All-with_final, map-map, with_final-map}
-use Rattle.primary_marks.proofs.SkippedGranules.{chosen_count, skipped_empty}
+use Rattle.part_reader.specs.column_file.Marks.{granules, mark_keys, with_final}
+use Rattle.mt_model.specs.predicate.Granules.{chosen_in}
+use Rattle.part_reader.specs.primary_marks.Choosing.{ArePartOf}
+use Rattle.part_reader.specs.primary_marks.Keys.{HasMarks}
+use Rattle.part_reader.proofs.PrimaryMarksMarkedRows.{All-with_final, map-map, with_final-map}
+use Rattle.part_reader.proofs.PrimaryMarksSkippedGranules.{chosen_count, skipped_empty}
 
 -- ---- keys
 

@@ -6,8 +6,8 @@ use Rattle.mt_values.specs.declared.schema.Schema.{Schema}
 use Rattle.mt_values.specs.Conditions.{Condition, conjuncts_of}
 use Rattle.part_reader.specs.declared.reading.Part.{Part}
 use Rattle.part_set.specs.declared.kept.Kept.{Kept}
-use Rattle.predicate.specs.Granules.{asked_in}
-use Rattle.predicate.specs.Masks.{both}
+use Rattle.mt_model.specs.predicate.Granules.{asked_in}
+use Rattle.mt_model.specs.predicate.Masks.{both}
 use Rattle.select_plan.specs.Plans.{asked_part, read_of}
 
 -- what is made of one item more

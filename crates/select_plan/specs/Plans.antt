@@ -8,10 +8,10 @@ use Rattle.mt_model.specs.declared.counts.Counts.{Counts}
 use Rattle.part_reader.specs.declared.reading.Part.{Part}
 use Rattle.part_set.specs.declared.kept.Kept.{Kept}
 use Rattle.part_set.specs.declared.kept.Snap.{Snap}
-use Rattle.predicate.specs.Granules.{asked_in, chosen_in}
-use Rattle.predicate.specs.Masks.{both}
-use Rattle.skip_index.specs.declared.index.Index.{Index}
-use Rattle.skip_index.specs.Choosing.{chosen_by}
+use Rattle.mt_model.specs.predicate.Granules.{asked_in, chosen_in}
+use Rattle.mt_model.specs.predicate.Masks.{both}
+use Rattle.part_reader.specs.skip_index.declared.index.Index.{Index}
+use Rattle.part_reader.specs.skip_index.Choosing.{chosen_by}
 
 -- which granules of a part are read: those that its marks choose, and of these the ones that each of its skip indexes leaves (docs/definitions.md, "Boxes of skip indexes")
 abbrev pub planned_part : {F : Type 0} → Schema → Condition Test → Kept (Part F) → List Bool

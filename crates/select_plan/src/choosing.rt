@@ -6,24 +6,24 @@
 ghost use Rattle.std.specs.Prelude.{◌≡◌, ◌-◌, [], ℕ, IfOk, false, fold, length, map, min, replicate, true};
 ghost use Rattle.mt_values.specs.Conditions.{conjuncts_of, tests_of};
 ghost use Rattle.mt_values.specs.declared.schema.Schema.{Schema};
-ghost use Rattle.predicate.specs.Boxes.{can};
-ghost use Rattle.predicate.specs.Granules.{asked_in};
-ghost use Rattle.predicate.specs.Masks.{both};
+ghost use Rattle.mt_model.specs.predicate.Boxes.{can};
+ghost use Rattle.mt_model.specs.predicate.Granules.{asked_in};
+ghost use Rattle.mt_model.specs.predicate.Masks.{both};
 ghost use Rattle.select_plan.specs.Plans.{asked_over, planned, read_of};
-ghost use Rattle.predicate.specs.declared.extent.Extent.{Extent};
-ghost use Rattle.skip_index.specs.Choosing.{chosen_by};
-ghost use Rattle.skip_index.specs.declared.index.Index.{Index};
+ghost use Rattle.mt_model.specs.predicate.declared.extent.Extent.{Extent};
+ghost use Rattle.part_reader.specs.skip_index.Choosing.{chosen_by};
+ghost use Rattle.part_reader.specs.skip_index.declared.index.Index.{Index};
 
 use crate::counting::Plan;
 use mt_base::{NoMemory, Seq};
 use mt_model::Query;
+use mt_model::predicate::{Extent, may_match};
 use mt_values::{Expr, Schema, Test};
 use part_reader::Part;
+use part_reader::part_writer::Loaded;
+use part_reader::primary_marks::{choose, unsure};
+use part_reader::skip_index::choose as choose_by_index;
 use part_set::{Kept, Snap};
-use part_writer::Loaded;
-use predicate::{Extent, may_match};
-use primary_marks::{choose, unsure};
-use skip_index::choose as choose_by_index;
 use std::alloc::Global;
 
 /// The granules of a pinned table that a SELECT reads: those in whose boxes its condition may be true, by the marks of their part and,
@@ -120,7 +120,7 @@ fn plan_part<F>(
 /// The granules that are chosen and that each skip index of a part leaves.
 ///
 /// `NoMemory` where an allocation failed.
-#[tactic(auto, using(predicate::proofs::Narrowing::narrowed_more))]
+#[tactic(auto, using(crate::proofs::PredicateNarrowing::narrowed_more))]
 fn narrow(
     alloc: Global,
     loaded: &Loaded,
@@ -155,7 +155,7 @@ fn plan_alike(alloc: Global, granules: usize, condition: &Expr<Test>) -> Result<
 
 /// How many granules have an answer by the marks of a part and, without FINAL, by each of its skip indexes: all, where it was written as
 /// a part.
-#[tactic(auto, using(predicate::proofs::Narrowing::fold_further))]
+#[tactic(auto, using(crate::proofs::PredicateNarrowing::fold_further))]
 fn answers(loaded: &Loaded, is_final: bool) -> usize
     ensures folded { is_final ≡ true → result ≡ length loaded.now.marks - 1 }
     ensures plain { is_final ≡ false → result ≡ fold
@@ -175,7 +175,7 @@ fn answers(loaded: &Loaded, is_final: bool) -> usize
 /// The answers that are true in both lists, as far as both go.
 ///
 /// `NoMemory` where the allocation failed.
-#[tactic(auto, using(predicate::proofs::Narrowing::both_next, predicate::proofs::Narrowing::both_past))]
+#[tactic(auto, using(crate::proofs::PredicateNarrowing::both_next, crate::proofs::PredicateNarrowing::both_past))]
 fn both(alloc: Global, some: &[bool], others: &[bool]) -> Result<Vec<bool>, NoMemory>
     ensures { IfOk result (λ v. v.items ≡ both some.now others.now) }
 {

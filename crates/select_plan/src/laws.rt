@@ -8,17 +8,17 @@ ghost use Rattle.mt_values.specs.Schemas.{column_types, schema_fault};
 ghost use Rattle.mt_values.specs.Tables.{partition_of, sorting_cmp};
 ghost use Rattle.mt_values.specs.Tests.{eval};
 ghost use Rattle.mt_values.specs.Values.{Row, types_of};
-ghost use Rattle.column_file.specs.Marks.{mark_keys};
+ghost use Rattle.part_reader.specs.column_file.Marks.{mark_keys};
 ghost use Rattle.mt_values.specs.declared.expr.Test.{Test};
 ghost use Rattle.mt_values.specs.declared.schema.Schema.{Schema};
 ghost use Rattle.part_reader.specs.declared.reading.Part.{Part};
 ghost use Rattle.part_set.specs.declared.kept.Kept.{Kept};
-ghost use Rattle.predicate.specs.Granules.{chosen_in};
-ghost use Rattle.primary_marks.specs.Choosing.{ArePartOf};
-ghost use Rattle.primary_marks.specs.Keys.{HasMarks};
+ghost use Rattle.mt_model.specs.predicate.Granules.{chosen_in};
+ghost use Rattle.part_reader.specs.primary_marks.Choosing.{ArePartOf};
+ghost use Rattle.part_reader.specs.primary_marks.Keys.{HasMarks};
 ghost use Rattle.select_plan.specs.Plans.{planned_part};
-ghost use Rattle.skip_index.specs.Choosing.{chosen_by};
-ghost use Rattle.skip_index.specs.declared.index.Index.{Index};
+ghost use Rattle.part_reader.specs.skip_index.Choosing.{chosen_by};
+ghost use Rattle.part_reader.specs.skip_index.declared.index.Index.{Index};
 
 /// A granule of a part is read exactly where the condition may be true in the box of its marks, and in the box of its block of each
 /// skip index of the part. Each box is asked by itself.

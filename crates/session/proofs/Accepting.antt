@@ -9,17 +9,17 @@ use Rattle.mt_values.specs.Script.{Item}
 use Rattle.mt_values.specs.declared.statement.Statement.{Statement}
 use Rattle.mt_values.specs.Annals.{Told, began, noted}
 use Rattle.mt_outside.specs.Files.{Files}
-use Rattle.mt_model.specs.Commands.{commands_of}
-use Rattle.mt_model.specs.History.{History}
-use Rattle.mt_model.specs.declared.refusal.Refusal.{Refusal}
-use Rattle.mt_model.specs.Outside.{Outside}
-use Rattle.mt_model.specs.Refusals.{refusal_line}
-use Rattle.mt_model.specs.Reply.{ok_line}
-use Rattle.mt_model.specs.Session.{Adds, StopsAfter, Takes, TakesCommands, TurnAllows, Unanswered}
-use Rattle.mt_model.proofs.Growing.{adds_last, stays}
-use Rattle.durable_commit.specs.Commits.{Notes, entry_of}
-use Rattle.root_store.specs.Soundness.{RootStands}
-use Rattle.root_store.specs.Stores.{CoreStands}
+use Rattle.replies.specs.mt_model.Commands.{commands_of}
+use Rattle.replies.specs.mt_model.History.{History}
+use Rattle.replies.specs.mt_model.declared.refusal.Refusal.{Refusal}
+use Rattle.replies.specs.mt_model.Outside.{Outside}
+use Rattle.replies.specs.mt_model.Refusals.{refusal_line}
+use Rattle.replies.specs.mt_model.Reply.{ok_line}
+use Rattle.replies.specs.mt_model.Session.{Adds, StopsAfter, Takes, TakesCommands, TurnAllows, Unanswered}
+use Rattle.replies.proofs.MtModelGrowing.{adds_last, stays}
+use Rattle.shared_store.specs.durable_commit.Commits.{Notes, entry_of}
+use Rattle.shared_store.specs.root_store.Soundness.{RootStands}
+use Rattle.shared_store.specs.root_store.Stores.{CoreStands}
 use Rattle.mt_base.specs.declared.memory.NoMemory.{NoMemory}
 use Rattle.shared_store.specs.Engines.{GoesOn, IsOpen, Opened}
 use Rattle.shared_store.specs.Levels.{has_greatest}

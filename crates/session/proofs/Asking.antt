@@ -10,13 +10,13 @@ use Rattle.mt_values.specs.declared.schema.Schema.{Schema}
 use Rattle.mt_values.specs.declared.statement.SelectText.{SelectText}
 use Rattle.mt_values.specs.Conditions.{map_tests, tests_of}
 use Rattle.mt_values.proofs.Polish.{tests_of_map}
-use Rattle.mt_model.specs.declared.query.Query.{Query}
-use Rattle.mt_model.specs.declared.refusal.Refusal.{Refusal}
-use Rattle.mt_model.specs.declared.refusal.Refusal.TheVariants as refusal
-use Rattle.mt_model.specs.Clauses.{column_place, first_unknown}
-use Rattle.mt_model.specs.History.{History, schema_of}
-use Rattle.mt_model.specs.Queries.{asked_with, query_for, query_of, query_of_select, refusal_of_condition, refusal_of_tests, test_in}
-use Rattle.mt_model.specs.Reply.{first_refusal, selected_places, unless_refused}
+use Rattle.replies.specs.mt_model.declared.query.Query.{Query}
+use Rattle.replies.specs.mt_model.declared.refusal.Refusal.{Refusal}
+use Rattle.replies.specs.mt_model.declared.refusal.Refusal.TheVariants as refusal
+use Rattle.replies.specs.mt_model.Clauses.{column_place, first_unknown}
+use Rattle.replies.specs.mt_model.History.{History, schema_of}
+use Rattle.replies.specs.mt_model.Queries.{asked_with, query_for, query_of, query_of_select, refusal_of_condition, refusal_of_tests, test_in}
+use Rattle.replies.specs.mt_model.Reply.{first_refusal, selected_places, unless_refused}
 use Rattle.session.proofs.Selecting.{place_below}
 
 -- what a SELECT asks, by its table

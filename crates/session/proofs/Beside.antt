@@ -7,21 +7,21 @@ use Rattle.std.specs.List.{All, fold}
 use Rattle.mt_base.specs.declared.partition.Partition.{Partition}
 use Rattle.mt_values.specs.Grammar.{same_bytes}
 use Rattle.mt_values.specs.Tables.{same_partition}
-use Rattle.mt_model.proofs.Commands.{partition_is, same_itself}
-use Rattle.mt_model.proofs.Tables.{itself_same, same_is}
+use Rattle.replies.proofs.MtModelCommands.{partition_is, same_itself}
+use Rattle.replies.proofs.MtModelTables.{itself_same, same_is}
 use Rattle.mt_outside.specs.Files.{Files}
-use Rattle.part_name.specs.declared.part.PartName.{PartName}
-use Rattle.part_name.specs.Merged.{joined_name, merged_name}
-use Rattle.part_reader.specs.declared.reading.Part.{Part}
-use Rattle.part_set.specs.declared.kept.Kept.{Kept}
-use Rattle.part_set.specs.declared.run.Run.{Run}
-use Rattle.part_set.specs.Parts.{kept_in}
-use Rattle.part_set.specs.Runs.{IsMarked, IsSwapped, parts_of_run, with_mark}
-use Rattle.part_set.specs.Sets.{parts_of}
-use Rattle.part_set.proofs.Maps.{true_or_false}
-use Rattle.part_writer.specs.declared.loaded.Loaded.{Loaded}
-use Rattle.stage_dir.specs.Stages.{Filled}
-use Rattle.root_commits.specs.Merges.{EntersMerge, name_of_merge}
+use Rattle.shared_store.specs.part_name.declared.part.PartName.{PartName}
+use Rattle.shared_store.specs.part_name.Merged.{joined_name, merged_name}
+use Rattle.shared_store.specs.part_reader.declared.reading.Part.{Part}
+use Rattle.shared_store.specs.part_set.declared.kept.Kept.{Kept}
+use Rattle.shared_store.specs.part_set.declared.run.Run.{Run}
+use Rattle.shared_store.specs.part_set.Parts.{kept_in}
+use Rattle.shared_store.specs.part_set.Runs.{IsMarked, IsSwapped, parts_of_run, with_mark}
+use Rattle.shared_store.specs.part_set.Sets.{parts_of}
+use Rattle.shared_store.proofs.PartSetMaps.{true_or_false}
+use Rattle.shared_store.specs.part_writer.declared.loaded.Loaded.{Loaded}
+use Rattle.shared_store.specs.stage_dir.Stages.{Filled}
+use Rattle.shared_store.specs.root_commits.Merges.{EntersMerge, name_of_merge}
 use Rattle.shared_store.specs.declared.work.Work.{Work}
 use Rattle.shared_store.specs.Engines.{Opened}
 use Rattle.shared_store.specs.Works.{merging_of, parts_of_work}

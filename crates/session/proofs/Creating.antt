@@ -11,20 +11,20 @@ use Rattle.mt_values.specs.declared.statement.Statement.{Statement}
 use Rattle.mt_values.specs.declared.statement.Statement.TheVariants as statement
 use Rattle.mt_values.specs.Annals.{Told}
 use Rattle.mt_values.specs.Script.{statements_of, statement_and}
-use Rattle.root_store.proofs.EntryReads.{reads_as}
+use Rattle.shared_store.proofs.RootStoreEntryReads.{reads_as}
 use Rattle.mt_values.proofs.ScriptBounds.{statements_of_step}
 use Rattle.mt_outside.specs.Files.{Files}
-use Rattle.mt_model.specs.declared.refusal.Bound.TheVariants as bound
-use Rattle.mt_model.specs.declared.refusal.Refusal.TheVariants as refusal
-use Rattle.mt_model.specs.Commands.{commands_of, create_commands}
-use Rattle.mt_model.specs.History.{History, schema_of, creates}
-use Rattle.mt_model.specs.Reply.{schema_of_text, create_turn, ok_line}
-use Rattle.mt_model.specs.Written.{IsCreateText}
-use Rattle.mt_model.proofs.Tables.{itself_same}
-use Rattle.durable_commit.specs.Commits.{Notes, entry_of}
-use Rattle.root_store.specs.Entries.{EntryHolds, schema_of_items, schema_of_entry}
-use Rattle.root_store.specs.Soundness.{RootStands}
-use Rattle.root_store.specs.Stores.{CoreStands}
+use Rattle.replies.specs.mt_model.declared.refusal.Bound.TheVariants as bound
+use Rattle.replies.specs.mt_model.declared.refusal.Refusal.TheVariants as refusal
+use Rattle.replies.specs.mt_model.Commands.{commands_of, create_commands}
+use Rattle.replies.specs.mt_model.History.{History, schema_of, creates}
+use Rattle.replies.specs.mt_model.Reply.{schema_of_text, create_turn, ok_line}
+use Rattle.replies.specs.mt_model.Written.{IsCreateText}
+use Rattle.replies.proofs.MtModelTables.{itself_same}
+use Rattle.shared_store.specs.durable_commit.Commits.{Notes, entry_of}
+use Rattle.shared_store.specs.root_store.Entries.{EntryHolds, schema_of_items, schema_of_entry}
+use Rattle.shared_store.specs.root_store.Soundness.{RootStands}
+use Rattle.shared_store.specs.root_store.Stores.{CoreStands}
 use Rattle.session.specs.Answers.{Answered, Knows, Turned}
 use Rattle.replies.specs.Foreseen.{history}
 use Rattle.session.specs.Staged.{entry_files}

@@ -9,18 +9,18 @@ use Rattle.mt_values.specs.declared.schema.Schema.{Schema}
 use Rattle.mt_values.specs.declared.statement.SelectText.{SelectText}
 use Rattle.mt_values.specs.Values.{Row}
 use Rattle.mt_outside.specs.Files.{Files}
-use Rattle.mt_model.specs.declared.query.Query.{Query}
-use Rattle.mt_model.specs.declared.refusal.Refusal.TheVariants as refusal
-use Rattle.mt_model.specs.Queries.{query_of}
-use Rattle.mt_model.specs.Refusals.{refusal_line}
-use Rattle.part_name.specs.declared.part.PartName.{PartName}
-use Rattle.part_name.specs.PartNames.{part_text}
-use Rattle.part_reader.specs.declared.reading.Part.{Part}
-use Rattle.part_reader.specs.declared.reading.PartFault.{PartFault}
-use Rattle.part_reader.specs.declared.reading.PartFault.TheVariants as fault
-use Rattle.part_set.specs.declared.kept.Kept.{Kept}
-use Rattle.part_set.specs.declared.kept.Snap.{Snap}
-use Rattle.root_store.specs.Soundness.{HoldsRows}
+use Rattle.replies.specs.mt_model.declared.query.Query.{Query}
+use Rattle.replies.specs.mt_model.declared.refusal.Refusal.TheVariants as refusal
+use Rattle.replies.specs.mt_model.Queries.{query_of}
+use Rattle.replies.specs.mt_model.Refusals.{refusal_line}
+use Rattle.shared_store.specs.part_name.declared.part.PartName.{PartName}
+use Rattle.shared_store.specs.part_name.PartNames.{part_text}
+use Rattle.shared_store.specs.part_reader.declared.reading.Part.{Part}
+use Rattle.shared_store.specs.part_reader.declared.reading.PartFault.{PartFault}
+use Rattle.shared_store.specs.part_reader.declared.reading.PartFault.TheVariants as fault
+use Rattle.shared_store.specs.part_set.declared.kept.Kept.{Kept}
+use Rattle.shared_store.specs.part_set.declared.kept.Snap.{Snap}
+use Rattle.shared_store.specs.root_store.Soundness.{HoldsRows}
 use Rattle.final_fold.specs.declared.asking.Wanted.{Wanted}
 use Rattle.final_fold.specs.Scans.{PartsHold}
 use Rattle.select_plan.specs.Plans.{planned}

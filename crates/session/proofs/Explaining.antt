@@ -9,16 +9,16 @@ use Rattle.mt_values.specs.declared.statement.SelectText.{SelectText}
 use Rattle.mt_values.specs.Conditions.{Condition}
 use Rattle.mt_values.specs.Values.{Row}
 use Rattle.mt_outside.specs.Files.{Files}
-use Rattle.mt_model.specs.declared.counts.Counts.{Counts}
-use Rattle.mt_model.specs.declared.query.Query.{Query}
-use Rattle.mt_model.specs.Explain.{Explains, Portion, PortionsStand, chosen_granules, counts_of, explain_line, is_chosen}
-use Rattle.mt_model.specs.History.{History, schema_of}
-use Rattle.mt_model.specs.Queries.{query_of}
-use Rattle.part_history.specs.Parts.{portion_of}
-use Rattle.part_reader.specs.declared.reading.Part.{Part}
-use Rattle.part_set.specs.declared.kept.Kept.{Kept}
-use Rattle.part_writer.specs.PartFiles.{loaded_of}
-use Rattle.root_store.specs.Stores.{core_part, core_parts}
+use Rattle.replies.specs.mt_model.declared.counts.Counts.{Counts}
+use Rattle.replies.specs.mt_model.declared.query.Query.{Query}
+use Rattle.replies.specs.mt_model.Explain.{Explains, Portion, PortionsStand, chosen_granules, counts_of, explain_line, is_chosen}
+use Rattle.replies.specs.mt_model.History.{History, schema_of}
+use Rattle.replies.specs.mt_model.Queries.{query_of}
+use Rattle.final_fold.specs.part_history.Parts.{portion_of}
+use Rattle.shared_store.specs.part_reader.declared.reading.Part.{Part}
+use Rattle.shared_store.specs.part_set.declared.kept.Kept.{Kept}
+use Rattle.shared_store.specs.part_writer.PartFiles.{loaded_of}
+use Rattle.shared_store.specs.root_store.Stores.{core_part, core_parts}
 use Rattle.select_plan.specs.Plans.{counts_over, read_of}
 use Rattle.final_fold.specs.Scans.{PartsHold}
 use Rattle.session.proofs.Planned.{marked_is, planned_is}

@@ -18,22 +18,22 @@ use Rattle.mt_values.specs.Schemas.{column_types, schema_fault}
 use Rattle.mt_values.specs.Tables.{partition_of, sorting_cmp}
 use Rattle.mt_values.specs.Values.{Row, types_of}
 use Rattle.mt_outside.specs.Files.{Files}
-use Rattle.mt_model.specs.Final.{FoldsAll}
-use Rattle.mt_model.specs.History.{History, IsLegal, schema_of}
-use Rattle.mt_model.specs.Live.{live}
-use Rattle.mt_model.specs.Partial.{MergesAll, Partly}
-use Rattle.mt_model.proofs.Merged.{partly_then_folded}
-use Rattle.part_history.specs.declared.part.CorePart.{CorePart}
-use Rattle.part_history.specs.Parts.{AreInBlockOrder, PartStands, TableStands, block_cmp, partition_cmp}
-use Rattle.part_history.proofs.Orders.{block_weak}
-use Rattle.part_history.proofs.OwnRows.{own_rows}
-use Rattle.part_reader.specs.declared.reading.Part.{Part}
-use Rattle.part_set.specs.Parts.{partition_rank}
-use Rattle.part_set.specs.declared.kept.Kept.{Kept}
-use Rattle.primary_marks.specs.Choosing.{ArePartOf}
-use Rattle.primary_marks.specs.Keys.{HasMarks}
-use Rattle.primary_marks.proofs.SkippedGranules.{chosen_count}
-use Rattle.root_store.specs.Stores.{core_part, core_parts}
+use Rattle.replies.specs.mt_model.Final.{FoldsAll}
+use Rattle.replies.specs.mt_model.History.{History, IsLegal, schema_of}
+use Rattle.replies.specs.mt_model.Live.{live}
+use Rattle.replies.specs.mt_model.Partial.{MergesAll, Partly}
+use Rattle.replies.proofs.MtModelMerged.{partly_then_folded}
+use Rattle.final_fold.specs.part_history.declared.part.CorePart.{CorePart}
+use Rattle.final_fold.specs.part_history.Parts.{AreInBlockOrder, PartStands, TableStands, block_cmp, partition_cmp}
+use Rattle.final_fold.proofs.PartHistoryOrders.{block_weak}
+use Rattle.final_fold.proofs.PartHistoryOwnRows.{own_rows}
+use Rattle.shared_store.specs.part_reader.declared.reading.Part.{Part}
+use Rattle.shared_store.specs.part_set.Parts.{partition_rank}
+use Rattle.shared_store.specs.part_set.declared.kept.Kept.{Kept}
+use Rattle.select_plan.specs.primary_marks.Choosing.{ArePartOf}
+use Rattle.select_plan.specs.primary_marks.Keys.{HasMarks}
+use Rattle.select_plan.proofs.PrimaryMarksSkippedGranules.{chosen_count}
+use Rattle.shared_store.specs.root_store.Stores.{core_part, core_parts}
 use Rattle.select_plan.specs.Plans.{read_of}
 use Rattle.select_plan.proofs.FoldedMatches.{folded_chosen}
 use Rattle.final_fold.specs.declared.asking.Wanted.{Wanted}
@@ -41,9 +41,9 @@ use Rattle.final_fold.specs.Folded.{AreOfPartitions, SkipNoFold, SkipsNoFold, St
 use Rattle.final_fold.specs.Scans.{PartsHold, joined_rows}
 use Rattle.final_fold.proofs.FoldedAll.{partly_folds}
 use Rattle.final_fold.proofs.HidingGranules.{chosen_hide}
-use Rattle.rule_law.specs.TableRows.{IsTableRow}
-use Rattle.rule_law.proofs.PartlyRows.{partly_table}
-use Rattle.row_merge.proofs.HistoryRows.{are_part_rows, same_schema, table_rows}
+use Rattle.final_fold.specs.rule_law.TableRows.{IsTableRow}
+use Rattle.final_fold.proofs.RuleLawPartlyRows.{partly_table}
+use Rattle.final_fold.proofs.RowMergeHistoryRows.{are_part_rows, same_schema, table_rows}
 use Rattle.session.proofs.Planned.{marked_is}
 
 -- ---- partition by partition

@@ -3,28 +3,28 @@ use Rattle.std.proofs.Common.{◌≡◌, ◌⊎◌, inl, inr, ℕ, ◌<◌, ◌�
 use Rattle.std.specs.Prelude.{IsNone}
 use Rattle.std.specs.Option.{option_map}
 use Rattle.mt_base.specs.declared.partition.Partition.{Partition}
-use Rattle.mt_model.specs.Commands.{commands_of}
+use Rattle.replies.specs.mt_model.Commands.{commands_of}
 use Rattle.mt_outside.specs.Causes.{Rose}
 use Rattle.mt_values.specs.declared.command.Command.{Command}
 use Rattle.mt_values.specs.declared.statement.Statement.{Statement}
 use Rattle.mt_values.specs.Annals.{Told, began}
-use Rattle.part_set.specs.Parts.{kept_in}
-use Rattle.part_set.specs.Sets.{parts_of}
-use Rattle.durable_commit.specs.declared.causes.Limit.TheVariants as limit
-use Rattle.durable_commit.specs.declared.causes.Refused.{Refused}
-use Rattle.durable_commit.specs.declared.causes.Refused.TheVariants as refused
-use Rattle.durable_commit.specs.Commits.{IsOutside, entry_of}
-use Rattle.root_store.specs.declared.store.CoreStore.{CoreStore}
-use Rattle.root_store.specs.Stores.{CoreStands, table_at}
-use Rattle.root_commits.specs.Commits.{IsCause, SameStore, refuses_create, refuses_part}
-use Rattle.root_commits.proofs.Leaving.{shown_calm, shown_part_calm}
+use Rattle.shared_store.specs.part_set.Parts.{kept_in}
+use Rattle.shared_store.specs.part_set.Sets.{parts_of}
+use Rattle.shared_store.specs.durable_commit.declared.causes.Limit.TheVariants as limit
+use Rattle.shared_store.specs.durable_commit.declared.causes.Refused.{Refused}
+use Rattle.shared_store.specs.durable_commit.declared.causes.Refused.TheVariants as refused
+use Rattle.shared_store.specs.durable_commit.Commits.{IsOutside, entry_of}
+use Rattle.shared_store.specs.root_store.declared.store.CoreStore.{CoreStore}
+use Rattle.shared_store.specs.root_store.Stores.{CoreStands, table_at}
+use Rattle.shared_store.specs.root_commits.Commits.{IsCause, SameStore, refuses_create, refuses_part}
+use Rattle.shared_store.proofs.RootCommitsLeaving.{shown_calm, shown_part_calm}
 use Rattle.replies.specs.Foreseen.{history, is_unsettled}
 use Rattle.shared_store.specs.Engines.{Opened}
 use Rattle.session.specs.Answers.{AcceptsNothing, EndsUnanswered, IsBegun, Turned}
 use Rattle.session.proofs.Accepting.{begins_first, unanswered_nothing}
 use Rattle.mt_outside.specs.Disk as root
 use Rattle.mt_outside.specs.Files.{Files}
-use Rattle.root_store.specs.Soundness.{RootStands}
+use Rattle.shared_store.specs.root_store.Soundness.{RootStands}
 
 -- ---- a command is given to the disk only while its count of faults is the one at opening
 

@@ -1,12 +1,12 @@
 -- A work that was given up, or whose part was not given to the disk: the store keeps the same, and the outside is as it was.
 use Rattle.std.proofs.Common.{◌≡◌, Option, sym, ap, subst}
 use Rattle.mt_outside.specs.Files.{Files}
-use Rattle.root_commits.specs.Commits.{SameStore}
-use Rattle.root_commits.proofs.CrashTurns.{kept_untouched}
-use Rattle.root_commits.proofs.Holding.{held_same}
-use Rattle.root_commits.proofs.SameStores.{stands_same}
-use Rattle.root_store.specs.Crashes.{Storage}
-use Rattle.root_store.specs.Soundness.{RootStands}
+use Rattle.shared_store.specs.root_commits.Commits.{SameStore}
+use Rattle.shared_store.proofs.RootCommitsCrashTurns.{kept_untouched}
+use Rattle.shared_store.proofs.RootCommitsHolding.{held_same}
+use Rattle.shared_store.proofs.RootCommitsSameStores.{stands_same}
+use Rattle.shared_store.specs.root_store.Crashes.{Storage}
+use Rattle.shared_store.specs.root_store.Soundness.{RootStands}
 use Rattle.shared_store.specs.Engines.{GoesOn, GoesThroughCrashes, Opened}
 use Rattle.shared_store.proofs.Levels.{parts_same}
 use Rattle.session.specs.Merges.{AddsNoCommand, KeepsRows}

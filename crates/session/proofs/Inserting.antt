@@ -16,16 +16,16 @@ use Rattle.mt_values.specs.Engines.{sign_place}
 use Rattle.mt_values.specs.Rows.{inserted_rows}
 use Rattle.mt_values.specs.Tables.{has_sign}
 use Rattle.mt_values.specs.Values.{Row}
-use Rattle.mt_model.specs.declared.refusal.Refusal.TheVariants as refusal
-use Rattle.mt_model.specs.declared.refusal.Room.TheVariants as room
-use Rattle.mt_model.specs.Commands.{commands_for, commands_of, commands_of_rows, insert_command, insert_commands, partitions_of, rows_in}
-use Rattle.mt_model.specs.History.{History, IsInsertInto, first_of, schema_of, column_types}
-use Rattle.mt_model.specs.Refusals.{refusal_of_data}
-use Rattle.mt_model.specs.Reply.{rows_or_refused, insert_turn}
-use Rattle.mt_model.proofs.Causes.{OfScript, commands_are_cause}
-use Rattle.mt_model.proofs.Ranges.{inserted_signed}
-use Rattle.mt_model.proofs.Tables.{itself_same}
-use Rattle.root_commits.specs.Commits.{insert_into, insert_of_block, partition_of_block}
+use Rattle.replies.specs.mt_model.declared.refusal.Refusal.TheVariants as refusal
+use Rattle.replies.specs.mt_model.declared.refusal.Room.TheVariants as room
+use Rattle.replies.specs.mt_model.Commands.{commands_for, commands_of, commands_of_rows, insert_command, insert_commands, partitions_of, rows_in}
+use Rattle.replies.specs.mt_model.History.{History, IsInsertInto, first_of, schema_of, column_types}
+use Rattle.replies.specs.mt_model.Refusals.{refusal_of_data}
+use Rattle.replies.specs.mt_model.Reply.{rows_or_refused, insert_turn}
+use Rattle.replies.proofs.MtModelCauses.{OfScript, commands_are_cause}
+use Rattle.replies.proofs.MtModelRanges.{inserted_signed}
+use Rattle.replies.proofs.MtModelTables.{itself_same}
+use Rattle.shared_store.specs.root_commits.Commits.{insert_into, insert_of_block, partition_of_block}
 use Rattle.block_split.specs.declared.blocks.PartitionBlock.{PartitionBlock}
 use Rattle.block_split.specs.Split.{insert_of, partition_rows, split_rows}
 use Rattle.session.specs.declared.sealing.SealedBlock.{SealedBlock}

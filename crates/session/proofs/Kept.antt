@@ -1,7 +1,7 @@
 -- The table that a schema is of.
 use Rattle.std.proofs.Common.{◌≡◌, refl, Option, Some, None}
 use Rattle.mt_values.specs.declared.schema.Schema.{Schema}
-use Rattle.root_store.specs.declared.store.Table.{Table}
+use Rattle.shared_store.specs.root_store.declared.store.Table.{Table}
 use Rattle.shared_store.specs.Engines.{schema_kept}
 
 -- there is a table, and the schema is its own

@@ -7,12 +7,12 @@ use Rattle.std.specs.Map.{lookup}
 use Rattle.std.specs.Ordering.{nat_cmp}
 use Rattle.mt_base.specs.declared.memory.NoMemory.{NoMemory}
 use Rattle.mt_outside.specs.Files.{Files}
-use Rattle.mt_model.specs.Outside.{Outside}
+use Rattle.replies.specs.mt_model.Outside.{Outside}
 use Rattle.replies.specs.Foreseen.{Foresees}
-use Rattle.root_store.specs.declared.store.CoreStore.{CoreStore}
-use Rattle.root_store.specs.declared.store.Table.{Table}
-use Rattle.root_store.specs.Crashes.{Storage}
-use Rattle.root_store.specs.Stores.{table_at}
+use Rattle.shared_store.specs.root_store.declared.store.CoreStore.{CoreStore}
+use Rattle.shared_store.specs.root_store.declared.store.Table.{Table}
+use Rattle.shared_store.specs.root_store.Crashes.{Storage}
+use Rattle.shared_store.specs.root_store.Stores.{table_at}
 use Rattle.shared_store.specs.Engines.{IsOpen, Opened}
 use Rattle.shared_store.specs.Levels.{has_greatest}
 use Rattle.shared_store.proofs.Levels.{parts_stay, parts_then}

@@ -34,3 +34,13 @@ pub mod Taking
 pub mod Turning
 pub mod Unread
 pub mod Whole
+pub use Rattle.replies.proofs.MtModelCauses
+pub use Rattle.replies.proofs.MtModelGained
+pub use Rattle.replies.proofs.MtModelGrowing
+pub use Rattle.replies.proofs.MtModelKeys
+pub use Rattle.replies.proofs.MtModelReplies
+pub use Rattle.replies.proofs.MtModelUnrefused
+pub use Rattle.replies.proofs.Counting as RepliesCounting
+pub use Rattle.replies.proofs.Ends as RepliesEnds
+pub use Rattle.replies.proofs.RunStreamsKnown
+pub use Rattle.shared_store.proofs.Levels as SharedStoreLevels

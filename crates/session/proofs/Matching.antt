@@ -13,23 +13,23 @@ use Rattle.mt_values.specs.Tables.{partition_of, sorting_cmp}
 use Rattle.mt_values.specs.Tests.{eval}
 use Rattle.mt_values.specs.Values.{Row}
 use Rattle.mt_outside.specs.Files.{Files}
-use Rattle.mt_model.specs.History.{History, IsLegal, IsTableSchema, schema_of}
-use Rattle.part_history.specs.declared.part.CorePart.{CorePart}
-use Rattle.part_history.specs.Parts.{PartStands, TableStands}
-use Rattle.part_history.proofs.OwnRows.{own_rows}
-use Rattle.part_reader.specs.declared.reading.Part.{Part}
-use Rattle.part_set.specs.declared.kept.Kept.{Kept}
-use Rattle.part_writer.specs.declared.loaded.Loaded.{Loaded}
-use Rattle.part_writer.specs.PartFiles.{loaded_of}
-use Rattle.predicate.specs.Granules.{asked_in}
-use Rattle.predicate.specs.Masks.{both}
-use Rattle.primary_marks.specs.Choosing.{ArePartOf}
-use Rattle.primary_marks.proofs.SkippedGranules.{asked_count, chosen_count, sure_meet}
-use Rattle.root_store.proofs.TableIndexes.{has_indexes}
-use Rattle.root_store.proofs.TableMarks.{has_marks}
-use Rattle.root_store.specs.Stores.{core_parts}
+use Rattle.replies.specs.mt_model.History.{History, IsLegal, IsTableSchema, schema_of}
+use Rattle.final_fold.specs.part_history.declared.part.CorePart.{CorePart}
+use Rattle.final_fold.specs.part_history.Parts.{PartStands, TableStands}
+use Rattle.final_fold.proofs.PartHistoryOwnRows.{own_rows}
+use Rattle.shared_store.specs.part_reader.declared.reading.Part.{Part}
+use Rattle.shared_store.specs.part_set.declared.kept.Kept.{Kept}
+use Rattle.shared_store.specs.part_writer.declared.loaded.Loaded.{Loaded}
+use Rattle.shared_store.specs.part_writer.PartFiles.{loaded_of}
+use Rattle.replies.specs.predicate.Granules.{asked_in}
+use Rattle.replies.specs.predicate.Masks.{both}
+use Rattle.select_plan.specs.primary_marks.Choosing.{ArePartOf}
+use Rattle.select_plan.proofs.PrimaryMarksSkippedGranules.{asked_count, chosen_count, sure_meet}
+use Rattle.shared_store.proofs.RootStoreTableIndexes.{has_indexes}
+use Rattle.shared_store.proofs.RootStoreTableMarks.{has_marks}
+use Rattle.shared_store.specs.root_store.Stores.{core_parts}
 use Rattle.select_plan.specs.Plans.{asked_of, asked_part, planned_part, read_of}
-use Rattle.row_merge.proofs.HistoryRows.{same_schema}
+use Rattle.final_fold.proofs.RowMergeHistoryRows.{same_schema}
 use Rattle.final_fold.specs.Asked.{MeetUnasked, unasked_of}
 use Rattle.final_fold.proofs.Joining.{all_parts}
 use Rattle.final_fold.specs.Scans.{PartsHold}

@@ -7,21 +7,21 @@ use Rattle.mt_values.specs.declared.statement.OptimizeText.{OptimizeText}
 use Rattle.mt_values.specs.declared.statement.Statement.TheVariants as statement
 use Rattle.mt_values.specs.Annals.{Told}
 use Rattle.mt_outside.specs.Files.{Files}
-use Rattle.mt_model.specs.declared.refusal.Refusal.TheVariants as refusal
-use Rattle.mt_model.specs.Commands.{commands_of, none_on}
-use Rattle.mt_model.specs.History.{History, schema_of}
-use Rattle.mt_model.specs.Outside.{Outside}
-use Rattle.mt_model.specs.Reply.{ok_line}
-use Rattle.mt_model.specs.Refusals.{is_damage}
-use Rattle.mt_model.specs.Session.{Takes}
+use Rattle.replies.specs.mt_model.declared.refusal.Refusal.TheVariants as refusal
+use Rattle.replies.specs.mt_model.Commands.{commands_of, none_on}
+use Rattle.replies.specs.mt_model.History.{History, schema_of}
+use Rattle.replies.specs.mt_model.Outside.{Outside}
+use Rattle.replies.specs.mt_model.Reply.{ok_line}
+use Rattle.replies.specs.mt_model.Refusals.{is_damage}
+use Rattle.replies.specs.mt_model.Session.{Takes}
 use Rattle.replies.specs.Causes.{HasCauses}
 use Rattle.replies.specs.Foreseen.{Foresees, history}
 use Rattle.replies.proofs.Causing.{says_answer}
 use Rattle.replies.proofs.Ends.{length_history}
 use Rattle.replies.proofs.Refusing.{optimize_done, optimize_failed}
-use Rattle.root_store.specs.declared.store.Table.{Table}
-use Rattle.root_store.specs.Soundness.{HasSoundParts}
-use Rattle.root_store.specs.Stores.{table_at}
+use Rattle.shared_store.specs.root_store.declared.store.Table.{Table}
+use Rattle.shared_store.specs.root_store.Soundness.{HasSoundParts}
+use Rattle.shared_store.specs.root_store.Stores.{table_at}
 use Rattle.shared_store.specs.Engines.{GoesOn, GoesThroughCrashes, Opened}
 use Rattle.shared_store.specs.Levels.{LeavesParts, has_greatest}
 use Rattle.session.specs.Answers.{AcceptsNothing, Answered, Answers, EndsUnanswered, Knows, Turned}

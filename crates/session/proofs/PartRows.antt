@@ -6,19 +6,19 @@ use Rattle.mt_base.specs.declared.partition.Partition.{Partition}
 use Rattle.mt_values.specs.declared.schema.Schema.{Schema}
 use Rattle.mt_values.specs.Values.{Row}
 use Rattle.mt_outside.specs.Files.{Files}
-use Rattle.mt_model.specs.History.{History, schema_of}
-use Rattle.part_history.specs.declared.part.CorePart.{CorePart}
-use Rattle.part_history.proofs.OwnRows.{own_rows}
-use Rattle.part_reader.specs.declared.reading.Part.{Part}
-use Rattle.part_reader.specs.Parts.{PartHolds}
-use Rattle.part_set.specs.declared.kept.Kept.{Kept}
-use Rattle.part_set.specs.Sets.{parts_of}
-use Rattle.root_store.specs.declared.store.CoreStore.{CoreStore}
-use Rattle.root_store.specs.declared.store.Table.{Table}
-use Rattle.root_store.specs.Stores.{CoreStands, core_part, core_parts, table_at}
-use Rattle.root_store.proofs.Cores.{one_list}
-use Rattle.row_merge.specs.Merged.{ArePartRows}
-use Rattle.row_merge.proofs.HistoryRows.{are_part_rows}
+use Rattle.replies.specs.mt_model.History.{History, schema_of}
+use Rattle.final_fold.specs.part_history.declared.part.CorePart.{CorePart}
+use Rattle.final_fold.proofs.PartHistoryOwnRows.{own_rows}
+use Rattle.shared_store.specs.part_reader.declared.reading.Part.{Part}
+use Rattle.shared_store.specs.part_reader.Parts.{PartHolds}
+use Rattle.shared_store.specs.part_set.declared.kept.Kept.{Kept}
+use Rattle.shared_store.specs.part_set.Sets.{parts_of}
+use Rattle.shared_store.specs.root_store.declared.store.CoreStore.{CoreStore}
+use Rattle.shared_store.specs.root_store.declared.store.Table.{Table}
+use Rattle.shared_store.specs.root_store.Stores.{CoreStands, core_part, core_parts, table_at}
+use Rattle.shared_store.proofs.RootStoreCores.{one_list}
+use Rattle.final_fold.specs.row_merge.Merged.{ArePartRows}
+use Rattle.final_fold.proofs.RowMergeHistoryRows.{are_part_rows}
 use Rattle.session.proofs.Standing.{table_schema}
 
 -- ---- lists, place by place

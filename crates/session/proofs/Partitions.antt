@@ -11,11 +11,11 @@ use Rattle.std.proofs.Math.Seq.{get_or-append_seam}
 use Rattle.mt_base.specs.declared.partition.Partition.{Partition}
 use Rattle.mt_base.specs.declared.partition.Partition.TheVariants.{Whole, Number}
 use Rattle.mt_base.specs.contracts.partition.PartitionPartialEq.TheImpl as derived
-use Rattle.part_set.specs.declared.kept.Kept.{Kept}
-use Rattle.part_set.specs.Parts.{IsInBlockOrder, StandsClear, partition_rank}
-use Rattle.part_set.proofs.Items.{item_none}
-use Rattle.part_set.proofs.Orders.{partition_low}
-use Rattle.root_store.proofs.Items.{mapped}
+use Rattle.shared_store.specs.part_set.declared.kept.Kept.{Kept}
+use Rattle.shared_store.specs.part_set.Parts.{IsInBlockOrder, StandsClear, partition_rank}
+use Rattle.shared_store.proofs.PartSetItems.{item_none}
+use Rattle.shared_store.proofs.PartSetOrders.{partition_low}
+use Rattle.shared_store.proofs.RootStoreItems.{mapped}
 use Rattle.session.specs.Merges.{ArePartitionsOf, partitions_in}
 
 -- the place of a partition among all tells it from the others

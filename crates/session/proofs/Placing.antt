@@ -9,30 +9,30 @@ use Rattle.mt_base.specs.Limits.{level_limit}
 use Rattle.mt_values.specs.Grammar.{same_bytes}
 use Rattle.mt_outside.specs.Causes.{Rose}
 use Rattle.mt_outside.specs.Files.{Files}
-use Rattle.mt_model.specs.declared.refusal.Bound.TheVariants as bound
-use Rattle.mt_model.specs.declared.refusal.Refusal.TheVariants as refusal
-use Rattle.mt_model.specs.History.{History, entries_of}
-use Rattle.mt_model.specs.Refusals.{is_damage, refusal_line}
-use Rattle.mt_model.proofs.Tables.{itself_same, same_is}
-use Rattle.part_reader.specs.declared.reading.Part.{Part}
-use Rattle.part_writer.specs.declared.loaded.Loaded.{Loaded}
-use Rattle.part_set.specs.declared.kept.Kept.{Kept}
-use Rattle.part_set.specs.Runs.{IsSwapped, with_mark}
-use Rattle.part_set.specs.Sets.{parts_of}
-use Rattle.part_set.proofs.Maps.{true_or_false}
-use Rattle.durable_commit.specs.declared.causes.Limit.TheVariants as limit
-use Rattle.durable_commit.specs.declared.causes.Refused.{Refused}
-use Rattle.durable_commit.specs.declared.causes.Refused.TheVariants as refused
-use Rattle.durable_commit.specs.Commits.{stopped_by}
-use Rattle.stage_dir.specs.Stages.{Filled}
-use Rattle.root_store.specs.declared.store.Table.{Table}
-use Rattle.root_store.specs.Crashes.{Storage}
-use Rattle.root_store.specs.Shown.{HasNoMark}
-use Rattle.root_store.specs.Soundness.{HasSoundParts, RootStands}
-use Rattle.root_store.specs.Stores.{CoreStands, table_at}
-use Rattle.root_store.proofs.Items.{map_item}
-use Rattle.root_commits.specs.Commits.{IsCause}
-use Rattle.root_commits.specs.Merges.{EntersMerge, IsSealedMerge, SealsRows}
+use Rattle.replies.specs.mt_model.declared.refusal.Bound.TheVariants as bound
+use Rattle.replies.specs.mt_model.declared.refusal.Refusal.TheVariants as refusal
+use Rattle.replies.specs.mt_model.History.{History, entries_of}
+use Rattle.replies.specs.mt_model.Refusals.{is_damage, refusal_line}
+use Rattle.replies.proofs.MtModelTables.{itself_same, same_is}
+use Rattle.shared_store.specs.part_reader.declared.reading.Part.{Part}
+use Rattle.shared_store.specs.part_writer.declared.loaded.Loaded.{Loaded}
+use Rattle.shared_store.specs.part_set.declared.kept.Kept.{Kept}
+use Rattle.shared_store.specs.part_set.Runs.{IsSwapped, with_mark}
+use Rattle.shared_store.specs.part_set.Sets.{parts_of}
+use Rattle.shared_store.proofs.PartSetMaps.{true_or_false}
+use Rattle.shared_store.specs.durable_commit.declared.causes.Limit.TheVariants as limit
+use Rattle.shared_store.specs.durable_commit.declared.causes.Refused.{Refused}
+use Rattle.shared_store.specs.durable_commit.declared.causes.Refused.TheVariants as refused
+use Rattle.shared_store.specs.durable_commit.Commits.{stopped_by}
+use Rattle.shared_store.specs.stage_dir.Stages.{Filled}
+use Rattle.shared_store.specs.root_store.declared.store.Table.{Table}
+use Rattle.shared_store.specs.root_store.Crashes.{Storage}
+use Rattle.shared_store.specs.root_store.Shown.{HasNoMark}
+use Rattle.shared_store.specs.root_store.Soundness.{HasSoundParts, RootStands}
+use Rattle.shared_store.specs.root_store.Stores.{CoreStands, table_at}
+use Rattle.shared_store.proofs.RootStoreItems.{map_item}
+use Rattle.shared_store.specs.root_commits.Commits.{IsCause}
+use Rattle.shared_store.specs.root_commits.Merges.{EntersMerge, IsSealedMerge, SealsRows}
 use Rattle.replies.specs.Foreseen.{Foresees}
 use Rattle.replies.proofs.Causing.{says_script, says_stopped, says_unsettled}
 use Rattle.replies.proofs.Counting.{commit_failed, level_failed, was_stopped}

@@ -15,25 +15,25 @@ use Rattle.mt_values.specs.Granules.{chosen_of, granules, mark_keys}
 use Rattle.mt_values.specs.Schemas.{schema_fault}
 use Rattle.mt_values.specs.Tests.{eval}
 use Rattle.mt_values.specs.Values.{Row}
-use Rattle.part_reader.specs.declared.reading.Part.{Part}
-use Rattle.part_set.specs.declared.kept.Kept.{Kept}
-use Rattle.part_writer.specs.declared.loaded.Loaded.{Loaded}
-use Rattle.part_writer.specs.PartFiles.{HasIndexes, indexes_of, loaded_of}
-use Rattle.predicate.specs.Boxes.{can, only_column}
-use Rattle.predicate.specs.Granules.{chosen_in}
-use Rattle.predicate.specs.Indexes.{blocks_kept, chosen_by_index, chosen_of_rows}
-use Rattle.predicate.specs.Masks.{both}
-use Rattle.predicate.proofs.Narrowing.{narrowed_length, narrowed_skips}
-use Rattle.predicate.specs.declared.extent.Known.{Known}
-use Rattle.predicate.specs.declared.extent.Known.TheVariants as known
-use Rattle.primary_marks.specs.Choosing.{ArePartOf}
-use Rattle.primary_marks.specs.Keys.{HasMarks}
-use Rattle.primary_marks.proofs.SkippedGranules.{chosen_count, chosen_pass, skipped_empty}
+use Rattle.shared_store.specs.part_reader.declared.reading.Part.{Part}
+use Rattle.shared_store.specs.part_set.declared.kept.Kept.{Kept}
+use Rattle.shared_store.specs.part_writer.declared.loaded.Loaded.{Loaded}
+use Rattle.shared_store.specs.part_writer.PartFiles.{HasIndexes, indexes_of, loaded_of}
+use Rattle.replies.specs.predicate.Boxes.{can, only_column}
+use Rattle.replies.specs.predicate.Granules.{chosen_in}
+use Rattle.replies.specs.predicate.Indexes.{blocks_kept, chosen_by_index, chosen_of_rows}
+use Rattle.replies.specs.predicate.Masks.{both}
+use Rattle.replies.proofs.PredicateNarrowing.{narrowed_length, narrowed_skips}
+use Rattle.replies.specs.predicate.declared.extent.Known.{Known}
+use Rattle.replies.specs.predicate.declared.extent.Known.TheVariants as known
+use Rattle.select_plan.specs.primary_marks.Choosing.{ArePartOf}
+use Rattle.select_plan.specs.primary_marks.Keys.{HasMarks}
+use Rattle.select_plan.proofs.PrimaryMarksSkippedGranules.{chosen_count, chosen_pass, skipped_empty}
 use Rattle.select_plan.specs.Plans.{planned_part, read_of}
-use Rattle.skip_index.specs.declared.index.Index.{Index}
-use Rattle.skip_index.specs.Blocks.{index_at, index_of, no_index}
-use Rattle.skip_index.specs.Choosing.{chosen_by, is_unknown, known_by}
-use Rattle.skip_index.proofs.Skipped.{skipped_empty as skipped_block}
+use Rattle.select_plan.specs.skip_index.declared.index.Index.{Index}
+use Rattle.select_plan.specs.skip_index.Blocks.{index_at, index_of, no_index}
+use Rattle.select_plan.specs.skip_index.Choosing.{chosen_by, is_unknown, known_by}
+use Rattle.select_plan.proofs.SkipIndexSkipped.{skipped_empty as skipped_block}
 
 -- ---- lists
 

@@ -10,16 +10,16 @@ use Rattle.mt_values.specs.declared.statement.Statement.{Statement}
 use Rattle.mt_values.specs.declared.statement.Statement.TheVariants as statement
 use Rattle.mt_values.specs.Annals.{Told}
 use Rattle.mt_outside.specs.Files.{Files}
-use Rattle.mt_model.specs.Commands.{commands_of}
-use Rattle.mt_model.specs.History.{History, entries_of}
-use Rattle.mt_model.specs.declared.refusal.Refusal.{Refusal}
-use Rattle.mt_model.specs.Outside.{Outside, ReadOrStageFailed}
-use Rattle.mt_model.specs.Reply.{ok_line}
-use Rattle.mt_model.specs.Session.{Accepts, AcceptsAll, Adds, RefusedInTurn, StopsAfter, Takes, TurnAllows}
-use Rattle.mt_model.proofs.Growing.{accepts_more, stays}
-use Rattle.durable_commit.specs.Commits.{entry_of}
-use Rattle.root_store.specs.Soundness.{RootStands}
-use Rattle.root_store.specs.Stores.{CoreStands}
+use Rattle.replies.specs.mt_model.Commands.{commands_of}
+use Rattle.replies.specs.mt_model.History.{History, entries_of}
+use Rattle.replies.specs.mt_model.declared.refusal.Refusal.{Refusal}
+use Rattle.replies.specs.mt_model.Outside.{Outside, ReadOrStageFailed}
+use Rattle.replies.specs.mt_model.Reply.{ok_line}
+use Rattle.replies.specs.mt_model.Session.{Accepts, AcceptsAll, Adds, RefusedInTurn, StopsAfter, Takes, TurnAllows}
+use Rattle.replies.proofs.MtModelGrowing.{accepts_more, stays}
+use Rattle.shared_store.specs.durable_commit.Commits.{entry_of}
+use Rattle.shared_store.specs.root_store.Soundness.{RootStands}
+use Rattle.shared_store.specs.root_store.Stores.{CoreStands}
 use Rattle.shared_store.specs.Engines.{Opened}
 use Rattle.shared_store.specs.Levels.{has_greatest}
 use Rattle.replies.specs.Foreseen.{Foresees, history, is_unsettled}

@@ -4,26 +4,26 @@ use Rattle.std.specs.Option.{MatchOption}
 use Rattle.mt_base.specs.declared.memory.NoMemory.{NoMemory}
 use Rattle.mt_outside.specs.Causes.{Rose}
 use Rattle.mt_outside.specs.Files.{Files}
-use Rattle.mt_model.specs.declared.refusal.Bound.TheVariants as bound
-use Rattle.mt_model.specs.declared.refusal.Refusal.TheVariants as refusal
-use Rattle.mt_model.specs.Refusals.{refusal_line}
-use Rattle.mt_model.specs.History.{History}
-use Rattle.part_name.specs.declared.part.PartName.{PartName}
-use Rattle.part_writer.specs.declared.loaded.Loaded.{Loaded}
-use Rattle.durable_commit.specs.declared.causes.Limit.TheVariants as limit
-use Rattle.durable_commit.specs.declared.causes.Refused.{Refused}
-use Rattle.durable_commit.specs.declared.causes.Refused.TheVariants as refused
-use Rattle.durable_commit.specs.Commits.{stopped_by}
-use Rattle.stage_dir.specs.Stages.{Filled}
-use Rattle.root_store.specs.declared.store.Table.{Table}
-use Rattle.root_store.specs.Crashes.{Storage}
-use Rattle.root_store.specs.Shown.{HasNoMark}
-use Rattle.root_store.specs.Soundness.{HasSoundParts, RootStands}
-use Rattle.root_store.specs.Stores.{CoreStands, table_at}
-use Rattle.root_commits.specs.declared.commits.Returned.{Returned}
-use Rattle.root_commits.specs.Commits.{IsCause}
-use Rattle.root_commits.specs.Merges.{EntersMerge, IsSealedMerge, SealsRows, refuses_merge}
-use Rattle.root_commits.specs.Publications.{IsKeptBack, IsPublished, IsUnsettled, disk_side, publication_of}
+use Rattle.replies.specs.mt_model.declared.refusal.Bound.TheVariants as bound
+use Rattle.replies.specs.mt_model.declared.refusal.Refusal.TheVariants as refusal
+use Rattle.replies.specs.mt_model.Refusals.{refusal_line}
+use Rattle.replies.specs.mt_model.History.{History}
+use Rattle.shared_store.specs.part_name.declared.part.PartName.{PartName}
+use Rattle.shared_store.specs.part_writer.declared.loaded.Loaded.{Loaded}
+use Rattle.shared_store.specs.durable_commit.declared.causes.Limit.TheVariants as limit
+use Rattle.shared_store.specs.durable_commit.declared.causes.Refused.{Refused}
+use Rattle.shared_store.specs.durable_commit.declared.causes.Refused.TheVariants as refused
+use Rattle.shared_store.specs.durable_commit.Commits.{stopped_by}
+use Rattle.shared_store.specs.stage_dir.Stages.{Filled}
+use Rattle.shared_store.specs.root_store.declared.store.Table.{Table}
+use Rattle.shared_store.specs.root_store.Crashes.{Storage}
+use Rattle.shared_store.specs.root_store.Shown.{HasNoMark}
+use Rattle.shared_store.specs.root_store.Soundness.{HasSoundParts, RootStands}
+use Rattle.shared_store.specs.root_store.Stores.{CoreStands, table_at}
+use Rattle.shared_store.specs.root_commits.declared.commits.Returned.{Returned}
+use Rattle.shared_store.specs.root_commits.Commits.{IsCause}
+use Rattle.shared_store.specs.root_commits.Merges.{EntersMerge, IsSealedMerge, SealsRows, refuses_merge}
+use Rattle.shared_store.specs.root_commits.Publications.{IsKeptBack, IsPublished, IsUnsettled, disk_side, publication_of}
 use Rattle.shared_store.specs.declared.work.Work.{Work}
 use Rattle.shared_store.specs.Engines.{GoesOn, GoesThroughCrashes, Opened}
 use Rattle.shared_store.specs.Levels.{any_greatest}

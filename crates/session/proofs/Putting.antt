@@ -15,37 +15,37 @@ use Rattle.mt_values.specs.Grammar.{same_bytes}
 use Rattle.mt_values.specs.Values.{Row}
 use Rattle.mt_outside.specs.Causes.{Rose}
 use Rattle.mt_outside.specs.Files.{Files}
-use Rattle.mt_model.specs.History.{History}
-use Rattle.mt_model.proofs.Tables.{itself_same, same_is}
-use Rattle.part_name.specs.declared.part.PartName.{PartName}
-use Rattle.part_name.specs.Merged.{joined_name}
-use Rattle.part_reader.specs.declared.reading.Part.{Part}
-use Rattle.part_reader.specs.Parts.{PartHolds}
-use Rattle.part_writer.specs.declared.loaded.Loaded.{Loaded}
-use Rattle.part_set.specs.declared.kept.Kept.{Kept}
-use Rattle.part_set.specs.Parts.{IsInBlockOrder}
-use Rattle.part_set.specs.Runs.{EndsInOrder, with_mark}
-use Rattle.part_set.specs.Sets.{parts_of}
-use Rattle.part_set.proofs.Maps.{true_or_false}
-use Rattle.durable_commit.specs.declared.causes.Limit.TheVariants as limit
-use Rattle.durable_commit.specs.declared.causes.Refused.{Refused}
-use Rattle.durable_commit.specs.declared.causes.Refused.TheVariants as refused
-use Rattle.durable_commit.specs.Commits.{stopped_by}
-use Rattle.stage_dir.specs.Stages.{Filled}
-use Rattle.root_store.specs.declared.store.CoreStore.{CoreStore}
-use Rattle.root_store.specs.declared.store.Table.{Table}
-use Rattle.root_store.specs.Crashes.{Storage}
-use Rattle.root_store.specs.Stores.{CoreStands, table_at}
-use Rattle.root_commits.specs.declared.commits.Returned.{Returned}
-use Rattle.root_commits.specs.Commits.{IsCause, SameStore}
-use Rattle.root_commits.specs.Merges.{HoldsMerge, IsSealedMerge, Merging, SealsRows, name_of_merge, refuses_merge, sources_of, within_levels}
-use Rattle.root_commits.specs.Publications.{IsKeptBack, IsUnsettled, Publication, disk_side}
-use Rattle.root_commits.proofs.MergedNames.{name_there}
+use Rattle.replies.specs.mt_model.History.{History}
+use Rattle.replies.proofs.MtModelTables.{itself_same, same_is}
+use Rattle.shared_store.specs.part_name.declared.part.PartName.{PartName}
+use Rattle.shared_store.specs.part_name.Merged.{joined_name}
+use Rattle.shared_store.specs.part_reader.declared.reading.Part.{Part}
+use Rattle.shared_store.specs.part_reader.Parts.{PartHolds}
+use Rattle.shared_store.specs.part_writer.declared.loaded.Loaded.{Loaded}
+use Rattle.shared_store.specs.part_set.declared.kept.Kept.{Kept}
+use Rattle.shared_store.specs.part_set.Parts.{IsInBlockOrder}
+use Rattle.shared_store.specs.part_set.Runs.{EndsInOrder, with_mark}
+use Rattle.shared_store.specs.part_set.Sets.{parts_of}
+use Rattle.shared_store.proofs.PartSetMaps.{true_or_false}
+use Rattle.shared_store.specs.durable_commit.declared.causes.Limit.TheVariants as limit
+use Rattle.shared_store.specs.durable_commit.declared.causes.Refused.{Refused}
+use Rattle.shared_store.specs.durable_commit.declared.causes.Refused.TheVariants as refused
+use Rattle.shared_store.specs.durable_commit.Commits.{stopped_by}
+use Rattle.shared_store.specs.stage_dir.Stages.{Filled}
+use Rattle.shared_store.specs.root_store.declared.store.CoreStore.{CoreStore}
+use Rattle.shared_store.specs.root_store.declared.store.Table.{Table}
+use Rattle.shared_store.specs.root_store.Crashes.{Storage}
+use Rattle.shared_store.specs.root_store.Stores.{CoreStands, table_at}
+use Rattle.shared_store.specs.root_commits.declared.commits.Returned.{Returned}
+use Rattle.shared_store.specs.root_commits.Commits.{IsCause, SameStore}
+use Rattle.shared_store.specs.root_commits.Merges.{HoldsMerge, IsSealedMerge, Merging, SealsRows, name_of_merge, refuses_merge, sources_of, within_levels}
+use Rattle.shared_store.specs.root_commits.Publications.{IsKeptBack, IsUnsettled, Publication, disk_side}
+use Rattle.shared_store.proofs.RootCommitsMergedNames.{name_there}
 use Rattle.shared_store.specs.declared.work.Work.{Work}
 use Rattle.shared_store.specs.Engines.{Opened}
 use Rattle.shared_store.specs.Levels.{any_greatest, is_greatest}
 use Rattle.shared_store.specs.Works.{Marks, WorkStands, merging_of, parts_of_work}
-use Rattle.row_merge.specs.Merged.{ArePartRows}
+use Rattle.final_fold.specs.row_merge.Merged.{ArePartRows}
 use Rattle.session.specs.Merges.{IsTaken, SealsWork}
 use Rattle.session.proofs.GivenUp.{IsAsBefore}
 use Rattle.session.proofs.PartRows.{rows_of_sources}

@@ -9,11 +9,11 @@ use Rattle.mt_values.specs.declared.statement.InsertText.{InsertText}
 use Rattle.mt_values.specs.declared.statement.Statement.TheVariants as statement
 use Rattle.mt_values.specs.Annals.{Told}
 use Rattle.mt_outside.specs.Files.{Files}
-use Rattle.mt_model.specs.Commands.{commands_of}
-use Rattle.mt_model.specs.Reply.{ok_line}
-use Rattle.root_store.specs.declared.store.Table.{Table}
-use Rattle.root_store.specs.Soundness.{HasSoundParts}
-use Rattle.root_store.specs.Stores.{table_at}
+use Rattle.replies.specs.mt_model.Commands.{commands_of}
+use Rattle.replies.specs.mt_model.Reply.{ok_line}
+use Rattle.shared_store.specs.root_store.declared.store.Table.{Table}
+use Rattle.shared_store.specs.root_store.Soundness.{HasSoundParts}
+use Rattle.shared_store.specs.root_store.Stores.{table_at}
 use Rattle.replies.specs.Causes.{HasCauses}
 use Rattle.replies.specs.Foreseen.{history}
 use Rattle.shared_store.specs.Engines.{GoesOn, GoesThroughCrashes, IsOpen, Opened, schema_kept}

@@ -9,12 +9,12 @@ use Rattle.mt_values.specs.Tables.{sorting_columns}
 use Rattle.mt_values.specs.Values.{FitsType, Row}
 use Rattle.mt_values.proofs.Grids.{AreRowsOf-picked}
 use Rattle.mt_outside.specs.Files.{Files}
-use Rattle.mt_model.specs.History.{column_types}
-use Rattle.digest_file.specs.Spellings.{IsManifestOf}
-use Rattle.part_reader.proofs.Holding.{sealed_folder}
-use Rattle.part_writer.specs.declared.loaded.Loaded.{Loaded}
-use Rattle.part_writer.specs.PartFiles.{all_synced, files_of_part, loaded_of}
-use Rattle.root_commits.specs.Commits.{IsSealedOf, part_rows}
+use Rattle.replies.specs.mt_model.History.{column_types}
+use Rattle.shared_store.specs.digest_file.Spellings.{IsManifestOf}
+use Rattle.shared_store.proofs.PartReaderHolding.{sealed_folder}
+use Rattle.shared_store.specs.part_writer.declared.loaded.Loaded.{Loaded}
+use Rattle.shared_store.specs.part_writer.PartFiles.{all_synced, files_of_part, loaded_of}
+use Rattle.shared_store.specs.root_commits.Commits.{IsSealedOf, part_rows}
 use Rattle.session.proofs.Selecting.{ordered_is_sorted}
 
 module _ (schema : Schema) (block : Grid) (order : List ℕ) (types : block.types ≡ column_types schema) (by : IsOrderBy (sorting_columns schema) block.rows order) (typed : AreRowsOf block.types block.rows) where

@@ -12,18 +12,18 @@ use Rattle.mt_values.specs.Schemas.{column_types}
 use Rattle.mt_values.specs.Tables.{partition_of}
 use Rattle.mt_values.specs.Values.{Row, types_of}
 use Rattle.mt_outside.specs.Files.{Files}
-use Rattle.mt_model.specs.History.{History, IsTableSchema, schema_of}
-use Rattle.mt_model.specs.Live.{live}
-use Rattle.part_history.specs.declared.part.CorePart.{CorePart}
-use Rattle.part_history.specs.Parts.{PartStands}
-use Rattle.part_history.proofs.OwnRows.{own_rows}
-use Rattle.part_reader.specs.declared.reading.Part.{Part}
-use Rattle.part_set.specs.declared.kept.Kept.{Kept}
-use Rattle.part_set.specs.declared.kept.Snap.{Snap}
-use Rattle.root_store.specs.declared.store.CoreStore.{CoreStore}
-use Rattle.root_store.specs.Soundness.{HoldsRows}
-use Rattle.root_store.specs.Stores.{CoreStands, core_parts}
-use Rattle.root_store.proofs.TableMarks.{has_marks}
+use Rattle.replies.specs.mt_model.History.{History, IsTableSchema, schema_of}
+use Rattle.replies.specs.mt_model.Live.{live}
+use Rattle.final_fold.specs.part_history.declared.part.CorePart.{CorePart}
+use Rattle.final_fold.specs.part_history.Parts.{PartStands}
+use Rattle.final_fold.proofs.PartHistoryOwnRows.{own_rows}
+use Rattle.shared_store.specs.part_reader.declared.reading.Part.{Part}
+use Rattle.shared_store.specs.part_set.declared.kept.Kept.{Kept}
+use Rattle.shared_store.specs.part_set.declared.kept.Snap.{Snap}
+use Rattle.shared_store.specs.root_store.declared.store.CoreStore.{CoreStore}
+use Rattle.shared_store.specs.root_store.Soundness.{HoldsRows}
+use Rattle.shared_store.specs.root_store.Stores.{CoreStands, core_parts}
+use Rattle.shared_store.proofs.RootStoreTableMarks.{has_marks}
 use Rattle.select_plan.specs.Plans.{asked_over, asked_part, planned, read_of}
 use Rattle.final_fold.specs.declared.asking.Wanted.{Wanted}
 use Rattle.final_fold.specs.Asked.{IsWanted, MeetUnasked, tested}

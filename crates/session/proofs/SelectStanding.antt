@@ -4,18 +4,18 @@ use Rattle.std.specs.Option.{option_map}
 use Rattle.mt_values.specs.declared.schema.Schema.{Schema}
 use Rattle.mt_values.specs.Values.{Row}
 use Rattle.mt_outside.specs.Files.{Files}
-use Rattle.mt_model.specs.History.{History, schema_of}
-use Rattle.mt_model.specs.Live.{live}
-use Rattle.mt_model.specs.Partial.{Partly}
-use Rattle.part_reader.specs.declared.reading.Part.{Part}
-use Rattle.part_set.specs.declared.kept.Kept.{Kept}
-use Rattle.part_set.specs.Sets.{parts_of}
-use Rattle.part_history.specs.Parts.{AreInBlockOrder, TableStands, rows_of_parts}
-use Rattle.part_history.proofs.Joined.{parts_joined}
-use Rattle.root_store.specs.declared.store.CoreStore.{CoreStore}
-use Rattle.root_store.specs.declared.store.Table.{Table}
-use Rattle.root_store.specs.Stores.{CoreStands, core_parts, table_at}
-use Rattle.part_set.specs.declared.kept.Snap.{Snap}
+use Rattle.replies.specs.mt_model.History.{History, schema_of}
+use Rattle.replies.specs.mt_model.Live.{live}
+use Rattle.replies.specs.mt_model.Partial.{Partly}
+use Rattle.shared_store.specs.part_reader.declared.reading.Part.{Part}
+use Rattle.shared_store.specs.part_set.declared.kept.Kept.{Kept}
+use Rattle.shared_store.specs.part_set.Sets.{parts_of}
+use Rattle.final_fold.specs.part_history.Parts.{AreInBlockOrder, TableStands, rows_of_parts}
+use Rattle.final_fold.proofs.PartHistoryJoined.{parts_joined}
+use Rattle.shared_store.specs.root_store.declared.store.CoreStore.{CoreStore}
+use Rattle.shared_store.specs.root_store.declared.store.Table.{Table}
+use Rattle.shared_store.specs.root_store.Stores.{CoreStands, core_parts, table_at}
+use Rattle.shared_store.specs.part_set.declared.kept.Snap.{Snap}
 use Rattle.final_fold.specs.Scans.{PartsHold, joined_rows}
 use Rattle.shared_store.specs.Engines.{IsSnapOf}
 

@@ -15,18 +15,18 @@ use Rattle.mt_values.specs.Grid.{Grid, IsOrderBy, picked}
 use Rattle.mt_values.specs.Printing.{line}
 use Rattle.mt_values.specs.Tests.{eval}
 use Rattle.mt_values.proofs.Grids.{All-range, IsPermutation-picked, length-picked}
-use Rattle.mt_model.specs.declared.refusal.Refusal.{Refusal}
-use Rattle.mt_model.specs.History.{History, schema_of}
-use Rattle.mt_model.specs.Live.{sorted, live}
-use Rattle.mt_model.specs.Final.{Sees}
-use Rattle.mt_model.specs.Answer.{Prints, Answer}
-use Rattle.mt_model.specs.Clauses.{column_place}
-use Rattle.mt_model.specs.declared.query.Query.{Query}
-use Rattle.mt_model.specs.Queries.{query_of}
-use Rattle.mt_model.specs.Reply.{rows_line, place_onto, found_or, places_of, selected_places}
-use Rattle.mt_model.specs.Session.{Selects}
-use Rattle.mt_model.proofs.SameKeys.{stable_is_sorted}
-use Rattle.mt_model.proofs.Determined.{key_total}
+use Rattle.replies.specs.mt_model.declared.refusal.Refusal.{Refusal}
+use Rattle.replies.specs.mt_model.History.{History, schema_of}
+use Rattle.replies.specs.mt_model.Live.{sorted, live}
+use Rattle.replies.specs.mt_model.Final.{Sees}
+use Rattle.replies.specs.mt_model.Answer.{Prints, Answer}
+use Rattle.replies.specs.mt_model.Clauses.{column_place}
+use Rattle.replies.specs.mt_model.declared.query.Query.{Query}
+use Rattle.replies.specs.mt_model.Queries.{query_of}
+use Rattle.replies.specs.mt_model.Reply.{rows_line, place_onto, found_or, places_of, selected_places}
+use Rattle.replies.specs.mt_model.Session.{Selects}
+use Rattle.replies.proofs.MtModelSameKeys.{stable_is_sorted}
+use Rattle.replies.proofs.MtModelDetermined.{key_total}
 use Rattle.final_fold.specs.Scans.{ArePlacesOf}
 use Rattle.replies.specs.Lines.{Printed}
 use Rattle.final_fold.proofs.Picking.{read_within}

@@ -6,17 +6,17 @@ use Rattle.mt_values.specs.declared.schema.Schema.{Schema}
 use Rattle.mt_values.specs.Tables.{same_partition}
 use Rattle.mt_values.specs.Values.{Row}
 use Rattle.mt_outside.specs.Files.{Files}
-use Rattle.mt_model.specs.History.{History, creates, inserts, schema_of}
-use Rattle.mt_model.specs.Numbers.{last_number}
-use Rattle.part_reader.specs.declared.reading.Part.{Part}
-use Rattle.part_set.specs.declared.kept.Kept.{Kept}
-use Rattle.part_set.specs.Parts.{kept_in}
-use Rattle.part_set.specs.Sets.{parts_of}
-use Rattle.part_history.specs.Parts.{parts_in}
-use Rattle.part_history.proofs.Counted.{parts_at_most}
-use Rattle.root_store.specs.declared.store.CoreStore.{CoreStore}
-use Rattle.root_store.specs.declared.store.Table.{Table}
-use Rattle.root_store.specs.Stores.{CoreStands, core_part, core_parts, table_at}
+use Rattle.replies.specs.mt_model.History.{History, creates, inserts, schema_of}
+use Rattle.replies.specs.mt_model.Numbers.{last_number}
+use Rattle.shared_store.specs.part_reader.declared.reading.Part.{Part}
+use Rattle.shared_store.specs.part_set.declared.kept.Kept.{Kept}
+use Rattle.shared_store.specs.part_set.Parts.{kept_in}
+use Rattle.shared_store.specs.part_set.Sets.{parts_of}
+use Rattle.final_fold.specs.part_history.Parts.{parts_in}
+use Rattle.final_fold.proofs.PartHistoryCounted.{parts_at_most}
+use Rattle.shared_store.specs.root_store.declared.store.CoreStore.{CoreStore}
+use Rattle.shared_store.specs.root_store.declared.store.Table.{Table}
+use Rattle.shared_store.specs.root_store.Stores.{CoreStands, core_part, core_parts, table_at}
 use Rattle.final_fold.specs.Scans.{PartsHold}
 
 -- as many parts of a partition are kept as stand

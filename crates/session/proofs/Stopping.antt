@@ -10,27 +10,27 @@ use Rattle.mt_values.specs.Grid.{Grid}
 use Rattle.mt_outside.specs.Causes.{Rose}
 use Rattle.mt_outside.specs.Disk as root
 use Rattle.mt_outside.specs.Files.{Files}
-use Rattle.mt_model.specs.declared.refusal.Bound.TheVariants as bound
-use Rattle.mt_model.specs.declared.refusal.Refusal.{Refusal}
-use Rattle.mt_model.specs.declared.refusal.Refusal.TheVariants as refusal
-use Rattle.mt_model.specs.declared.refusal.Room.TheVariants as room
-use Rattle.mt_model.specs.History.{History, inserts}
-use Rattle.mt_model.specs.Refusals.{is_damage, refusal_line}
-use Rattle.mt_model.specs.Numbers.{last_number}
-use Rattle.mt_model.specs.Outside.{Outside, TurnFailed}
-use Rattle.mt_model.specs.Reply.{schema_of_text, create_turn, insert_turn}
-use Rattle.mt_model.specs.Session.{RefusedInTurn, Takes}
-use Rattle.part_set.specs.Parts.{kept_in}
-use Rattle.part_set.specs.Sets.{parts_of}
-use Rattle.durable_commit.specs.declared.causes.Limit.TheVariants as limit
-use Rattle.durable_commit.specs.declared.causes.Refused.{Refused}
-use Rattle.durable_commit.specs.declared.causes.Refused.TheVariants as refused
-use Rattle.durable_commit.specs.Commits.{IsOutside}
-use Rattle.root_store.specs.declared.store.CoreStore.{CoreStore}
-use Rattle.root_store.specs.declared.store.Table.{Table}
-use Rattle.root_commits.specs.Commits.{IsCause, partition_of_block, refuses_create, refuses_part}
-use Rattle.root_store.specs.Soundness.{RootStands}
-use Rattle.root_store.specs.Stores.{CoreStands, table_at}
+use Rattle.replies.specs.mt_model.declared.refusal.Bound.TheVariants as bound
+use Rattle.replies.specs.mt_model.declared.refusal.Refusal.{Refusal}
+use Rattle.replies.specs.mt_model.declared.refusal.Refusal.TheVariants as refusal
+use Rattle.replies.specs.mt_model.declared.refusal.Room.TheVariants as room
+use Rattle.replies.specs.mt_model.History.{History, inserts}
+use Rattle.replies.specs.mt_model.Refusals.{is_damage, refusal_line}
+use Rattle.replies.specs.mt_model.Numbers.{last_number}
+use Rattle.replies.specs.mt_model.Outside.{Outside, TurnFailed}
+use Rattle.replies.specs.mt_model.Reply.{schema_of_text, create_turn, insert_turn}
+use Rattle.replies.specs.mt_model.Session.{RefusedInTurn, Takes}
+use Rattle.shared_store.specs.part_set.Parts.{kept_in}
+use Rattle.shared_store.specs.part_set.Sets.{parts_of}
+use Rattle.shared_store.specs.durable_commit.declared.causes.Limit.TheVariants as limit
+use Rattle.shared_store.specs.durable_commit.declared.causes.Refused.{Refused}
+use Rattle.shared_store.specs.durable_commit.declared.causes.Refused.TheVariants as refused
+use Rattle.shared_store.specs.durable_commit.Commits.{IsOutside}
+use Rattle.shared_store.specs.root_store.declared.store.CoreStore.{CoreStore}
+use Rattle.shared_store.specs.root_store.declared.store.Table.{Table}
+use Rattle.shared_store.specs.root_commits.Commits.{IsCause, partition_of_block, refuses_create, refuses_part}
+use Rattle.shared_store.specs.root_store.Soundness.{RootStands}
+use Rattle.shared_store.specs.root_store.Stores.{CoreStands, table_at}
 use Rattle.replies.specs.Causes.{HasCauses}
 use Rattle.replies.specs.Foreseen.{Foresees, history, is_unsettled}
 use Rattle.session.specs.Stops.{IsLineOf}

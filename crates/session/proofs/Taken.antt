@@ -6,13 +6,13 @@ use Rattle.std.proofs.lemmas.List.Kept.{AllPairs-filter}
 use Rattle.std.specs.List.{All, Contains as HasItem}
 use Rattle.mt_base.specs.declared.partition.Partition.{Partition}
 use Rattle.mt_values.specs.Tables.{same_partition}
-use Rattle.mt_model.proofs.Commands.{partition_is}
-use Rattle.part_set.specs.declared.kept.Kept.{Kept}
-use Rattle.part_set.specs.declared.run.Run.{Run}
-use Rattle.part_set.specs.Parts.{IsInBlockOrder, StandsClear, kept_in}
-use Rattle.part_set.specs.Runs.{EndsInOrder, IsMarked, IsRun, parts_of_run, with_mark}
-use Rattle.part_set.proofs.Items.{item_first}
-use Rattle.part_set.proofs.Swaps.{marked_names, named_ordered, pairs_across, pairs_back, run_parts}
+use Rattle.replies.proofs.MtModelCommands.{partition_is}
+use Rattle.shared_store.specs.part_set.declared.kept.Kept.{Kept}
+use Rattle.shared_store.specs.part_set.declared.run.Run.{Run}
+use Rattle.shared_store.specs.part_set.Parts.{IsInBlockOrder, StandsClear, kept_in}
+use Rattle.shared_store.specs.part_set.Runs.{EndsInOrder, IsMarked, IsRun, parts_of_run, with_mark}
+use Rattle.shared_store.proofs.PartSetItems.{item_first}
+use Rattle.shared_store.proofs.PartSetSwaps.{marked_names, named_ordered, pairs_across, pairs_back, run_parts}
 
 -- ---- lists
 

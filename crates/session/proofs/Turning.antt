@@ -11,21 +11,21 @@ use Rattle.mt_values.specs.declared.schema.Schema.{Schema}
 use Rattle.mt_values.specs.Annals.{Told}
 use Rattle.mt_outside.specs.Disk as root
 use Rattle.mt_outside.specs.Files.{Files}
-use Rattle.mt_model.specs.Numbers.{last_number}
-use Rattle.part_writer.specs.declared.loaded.Loaded.{Loaded}
-use Rattle.part_set.specs.Parts.{kept_in}
-use Rattle.part_set.specs.Sets.{parts_of}
-use Rattle.durable_commit.specs.declared.causes.Refused.{Refused}
-use Rattle.durable_commit.specs.declared.causes.Refused.TheVariants as refused
-use Rattle.durable_commit.specs.Commits.{IsOutside, entry_of}
-use Rattle.root_commits.specs.Commits.{EntersSealed, IsCause, SameStore, StandsWhere, partition_of_block, refuses_part}
-use Rattle.root_commits.specs.Turns.{IsDone, Turn, turn_of_part, with_entry}
-use Rattle.root_commits.proofs.SameStores.{stands_same}
-use Rattle.root_commits.proofs.Turning.{AfterRefusal}
-use Rattle.root_store.specs.declared.store.CoreStore.{CoreStore}
-use Rattle.root_store.specs.declared.store.Table.{Table}
-use Rattle.root_store.specs.Soundness.{RootStands}
-use Rattle.root_store.specs.Stores.{CoreStands, table_at}
+use Rattle.replies.specs.mt_model.Numbers.{last_number}
+use Rattle.shared_store.specs.part_writer.declared.loaded.Loaded.{Loaded}
+use Rattle.shared_store.specs.part_set.Parts.{kept_in}
+use Rattle.shared_store.specs.part_set.Sets.{parts_of}
+use Rattle.shared_store.specs.durable_commit.declared.causes.Refused.{Refused}
+use Rattle.shared_store.specs.durable_commit.declared.causes.Refused.TheVariants as refused
+use Rattle.shared_store.specs.durable_commit.Commits.{IsOutside, entry_of}
+use Rattle.shared_store.specs.root_commits.Commits.{EntersSealed, IsCause, SameStore, StandsWhere, partition_of_block, refuses_part}
+use Rattle.shared_store.specs.root_commits.Turns.{IsDone, Turn, turn_of_part, with_entry}
+use Rattle.shared_store.proofs.RootCommitsSameStores.{stands_same}
+use Rattle.shared_store.proofs.RootCommitsTurning.{AfterRefusal}
+use Rattle.shared_store.specs.root_store.declared.store.CoreStore.{CoreStore}
+use Rattle.shared_store.specs.root_store.declared.store.Table.{Table}
+use Rattle.shared_store.specs.root_store.Soundness.{RootStands}
+use Rattle.shared_store.specs.root_store.Stores.{CoreStands, table_at}
 use Rattle.replies.specs.Foreseen.{history, is_unsettled}
 use Rattle.shared_store.specs.Engines.{Opened, schema_kept}
 use Rattle.session.specs.declared.sealing.SealedBlock.{SealedBlock}

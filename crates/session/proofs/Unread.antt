@@ -7,26 +7,26 @@ use Rattle.mt_values.specs.Values.{Row}
 use Rattle.mt_outside.specs.declared.disk.DiskError.TheVariants as failure
 use Rattle.mt_outside.specs.Causes.{Rose}
 use Rattle.mt_outside.specs.Files.{Files}
-use Rattle.mt_model.specs.declared.refusal.Refusal.TheVariants as refusal
-use Rattle.mt_model.specs.History.{History}
-use Rattle.mt_model.specs.Refusals.{is_damage}
-use Rattle.part_name.specs.declared.part.PartName.{PartName}
-use Rattle.part_name.specs.PartNames.{part_text}
+use Rattle.replies.specs.mt_model.declared.refusal.Refusal.TheVariants as refusal
+use Rattle.replies.specs.mt_model.History.{History}
+use Rattle.replies.specs.mt_model.Refusals.{is_damage}
+use Rattle.shared_store.specs.part_name.declared.part.PartName.{PartName}
+use Rattle.shared_store.specs.part_name.PartNames.{part_text}
 use Rattle.mt_base.specs.Files.{file_name}
-use Rattle.part_reader.specs.declared.reading.Part.{Part}
-use Rattle.part_reader.specs.declared.reading.PartFault.{PartFault}
-use Rattle.part_reader.specs.declared.reading.PartFault.TheVariants as fault
-use Rattle.part_reader.specs.Faults.{IsNoDamage}
-use Rattle.part_reader.specs.Parts.{PartHolds}
-use Rattle.part_set.specs.declared.kept.Kept.{Kept}
-use Rattle.part_set.specs.Sets.{parts_of}
-use Rattle.root_store.specs.Soundness.{HasSoundParts, HoldsRows}
-use Rattle.root_store.specs.Stores.{CoreStands}
-use Rattle.part_set.proofs.Orphans.{item_more}
-use Rattle.part_set.proofs.Items.{item_first}
+use Rattle.shared_store.specs.part_reader.declared.reading.Part.{Part}
+use Rattle.shared_store.specs.part_reader.declared.reading.PartFault.{PartFault}
+use Rattle.shared_store.specs.part_reader.declared.reading.PartFault.TheVariants as fault
+use Rattle.shared_store.specs.part_reader.Faults.{IsNoDamage}
+use Rattle.shared_store.specs.part_reader.Parts.{PartHolds}
+use Rattle.shared_store.specs.part_set.declared.kept.Kept.{Kept}
+use Rattle.shared_store.specs.part_set.Sets.{parts_of}
+use Rattle.shared_store.specs.root_store.Soundness.{HasSoundParts, HoldsRows}
+use Rattle.shared_store.specs.root_store.Stores.{CoreStands}
+use Rattle.shared_store.proofs.PartSetOrphans.{item_more}
+use Rattle.shared_store.proofs.PartSetItems.{item_first}
 use Rattle.replies.proofs.Causing.{says_damage, says_failed}
 use Rattle.replies.proofs.Counting.{stage_failed}
-use Rattle.row_merge.specs.MergedParts.{PartsHold}
+use Rattle.final_fold.specs.row_merge.MergedParts.{PartsHold}
 use Rattle.shared_store.specs.declared.work.Work.{Work}
 use Rattle.shared_store.specs.Engines.{Opened}
 use Rattle.session.specs.Merges.{IsTaken, IsUnreadLine, RefusesMerge}

@@ -6,23 +6,23 @@ use Rattle.std.proofs.lemmas.List.Elements.{All-contains, Contains-append_left, 
 use Rattle.mt_base.specs.declared.memory.NoMemory.{NoMemory}
 use Rattle.mt_base.specs.declared.partition.Partition.{Partition}
 use Rattle.mt_values.specs.declared.statement.OptimizeText.{OptimizeText}
-use Rattle.part_reader.specs.declared.reading.Part.{Part}
-use Rattle.part_set.specs.declared.kept.Kept.{Kept}
-use Rattle.part_set.specs.Parts.{kept_in, partition_rank}
-use Rattle.part_set.specs.Sets.{parts_of}
-use Rattle.part_set.proofs.Items.{item_first, item_none}
-use Rattle.part_set.proofs.Shelving.{mine_has, mine_within}
+use Rattle.shared_store.specs.part_reader.declared.reading.Part.{Part}
+use Rattle.shared_store.specs.part_set.declared.kept.Kept.{Kept}
+use Rattle.shared_store.specs.part_set.Parts.{kept_in, partition_rank}
+use Rattle.shared_store.specs.part_set.Sets.{parts_of}
+use Rattle.shared_store.proofs.PartSetItems.{item_first, item_none}
+use Rattle.shared_store.proofs.PartSetShelving.{mine_has, mine_within}
 use Rattle.mt_values.specs.Tables.{same_partition}
-use Rattle.mt_model.proofs.Commands.{partition_is}
-use Rattle.root_store.proofs.Items.{map_item, mapped}
-use Rattle.root_commits.specs.Commits.{SameStore}
-use Rattle.root_store.specs.declared.store.CoreStore.{CoreStore}
+use Rattle.replies.proofs.MtModelCommands.{partition_is}
+use Rattle.shared_store.proofs.RootStoreItems.{map_item, mapped}
+use Rattle.shared_store.specs.root_commits.Commits.{SameStore}
+use Rattle.shared_store.specs.root_store.declared.store.CoreStore.{CoreStore}
 use Rattle.shared_store.specs.declared.work.Work.{Work}
 use Rattle.shared_store.specs.Engines.{Opened}
-use Rattle.merge_select.specs.Whole.{PicksAll}
-use Rattle.mutation_queue.specs.declared.mutations.Mutations.{Mutations}
-use Rattle.mutation_queue.specs.declared.numbered.Mutation.{Mutation}
-use Rattle.mutation_queue.specs.Queue.{mutations_of}
+use Rattle.shared_store.specs.merge_select.Whole.{PicksAll}
+use Rattle.shared_store.specs.mutation_queue.declared.mutations.Mutations.{Mutations}
+use Rattle.shared_store.specs.mutation_queue.declared.numbered.Mutation.{Mutation}
+use Rattle.shared_store.specs.mutation_queue.Queue.{mutations_of}
 use Rattle.session.specs.Merges.{AllAreFinal, AreFinal, ArePartitionsOf, BecameOne, ChangesOwn, IsFinal, IsFinalAt, KeepsBeside, parts_at, partitions_in}
 use Rattle.session.proofs.Lapses.{says_nothing}
 

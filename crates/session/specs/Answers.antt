@@ -7,13 +7,13 @@ use Rattle.mt_values.specs.declared.statement.Statement.TheVariants as statement
 use Rattle.mt_values.specs.Annals.{Told}
 use Rattle.mt_values.specs.Script.{Item}
 use Rattle.mt_outside.specs.Files.{Files}
-use Rattle.mt_model.specs.Outside.{Outside}
-use Rattle.mt_model.specs.Session.{StopsAfter, Takes, Unanswered}
+use Rattle.replies.specs.mt_model.Outside.{Outside}
+use Rattle.replies.specs.mt_model.Session.{StopsAfter, Takes, Unanswered}
 use Rattle.replies.specs.Foreseen.{Foresees, history, is_unsettled}
-use Rattle.durable_commit.specs.Commits.{entry_of}
-use Rattle.root_commits.specs.Commits.{SameStore}
-use Rattle.root_store.specs.Soundness.{RootStands}
-use Rattle.root_store.specs.Stores.{CoreStands}
+use Rattle.shared_store.specs.durable_commit.Commits.{entry_of}
+use Rattle.shared_store.specs.root_commits.Commits.{SameStore}
+use Rattle.shared_store.specs.root_store.Soundness.{RootStands}
+use Rattle.shared_store.specs.root_store.Stores.{CoreStands}
 use Rattle.mt_base.specs.declared.memory.NoMemory.{NoMemory}
 use Rattle.shared_store.specs.Engines.{Opened}
 use Rattle.shared_store.specs.Levels.{has_greatest}

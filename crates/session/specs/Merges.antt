@@ -7,35 +7,35 @@ use Rattle.mt_base.specs.Files.{file_name}
 use Rattle.mt_values.specs.declared.statement.OptimizeText.{OptimizeText}
 use Rattle.mt_values.specs.Values.{Row}
 use Rattle.mt_outside.specs.Files.{Files}
-use Rattle.mt_model.specs.declared.refusal.Refusal.{Refusal}
-use Rattle.mt_model.specs.declared.refusal.Refusal.TheVariants as refusal
-use Rattle.mt_model.specs.History.{History}
-use Rattle.mt_model.specs.Outside.{LevelFailed, Outside, ReadOrStageFailed, TurnFailed}
-use Rattle.mt_model.specs.Refusals.{is_damage, refusal_line}
-use Rattle.part_name.specs.declared.part.PartName.{PartName}
-use Rattle.part_name.specs.PartNames.{IsPartition, part_text, partition_text}
-use Rattle.part_reader.specs.declared.reading.PartFault.{PartFault}
-use Rattle.part_reader.specs.declared.reading.PartFault.TheVariants as fault
-use Rattle.part_writer.specs.declared.loaded.Loaded.{Loaded}
-use Rattle.part_set.specs.declared.kept.Kept.{Kept}
-use Rattle.part_set.specs.Parts.{IsInBlockOrder, kept_in, partition_rank}
-use Rattle.part_set.specs.Sets.{parts_of}
-use Rattle.merge_select.specs.Whole.{PicksAll}
-use Rattle.mutation_queue.specs.declared.numbered.Mutation.{Mutation}
-use Rattle.mutation_queue.specs.Queue.{mutations_of}
-use Rattle.part_reader.specs.declared.reading.Part.{Part}
-use Rattle.root_commits.specs.Merges.{name_of_merge}
-use Rattle.root_store.specs.declared.store.CoreStore.{CoreStore}
-use Rattle.root_store.specs.Soundness.{HasSoundParts, RootStands}
-use Rattle.root_store.specs.Stores.{CoreStands}
+use Rattle.replies.specs.mt_model.declared.refusal.Refusal.{Refusal}
+use Rattle.replies.specs.mt_model.declared.refusal.Refusal.TheVariants as refusal
+use Rattle.replies.specs.mt_model.History.{History}
+use Rattle.replies.specs.mt_model.Outside.{LevelFailed, Outside, ReadOrStageFailed, TurnFailed}
+use Rattle.replies.specs.mt_model.Refusals.{is_damage, refusal_line}
+use Rattle.shared_store.specs.part_name.declared.part.PartName.{PartName}
+use Rattle.shared_store.specs.part_name.PartNames.{IsPartition, part_text, partition_text}
+use Rattle.shared_store.specs.part_reader.declared.reading.PartFault.{PartFault}
+use Rattle.shared_store.specs.part_reader.declared.reading.PartFault.TheVariants as fault
+use Rattle.shared_store.specs.part_writer.declared.loaded.Loaded.{Loaded}
+use Rattle.shared_store.specs.part_set.declared.kept.Kept.{Kept}
+use Rattle.shared_store.specs.part_set.Parts.{IsInBlockOrder, kept_in, partition_rank}
+use Rattle.shared_store.specs.part_set.Sets.{parts_of}
+use Rattle.shared_store.specs.merge_select.Whole.{PicksAll}
+use Rattle.shared_store.specs.mutation_queue.declared.numbered.Mutation.{Mutation}
+use Rattle.shared_store.specs.mutation_queue.Queue.{mutations_of}
+use Rattle.shared_store.specs.part_reader.declared.reading.Part.{Part}
+use Rattle.shared_store.specs.root_commits.Merges.{name_of_merge}
+use Rattle.shared_store.specs.root_store.declared.store.CoreStore.{CoreStore}
+use Rattle.shared_store.specs.root_store.Soundness.{HasSoundParts, RootStands}
+use Rattle.shared_store.specs.root_store.Stores.{CoreStands}
 use Rattle.replies.specs.Causes.{HasCauses}
 use Rattle.replies.specs.Foreseen.{Foresees}
 use Rattle.shared_store.specs.Engines.{GoesOn, GoesThroughCrashes, Opened}
 use Rattle.shared_store.specs.Levels.{LeavesParts, has_greatest}
 use Rattle.shared_store.specs.declared.work.Work.{Work}
 use Rattle.shared_store.specs.Works.{StandsOn, TakesUp}
-use Rattle.row_merge.specs.Merged.{ArePartRows}
-use Rattle.row_merge.specs.MergedParts.{IsSealedMerge, IsSealedPart, PartsHold}
+use Rattle.final_fold.specs.row_merge.Merged.{ArePartRows}
+use Rattle.final_fold.specs.row_merge.MergedParts.{IsSealedMerge, IsSealedPart, PartsHold}
 use Rattle.session.specs.Answers.{AcceptsNothing}
 
 -- ---- the partitions of a table

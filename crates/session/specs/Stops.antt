@@ -1,13 +1,13 @@
 -- Why a command was not committed, and what is replied (docs/replies.md, "Faults").
 use Rattle.std.specs.Prelude.{◌≡◌, List, ℕ, Option, Some, None}
-use Rattle.mt_model.specs.declared.refusal.Bound.TheVariants as bound
-use Rattle.mt_model.specs.declared.refusal.Refusal.{Refusal}
-use Rattle.mt_model.specs.declared.refusal.Refusal.TheVariants as refusal
-use Rattle.mt_model.specs.declared.refusal.Room.TheVariants as room
-use Rattle.mt_model.specs.Refusals.{refusal_line}
-use Rattle.durable_commit.specs.declared.causes.Limit.TheVariants as limit
-use Rattle.durable_commit.specs.declared.causes.Refused.{Refused}
-use Rattle.durable_commit.specs.declared.causes.Refused.TheVariants as refused
+use Rattle.replies.specs.mt_model.declared.refusal.Bound.TheVariants as bound
+use Rattle.replies.specs.mt_model.declared.refusal.Refusal.{Refusal}
+use Rattle.replies.specs.mt_model.declared.refusal.Refusal.TheVariants as refusal
+use Rattle.replies.specs.mt_model.declared.refusal.Room.TheVariants as room
+use Rattle.replies.specs.mt_model.Refusals.{refusal_line}
+use Rattle.shared_store.specs.durable_commit.declared.causes.Limit.TheVariants as limit
+use Rattle.shared_store.specs.durable_commit.declared.causes.Refused.{Refused}
+use Rattle.shared_store.specs.durable_commit.declared.causes.Refused.TheVariants as refused
 
 -- what a command on a table, or a merge of its parts, is refused for where it was not committed, after some of its statement's commands were
 -- accepted; nothing for want of memory

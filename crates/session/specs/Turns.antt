@@ -5,13 +5,13 @@ use Rattle.mt_values.specs.declared.command.Command.{Command}
 use Rattle.mt_values.specs.declared.schema.Schema.{Schema}
 use Rattle.mt_values.specs.Annals.{Told, began, noted}
 use Rattle.mt_outside.specs.Files.{Files}
-use Rattle.mt_model.specs.History.{IsInsertInto}
-use Rattle.mt_model.specs.Outside.{Outside}
-use Rattle.mt_model.specs.Session.{RefusedInTurn, TurnAllows}
-use Rattle.durable_commit.specs.Commits.{entry_of}
-use Rattle.root_commits.specs.Commits.{IsSealedOf, insert_into, insert_of_block, partition_of_block}
-use Rattle.root_store.specs.Soundness.{RootStands}
-use Rattle.root_store.specs.Stores.{CoreStands}
+use Rattle.replies.specs.mt_model.History.{IsInsertInto}
+use Rattle.replies.specs.mt_model.Outside.{Outside}
+use Rattle.replies.specs.mt_model.Session.{RefusedInTurn, TurnAllows}
+use Rattle.shared_store.specs.durable_commit.Commits.{entry_of}
+use Rattle.shared_store.specs.root_commits.Commits.{IsSealedOf, insert_into, insert_of_block, partition_of_block}
+use Rattle.shared_store.specs.root_store.Soundness.{RootStands}
+use Rattle.shared_store.specs.root_store.Stores.{CoreStands}
 use Rattle.replies.specs.Foreseen.{Foresees, history, is_unsettled}
 use Rattle.shared_store.specs.Levels.{has_greatest}
 use Rattle.session.specs.Answers.{Turned}

@@ -2,9 +2,9 @@
 ghost use Rattle.std.specs.Prelude.{◌≡◌, ◌<◌, ◌≤◌, Ok, true, false, IfOk, OnErr};
 ghost use Rattle.mt_values.specs.declared.statement.Statement.TheVariants as statement;
 ghost use Rattle.mt_values.specs.Annals.{Told};
-ghost use Rattle.mt_model.specs.Refusals.{is_damage};
-ghost use Rattle.mt_model.specs.Written.{IsCreateText};
-ghost use Rattle.root_store.specs.Soundness.{HasSoundParts};
+ghost use Rattle.replies.specs.mt_model.Refusals.{is_damage};
+ghost use Rattle.replies.specs.mt_model.Written.{IsCreateText};
+ghost use Rattle.shared_store.specs.root_store.Soundness.{HasSoundParts};
 ghost use Rattle.replies.specs.Causes.{HasCauses};
 ghost use Rattle.session.specs.Answers.{AcceptsNothing, Answers, Knows, Turned};
 ghost use Rattle.shared_store.specs.Engines.{GoesOn, GoesThroughCrashes};
@@ -13,12 +13,12 @@ ghost use Rattle.shared_store.specs.Levels.{LeavesParts};
 use crate::stopped::refused_line;
 use crate::{give_back, seal_entry};
 use mt_base::{NoMemory, Stop, Twin};
-use mt_model::resolve;
 use mt_outside::{Arm, Dir, Disk};
 use mt_values::{Annals, Create, CreateText};
+use replies::mt_model::resolve;
 use replies::{Reply, replies_after, stage_line};
-use root_commits::Returned;
 use shared_store::Engine;
+use shared_store::root_commits::Returned;
 use std::alloc::Global;
 
 /// How many of its commands are accepted before the one that it runs: a CREATE has one.

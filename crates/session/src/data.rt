@@ -3,13 +3,13 @@ ghost use Rattle.std.specs.Prelude.{◌≡◌, Ok, IfErr, IfOk};
 ghost use Rattle.mt_values.specs.Engines.{sign_place};
 ghost use Rattle.mt_values.specs.Rows.{inserted_rows};
 ghost use Rattle.mt_values.specs.Values.{AreValues};
-ghost use Rattle.mt_model.specs.History.{column_types};
+ghost use Rattle.replies.specs.mt_model.History.{column_types};
 ghost use Rattle.mt_base.specs.Stops.{Refuses};
 
 use mt_base::Stop;
 use mt_values::{Block, DataFault, InsertText, Schema};
+use replies::tsv_rows::read_rows;
 use std::alloc::Global;
-use tsv_rows::read_rows;
 
 /// The rows of an INSERT, read for a table's columns and its sign, or why they are refused.
 pub fn read_block(

@@ -1,24 +1,24 @@
 // Running an EXPLAIN: a table is pinned in one turn, and what a SELECT would read of its parts is counted outside of it. No file is read.
 ghost use Rattle.std.specs.Prelude.{◌≡◌, ℕ, false, IfOk};
 ghost use Rattle.mt_values.specs.Annals.{Told};
-ghost use Rattle.mt_model.specs.History.{IsTableSchema};
-ghost use Rattle.mt_model.specs.Refusals.{is_damage};
+ghost use Rattle.replies.specs.mt_model.History.{IsTableSchema};
+ghost use Rattle.replies.specs.mt_model.Refusals.{is_damage};
 ghost use Rattle.replies.specs.Causes.{HasCauses};
 ghost use Rattle.replies.specs.Foreseen.{Explained, history};
-ghost use Rattle.root_store.specs.declared.store.CoreStore.{CoreStore};
-ghost use Rattle.root_store.specs.Stores.{CoreStands};
+ghost use Rattle.shared_store.specs.root_store.declared.store.CoreStore.{CoreStore};
+ghost use Rattle.shared_store.specs.root_store.Stores.{CoreStands};
 ghost use Rattle.session.specs.Answers.{Knows};
 ghost use Rattle.shared_store.specs.Engines.{IsOpen, IsSnapOf};
 
 use mt_base::{NoMemory, Stop};
-use mt_model::query_of;
 use mt_outside::{Arm, Dir, Disk};
 use mt_values::{Annals, SelectText};
-use part_reader::Part;
-use part_set::Snap;
+use replies::mt_model::query_of;
 use replies::{Reply, explained, no_table_line};
 use select_plan::plan;
 use shared_store::Engine;
+use shared_store::part_reader::Part;
+use shared_store::part_set::Snap;
 use std::alloc::Global;
 
 /// How many parts and granules of a pinned table a SELECT would read, unless it is refused. It takes no turn.

@@ -2,8 +2,8 @@
 ghost use Rattle.std.specs.Prelude.{◌≡◌, ◌<◌, ◌≤◌, Ok, true, false, IfOk, OnErr};
 ghost use Rattle.mt_values.specs.declared.statement.Statement.TheVariants as statement;
 ghost use Rattle.mt_values.specs.Annals.{Told};
-ghost use Rattle.mt_model.specs.Refusals.{is_damage};
-ghost use Rattle.root_store.specs.Soundness.{HasSoundParts};
+ghost use Rattle.replies.specs.mt_model.Refusals.{is_damage};
+ghost use Rattle.shared_store.specs.root_store.Soundness.{HasSoundParts};
 ghost use Rattle.replies.specs.Causes.{HasCauses};
 ghost use Rattle.session.specs.Answers.{AcceptsNothing, Answers, Knows, Turned};
 ghost use Rattle.shared_store.specs.Engines.{GoesOn, GoesThroughCrashes};

@@ -1,24 +1,24 @@
 // A work of parts, merged and put in its place, or given up.
 ghost use Rattle.std.specs.Prelude.{◌≡◌, ◌<◌, Some, true, IfErr, IfOk, IsSome, length};
-ghost use Rattle.mt_model.specs.declared.refusal.Bound.TheVariants as bound;
-ghost use Rattle.mt_model.specs.declared.refusal.Refusal.TheVariants as refusal;
-ghost use Rattle.mt_model.specs.History.{IsTableSchema};
-ghost use Rattle.mt_model.specs.Refusals.{refusal_line};
+ghost use Rattle.replies.specs.mt_model.declared.refusal.Bound.TheVariants as bound;
+ghost use Rattle.replies.specs.mt_model.declared.refusal.Refusal.TheVariants as refusal;
+ghost use Rattle.replies.specs.mt_model.History.{IsTableSchema};
+ghost use Rattle.replies.specs.mt_model.Refusals.{refusal_line};
 ghost use Rattle.session.specs.Merges.{ChangesOwn, IsTaken, IsUnreadLine, Lapse, Merges, SealsWork};
 ghost use Rattle.shared_store.specs.Engines.{Opened};
 ghost use Rattle.shared_store.specs.Levels.{any_greatest};
 
 use crate::give_back_part;
 use crate::stopped::refused_line;
+use final_fold::row_merge::merge_parts;
 use mt_base::NoMemory;
 use mt_outside::{Arm, Dir, Disk};
 use mt_values::{Annals, Name};
-use part_name::PartName;
-use part_reader::PartFault;
-use part_writer::SealedPart;
 use replies::{MergeReplies, Reply, damaged};
-use root_commits::Returned;
-use row_merge::merge_parts;
+use shared_store::part_name::PartName;
+use shared_store::part_reader::PartFault;
+use shared_store::part_writer::SealedPart;
+use shared_store::root_commits::Returned;
 use shared_store::{Engine, Put, Work};
 use std::alloc::Global;
 

@@ -4,13 +4,13 @@ ghost use Rattle.std.specs.Prelude.{◌≡◌, ◌⊎◌, ◌<◌, ◌≤◌, Ok
 ghost use Rattle.std.specs.List.{AllPairs};
 ghost use Rattle.mt_values.specs.declared.statement.Statement.TheVariants as statement;
 ghost use Rattle.mt_values.specs.Annals.{Told};
-ghost use Rattle.mt_model.specs.Refusals.{is_damage};
-ghost use Rattle.merge_select.specs.Picks.{InScope};
-ghost use Rattle.part_set.specs.Parts.{IsInBlockOrder, partition_rank};
-ghost use Rattle.part_set.specs.Sets.{parts_of};
-ghost use Rattle.root_store.specs.Shown.{HasNoMark};
-ghost use Rattle.root_store.specs.Soundness.{HasSoundParts};
-ghost use Rattle.root_store.specs.Stores.{table_at};
+ghost use Rattle.replies.specs.mt_model.Refusals.{is_damage};
+ghost use Rattle.shared_store.specs.merge_select.Picks.{InScope};
+ghost use Rattle.shared_store.specs.part_set.Parts.{IsInBlockOrder, partition_rank};
+ghost use Rattle.shared_store.specs.part_set.Sets.{parts_of};
+ghost use Rattle.shared_store.specs.root_store.Shown.{HasNoMark};
+ghost use Rattle.shared_store.specs.root_store.Soundness.{HasSoundParts};
+ghost use Rattle.shared_store.specs.root_store.Stores.{table_at};
 ghost use Rattle.replies.specs.Causes.{HasCauses};
 ghost use Rattle.session.specs.Answers.{AcceptsNothing, Answers, Knows, Turned};
 ghost use Rattle.session.specs.Merges.{AllAreFinal, AreFinal, ArePartitionsOf, IsFinalAt, IsNamed, IsRefusal, KeepsBeside, Lapse, Merges};
@@ -18,14 +18,14 @@ ghost use Rattle.shared_store.specs.Engines.{GoesOn, GoesThroughCrashes, IsOpen}
 ghost use Rattle.shared_store.specs.Levels.{LeavesParts};
 
 use crate::merging::merge_work;
-use merge_select::Scope;
 use mt_base::{NoMemory, Partition};
 use mt_outside::{Arm, Dir, Disk};
 use mt_values::{Annals, Name, OptimizeText};
-use part_name::parse_partition;
-use part_reader::Part;
-use part_set::Kept;
 use replies::{Reply, merge_replies, no_table_line};
+use shared_store::merge_select::Scope;
+use shared_store::part_name::parse_partition;
+use shared_store::part_reader::Part;
+use shared_store::part_set::Kept;
 use shared_store::{Engine, TakeFault};
 use std::alloc::Global;
 

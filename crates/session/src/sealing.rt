@@ -6,15 +6,15 @@ ghost use Rattle.std.specs.Prelude.{◌≡◌, ◌<◌, ◌≤◌, true, All, If
 ghost use Rattle.mt_outside.specs.Causes.{Rose};
 ghost use Rattle.mt_outside.specs.DiskCauses.{HasDiskCause};
 ghost use Rattle.mt_values.specs.Grid.{AreRowsOf};
-ghost use Rattle.mt_model.specs.History.{IsTableSchema, column_types};
-ghost use Rattle.root_commits.specs.Commits.{IsSealedOf};
+ghost use Rattle.replies.specs.mt_model.History.{IsTableSchema, column_types};
+ghost use Rattle.shared_store.specs.root_commits.Commits.{IsSealedOf};
 ghost use Rattle.session.specs.Turns.{IsPartFor, NoneFailed, in_turn};
 
 use crate::give_back;
 use block_split::PartitionBlock;
 use mt_outside::{Arm, DiskError, Stage};
 use mt_values::{Block, Schema};
-use part_writer::{SealedPart, write_part};
+use shared_store::part_writer::{SealedPart, write_part};
 use std::alloc::Global;
 
 /// Rows of one partition, and the part that was sealed of them. It can't be let go, as its part can't.

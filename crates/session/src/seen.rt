@@ -1,15 +1,15 @@
 // What a SELECT sees of a pinned table's parts: without FINAL the rows as merges left them, with FINAL each key folded wholly.
 ghost use Rattle.std.specs.Prelude.{◌≡◌, ◌≤◌, ◌<◌, ◌^◌, [], ℕ, All, IfErr, IfOk, List, OnOk, length, map};
-ghost use Rattle.mt_model.specs.History.{History, IsTableSchema};
-ghost use Rattle.mt_model.specs.Live.{live};
+ghost use Rattle.replies.specs.mt_model.History.{History, IsTableSchema};
+ghost use Rattle.replies.specs.mt_model.Live.{live};
 ghost use Rattle.mt_outside.specs.Causes.{Rose};
 ghost use Rattle.mt_values.specs.Grid.{Cells};
 ghost use Rattle.final_fold.specs.Asked.{IsWanted};
 ghost use Rattle.final_fold.specs.Scans.{HaveTypes, rows_kept, values_at};
-ghost use Rattle.part_reader.specs.Faults.{IsNoDamage};
-ghost use Rattle.root_store.specs.declared.store.CoreStore.{CoreStore};
-ghost use Rattle.root_store.specs.Soundness.{HoldsRows};
-ghost use Rattle.root_store.specs.Stores.{CoreStands};
+ghost use Rattle.shared_store.specs.part_reader.Faults.{IsNoDamage};
+ghost use Rattle.shared_store.specs.root_store.declared.store.CoreStore.{CoreStore};
+ghost use Rattle.shared_store.specs.root_store.Soundness.{HoldsRows};
+ghost use Rattle.shared_store.specs.root_store.Stores.{CoreStands};
 ghost use Rattle.select_plan.specs.Plans.{asked_over, planned};
 ghost use Rattle.session.specs.Selects.{ExplainsRead, IsSeen};
 ghost use Rattle.shared_store.specs.Engines.{IsSnapOf};
@@ -17,10 +17,10 @@ ghost use Rattle.shared_store.specs.Engines.{IsSnapOf};
 use final_fold::{Wanted, add_matches, final_rows};
 use mt_outside::Arm;
 use mt_values::ColumnData;
-use part_name::PartName;
-use part_reader::{Part, PartFault};
-use part_set::Snap;
 use select_plan::Plan;
+use shared_store::part_name::PartName;
+use shared_store::part_reader::{Part, PartFault};
+use shared_store::part_set::Snap;
 use std::alloc::Global;
 
 /// Adds what a SELECT sees of a pinned table's parts, and meets its condition, to columns: of each row the values at the wanted places.

@@ -2,32 +2,32 @@
 ghost use Rattle.std.specs.Prelude.{◌≡◌, ◌≤◌, ◌<◌, ◌^◌, Ok, true, false, ℕ, All, IfOk, OnErr, length};
 ghost use Rattle.mt_values.specs.declared.statement.Statement.TheVariants as statement;
 ghost use Rattle.mt_values.specs.Annals.{Told};
-ghost use Rattle.mt_model.specs.History.{IsTableSchema};
-ghost use Rattle.mt_model.specs.Refusals.{is_damage};
-ghost use Rattle.mt_model.specs.Queries.{query_of};
+ghost use Rattle.replies.specs.mt_model.History.{IsTableSchema};
+ghost use Rattle.replies.specs.mt_model.Refusals.{is_damage};
+ghost use Rattle.replies.specs.mt_model.Queries.{query_of};
 ghost use Rattle.final_fold.specs.Scans.{rows_kept};
 ghost use Rattle.replies.specs.Causes.{HasCauses};
 ghost use Rattle.replies.specs.Foreseen.{Selected, history};
-ghost use Rattle.root_store.specs.declared.store.CoreStore.{CoreStore};
-ghost use Rattle.root_store.specs.Soundness.{HasSoundParts, HoldsRows};
-ghost use Rattle.root_store.specs.Stores.{CoreStands};
+ghost use Rattle.shared_store.specs.root_store.declared.store.CoreStore.{CoreStore};
+ghost use Rattle.shared_store.specs.root_store.Soundness.{HasSoundParts, HoldsRows};
+ghost use Rattle.shared_store.specs.root_store.Stores.{CoreStands};
 ghost use Rattle.session.specs.Answers.{Knows};
 ghost use Rattle.session.specs.Selects.{TellsOfDamage};
 ghost use Rattle.shared_store.specs.Engines.{IsOpen, IsSnapOf};
-ghost use Rattle.part_set.specs.declared.kept.Snap.{Snap};
-ghost use Rattle.part_reader.specs.declared.reading.Part.{Part};
+ghost use Rattle.shared_store.specs.part_set.declared.kept.Snap.{Snap};
+ghost use Rattle.shared_store.specs.part_reader.declared.reading.Part.{Part};
 
 use crate::seen::add_seen;
 use final_fold::{Wanted, count_rows, pick_columns};
 use mt_base::{NoMemory, Stop};
-use mt_model::{Query, query_of};
 use mt_outside::{Arm, Dir, Disk, DiskError, Gate, Point, Who};
 use mt_values::{Annals, SelectText};
-use part_reader::{Part, PartFault, empty_columns};
-use part_set::Snap;
+use replies::mt_model::{Query, query_of};
 use replies::{Reply, damaged, failed_line, no_table_line, print, stage_line};
 use select_plan::plan;
 use shared_store::Engine;
+use shared_store::part_reader::{Part, PartFault, empty_columns};
+use shared_store::part_set::Snap;
 use std::alloc::Global;
 
 /// What a SELECT sees of a pinned table and meets its condition, of its columns. Of a part the granules alone are read that the plan

@@ -4,10 +4,10 @@ ghost use Rattle.mt_outside.specs.Causes.{Rose};
 ghost use Rattle.mt_outside.specs.DiskCauses.{HasDiskCause};
 ghost use Rattle.session.specs.Staged.{entry_files};
 
-use digest_file::entry_bytes;
 use mt_outside::{Arm, DiskError};
 use mt_values::FileId;
-use stage_dir::{Open, Sealed, Unsealed, seal, write_file};
+use shared_store::digest_file::entry_bytes;
+use shared_store::stage_dir::{Open, Sealed, Unsealed, seal, write_file};
 use std::alloc::Global;
 
 /// A sealed stage with the entry of a statement's text.

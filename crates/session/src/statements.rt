@@ -1,10 +1,10 @@
 // Running one statement.
 ghost use Rattle.std.specs.Prelude.{◌≡◌, ◌<◌, ◌≤◌, true, false, IfOk, OnErr};
 ghost use Rattle.mt_values.specs.Annals.{Told};
-ghost use Rattle.mt_model.specs.Refusals.{is_damage};
-ghost use Rattle.mt_model.specs.Written.{IsWritten};
-ghost use Rattle.root_store.specs.Shown.{HasNoMark};
-ghost use Rattle.root_store.specs.Soundness.{HasSoundParts};
+ghost use Rattle.replies.specs.mt_model.Refusals.{is_damage};
+ghost use Rattle.replies.specs.mt_model.Written.{IsWritten};
+ghost use Rattle.shared_store.specs.root_store.Shown.{HasNoMark};
+ghost use Rattle.shared_store.specs.root_store.Soundness.{HasSoundParts};
 ghost use Rattle.replies.specs.Causes.{HasCauses};
 ghost use Rattle.session.specs.Answers.{AcceptsNothing, Answers, Knows, Turned};
 ghost use Rattle.shared_store.specs.Engines.{GoesOn, GoesThroughCrashes};
@@ -16,10 +16,10 @@ use crate::inserts::insert;
 use crate::optimizes::optimize;
 use crate::selects::select;
 use mt_base::NoMemory;
-use mt_model::Refusal;
 use mt_outside::{Arm, Dir, Disk, Gate};
 use mt_values::{Annals, Cause, Statement};
 use replies::Reply;
+use replies::mt_model::Refusal;
 use shared_store::Engine;
 use std::alloc::Global;
 

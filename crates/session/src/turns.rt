@@ -4,11 +4,11 @@ ghost use Rattle.mt_values.specs.declared.schema.Schema.{Schema};
 ghost use Rattle.mt_values.specs.declared.statement.InsertText.{InsertText};
 ghost use Rattle.mt_values.specs.declared.statement.Statement.TheVariants as statement;
 ghost use Rattle.mt_values.specs.Annals.{Told};
-ghost use Rattle.mt_model.specs.Commands.{commands_of};
-ghost use Rattle.mt_model.specs.Refusals.{is_damage};
-ghost use Rattle.mt_model.specs.Reply.{ok_line};
-ghost use Rattle.root_store.specs.Soundness.{HasSoundParts};
-ghost use Rattle.root_store.specs.Stores.{table_at};
+ghost use Rattle.replies.specs.mt_model.Commands.{commands_of};
+ghost use Rattle.replies.specs.mt_model.Refusals.{is_damage};
+ghost use Rattle.replies.specs.mt_model.Reply.{ok_line};
+ghost use Rattle.shared_store.specs.root_store.Soundness.{HasSoundParts};
+ghost use Rattle.shared_store.specs.root_store.Stores.{table_at};
 ghost use Rattle.replies.specs.Causes.{HasCauses};
 ghost use Rattle.replies.specs.Foreseen.{history};
 ghost use Rattle.session.specs.Answers.{AcceptsNothing, Answers, Knows, Turned};
@@ -22,8 +22,8 @@ use mt_base::NoMemory;
 use mt_outside::{Arm, Dir, Disk};
 use mt_values::{Annals, Name};
 use replies::{Reply, replies_after};
-use root_commits::Returned;
 use shared_store::Engine;
+use shared_store::root_commits::Returned;
 use std::alloc::Global;
 
 /// What the turn of a part is answered.

@@ -15,21 +15,21 @@ use Rattle.mt_base.specs.declared.partition.Partition.{Partition}
 use Rattle.mt_base.specs.Limits.{level_limit}
 use Rattle.mt_values.specs.declared.schema.Schema.{Schema}
 use Rattle.mt_outside.specs.Files.{Files}
-use Rattle.part_writer.specs.declared.loaded.Loaded.{Loaded}
-use Rattle.part_reader.specs.declared.reading.Part.{Part}
-use Rattle.part_set.specs.declared.kept.Kept.{Kept}
-use Rattle.part_set.specs.Parts.{HasName}
-use Rattle.part_set.specs.Sets.{parts_of}
-use Rattle.part_set.proofs.Items.{item_first, item_kept, item_none}
-use Rattle.part_set.proofs.Maps.{found_is, true_or_false}
+use Rattle.root_commits.specs.part_writer.declared.loaded.Loaded.{Loaded}
+use Rattle.root_commits.specs.part_reader.declared.reading.Part.{Part}
+use Rattle.root_commits.specs.part_set.declared.kept.Kept.{Kept}
+use Rattle.root_commits.specs.part_set.Parts.{HasName}
+use Rattle.root_commits.specs.part_set.Sets.{parts_of}
+use Rattle.root_commits.proofs.PartSetItems.{item_first, item_kept, item_none}
+use Rattle.root_commits.proofs.PartSetMaps.{found_is, true_or_false}
 use Rattle.root_commits.specs.Commits.{EntersPart, EntersSealed, EntersTable, SameStore}
 use Rattle.root_commits.proofs.Placed.{all_added}
-use Rattle.root_store.specs.declared.store.CoreStore.{CoreStore}
-use Rattle.root_store.specs.declared.store.Table.{Table}
-use Rattle.root_store.specs.Shown.{HasNoMark}
-use Rattle.root_store.specs.Soundness.{IsSoundStore}
-use Rattle.root_store.specs.Stores.{table_at}
-use Rattle.root_store.proofs.Items.{map_item}
+use Rattle.root_commits.specs.root_store.declared.store.CoreStore.{CoreStore}
+use Rattle.root_commits.specs.root_store.declared.store.Table.{Table}
+use Rattle.root_commits.specs.root_store.Shown.{HasNoMark}
+use Rattle.root_commits.specs.root_store.Soundness.{IsSoundStore}
+use Rattle.root_commits.specs.root_store.Stores.{table_at}
+use Rattle.root_commits.proofs.RootStoreItems.{map_item}
 use Rattle.shared_store.specs.Levels.{KeepsGreatest, LeavesParts, has_greatest, is_greatest}
 
 -- ---- lists

@@ -4,3 +4,23 @@ pub mod Marking
 pub mod Picked
 pub mod Taken
 pub mod Working
+pub use Rattle.root_commits.proofs.PartReaderCutRows
+pub use Rattle.root_commits.proofs.PartReaderHolding
+pub use Rattle.root_commits.proofs.PartSetItems
+pub use Rattle.root_commits.proofs.PartSetMaps
+pub use Rattle.root_commits.proofs.PartSetOrders
+pub use Rattle.root_commits.proofs.PartSetOrphans
+pub use Rattle.root_commits.proofs.PartSetShelving
+pub use Rattle.root_commits.proofs.PartSetSwaps
+pub use Rattle.root_commits.proofs.PartWriterContents
+pub use Rattle.root_commits.proofs.CrashTurns as RootCommitsCrashTurns
+pub use Rattle.root_commits.proofs.Holding as RootCommitsHolding
+pub use Rattle.root_commits.proofs.Leaving as RootCommitsLeaving
+pub use Rattle.root_commits.proofs.MergedNames as RootCommitsMergedNames
+pub use Rattle.root_commits.proofs.SameStores as RootCommitsSameStores
+pub use Rattle.root_commits.proofs.Turning as RootCommitsTurning
+pub use Rattle.root_commits.proofs.RootStoreCores
+pub use Rattle.root_commits.proofs.RootStoreEntryReads
+pub use Rattle.root_commits.proofs.RootStoreItems
+pub use Rattle.root_commits.proofs.RootStoreTableIndexes
+pub use Rattle.root_commits.proofs.RootStoreTableMarks

@@ -10,30 +10,30 @@ use Rattle.std.proofs.lemmas.List.{length-drop, length-take-le}
 use Rattle.mt_base.specs.declared.memory.NoMemory.{NoMemory}
 use Rattle.mt_base.specs.declared.partition.Partition.{Partition}
 use Rattle.mt_outside.specs.Files.{Files}
-use Rattle.mt_model.specs.History.{History}
-use Rattle.part_name.specs.declared.part.PartName.{PartName}
-use Rattle.part_reader.specs.declared.reading.Part.{Part}
-use Rattle.part_set.specs.declared.kept.Kept.{Kept}
-use Rattle.part_set.specs.declared.run.Run.{Run}
-use Rattle.part_set.specs.declared.set.PartSet.{PartSet}
-use Rattle.part_set.specs.Parts.{IsInBlockOrder, kept_in}
-use Rattle.part_set.specs.Runs.{EndsInOrder, IsMarked, IsRun, parts_of_run, with_mark}
-use Rattle.part_set.specs.Sets.{parts_of}
-use Rattle.part_set.proofs.Items.{item_none, item_split}
-use Rattle.root_store.specs.declared.store.CoreStore.{CoreStore}
-use Rattle.root_store.specs.declared.store.Table.{Table}
-use Rattle.root_store.specs.Crashes.{KeepsThroughCrashes, Storage}
-use Rattle.root_store.specs.Shown.{HasNoMark}
-use Rattle.root_store.specs.Soundness.{IsReady, IsSoundStore}
-use Rattle.root_store.specs.Stores.{table_at}
-use Rattle.root_store.proofs.Items.{mapped}
+use Rattle.root_commits.specs.mt_model.History.{History}
+use Rattle.root_commits.specs.part_name.declared.part.PartName.{PartName}
+use Rattle.root_commits.specs.part_reader.declared.reading.Part.{Part}
+use Rattle.root_commits.specs.part_set.declared.kept.Kept.{Kept}
+use Rattle.root_commits.specs.part_set.declared.run.Run.{Run}
+use Rattle.root_commits.specs.part_set.declared.set.PartSet.{PartSet}
+use Rattle.root_commits.specs.part_set.Parts.{IsInBlockOrder, kept_in}
+use Rattle.root_commits.specs.part_set.Runs.{EndsInOrder, IsMarked, IsRun, parts_of_run, with_mark}
+use Rattle.root_commits.specs.part_set.Sets.{parts_of}
+use Rattle.root_commits.proofs.PartSetItems.{item_none, item_split}
+use Rattle.root_commits.specs.root_store.declared.store.CoreStore.{CoreStore}
+use Rattle.root_commits.specs.root_store.declared.store.Table.{Table}
+use Rattle.root_commits.specs.root_store.Crashes.{KeepsThroughCrashes, Storage}
+use Rattle.root_commits.specs.root_store.Shown.{HasNoMark}
+use Rattle.root_commits.specs.root_store.Soundness.{IsReady, IsSoundStore}
+use Rattle.root_commits.specs.root_store.Stores.{table_at}
+use Rattle.root_commits.proofs.RootStoreItems.{mapped}
 use Rattle.root_commits.specs.Commits.{SameStore}
 use Rattle.root_commits.specs.Images.{LeavesOne, on_disk}
 use Rattle.root_commits.specs.declared.commits.Returned.{Returned}
 use Rattle.root_commits.specs.Merges.{EntersMerge, name_of_merge}
 use Rattle.root_commits.specs.Publications.{DiskAt, IsKeptBack, IsUnsettled, Publication, Publishes}
-use Rattle.stage_dir.specs.Stages.{Filled}
-use Rattle.part_writer.specs.declared.loaded.Loaded.{Loaded}
+use Rattle.root_commits.specs.stage_dir.Stages.{Filled}
+use Rattle.root_commits.specs.part_writer.declared.loaded.Loaded.{Loaded}
 use Rattle.shared_store.specs.declared.work.Work.{Work}
 use Rattle.shared_store.specs.Engines.{GoesOn, IsOpen, Opened, disk_of}
 use Rattle.shared_store.specs.Levels.{any_greatest}

@@ -14,26 +14,26 @@ use Rattle.mt_values.specs.Tables.{MayHavePartition}
 use Rattle.mt_values.specs.Values.{Row}
 use Rattle.mt_outside.specs.Disk.{Names, Told, names_of}
 use Rattle.mt_outside.specs.Files.{Files}
-use Rattle.mt_model.specs.History.{History}
-use Rattle.mt_model.proofs.Tables.{itself_same, same_is}
-use Rattle.part_name.specs.declared.part.PartName.{PartName}
-use Rattle.part_reader.specs.declared.reading.Part.{Part}
-use Rattle.part_reader.specs.Parts.{PartHolds}
-use Rattle.part_set.specs.declared.kept.Kept.{Kept}
-use Rattle.part_set.specs.Parts.{HasName}
-use Rattle.part_set.specs.Runs.{with_mark}
-use Rattle.part_set.specs.Sets.{parts_of}
-use Rattle.part_set.proofs.Maps.{true_or_false}
-use Rattle.part_history.specs.declared.part.CorePart.{CorePart}
-use Rattle.part_history.specs.Parts.{AreInBlockOrder, TableStands}
-use Rattle.table_core.specs.Core.{Core}
-use Rattle.root_store.specs.declared.store.CoreStore.{CoreStore}
-use Rattle.root_store.specs.declared.store.Table.{Table}
-use Rattle.root_store.specs.Cores.{ShowsCore}
-use Rattle.root_store.specs.Crashes.{KeepsThroughCrashes, Storage, entries_of}
-use Rattle.root_store.specs.Shown.{AreShown, GreatestAreShown, ImagesShow}
-use Rattle.root_store.specs.Soundness.{HasSoundParts, IsReady, IsSoundStore, NamesFit}
-use Rattle.root_store.specs.Stores.{CoreStands, core_parts, table_at}
+use Rattle.root_commits.specs.mt_model.History.{History}
+use Rattle.root_commits.proofs.MtModelTables.{itself_same, same_is}
+use Rattle.root_commits.specs.part_name.declared.part.PartName.{PartName}
+use Rattle.root_commits.specs.part_reader.declared.reading.Part.{Part}
+use Rattle.root_commits.specs.part_reader.Parts.{PartHolds}
+use Rattle.root_commits.specs.part_set.declared.kept.Kept.{Kept}
+use Rattle.root_commits.specs.part_set.Parts.{HasName}
+use Rattle.root_commits.specs.part_set.Runs.{with_mark}
+use Rattle.root_commits.specs.part_set.Sets.{parts_of}
+use Rattle.root_commits.proofs.PartSetMaps.{true_or_false}
+use Rattle.root_commits.specs.part_history.declared.part.CorePart.{CorePart}
+use Rattle.root_commits.specs.part_history.Parts.{AreInBlockOrder, TableStands}
+use Rattle.root_commits.specs.table_core.Core.{Core}
+use Rattle.root_commits.specs.root_store.declared.store.CoreStore.{CoreStore}
+use Rattle.root_commits.specs.root_store.declared.store.Table.{Table}
+use Rattle.root_commits.specs.root_store.Cores.{ShowsCore}
+use Rattle.root_commits.specs.root_store.Crashes.{KeepsThroughCrashes, Storage, entries_of}
+use Rattle.root_commits.specs.root_store.Shown.{AreShown, GreatestAreShown, ImagesShow}
+use Rattle.root_commits.specs.root_store.Soundness.{HasSoundParts, IsReady, IsSoundStore, NamesFit}
+use Rattle.root_commits.specs.root_store.Stores.{CoreStands, core_parts, table_at}
 use Rattle.root_commits.specs.Images.{LeavesOne, on_disk}
 use Rattle.shared_store.specs.declared.work.Work.{Work}
 use Rattle.shared_store.specs.Works.{Marks}

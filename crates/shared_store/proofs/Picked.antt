@@ -12,19 +12,19 @@ use Rattle.merge_select.specs.declared.scope.Pick.{Pick}
 use Rattle.merge_select.specs.declared.scope.Scope.{Scope}
 use Rattle.merge_select.specs.Picks.{Choice, IsPick}
 use Rattle.merge_select.specs.Whole.{IsFirstBusy}
-use Rattle.part_name.specs.declared.part.PartName.{PartName}
-use Rattle.part_reader.specs.declared.reading.Part.{Part}
-use Rattle.part_set.specs.declared.kept.Kept.{Kept}
-use Rattle.part_set.specs.declared.run.Run.{Run}
-use Rattle.part_set.specs.Parts.{kept_in}
-use Rattle.part_set.specs.Runs.{IsRun, parts_of_run}
-use Rattle.part_set.specs.Sets.{parts_of}
-use Rattle.part_set.proofs.Shelving.{mine_within}
-use Rattle.root_store.specs.declared.store.CoreStore.{CoreStore}
-use Rattle.root_store.specs.declared.store.Table.{Table}
-use Rattle.root_store.specs.Shown.{HasNoMark}
-use Rattle.root_store.specs.Soundness.{IsSoundStore}
-use Rattle.root_store.specs.Stores.{table_at}
+use Rattle.root_commits.specs.part_name.declared.part.PartName.{PartName}
+use Rattle.root_commits.specs.part_reader.declared.reading.Part.{Part}
+use Rattle.root_commits.specs.part_set.declared.kept.Kept.{Kept}
+use Rattle.root_commits.specs.part_set.declared.run.Run.{Run}
+use Rattle.root_commits.specs.part_set.Parts.{kept_in}
+use Rattle.root_commits.specs.part_set.Runs.{IsRun, parts_of_run}
+use Rattle.root_commits.specs.part_set.Sets.{parts_of}
+use Rattle.root_commits.proofs.PartSetShelving.{mine_within}
+use Rattle.root_commits.specs.root_store.declared.store.CoreStore.{CoreStore}
+use Rattle.root_commits.specs.root_store.declared.store.Table.{Table}
+use Rattle.root_commits.specs.root_store.Shown.{HasNoMark}
+use Rattle.root_commits.specs.root_store.Soundness.{IsSoundStore}
+use Rattle.root_commits.specs.root_store.Stores.{table_at}
 use Rattle.shared_store.specs.Levels.{any_greatest, is_greatest}
 
 -- ---- lists

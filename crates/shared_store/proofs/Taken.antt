@@ -2,8 +2,8 @@
 use Rattle.std.proofs.Common.{◌≡◌, ℕ, ◌+◌, ◌<◌, min, true, List, [], ◌∷◌, get_or, length, map, refl, sym, ap, ap₂, ◌∙◌, subst, arith, suc}
 use Rattle.std.specs.List.{All}
 use Rattle.std.proofs.lemmas.List.{get_or-map}
-use Rattle.part_name.specs.declared.part.PartName.{PartName}
-use Rattle.part_set.specs.declared.kept.Kept.{Kept}
+use Rattle.root_commits.specs.part_name.declared.part.PartName.{PartName}
+use Rattle.root_commits.specs.part_set.declared.kept.Kept.{Kept}
 use borrow.Author.Count.{below_more}
 
 module _ {P : Type 0} where

@@ -7,19 +7,19 @@ use Rattle.std.specs.List.{All, Contains as HasItem}
 use Rattle.mt_base.specs.declared.partition.Partition.{Partition}
 use Rattle.mt_values.specs.Grammar.{same_bytes}
 use Rattle.mt_values.specs.Tables.{same_partition}
-use Rattle.mt_model.proofs.Tables.{itself_same, same_is}
-use Rattle.part_name.specs.declared.part.PartName.{PartName}
-use Rattle.part_reader.specs.declared.reading.Part.{Part}
-use Rattle.part_set.specs.declared.kept.Kept.{Kept}
-use Rattle.part_set.specs.Parts.{IsInBlockOrder, StandsClear, kept_in}
-use Rattle.part_set.specs.Runs.{EndsInOrder, parts_of_run, with_mark}
-use Rattle.part_set.specs.Sets.{parts_of}
-use Rattle.part_set.proofs.Maps.{true_or_false}
-use Rattle.part_set.proofs.Shelving.{mine_within}
-use Rattle.part_set.proofs.Swaps.{pairs_across, pairs_back, run_parts}
-use Rattle.root_store.specs.declared.store.CoreStore.{CoreStore}
-use Rattle.root_store.specs.Shown.{HasNoMark}
-use Rattle.root_store.proofs.Items.{map_item, mapped}
+use Rattle.root_commits.proofs.MtModelTables.{itself_same, same_is}
+use Rattle.root_commits.specs.part_name.declared.part.PartName.{PartName}
+use Rattle.root_commits.specs.part_reader.declared.reading.Part.{Part}
+use Rattle.root_commits.specs.part_set.declared.kept.Kept.{Kept}
+use Rattle.root_commits.specs.part_set.Parts.{IsInBlockOrder, StandsClear, kept_in}
+use Rattle.root_commits.specs.part_set.Runs.{EndsInOrder, parts_of_run, with_mark}
+use Rattle.root_commits.specs.part_set.Sets.{parts_of}
+use Rattle.root_commits.proofs.PartSetMaps.{true_or_false}
+use Rattle.root_commits.proofs.PartSetShelving.{mine_within}
+use Rattle.root_commits.proofs.PartSetSwaps.{pairs_across, pairs_back, run_parts}
+use Rattle.root_commits.specs.root_store.declared.store.CoreStore.{CoreStore}
+use Rattle.root_commits.specs.root_store.Shown.{HasNoMark}
+use Rattle.root_commits.proofs.RootStoreItems.{map_item, mapped}
 use Rattle.shared_store.specs.declared.work.Work.{Work}
 use Rattle.shared_store.specs.Works.{TakesUp, WorkStands, parts_of_work}
 use Rattle.shared_store.proofs.Marking.{AreAlike, alike_names, marked_alike}

@@ -6,15 +6,15 @@ use Rattle.mt_values.specs.Annals as keeper
 use Rattle.mt_values.specs.declared.schema.Schema.{Schema}
 use Rattle.mt_outside.specs.Files.{Files}
 use Rattle.merge_select.specs.Picks.{Choice}
-use Rattle.part_reader.specs.declared.reading.Part.{Part}
-use Rattle.part_set.specs.declared.kept.Snap.{Snap}
-use Rattle.part_set.specs.Sets.{parts_of}
+use Rattle.root_commits.specs.part_reader.declared.reading.Part.{Part}
+use Rattle.root_commits.specs.part_set.declared.kept.Snap.{Snap}
+use Rattle.root_commits.specs.part_set.Sets.{parts_of}
 use Rattle.root_commits.specs.Images.{OnDisk, on_disk}
-use Rattle.root_store.specs.declared.store.CoreStore.{CoreStore}
-use Rattle.root_store.specs.declared.store.Table.{Table}
-use Rattle.root_store.specs.Crashes.{KeepsThroughCrashes, Storage}
-use Rattle.root_store.specs.Soundness.{IsReady}
-use Rattle.root_store.specs.Stores.{table_at}
+use Rattle.root_commits.specs.root_store.declared.store.CoreStore.{CoreStore}
+use Rattle.root_commits.specs.root_store.declared.store.Table.{Table}
+use Rattle.root_commits.specs.root_store.Crashes.{KeepsThroughCrashes, Storage}
+use Rattle.root_commits.specs.root_store.Soundness.{IsReady}
+use Rattle.root_commits.specs.root_store.Stores.{table_at}
 
 -- What is known of an open root: what its store keeps, by which policy its parts are merged, what is known of its disk and its annals, and the
 -- path of the folder that was started.

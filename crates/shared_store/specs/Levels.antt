@@ -2,11 +2,11 @@
 use Rattle.std.specs.Prelude.{◌≡◌, ℕ, Bool, true, List, nat_le}
 use Rattle.std.specs.List.{list_any}
 use Rattle.mt_base.specs.Limits.{level_limit}
-use Rattle.part_set.specs.declared.kept.Kept.{Kept}
-use Rattle.part_set.specs.Sets.{parts_of}
-use Rattle.root_store.specs.declared.store.CoreStore.{CoreStore}
-use Rattle.root_store.specs.declared.store.Table.{Table}
-use Rattle.root_store.specs.Shown.{HasNoMark}
+use Rattle.root_commits.specs.part_set.declared.kept.Kept.{Kept}
+use Rattle.root_commits.specs.part_set.Sets.{parts_of}
+use Rattle.root_commits.specs.root_store.declared.store.CoreStore.{CoreStore}
+use Rattle.root_commits.specs.root_store.declared.store.Table.{Table}
+use Rattle.root_commits.specs.root_store.Shown.{HasNoMark}
 
 -- the part has the greatest level, so that no merge takes it (docs/replies.md, "Refusals")
 abbrev pub is_greatest : {P : Type 0} → Kept P → Bool

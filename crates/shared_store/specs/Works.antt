@@ -1,23 +1,23 @@
 -- What is taken up to be merged, and what becomes of it (docs/architecture.md, "The open root").
 use Rattle.std.specs.Prelude.{◌≡◌, ◌≢◌, ℕ, Bool, true, false, List, Option, None, Some, All, map}
 use Rattle.mt_outside.specs.Files.{Files}
-use Rattle.mt_model.specs.History.{History}
+use Rattle.root_commits.specs.mt_model.History.{History}
 use Rattle.merge_select.specs.declared.scope.Pick.{Pick}
 use Rattle.merge_select.specs.declared.scope.Scope.{Scope}
 use Rattle.merge_select.specs.Picks.{Choice, IsPick}
-use Rattle.part_reader.specs.declared.reading.Part.{Part}
-use Rattle.part_writer.specs.declared.loaded.Loaded.{Loaded}
-use Rattle.part_set.specs.declared.kept.Kept.{Kept}
-use Rattle.part_set.specs.Parts.{IsInBlockOrder, kept_in}
-use Rattle.part_set.specs.Runs.{IsMarked, IsRun, parts_of_run}
-use Rattle.part_set.specs.Sets.{parts_of}
-use Rattle.stage_dir.specs.Stages.{Filled}
-use Rattle.table_core.specs.Core.{Core}
-use Rattle.root_store.specs.declared.store.CoreStore.{CoreStore}
-use Rattle.root_store.specs.declared.store.Table.{Table}
-use Rattle.root_store.specs.Cores.{ShowsCore}
-use Rattle.root_store.specs.Soundness.{HasSoundParts}
-use Rattle.root_store.specs.Stores.{CoreStands, table_at}
+use Rattle.root_commits.specs.part_reader.declared.reading.Part.{Part}
+use Rattle.root_commits.specs.part_writer.declared.loaded.Loaded.{Loaded}
+use Rattle.root_commits.specs.part_set.declared.kept.Kept.{Kept}
+use Rattle.root_commits.specs.part_set.Parts.{IsInBlockOrder, kept_in}
+use Rattle.root_commits.specs.part_set.Runs.{IsMarked, IsRun, parts_of_run}
+use Rattle.root_commits.specs.part_set.Sets.{parts_of}
+use Rattle.root_commits.specs.stage_dir.Stages.{Filled}
+use Rattle.root_commits.specs.table_core.Core.{Core}
+use Rattle.root_commits.specs.root_store.declared.store.CoreStore.{CoreStore}
+use Rattle.root_commits.specs.root_store.declared.store.Table.{Table}
+use Rattle.root_commits.specs.root_store.Cores.{ShowsCore}
+use Rattle.root_commits.specs.root_store.Soundness.{HasSoundParts}
+use Rattle.root_commits.specs.root_store.Stores.{CoreStands, table_at}
 use Rattle.root_commits.specs.Images.{LeavesOne}
 use Rattle.root_commits.specs.Merges.{Merging, merging}
 use Rattle.shared_store.specs.declared.work.Put.{Put}

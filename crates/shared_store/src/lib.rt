@@ -5,4 +5,9 @@ mod engine;
 mod work;
 
 pub use engine::Engine;
+pub use merge_select;
+pub use root_commits;
+pub use root_commits::{
+    digest_file, durable_commit, part_name, part_reader, part_set, part_writer, stage_dir,
+};
 pub use work::{Put, TakeFault, Work};

@@ -1,19 +1,19 @@
 // Merges that were taken up.
 ghost use Rattle.std.specs.Prelude.{◌≡◌, ◌↔◌, false, true, IfOk, IsSome, IsTrue, OnErr, map};
 ghost use Rattle.std.specs.List.{All};
-ghost use Rattle.part_set.specs.Parts.{kept_in};
-ghost use Rattle.part_set.specs.Runs.{IsRun, parts_of_run};
-ghost use Rattle.part_set.specs.Sets.{parts_of};
-ghost use Rattle.root_store.specs.Stores.{table_at};
+ghost use Rattle.root_commits.specs.part_set.Parts.{kept_in};
+ghost use Rattle.root_commits.specs.part_set.Runs.{IsRun, parts_of_run};
+ghost use Rattle.root_commits.specs.part_set.Sets.{parts_of};
+ghost use Rattle.root_commits.specs.root_store.Stores.{table_at};
 ghost use Rattle.shared_store.specs.Works.{TakesUp, WorkStands};
 
 use mt_base::{NoMemory, Partition, Twin};
 use mt_outside::Dir;
 use mt_values::{Name, Schema};
-use part_name::PartName;
-use part_reader::Part;
-use part_set::{Kept, Run};
-use root_store::CoreStore;
+use root_commits::part_name::PartName;
+use root_commits::part_reader::Part;
+use root_commits::part_set::{Kept, Run};
+use root_commits::root_store::CoreStore;
 use std::alloc::Global;
 
 /// A merge that was taken up: a run of the parts of a table's partition, the table's schema, and equal copies of these parts as

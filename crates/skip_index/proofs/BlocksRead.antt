@@ -7,9 +7,9 @@ use Rattle.std.specs.List.{list_any}
 use Rattle.std.specs.Ordering.{is_eq, is_le}
 use Rattle.std.specs.declared.cmp.Ordering.{Ordering}
 use Rattle.std.specs.declared.cmp.Ordering.TheVariants.{Less, Equal, Greater}
-use Rattle.byte_numbers.specs.Fronts.{Begins}
-use Rattle.byte_numbers.specs.declared.faults.FormatFault.{FormatFault}
-use Rattle.byte_numbers.specs.declared.faults.FormatFault.TheVariants.{NoMemory, Malformed}
+use Rattle.column_file.specs.byte_numbers.Fronts.{Begins}
+use Rattle.column_file.specs.byte_numbers.declared.faults.FormatFault.{FormatFault}
+use Rattle.column_file.specs.byte_numbers.declared.faults.FormatFault.TheVariants.{NoMemory, Malformed}
 use Rattle.mt_values.specs.declared.cell.Cell.{Cell}
 use Rattle.mt_values.specs.declared.schema.IndexKind.{IndexKind}
 use Rattle.mt_values.specs.declared.schema.IndexKind.TheVariants as kind

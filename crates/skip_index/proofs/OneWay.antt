@@ -6,8 +6,8 @@ use Rattle.std.proofs.lemmas.Bool.{leb-false}
 use Rattle.std.proofs.lemmas.List.{nil_from_length}
 use Rattle.std.proofs.lemmas.List.Elements.{All-head}
 use Rattle.std.proofs.lemmas.Option.{slice_get-get_or}
-use Rattle.byte_numbers.specs.declared.faults.FormatFault.{FormatFault}
-use Rattle.byte_numbers.specs.declared.faults.FormatFault.TheVariants.{NoMemory, Malformed}
+use Rattle.column_file.specs.byte_numbers.declared.faults.FormatFault.{FormatFault}
+use Rattle.column_file.specs.byte_numbers.declared.faults.FormatFault.TheVariants.{NoMemory, Malformed}
 use Rattle.mt_base.specs.Limits.{set_limit}
 use Rattle.mt_values.specs.declared.schema.IndexKind.{IndexKind}
 use Rattle.mt_values.specs.declared.schema.IndexKind.TheVariants as kind

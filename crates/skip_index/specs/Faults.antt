@@ -2,8 +2,8 @@
 use Rattle.std.specs.Prelude.{◌≡◌, ◌≢◌, ℕ, ◌+◌, ◌<◌, ◌^◌, ◌⊎◌, false, List, [], ◌++◌, length, ⊤}
 use Rattle.std.specs.Int.{w32, to_le_bytes}
 use Rattle.std.specs.List.{list_any}
-use Rattle.byte_numbers.specs.declared.faults.FormatFault.{FormatFault}
-use Rattle.byte_numbers.specs.declared.faults.FormatFault.TheVariants.{NoMemory, Malformed}
+use Rattle.column_file.specs.byte_numbers.declared.faults.FormatFault.{FormatFault}
+use Rattle.column_file.specs.byte_numbers.declared.faults.FormatFault.TheVariants.{NoMemory, Malformed}
 use Rattle.mt_values.specs.declared.schema.IndexKind.{IndexKind}
 use Rattle.mt_values.specs.declared.schema.IndexKind.TheVariants as kind
 use Rattle.mt_values.specs.declared.value.ColType.{ColType}

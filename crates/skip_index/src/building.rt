@@ -24,7 +24,7 @@ ghost use Rattle.skip_index.specs.Blocks.{
 
 use crate::index::Index;
 use crate::values::{most_kept, see, values_of};
-use byte_numbers::push_u32;
+use column_file::byte_numbers::push_u32;
 use column_file::push_cell;
 use indexmap::IndexSet;
 use mt_base::{NoMemory, Seq};

@@ -10,8 +10,8 @@ mod shapes;
 mod values;
 
 pub use building::{build, kept_of, spell};
-pub use byte_numbers::FormatFault;
 pub use choosing::choose;
+pub use column_file::byte_numbers::FormatFault;
 pub use index::Index;
 pub use laws::{blocks_are_read_in_one_way, blocks_of_rows_are_read, skipped_blocks_hold_no_match};
 pub use reading::read;

@@ -1,7 +1,7 @@
 // The file of a skip index read back: what is kept of its blocks, or its first fault (docs/formats.md, "Skip indexes").
 ghost use Rattle.std.specs.Prelude.{◌≡◌, ◌<◌, ◌≤◌, ◌↔◌, IfErr, IfOk, IsTrue, MatchOption, MatchResult, drop, length};
 ghost use Rattle.std.specs.Int.{w32, to_le_bytes};
-ghost use Rattle.byte_numbers.specs.Fronts.{Begins};
+ghost use Rattle.column_file.specs.byte_numbers.Fronts.{Begins};
 ghost use Rattle.mt_values.specs.Cells.{value_of};
 ghost use Rattle.mt_values.specs.ColumnBytes.{column_bytes};
 ghost use Rattle.skip_index.specs.Blocks.{HasIndex, blocks_bytes, known_bytes};
@@ -13,7 +13,7 @@ ghost use Rattle.mt_values.specs.declared.schema.IndexKind.TheVariants as kind_o
 use crate::index::Index;
 use crate::shapes::{BlockShape, IndexShape};
 use crate::values::{most_kept, see};
-use byte_numbers::{FormatFault, first_u32};
+use column_file::byte_numbers::{FormatFault, first_u32};
 use column_file::{cell_at, end_at};
 use indexmap::IndexSet;
 use mt_base::Seq;

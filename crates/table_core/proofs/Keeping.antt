@@ -23,15 +23,15 @@ use Rattle.mt_values.specs.Order.{key_cmp}
 use Rattle.mt_values.specs.Tables.{sorting_columns}
 use Rattle.mt_values.specs.Values.{Row}
 use Rattle.mt_values.proofs.Grids.{filter_map_more}
-use Rattle.mt_model.specs.History.{History, IsAllowed, IsInsertInto, IsLegal, IsLegalAfter, IsTableSchema, creates, entered, first_of, is_create, schema_by, schema_of}
-use Rattle.mt_model.specs.Live.{sorted}
-use Rattle.mt_model.proofs.Determined.{key_total}
-use Rattle.mt_model.proofs.Histories.{numbered_more, schema_kept, schema_more}
-use Rattle.mt_model.proofs.OwnColumns.{sorting_own}
-use Rattle.mt_model.proofs.SameKeys.{stable_is_sorted}
-use Rattle.mt_model.proofs.Tables.{itself_same, same_is}
-use Rattle.part_name.specs.declared.part.PartName.{PartName}
-use Rattle.part_name.specs.Merged.{merged_name, merged_of}
+use Rattle.part_history.specs.mt_model.History.{History, IsAllowed, IsInsertInto, IsLegal, IsLegalAfter, IsTableSchema, creates, entered, first_of, is_create, schema_by, schema_of}
+use Rattle.part_history.specs.mt_model.Live.{sorted}
+use Rattle.part_history.proofs.MtModelDetermined.{key_total}
+use Rattle.part_history.proofs.MtModelHistories.{numbered_more, schema_kept, schema_more}
+use Rattle.part_history.proofs.MtModelOwnColumns.{sorting_own}
+use Rattle.part_history.proofs.MtModelSameKeys.{stable_is_sorted}
+use Rattle.part_history.proofs.MtModelTables.{itself_same, same_is}
+use Rattle.part_history.specs.part_name.declared.part.PartName.{PartName}
+use Rattle.part_history.specs.part_name.Merged.{merged_name, merged_of}
 use Rattle.part_history.specs.declared.part.CorePart.{CorePart}
 use Rattle.part_history.specs.Merges.{names_of}
 use Rattle.table_core.specs.declared.event.Guard.TheVariants as guard
@@ -42,7 +42,7 @@ use Rattle.table_core.specs.declared.store.Run.{Run}
 use Rattle.table_core.specs.declared.store.Store.{Store}
 use Rattle.table_core.specs.declared.store.Table.{Table}
 use Rattle.table_core.specs.Core.{Core, IsCore}
-use Rattle.mt_model.specs.Numbers.{draws, numbered}
+use Rattle.part_history.specs.mt_model.Numbers.{draws, numbered}
 use Rattle.part_history.specs.Parts.{AreInBlockOrder, TableStands, core_parts_of}
 use Rattle.part_history.specs.Entered.{part_of_insert, parts_after, parts_upto, with_part}
 use Rattle.table_core.specs.Steps.{AcceptsInsert, AddsPart, HasNeighbours, MayPut, PutGives, PutsMerge, beside, part_of_merge, snapshot_of, sources_among}

@@ -10,9 +10,9 @@ use Rattle.std.proofs.lemmas.List.Sorted.{sorted_far}
 use Rattle.mt_base.specs.declared.partition.Partition.{Partition}
 use Rattle.mt_base.specs.declared.partition.Partition.TheVariants.{Whole, Number}
 use Rattle.mt_values.specs.Tables.{same_partition}
-use Rattle.mt_model.proofs.Sorting.{sorted_tail}
-use Rattle.part_name.specs.declared.part.PartName.{PartName}
-use Rattle.part_name.specs.Merged.{joined_name, merged_of, raised}
+use Rattle.part_history.proofs.MtModelSorting.{sorted_tail}
+use Rattle.part_history.specs.part_name.declared.part.PartName.{PartName}
+use Rattle.part_history.specs.part_name.Merged.{joined_name, merged_of, raised}
 use Rattle.part_history.specs.declared.part.CorePart.{CorePart}
 use Rattle.part_history.specs.Entered.{parts_after, parts_upto}
 use Rattle.part_history.specs.Merges.{names_of}

@@ -12,9 +12,9 @@ use Rattle.mt_values.specs.declared.command.Insert.{Insert}
 use Rattle.mt_base.specs.declared.partition.Partition.{Partition}
 use Rattle.mt_values.specs.declared.schema.Schema.{Schema}
 use Rattle.mt_values.specs.Grammar.{same_bytes}
-use Rattle.mt_model.specs.History.{History, IsInsertInto, IsLegal, IsTableSchema, creates, entered, schema_of}
-use Rattle.mt_model.proofs.Histories.{legal_front, legal_push}
-use Rattle.mt_model.proofs.Tables.{itself_same, same_is}
+use Rattle.part_history.specs.mt_model.History.{History, IsInsertInto, IsLegal, IsTableSchema, creates, entered, schema_of}
+use Rattle.part_history.proofs.MtModelHistories.{legal_front, legal_push}
+use Rattle.part_history.proofs.MtModelTables.{itself_same, same_is}
 use Rattle.table_core.specs.declared.event.Accept.{Accept}
 use Rattle.table_core.specs.declared.event.Accept.TheVariants as accept
 use Rattle.table_core.specs.declared.event.Crash.{Crash}
@@ -25,9 +25,9 @@ use Rattle.table_core.specs.declared.event.Guard.TheVariants as guard
 use Rattle.table_core.specs.declared.event.Merge.{Merge}
 use Rattle.table_core.specs.declared.event.Outcome.{Outcome}
 use Rattle.table_core.specs.declared.event.Outcome.TheVariants as outcome
-use Rattle.part_name.specs.declared.part.PartName.{PartName}
-use Rattle.part_name.specs.Merged.{merged_name, merged_of}
-use Rattle.part_name.proofs.Merging.{merged_partition}
+use Rattle.part_history.specs.part_name.declared.part.PartName.{PartName}
+use Rattle.part_history.specs.part_name.Merged.{merged_name, merged_of}
+use Rattle.part_history.proofs.PartNameMerging.{merged_partition}
 use Rattle.part_history.specs.declared.part.CorePart.{CorePart}
 use Rattle.part_history.specs.Merges.{IsMergedPart, names_of}
 use Rattle.table_core.specs.declared.snapshot.Snapshot.{Snapshot}

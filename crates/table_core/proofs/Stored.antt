@@ -9,7 +9,7 @@ use Rattle.indexmap.specs.IndexMap.{insert_entry, set_value_at}
 use Rattle.mt_values.specs.declared.command.Create.{Create}
 use Rattle.mt_values.specs.declared.schema.Schema.{Schema}
 use Rattle.mt_values.specs.Grammar.{same_bytes}
-use Rattle.mt_model.proofs.Tables.{itself_same, same_is}
+use Rattle.part_history.proofs.MtModelTables.{itself_same, same_is}
 use Rattle.part_history.specs.declared.part.CorePart.{CorePart}
 use Rattle.table_core.specs.declared.store.Table.{Table}
 use Rattle.table_core.specs.Store.{AddsTable, IsNotNamed, Named, StandsAt}

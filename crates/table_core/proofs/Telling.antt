@@ -4,9 +4,9 @@ use Rattle.std.proofs.lemmas.List.{take-append-le}
 use Rattle.std.proofs.lemmas.Option.{get_or_from_slice_get, slice_get_within}
 use Rattle.mt_values.specs.declared.schema.Schema.{Schema}
 use Rattle.mt_values.specs.Values.{Row}
-use Rattle.mt_model.specs.History.{History, schema_of}
-use Rattle.mt_model.specs.Live.{live}
-use Rattle.mt_model.specs.Partial.{Partly}
+use Rattle.part_history.specs.mt_model.History.{History, schema_of}
+use Rattle.part_history.specs.mt_model.Live.{live}
+use Rattle.part_history.specs.mt_model.Partial.{Partly}
 use Rattle.table_core.specs.declared.event.Accept.{Accept}
 use Rattle.table_core.specs.declared.event.Accept.TheVariants as accept
 use Rattle.table_core.specs.declared.event.Crash.{Crash}

@@ -1,6 +1,6 @@
 -- The state of the core, and what always holds of it (docs/definitions.md, "The core").
 use Rattle.std.specs.Prelude.{◌≤◌, ℕ, List, [], All, IsSome, length, take}
-use Rattle.mt_model.specs.History.{History, IsLegal, schema_of}
+use Rattle.part_history.specs.mt_model.History.{History, IsLegal, schema_of}
 use Rattle.part_history.specs.declared.part.CorePart.{CorePart}
 use Rattle.table_core.specs.declared.snapshot.Snapshot.{Snapshot}
 use Rattle.part_history.specs.Parts.{AreInBlockOrder, PartsStand, TableStands, core_parts_of}

@@ -2,3 +2,7 @@ pub mod Core
 pub mod Runs
 pub mod Steps
 pub mod Store
+pub use Rattle.part_history.specs.mt_model
+pub use Rattle.part_history.specs as part_history
+pub use Rattle.part_history.specs.part_name
+pub use Rattle.part_history.specs.predicate

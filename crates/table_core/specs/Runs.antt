@@ -4,7 +4,7 @@ use Rattle.std.specs.List.{AllByRecursion}
 use Rattle.mt_values.specs.declared.command.Command.TheVariants as command
 use Rattle.mt_values.specs.declared.command.Entry.{Entry}
 use Rattle.mt_values.specs.Values.{Row}
-use Rattle.mt_model.specs.History.{History}
+use Rattle.part_history.specs.mt_model.History.{History}
 use Rattle.table_core.specs.declared.event.Accept.{Accept}
 use Rattle.table_core.specs.declared.event.Accept.TheVariants as accept
 use Rattle.table_core.specs.declared.event.Crash.TheVariants as crash

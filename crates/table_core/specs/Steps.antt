@@ -7,9 +7,9 @@ use Rattle.mt_values.specs.declared.command.Insert.{Insert}
 use Rattle.mt_values.specs.declared.schema.Schema.{Schema}
 use Rattle.mt_values.specs.Grammar.{same_bytes}
 use Rattle.mt_values.specs.Values.{Row}
-use Rattle.mt_model.specs.History.{History, IsInsertInto, IsTableSchema, creates, entered, schema_of}
-use Rattle.mt_model.specs.Live.{live}
-use Rattle.mt_model.specs.Partial.{Partly}
+use Rattle.part_history.specs.mt_model.History.{History, IsInsertInto, IsTableSchema, creates, entered, schema_of}
+use Rattle.part_history.specs.mt_model.Live.{live}
+use Rattle.part_history.specs.mt_model.Partial.{Partly}
 use Rattle.table_core.specs.declared.event.Accept.{Accept}
 use Rattle.table_core.specs.declared.event.Accept.TheVariants as accept
 use Rattle.table_core.specs.declared.event.Crash.{Crash}
@@ -20,8 +20,8 @@ use Rattle.table_core.specs.declared.event.Guard.TheVariants as guard
 use Rattle.table_core.specs.declared.event.Merge.{Merge}
 use Rattle.table_core.specs.declared.event.Outcome.{Outcome}
 use Rattle.table_core.specs.declared.event.Outcome.TheVariants as outcome
-use Rattle.part_name.specs.declared.part.PartName.{PartName}
-use Rattle.part_name.specs.Merged.{merged_of}
+use Rattle.part_history.specs.part_name.declared.part.PartName.{PartName}
+use Rattle.part_history.specs.part_name.Merged.{merged_of}
 use Rattle.part_history.specs.declared.part.CorePart.{CorePart}
 use Rattle.table_core.specs.declared.snapshot.Snapshot.{Snapshot}
 use Rattle.table_core.specs.Core.{Core}

@@ -9,7 +9,7 @@ use Rattle.mt_values.specs.declared.command.Command.TheVariants as command
 use Rattle.mt_values.specs.declared.command.Create.{Create}
 use Rattle.mt_values.specs.declared.schema.Schema.{Schema}
 use Rattle.mt_values.specs.Grammar.{same_bytes}
-use Rattle.mt_model.specs.History.{History, schema_of}
+use Rattle.part_history.specs.mt_model.History.{History, schema_of}
 use Rattle.part_history.specs.declared.part.CorePart.{CorePart}
 use Rattle.part_history.specs.Entered.{with_part}
 use Rattle.part_history.specs.Parts.{partition_cmp}
@@ -19,7 +19,7 @@ use Rattle.table_core.specs.declared.store.Store.{Store}
 use Rattle.table_core.specs.declared.store.Table.{Table}
 use Rattle.table_core.specs.Core.{Core, IsCore}
 use Rattle.table_core.specs.Steps.{HasNeighbours, sources_among}
-use Rattle.mt_model.specs.Numbers.{last_number}
+use Rattle.part_history.specs.mt_model.Numbers.{last_number}
 
 -- a table with its name
 abbrev pub Named : Type 0

@@ -1,7 +1,7 @@
 // What may happen to the core, and what it answers.
 use mt_base::{Partition, Seq};
 use mt_values::{Create, Insert, Name, Row};
-use part_name::PartName;
+use part_history::part_name::PartName;
 
 /// A command that a session gives: it is accepted, or refused.
 #[derive(Drop)]

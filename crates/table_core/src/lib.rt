@@ -12,7 +12,8 @@ mod store;
 
 pub use event::{Accept, Crash, Event, Guard, Merge, Outcome};
 pub use laws::{what_was_accepted_stays, what_was_read_stays};
-pub use part_history::CorePart;
+pub use part_history;
+pub use part_history::{CorePart, mt_model, part_name, predicate};
 pub use running::{Done, run};
 pub use snapshot::Snapshot;
 pub use state::{CoreState, step};

@@ -1,6 +1,6 @@
 // The state of the core, as contracts see it.
 ghost use Rattle.std.specs.Prelude.{◌≡◌, IfOk, OnErr, option_copied};
-ghost use Rattle.mt_model.specs.History.{schema_of};
+ghost use Rattle.part_history.specs.mt_model.History.{schema_of};
 ghost use Rattle.part_history.specs.Parts.{core_parts_of};
 ghost use Rattle.table_core.specs.Core.{IsCore, empty_core};
 ghost use Rattle.table_core.specs.Runs.{ReadsLeft};

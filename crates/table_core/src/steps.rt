@@ -5,9 +5,9 @@ ghost use Rattle.mt_base.specs.Limits.{level_limit};
 ghost use Rattle.mt_values.specs.declared.schema.Schema.{Schema};
 ghost use Rattle.mt_values.specs.Grid.{picked};
 ghost use Rattle.mt_values.specs.Tables.{sorting_columns};
-ghost use Rattle.mt_model.specs.History.{IsInsertInto, IsTableSchema, schema_of};
-ghost use Rattle.part_name.specs.declared.part.PartName.{PartName};
-ghost use Rattle.part_name.specs.Merged.{joined_name, merged_of};
+ghost use Rattle.part_history.specs.mt_model.History.{IsInsertInto, IsTableSchema, schema_of};
+ghost use Rattle.part_history.specs.part_name.declared.part.PartName.{PartName};
+ghost use Rattle.part_history.specs.part_name.Merged.{joined_name, merged_of};
 ghost use Rattle.part_history.specs.Merges.{names_of};
 ghost use Rattle.part_history.specs.Parts.{rows_of_parts};
 ghost use Rattle.part_history.specs.Entered as adding;
@@ -18,7 +18,7 @@ use crate::store::{Store, parts_of_run, run_of};
 use crate::{Accept, CorePart, Crash, Event, Guard, Merge, Outcome, Snapshot};
 use mt_base::{NoMemory, ROOT_TABLE_LIMIT, Seq, Twin};
 use mt_values::{Block, Create, Insert, Name, Row, Schema};
-use part_name::{PartName, join, raise};
+use part_history::part_name::{PartName, join, raise};
 use std::alloc::Global;
 
 /// What happens at an event.

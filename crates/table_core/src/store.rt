@@ -3,7 +3,7 @@ ghost use Rattle.std.specs.Prelude.{◌≡◌, ◌+◌, ◌<◌, ◌≤◌, ◌+
 ghost use Rattle.std.specs.Ordering.{is_gt};
 ghost use Rattle.indexmap.specs.IndexMap.{set_value_at};
 ghost use Rattle.mt_values.specs.declared.command.Command.TheVariants as command;
-ghost use Rattle.mt_model.specs.History.{entered, schema_of};
+ghost use Rattle.part_history.specs.mt_model.History.{entered, schema_of};
 ghost use Rattle.table_core.specs.Core.{empty_core};
 ghost use Rattle.part_history.specs.Entered.{parts_after, parts_upto};
 ghost use Rattle.part_history.specs.Parts.{AreInBlockOrder, core_parts_of, partition_cmp, parts_in};

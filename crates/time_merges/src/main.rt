@@ -6,15 +6,15 @@
 
 mod inputs;
 
-use collapse_rules::{CollapsingRule, VersionedRule};
 use inputs::{Shape, columns, dealt_inputs, schema};
 use mt_base::{NoMemory, Seq};
 use mt_values::{Aggregate, ColType, Row, Schema};
+use row_merge::collapse_rules::{CollapsingRule, VersionedRule};
 use row_merge::merge_sorted;
-use rule_aggregating::AggregatingRule;
-use rule_law::RowRule;
-use rule_replacing::{PlainRule, ReplacingRule};
-use rule_summing::SummingRule;
+use row_merge::rule_aggregating::AggregatingRule;
+use row_merge::rule_law::RowRule;
+use row_merge::rule_replacing::{PlainRule, ReplacingRule};
+use row_merge::rule_summing::SummingRule;
 use std::alloc::{AllocGlobal, Global};
 use std::process::ExitCode;
 use std::{env, io};

@@ -2,11 +2,11 @@ use Rattle.std.proofs.Common.{◌≡◌, ◌∙◌, ◌+◌, ap, All, arith, len
 use Rattle.std.specs.List.{range_with_len}
 use Rattle.std.proofs.lemmas.List.FromFn.{length-range_with_len}
 use Rattle.mt_values.specs.Grid.{Cells}
-use Rattle.part_writer.specs.declared.loaded.Loaded.{Loaded}
-use Rattle.part_reader.proofs.ChosenItems.{chosen_length}
-use Rattle.part_reader.specs.Faults.{IsNoDamage}
-use Rattle.part_reader.proofs.Gaining.{handed_on}
-use Rattle.part_reader.proofs.Holding.{holds_at}
+use Rattle.row_merge.specs.part_writer.declared.loaded.Loaded.{Loaded}
+use Rattle.row_merge.proofs.PartReaderChosenItems.{chosen_length}
+use Rattle.row_merge.specs.part_reader.Faults.{IsNoDamage}
+use Rattle.row_merge.proofs.PartReaderGaining.{handed_on}
+use Rattle.row_merge.proofs.PartReaderHolding.{holds_at}
 use Rattle.final_fold.specs.Matches.{ExplainsAsked}
 use Rattle.final_fold.proofs.Explained.{wanted_explained}
 use Rattle.final_fold.proofs.Granules.{chosen_few}

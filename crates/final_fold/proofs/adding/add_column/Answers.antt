@@ -2,9 +2,9 @@ use Rattle.std.proofs.Common.{◌≡◌, ◌∙◌, ◌+◌, Some, ap, ap₂, ar
 use Rattle.std.proofs.lemmas.Option.{slice_get_read, slice_get_within}
 use Rattle.mt_values.specs.Grid.{Cells, column_of}
 use Rattle.mt_values.specs.Lists.{where_true}
-use Rattle.column_file.specs.Spellings.{with_values}
-use Rattle.part_reader.specs.Granules.{ExplainsChosen, chosen_count, chosen_of, column_in}
-use Rattle.part_reader.proofs.PickedValues.{on_err, on_ok}
+use Rattle.row_merge.specs.column_file.Spellings.{with_values}
+use Rattle.row_merge.specs.part_reader.Granules.{ExplainsChosen, chosen_count, chosen_of, column_in}
+use Rattle.row_merge.proofs.PartReaderPickedValues.{on_err, on_ok}
 use Rattle.final_fold.specs.Asked.{met_rows}
 use Rattle.final_fold.specs.Matches.{AreAmong, ExplainsAsked, count_true}
 use Rattle.final_fold.proofs.Asks.{kept_count, kept_even, known_even, known_rows, known_type, met_granules, one_held, read_rows}

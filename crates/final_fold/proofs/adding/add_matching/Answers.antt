@@ -7,10 +7,10 @@ use Rattle.mt_values.specs.declared.schema.Column.{Column}
 use Rattle.mt_values.specs.Grid.{Cells, column_of}
 use Rattle.mt_values.specs.Schemas.{column_types}
 use Rattle.mt_values.specs.Tests.{eval}
-use Rattle.column_file.specs.Spellings.{with_values}
-use Rattle.part_reader.specs.Faults.{IsNoDamage}
-use Rattle.part_reader.proofs.Gaining.{handed_on, read_all, read_more, rest_more}
-use Rattle.part_reader.proofs.Holding.{each_typed, type_there}
+use Rattle.row_merge.specs.column_file.Spellings.{with_values}
+use Rattle.row_merge.specs.part_reader.Faults.{IsNoDamage}
+use Rattle.row_merge.proofs.PartReaderGaining.{handed_on, read_all, read_more, rest_more}
+use Rattle.row_merge.proofs.PartReaderHolding.{each_typed, type_there}
 use Rattle.final_fold.specs.Asked.{chosen_rows, met_rows}
 use Rattle.final_fold.specs.Matches.{count_true}
 use Rattle.final_fold.proofs.Gains.{AreMetRows, GainsRows, gained_even, gained_rows, gained_types}

@@ -1,7 +1,7 @@
 use Rattle.std.proofs.Common.{◌≡◌, IfOk, List, OnOk, length, rules, subst, sym}
 use Rattle.std.proofs.lemmas.List.{nil_from_length}
 use Rattle.mt_values.specs.Values.{Row}
-use Rattle.part_reader.specs.Parts.{with_columns}
+use Rattle.row_merge.specs.part_reader.Parts.{with_columns}
 use Rattle.final_fold.specs.Asked.{chosen_rows, met_rows}
 use Rattle.final_fold.proofs.Asks.{none_asked}
 use Rattle.final_fold.proofs.adding.add_part.Goals as goal

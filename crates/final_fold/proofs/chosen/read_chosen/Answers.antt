@@ -3,10 +3,10 @@ use Rattle.std.proofs.lemmas.List.{length-map}
 use Rattle.mt_values.specs.declared.schema.Column.{Column}
 use Rattle.mt_values.specs.Grid.{AreRowsOf, Cells, Grid, rows_of}
 use Rattle.mt_values.specs.Schemas.{column_types}
-use Rattle.part_reader.specs.Faults.{ExplainsAt, IsNoDamage}
-use Rattle.part_reader.specs.Granules.{ExplainsChosen, column_in}
-use Rattle.part_reader.proofs.CutRows.{empty_even, explained_at, lent_back}
-use Rattle.part_reader.proofs.Gaining.{handed_on}
+use Rattle.row_merge.specs.part_reader.Faults.{ExplainsAt, IsNoDamage}
+use Rattle.row_merge.specs.part_reader.Granules.{ExplainsChosen, column_in}
+use Rattle.row_merge.proofs.PartReaderCutRows.{empty_even, explained_at, lent_back}
+use Rattle.row_merge.proofs.PartReaderGaining.{handed_on}
 use Rattle.final_fold.specs.Folded.{ExplainsWhole}
 use Rattle.final_fold.proofs.WholeColumns.{chosen_made, holds_all, places_within, types_at_all}
 use Rattle.final_fold.proofs.chosen.read_chosen.Goals as goal

@@ -1,13 +1,13 @@
 use Rattle.std.proofs.Common.{◌≡◌, ◌∙◌, [], Bool, List, Some, ap, arith, get_or, length, refl, slice_get, subst, sym}
 use Rattle.std.proofs.lemmas.List.{take_all}
 use Rattle.std.proofs.lemmas.Option.{slice_get-get_or, slice_get_read}
-use Rattle.column_file.specs.Marks.{granules}
+use Rattle.row_merge.specs.column_file.Marks.{granules}
 use Rattle.mt_outside.specs.Causes.{Rose}
 use Rattle.mt_values.specs.Grid.{AreRowsOf}
 use Rattle.mt_values.specs.Schemas.{column_types}
 use Rattle.mt_values.specs.Values.{Row}
-use Rattle.part_reader.specs.Granules.{chosen_of}
-use Rattle.part_reader.specs.Parts.{PartHolds}
+use Rattle.row_merge.specs.part_reader.Granules.{chosen_of}
+use Rattle.row_merge.specs.part_reader.Parts.{PartHolds}
 use Rattle.final_fold.specs.Folded.{chosen_inputs}
 use Rattle.final_fold.proofs.PartitionRuns.{zip_many}
 use Rattle.final_fold.proofs.Scanning.{part_at, zip_at}

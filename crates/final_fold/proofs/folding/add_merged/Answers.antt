@@ -5,7 +5,7 @@ use Rattle.mt_values.specs.Grid.{AreRowsOf, Cells}
 use Rattle.mt_values.specs.Schemas.{column_types}
 use Rattle.mt_values.specs.Tests.{eval}
 use Rattle.mt_values.specs.Values.{Row, types_of}
-use Rattle.part_reader.specs.Parts.{with_columns}
+use Rattle.row_merge.specs.part_reader.Parts.{with_columns}
 use Rattle.final_fold.specs.Matches.{matching}
 use Rattle.final_fold.proofs.RowValues.{match_added, passed, row_types, row_within, rows_reach, with_even, with_none, with_types}
 use Rattle.final_fold.proofs.Scanning.{have_many}

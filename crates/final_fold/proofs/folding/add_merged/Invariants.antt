@@ -1,6 +1,6 @@
 -- the columns have the matches among the rows gone over
 use Rattle.std.proofs.Common.{◌≡◌, ◌≤◌, length, take}
-use Rattle.part_reader.specs.Parts.{with_columns}
+use Rattle.row_merge.specs.part_reader.Parts.{with_columns}
 use Rattle.final_fold.specs.Matches.{matching}
 use Rattle.final_fold.proofs.folding.add_merged.Given as goal
 

@@ -1,10 +1,10 @@
 use Rattle.std.proofs.Common.{◌≡◌, ◌∷◌, ◌∙◌, [], ap, arith, get_or, length, refl, rules, sym}
 use Rattle.std.proofs.lemmas.List.{get_or_default, length_push}
 use Rattle.std.proofs.lemmas.Option.{slice_get-get_or}
-use Rattle.column_file.specs.Spellings.{with_values}
+use Rattle.row_merge.specs.column_file.Spellings.{with_values}
 use Rattle.mt_values.specs.Grid.{Cells, column_of}
 use Rattle.mt_values.specs.Values.{type_of}
-use Rattle.part_reader.proofs.Gaining.{read_all, read_more, rest_more}
+use Rattle.row_merge.proofs.PartReaderGaining.{read_all, read_more, rest_more}
 use Rattle.final_fold.proofs.Gains.{GainsRows, gained_rows}
 use Rattle.final_fold.proofs.RowValues.{one_value, row_many, row_type}
 use Rattle.final_fold.proofs.folding.add_row.Goals as goal

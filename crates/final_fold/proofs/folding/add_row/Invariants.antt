@@ -1,7 +1,7 @@
 -- the columns gone over got their values, and the others are as they were
 use Rattle.std.proofs.Common.{◌≡◌, ◌∷◌, [], ℕ, ◌≤◌, get_or, take}
 use Rattle.mt_values.specs.Grid.{Cells}
-use Rattle.part_reader.specs.Columns.{AreEach}
+use Rattle.row_merge.specs.part_reader.Columns.{AreEach}
 use Rattle.final_fold.proofs.Gains.{GainsRows}
 use Rattle.final_fold.proofs.folding.add_row.Given as goal
 

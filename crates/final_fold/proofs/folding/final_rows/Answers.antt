@@ -1,15 +1,15 @@
 use Rattle.std.proofs.Common.{◌≡◌, ◌+◌, ◌-◌, ◌∙◌, [], All, ap, ap₂, arith, drop, get_or, length, length-drop, refl, subst, sym, take}
 use Rattle.std.proofs.lemmas.List.{take_all}
 use Rattle.std.proofs.lemmas.Option.{slice_get-get_or}
-use Rattle.column_file.specs.Marks.{granules}
+use Rattle.row_merge.specs.column_file.Marks.{granules}
 use Rattle.mt_values.specs.Grid.{Cells}
-use Rattle.part_name.specs.declared.part.PartName.{PartName}
-use Rattle.part_reader.specs.declared.reading.Part.{Part}
-use Rattle.part_reader.specs.declared.reading.PartFault.{PartFault}
-use Rattle.part_reader.specs.Faults.{IsNoDamage}
-use Rattle.part_reader.specs.Parts.{PartHolds}
-use Rattle.part_reader.proofs.Gaining.{handed_on}
-use Rattle.part_set.specs.declared.kept.Kept.{Kept}
+use Rattle.table_core.specs.part_name.declared.part.PartName.{PartName}
+use Rattle.row_merge.specs.part_reader.declared.reading.Part.{Part}
+use Rattle.row_merge.specs.part_reader.declared.reading.PartFault.{PartFault}
+use Rattle.row_merge.specs.part_reader.Faults.{IsNoDamage}
+use Rattle.row_merge.specs.part_reader.Parts.{PartHolds}
+use Rattle.row_merge.proofs.PartReaderGaining.{handed_on}
+use Rattle.row_merge.specs.part_set.declared.kept.Kept.{Kept}
 use Rattle.row_merge.specs.Merged.{ArePartRows}
 use Rattle.final_fold.specs.Folded.{AddsFold, ExplainsFold, IsFolded, SkipsNoFold, count_in}
 use Rattle.final_fold.specs.Scans.{joined_rows}

@@ -4,12 +4,12 @@ use Rattle.mt_base.specs.declared.name.FileId.TheVariants as file
 use Rattle.mt_values.specs.Grid.{Cells}
 use Rattle.mt_values.specs.Schemas.{column_types}
 use Rattle.mt_values.specs.Values.{Row}
-use Rattle.part_reader.specs.Faults.{ExplainsEach, IsNoDamage}
-use Rattle.part_reader.specs.Granules.{ExplainsChosen, column_in}
-use Rattle.part_reader.specs.Parts.{HoldsAt, PartHolds, with_columns}
-use Rattle.part_reader.proofs.CutRows.{empty_even}
-use Rattle.part_reader.proofs.Gaining.{handed_on}
-use Rattle.part_reader.proofs.Holding.{holds_at}
+use Rattle.row_merge.specs.part_reader.Faults.{ExplainsEach, IsNoDamage}
+use Rattle.row_merge.specs.part_reader.Granules.{ExplainsChosen, column_in}
+use Rattle.row_merge.specs.part_reader.Parts.{HoldsAt, PartHolds, with_columns}
+use Rattle.row_merge.proofs.PartReaderCutRows.{empty_even}
+use Rattle.row_merge.proofs.PartReaderGaining.{handed_on}
+use Rattle.row_merge.proofs.PartReaderHolding.{holds_at}
 use Rattle.final_fold.specs.Asked.{chosen_rows}
 use Rattle.final_fold.specs.Matches.{ExplainsAsked, granules_met, mask_met}
 use Rattle.final_fold.specs.Sieves.{PassesUnasked, passes_all}

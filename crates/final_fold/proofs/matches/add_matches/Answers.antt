@@ -1,13 +1,13 @@
 use Rattle.std.proofs.Common.{◌≡◌, ◌∙◌, ◌+◌, [], Bool, List, All, Some, ap, arith, get_or, length, refl, slice_get, subst, sym}
 use Rattle.std.specs.List.{filter, zip as pairs}
 use Rattle.std.proofs.lemmas.Option.{slice_get-get_or, slice_get_read}
-use Rattle.column_file.specs.Marks.{granules}
+use Rattle.row_merge.specs.column_file.Marks.{granules}
 use Rattle.mt_values.specs.Grid.{Cells}
 use Rattle.mt_values.specs.Tests.{eval}
 use Rattle.mt_values.specs.Values.{Row}
-use Rattle.part_reader.specs.declared.reading.PartFault.TheVariants.{NoMemory}
-use Rattle.part_reader.specs.Granules.{chosen_of}
-use Rattle.part_writer.specs.declared.loaded.Loaded.{Loaded}
+use Rattle.row_merge.specs.part_reader.declared.reading.PartFault.TheVariants.{NoMemory}
+use Rattle.row_merge.specs.part_reader.Granules.{chosen_of}
+use Rattle.row_merge.specs.part_writer.declared.loaded.Loaded.{Loaded}
 use Rattle.final_fold.specs.Asked.{MeetUnasked}
 use Rattle.final_fold.specs.Matches.{HoldEachMatch, MeetWhereUnasked, matching}
 use Rattle.final_fold.proofs.Explained.{out_of_memory, part_explained}

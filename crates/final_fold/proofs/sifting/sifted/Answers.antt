@@ -1,6 +1,6 @@
 use Rattle.std.proofs.Common.{◌≡◌, ◌∙◌, ap, arith, length, subst, sym, true}
 use Rattle.std.proofs.lemmas.List.{length-replicate, take_all, with_items_is}
-use Rattle.predicate.specs.Masks.{both}
+use Rattle.table_core.specs.predicate.Masks.{both}
 use Rattle.final_fold.specs.Sieves.{PassesUnasked, passes, passes_all}
 use Rattle.final_fold.proofs.Joining.{passes_more, passes_none}
 use Rattle.final_fold.proofs.sifting.sifted.Goals as goal

@@ -1,6 +1,6 @@
 use Rattle.std.proofs.Common.{List, subst, sym}
 use Rattle.std.proofs.lemmas.List.Elements.{All-nil}
-use Rattle.part_name.specs.PartNames.{Meet}
+use Rattle.part_set.specs.part_name.PartNames.{Meet}
 use Rattle.part_set.specs.declared.kept.Kept.{Kept}
 use Rattle.part_set.specs.Parts.{NoneMeets}
 use Rattle.merge_select.specs.declared.tests.Pile.{Pile}

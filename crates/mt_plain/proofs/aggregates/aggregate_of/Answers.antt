@@ -1,6 +1,6 @@
 use Rattle.std.proofs.Common.{IfOk, subst, sym}
 use Rattle.mt_values.specs.declared.engine.Aggregate.{Aggregate}
-use Rattle.mt_model.specs.Rules.{IsAggregateOf}
+use Rattle.part_history.specs.mt_model.Rules.{IsAggregateOf}
 use Rattle.mt_plain.specs.Outcomes.{IsExactly}
 use Rattle.mt_plain.proofs.aggregates.aggregate_of.Goals as goal
 

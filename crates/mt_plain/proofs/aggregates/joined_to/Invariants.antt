@@ -1,7 +1,7 @@
 -- the values so far
 use Rattle.std.proofs.Common.{◌≡◌, take}
 use Rattle.std.specs.List.{fold}
-use Rattle.mt_model.specs.Rules.{joined_bits}
+use Rattle.part_history.specs.mt_model.Rules.{joined_bits}
 use Rattle.mt_plain.specs.Outcomes.{join_by}
 use Rattle.mt_plain.proofs.aggregates.joined_to.Given as goal
 

@@ -2,8 +2,8 @@ use Rattle.std.proofs.Common.{◌++◌, ◌∷◌, [], List, map, ap, ap₂, sym
 use Rattle.std.specs.List.{range_with_len}
 use Rattle.std.proofs.lemmas.List.{map-append}
 use Rattle.mt_values.proofs.Grids.{range_more}
-use Rattle.predicate.specs.declared.extent.Known.{Known}
-use Rattle.predicate.specs.Granules.{known_at}
+use Rattle.part_history.specs.predicate.declared.extent.Known.{Known}
+use Rattle.part_history.specs.predicate.Granules.{known_at}
 use Rattle.mt_plain.proofs.boxes.box_between.Goals as goal
 
 pub loop-place-preserved : goal.loop-place-preserved

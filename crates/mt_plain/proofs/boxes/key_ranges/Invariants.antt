@@ -1,6 +1,6 @@
 -- what is known so far, and what the rest of both keys adds
 use Rattle.std.proofs.Common.{◌≡◌, ◌++◌, drop}
-use Rattle.predicate.specs.Granules.{key_ranges}
+use Rattle.part_history.specs.predicate.Granules.{key_ranges}
 use Rattle.mt_plain.proofs.boxes.key_ranges.Given as goal
 
 abbrev pub invariant-loop-place : goal.invariant-loop-place

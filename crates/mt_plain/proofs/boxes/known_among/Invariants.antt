@@ -1,6 +1,6 @@
 -- what is left of the columns of the key decides
 use Rattle.std.proofs.Common.{◌≡◌, drop}
-use Rattle.predicate.specs.Granules.{known_among}
+use Rattle.part_history.specs.predicate.Granules.{known_among}
 use Rattle.mt_plain.proofs.boxes.known_among.Given as goal
 
 abbrev pub invariant-loop-column : goal.invariant-loop-column

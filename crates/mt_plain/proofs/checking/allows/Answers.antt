@@ -4,7 +4,7 @@ use Rattle.std.proofs.lemmas.List.{at_drop_all, take_all}
 use Rattle.std.proofs.lemmas.List.Elements.{Contains-get_or}
 use Rattle.mt_values.specs.declared.statement.Cause.{Cause}
 use Rattle.mt_values.specs.declared.statement.Statement.{Statement}
-use Rattle.mt_model.specs.History.{History}
+use Rattle.part_history.specs.mt_model.History.{History}
 use Rattle.mt_plain.specs.Outcomes.{AreExactly}
 use Rattle.mt_plain.specs.Plain.{OneStandsFrom}
 use Rattle.mt_plain.proofs.Merging.{not_both}

@@ -1,7 +1,7 @@
 -- the statements so far ran to each of the places, and each run of the script goes on from one of them
 use Rattle.std.proofs.Common.{drop, take}
-use Rattle.mt_model.specs.History.{History, FewInserts}
-use Rattle.mt_model.specs.Script.{HasNoExplain, ScriptRun}
+use Rattle.part_history.specs.mt_model.History.{History, FewInserts}
+use Rattle.part_history.specs.mt_model.Script.{HasNoExplain, ScriptRun}
 use Rattle.mt_plain.specs.Plain.{calm}
 use Rattle.mt_plain.proofs.Allowing.{GoesOn, RanTo}
 use Rattle.mt_plain.proofs.checking.allows.Given as goal

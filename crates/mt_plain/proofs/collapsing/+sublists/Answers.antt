@@ -1,6 +1,6 @@
 use Rattle.std.proofs.Common.{◌≡◌, ◌∷◌, ◌++◌, List, ap, map, subst, sym, ◌∙◌}
 use Rattle.mt_values.specs.Values.{Row}
-use Rattle.mt_model.specs.Rules.{IsSublist}
+use Rattle.part_history.specs.mt_model.Rules.{IsSublist}
 use Rattle.mt_plain.specs.Outcomes.{AreExactly}
 use Rattle.mt_plain.proofs.Signs.{choices_more}
 use Rattle.mt_plain.proofs.collapsing.+sublists.Goals as goal

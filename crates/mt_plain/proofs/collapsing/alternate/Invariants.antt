@@ -1,6 +1,6 @@
 -- the rest decides
 use Rattle.std.proofs.Common.{◌≡◌, drop}
-use Rattle.mt_model.specs.Rules.{alternate, alternate_from}
+use Rattle.part_history.specs.mt_model.Rules.{alternate, alternate_from}
 use Rattle.mt_plain.proofs.collapsing.alternate.Given as goal
 
 abbrev pub invariant-loop-row : goal.invariant-loop-row

@@ -1,6 +1,6 @@
 use Rattle.std.proofs.Common.{ap, ◌∷◌, [], List, ◌∙◌}
 use Rattle.mt_values.specs.Values.{Row}
-use Rattle.mt_model.specs.Rules.{collapsed}
+use Rattle.part_history.specs.mt_model.Rules.{collapsed}
 use Rattle.mt_plain.proofs.Exactly.{exactly_itself}
 use Rattle.mt_plain.proofs.collapsing.collapsed_left.Goals as goal
 

@@ -1,6 +1,6 @@
 -- the commands of the partitions so far
 use Rattle.std.proofs.Common.{◌≡◌, map, take}
-use Rattle.mt_model.specs.Commands.{insert_command}
+use Rattle.part_history.specs.mt_model.Commands.{insert_command}
 use Rattle.mt_plain.proofs.commands.commands_of_rows.Given as goal
 
 abbrev pub invariant-loop-partition : goal.invariant-loop-partition

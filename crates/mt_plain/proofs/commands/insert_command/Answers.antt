@@ -1,5 +1,5 @@
 use Rattle.std.proofs.Common.{◌≡◌, ◌<◌, length, ap, ◌∙◌, arith}
-use Rattle.mt_model.specs.Commands.{rows_in}
+use Rattle.part_history.specs.mt_model.Commands.{rows_in}
 use Rattle.mt_plain.proofs.OwnRows.{own_fewer, own_typed}
 use Rattle.mt_plain.proofs.commands.insert_command.Goals as goal
 

@@ -1,7 +1,7 @@
 use Rattle.std.proofs.Common.{◌+◌, ◌<◌, ◌≤◌, ◌++◌, ◌∷◌, [], Bool, List, drop, length, ap, ap₂, sym, ◌∙◌, append-nil, append_assoc, arith}
-use Rattle.predicate.specs.Boxes.{can}
-use Rattle.predicate.specs.declared.extent.Extent.{Extent}
-use Rattle.predicate.specs.Granules.{box_between, chosen_in}
+use Rattle.part_history.specs.predicate.Boxes.{can}
+use Rattle.part_history.specs.predicate.declared.extent.Extent.{Extent}
+use Rattle.part_history.specs.predicate.Granules.{box_between, chosen_in}
 use Rattle.mt_plain.proofs.Tallying.{chosen_next, few_keys}
 use Rattle.mt_plain.proofs.counting.chosen_in.Goals as goal
 

@@ -1,6 +1,6 @@
 -- the answers so far, and those of the granules that are left
 use Rattle.std.proofs.Common.{◌≡◌, ◌++◌, drop}
-use Rattle.predicate.specs.Granules.{chosen_in}
+use Rattle.part_history.specs.predicate.Granules.{chosen_in}
 use Rattle.mt_plain.proofs.counting.chosen_in.Given as goal
 
 abbrev pub invariant-loop-granule : goal.invariant-loop-granule

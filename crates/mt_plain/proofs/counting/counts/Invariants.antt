@@ -1,6 +1,6 @@
 -- the numbers over the portions so far
 use Rattle.std.proofs.Common.{◌≡◌, take}
-use Rattle.mt_model.specs.Explain.{counts_of}
+use Rattle.part_history.specs.mt_model.Explain.{counts_of}
 use Rattle.mt_plain.proofs.counting.counts.Given as goal
 
 abbrev pub invariant-loop-portion : goal.invariant-loop-portion

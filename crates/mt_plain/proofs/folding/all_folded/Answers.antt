@@ -2,8 +2,8 @@ use Rattle.std.proofs.Common.{List, subst, sym, ◌∙◌, take}
 use Rattle.std.specs.List.{Contains}
 use Rattle.std.proofs.lemmas.List.{take_all}
 use Rattle.mt_values.specs.Values.{Row}
-use Rattle.mt_model.specs.Folding.{Leaves}
-use Rattle.mt_model.specs.Rules.{Run}
+use Rattle.part_history.specs.mt_model.Folding.{Leaves}
+use Rattle.part_history.specs.mt_model.Rules.{Run}
 use Rattle.mt_plain.specs.Outcomes.{AddsExactly, AreExactly}
 use Rattle.mt_plain.proofs.Folded.{later_folds, settled_folds}
 use Rattle.mt_plain.proofs.Merging.{OneMakes, one_of_more, one_of_none}

@@ -1,7 +1,7 @@
 -- what the folds of the lists so far may leave
 use Rattle.std.proofs.Common.{take}
-use Rattle.mt_model.specs.Folding.{Leaves}
-use Rattle.mt_model.specs.Rules.{Run}
+use Rattle.part_history.specs.mt_model.Folding.{Leaves}
+use Rattle.part_history.specs.mt_model.Rules.{Run}
 use Rattle.mt_plain.specs.Outcomes.{AreExactly}
 use Rattle.mt_plain.proofs.Merging.{OneMakes}
 use Rattle.mt_plain.proofs.folding.all_folded.Given as goal

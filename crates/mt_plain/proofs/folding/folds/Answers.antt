@@ -1,5 +1,5 @@
 use Rattle.std.proofs.Common.{Bool, length, subst, sym, ◌∙◌, arith}
-use Rattle.mt_model.specs.Rules.{Run}
+use Rattle.part_history.specs.mt_model.Rules.{Run}
 use Rattle.mt_plain.specs.Outcomes.{FoldsAsWithin}
 use Rattle.mt_plain.proofs.Folded.{never_after, never_within}
 use Rattle.mt_plain.proofs.Merging.{not_both}

@@ -1,6 +1,6 @@
 -- so many merges leave it not
 use Rattle.std.proofs.Common.{ℕ, ◌<◌}
-use Rattle.mt_model.specs.Rules.{Run}
+use Rattle.part_history.specs.mt_model.Rules.{Run}
 use Rattle.mt_plain.specs.Outcomes.{LeavesAfter}
 use Rattle.mt_plain.proofs.folding.folds.Given as goal
 

@@ -2,8 +2,8 @@ use Rattle.std.proofs.Common.{List, subst, sym, ◌∙◌}
 use Rattle.std.specs.List.{Contains}
 use Rattle.std.proofs.lemmas.List.{take_all}
 use Rattle.mt_values.specs.Values.{Row}
-use Rattle.mt_model.specs.Folding.{Leaves}
-use Rattle.mt_model.specs.Rules.{Run}
+use Rattle.part_history.specs.mt_model.Folding.{Leaves}
+use Rattle.part_history.specs.mt_model.Rules.{Run}
 use Rattle.mt_plain.proofs.Folded.{never_more}
 use Rattle.mt_plain.proofs.Merging.{not_both}
 use Rattle.mt_plain.proofs.folding.leaves_after.Goals as goal

@@ -1,7 +1,7 @@
 use Rattle.std.proofs.Common.{◌≡◌, ℕ, ◌-◌, ◌*◌, ◌++◌, ◌∷◌, [], List, drop, length, min, take, ap, ap₂, sym, ◌∙◌}
 use Rattle.mt_values.specs.declared.value.Value.{Value}
-use Rattle.predicate.specs.declared.extent.Known.{Known}
-use Rattle.predicate.specs.Indexes.{kept_of}
+use Rattle.part_history.specs.predicate.declared.extent.Known.{Known}
+use Rattle.part_history.specs.predicate.Indexes.{kept_of}
 use Rattle.mt_plain.proofs.Indexed.{block_of_rest, kept_more}
 use Rattle.mt_plain.proofs.indexes.blocks_kept.Goals as goal
 

@@ -1,7 +1,7 @@
 -- what is kept of the blocks so far
 use Rattle.std.proofs.Common.{◌≡◌, ◌*◌, ℕ, drop, map, take}
 use Rattle.std.specs.List.{range_with_len}
-use Rattle.predicate.specs.Indexes.{kept_of}
+use Rattle.part_history.specs.predicate.Indexes.{kept_of}
 use Rattle.mt_plain.proofs.indexes.blocks_kept.Given as goal
 
 abbrev pub invariant-loop-block : goal.invariant-loop-block

@@ -1,7 +1,7 @@
 -- the least so far
 use Rattle.std.proofs.Common.{◌≡◌, take}
 use Rattle.std.specs.List.{fold}
-use Rattle.predicate.specs.Indexes.{lesser}
+use Rattle.part_history.specs.predicate.Indexes.{lesser}
 use Rattle.mt_plain.proofs.indexes.least_of.Given as goal
 
 abbrev pub invariant-loop-other : goal.invariant-loop-other

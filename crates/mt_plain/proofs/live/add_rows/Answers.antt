@@ -1,6 +1,6 @@
 use Rattle.std.proofs.Common.{ap, sym, ◌∙◌}
 use Rattle.mt_values.specs.Tables.{sorting_cmp}
-use Rattle.mt_model.specs.Live.{rows_after, sorted}
+use Rattle.part_history.specs.mt_model.Live.{rows_after, sorted}
 use Rattle.mt_plain.proofs.Inserting.{insert_adds}
 use Rattle.mt_plain.proofs.live.add_rows.Goals as goal
 

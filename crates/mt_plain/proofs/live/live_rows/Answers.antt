@@ -2,7 +2,7 @@ use Rattle.std.proofs.Common.{◌+◌, List, drop, sym, ap, ◌∙◌}
 use Rattle.std.proofs.lemmas.List.{at_drop_more}
 use Rattle.mt_values.specs.declared.command.Entry.{Entry}
 use Rattle.mt_values.specs.Values.{Row}
-use Rattle.mt_model.specs.Live.{live_from, rows_after}
+use Rattle.part_history.specs.mt_model.Live.{live_from, rows_after}
 use Rattle.mt_plain.proofs.live.live_rows.Goals as goal
 
 pub loop-entry-preserved : goal.loop-entry-preserved

@@ -1,7 +1,7 @@
 use Rattle.std.proofs.Common.{◌≡◌, ◌∷◌, ◌++◌, List, ap, map, subst, sym, ◌∙◌}
 use Rattle.mt_values.specs.Values.{Row}
-use Rattle.mt_model.specs.Folding.{Merges}
-use Rattle.mt_model.specs.Rules.{Run}
+use Rattle.part_history.specs.mt_model.Folding.{Merges}
+use Rattle.part_history.specs.mt_model.Rules.{Run}
 use Rattle.mt_plain.specs.Outcomes.{AreExactly, MergesFirst}
 use Rattle.mt_plain.proofs.Merging.{merges_exactly}
 use Rattle.mt_plain.proofs.merges.+merges_of.Goals as goal

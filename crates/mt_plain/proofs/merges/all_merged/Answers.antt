@@ -1,7 +1,7 @@
 use Rattle.std.proofs.Common.{List, ap, subst, ◌∷◌, [], ◌∙◌}
 use Rattle.std.specs.List.{Contains}
 use Rattle.mt_values.specs.Values.{Row}
-use Rattle.mt_model.specs.Rules.{Run}
+use Rattle.part_history.specs.mt_model.Rules.{Run}
 use Rattle.mt_plain.specs.Outcomes.{AddsExactly, AreExactly, MergesOneOf}
 use Rattle.mt_plain.proofs.Merging.{all_found, more_found, none_found}
 use Rattle.mt_plain.proofs.merges.all_merged.Goals as goal

@@ -2,8 +2,8 @@
 use Rattle.std.proofs.Common.{List}
 use Rattle.std.specs.List.{Contains}
 use Rattle.mt_values.specs.Values.{Row}
-use Rattle.mt_model.specs.Folding.{ComesFrom}
-use Rattle.mt_model.specs.Rules.{Run}
+use Rattle.part_history.specs.mt_model.Folding.{ComesFrom}
+use Rattle.part_history.specs.mt_model.Rules.{Run}
 use Rattle.mt_plain.proofs.merges.all_merged.Given as goal
 
 abbrev pub invariant-loop-done : goal.invariant-loop-done

@@ -1,6 +1,6 @@
 use Rattle.std.proofs.Common.{◌+◌, ◌++◌, List, ap, map, subst, sym, ◌∙◌, arith}
 use Rattle.mt_values.specs.Values.{Row}
-use Rattle.mt_model.specs.Rules.{Run}
+use Rattle.part_history.specs.mt_model.Rules.{Run}
 use Rattle.mt_plain.specs.Outcomes.{AreExactly}
 use Rattle.mt_plain.proofs.Merging.{UpTo, no_run_yet, run_longer, runs_whole}
 use Rattle.mt_plain.proofs.merges.first_merges.Goals as goal

@@ -1,5 +1,5 @@
 -- the merges of runs so far
-use Rattle.mt_model.specs.Rules.{Run}
+use Rattle.part_history.specs.mt_model.Rules.{Run}
 use Rattle.mt_plain.specs.Outcomes.{AreExactly}
 use Rattle.mt_plain.proofs.Merging.{UpTo}
 use Rattle.mt_plain.proofs.merges.first_merges.Given as goal

@@ -1,6 +1,6 @@
 use Rattle.std.proofs.Common.{List, ap, subst, ◌∷◌, [], ◌∙◌}
 use Rattle.mt_values.specs.Values.{Row}
-use Rattle.mt_model.specs.Rules.{Run}
+use Rattle.part_history.specs.mt_model.Rules.{Run}
 use Rattle.mt_plain.specs.Outcomes.{AreExactly, MergesOneOf}
 use Rattle.mt_plain.proofs.Merging.{merged_more, none_merged}
 use Rattle.mt_plain.proofs.merges.merged.Goals as goal

@@ -1,6 +1,6 @@
 -- what so many merges leave
-use Rattle.mt_model.specs.Folding.{MergesTimes}
-use Rattle.mt_model.specs.Rules.{Run}
+use Rattle.part_history.specs.mt_model.Folding.{MergesTimes}
+use Rattle.part_history.specs.mt_model.Rules.{Run}
 use Rattle.mt_plain.specs.Outcomes.{AreExactly}
 use Rattle.mt_plain.proofs.merges.merged.Given as goal
 

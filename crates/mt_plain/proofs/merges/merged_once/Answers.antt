@@ -1,8 +1,8 @@
 use Rattle.std.proofs.Common.{List, subst, sym, take}
 use Rattle.std.proofs.lemmas.List.{take_all}
 use Rattle.mt_values.specs.Values.{Row}
-use Rattle.mt_model.specs.Folding.{Merges}
-use Rattle.mt_model.specs.Rules.{Run}
+use Rattle.part_history.specs.mt_model.Folding.{Merges}
+use Rattle.part_history.specs.mt_model.Rules.{Run}
 use Rattle.std.specs.List.{Contains}
 use Rattle.mt_plain.specs.Outcomes.{AddsExactly, AreExactly, MergesOneOf}
 use Rattle.mt_plain.proofs.Merging.{one_of_more, one_of_none}

@@ -1,6 +1,6 @@
 -- the merges of the lists so far
 use Rattle.std.proofs.Common.{take}
-use Rattle.mt_model.specs.Rules.{Run}
+use Rattle.part_history.specs.mt_model.Rules.{Run}
 use Rattle.mt_plain.specs.Outcomes.{AreExactly, MergesOneOf}
 use Rattle.mt_plain.proofs.merges.merged_once.Given as goal
 

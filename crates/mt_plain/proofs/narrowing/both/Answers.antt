@@ -1,5 +1,5 @@
 use Rattle.std.proofs.Common.{◌≤◌, ◌++◌, Bool, List, length, ap, sym, ◌∙◌, append-nil, arith}
-use Rattle.predicate.proofs.Narrowing.{both_past}
+use Rattle.part_history.proofs.PredicateNarrowing.{both_past}
 use Rattle.mt_plain.proofs.narrowing.both.Goals as goal
 
 pub returns-in_default : goal.returns-in_default

@@ -1,6 +1,6 @@
 -- the answers so far
 use Rattle.std.proofs.Common.{◌≡◌}
-use Rattle.predicate.specs.Indexes.{chosen_by_blocks}
+use Rattle.part_history.specs.predicate.Indexes.{chosen_by_blocks}
 use Rattle.mt_plain.proofs.narrowing.chosen_by_index.Given as goal
 
 abbrev pub invariant-loop-granule : goal.invariant-loop-granule

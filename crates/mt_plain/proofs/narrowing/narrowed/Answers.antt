@@ -1,8 +1,8 @@
 use Rattle.std.proofs.Common.{◌≡◌, ◌<◌, List, get_or, length, ap, ap₂, sym, ◌∙◌, arith}
 use Rattle.mt_values.specs.declared.schema.SkipIndex.{SkipIndex}
-use Rattle.predicate.specs.Indexes.{chosen_by_index}
-use Rattle.predicate.specs.Masks.{both}
-use Rattle.predicate.proofs.Narrowing.{narrowed_more}
+use Rattle.part_history.specs.predicate.Indexes.{chosen_by_index}
+use Rattle.part_history.specs.predicate.Masks.{both}
+use Rattle.part_history.proofs.PredicateNarrowing.{narrowed_more}
 use Rattle.mt_plain.proofs.narrowing.narrowed.Goals as goal
 
 pub loop-index-preserved : goal.loop-index-preserved

@@ -1,8 +1,8 @@
 -- what the indexes so far leave
 use Rattle.std.proofs.Common.{◌≡◌, map, take}
 use Rattle.std.specs.List.{fold}
-use Rattle.predicate.specs.Masks.{both}
-use Rattle.predicate.specs.Indexes.{chosen_by_index}
+use Rattle.part_history.specs.predicate.Masks.{both}
+use Rattle.part_history.specs.predicate.Indexes.{chosen_by_index}
 use Rattle.mt_plain.proofs.narrowing.narrowed.Given as goal
 
 abbrev pub invariant-loop-index : goal.invariant-loop-index

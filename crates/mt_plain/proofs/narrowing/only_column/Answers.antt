@@ -1,6 +1,6 @@
 use Rattle.std.proofs.Common.{◌≡◌, ℕ, ◌++◌, ◌∷◌, [], List, ap, ap₂, ◌∙◌, replicate, arith}
-use Rattle.predicate.specs.declared.extent.Known.{Known}
-use Rattle.predicate.specs.declared.extent.Known.TheVariants as known
+use Rattle.part_history.specs.predicate.declared.extent.Known.{Known}
+use Rattle.part_history.specs.predicate.declared.extent.Known.TheVariants as known
 use Rattle.mt_plain.proofs.narrowing.only_column.Goals as goal
 
 pub returns : goal.returns

@@ -1,6 +1,6 @@
 -- the partitions of the rows so far
 use Rattle.std.proofs.Common.{◌≡◌, take}
-use Rattle.mt_model.specs.Commands.{partitions_of}
+use Rattle.part_history.specs.mt_model.Commands.{partitions_of}
 use Rattle.mt_plain.proofs.partitions.partitions_of.Given as goal
 
 abbrev pub invariant-loop-row : goal.invariant-loop-row

@@ -1,6 +1,6 @@
 -- the rows so far
 use Rattle.std.proofs.Common.{◌≡◌, take}
-use Rattle.mt_model.specs.Commands.{rows_in}
+use Rattle.part_history.specs.mt_model.Commands.{rows_in}
 use Rattle.mt_plain.proofs.partitions.rows_in.Given as goal
 
 abbrev pub invariant-loop-row : goal.invariant-loop-row

@@ -1,7 +1,7 @@
 use Rattle.std.proofs.Common.{◌≡◌, ◌+◌, List, drop, sym, ap, subst, ◌∙◌}
 use Rattle.std.proofs.lemmas.List.{at_drop_all, at_drop_more}
 use Rattle.mt_values.specs.declared.command.Entry.{Entry}
-use Rattle.mt_model.specs.Explain.{Portion, PortionsStand}
+use Rattle.part_history.specs.mt_model.Explain.{Portion, PortionsStand}
 use Rattle.mt_plain.specs.Portions.{portions_after, portions_from, unmerged}
 use Rattle.mt_plain.proofs.Standing.{unmerged_stand}
 use Rattle.mt_plain.proofs.portions.portions_of.Goals as goal

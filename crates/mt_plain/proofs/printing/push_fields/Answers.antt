@@ -1,7 +1,7 @@
 use Rattle.std.proofs.Common.{◌∙◌, ℕ, List, ◌++◌, ◌∷◌, take, ap, sym, append_assoc}
 use Rattle.mt_values.specs.declared.value.Value.{Value}
 use Rattle.mt_values.specs.Printing.{field, fields}
-use Rattle.mt_model.proofs.Lists.{fields_more}
+use Rattle.part_history.proofs.MtModelLists.{fields_more}
 use Rattle.mt_plain.proofs.printing.push_fields.Goals as goal
 
 pub loop-value-preserved : goal.loop-value-preserved

@@ -1,6 +1,6 @@
 use Rattle.std.proofs.Common.{◌∙◌, ℕ, List, ◌++◌, take, get_or, ap, sym, append_assoc}
 use Rattle.std.specs.List.{concat}
-use Rattle.mt_model.proofs.Lists.{concat_more}
+use Rattle.part_history.proofs.MtModelLists.{concat_more}
 use Rattle.mt_plain.proofs.replies.push_lines.Goals as goal
 
 pub loop-line-preserved : goal.loop-line-preserved

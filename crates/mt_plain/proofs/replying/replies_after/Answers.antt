@@ -1,7 +1,7 @@
 use Rattle.std.proofs.Common.{◌≡◌, List, ℕ, length, sym, subst, ◌∷◌, []}
 use Rattle.mt_values.specs.declared.statement.Statement.TheVariants as statement
-use Rattle.mt_model.specs.History.{History}
-use Rattle.mt_model.specs.Session.{TakesStatement}
+use Rattle.part_history.specs.mt_model.History.{History}
+use Rattle.part_history.specs.mt_model.Session.{TakesStatement}
 use Rattle.mt_plain.specs.Outcomes.{AreExactly}
 use Rattle.mt_plain.specs.Plain.{calm}
 use Rattle.mt_plain.proofs.AllReplies.{select_all, select_each, step_all}

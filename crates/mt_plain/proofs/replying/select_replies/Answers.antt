@@ -1,7 +1,7 @@
 use Rattle.std.proofs.Common.{◌≡◌, List, ℕ, None, ap, sym, ◌∙◌, ◌∷◌, []}
-use Rattle.mt_model.specs.declared.refusal.Refusal.TheVariants as refusal
-use Rattle.mt_model.specs.History.{schema_of}
-use Rattle.mt_model.specs.Refusals.{refusal_line}
+use Rattle.part_history.specs.mt_model.declared.refusal.Refusal.TheVariants as refusal
+use Rattle.part_history.specs.mt_model.History.{schema_of}
+use Rattle.part_history.specs.mt_model.Refusals.{refusal_line}
 use Rattle.mt_plain.proofs.Answering.{answered_exactly, no_table_only, refused_only}
 use Rattle.mt_plain.proofs.Steps.{when_ok}
 use Rattle.mt_plain.proofs.replying.select_replies.Goals as goal

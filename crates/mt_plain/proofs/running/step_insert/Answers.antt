@@ -1,7 +1,7 @@
 use Rattle.std.proofs.Common.{◌≡◌, Ok, subst}
 use Rattle.mt_values.specs.declared.statement.Statement.TheVariants as statement
-use Rattle.mt_model.specs.Commands.{commands_of}
-use Rattle.mt_model.specs.History.{History}
+use Rattle.part_history.specs.mt_model.Commands.{commands_of}
+use Rattle.part_history.specs.mt_model.History.{History}
 use Rattle.mt_plain.specs.Plain.{TookTurns}
 use Rattle.mt_plain.proofs.Steps.{commands_take, when_ok}
 use Rattle.mt_plain.proofs.running.step_insert.Goals as goal

@@ -1,8 +1,8 @@
 use Rattle.std.proofs.Common.{◌≡◌, List, ℕ, None, length, ap, sym, ◌∙◌}
-use Rattle.mt_model.specs.declared.refusal.Refusal.TheVariants as refusal
-use Rattle.mt_model.specs.History.{schema_of}
-use Rattle.mt_model.specs.Refusals.{refusal_line}
-use Rattle.mt_model.specs.Reply.{ok_line}
+use Rattle.part_history.specs.mt_model.declared.refusal.Refusal.TheVariants as refusal
+use Rattle.part_history.specs.mt_model.History.{schema_of}
+use Rattle.part_history.specs.mt_model.Refusals.{refusal_line}
+use Rattle.part_history.specs.mt_model.Reply.{ok_line}
 use Rattle.mt_plain.proofs.Steps.{when_ok, no_table_optimized, optimized}
 use Rattle.mt_plain.proofs.running.step_optimize.Goals as goal
 

@@ -1,6 +1,6 @@
 use Rattle.std.proofs.Common.{◌≡◌, List, Ok, ap, length, map, refl, sym, ◌∙◌}
 use Rattle.mt_values.specs.declared.schema.Column.{Column}
-use Rattle.mt_model.specs.Queries.{query_of}
+use Rattle.part_history.specs.mt_model.Queries.{query_of}
 use Rattle.mt_plain.specs.Lefts.{reply_of}
 use Rattle.mt_plain.proofs.Answering.{answers_exactly}
 use Rattle.mt_plain.proofs.selecting.answers.Goals as goal

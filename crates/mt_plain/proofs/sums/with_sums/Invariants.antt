@@ -1,6 +1,6 @@
 -- the values so far, and those of the rest of the row
 use Rattle.std.proofs.Common.{◌≡◌, ◌++◌, drop}
-use Rattle.mt_model.specs.Rules.{with_sums, with_sums_from}
+use Rattle.part_history.specs.mt_model.Rules.{with_sums, with_sums_from}
 use Rattle.mt_plain.proofs.sums.with_sums.Given as goal
 
 abbrev pub invariant-loop-place : goal.invariant-loop-place

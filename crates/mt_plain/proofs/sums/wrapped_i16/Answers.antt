@@ -1,7 +1,7 @@
 use Rattle.std.proofs.Common.{ap, ◌∙◌, ℤ, w16}
 use Rattle.std.proofs.lemmas.Int.{to_z-of_z}
 use Rattle.std.specs.Int.{cast_signed, int_wrap}
-use Rattle.mt_model.specs.Rules.{low_bits}
+use Rattle.part_history.specs.mt_model.Rules.{low_bits}
 use Rattle.mt_plain.proofs.Summing.{signed_low}
 use Rattle.mt_plain.proofs.sums.wrapped_i16.Goals as goal
 

@@ -1,6 +1,6 @@
 -- as many tables as the entries so far made, and no more than there were entries
 use Rattle.std.proofs.Common.{◌≡◌, ◌+◌, ◌≤◌, drop}
-use Rattle.mt_model.specs.History.{creates}
+use Rattle.part_history.specs.mt_model.History.{creates}
 use Rattle.mt_plain.proofs.tables.creates.Given as goal
 
 abbrev pub invariant-loop-entry : goal.invariant-loop-entry

@@ -1,6 +1,6 @@
 -- as many numbers as the entries so far drew, and no more than there were entries
 use Rattle.std.proofs.Common.{◌≡◌, ◌+◌, ◌≤◌, drop}
-use Rattle.mt_model.specs.Numbers.{last_number}
+use Rattle.part_history.specs.mt_model.Numbers.{last_number}
 use Rattle.mt_plain.proofs.tables.last_number.Given as goal
 
 abbrev pub invariant-loop-entry : goal.invariant-loop-entry

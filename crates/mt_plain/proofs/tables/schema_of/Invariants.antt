@@ -1,6 +1,6 @@
 -- what is left of the entries decides
 use Rattle.std.proofs.Common.{◌≡◌, drop}
-use Rattle.mt_model.specs.History.{schema_of}
+use Rattle.part_history.specs.mt_model.History.{schema_of}
 use Rattle.mt_plain.proofs.tables.schema_of.Given as goal
 
 abbrev pub invariant-loop-entry : goal.invariant-loop-entry

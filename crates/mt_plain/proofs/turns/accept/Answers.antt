@@ -1,6 +1,6 @@
 use Rattle.std.proofs.Common.{◌≡◌, None, ap, length, sym, ◌∙◌, arith}
 use Rattle.std.specs.Vec.Iter.{into_iter_items}
-use Rattle.mt_model.specs.History.{History}
+use Rattle.part_history.specs.mt_model.History.{History}
 use Rattle.mt_plain.specs.Plain.{after_turns, unmerged_turn}
 use Rattle.mt_plain.proofs.Turning.{grows_one, turn_taken}
 use Rattle.mt_plain.proofs.turns.accept.Goals as goal

@@ -1,6 +1,6 @@
 use Rattle.std.proofs.Common.{◌∙◌, ◌∷◌, ◌++◌, [], refl, sym, subst, ap, arith, ◌+◌, drop}
 use Rattle.mt_values.specs.Script.{statements_of}
-use Rattle.root_store.specs.Crashes.{Storage}
+use Rattle.root_log.specs.root_store.Crashes.{Storage}
 use Rattle.mt_program.proofs.ServedScripts.{follows, served_none, served_all, served_so_far, served_unanswered, served_more, served_cut, turned, no_statement, nothing_left, one_statement, is_written, Found, Used, used_within}
 use Rattle.mt_program.proofs.Gaining.{gained_one, stepped_answered, stepped_unanswered}
 use Rattle.mt_program.proofs.Crashing.{goes_further, left_behind, one_more, stays_open}

@@ -2,16 +2,16 @@
 use Rattle.std.proofs.Common.{◌≡◌, ◌++◌, [], List, ◌≤◌, ◌-◌, ℕ, true, false, drop, length}
 use Rattle.mt_values.specs.Annals.{Told}
 use Rattle.mt_values.specs.Script.{statements_of}
-use Rattle.replies.specs.Foreseen.{history}
+use Rattle.session.specs.replies.Foreseen.{history}
 use Rattle.session.specs.Answers.{Knows}
-use Rattle.shared_store.specs.Engines.{GoesOn}
+use Rattle.session.specs.shared_store.Engines.{GoesOn}
 use Rattle.mt_program.specs.Courses.{Item}
 use Rattle.mt_program.specs.Serving.{Output, Progress, Served}
 use Rattle.mt_program.specs.Crashes.{IsGainedBy}
 use Rattle.mt_program.proofs.ServedScripts.{turned}
-use Rattle.root_store.specs.Crashes.{KeepsThroughCrashes}
-use Rattle.root_store.specs.Shown.{HasNoMark}
-use Rattle.root_store.specs.Soundness.{HasSoundParts, RootStands}
+use Rattle.root_log.specs.root_store.Crashes.{KeepsThroughCrashes}
+use Rattle.root_log.specs.root_store.Shown.{HasNoMark}
+use Rattle.root_log.specs.root_store.Soundness.{HasSoundParts, RootStands}
 use Rattle.mt_program.proofs.serving.serve.Given as goal
 
 abbrev pub invariant-statements : goal.invariant-statements

@@ -3,20 +3,20 @@ use Rattle.std.specs.Prelude.{is_some}
 use Rattle.std.proofs.lemmas.Bool.Decides.{nat_tests}
 use Rattle.mt_outside.specs.Causes.{Rose}
 use Rattle.mt_outside.specs.Disk as root
-use Rattle.mt_model.specs.Outside.{Outside}
-use Rattle.replies.specs.Foreseen.{history}
+use Rattle.session.specs.mt_model.Outside.{Outside}
+use Rattle.session.specs.replies.Foreseen.{history}
 use Rattle.mt_program.specs.Damage.{WritesDamage, damage_line}
 use Rattle.mt_program.specs.Endings.{IsAnswered}
 use Rattle.mt_program.specs.Headline.{NothingRan}
 use Rattle.mt_program.specs.Serving.{MayComeTo}
 use Rattle.mt_program.specs.Worlds.{world}
-use Rattle.root_commits.specs.Turns.{storage}
+use Rattle.root_log.specs.root_commits.Turns.{storage}
 use Rattle.mt_program.proofs.Reopened.{stretch}
 use Rattle.mt_program.specs.declared.status.Status.{Status}
 use Rattle.mt_program.specs.declared.status.Status.TheVariants as status
-use Rattle.replies.proofs.Counting.{risen_back, some_rose}
-use Rattle.root_store.specs.Crashes.{AllStand}
-use Rattle.root_store.proofs.CrashMarks.{safe_opened}
+use Rattle.session.proofs.RepliesCounting.{risen_back, some_rose}
+use Rattle.root_log.specs.root_store.Crashes.{AllStand}
+use Rattle.root_log.proofs.RootStoreCrashMarks.{safe_opened}
 use Rattle.mt_program.specs.Crashes.{LeavesOfScript}
 use Rattle.mt_program.proofs.Crashing.{left_moved, nothing_of_script}
 use Rattle.mt_program.proofs.Heading.{answered_calm, answered_served, by_status, disk_fault, early_not_told, early_same, ended_early, failed_is, leaves_all, none_answered, none_ran, not_damaged, not_words, output_of, read_fault, root_told, told_fault, too_long, unopened_early, unopened_undamaged, write_fault}

@@ -1,15 +1,15 @@
 use Rattle.std.proofs.Common.{◌∙◌, ◌+◌, ℕ, false, ap, arith, subst, refl, sym, inl, inr}
 use Rattle.mt_outside.specs.Disk.{names_of}
-use Rattle.replies.specs.Foreseen.{history}
-use Rattle.root_commits.specs.Turns.{storage}
-use Rattle.root_store.specs.Crashes.{IsCrashSafe, Storage, none_begun}
-use Rattle.root_store.specs.Shown.{HasNoMark}
-use Rattle.root_store.proofs.CrashMarks.{safe_at_start, stands_as_read}
+use Rattle.session.specs.replies.Foreseen.{history}
+use Rattle.root_log.specs.root_commits.Turns.{storage}
+use Rattle.root_log.specs.root_store.Crashes.{IsCrashSafe, Storage, none_begun}
+use Rattle.root_log.specs.root_store.Shown.{HasNoMark}
+use Rattle.root_log.proofs.RootStoreCrashMarks.{safe_at_start, stands_as_read}
 use Rattle.mt_program.specs.Serving.{Output}
 use Rattle.mt_program.proofs.Crashing.{keeps_opened, nothing_of_script}
 use Rattle.mt_program.proofs.Gaining.{gained_nothing}
 use Rattle.mt_program.proofs.Heading.{root_told, writes_damage, writes_nothing}
-use Rattle.shared_store.specs.Levels.{has_greatest}
+use Rattle.session.specs.shared_store.Levels.{has_greatest}
 use Rattle.mt_program.proofs.Reopened.{gained_root, greatest_reopened, images_reopened, images_settled, keeps_root, knows_root, left_as, names_reopened, reopened, script_as, shown_reopened, shows_full, sound_reopened, sound_root, stands_reopened, stands_root}
 use Rattle.mt_program.proofs.Undamaged.{not_opened}
 use Rattle.mt_program.proofs.top.run_root.Goals as goal

@@ -2,8 +2,8 @@ use Rattle.std.proofs.Common.{◌≡◌, ◌∙◌, ℕ, Option, Some, None, ari
 use Rattle.mt_base.specs.declared.name.FileId.TheVariants as file
 use Rattle.mt_outside.specs.Files.{Files}
 use Rattle.mt_values.specs.Values.{Row}
-use Rattle.part_writer.specs.PartFiles.{content_ids}
-use Rattle.part_writer.proofs.Contents.{content_known, content_length, content_there}
+use Rattle.part_damage.specs.part_writer.PartFiles.{content_ids}
+use Rattle.part_damage.proofs.PartWriterContents.{content_known, content_length, content_there}
 use Rattle.part_reader.specs.declared.reading.PartFault.TheVariants.{Fault}
 use Rattle.part_reader.specs.Compared.{IsFirstFailing}
 use Rattle.part_reader.specs.Damage.{ExplainsCheck, Tells}

@@ -3,8 +3,8 @@ use Rattle.std.proofs.lemmas.Bool.{false≢true}
 use Rattle.mt_values.specs.Cells.{value_of}
 use Rattle.mt_values.specs.Grid.{column_of}
 use Rattle.mt_values.specs.declared.value.Value.{Value}
-use Rattle.primary_marks.proofs.KeyRows.{within_width}
-use Rattle.primary_marks.proofs.Wanted.{wanted_is}
+use Rattle.part_damage.proofs.PrimaryMarksKeyRows.{within_width}
+use Rattle.part_damage.proofs.PrimaryMarksWanted.{wanted_is}
 use Rattle.part_reader.proofs.KeptColumns.{alike_all, alike_more, decided_empty, length_kept, none_column, value_kept}
 use Rattle.part_reader.proofs.comparing.is_column.Goals as goal
 

@@ -1,7 +1,7 @@
 use Rattle.std.proofs.Common.{◌∙◌, ap, arith, sym}
 use Rattle.mt_values.specs.Cells.{value_of}
 use Rattle.mt_values.specs.Grid.{Cells}
-use Rattle.byte_numbers.proofs.Numbers.{are_bytes}
+use Rattle.part_damage.proofs.ByteNumbersNumbers.{are_bytes}
 use Rattle.part_reader.proofs.NumberMarks.{numbers_spelled, started_finished, started_more, started_none, starts_below, value_there}
 use Rattle.part_reader.proofs.comparing.marks_of_numbers.Goals as goal
 

@@ -1,6 +1,6 @@
 -- the granules gone over begin where those of the numbers do, and with their values
 use Rattle.std.proofs.Common.{◌≡◌, List}
-use Rattle.column_file.specs.Spellings.{IsSpelling}
+use Rattle.part_damage.specs.column_file.Spellings.{IsSpelling}
 use Rattle.mt_values.specs.declared.value.Value.{Value}
 use Rattle.part_reader.proofs.NumberMarks.{AreStarted}
 use Rattle.part_reader.proofs.comparing.marks_of_numbers.Given as goal

@@ -2,8 +2,8 @@ use Rattle.std.proofs.Common.{◌≡◌, ◌<◌, length, get_or, refl, sym, ap,
 use Rattle.std.proofs.lemmas.List.{get_or_default}
 use Rattle.std.proofs.lemmas.Option.{slice_get-get_or, slice_get_read}
 use Rattle.mt_values.specs.Grid.{Cells}
-use Rattle.column_file.specs.Marks.{granules}
-use Rattle.part_writer.specs.declared.loaded.Loaded.{Loaded}
+use Rattle.part_damage.specs.column_file.Marks.{granules}
+use Rattle.part_damage.specs.part_writer.declared.loaded.Loaded.{Loaded}
 use Rattle.part_reader.specs.Faults.{ExplainsEach, IsNoDamage}
 use Rattle.part_reader.specs.Granules.{ExplainsChosen, GainsChosen, column_in}
 use Rattle.part_reader.proofs.ChosenColumns.{chosen_even, chosen_rows, chosen_sound, chosen_types}

@@ -4,7 +4,7 @@ use Rattle.mt_values.specs.declared.schema.Column.{Column}
 use Rattle.mt_values.specs.Grid.{Cells, Grid, rows_of}
 use Rattle.mt_values.specs.Schemas.{column_types}
 use Rattle.mt_values.proofs.Grids.{length-rows_of}
-use Rattle.part_writer.specs.declared.loaded.Loaded.{Loaded}
+use Rattle.part_damage.specs.part_writer.declared.loaded.Loaded.{Loaded}
 use Rattle.part_reader.specs.Faults.{ExplainsAt, IsNoDamage}
 use Rattle.part_reader.specs.Granules.{ExplainsChosen, column_in}
 use Rattle.part_reader.proofs.CutRows.{empty_even, explained_at, lent_back, rows_cut}

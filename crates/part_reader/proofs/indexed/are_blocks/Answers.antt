@@ -2,7 +2,7 @@ use Rattle.std.proofs.Common.{◌+◌, ◌<◌, ◌≤◌, ◌∙◌, Some, ap, 
 use Rattle.std.specs.Int.{div_ceil}
 use Rattle.std.proofs.lemmas.Bool.{false≢true}
 use Rattle.std.proofs.lemmas.Option.{slice_get_read}
-use Rattle.column_file.specs.Faults.{Explains}
+use Rattle.part_damage.specs.column_file.Faults.{Explains}
 use Rattle.part_reader.proofs.Gaining.{handed_on}
 use Rattle.part_reader.proofs.IndexedBlocks.{all_alike, block_is, block_read, ends_within, never, none_read, other_block, other_length, room}
 use Rattle.part_reader.proofs.indexed.are_blocks.Goals as goal

@@ -1,8 +1,8 @@
 use Rattle.std.proofs.Common.{◌≡◌, ◌<◌, ◌↔◌, ◌∙◌, All, ap, length, subst, sym, true}
 use Rattle.std.specs.List.{range_with_len}
 use Rattle.mt_values.proofs.Grids.{All-range}
-use Rattle.predicate.specs.declared.extent.Known.{Known}
-use Rattle.skip_index.specs.Blocks.{kept_of}
+use Rattle.part_damage.specs.predicate.declared.extent.Known.{Known}
+use Rattle.part_damage.specs.skip_index.Blocks.{kept_of}
 use Rattle.part_reader.proofs.IndexedBlocks.{all_values}
 use Rattle.part_reader.proofs.indexed.is_block.Goals as goal
 

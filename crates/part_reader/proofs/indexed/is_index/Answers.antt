@@ -2,8 +2,8 @@ use Rattle.std.proofs.Common.{◌≡◌, ◌<◌, ◌↔◌, ◌∙◌, List, So
 use Rattle.std.proofs.lemmas.Option.{get_or_from_slice_get, slice_get-get_or, slice_get_past}
 use Rattle.std.proofs.lemmas.Result.{IfOk-weaker}
 use Rattle.mt_values.specs.declared.schema.SkipIndex.{SkipIndex}
-use Rattle.skip_index.specs.declared.index.Index.{Index}
-use Rattle.skip_index.specs.Blocks.{no_index}
+use Rattle.part_damage.specs.skip_index.declared.index.Index.{Index}
+use Rattle.part_damage.specs.skip_index.Blocks.{no_index}
 use Rattle.part_reader.specs.Compared.{HasIndexOf, index_kept}
 use Rattle.part_reader.proofs.IndexedBlocks.{asked_index, none_kept, other_column, placed_index}
 use Rattle.part_reader.proofs.indexed.is_index.Goals as goal

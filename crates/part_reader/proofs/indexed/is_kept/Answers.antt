@@ -2,7 +2,7 @@ use Rattle.std.proofs.Common.{◌≡◌, ◌*◌, ◌↔◌, ◌∙◌, ap, sym,
 use Rattle.std.specs.Int.{div_ceil}
 use Rattle.std.proofs.lemmas.Bool.{false≢true}
 use Rattle.std.proofs.lemmas.Result.{IfOk-weaker}
-use Rattle.skip_index.proofs.Built.{positive}
+use Rattle.part_damage.proofs.SkipIndexBuilt.{positive}
 use Rattle.part_reader.specs.Compared.{index_kept}
 use Rattle.part_reader.proofs.IndexedBlocks.{by_blocks, kept_shape, never, wanted}
 use Rattle.part_reader.proofs.indexed.is_kept.Goals as goal

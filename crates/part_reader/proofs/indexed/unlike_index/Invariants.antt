@@ -1,7 +1,7 @@
 -- the skip indexes gone over are those of the values
 use Rattle.std.proofs.Common.{ℕ, ◌<◌, List}
 use Rattle.mt_values.specs.declared.value.Value.{Value}
-use Rattle.column_file.specs.Spellings.{IsSpelling}
+use Rattle.part_damage.specs.column_file.Spellings.{IsSpelling}
 use Rattle.part_reader.specs.Compared.{HasIndexOf}
 use Rattle.part_reader.proofs.indexed.unlike_index.Given as goal
 

@@ -2,7 +2,7 @@ use Rattle.std.proofs.Common.{◌∙◌, ap, arith, length, sym}
 use Rattle.std.proofs.lemmas.List.{length_push}
 use Rattle.mt_values.specs.Cells.{value_of}
 use Rattle.mt_values.specs.Grid.{Cells}
-use Rattle.column_file.specs.Faults.{Explains}
+use Rattle.part_damage.specs.column_file.Faults.{Explains}
 use Rattle.part_reader.proofs.Damages.{error_handed_on}
 use Rattle.part_reader.proofs.IndexedBlocks.{ends_more, ends_none, ends_stuck, step_within}
 use Rattle.part_reader.proofs.indexed.values_from.Goals as goal

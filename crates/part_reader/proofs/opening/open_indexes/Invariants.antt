@@ -1,8 +1,8 @@
 -- the files gone over were read, and what they say is kept
 use Rattle.std.proofs.Common.{◌≡◌, ℕ, Some, length, slice_get, take}
 use Rattle.mt_base.specs.declared.name.FileId.TheVariants as file
-use Rattle.part_writer.specs.PartFiles.{skip_ids}
-use Rattle.skip_index.specs.declared.index.Index.{Index}
+use Rattle.part_damage.specs.part_writer.PartFiles.{skip_ids}
+use Rattle.part_damage.specs.skip_index.declared.index.Index.{Index}
 use Rattle.part_damage.specs.Sound.{AreBlocksUnder, AreReadAs, IsReadAs, IsReadable}
 use Rattle.part_reader.proofs.opening.open_indexes.Given as goal
 

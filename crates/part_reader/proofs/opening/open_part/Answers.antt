@@ -3,11 +3,11 @@ use Rattle.mt_values.specs.declared.manifest.Manifest.{Manifest}
 use Rattle.mt_base.specs.declared.name.FileId.TheVariants as file
 use Rattle.mt_values.specs.declared.schema.Schema.{Schema}
 use Rattle.mt_outside.specs.Files.{Files, bytes_of}
-use Rattle.part_writer.specs.PartFiles.{loaded_of}
-use Rattle.part_writer.specs.declared.loaded.Loaded.{Loaded}
+use Rattle.part_damage.specs.part_writer.PartFiles.{loaded_of}
+use Rattle.part_damage.specs.part_writer.declared.loaded.Loaded.{Loaded}
 use Rattle.part_reader.specs.Damage.{ExplainsOpening, IsOpenedFault, Tells}
 use Rattle.part_reader.specs.declared.reading.PartFault.{PartFault}
-use Rattle.primary_marks.specs.Keys.{HasMarks}
+use Rattle.part_damage.specs.primary_marks.Keys.{HasMarks}
 use Rattle.part_reader.specs.DamagedFile.{damaged_file}
 use Rattle.part_reader.specs.Faults.{IsNoDamage}
 use Rattle.part_damage.specs.Sound.{AreBlocksUnder, AreIndexes, AreKeysUnder, AreMarksUnder, IsLoadedOf, IsManifestFor, IsOpened, IsReadAs}

@@ -5,7 +5,7 @@ use Rattle.mt_values.specs.ColumnBytes.{column_bytes}
 use Rattle.mt_values.specs.declared.schema.Column.{Column}
 use Rattle.mt_values.specs.Grid.{column_of, picked}
 use Rattle.mt_values.specs.Values.{Row}
-use Rattle.column_file.specs.Granules.{marks_of}
+use Rattle.primary_marks.specs.column_file.Granules.{marks_of}
 use Rattle.part_writer.proofs.Filling.{fits_below, picked_typed, rows_fit}
 use Rattle.part_writer.proofs.encoding.encode_columns.Goals as goal
 

@@ -4,7 +4,7 @@ use Rattle.std.specs.List.{range_with_len}
 use Rattle.mt_values.specs.ColumnBytes.{column_bytes}
 use Rattle.mt_values.specs.Grid.{column_of, picked}
 use Rattle.mt_values.specs.Values.{FitsType}
-use Rattle.column_file.specs.Granules.{marks_of}
+use Rattle.primary_marks.specs.column_file.Granules.{marks_of}
 use Rattle.part_writer.proofs.encoding.encode_columns.Given as goal
 
 abbrev pub invariant-loop-column : goal.invariant-loop-column

@@ -1,6 +1,6 @@
 use Rattle.std.proofs.Common.{◌++◌, List, ap, map, ◌∙◌}
 use Rattle.mt_values.specs.Grid.{picked}
-use Rattle.column_file.specs.Marks.{keys_bytes, places_bytes}
+use Rattle.primary_marks.specs.column_file.Marks.{keys_bytes, places_bytes}
 use Rattle.skip_index.specs.declared.index.Index.{Index}
 use Rattle.skip_index.specs.Blocks.{index_bytes}
 use Rattle.part_writer.proofs.Filling.{contents_done}

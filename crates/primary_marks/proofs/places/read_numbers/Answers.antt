@@ -1,6 +1,6 @@
 use Rattle.std.proofs.Common.{◌≡◌, ◌+◌, ◌*◌, ap, sym, ◌∙◌, arith, drop, length, length-append, [], ◌∷◌, subst, List, ℕ}
 use Rattle.std.proofs.lemmas.List.{drop-drop}
-use Rattle.byte_numbers.specs.declared.faults.FormatFault.TheVariants.{Malformed}
+use Rattle.column_file.specs.byte_numbers.declared.faults.FormatFault.TheVariants.{Malformed}
 use Rattle.primary_marks.specs.Places.{ExplainsStarts, IsNextStart, NoStartFollows}
 use Rattle.column_file.proofs.Fronts.{handed}
 use Rattle.primary_marks.proofs.Starts.{AreBegun, begun_more, begun_stuck}

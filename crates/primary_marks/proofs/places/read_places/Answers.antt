@@ -1,5 +1,5 @@
 use Rattle.std.proofs.Common.{◌≡◌, ◌+◌, ◌*◌, ◌≤◌, ◌∷◌, [], ap, sym, ◌∙◌, subst, arith, length, length-append}
-use Rattle.byte_numbers.specs.declared.faults.FormatFault.TheVariants.{Malformed}
+use Rattle.column_file.specs.byte_numbers.declared.faults.FormatFault.TheVariants.{Malformed}
 use Rattle.primary_marks.specs.Places.{ExplainsMarks}
 use Rattle.column_file.proofs.Fronts.{handed, handed_on}
 use Rattle.primary_marks.proofs.Starts.{ArePlaced, marks_refused, one_marks, placed_all, placed_explains, placed_more, placed_past, placed_within}

@@ -2,7 +2,7 @@ use Rattle.std.proofs.Common.{◌≡◌, ◌+◌, ◌<◌, None, List, drop, len
 use Rattle.std.proofs.lemmas.List.{length-map}
 use Rattle.std.specs.Int.{div_ceil}
 use Rattle.mt_values.specs.Grid.{Cells}
-use Rattle.byte_numbers.specs.declared.faults.FormatFault.TheVariants.{Malformed}
+use Rattle.column_file.specs.byte_numbers.declared.faults.FormatFault.TheVariants.{Malformed}
 use Rattle.column_file.specs.Marks.{granules}
 use Rattle.primary_marks.specs.Columns.{GainKey, key_types, wanted_key}
 use Rattle.primary_marks.specs.KeyFaults.{ExplainsKey, ExplainsPrimary}

@@ -9,17 +9,17 @@ use Rattle.mt_values.specs.Grid.{Grid}
 use Rattle.mt_values.specs.RootNames.{part_name}
 use Rattle.mt_outside.specs.Disk.{Told, files_at, names_of}
 use Rattle.mt_outside.specs.Files.{Files}
-use Rattle.mt_model.specs.History.{History}
-use Rattle.part_name.specs.declared.part.PartName.{PartName}
-use Rattle.part_name.specs.PartNames.{part_text}
-use Rattle.part_writer.specs.declared.loaded.Loaded.{Loaded}
-use Rattle.part_reader.specs.declared.reading.Part.{Part}
-use Rattle.part_set.specs.declared.kept.Kept.{Kept}
-use Rattle.part_set.specs.Parts.{IsAdded, NoneMeets}
-use Rattle.part_set.specs.declared.root_name.RootName.TheVariants as root
-use Rattle.part_set.specs.RootNames.{IsRootName}
-use Rattle.part_set.specs.Sets.{parts_of}
-use Rattle.stage_dir.specs.Stages.{Filled}
+use Rattle.root_store.specs.mt_model.History.{History}
+use Rattle.root_store.specs.part_name.declared.part.PartName.{PartName}
+use Rattle.root_store.specs.part_name.PartNames.{part_text}
+use Rattle.root_store.specs.part_writer.declared.loaded.Loaded.{Loaded}
+use Rattle.root_store.specs.part_reader.declared.reading.Part.{Part}
+use Rattle.root_store.specs.part_set.declared.kept.Kept.{Kept}
+use Rattle.root_store.specs.part_set.Parts.{IsAdded, NoneMeets}
+use Rattle.root_store.specs.part_set.declared.root_name.RootName.TheVariants as root
+use Rattle.root_store.specs.part_set.RootNames.{IsRootName}
+use Rattle.root_store.specs.part_set.Sets.{parts_of}
+use Rattle.durable_commit.specs.stage_dir.Stages.{Filled}
 use Rattle.durable_commit.specs.declared.causes.Refused.{Refused}
 use Rattle.durable_commit.specs.declared.causes.Refused.TheVariants as refused
 use Rattle.root_store.specs.declared.store.CoreStore.{CoreStore}

@@ -1,9 +1,9 @@
 use Rattle.std.proofs.Common.{rules, ◌≡◌, ℕ, List, Option, Some, None, Err, refl, sym, ap, ◌∙◌, subst, inl, inr}
 use Rattle.mt_outside.specs.Disk.{MayPut, Told, files_at, names_of, put}
-use Rattle.part_name.specs.declared.part.PartName.{PartName}
+use Rattle.root_store.specs.part_name.declared.part.PartName.{PartName}
 use Rattle.std.specs.List.{All}
-use Rattle.part_set.specs.Runs.{EndsInOrder}
-use Rattle.part_set.specs.Sets.{parts_of}
+use Rattle.root_store.specs.part_set.Runs.{EndsInOrder}
+use Rattle.root_store.specs.part_set.Sets.{parts_of}
 use Rattle.root_store.specs.declared.store.CoreStore.{CoreStore}
 use Rattle.root_store.specs.Soundness.{RootStands}
 use Rattle.durable_commit.specs.Commits.{stopped_by}

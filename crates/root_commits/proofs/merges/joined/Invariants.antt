@@ -1,7 +1,7 @@
 -- the names so far, joined
 use Rattle.std.proofs.Common.{◌≡◌, map, take}
 use Rattle.std.specs.List.{fold}
-use Rattle.part_name.specs.Merged.{joined_name}
+use Rattle.root_store.specs.part_name.Merged.{joined_name}
 use Rattle.root_commits.proofs.merges.joined.Given as goal
 
 abbrev pub invariant-loop-kept : goal.invariant-loop-kept

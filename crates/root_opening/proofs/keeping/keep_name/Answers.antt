@@ -1,9 +1,9 @@
 use Rattle.std.proofs.Common.{List, ℕ, le_refl, refl, take, sym, subst, OnOk}
 use Rattle.std.proofs.lemmas.Result.{IfErr-weaker}
 use Rattle.mt_outside.specs.Disk.{names_of}
-use Rattle.part_set.specs.declared.root_name.RootName.{RootName}
-use Rattle.part_set.specs.declared.root_name.RootName.TheVariants as root
-use Rattle.part_set.specs.Visible.{IsVisible}
+use Rattle.root_store.specs.part_set.declared.root_name.RootName.{RootName}
+use Rattle.root_store.specs.part_set.declared.root_name.RootName.TheVariants as root
+use Rattle.root_store.specs.part_set.Visible.{IsVisible}
 use Rattle.root_store.specs.Damage.{IsDamaged}
 use Rattle.root_opening.specs.Keeping.{Keeps, KeepsTold, TellsFile}
 use Rattle.root_opening.proofs.KeptNames.{one_part, no_table, passed_over, passed_told}

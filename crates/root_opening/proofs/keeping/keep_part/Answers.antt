@@ -1,6 +1,6 @@
 use Rattle.std.proofs.Common.{◌≡◌, ◌≤◌, ◌⊎◌, List, ℕ, subst, sym, rules}
 use Rattle.mt_outside.specs.Disk.{names_of}
-use Rattle.part_set.specs.declared.root_name.RootName.TheVariants as root
+use Rattle.root_store.specs.part_set.declared.root_name.RootName.TheVariants as root
 use Rattle.root_store.specs.Damage.{IsDamaged, PartDamaged}
 use Rattle.root_opening.specs.Keeping.{IsPartRead, TellsFile}
 use Rattle.root_opening.proofs.Checked.{told_weaker}

@@ -1,6 +1,6 @@
 use Rattle.std.proofs.Common.{◌≤◌, List, filter, length, subst}
-use Rattle.part_set.specs.declared.root_name.RootName.{RootName}
-use Rattle.part_set.specs.Visible.{HasNoOrphan, HasNoOverlap}
+use Rattle.root_store.specs.part_set.declared.root_name.RootName.{RootName}
+use Rattle.root_store.specs.part_set.Visible.{HasNoOrphan, HasNoOverlap}
 use Rattle.root_store.specs.Damage.{DamagedAt, is_entry_name, most_tables}
 use Rattle.root_opening.proofs.BadNames.{no_bad_name}
 use Rattle.root_store.proofs.Clear as clear

@@ -1,8 +1,8 @@
 use Rattle.std.proofs.Common.{◌≡◌, ◌≢◌, ◌⊎◌, ◌∙◌, ◌+◌, List, ℕ, [], ap, le_refl, le_trans, refl, sym, subst, inl, rules}
 use Rattle.std.proofs.lemmas.Option.{MatchOption-at_some}
 use Rattle.mt_outside.specs.Disk.{Image, Names, Told, names_of}
-use Rattle.part_set.specs.Visible.{HasNoOrphan}
-use Rattle.part_set.specs.declared.root_name.RootName.{RootName}
+use Rattle.root_store.specs.part_set.Visible.{HasNoOrphan}
+use Rattle.root_store.specs.part_set.declared.root_name.RootName.{RootName}
 use Rattle.root_store.specs.Damage.{DamagedAt}
 use Rattle.root_opening.specs.Names.{IsFirstBadText}
 use Rattle.root_opening.specs.Opening.{IsNotDamaged, TellsDamage}

@@ -1,6 +1,6 @@
 use Rattle.std.proofs.Common.{List, ℕ, sym, subst}
-use Rattle.part_set.specs.declared.root_name.RootName.{RootName}
-use Rattle.part_set.specs.Clashes.{IsFault}
+use Rattle.root_store.specs.part_set.declared.root_name.RootName.{RootName}
+use Rattle.root_store.specs.part_set.Clashes.{IsFault}
 use Rattle.root_opening.specs.Keeping.{IsDamageOfSet}
 use Rattle.root_opening.specs.Names.{AreNamesOf, IsFirstBadText}
 use Rattle.root_opening.proofs.Opened.{set_told}

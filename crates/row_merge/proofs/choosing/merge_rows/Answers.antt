@@ -5,7 +5,7 @@ use Rattle.mt_values.specs.Engines.{sign_place}
 use Rattle.mt_values.specs.Schemas.{column_types}
 use Rattle.mt_values.specs.Tables.{has_sign, sorting_columns}
 use Rattle.mt_values.specs.Values.{types_of}
-use Rattle.mt_model.specs.Rules.{HasSign, Run, is_one_of}
+use Rattle.part_history.specs.mt_model.Rules.{HasSign, Run, is_one_of}
 use Rattle.row_merge.specs.Merged.{inputs_of}
 use Rattle.row_merge.proofs.TableMerges.{merged_by}
 use Rattle.row_merge.proofs.TableRules.{any_row, each_row, functions_fit, functions_kept, parts_signed, run_as, run_of, sign_is, signed_all, sums_kept}

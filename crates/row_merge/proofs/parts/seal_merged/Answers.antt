@@ -3,7 +3,7 @@ use Rattle.std.specs.List.{range_with_len}
 use Rattle.mt_values.specs.Grid.{AreRowsOf}
 use Rattle.mt_values.specs.Schemas.{column_types}
 use Rattle.mt_values.specs.Values.{Row}
-use Rattle.part_writer.proofs.Contents.{content_length}
+use Rattle.part_reader.proofs.PartWriterContents.{content_length}
 use Rattle.row_merge.specs.Merged.{inputs_of}
 use Rattle.row_merge.proofs.SealedMerges.{grid, order_within, sealed_merge, sealed_part}
 use Rattle.row_merge.proofs.parts.seal_merged.Goals as goal

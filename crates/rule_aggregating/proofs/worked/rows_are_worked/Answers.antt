@@ -6,7 +6,7 @@ use Rattle.mt_values.specs.declared.value.Value.{Value}
 use Rattle.mt_values.specs.declared.value.Value.TheVariants.{Text, UInt8}
 use Rattle.mt_values.specs.Order.{value_cmp}
 use Rattle.mt_values.specs.Values.{Row}
-use Rattle.mt_model.specs.Rules.{IsAggregateOf}
+use Rattle.rule_law.specs.mt_model.Rules.{IsAggregateOf}
 use Rattle.rule_aggregating.proofs.worked.rows_are_worked.Goals as goal
 
 passed : Value → Value → Bool

@@ -1,6 +1,6 @@
 use Rattle.std.proofs.Common.{ℕ, [], sym, ◌∙◌, arith}
 use Rattle.mt_values.specs.declared.value.Value.{Value}
-use Rattle.mt_model.specs.Rules.{is_one_of, summed}
+use Rattle.rule_law.specs.mt_model.Rules.{is_one_of, summed}
 use Rattle.rule_summing.specs.Summed.{changed_from}
 use Rattle.rule_summing.proofs.Adding.{changed_all, sums_changed}
 use Rattle.rule_summing.proofs.sums.clear_row.Goals as goal

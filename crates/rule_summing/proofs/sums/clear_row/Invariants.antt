@@ -1,5 +1,5 @@
 use Rattle.std.proofs.Common.{◌≡◌, ◌++◌, [], take, drop}
-use Rattle.mt_model.specs.Rules.{is_one_of, summed}
+use Rattle.rule_law.specs.mt_model.Rules.{is_one_of, summed}
 use Rattle.rule_summing.specs.Summed.{changed_from}
 use Rattle.rule_summing.proofs.sums.clear_row.Given as goal
 

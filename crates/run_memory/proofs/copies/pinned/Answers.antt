@@ -1,11 +1,11 @@
 use Rattle.std.proofs.Common.{◌≡◌, List, [], subst, sym}
 use Rattle.std.proofs.lemmas.List.Elements.{All-nil}
-use Rattle.part_history.specs.declared.part.CorePart.{CorePart}
-use Rattle.part_name.specs.PartNames.{Meet}
-use Rattle.part_name.specs.declared.part.PartName.{PartName}
-use Rattle.part_set.specs.declared.kept.Kept.{Kept}
-use Rattle.part_set.specs.Parts.{NoneMeets}
-use Rattle.part_set.specs.Sets.{parts_of}
+use Rattle.table_core.specs.part_history.declared.part.CorePart.{CorePart}
+use Rattle.table_core.specs.part_name.PartNames.{Meet}
+use Rattle.table_core.specs.part_name.declared.part.PartName.{PartName}
+use Rattle.row_merge.specs.part_set.declared.kept.Kept.{Kept}
+use Rattle.row_merge.specs.part_set.Parts.{NoneMeets}
+use Rattle.row_merge.specs.part_set.Sets.{parts_of}
 use Rattle.run_memory.proofs.copies.pinned.Goals as goal
 
 -- among no parts none meets a part

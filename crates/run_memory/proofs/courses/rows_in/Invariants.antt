@@ -1,6 +1,6 @@
 -- the rows of the parts so far
 use Rattle.std.proofs.Common.{◌≡◌, take}
-use Rattle.part_history.specs.Parts.{parts_in}
+use Rattle.table_core.specs.part_history.Parts.{parts_in}
 use Rattle.row_merge.specs.Merged.{inputs_of}
 use Rattle.run_memory.specs.Putting.{rows_of_each}
 use Rattle.run_memory.proofs.courses.rows_in.Given as goal

@@ -1,7 +1,7 @@
 -- the fewest answers so far
 use Rattle.std.proofs.Common.{◌≡◌, ◌-◌, ℕ, length, min, take}
 use Rattle.std.specs.List.{fold}
-use Rattle.skip_index.specs.declared.index.Index.{Index}
+use Rattle.part_reader.specs.skip_index.declared.index.Index.{Index}
 use Rattle.select_plan.proofs.choosing.answers.Given as goal
 
 abbrev pub invariant-loop-index : goal.invariant-loop-index

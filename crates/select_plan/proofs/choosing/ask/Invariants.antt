@@ -1,7 +1,7 @@
 -- the conjuncts gone over
 use Rattle.std.proofs.Common.{◌≡◌, map, take}
-use Rattle.predicate.specs.Granules.{asked_in}
-use Rattle.predicate.specs.Masks.{both}
+use Rattle.mt_model.specs.predicate.Granules.{asked_in}
+use Rattle.mt_model.specs.predicate.Masks.{both}
 use Rattle.select_plan.proofs.choosing.ask.Given as goal
 
 abbrev pub invariant-loop-conjunct : goal.invariant-loop-conjunct

@@ -1,6 +1,6 @@
 use Rattle.std.proofs.Common.{◌∙◌, ◌++◌, ap, sym}
 use Rattle.std.proofs.lemmas.List.{append-nil}
-use Rattle.predicate.proofs.Narrowing.{both_past}
+use Rattle.mt_model.proofs.PredicateNarrowing.{both_past}
 use Rattle.select_plan.proofs.choosing.both.Goals as goal
 
 pub returns-in_default : goal.returns-in_default

@@ -1,6 +1,6 @@
 -- the answers so far, and those that are left
 use Rattle.std.proofs.Common.{◌≡◌, ◌++◌, drop}
-use Rattle.predicate.specs.Masks.{both}
+use Rattle.mt_model.specs.predicate.Masks.{both}
 use Rattle.select_plan.proofs.choosing.both.Given as goal
 
 abbrev pub invariant-loop-place : goal.invariant-loop-place

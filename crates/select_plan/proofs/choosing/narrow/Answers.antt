@@ -1,10 +1,10 @@
 use Rattle.std.proofs.Common.{◌≡◌, ◌∙◌, ◌<◌, [], List, ap, ap₂, arith, get_or, length, map, sym}
 use Rattle.std.specs.List.{fold}
 use Rattle.std.proofs.lemmas.List.{take_all}
-use Rattle.predicate.specs.Masks.{both}
-use Rattle.predicate.proofs.Narrowing.{narrowed_more}
-use Rattle.skip_index.specs.Choosing.{chosen_by}
-use Rattle.skip_index.specs.declared.index.Index.{Index}
+use Rattle.mt_model.specs.predicate.Masks.{both}
+use Rattle.mt_model.proofs.PredicateNarrowing.{narrowed_more}
+use Rattle.part_reader.specs.skip_index.Choosing.{chosen_by}
+use Rattle.part_reader.specs.skip_index.declared.index.Index.{Index}
 use Rattle.select_plan.proofs.choosing.narrow.Goals as goal
 
 pub loop-index-preserved : goal.loop-index-preserved

@@ -1,6 +1,6 @@
 use Rattle.std.proofs.Common.{◌∙◌, ap, replicate}
-use Rattle.predicate.specs.declared.extent.Can.{Can}
-use Rattle.predicate.proofs.Narrowing.{untested}
+use Rattle.mt_model.specs.predicate.declared.extent.Can.{Can}
+use Rattle.mt_model.proofs.PredicateNarrowing.{untested}
 use Rattle.select_plan.proofs.choosing.plan_alike.Goals as goal
 
 pub returns : goal.returns

@@ -1,8 +1,8 @@
 use Rattle.std.proofs.Common.{◌≡◌, [], replicate, rules}
 use Rattle.std.proofs.lemmas.Result.{IfOk-weaker}
 use Rattle.mt_values.specs.Conditions.{tests_of}
-use Rattle.predicate.specs.Boxes.{can}
-use Rattle.predicate.specs.declared.extent.Extent.{Extent}
+use Rattle.mt_model.specs.predicate.Boxes.{can}
+use Rattle.mt_model.specs.predicate.declared.extent.Extent.{Extent}
 use Rattle.select_plan.specs.Plans.{read_of}
 use Rattle.select_plan.proofs.Alike.{no_tests, read_alike}
 use Rattle.select_plan.proofs.choosing.plan_part.Goals as goal

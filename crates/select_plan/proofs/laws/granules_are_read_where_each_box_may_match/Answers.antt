@@ -1,6 +1,6 @@
 use Rattle.std.proofs.Common.{[]}
-use Rattle.skip_index.specs.Choosing.{chosen_by}
-use Rattle.predicate.specs.Granules.{chosen_in}
+use Rattle.part_reader.specs.skip_index.Choosing.{chosen_by}
+use Rattle.mt_model.specs.predicate.Granules.{chosen_in}
 use Rattle.select_plan.proofs.EachBox.{chosen_by_each}
 use Rattle.select_plan.proofs.laws.granules_are_read_where_each_box_may_match.Goals as goal
 

@@ -4,17 +4,17 @@ use Rattle.std.specs.Option.{option_map}
 use Rattle.mt_values.specs.declared.command.Command.TheVariants as command
 use Rattle.mt_values.specs.declared.statement.Statement.TheVariants as statement
 use Rattle.mt_values.specs.Annals.{began}
-use Rattle.mt_model.specs.Commands.{create_commands}
+use Rattle.replies.specs.mt_model.Commands.{create_commands}
 use Rattle.mt_base.specs.Stops.{Refuses}
-use Rattle.mt_model.specs.Reply.{create_turn, ok_line, schema_of_text}
-use Rattle.mt_model.proofs.Causes.{text_is_cause, undamaged_line}
-use Rattle.mt_model.proofs.Tables.{schema_is}
-use Rattle.mt_model.specs.Refusals.{is_damage, refusal_line}
-use Rattle.durable_commit.specs.Commits.{IsOutside, Notes, entry_of}
-use Rattle.root_commits.specs.Commits.{IsCause, refuses_create}
-use Rattle.root_store.specs.Entries.{EntryHolds}
-use Rattle.root_store.specs.Soundness.{RootStands}
-use Rattle.root_store.specs.Stores.{CoreStands}
+use Rattle.replies.specs.mt_model.Reply.{create_turn, ok_line, schema_of_text}
+use Rattle.replies.proofs.MtModelCauses.{text_is_cause, undamaged_line}
+use Rattle.replies.proofs.MtModelTables.{schema_is}
+use Rattle.replies.specs.mt_model.Refusals.{is_damage, refusal_line}
+use Rattle.shared_store.specs.durable_commit.Commits.{IsOutside, Notes, entry_of}
+use Rattle.shared_store.specs.root_commits.Commits.{IsCause, refuses_create}
+use Rattle.shared_store.specs.root_store.Entries.{EntryHolds}
+use Rattle.shared_store.specs.root_store.Soundness.{RootStands}
+use Rattle.shared_store.specs.root_store.Stores.{CoreStands}
 use Rattle.replies.specs.Foreseen.{history}
 use Rattle.session.specs.Answers.{Turned}
 use Rattle.session.specs.Staged.{entry_files}
@@ -22,9 +22,9 @@ use Rattle.session.proofs.Accepting.{answered_nothing, answers_kept, answers_lin
 use Rattle.session.proofs.Creating.{create_gives, created, created_accepts, entry_holds, turn_free}
 use Rattle.replies.proofs.Refusing.{command_failed, command_refused}
 use Rattle.session.proofs.Gaining.{begun_refused, create_failed, keeps_refused, leaves_told, stays_refused, still_created, still_refused}
-use Rattle.root_commits.proofs.SameStores.{stands_same}
-use Rattle.root_commits.proofs.Turning.{AfterRefusal, after_refusal}
-use Rattle.root_commits.specs.Turns.{turn_of_create}
+use Rattle.shared_store.proofs.RootCommitsSameStores.{stands_same}
+use Rattle.shared_store.proofs.RootCommitsTurning.{AfterRefusal, after_refusal}
+use Rattle.shared_store.specs.root_commits.Turns.{turn_of_create}
 use Rattle.session.proofs.Standing.{no_table, tables_made}
 use Rattle.session.specs.Stops.{IsLineOf}
 use Rattle.replies.specs.Lines.{IsLineOfStage}
@@ -35,7 +35,7 @@ use Rattle.replies.proofs.Undamaged.{line_of, stage_line}
 use Rattle.session.proofs.Stopping.{commit_line}
 use Rattle.std.proofs.lemmas.Option.{IfSome_then}
 use Rattle.mt_outside.proofs.Unfailed.{unfailed}
-use Rattle.stage_dir.specs.Stages.{Filled}
+use Rattle.shared_store.specs.stage_dir.Stages.{Filled}
 use Rattle.session.proofs.creates.create.Goals as goal
 
 -- what it says is refused

@@ -3,7 +3,7 @@ use Rattle.mt_base.specs.Stops.{Refuses}
 use Rattle.mt_values.specs.declared.value.ColType.{ColType}
 use Rattle.mt_values.specs.Engines.{sign_place}
 use Rattle.mt_values.specs.Rows.{inserted_rows}
-use Rattle.mt_model.specs.History.{column_types}
+use Rattle.replies.specs.mt_model.History.{column_types}
 use Rattle.session.proofs.data.read_block.Goals as goal
 
 pub returns-clause-rows : goal.returns-clause-rows

@@ -2,17 +2,17 @@ use Rattle.std.proofs.lemmas.Result.{IfOk-weaker}
 use Rattle.std.proofs.Common.{◌≡◌, ◌∙◌, List, Ok, length, map, sym, ap, subst, arith}
 use Rattle.mt_base.specs.Stops.{Refuses}
 use Rattle.mt_values.specs.declared.schema.Column.{Column}
-use Rattle.mt_model.specs.Explain.{Portion, counts_of, explain_line}
-use Rattle.mt_model.specs.Queries.{query_of}
-use Rattle.mt_model.proofs.Causes.{query_is_cause, undamaged_line}
-use Rattle.part_history.proofs.Portions.{portions_stand}
-use Rattle.part_history.specs.Parts.{portion_of}
+use Rattle.replies.specs.mt_model.Explain.{Portion, counts_of, explain_line}
+use Rattle.replies.specs.mt_model.Queries.{query_of}
+use Rattle.replies.proofs.MtModelCauses.{query_is_cause, undamaged_line}
+use Rattle.final_fold.proofs.PartHistoryPortions.{portions_stand}
+use Rattle.final_fold.specs.part_history.Parts.{portion_of}
 use Rattle.replies.proofs.Causing.{says_script}
 use Rattle.replies.proofs.Ends.{length_history}
 use Rattle.replies.proofs.Refusing.{explain_refused, explains_all}
 use Rattle.replies.proofs.Undamaged.{line_of}
 use Rattle.replies.specs.Foreseen.{history}
-use Rattle.root_store.specs.Stores.{core_parts}
+use Rattle.shared_store.specs.root_store.Stores.{core_parts}
 use Rattle.select_plan.specs.Plans.{counts_over}
 use Rattle.session.proofs.Accepting.{refused_as}
 use Rattle.session.proofs.Asking.{query_is}

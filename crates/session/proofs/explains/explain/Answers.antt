@@ -1,7 +1,7 @@
 use Rattle.std.proofs.lemmas.Result.{IfOk-weaker}
 use Rattle.std.proofs.Common.{sym, subst}
-use Rattle.mt_model.specs.declared.refusal.Refusal.TheVariants as refusal
-use Rattle.mt_model.specs.History.{IsTableSchema}
+use Rattle.replies.specs.mt_model.declared.refusal.Refusal.TheVariants as refusal
+use Rattle.replies.specs.mt_model.History.{IsTableSchema}
 use Rattle.replies.specs.Foreseen.{history}
 use Rattle.replies.proofs.Refusing.{explain_refused}
 use Rattle.session.proofs.Asking.{no_query}

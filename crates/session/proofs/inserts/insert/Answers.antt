@@ -9,12 +9,12 @@ use Rattle.mt_values.specs.declared.statement.Statement.TheVariants as statement
 use Rattle.mt_values.specs.Engines.{sign_place}
 use Rattle.mt_values.specs.Rows.{inserted_rows}
 use Rattle.mt_values.specs.Values.{Row}
-use Rattle.mt_model.specs.declared.refusal.Refusal.TheVariants as refusal
-use Rattle.mt_model.specs.History.{IsTableSchema, column_types}
-use Rattle.mt_model.specs.Commands.{commands_for, insert_commands}
-use Rattle.mt_model.specs.Refusals.{is_damage, refusal_line, refusal_of_data}
-use Rattle.mt_model.specs.Reply.{ok_line}
-use Rattle.root_store.specs.Stores.{table_at}
+use Rattle.replies.specs.mt_model.declared.refusal.Refusal.TheVariants as refusal
+use Rattle.replies.specs.mt_model.History.{IsTableSchema, column_types}
+use Rattle.replies.specs.mt_model.Commands.{commands_for, insert_commands}
+use Rattle.replies.specs.mt_model.Refusals.{is_damage, refusal_line, refusal_of_data}
+use Rattle.replies.specs.mt_model.Reply.{ok_line}
+use Rattle.shared_store.specs.root_store.Stores.{table_at}
 use Rattle.replies.specs.Foreseen.{history}
 use Rattle.replies.specs.Lines.{IsLineOfStage}
 use Rattle.replies.proofs.Causing.{says_answer, says_failed, says_script}

@@ -1,11 +1,11 @@
 use Rattle.std.proofs.Common.{◌∙◌, ℕ, Bool, List, IsSome, IfOk, Ok, Err, Some, refl, sym, subst}
 use Rattle.std.proofs.lemmas.Result.{IfOk-weaker}
-use Rattle.part_reader.specs.declared.reading.Part.{Part}
-use Rattle.part_set.specs.declared.kept.Kept.{Kept}
-use Rattle.row_merge.specs.MergedParts.{PartsHold}
+use Rattle.shared_store.specs.part_reader.declared.reading.Part.{Part}
+use Rattle.shared_store.specs.part_set.declared.kept.Kept.{Kept}
+use Rattle.final_fold.specs.row_merge.MergedParts.{PartsHold}
 use Rattle.shared_store.specs.Levels.{any_greatest}
-use Rattle.root_store.proofs.TableIndexes.{has_indexes}
-use Rattle.root_store.proofs.TableMarks.{has_marks}
+use Rattle.shared_store.proofs.RootStoreTableIndexes.{has_indexes}
+use Rattle.shared_store.proofs.RootStoreTableMarks.{has_marks}
 use Rattle.session.specs.Merges.{Merges}
 use Rattle.session.proofs.Lapses.{lapse, merges_err, says_nothing}
 use Rattle.session.proofs.PutEnds.{given_up, none_failed}

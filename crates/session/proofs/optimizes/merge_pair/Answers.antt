@@ -1,10 +1,10 @@
 use Rattle.std.proofs.Common.{◌≡◌, ℕ, Bool, List, false, refl, sym, subst}
 use Rattle.mt_base.specs.declared.partition.Partition.{Partition}
-use Rattle.merge_select.specs.Picks.{InScope}
+use Rattle.shared_store.specs.merge_select.Picks.{InScope}
 use Rattle.shared_store.specs.Engines.{choice_of}
 use Rattle.shared_store.specs.Levels.{any_greatest}
 use Rattle.shared_store.specs.Works.{IsPicked}
-use Rattle.mt_model.specs.History.{IsTableSchema}
+use Rattle.replies.specs.mt_model.History.{IsTableSchema}
 use Rattle.session.specs.Merges.{Merges}
 use Rattle.session.proofs.Lapses.{ended_stays, lapse, merges_ended, merges_stays}
 use Rattle.session.proofs.Putting.{some_of_work}

@@ -1,10 +1,10 @@
 use Rattle.std.proofs.Common.{◌≡◌, ◌∙◌, ℕ, IfNone, List, None, Ok, true, refl, sym, subst}
 use Rattle.mt_base.specs.declared.partition.Partition.{Partition}
-use Rattle.merge_select.specs.Whole.{PicksAll}
-use Rattle.mutation_queue.specs.Queue.{mutations_of}
-use Rattle.part_set.specs.Parts.{kept_in}
-use Rattle.part_set.specs.Sets.{parts_of}
-use Rattle.mt_model.specs.History.{IsTableSchema}
+use Rattle.shared_store.specs.merge_select.Whole.{PicksAll}
+use Rattle.shared_store.specs.mutation_queue.Queue.{mutations_of}
+use Rattle.shared_store.specs.part_set.Parts.{kept_in}
+use Rattle.shared_store.specs.part_set.Sets.{parts_of}
+use Rattle.replies.specs.mt_model.History.{IsTableSchema}
 use Rattle.shared_store.specs.Levels.{any_greatest}
 use Rattle.session.proofs.Lapses.{ended_stays, lapse, merges_as, merges_ended, merges_stays}
 use Rattle.session.proofs.Putting.{some_of_work}

@@ -2,7 +2,7 @@
 use Rattle.std.proofs.Common.{◌≡◌, ◌<◌, ℕ, List, Ok, None, true, take}
 use Rattle.std.specs.List.{AllPairs}
 use Rattle.mt_base.specs.declared.partition.Partition.{Partition}
-use Rattle.part_set.specs.Parts.{partition_rank}
+use Rattle.shared_store.specs.part_set.Parts.{partition_rank}
 use Rattle.session.specs.Merges.{AreFinal, KeepsBeside, Merges}
 use Rattle.session.proofs.Lapses.{lapse}
 use Rattle.session.proofs.optimizes.merge_partitions.Given as goal

@@ -1,16 +1,16 @@
 use Rattle.std.proofs.Common.{◌≡◌, ◌⊎◌, inr, ℕ, IfOk, IsSome, Ok, Err, None, Some, inl, sym, ap, subst, arith}
 use Rattle.std.proofs.lemmas.Result.{IfOk-weaker}
 use Rattle.mt_values.specs.declared.statement.Statement.TheVariants as statement
-use Rattle.mt_model.specs.declared.refusal.Refusal.TheVariants as refusal
-use Rattle.mt_model.specs.Refusals.{is_damage, refusal_line}
-use Rattle.mt_model.specs.Reply.{ok_line}
+use Rattle.replies.specs.mt_model.declared.refusal.Refusal.TheVariants as refusal
+use Rattle.replies.specs.mt_model.Refusals.{is_damage, refusal_line}
+use Rattle.replies.specs.mt_model.Reply.{ok_line}
 use Rattle.replies.specs.Causes.{HasCauses}
 use Rattle.replies.specs.Foreseen.{history}
 use Rattle.replies.proofs.Causing.{says_script}
 use Rattle.replies.proofs.Refusing.{optimize_refused}
-use Rattle.root_store.specs.Shown.{HasNoMark}
-use Rattle.root_store.specs.Soundness.{HasSoundParts}
-use Rattle.root_store.specs.Stores.{table_at}
+use Rattle.shared_store.specs.root_store.Shown.{HasNoMark}
+use Rattle.shared_store.specs.root_store.Soundness.{HasSoundParts}
+use Rattle.shared_store.specs.root_store.Stores.{table_at}
 use Rattle.shared_store.specs.Engines.{GoesOn, GoesThroughCrashes, Opened}
 use Rattle.shared_store.specs.Levels.{LeavesParts}
 use Rattle.shared_store.proofs.Levels.{parts_stay}
@@ -22,8 +22,8 @@ use Rattle.session.proofs.Standing.{no_table}
 use Rattle.session.proofs.Taking.{merges_found}
 use Rattle.session.proofs.Whole.{if_ok, none_found}
 use Rattle.session.specs.Merges.{AllAreFinal, IsRefusal}
-use Rattle.part_set.specs.Parts.{IsInBlockOrder}
-use Rattle.part_set.specs.Sets.{parts_of}
+use Rattle.shared_store.specs.part_set.Parts.{IsInBlockOrder}
+use Rattle.shared_store.specs.part_set.Sets.{parts_of}
 use Rattle.session.proofs.optimizes.optimize.Goals as goal
 
 -- there is no such table

@@ -4,14 +4,14 @@ use Rattle.std.proofs.lemmas.List.Elements.{All-weaker}
 use Rattle.mt_values.specs.declared.schema.Column.{Column}
 use Rattle.mt_values.specs.declared.value.ColType.{ColType}
 use Rattle.mt_values.specs.Tables.{sorting_columns}
-use Rattle.mt_model.proofs.OwnColumns.{sorting_own}
+use Rattle.replies.proofs.MtModelOwnColumns.{sorting_own}
 use Rattle.mt_values.specs.Values.{FitsType, Row}
 use Rattle.mt_values.specs.Grid.{picked}
 use Rattle.mt_values.proofs.Grids.{places_below}
-use Rattle.part_writer.specs.PartFiles.{all_synced, files_of_part, loaded_of}
-use Rattle.part_writer.proofs.Contents.{content_length}
-use Rattle.root_store.proofs.TableIndexes.{has_indexes}
-use Rattle.root_store.proofs.TableMarks.{has_marks}
+use Rattle.shared_store.specs.part_writer.PartFiles.{all_synced, files_of_part, loaded_of}
+use Rattle.shared_store.proofs.PartWriterContents.{content_length}
+use Rattle.shared_store.proofs.RootStoreTableIndexes.{has_indexes}
+use Rattle.shared_store.proofs.RootStoreTableMarks.{has_marks}
 use Rattle.session.proofs.SealedParts.{sealed_of}
 use Rattle.session.proofs.sealing.seal_block.Goals as goal
 

@@ -1,6 +1,6 @@
 use Rattle.std.proofs.Common.{◌≡◌, refl, ◌∙◌, arith}
 use Rattle.block_split.specs.declared.blocks.PartitionBlock.{PartitionBlock}
-use Rattle.mt_model.specs.History.{column_types}
+use Rattle.replies.specs.mt_model.History.{column_types}
 use Rattle.session.specs.declared.sealing.SealedBlock.{SealedBlock}
 use Rattle.session.specs.Turns.{IsPartFor, NoneFailed}
 use Rattle.session.proofs.Stacking.{all_have, one_sealed, others_have}

@@ -1,7 +1,7 @@
 -- the blocks that are left, and the parts of the others
 use Rattle.std.proofs.Common.{◌≡◌, ◌≤◌, ◌+◌, ◌++◌, true, All, length, map, vec_capacity}
 use Rattle.block_split.specs.declared.blocks.PartitionBlock.{PartitionBlock}
-use Rattle.mt_model.specs.History.{column_types}
+use Rattle.replies.specs.mt_model.History.{column_types}
 use Rattle.session.specs.declared.sealing.SealedBlock.{SealedBlock}
 use Rattle.session.specs.Turns.{IsPartFor, NoneFailed, in_turn}
 use Rattle.session.proofs.sealing.seal_blocks.Given as goal

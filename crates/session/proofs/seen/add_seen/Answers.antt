@@ -2,10 +2,10 @@ use Rattle.std.proofs.lemmas.Result.{IfOk-weaker}
 use Rattle.std.proofs.Common.{◌≡◌, ◌∙◌, Bool, List, ap, length, map, subst, sym}
 use Rattle.mt_values.specs.Grid.{Cells}
 use Rattle.mt_values.specs.Values.{Row}
-use Rattle.mt_model.specs.Live.{live}
-use Rattle.part_reader.specs.declared.reading.Part.{Part}
-use Rattle.part_set.specs.declared.kept.Kept.{Kept}
-use Rattle.root_store.proofs.TableMarks.{has_marks}
+use Rattle.replies.specs.mt_model.Live.{live}
+use Rattle.shared_store.specs.part_reader.declared.reading.Part.{Part}
+use Rattle.shared_store.specs.part_set.declared.kept.Kept.{Kept}
+use Rattle.shared_store.proofs.RootStoreTableMarks.{has_marks}
 use Rattle.select_plan.specs.Plans.{asked_over, planned}
 use Rattle.final_fold.specs.Folded.{AreOfPartitions, StandByPartition}
 use Rattle.final_fold.specs.Matches.{matching}

@@ -12,8 +12,8 @@ use Rattle.mt_values.specs.Schemas.{column_types}
 use Rattle.mt_values.specs.Tests.{eval}
 use Rattle.mt_values.specs.Values.{Row, types_of}
 use Rattle.mt_outside.specs.declared.disk.DiskError.TheVariants as failure
-use Rattle.part_reader.specs.Faults.{IsNoDamage}
-use Rattle.part_reader.proofs.CutRows.{empty_even, empty_many, lent_back, projected, typed_have_all}
+use Rattle.shared_store.specs.part_reader.Faults.{IsNoDamage}
+use Rattle.shared_store.proofs.PartReaderCutRows.{empty_even, empty_many, lent_back, projected, typed_have_all}
 use Rattle.select_plan.specs.Plans.{planned}
 use Rattle.final_fold.specs.Matches.{matching}
 use Rattle.final_fold.specs.Scans.{ArePlacesOf}

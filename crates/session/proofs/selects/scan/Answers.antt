@@ -2,10 +2,10 @@ use Rattle.std.proofs.lemmas.Result.{IfOk-weaker}
 use Rattle.std.proofs.Common.{◌∙◌, List, length, sym, ap, subst, arith}
 use Rattle.mt_base.specs.Stops.{Refuses}
 use Rattle.mt_values.specs.declared.schema.Column.{Column}
-use Rattle.mt_model.specs.Queries.{query_of}
+use Rattle.replies.specs.mt_model.Queries.{query_of}
 use Rattle.replies.specs.Foreseen.{history}
 use Rattle.std.proofs.lemmas.Bool.{false≢true}
-use Rattle.mt_model.proofs.Causes.{query_is_cause, undamaged_line}
+use Rattle.replies.proofs.MtModelCauses.{query_is_cause, undamaged_line}
 use Rattle.replies.proofs.Causing.{says_script}
 use Rattle.replies.proofs.Undamaged.{line_of}
 use Rattle.replies.proofs.Refusing.{select_refused}

@@ -1,14 +1,14 @@
 use Rattle.std.proofs.lemmas.Result.{IfOk-weaker}
 use Rattle.std.proofs.Common.{List, All, sym, subst}
 use Rattle.mt_values.specs.declared.schema.Schema.{Schema}
-use Rattle.mt_model.specs.declared.refusal.Refusal.TheVariants as refusal
-use Rattle.mt_model.specs.History.{IsTableSchema}
-use Rattle.part_reader.specs.declared.reading.Part.{Part}
-use Rattle.part_set.specs.declared.kept.Kept.{Kept}
-use Rattle.part_set.specs.Sets.{parts_of}
+use Rattle.replies.specs.mt_model.declared.refusal.Refusal.TheVariants as refusal
+use Rattle.replies.specs.mt_model.History.{IsTableSchema}
+use Rattle.shared_store.specs.part_reader.declared.reading.Part.{Part}
+use Rattle.shared_store.specs.part_set.declared.kept.Kept.{Kept}
+use Rattle.shared_store.specs.part_set.Sets.{parts_of}
 use Rattle.replies.specs.Foreseen.{history}
 use Rattle.replies.proofs.Refusing.{select_refused}
-use Rattle.root_store.specs.Soundness.{HoldsRows}
+use Rattle.shared_store.specs.root_store.Soundness.{HoldsRows}
 use Rattle.session.proofs.Asking.{no_query}
 use Rattle.session.proofs.SelectStanding.{no_table}
 use Rattle.shared_store.specs.Engines.{Snaps}

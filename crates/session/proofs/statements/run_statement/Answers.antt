@@ -1,10 +1,10 @@
 use Rattle.std.proofs.lemmas.Result.{IfOk-weaker}
 use Rattle.std.proofs.Common.{◌≡◌, inl, IfOk, Err, Ok, sym, ap, ◌∙◌, subst, arith}
-use Rattle.mt_model.specs.declared.refusal.Refusal.{Refusal}
-use Rattle.mt_model.specs.Refusals.{is_damage, refusal_line, refusal_of_cause}
-use Rattle.mt_model.proofs.Causes.{OfScript}
+use Rattle.replies.specs.mt_model.declared.refusal.Refusal.{Refusal}
+use Rattle.replies.specs.mt_model.Refusals.{is_damage, refusal_line, refusal_of_cause}
+use Rattle.replies.proofs.MtModelCauses.{OfScript}
 use Rattle.session.specs.Answers.{AcceptsNothing, Answers}
-use Rattle.root_store.specs.Soundness.{HasSoundParts}
+use Rattle.shared_store.specs.root_store.Soundness.{HasSoundParts}
 use Rattle.shared_store.specs.Engines.{GoesOn, GoesThroughCrashes, Opened}
 use Rattle.shared_store.specs.Levels.{LeavesParts}
 use Rattle.shared_store.proofs.Levels.{parts_stay}

@@ -1,14 +1,14 @@
 use Rattle.std.proofs.Common.{◌≡◌, ◌+◌, ℕ, Option, Ok, Err, Result, IsErr, refl, sym, ap, ◌∙◌, subst, arith}
 use Rattle.mt_values.specs.declared.schema.Schema.{Schema}
-use Rattle.mt_model.specs.Refusals.{is_damage}
-use Rattle.mt_model.specs.Reply.{ok_line}
+use Rattle.replies.specs.mt_model.Refusals.{is_damage}
+use Rattle.replies.specs.mt_model.Reply.{ok_line}
 use Rattle.replies.proofs.Causing.{says_answer}
 use Rattle.replies.specs.Foreseen.{history}
-use Rattle.root_commits.specs.Commits.{partition_of_block}
-use Rattle.root_commits.specs.Turns.{turn_of_part}
-use Rattle.root_commits.proofs.Turning.{after_refusal}
-use Rattle.root_store.specs.declared.store.Table.{Table}
-use Rattle.root_store.specs.Stores.{table_at}
+use Rattle.shared_store.specs.root_commits.Commits.{partition_of_block}
+use Rattle.shared_store.specs.root_commits.Turns.{turn_of_part}
+use Rattle.shared_store.proofs.RootCommitsTurning.{after_refusal}
+use Rattle.shared_store.specs.root_store.declared.store.Table.{Table}
+use Rattle.shared_store.specs.root_store.Stores.{table_at}
 use Rattle.shared_store.specs.Engines.{schema_kept}
 use Rattle.session.specs.declared.sealing.SealedBlock.{SealedBlock}
 use Rattle.mt_base.specs.declared.memory.NoMemory.{NoMemory}

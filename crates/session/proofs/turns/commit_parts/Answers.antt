@@ -2,7 +2,7 @@ use Rattle.std.proofs.Common.{◌≡◌, ◌∷◌, [], ℕ, List, Ok, length, r
 use Rattle.mt_values.specs.declared.statement.Statement.TheVariants as statement
 use Rattle.replies.specs.Causes.{HasCauses}
 use Rattle.session.specs.declared.sealing.SealedBlock.{SealedBlock}
-use Rattle.mt_model.specs.Reply.{ok_line}
+use Rattle.replies.specs.mt_model.Reply.{ok_line}
 use Rattle.session.specs.Answers.{Answered, EndsUnanswered}
 use Rattle.session.specs.declared.turns.TurnReply.{TurnReply}
 use Rattle.session.specs.Turns.{IfAccepted, IsRowsFor, NoneFailed, TakesTurn, part_command, reply_in}

@@ -1,6 +1,6 @@
 -- the turns that were taken, the last reply, and the arm
 use Rattle.std.proofs.Common.{◌≡◌, length}
-use Rattle.mt_model.specs.Reply.{ok_line}
+use Rattle.replies.specs.mt_model.Reply.{ok_line}
 use Rattle.session.proofs.Running.{Runs}
 use Rattle.session.proofs.turns.commit_parts.Given as goal
 

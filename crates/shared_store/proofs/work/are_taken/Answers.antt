@@ -2,7 +2,7 @@ use Rattle.std.proofs.Common.{◌≡◌, ℕ, ◌+◌, true, false, List, length
 use Rattle.std.proofs.lemmas.Bool.{false≢true}
 use Rattle.std.proofs.lemmas.List.{length_push}
 use Rattle.std.proofs.lemmas.Slice.Zip.{zip_end, zip_turn}
-use Rattle.part_set.specs.declared.kept.Kept.{Kept}
+use Rattle.root_commits.specs.part_set.declared.kept.Kept.{Kept}
 use Rattle.shared_store.proofs.Taken.{AreTakenBelow, marked_at, named_at, taken_all, taken_more}
 use Rattle.shared_store.proofs.work.are_taken.Goals.{then-ne-via-then-ne, then-ne-via-else-ne+then-not-kept}
 use Rattle.shared_store.proofs.work.are_taken.Goals as goal

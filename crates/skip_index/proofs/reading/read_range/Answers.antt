@@ -1,7 +1,7 @@
 use Rattle.std.proofs.Common.{◌+◌, drop, inl, refl, subst, sym, ◌∙◌}
 use Rattle.std.proofs.lemmas.List.{drop-drop}
-use Rattle.byte_numbers.specs.Fronts.{Begins}
-use Rattle.byte_numbers.specs.declared.faults.FormatFault.TheVariants.{Malformed}
+use Rattle.column_file.specs.byte_numbers.Fronts.{Begins}
+use Rattle.column_file.specs.byte_numbers.declared.faults.FormatFault.TheVariants.{Malformed}
 use Rattle.mt_values.specs.Cells.{value_of}
 use Rattle.mt_values.specs.ColumnBytes.{value_bytes}
 use Rattle.column_file.proofs.Fronts.{handed}

@@ -1,7 +1,7 @@
 use Rattle.std.proofs.Common.{ℕ, ◌<◌, ◌^◌, List, drop, subst}
 use Rattle.std.proofs.lemmas.List.{take_rest}
 use Rattle.std.specs.Int.{w32, to_le_bytes}
-use Rattle.byte_numbers.specs.Fronts.{Begins}
+use Rattle.column_file.specs.byte_numbers.Fronts.{Begins}
 use Rattle.column_file.proofs.Fronts.{handed_on}
 use Rattle.skip_index.specs.Faults.{ExplainsSet}
 use Rattle.skip_index.proofs.BlocksRead.{set_spelled, set_wrong}

@@ -1,6 +1,6 @@
 use Rattle.std.proofs.Common.{◌+◌, List, drop, map, refl, subst, sym}
 use Rattle.std.specs.List.{list_any}
-use Rattle.byte_numbers.specs.declared.faults.FormatFault.TheVariants.{Malformed}
+use Rattle.column_file.specs.byte_numbers.declared.faults.FormatFault.TheVariants.{Malformed}
 use Rattle.mt_values.specs.declared.value.Value.{Value}
 use Rattle.mt_values.specs.Cells.{value_of}
 use Rattle.column_file.proofs.Fronts.{handed}

@@ -2,7 +2,7 @@ use Rattle.std.proofs.Common.{◌≡◌, ◌+◌, ◌<◌, ◌≤◌, All, is_so
 use Rattle.indexmap.specs.IndexMap.{set_value_at}
 use Rattle.mt_values.specs.Tables.{sorting_columns}
 use Rattle.table_core.specs.declared.store.Table.{Table}
-use Rattle.mt_model.specs.Numbers.{numbered}
+use Rattle.part_history.specs.mt_model.Numbers.{numbered}
 use Rattle.part_history.specs.Entered.{part_of_insert}
 use Rattle.part_history.specs.Parts.{AreInBlockOrder}
 use Rattle.table_core.specs.Steps.{AcceptsInsert}

@@ -1,7 +1,7 @@
 -- the name of the parts so far
 use Rattle.std.proofs.Common.{◌≡◌, take}
 use Rattle.std.specs.List.{fold}
-use Rattle.part_name.specs.Merged.{joined_name}
+use Rattle.part_history.specs.part_name.Merged.{joined_name}
 use Rattle.part_history.specs.Merges.{names_of}
 use Rattle.table_core.proofs.steps.joined_name.Given as goal
 

@@ -1,5 +1,5 @@
 use Rattle.std.proofs.Common.{◌≡◌, ◌+◌, ◌<◌, ◌≤◌, is_some, length, refl, sym, ap, ◌∙◌, arith}
-use Rattle.mt_model.specs.History.{creates}
+use Rattle.part_history.specs.mt_model.History.{creates}
 use Rattle.table_core.specs.Store.{IsNotNamed, StandsAt}
 use Rattle.std.proofs.Common.{All}
 use Rattle.table_core.proofs.Keeping.{create_is, create_store, found_none, found_some, no_table, schema_here, tables_made}

@@ -1,6 +1,6 @@
 use Rattle.std.proofs.Common.{Some, None, cond, nat_lt, ap, ◌∙◌}
-use Rattle.part_name.specs.declared.part.PartName.{PartName}
-use Rattle.part_name.specs.Merged.{raised}
+use Rattle.part_history.specs.part_name.declared.part.PartName.{PartName}
+use Rattle.part_history.specs.part_name.Merged.{raised}
 use Rattle.table_core.proofs.Neighbours.{merge_named, merge_none, merge_unnamed}
 use Rattle.table_core.proofs.steps.merged_name.Goals as goal
 

@@ -1,6 +1,6 @@
 use Rattle.std.proofs.Common.{◌≡◌, ◌<◌, List, Some, refl, sym, ap, ◌∙◌, subst}
-use Rattle.part_name.specs.declared.part.PartName.{PartName}
-use Rattle.part_name.specs.Merged.{merged_of}
+use Rattle.part_history.specs.part_name.declared.part.PartName.{PartName}
+use Rattle.part_history.specs.part_name.Merged.{merged_of}
 use Rattle.part_history.specs.declared.part.CorePart.{CorePart}
 use Rattle.part_history.specs.Merges.{names_of}
 use Rattle.part_history.specs.Parts.{AreInBlockOrder}

@@ -1,6 +1,6 @@
 use Rattle.mt_values.specs.Values.{Row}
 use Rattle.std.proofs.Common.{◌≡◌, ◌∷◌, [], Bool, true, false, not, is_none, is_some, Option, None, Some, refl, sym, ap, ◌∙◌, filter}
-use Rattle.mt_model.specs.Rules.{is_cancel}
+use Rattle.rule_law.specs.mt_model.Rules.{is_cancel}
 use Rattle.collapse_rules.proofs.Counting.{first_none, first_some, one_cancel, one_state}
 use Rattle.collapse_rules.proofs.collapsing.Counted.count.Goals as goal
 

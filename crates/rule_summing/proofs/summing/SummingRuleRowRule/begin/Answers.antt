@@ -1,5 +1,5 @@
 use Rattle.std.proofs.Common.{[], length, ap, ap₂, ◌∙◌}
-use Rattle.mt_model.specs.Rules.{with_sums}
+use Rattle.rule_law.specs.mt_model.Rules.{with_sums}
 use Rattle.rule_summing.specs.Summed.{added_at, changed_from}
 use Rattle.rule_summing.proofs.Adding.{sums_first, written}
 use Rattle.rule_summing.proofs.summing.SummingRuleRowRule.begin.Goals as goal

@@ -2,9 +2,9 @@ use Rattle.std.proofs.Common.{◌≡◌, ◌∙◌, List, Some, ap, subst, sym}
 use Rattle.std.specs.Prelude.{Vec}
 use Rattle.std.specs.declared.alloc.Global.{Global}
 use Rattle.mt_values.specs.Values.{Row}
-use Rattle.mt_model.specs.History.{schema_of}
-use Rattle.part_history.specs.declared.part.CorePart.{CorePart}
-use Rattle.part_history.specs.Parts.{core_parts_of, parts_in}
+use Rattle.table_core.specs.mt_model.History.{schema_of}
+use Rattle.table_core.specs.part_history.declared.part.CorePart.{CorePart}
+use Rattle.table_core.specs.part_history.Parts.{core_parts_of, parts_in}
 use Rattle.row_merge.specs.Merged.{inputs_of}
 use Rattle.table_core.specs.Core.{Core, IsCore}
 use Rattle.run_memory.specs.Events.{AreOfEvents}

@@ -2,9 +2,9 @@ use Rattle.std.proofs.Common.{ℕ, ap, subst, sym}
 use Rattle.root_commits.specs.Commits.{IsSealedEntry, StandsWhere}
 use Rattle.root_commits.specs.Images.{LeavesEither, LeavesOne}
 use Rattle.root_commits.specs.Turns.{turn_of_create, with_entry}
-use Rattle.root_store.specs.Shown.{HasNoMark}
-use Rattle.root_store.specs.Soundness.{HasSoundParts, RootStands}
-use Rattle.root_store.specs.Stores.{CoreStands}
+use Rattle.root_commits.specs.root_store.Shown.{HasNoMark}
+use Rattle.root_commits.specs.root_store.Soundness.{HasSoundParts, RootStands}
+use Rattle.root_commits.specs.root_store.Stores.{CoreStands}
 use Rattle.shared_store.specs.Engines.{Opened, disk_of}
 use Rattle.shared_store.specs.Levels.{LeavesParts}
 use Rattle.shared_store.proofs.Levels.{parts_same, parts_table}

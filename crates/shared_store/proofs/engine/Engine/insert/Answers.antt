@@ -3,12 +3,12 @@ use Rattle.root_commits.specs.Commits.{EntersSealed, IsSealedOf, StandsWhere, pa
 use Rattle.root_commits.specs.Events.{IsAccepted, accept_of_block}
 use Rattle.root_commits.specs.Images.{LeavesEither, LeavesOne}
 use Rattle.root_commits.specs.Turns.{storage, turn_of_part, with_entry}
-use Rattle.root_store.specs.Cores.{ShowsCore}
-use Rattle.root_store.specs.Crashes.{KeepsThroughCrashes}
-use Rattle.root_store.specs.declared.store.Table.{Table}
-use Rattle.root_store.specs.Shown.{HasNoMark}
-use Rattle.root_store.specs.Soundness.{HasSoundParts, RootStands}
-use Rattle.root_store.specs.Stores.{CoreStands, table_at}
+use Rattle.root_commits.specs.root_store.Cores.{ShowsCore}
+use Rattle.root_commits.specs.root_store.Crashes.{KeepsThroughCrashes}
+use Rattle.root_commits.specs.root_store.declared.store.Table.{Table}
+use Rattle.root_commits.specs.root_store.Shown.{HasNoMark}
+use Rattle.root_commits.specs.root_store.Soundness.{HasSoundParts, RootStands}
+use Rattle.root_commits.specs.root_store.Stores.{CoreStands, table_at}
 use Rattle.shared_store.specs.Engines.{Opened, disk_of}
 use Rattle.shared_store.specs.Levels.{LeavesParts}
 use Rattle.shared_store.proofs.Levels.{parts_entered, parts_refused}

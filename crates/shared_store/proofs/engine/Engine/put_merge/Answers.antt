@@ -1,18 +1,18 @@
 use Rattle.std.proofs.Common.{◌≡◌, ℕ, true, false, Option, Some, Err, refl, sym, ap, ◌∙◌, subst}
 use Rattle.std.proofs.lemmas.Bool.{false≢true}
-use Rattle.part_name.specs.declared.part.PartName.{PartName}
+use Rattle.root_commits.specs.part_name.declared.part.PartName.{PartName}
 use Rattle.root_commits.specs.Images.{LeavesEither, LeavesOne}
 use Rattle.root_commits.specs.Events.{IsPut}
 use Rattle.root_commits.specs.Merges.{IsSealedMerge, SealsRows, name_of_merge, sources_of}
 use Rattle.root_commits.specs.Publications.{IsPublished, Publishes, disk_at, disk_side, publication_of}
 use Rattle.root_commits.specs.Turns.{storage}
 use Rattle.root_commits.proofs.CrashImages.{either_same}
-use Rattle.root_store.specs.declared.store.CoreStore.{CoreStore}
-use Rattle.root_store.specs.Cores.{ShowsCore}
-use Rattle.root_store.specs.Crashes.{KeepsThroughCrashes}
-use Rattle.root_store.specs.Shown.{HasNoMark}
-use Rattle.root_store.specs.Soundness.{HasSoundParts, IsSoundStore, RootStands}
-use Rattle.root_store.specs.Stores.{CoreStands, table_at}
+use Rattle.root_commits.specs.root_store.declared.store.CoreStore.{CoreStore}
+use Rattle.root_commits.specs.root_store.Cores.{ShowsCore}
+use Rattle.root_commits.specs.root_store.Crashes.{KeepsThroughCrashes}
+use Rattle.root_commits.specs.root_store.Shown.{HasNoMark}
+use Rattle.root_commits.specs.root_store.Soundness.{HasSoundParts, IsSoundStore, RootStands}
+use Rattle.root_commits.specs.root_store.Stores.{CoreStands, table_at}
 use Rattle.shared_store.specs.Engines.{IsOpen, Opened, disk_of}
 use Rattle.shared_store.specs.Works.{Marks, TakesUp, WorkStands, merging_of}
 use Rattle.shared_store.proofs.Marked.{freed_by_marks, freed_by_put, goes_by, goes_itself, later_by, marks_after, marks_set, run_named, run_same, still_stands, with_set}

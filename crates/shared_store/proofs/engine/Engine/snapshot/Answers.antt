@@ -1,5 +1,5 @@
 use Rattle.std.proofs.Common.{sym, subst}
-use Rattle.root_store.specs.Soundness.{IsReady}
+use Rattle.root_commits.specs.root_store.Soundness.{IsReady}
 use Rattle.shared_store.proofs.engine.Engine.snapshot.Goals as goal
 
 pub invariant_of-self : goal.invariant_of-self

@@ -1,14 +1,14 @@
 use Rattle.std.proofs.Common.{◌≡◌, ℕ, false, List, IsSome, length, refl, sym, subst, ◌∙◌}
 use Rattle.std.specs.List.{All}
-use Rattle.mutation_queue.specs.Queue.{mutations_of}
+use Rattle.root_commits.specs.mutation_queue.Queue.{mutations_of}
 use Rattle.merge_select.specs.Picks.{NoneIn}
-use Rattle.part_reader.specs.declared.reading.Part.{Part}
-use Rattle.part_set.specs.declared.kept.Kept.{Kept}
-use Rattle.part_set.specs.Parts.{kept_in}
-use Rattle.part_set.specs.Runs.{IsRun, parts_of_run}
-use Rattle.part_set.specs.Sets.{parts_of}
-use Rattle.root_store.specs.Shown.{HasNoMark}
-use Rattle.root_store.specs.Stores.{table_at}
+use Rattle.root_commits.specs.part_reader.declared.reading.Part.{Part}
+use Rattle.root_commits.specs.part_set.declared.kept.Kept.{Kept}
+use Rattle.root_commits.specs.part_set.Parts.{kept_in}
+use Rattle.root_commits.specs.part_set.Runs.{IsRun, parts_of_run}
+use Rattle.root_commits.specs.part_set.Sets.{parts_of}
+use Rattle.root_commits.specs.root_store.Shown.{HasNoMark}
+use Rattle.root_commits.specs.root_store.Stores.{table_at}
 use Rattle.shared_store.specs.Engines.{Opened, choice_of}
 use Rattle.shared_store.specs.Works.{TakesUp}
 use Rattle.shared_store.proofs.Marked.{goes_seen, low_taken, on_seen, taking_alike}

@@ -1,5 +1,5 @@
 use Rattle.std.proofs.Common.{ap, ◌∙◌}
-use Rattle.mt_model.specs.History.{schema_of}
+use Rattle.part_history.specs.mt_model.History.{schema_of}
 use Rattle.table_core.specs.Core.{Core}
 use Rattle.table_core.proofs.state.CoreState.schema.Goals as goal
 
