@@ -26,15 +26,11 @@ use Rattle.mt_outside.specs.Files.{Files, bytes_of}
 use Rattle.part_writer.specs.column_file.Marks.{granules, keys_bytes, numbers_bytes}
 use Rattle.part_writer.specs.column_file.Spellings.{Spells}
 use Rattle.part_writer.specs.column_file.Tests.{spells}
-use Rattle.part_writer.proofs.ColumnFileTested.{spells_Decides}
+use Rattle.part_writer.proofs.FileLaws.{even, frame_from_manifest, keys_apart, manifest_first, spells_Decides, starts_apart}
 use Rattle.part_writer.specs.digest_file.Frames.{framed}
 use Rattle.part_writer.specs.digest_file.Spellings.{IsManifestOf, IsMark}
-use Rattle.part_writer.proofs.DigestFileManifests.{frame_from_manifest, manifest_first}
 use Rattle.part_writer.specs.primary_marks.Keys.{IsKeyOf, IsPrimaryOf, KeyShape, ends_alone, granule_count, key_count, shape_of}
 use Rattle.part_writer.specs.primary_marks.Places.{AreMarksOf, AreStartsOf}
-use Rattle.part_writer.proofs.PrimaryMarksKeysOneWay.{keys_apart}
-use Rattle.part_writer.proofs.ColumnFileFronts.{even}
-use Rattle.part_writer.proofs.PrimaryMarksStarts.{starts_apart}
 use Rattle.part_writer.specs.PartFiles.{content_bytes, content_ids, mark_of, opened_ids}
 use Rattle.part_damage.specs.Marks.{mark_for}
 use Rattle.part_damage.specs.Sound.{FirstDamaged, FirstUnder, FirstUnsound, IsFirstUnlike, IsFirstWithout, IsManifestFor, IsReadable, IsSound, SpellsFile}

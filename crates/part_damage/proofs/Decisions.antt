@@ -15,11 +15,9 @@ use Rattle.mt_values.specs.Values.{FitsType, Row, type_of, types_of}
 use Rattle.part_writer.specs.column_file.Marks.{numbers_bytes}
 use Rattle.part_writer.specs.column_file.Spellings.{IsOfType}
 use Rattle.part_writer.specs.column_file.Tests.{first_size}
-use Rattle.part_writer.proofs.ColumnFileOneWay.{eight_apart, value_apart}
-use Rattle.part_writer.proofs.ColumnFileTested.{FirstIs, first_is}
+use Rattle.part_writer.proofs.FileLaws.{AreApart, FirstIs, eight_apart, even, first_is, value_apart}
 use Rattle.part_writer.specs.primary_marks.Keys.{IsKeyOf}
 use Rattle.part_writer.specs.primary_marks.Places.{AreStarts, AreStartsOf, RiseAbove}
-use Rattle.part_writer.proofs.ColumnFileFronts.{AreApart, even}
 
 -- it holds, or it does not
 abbrev pub Decided : Type 0 → Type 0

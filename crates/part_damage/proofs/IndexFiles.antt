@@ -26,17 +26,13 @@ use Rattle.part_writer.specs.predicate.declared.extent.Known.{Known}
 use Rattle.part_writer.specs.predicate.declared.extent.Known.TheVariants as known
 use Rattle.part_writer.specs.column_file.Spellings.{IsOfType}
 use Rattle.part_writer.specs.column_file.Tests.{first_size}
-use Rattle.part_writer.proofs.ColumnFileOneWay.{four_apart, value_apart}
-use Rattle.part_writer.proofs.ColumnFileTested.{FirstIs, first_is}
-use Rattle.part_writer.proofs.ColumnFileFronts.{even}
+use Rattle.part_writer.proofs.FileLaws.{FirstIs, even, first_is, four_apart, index_written, known_apart, most_small, no_index as no_file, one_index as one_file, stands, value_apart}
 use Rattle.part_writer.specs.skip_index.declared.index.Index.{Index}
 use Rattle.part_writer.specs.skip_index.declared.shapes.BlockShape.{BlockShape}
 use Rattle.part_writer.specs.skip_index.declared.shapes.IndexShape.{IndexShape}
 use Rattle.part_writer.specs.skip_index.Blocks.{HasIndex, blocks_bytes, distinct_of, index_at, index_bytes, index_of, known_bytes, most_kept}
 use Rattle.part_writer.specs.skip_index.Files.{AreBlocksOf, AreDistinctOf, IsIndexFile, MayEnd, MayKeep, MayKeepNone, MayKeepSome, block_count, block_shape, has_more, index_with, shape_of}
 use Rattle.part_writer.specs.skip_index.Faults.{IsIndexFault}
-use Rattle.part_writer.proofs.SkipIndexWritten.{index_written}
-use Rattle.part_writer.proofs.SkipIndexOneWay.{known_apart, most_small, no_index as no_file, one_index as one_file, stands}
 use Rattle.part_damage.specs.Sound.{AreBlocksFor}
 use Rattle.part_damage.proofs.Decisions.{Decided, Front, Fronts, both, decided, fronts, like}
 

@@ -20,7 +20,7 @@ use Rattle.mt_values.proofs.Grids.{AreEven, AreRowsOf-rows_of, HaveTypeAt-typed,
 use Rattle.mt_values.proofs.OrderBy.{length_column}
 use Rattle.mt_outside.specs.Files.{Files, bytes_of}
 use Rattle.part_writer.specs.column_file.Spellings.{IsOfType, IsSpelling, Spells}
-use Rattle.part_writer.proofs.ColumnFileOneWay.{one_spelling}
+use Rattle.part_writer.proofs.FileLaws.{one_spelling}
 use Rattle.part_writer.specs.primary_marks.Keys.{ArePartRows}
 use Rattle.part_writer.specs.PartFiles.{content_ids}
 use Rattle.part_writer.proofs.Contents.{content_at}

@@ -1,4 +1,5 @@
 pub mod Contents
+pub mod FileLaws
 pub mod Filling
 pub mod Folders
 pub use Rattle.digest_file.proofs.ByteNumbersNumbers

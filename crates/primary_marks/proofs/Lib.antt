@@ -1,4 +1,5 @@
 pub mod Between
+pub mod ColumnLaws
 pub mod ColumnStarts
 pub mod GranuleBoxes
 pub mod KeyReading
