@@ -1,12 +1,11 @@
 -- Which words begin with dashes, and what stands before an `=`.
-use Rattle.std.proofs.Common.{◌≡◌, ◌∙◌, ◌+◌, ◌<◌, ◌&&◌, ◌||◌, ◌⊎◌, inl, inr, ℕ, zero, suc, Bool, true, false, cond, not, refl, sym, ap, subst, arith, List, [], ◌∷◌, ◌++◌, take, drop, length, codes, Option, Some, None, IsUtf8, chars, encode_utf8, encode_utf8_all, slice_get, option_and_then, eqb-true, ne_eqb, true≢false, eqb, T}
+use Rattle.std.proofs.Common.{◌≡◌, ◌∙◌, ◌+◌, ◌<◌, ◌&&◌, ◌||◌, ◌⊎◌, inl, inr, ℕ, zero, suc, Bool, true, false, cond, not, refl, sym, ap, subst, arith, List, [], ◌∷◌, ◌++◌, take, drop, length, codes, Option, Some, None, IsUtf8, bytes_eq, find, chars, encode_utf8, encode_utf8_all, slice_get, option_and_then, eqb-true, ne_eqb, true≢false, eqb, T}
 use Rattle.std.proofs.Math.Facts.{yes_eqb}
 use Rattle.std.specs.List.{after_first, before_first, list_any, prefix_len}
 use Rattle.std.proofs.lemmas.Slice.Eq.{bytes_eq-Decides}
 use Rattle.std.proofs.lemmas.Str.{chars_past_char, encode_ascii, encodes-chars}
 use Rattle.clap.specs.Lexer.{long_of, long_of_rest, short_of, short_of_rest, strip_byte}
-use Rattle.command_line.specs.Words.{is_equals, is_two_dashes, is_value, options_of, with_option}
-use Rattle.command_line.proofs.Joining.{IsUnknown, none_named, none_with}
+use Rattle.command_line.specs.Words.{Given, is_equals, is_given, is_two_dashes, is_value, named, names, options_of, with_option}
 
 -- ---- before an `=`
 
@@ -67,13 +66,18 @@ not_both a b e = go (eqb a 45) refl
         let second : eqb b 45 ≡ false = sym (ap (λ x. x && eqb b 45) is) ∙ e in
         ap (λ y. eqb 45 a && y) (flipped b 45 second) ∙ and_false (eqb 45 a)
 
-pub no_option : (name : List ℕ) → two_dashes name ≡ false → IsUnknown name
-no_option [] e = record { path = refl; policy = refl }
-no_option (a ∷ []) e = record { path = and_false (eqb 45 a); policy = and_false (eqb 45 a) }
-no_option (a ∷ b ∷ rest) e = record {
-  path = both_false (eqb 45 a) (eqb 45 b) _ (not_both a b e);
-  policy = both_false (eqb 45 a) (eqb 45 b) _ (not_both a b e);
-}
+other_name : (name word : List ℕ) → two_dashes word ≡ false → bytes_eq (45 ∷ 45 ∷ name) word ≡ false
+other_name name [] e = refl
+other_name name (a ∷ []) e = and_false (eqb 45 a)
+other_name name (a ∷ b ∷ rest) e = both_false (eqb 45 a) (eqb 45 b) _ (not_both a b e)
+
+no_name : (ns : List (List ℕ)) (word : List ℕ) → two_dashes word ≡ false → find (λ name. bytes_eq (45 ∷ 45 ∷ name) word) ns ≡ None
+no_name [] word e = refl
+no_name (n ∷ ns) word e = ap (λ b. cond b (Some n) (find (λ name. bytes_eq (45 ∷ 45 ∷ name) word) ns)) (other_name n word e) ∙ no_name ns word e
+
+-- such a word names no option
+pub no_option : (word : List ℕ) → two_dashes word ≡ false → named word ≡ None
+no_option word e = no_name names word e
 
 taken : (n : ℕ) (word : List ℕ) → two_dashes word ≡ false → two_dashes (take n word) ≡ false
 taken zero word e = refl
@@ -86,13 +90,33 @@ taken (suc n) (a ∷ []) e = go n
 taken (suc zero) (a ∷ b ∷ rest) e = refl
 taken (suc (suc n)) (a ∷ b ∷ rest) e = e
 
+-- ---- words that name no option
+
+none_twice : {X : Type 0} (b : Bool) (o : Option X) → o ≡ None → cond b o None ≡ None
+none_twice true o none = none
+none_twice false o none = refl
+
+-- what the words after an option give
+abbrev pub then : List (List ℕ) → Option Given → Option Given
+then words = option_and_then (λ more. options_of more None words)
+
+none_with : (word value : List ℕ) (given : Given) → named word ≡ None → with_option word value given ≡ None
+none_with word value given unknown = ap (option_and_then (λ name. cond (is_given name given) None (Some (given ++ (name, value) ∷ [])))) unknown
+
+pub none_set : (word value : List ℕ) (given : Given) (words : List (List ℕ)) → named word ≡ None → then words (with_option word value given) ≡ None
+none_set word value given words unknown = ap (then words) (none_with word value given unknown)
+
+pub none_named : (word : List ℕ) (given : Given) (words : List (List ℕ)) → named word ≡ None → options_of given (Some word) words ≡ None
+none_named word given [] unknown = refl
+none_named word given (value ∷ words) unknown = none_twice (is_value value) _ (none_set word value given words unknown)
+
 -- a word that does not begin with two dashes is no option
-pub not_an_option : (word : List ℕ) (words : List (List ℕ)) → two_dashes word ≡ false → options_of None (word ∷ words) ≡ None
-not_an_option word words e = go (list_any is_equals word)
+pub not_an_option : (given : Given) (word : List ℕ) (words : List (List ℕ)) → two_dashes word ≡ false → options_of given None (word ∷ words) ≡ None
+not_an_option given word words e = go (list_any is_equals word)
   where
-    go : (b : Bool) → cond b (option_and_then (with_option (before_first is_equals word) (after_first is_equals word)) (options_of None words)) (options_of (Some word) words) ≡ None
-    go true = none_with (before_first is_equals word) (after_first is_equals word) (options_of None words) (no_option (before_first is_equals word) (taken _ word e))
-    go false = none_named word words (no_option word e)
+    go : (b : Bool) → cond b (then words (with_option (before_first is_equals word) (after_first is_equals word) given)) (options_of given (Some word) words) ≡ None
+    go true = none_set (before_first is_equals word) (after_first is_equals word) given words (no_option (before_first is_equals word) (taken _ word e))
+    go false = none_named word given words (no_option word e)
 
 -- ---- the sorts of words
 
@@ -204,25 +228,29 @@ none_both : {X : Type 0} (b : Bool) (x y : Option X) → x ≡ None → y ≡ No
 none_both true x y one other = one
 none_both false x y one other = other
 
-dashes_here : (waits : Option (List ℕ)) (rest : List (List ℕ)) → options_of waits (codes "--" ∷ rest) ≡ None
-dashes_here None rest = none_named (codes "--") rest (record { path = refl; policy = refl })
-dashes_here (Some name) rest = refl
+none_then : (rest : List (List ℕ)) → ((given : Given) (waits : Option (List ℕ)) → options_of given waits rest ≡ None) → (o : Option Given) → then rest o ≡ None
+none_then rest next None = refl
+none_then rest next (Some given) = next given None
 
-dashes_more : (word : List ℕ) (rest : List (List ℕ)) → ((w : Option (List ℕ)) → options_of w rest ≡ None) → (waits : Option (List ℕ)) → options_of waits (word ∷ rest) ≡ None
-dashes_more word rest next None =
-    none_both (list_any is_equals word) _ (options_of (Some word) rest)
-    (ap (option_and_then (with_option (before_first is_equals word) (after_first is_equals word))) (next None)) (next (Some word))
-dashes_more word rest next (Some name) = none_both (is_value word) _ None (ap (option_and_then (with_option name word)) (next None)) refl
+dashes_here : (given : Given) (waits : Option (List ℕ)) (rest : List (List ℕ)) → options_of given waits (codes "--" ∷ rest) ≡ None
+dashes_here given None rest = none_named (codes "--") given rest refl
+dashes_here given (Some option) rest = refl
 
-dashes_step : (word : List ℕ) (rest : List (List ℕ)) → ((w : Option (List ℕ)) → list_any is_two_dashes rest ≡ true → options_of w rest ≡ None) → (waits : Option (List ℕ))
-    → list_any is_two_dashes (word ∷ rest) ≡ true → options_of waits (word ∷ rest) ≡ None
-dashes_step word rest next waits e = go (is_two_dashes word) refl
+dashes_more : (word : List ℕ) (rest : List (List ℕ)) → ((given : Given) (waits : Option (List ℕ)) → options_of given waits rest ≡ None) → (given : Given) (waits : Option (List ℕ)) → options_of given waits (word ∷ rest) ≡ None
+dashes_more word rest next given None =
+    none_both (list_any is_equals word) _ (options_of given (Some word) rest)
+    (none_then rest next (with_option (before_first is_equals word) (after_first is_equals word) given)) (next given (Some word))
+dashes_more word rest next given (Some option) = none_both (is_value word) _ None (none_then rest next (with_option option word given)) refl
+
+dashes_step : (word : List ℕ) (rest : List (List ℕ)) → (list_any is_two_dashes rest ≡ true → (given : Given) (waits : Option (List ℕ)) → options_of given waits rest ≡ None)
+    → list_any is_two_dashes (word ∷ rest) ≡ true → (given : Given) (waits : Option (List ℕ)) → options_of given waits (word ∷ rest) ≡ None
+dashes_step word rest next e given waits = go (is_two_dashes word) refl
   where
-    go : (b : Bool) → is_two_dashes word ≡ b → options_of waits (word ∷ rest) ≡ None
-    go true is = subst (λ w. options_of waits (w ∷ rest) ≡ None) (sym ((bytes_eq-Decides word (codes "--")).0 is)) (dashes_here waits rest)
-    go false is = dashes_more word rest (λ w. next w (sym (ap (λ b. b || list_any is_two_dashes rest) is) ∙ e)) waits
+    go : (b : Bool) → is_two_dashes word ≡ b → options_of given waits (word ∷ rest) ≡ None
+    go true is = subst (λ w. options_of given waits (w ∷ rest) ≡ None) (sym ((bytes_eq-Decides word (codes "--")).0 is)) (dashes_here given waits rest)
+    go false is = dashes_more word rest (next (sym (ap (λ b. b || list_any is_two_dashes rest) is) ∙ e)) given waits
 
--- words with two dashes alone among them set nothing
-pub dashes_none : (words : List (List ℕ)) (waits : Option (List ℕ)) → list_any is_two_dashes words ≡ true → options_of waits words ≡ None
-dashes_none [] waits e = absurd (true≢false (sym e))
-dashes_none (word ∷ rest) waits e = dashes_step word rest (λ w more. dashes_none rest w more) waits e
+-- words with two dashes alone among them give nothing
+pub dashes_none : (words : List (List ℕ)) → list_any is_two_dashes words ≡ true → (given : Given) (waits : Option (List ℕ)) → options_of given waits words ≡ None
+dashes_none [] e = absurd (true≢false (sym e))
+dashes_none (word ∷ rest) e = dashes_step word rest (dashes_none rest) e

@@ -1,5 +1,4 @@
-pub mod Joining
 pub mod Dashes
 pub mod Parsing
-pub mod Walks
 pub mod Reading
+pub mod Walks

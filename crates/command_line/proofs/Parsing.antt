@@ -1,64 +1,40 @@
--- What `clap` makes of the two options: the command, what one use of an option comes to, and what stands at the end.
-use Rattle.std.proofs.Common.{◌≡◌, ◌∙◌, ◌⊎◌, ◌||◌, inl, inr, true≢false, Bool, true, false, cond, refl, sym, ap, List, [], ◌∷◌, map, codes, Option, Some, None, is_some, bytes_eq, option_and_then, fold}
-use Rattle.std.specs.List.{list_any}
-use Rattle.std.specs.Borrow.{Bor}
-use Rattle.mt_base.specs.declared.policy.Policy.{Policy}
-use Rattle.mt_base.specs.declared.policy.Policy.TheVariants as policy
+-- What `clap` makes of the options: the command as it is built, what one use of an option comes to, and what stands at the end.
+use Rattle.std.proofs.Common.{◌≡◌, ◌∙◌, ◌||◌, ◌&&◌, ◌++◌, true≢false, Bool, true, false, cond, refl, sym, ap, subst, List, [], ◌∷◌, map, codes, find, Option, Some, None, append-nil, bytes_eq, option_and_then, option_map, fold, slice_get}
+use Rattle.std.specs.Option.{option_map_or}
+use Rattle.std.proofs.lemmas.List.{map-append}
+use Rattle.std.proofs.lemmas.Slice.Eq.{bytes_eq-Decides}
 use Rattle.clap.specs.Kinds.{Kinds, or_else}
-use Rattle.clap.specs.Faults.{check_fault, defaults_fault, use_fault, is_simple_and_free}
-use Rattle.clap.specs.Simple.{App, Shape, is_simple, new_app, new_rule, new_shape, on_top, with_rule}
-use Rattle.clap.specs.ValueTests.{accepts}
-use Rattle.clap.specs.Walk.{Row, Rule, Text, first_of, used, with_default}
-use Rattle.clap.specs.declared.builder.action.ArgAction.TheVariants.{Set}
+use Rattle.clap.specs.Faults.{check_fault, default_fault, defaults_fault, given_default_fault, settle_fault, use_fault, is_simple_and_free}
+use Rattle.clap.specs.Simple.{App, Shape, is_simple, new_shape}
+use Rattle.clap.specs.Walk.{Held, Row, Rule, Text, arg_by_id, arg_by_long, at_row, first_of, has_row, more_values, settled, used, used_by_id, with_default, with_values}
 use Rattle.clap.specs.declared.builder.value_parser.Reading.TheVariants.{AsWritten}
 use Rattle.clap.specs.declared.builder.value_parser.ValueParser.TheVariants as vp
 use Rattle.clap.specs.declared.error.kind.ErrorKind.{ErrorKind}
 use Rattle.clap.specs.declared.error.kind.ErrorKind.TheVariants as kind
 use Rattle.clap.specs.declared.parser.matches.ValueSource.TheVariants.{CommandLine}
 use Rattle.clap.proofs.WalkLemmas.{list_any-map}
-use Rattle.command_line.specs.Words.{Line, Options, line_by, line_of, no_options, policy_named, with_option, with_policy}
-use Rattle.command_line.proofs.Joining.{opts}
+use Rattle.command_line.specs.Command.{app_with, option_arg}
+use Rattle.command_line.specs.Words.{Given, is_given, names, value_of}
 
-abbrev pub Names : Type 0
-Names = Bor (List (Bor Text))
+-- ---- the command as it is built
 
--- the texts that name a policy
-abbrev pub NamesPolicies : Names → Type 0
-NamesPolicies names = map (λ s. s.now) names.now ≡ codes "near" ∷ codes "head" ∷ codes "tail" ∷ []
+abbrev pub app : App
+app = app_with names
 
--- ---- the command
+abbrev pub rule : Text → Rule
+rule name = record (option_arg name) { range = Some (record { start_inclusive = 1; end_inclusive = 1 }); parser = Some vp.String }
 
-abbrev pub path_arg : Rule
-path_arg = record (new_rule (codes "path")) { long = Some (codes "path"); action = Some Set; required = true }
+abbrev pub rules : List Rule
+rules = map rule names
 
-abbrev pub policy_arg : Names → Rule
-policy_arg names = record (new_rule (codes "policy")) { long = Some (codes "policy"); action = Some Set; parser = Some (vp.Names names); defaults = codes "near" ∷ [] }
+abbrev pub built_shape : Shape
+built_shape = record (new_shape (codes "mergetree")) { rules = rules; no_binary_name = true; disable_help_flag = true; disable_help_subcommand = true; is_built = true }
 
-abbrev pub bare_app : App
-bare_app = on_top (λ s. record s { disable_help_flag = true }) (on_top (λ s. record s { no_binary_name = true }) (new_app (codes "mergetree")))
+pub is_free : is_simple_and_free app ≡ true
+is_free = refl
 
-abbrev pub app : Names → App
-app names = with_rule (with_rule bare_app path_arg) (policy_arg names)
-
--- ---- and as it is built
-
-abbrev pub path_rule : Rule
-path_rule = record path_arg { range = Some (record { start_inclusive = 1; end_inclusive = 1 }); parser = Some vp.String }
-
-abbrev pub policy_rule : Names → Rule
-policy_rule names = record (policy_arg names) { range = Some (record { start_inclusive = 1; end_inclusive = 1 }) }
-
-abbrev pub rules : Names → List Rule
-rules names = path_rule ∷ policy_rule names ∷ []
-
-abbrev pub built_shape : Names → Shape
-built_shape names = record (new_shape (codes "mergetree")) { rules = rules names; no_binary_name = true; disable_help_flag = true; disable_help_subcommand = true; is_built = true }
-
-pub is_free : (names : Names) → is_simple_and_free (app names) ≡ true
-is_free names = refl
-
-pub is_simple_app : (names : Names) → is_simple (app names) ≡ true
-is_simple_app names = refl
+pub is_simple_app : is_simple app ≡ true
+is_simple_app = refl
 
 -- ---- lists of kinds
 
@@ -69,148 +45,157 @@ not_empty k ks e = true≢false (ap some_kind e)
     some_kind [] = false
     some_kind (x ∷ xs) = true
 
--- ---- what was used
+-- ---- options by their names
 
--- the options that were used, in their order
-pub data Seen : Type 0 where
-  unused : Seen
-  only_path : Text → Seen
-  only_policy : (name : Text) (p : Policy) → policy_named name ≡ Some p → Seen
-  path_policy : Text → (name : Text) (p : Policy) → policy_named name ≡ Some p → Seen
-  policy_path : (name : Text) (p : Policy) → policy_named name ≡ Some p → Text → Seen
+abbrev pub by_name : List Text → Text → Option Text
+by_name ns name = find (λ n. bytes_eq n name) ns
+
+-- the name is an option's
+abbrev pub IsOption : Text → Type 0
+IsOption name = by_name names name ≡ Some name
+
+found_is : (ns : List Text) (name m : Text) → by_name ns name ≡ Some m → bytes_eq m name ≡ true
+found_is [] name m e = cc
+found_is (n ∷ ns) name m e = go (bytes_eq n name) refl (found_is ns name m) e
+  where
+    go : (b : Bool) → bytes_eq n name ≡ b → (by_name ns name ≡ Some m → bytes_eq m name ≡ true) → cond b (Some n) (by_name ns name) ≡ Some m → bytes_eq m name ≡ true
+    go true is later e = let same : n ≡ m = cc in subst (λ x. bytes_eq x name ≡ true) same is
+    go false is later e = later e
+
+-- a name that is found is that option's
+pub is_option : (name m : Text) → by_name names name ≡ Some m → IsOption name
+is_option name m e = let same : m ≡ name = (bytes_eq-Decides m name).0 (found_is names name m e) in e ∙ ap Some same
+
+pub is_itself : (name : Text) → IsOption name → bytes_eq name name ≡ true
+is_itself name is = found_is names name name is
+
+id_found : (ns : List Text) (name : Text) → arg_by_id (map rule ns) name ≡ option_map rule (by_name ns name)
+id_found [] name = refl
+id_found (n ∷ ns) name = go (bytes_eq n name) (id_found ns name)
+  where
+    go : (b : Bool) → arg_by_id (map rule ns) name ≡ option_map rule (by_name ns name) → cond b (Some (rule n)) (arg_by_id (map rule ns) name) ≡ option_map rule (cond b (Some n) (by_name ns name))
+    go true later = refl
+    go false later = later
+
+pub long_found : (ns : List Text) (name : Text) → arg_by_long (map rule ns) name ≡ option_map rule (by_name ns name)
+long_found [] name = refl
+long_found (n ∷ ns) name = go (bytes_eq n name) (long_found ns name)
+  where
+    go : (b : Bool) → arg_by_long (map rule ns) name ≡ option_map rule (by_name ns name) → cond (b || false) (Some (rule n)) (arg_by_long (map rule ns) name) ≡ option_map rule (cond b (Some n) (by_name ns name))
+    go true later = refl
+    go false later = later
+
+pub rule_found : (name : Text) → IsOption name → arg_by_id rules name ≡ Some (rule name)
+rule_found name is = id_found names name ∙ ap (option_map rule) is
+
+-- ---- one use of an option
 
 abbrev pub row : Text → Text → Row
 row id value = record { id = id; values = value ∷ []; count = None; source = Some CommandLine; reading = AsWritten }
 
-abbrev pub rows_of_seen : Seen → List Row
-rows_of_seen unused = []
-rows_of_seen (only_path x) = row (codes "path") x ∷ []
-rows_of_seen (only_policy y p e) = row (codes "policy") y ∷ []
-rows_of_seen (path_policy x y p e) = row (codes "path") x ∷ row (codes "policy") y ∷ []
-rows_of_seen (policy_path y p e x) = row (codes "policy") y ∷ row (codes "path") x ∷ []
+-- the rows of options that are given
+abbrev pub given_rows : Given → List Row
+given_rows given = map (λ option. row option.0 option.1) given
 
-abbrev pub options_seen : Seen → Options
-options_seen unused = no_options
-options_seen (only_path x) = opts (Some x) None
-options_seen (only_policy y p e) = opts None (Some p)
-options_seen (path_policy x y p e) = opts (Some x) (Some p)
-options_seen (policy_path y p e x) = opts (Some x) (Some p)
+row_given : (name : Text) (given : Given) → has_row name (given_rows given) ≡ is_given name given
+row_given name given = sym (list_any-map (λ r. bytes_eq r.id name) (λ option. row option.0 option.1) given)
 
--- which of the two options
-pub data Which : Type 0 where
-  the_path : Which
-  the_policy : Which
-
-abbrev pub name_of : Which → Text
-name_of the_path = codes "--path"
-name_of the_policy = codes "--policy"
-
-abbrev pub rule_at : Names → Which → Rule
-rule_at names the_path = path_rule
-rule_at names the_policy = policy_rule names
-
--- the option is used with this value, and its rows are those of t
-pub record Uses (names : Names) (w : Which) (value : Text) (s t : Seen) : Type 0 where
-  pub passes : use_fault false (rule_at names w) (value ∷ []) (rows_of_seen s) ≡ []
-  pub rows : used (rule_at names w) (value ∷ []) (rows_of_seen s) ≡ rows_of_seen t
-  pub options : with_option (name_of w) value (options_seen s) ≡ Some (options_seen t)
-
--- the use is refused
-pub record Refuses (names : Names) (w : Which) (value : Text) (s : Seen) : Type 0 where
-  pub fails : use_fault false (rule_at names w) (value ∷ []) (rows_of_seen s) ≡ [] → ⊥
-  pub options : with_option (name_of w) value (options_seen s) ≡ None
-
-abbrev pub Comes : Names → Which → Text → Seen → Type 0
-Comes names w value s = ((t : Seen) × Uses names w value s t) ⊎ Refuses names w value s
-
-use_path : (names : Names) (value : Text) (s : Seen) → Comes names the_path value s
-use_path names v unused = inl (only_path v, record { passes = refl; rows = refl; options = refl })
-use_path names v (only_path x) = inr (record { fails = not_empty kind.ArgumentConflict []; options = refl })
-use_path names v (only_policy y p e) = inl (policy_path y p e v, record { passes = refl; rows = refl; options = refl })
-use_path names v (path_policy x y p e) = inr (record { fails = not_empty kind.ArgumentConflict []; options = refl })
-use_path names v (policy_path y p e x) = inr (record { fails = not_empty kind.ArgumentConflict []; options = refl })
-
--- the value has a name that passes, and is that of a policy
-module _ (names : Names) (v : Text) (p : Policy) (passes : accepts false (vp.Names names) v ≡ true) (is : policy_named v ≡ Some p) where
-  quiet : or_else (cond (accepts false (vp.Names names) v) [] (kind.InvalidValue ∷ [])) [] ≡ []
-  quiet = ap (λ b. or_else (cond b [] (kind.InvalidValue ∷ [])) []) passes
-
-  named_use : (s : Seen) → Comes names the_policy v s
-  named_use unused = inl (only_policy v p is, record { passes = quiet; rows = refl; options = ap (λ q. with_policy q no_options) is })
-  named_use (only_path x) = inl (path_policy x v p is, record { passes = quiet; rows = refl; options = ap (λ q. with_policy q (opts (Some x) None)) is })
-  named_use (only_policy y q e) = inr (record { fails = not_empty kind.ArgumentConflict []; options = ap (λ o. with_policy o (opts None (Some q))) is })
-  named_use (path_policy x y q e) = inr (record { fails = not_empty kind.ArgumentConflict []; options = ap (λ o. with_policy o (opts (Some x) (Some q))) is })
-  named_use (policy_path y q e x) = inr (record { fails = not_empty kind.ArgumentConflict []; options = ap (λ o. with_policy o (opts (Some x) (Some q))) is })
-
--- the value is no name of a policy
-module _ (names : Names) (v : Text) (fails : accepts false (vp.Names names) v ≡ false) (is : policy_named v ≡ None) where
-  loud : or_else (cond (accepts false (vp.Names names) v) [] (kind.InvalidValue ∷ [])) [] ≡ kind.InvalidValue ∷ []
-  loud = ap (λ b. or_else (cond b [] (kind.InvalidValue ∷ [])) []) fails
-
-  other_use : (s : Seen) → Comes names the_policy v s
-  other_use unused = inr (record { fails = λ e. not_empty kind.InvalidValue [] (sym loud ∙ e); options = ap (λ o. with_policy o no_options) is })
-  other_use (only_path x) = inr (record { fails = λ e. not_empty kind.InvalidValue [] (sym loud ∙ e); options = ap (λ o. with_policy o (opts (Some x) None)) is })
-  other_use (only_policy y q e) = inr (record { fails = not_empty kind.ArgumentConflict []; options = ap (λ o. with_policy o (opts None (Some q))) is })
-  other_use (path_policy x y q e) = inr (record { fails = not_empty kind.ArgumentConflict []; options = ap (λ o. with_policy o (opts (Some x) (Some q))) is })
-  other_use (policy_path y q e x) = inr (record { fails = not_empty kind.ArgumentConflict []; options = ap (λ o. with_policy o (opts (Some x) (Some q))) is })
-
--- `clap` takes the names that policies have
-pub takes_names : (names : Names) (v : Text) → NamesPolicies names → accepts false (vp.Names names) v ≡ is_some (policy_named v)
-takes_names names v good =
-    list_any-map (λ name. bytes_eq name v) (λ (s : Bor Text). s.now) names.now
-    ∙ ap (list_any (λ name. bytes_eq name v)) good
-    ∙ go (bytes_eq (codes "near") v) (bytes_eq (codes "head") v) (bytes_eq (codes "tail") v)
+-- a row that is not there comes to the end
+at_end_of : (id : Text) (change : Row → List Row) (missing rows : List Row) → has_row id rows ≡ false → at_row id change missing rows ≡ rows ++ missing
+at_end_of id change missing [] none = refl
+at_end_of id change missing (r ∷ rs) none = go (bytes_eq r.id id) (at_end_of id change missing rs) none
   where
-    go : (a b c : Bool) → (a || (b || (c || false))) ≡ is_some (cond a (Some policy.Near) (cond b (Some policy.Head) (cond c (Some policy.Tail) None)))
-    go true b c = refl
-    go false true c = refl
-    go false false true = refl
-    go false false false = refl
+    go : (b : Bool) → (has_row id rs ≡ false → at_row id change missing rs ≡ rs ++ missing) → (b || has_row id rs) ≡ false → cond b (change r ++ rs) (r ∷ at_row id change missing rs) ≡ r ∷ (rs ++ missing)
+    go true later none = absurd (true≢false none)
+    go false later none = ap (λ xs. r ∷ xs) (later none)
 
-use_policy : (names : Names) (v : Text) (s : Seen) → NamesPolicies names → Comes names the_policy v s
-use_policy names v s good = go (policy_named v) refl
-  where
-    go : (o : Option Policy) → policy_named v ≡ o → Comes names the_policy v s
-    go (Some p) is = named_use names v p (takes_names names v good ∙ ap is_some is) is s
-    go None is = other_use names v (takes_names names v good ∙ ap is_some is) is s
+-- the option is given for the first time
+module _ (name value : Text) (given : Given) (none : is_given name given ≡ false) where
+  no_row : has_row name (given_rows given) ≡ false
+  no_row = row_given name given ∙ none
 
-pub use_one : (names : Names) → NamesPolicies names → (w : Which) (v : Text) (s : Seen) → Comes names w v s
-use_one names good the_path v s = use_path names v s
-use_one names good the_policy v s = use_policy names v s good
+  pub passes : use_fault false (rule name) (value ∷ []) (given_rows given) ≡ []
+  passes = ap (λ b. or_else (cond (b && true) (kind.ArgumentConflict ∷ []) []) []) no_row
+
+  pub used_rows : used (rule name) (value ∷ []) (given_rows given) ≡ given_rows (given ++ (name, value) ∷ [])
+  used_rows =
+      ap (with_values name AsWritten CommandLine (value ∷ [])) (at_end_of name (λ r. []) [] (given_rows given) no_row ∙ append-nil (given_rows given))
+      ∙ at_end_of name (more_values CommandLine (value ∷ [])) (row name value ∷ []) (given_rows given) no_row
+      ∙ sym (map-append (λ option. row option.0 option.1) given ((name, value) ∷ []))
+
+-- the option is given again
+pub twice : (name value : Text) (given : Given) → is_given name given ≡ true → use_fault false (rule name) (value ∷ []) (given_rows given) ≡ [] → ⊥
+twice name value given there e =
+    let is : use_fault false (rule name) (value ∷ []) (given_rows given) ≡ kind.ArgumentConflict ∷ [] =
+    ap (λ b. or_else (cond (b && true) (kind.ArgumentConflict ∷ []) []) []) (row_given name given ∙ there) in
+    not_empty kind.ArgumentConflict [] (sym is ∙ e)
+
+-- ---- an option whose values are read
+
+module _ (name : Text) (is : IsOption name) (values : List Text) (rows : List Row) where
+  abbrev pending : Held
+  pending = record { rows = rows; pending = Some (name, values); skip = 0 }
+
+  pub settles : settle_fault rules false pending ≡ use_fault false (rule name) values rows
+  settles = ap (λ o. option_map_or (λ a. use_fault false a values rows) o []) (rule_found name is)
+
+  pub settles_to : (settled rules pending).rows ≡ used (rule name) values rows
+  settles_to = ap (λ o. used_by_id o values rows) (rule_found name is)
+
+-- it has no value yet
+pub no_value_fails : (name : Text) → IsOption name → (rows : List Row) → settle_fault rules false (record { rows = rows; pending = Some (name, []); skip = 0 }) ≡ [] → ⊥
+no_value_fails name is rows e = not_empty kind.InvalidValue [] (sym (settles name is [] rows) ∙ e)
 
 -- ---- the end
 
+-- no option has a value where it is not given
+no_default : (rows : List Row) (name : Text) → with_default rows (rule name) ≡ rows
+no_default rows name = go (has_row name rows)
+  where
+    go : (b : Bool) → cond b rows rows ≡ rows
+    go true = refl
+    go false = refl
+
+pub no_defaults : (ns : List Text) (rows : List Row) → fold with_default rows (map rule ns) ≡ rows
+no_defaults [] rows = refl
+no_defaults (n ∷ ns) rows = ap (λ r. fold with_default r (map rule ns)) (no_default rows n) ∙ no_defaults ns rows
+
+no_default_fault : (rows : List Row) (name : Text) → default_fault rows (rule name) ≡ []
+no_default_fault rows name = go (has_row name rows)
+  where
+    go : (b : Bool) → cond (b || true) [] (given_default_fault (rule name) []) ≡ []
+    go true = refl
+    go false = refl
+
+no_defaults_fault : (ns : List Text) (rows : List Row) → defaults_fault rows (map rule ns) ≡ []
+unfolding defaults_fault
+no_defaults_fault [] rows = refl
+no_defaults_fault (n ∷ ns) rows =
+    ap (λ ks. or_else ks (defaults_fault (with_default rows (rule n)) (map rule ns))) (no_default_fault rows n)
+    ∙ ap (λ r. defaults_fault r (map rule ns)) (no_default rows n)
+    ∙ no_defaults_fault ns rows
+
 -- what is checked once the last option was used
-abbrev pub last_fault : Names → List Row → Kinds
-last_fault names rows = or_else (defaults_fault rows (rules names)) (check_fault (built_shape names) (fold with_default rows (rules names)) false)
+abbrev pub last_fault : List Row → Kinds
+last_fault rows = or_else (defaults_fault rows rules) (check_fault built_shape (fold with_default rows rules) false)
 
--- the line that the rows say
-abbrev pub line_in : List Row → Option Line
-line_in rows = line_of (first_of (codes "path") rows) (option_and_then policy_named (first_of (codes "policy") rows))
-
--- `clap` refuses the words where they say nothing, and else the rows say the same
-abbrev pub Agrees : Kinds → List Row → Option Line → Type 0
+-- `clap` refuses the words where they give no options, and else the rows are those of the options
+abbrev pub Agrees : Kinds → List Row → Option Given → Type 0
 Agrees kinds rows None = kinds ≡ [] → ⊥
-Agrees kinds rows (Some line) = (kinds ≡ []) × (line_in rows ≡ Some line)
+Agrees kinds rows (Some given) = (kinds ≡ []) × (rows ≡ given_rows given)
 
-module _ (names : Names) (good : NamesPolicies names) where
-  near : accepts false (vp.Names names) (codes "near") ≡ true
-  near = takes_names names (codes "near") good
+pub at_end : (given : Given) → Agrees (last_fault (given_rows given)) (fold with_default (given_rows given) rules) (Some given)
+at_end given =
+    let rows = given_rows given in
+    (ap (λ ks. or_else ks (check_fault built_shape (fold with_default rows rules) false)) (no_defaults_fault names rows), no_defaults names rows)
 
-  default_passes : or_else (cond (accepts false (vp.Names names) (codes "near")) [] (kind.InvalidValue ∷ [])) [] ≡ []
-  default_passes = ap (λ b. or_else (cond b [] (kind.InvalidValue ∷ [])) []) near
+-- ---- values
 
-  -- a folder is wanted, and `near` stands where no policy was used
-  wants_path : or_else (or_else (or_else (cond (accepts false (vp.Names names) (codes "near")) [] (kind.InvalidValue ∷ [])) []) []) (kind.MissingRequiredArgument ∷ []) ≡ kind.MissingRequiredArgument ∷ []
-  wants_path = ap (λ ks. or_else (or_else ks []) (kind.MissingRequiredArgument ∷ [])) default_passes
-
-  has_path : or_else (or_else (or_else (cond (accepts false (vp.Names names) (codes "near")) [] (kind.InvalidValue ∷ [])) []) []) [] ≡ []
-  has_path = ap (λ ks. or_else (or_else ks []) []) default_passes
-
-  pub at_end : (s : Seen) → Agrees (last_fault names (rows_of_seen s)) (fold with_default (rows_of_seen s) (rules names)) (line_by (options_seen s))
-  unfolding defaults_fault
-  at_end unused = λ e. not_empty kind.MissingRequiredArgument [] (sym wants_path ∙ e)
-  at_end (only_path x) = (has_path, refl)
-  at_end (only_policy y p e) = not_empty kind.MissingRequiredArgument []
-  at_end (path_policy x y p e) = (refl, ap (line_of (Some x)) e)
-  at_end (policy_path y p e x) = (refl, ap (line_of (Some x)) e)
+pub first_given : (given : Given) (name : Text) → first_of name (given_rows given) ≡ value_of given name
+first_given [] name = refl
+first_given (option ∷ given) name = go (bytes_eq option.0 name) (first_given given name)
+  where
+    go : (b : Bool) → first_of name (given_rows given) ≡ value_of given name
+        → option_and_then (λ r. slice_get r.values 0) (cond b (Some (row option.0 option.1)) (find (λ r. bytes_eq r.id name) (given_rows given))) ≡ option_map (λ o. o.1) (cond b (Some option) (find (λ o. bytes_eq o.0 name) given))
+    go true later = refl
+    go false later = later

@@ -3,6 +3,51 @@ use mt_base::Policy;
 use std::alloc::Global;
 use std::test::Fail;
 
+/// Words that are no command line.
+static OTHER_WORDS: [&str; 41] = [
+    "",
+    "mergetree",
+    "mergetree d",
+    "mergetree --path",
+    "mergetree --policy head",
+    "mergetree --path d e",
+    "mergetree e --path d",
+    "mergetree --path -d",
+    "mergetree --path --",
+    "mergetree --path d --",
+    "mergetree -- --path d",
+    "mergetree --path --path",
+    "mergetree --path --policy head",
+    "mergetree --path d --path d",
+    "mergetree --path d --path=d",
+    "mergetree --path d --policy",
+    "mergetree --path d --policy=",
+    "mergetree --path d --policy ",
+    "mergetree --path d --policy -",
+    "mergetree --path d --policy heads",
+    "mergetree --path d --policy Head",
+    "mergetree --path d --policy HEAD",
+    "mergetree --path d --policy head --policy head",
+    "mergetree --path d --policy=head --policy tail",
+    "mergetree --path d --mergers 2",
+    "mergetree --path d --mergers=0",
+    "mergetree --path d --polic head",
+    "mergetree --pat d",
+    "mergetree --PATH d",
+    "mergetree --paths d",
+    "mergetree -path d",
+    "mergetree -p d",
+    "mergetree path d",
+    "mergetree --=d",
+    "mergetree --path d -",
+    "mergetree --path d ",
+    "mergetree --path d --help",
+    "mergetree --path d -h",
+    "mergetree help",
+    "mergetree --path d --version",
+    "mergetree --path d -V",
+];
+
 /// Whether the words, which stand apart by a blank, say this folder and this policy, or nothing.
 fn says(alloc: Global, line: &str, want: Option<(&str, Policy)>) -> Result<bool, Fail> {
     let mut words = Vec::new(alloc);
@@ -43,49 +88,7 @@ fn reads_command_lines(rt: HostRuntime) -> Result<(), Fail> {
 
 #[test]
 fn refuses_other_words(rt: HostRuntime) -> Result<(), Fail> {
-    for line in [
-        "",
-        "mergetree",
-        "mergetree d",
-        "mergetree --path",
-        "mergetree --policy head",
-        "mergetree --path d e",
-        "mergetree e --path d",
-        "mergetree --path -d",
-        "mergetree --path --",
-        "mergetree --path d --",
-        "mergetree -- --path d",
-        "mergetree --path --path",
-        "mergetree --path --policy head",
-        "mergetree --path d --path d",
-        "mergetree --path d --path=d",
-        "mergetree --path d --policy",
-        "mergetree --path d --policy=",
-        "mergetree --path d --policy ",
-        "mergetree --path d --policy -",
-        "mergetree --path d --policy heads",
-        "mergetree --path d --policy Head",
-        "mergetree --path d --policy HEAD",
-        "mergetree --path d --policy head --policy head",
-        "mergetree --path d --policy=head --policy tail",
-        "mergetree --path d --mergers 2",
-        "mergetree --path d --mergers=0",
-        "mergetree --path d --polic head",
-        "mergetree --pat d",
-        "mergetree --PATH d",
-        "mergetree --paths d",
-        "mergetree -path d",
-        "mergetree -p d",
-        "mergetree path d",
-        "mergetree --=d",
-        "mergetree --path d -",
-        "mergetree --path d ",
-        "mergetree --path d --help",
-        "mergetree --path d -h",
-        "mergetree help",
-        "mergetree --path d --version",
-        "mergetree --path d -V",
-    ] {
+    for line in OTHER_WORDS.iter() {
         let is_none = says(rt.alloc(), line, None)?;
         assert!(rt; is_none, "{line}");
     }
