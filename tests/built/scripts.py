@@ -44,7 +44,7 @@ def faults(dice, is_settled, folder):
     if (done.returncode, done.stdout) != wanted:
         lines = zip(wanted[1].split(b"\n"), done.stdout.split(b"\n"))
         first = next((pair for pair in lines if pair[0] != pair[1]), "none of the lines that both have")
-        yield f"{script.decode()}status {done.returncode} in place of {wanted[0]}; wanted and printed: {first}"
+        yield f"{script.decode()}\nstatus {done.returncode} in place of {wanted[0]}; wanted and printed: {first}"
     elif is_settled:
         yield from changed(statements, done.stdout)
 
