@@ -3,3 +3,4 @@ pub mod Counts
 pub mod Disk
 pub mod DiskCauses
 pub mod Files
+pub mod Leaves
