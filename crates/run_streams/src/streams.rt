@@ -7,6 +7,9 @@ ghost use Rattle.run_streams.specs.Streams.{AppendsFront, ConsumesMost};
 use mt_outside::{ReadFault, Sink, Source, WriteFault};
 use std::alloc::{AllocError, Global};
 
+/// How many bytes are read at once, at most.
+const PIECE: usize = 65536;
+
 /// No script is read past this many bytes.
 pub const MOST_BYTES: usize = 1 << 40;
 
@@ -42,6 +45,13 @@ impl From<ReadFault> for SourceStop {
     }
 }
 
+/// A buffer of this many bytes. It is on the heap, so that a small stack serves.
+fn buffer(alloc: Global, size: usize) -> Result<Vec<u8>, AllocError>
+    ensures { IfOk result (λ v. length v.items ≡ size) }
+{
+    Ok(vec![in alloc; 0; size]?)
+}
+
 /// All the bytes of a source, which are fewer than 2^40.
 ///
 /// `Fault` only where the source's count rose, and else it stays; `TooLong` only once 2^40 bytes were read.
@@ -59,9 +69,10 @@ pub fn read_all<S: Source>(alloc: Global, source: &mut S) -> Result<Vec<u8>, Sou
         → S.failed source.new ≡ S.failed source.old }
 {
     let mut bytes = Vec::new(alloc);
-    let mut buf = [0; 65536];
+    let mut heap = buffer(alloc, PIECE)?;
+    let buf = heap.as_mut_slice();
     'pieces: while bytes.len() < MOST_BYTES {
-        let room = (MOST_BYTES - bytes.len()).min(65536);
+        let room = (MOST_BYTES - bytes.len()).min(PIECE);
         let count = source.read(&mut buf[..room])?;
         if count == 0 {
             return Ok(bytes);
