@@ -1,7 +1,6 @@
 -- Which file of a part is the first damaged: there is one at most, and what is told of damage is it.
 use Rattle.std.proofs.Common.{◌≡◌, ℕ, zero, suc, ◌+◌, ◌<◌, List, [], ◌∷◌, ◌++◌, Option, Some, None, inl, inr, refl, sym, ap, ◌∙◌, subst, length, slice_get, take, arith, Result, Ok, Err, IsErrAnd, IsSomeAnd, MatchResult}
 use Rattle.std.proofs.lemmas.List.{take_more}
-use Rattle.std.specs.Option.{ForSome}
 use Rattle.std.proofs.lemmas.Option.{get_or_from_slice_get, same_Some, slice_get_within}
 use Rattle.mt_values.specs.declared.manifest.FileMark.{FileMark}
 use Rattle.mt_values.specs.declared.manifest.Manifest.{Manifest}
@@ -24,7 +23,7 @@ use Rattle.part_damage.specs.part_writer.PartFiles.{IsContent, content_bytes, co
 use Rattle.part_damage.proofs.PartWriterContents.{content_known, opened_content, skip_at}
 use Rattle.part_reader.specs.declared.reading.PartFault.{PartFault}
 use Rattle.part_reader.specs.declared.reading.PartFault.TheVariants.{Fault, NoMemory, Damaged}
-use Rattle.part_reader.specs.Damage.{ExplainsManifest, ExplainsManifestFile, GoesWrongAt, IsOpenedFault, IsSkipFault, Tells}
+use Rattle.part_reader.specs.Damage.{GoesWrongAt, IsOpenedFault, IsSkipFault, Tells}
 use Rattle.part_reader.specs.Faults.{ExplainsBytes, ExplainsFile, IsDamage, IsNoDamage, IsRefused}
 use Rattle.part_damage.specs.Marks.{mark_for}
 use Rattle.part_damage.specs.Sound.{AreBlocksUnder, AreChecked, AreIndexes, AreReadAs, FirstDamaged, FirstUnder, FirstUnsound, IsChecked, IsFirstUnlike, IsFirstWithout, IsManifestFor, IsReadAs, IsReadable, IsSound}
@@ -189,11 +188,6 @@ pub none_told : (told : Option Files) (files : Files) (schema : Schema) (manifes
 none_told told files schema manifest f Fault has known r why = tt
 none_told told files schema manifest f NoMemory has known r why = tt
 none_told told files schema manifest f (Damaged g place wanted found) has known r why = absurd (not_readable told files schema manifest f g place wanted found has known why r)
-
-pub manifest_explained : (told : Option Files) (schema : Schema) (bytes : List ℕ) (fault : PartFault) → ForSome told (λ files. bytes ≡ bytes_of file.Manifest files) → ExplainsManifest schema bytes fault → ExplainsManifestFile told schema fault
-manifest_explained told schema bytes Fault read why = tt
-manifest_explained told schema bytes NoMemory read why = tt
-manifest_explained told schema bytes (Damaged f place wanted found) read why = record { bytes = bytes; read = read; explained = why }
 
 -- ---- one file more
 

@@ -1,5 +1,5 @@
 -- The bytes of a file that is read piece by piece.
-use Rattle.std.proofs.Common.{◌≡◌, ℕ, ◌+◌, ◌-◌, ◌<◌, ◌≤◌, min, List, ◌++◌, Option, Some, IfSome, sym, ap, ap₂, ◌∙◌, subst, length, take, drop, arith, length-drop, length-take}
+use Rattle.std.proofs.Common.{◌≡◌, ℕ, ◌+◌, ◌-◌, ◌<◌, ◌≤◌, min, List, ◌++◌, Option, Some, IfSome, sym, ap, ap₂, ◌∙◌, subst, length, take, drop, arith, length-take}
 use Rattle.std.proofs.lemmas.List.{drop-drop, take-append-le, take_all}
 use Rattle.std.proofs.Math.Seq.{take-add}
 use Rattle.mt_base.specs.declared.name.FileId.{FileId}
@@ -34,15 +34,6 @@ span_more told files file start at place count next front buf rest new known rea
     let n : next ≡ at + count = omega (arith, more, ap length own, length-take count buf) in
     let piece : take count (drop at (drop start bytes)) ≡ take count buf = ap (take count) (drop-drop at start bytes) ∙ ap (λ p. take count (drop p bytes)) (sym here) ∙ sym read.bytes_are in
     ap (λ m. take m (drop start bytes)) n ∙ take-add at count (drop start bytes) ∙ ap₂ ◌++◌ so_far (piece ∙ sym own) ∙ sym e
-
--- where nothing is left before the second place, all was read
-pub span_last : (told : Option Files) (files : Files) (file : FileId) (start size at place count : ℕ) (front buf : List ℕ) → told ≡ Some files → IfSome told (λ fs. ReadsAt (bytes_of file fs) place count buf) → count ≡ 0 → 0 < length buf → place ≡ start + at → at ≤ size
-    → take at (drop start (bytes_of file files)) ≡ front → front ≡ take size (drop start (bytes_of file files))
-span_last told files file start size at place count front buf known reads none some here within so_far =
-    let bytes = bytes_of file files in
-    let read : ReadsAt bytes place count buf = subst (λ o. IfSome o (λ fs. ReadsAt (bytes_of file fs) place count buf)) known reads in
-    let past : length (drop start bytes) ≤ at = omega (arith, read.count_is, length-drop start bytes) in
-    sym so_far ∙ take_all at (drop start bytes) past ∙ sym (take_all size (drop start bytes) (omega (arith, past, within)))
 
 -- no more is read than stands between them
 pub span_within : (at before size most count next : ℕ) (buf rest : List ℕ) → next ≡ at + length (take count (buf ++ rest)) → count ≤ length buf → length buf ≤ most → most ≡ min (size - before) 65536 → before ≡ at → at ≤ size → next ≤ size

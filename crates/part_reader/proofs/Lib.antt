@@ -2,7 +2,6 @@ pub mod CheckedParts
 pub mod ChosenColumns
 pub mod ChosenItems
 pub mod ComparedColumns
-pub mod ComparedFiles
 pub mod CutRows
 pub mod DamagedFiles
 pub mod Damages
@@ -12,6 +11,7 @@ pub mod HeldRows
 pub mod Holding
 pub mod IndexedBlocks
 pub mod KeptColumns
+pub mod LongerFiles
 pub mod MarkedValues
 pub mod NumberMarks
 pub mod Opened

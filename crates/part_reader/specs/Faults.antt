@@ -1,5 +1,5 @@
 -- What a fault says of a part (docs/formats.md, "Parts").
-use Rattle.std.specs.Prelude.{◌≡◌, ◌≢◌, ◌⊎◌, ℕ, ◌+◌, ◌^◌, ◌<◌, List, slice_get, Option, Some, None, ⊤}
+use Rattle.std.specs.Prelude.{◌≡◌, ◌≢◌, ◌⊎◌, ℕ, ◌+◌, ◌^◌, ◌<◌, List, length, slice_get, Option, Some, None, IsSomeAnd, ⊤}
 use Rattle.std.specs.Option.{ForSome}
 use Rattle.mt_values.specs.declared.manifest.FileMark.{FileMark}
 use Rattle.mt_base.specs.declared.name.FileId.{FileId}
@@ -41,13 +41,17 @@ IsRefused None WrongAt bytes place wanted = (wanted ≡ NO_MARK) × (place ≡ 0
 IsRefused (Some mark) WrongAt bytes place wanted =
     (wanted ≡ mark) × (((mark ≢ mark_of bytes) × (place ≡ 0)) ⊎ ((mark ≡ mark_of bytes) × WrongAt place))
 
+-- what is told as found of bytes: their mark; or none, where they are more than the manifest's mark says, and were not read
+abbrev pub IsFound : Option FileMark → List ℕ → FileMark → Type 0
+IsFound marked bytes found = (found ≡ mark_of bytes) ⊎ (IsSomeAnd marked (λ mark. mark.size < length bytes) × (found ≡ NO_MARK))
+
 -- what a fault says of the bytes of a file, which go wrong at some places; the manifest has this mark of it, or none
 abbrev pub ExplainsBytes : Option FileMark → FileId → (ℕ → Type 0) → List ℕ → PartFault → Type 0
 ExplainsBytes marked f WrongAt bytes Fault = ⊥
 ExplainsBytes marked f WrongAt bytes NoMemory = ⊤
-ExplainsBytes marked f WrongAt bytes (Damaged g place wanted found) = (g ≡ f) × (found ≡ mark_of bytes) × IsRefused marked WrongAt bytes place wanted
+ExplainsBytes marked f WrongAt bytes (Damaged g place wanted found) = (g ≡ f) × IsFound marked bytes found × IsRefused marked WrongAt bytes place wanted
 
--- damage is told of bytes that were read: those of the file, where the folder tells
+-- damage is told of the bytes of a file: those that the folder tells, where it does
 pub record IsDamage (told : Option Files) (marked : Option FileMark) (f : FileId) (WrongAt : List ℕ → ℕ → Type 0) (damage : PartFault) : Type 0 where
   pub bytes : List ℕ
   pub read : ForSome told (λ files. bytes ≡ bytes_of f files)

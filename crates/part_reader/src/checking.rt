@@ -1,7 +1,7 @@
 // A part checked: its files are compared with its manifest and with each other, and no value of them is kept.
-ghost use Rattle.std.specs.Prelude.{◌≡◌, ◌≤◌, ◌<◌, ◌&&◌, ℕ, List, IfErr, IfOk, IsErrOf, MatchResult, OnOk, None, Some, length, slice_get};
-ghost use Rattle.mt_outside.specs.Causes.{Rose};
+ghost use Rattle.std.specs.Prelude.{◌≡◌, ◌<◌, ℕ, List, IfErr, IfOk, IsErrOf, MatchResult, OnOk, None, Some, length, slice_get};
 ghost use Rattle.mt_outside.specs.Files.{Files};
+ghost use Rattle.mt_outside.specs.Leaves.{LeavesArm};
 ghost use Rattle.mt_values.specs.Values.{Row};
 ghost use Rattle.mt_values.specs.declared.manifest.FileMark.{FileMark};
 ghost use Rattle.part_damage.specs.part_writer.PartFiles.{IsContent, indexes_of, loaded_of};
@@ -16,7 +16,7 @@ ghost use Rattle.part_damage.specs.Sound.{AreRowsRead, IsLoadedOf, IsReadAs};
 ghost use Rattle.part_damage.specs.Marks.{mark_for};
 
 use crate::comparing::{Agreement, compare_column, shape};
-use crate::files::read_file;
+use crate::files::read_marked;
 use crate::marked::{mark_at, mark_found, misspelled};
 use crate::reading::{NO_MARK, Part, PartFault};
 use mt_outside::Arm;
@@ -25,13 +25,14 @@ use part_damage::part_writer::{Loaded, content_count, content_file};
 use std::alloc::Global;
 
 /// Nothing, where each file of which the part's manifest has a mark has it, the files of the columns spell as many rows as the manifest
-/// says, and what is kept of `marks.bin`, `primary.bin` and the files of skip indexes is that of these rows. The files are read whole, one
-/// after another in the order of the format, and none is kept. Beside a column that has skip indexes the values of one block are in memory.
-/// Whether the rows are sorted is not asked.
+/// says, and what is kept of `marks.bin`, `primary.bin` and the files of skip indexes is that of these rows. The files are read one after
+/// another in the order of the format, each no further than a byte past the length that the manifest has of it, and none is kept. Beside a
+/// column that has skip indexes the values of one block are in memory. Whether the rows are sorted is not asked.
 ///
 /// `Damaged` at the first file that has another mark or, of a column, spells no values; where there is none, at `marks.bin`, or else
-/// `primary.bin`, or else the first file of a skip index that is not that of the rows. It is never so where the folder and what is kept hold rows. `Fault` only where the arm's
-/// count rose in this call; `NoMemory` where an allocation failed, or a file's place does not fit 32 bits.
+/// `primary.bin`, or else the first file of a skip index that is not that of the rows. It is never so where the folder and what is kept
+/// hold rows. `Fault` only where the arm's count rose in this call; `NoMemory` where an allocation failed, or a file's place does not fit
+/// 32 bits.
 pub fn check_part<R: Arm>(alloc: Global, part: &Part<R::Dir>, arm: &mut R) -> Result<(), PartFault>
     requires marks { HasMarks part.now.loaded.schema }
     requires indexes { HasIndexes part.now.loaded.schema }
@@ -59,10 +60,7 @@ pub fn check_part<R: Arm>(alloc: Global, part: &Part<R::Dir>, arm: &mut R) -> Re
         → IfErr result IsNoDamage }
 
     // What the arm is then, and its count of faults.
-    ensures tells { R.tells arm.new ≡ R.tells arm.old }
-    ensures later { R.failed arm.old ≤ R.failed arm.new }
-    ensures fault { IsErrOf result PartFault.Fault → Rose (R.failed arm.old) (R.failed arm.new) }
-    ensures calm { (IsErrOf result PartFault.Fault → ⊥) → R.failed arm.new ≡ R.failed arm.old }
+    ensures arm { LeavesArm R.Arm arm.old arm.new (IsErrOf result PartFault.Fault) }
 {
     let schema = &part.loaded.schema;
     let mut agreed = shape(&part.loaded, schema);
@@ -100,14 +98,10 @@ fn check_file<R: Arm>(
     ensures damaged { IfErr result (ExplainsFile (R.Dir.files part.now.dir)
         (mark_for schema.now part.now.loaded.manifest file) file
         (GoesWrongAlone schema.now part.now.loaded.manifest.rows file)) }
-
-    // What the arm is then, and its count of faults.
-    ensures tells { R.tells arm.new ≡ R.tells arm.old }
-    ensures later { R.failed arm.old ≤ R.failed arm.new }
-    ensures fault { IsErrOf result PartFault.Fault → Rose (R.failed arm.old) (R.failed arm.new) }
-    ensures calm { (IsErrOf result PartFault.Fault → ⊥) → R.failed arm.new ≡ R.failed arm.old }
+    ensures arm { LeavesArm R.Arm arm.old arm.new (IsErrOf result PartFault.Fault) }
 {
-    let bytes = read_file(alloc, arm, &part.dir, file)?;
+    let marked = mark_at(schema, &part.loaded.manifest, file);
+    let bytes = read_marked(alloc, arm, &part.dir, file, marked)?;
     check_bytes(alloc, &part.loaded, schema, file, &bytes)
 }
 

@@ -1,9 +1,9 @@
 // The values of chosen granules of a part, and the rows that have them.
-ghost use Rattle.std.specs.Prelude.{◌≡◌, ◌+◌, ◌<◌, ◌≤◌, ◌^◌, ℕ, All, IfErr, IfOk, IsErrOf, List, OnOk, length, map, slice_get};
+ghost use Rattle.std.specs.Prelude.{◌≡◌, ◌+◌, ◌<◌, ◌^◌, ℕ, All, IfErr, IfOk, IsErrOf, List, OnOk, length, map, slice_get};
 ghost use Rattle.std.specs.List.{filter_map};
 ghost use Rattle.std.specs.Option.{IfSome};
 ghost use Rattle.part_damage.specs.column_file.Marks.{granules};
-ghost use Rattle.mt_outside.specs.Causes.{Rose};
+ghost use Rattle.mt_outside.specs.Leaves.{LeavesArm};
 ghost use Rattle.mt_base.specs.declared.name.FileId.TheVariants as file;
 ghost use Rattle.mt_values.specs.declared.schema.Schema.{Schema};
 ghost use Rattle.mt_values.specs.Grid.{Cells};
@@ -62,10 +62,7 @@ pub fn add_granules<R: Arm>(
         (column_in R.Dir.files part.now number) chosen.now t) places.now columns.old) }
 
     // What the arm is then, and its count of faults.
-    ensures tells { R.tells arm.new ≡ R.tells arm.old }
-    ensures later { R.failed arm.old ≤ R.failed arm.new }
-    ensures fault { IsErrOf result PartFault.Fault → Rose (R.failed arm.old) (R.failed arm.new) }
-    ensures calm { (IsErrOf result PartFault.Fault → ⊥) → R.failed arm.new ≡ R.failed arm.old }
+    ensures arm { LeavesArm R.Arm arm.old arm.new (IsErrOf result PartFault.Fault) }
 {
     for (number, place) in places.iter().enumerate() {
         add_chosen(alloc, arm, part, chosen, *place, &mut columns[number])?;
@@ -104,10 +101,7 @@ pub fn read_granules<R: Arm>(
         (column_types part.now.loaded.schema) places.now) }
 
     // What the arm is then, and its count of faults.
-    ensures tells { R.tells arm.new ≡ R.tells arm.old }
-    ensures later { R.failed arm.old ≤ R.failed arm.new }
-    ensures fault { IsErrOf result PartFault.Fault → Rose (R.failed arm.old) (R.failed arm.new) }
-    ensures calm { (IsErrOf result PartFault.Fault → ⊥) → R.failed arm.new ≡ R.failed arm.old }
+    ensures arm { LeavesArm R.Arm arm.old arm.new (IsErrOf result PartFault.Fault) }
 {
     let Ok(mut columns) = empty_columns(alloc, &part.loaded.schema, places) else {
         return Err(PartFault::NoMemory);
@@ -161,12 +155,7 @@ fn add_chosen<R: Arm>(
         column.old column.new) }
     ensures damaged { IfErr result (ExplainsChosen (column_in R.Dir.files part.now number)
         chosen.now column.old.col_type) }
-
-    // What the arm is then, and its count of faults.
-    ensures tells { R.tells arm.new ≡ R.tells arm.old }
-    ensures later { R.failed arm.old ≤ R.failed arm.new }
-    ensures fault { IsErrOf result PartFault.Fault → Rose (R.failed arm.old) (R.failed arm.new) }
-    ensures calm { (IsErrOf result PartFault.Fault → ⊥) → R.failed arm.new ≡ R.failed arm.old }
+    ensures arm { LeavesArm R.Arm arm.old arm.new (IsErrOf result PartFault.Fault) }
 {
     // Where the granules begin that were chosen since the last one that was not.
     let mut first = 0;

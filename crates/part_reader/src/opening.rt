@@ -1,7 +1,7 @@
 // A part opened: the manifest that lies in its folder, where its granules begin, and what its skip indexes keep.
-ghost use Rattle.std.specs.Prelude.{◌≡◌, ◌≢◌, ◌≤◌, ◌<◌, ℕ, List, IfErr, IfOk, IsErrOf, MatchResult, OnOk, Some, length};
-ghost use Rattle.mt_outside.specs.Causes.{Rose};
+ghost use Rattle.std.specs.Prelude.{◌≡◌, ◌≢◌, ◌<◌, ℕ, List, IfErr, IfOk, IsErrOf, MatchResult, OnOk, Some, length};
 ghost use Rattle.mt_outside.specs.Files.{Files, bytes_of};
+ghost use Rattle.mt_outside.specs.Leaves.{LeavesArm};
 ghost use Rattle.mt_values.specs.declared.manifest.Manifest.{Manifest};
 ghost use Rattle.mt_base.specs.declared.name.FileId.TheVariants as file;
 ghost use Rattle.mt_values.specs.Values.{Row};
@@ -18,8 +18,8 @@ ghost use Rattle.part_reader.specs.Parts.{FolderHolds};
 ghost use Rattle.part_damage.specs.Sound.{AreBlocksUnder, AreIndexes, AreKeysUnder, AreMarksUnder, IsLoadedOf, IsManifestFor, IsOpened, IsReadAs};
 ghost use Rattle.part_reader.specs.declared.reading.TheConstants.{NO_MARK};
 
-use crate::files::read_file;
-use crate::marked::{mark_found, misspelled};
+use crate::files::{read_file, read_marked};
+use crate::marked::{mark_at, mark_found, misspelled};
 use crate::reading::{NO_MARK, Part, PartFault};
 use mt_base::{Seq, Twin};
 use mt_outside::Arm;
@@ -35,7 +35,8 @@ use std::alloc::Global;
 const COUNT_PLACE: u64 = 14;
 
 /// The part of a table with this folder, and what is kept of it: the schema of the table, its manifest, and what its `marks.bin`, its
-/// `primary.bin` and the files of its skip indexes say. Each of these files is read whole, in this order.
+/// `primary.bin` and the files of its skip indexes say. These files are read in this order, each after the manifest no further than a
+/// byte past the length that the manifest has of it.
 ///
 /// `Damaged` at the first of them that is not as it has to be: where `manifest.bin` is no manifest, at its first fault, or one that has
 /// not as many marks as the part has other files, at the place of that number; where another does not have its mark, at 0, or is none,
@@ -70,10 +71,7 @@ pub fn open_part<R: Arm>(
     ensures damaged { IfErr result (ExplainsOpening (R.Dir.files dir) schema.now) }
 
     // What the arm is then, and its count of faults.
-    ensures tells { R.tells arm.new ≡ R.tells arm.old }
-    ensures later { R.failed arm.old ≤ R.failed arm.new }
-    ensures fault { IsErrOf result PartFault.Fault → Rose (R.failed arm.old) (R.failed arm.new) }
-    ensures calm { (IsErrOf result PartFault.Fault → ⊥) → R.failed arm.new ≡ R.failed arm.old }
+    ensures arm { LeavesArm R.Arm arm.old arm.new (IsErrOf result PartFault.Fault) }
 {
     let manifest = open_manifest(alloc, &dir, schema, arm)?;
     let places = open_marks(alloc, &dir, schema, &manifest, arm)?;
@@ -107,10 +105,7 @@ fn open_manifest<R: Arm>(
         → IsManifestFor schema.now (bytes_of file.Manifest files) manifest
         → MatchResult result (λ found. found ≡ manifest) IsNoDamage }
     ensures damaged { IfErr result (ExplainsManifestFile (R.Dir.files dir.now) schema.now) }
-    ensures tells { R.tells arm.new ≡ R.tells arm.old }
-    ensures later { R.failed arm.old ≤ R.failed arm.new }
-    ensures fault { IsErrOf result PartFault.Fault → Rose (R.failed arm.old) (R.failed arm.new) }
-    ensures calm { (IsErrOf result PartFault.Fault → ⊥) → R.failed arm.new ≡ R.failed arm.old }
+    ensures arm { LeavesArm R.Arm arm.old arm.new (IsErrOf result PartFault.Fault) }
 {
     let bytes = read_file(alloc, arm, dir, FileId::Manifest)?;
     manifest_in(alloc, &bytes, schema)
@@ -135,14 +130,10 @@ fn open_marks<R: Arm>(
     ensures damaged { IfErr result (ExplainsFile (R.Dir.files dir.now)
         (mark_for schema.now manifest.now file.Marks) file.Marks
         (GoesWrongAt schema.now manifest.now.rows file.Marks)) }
-
-    // What the arm is then, and its count of faults.
-    ensures tells { R.tells arm.new ≡ R.tells arm.old }
-    ensures later { R.failed arm.old ≤ R.failed arm.new }
-    ensures fault { IsErrOf result PartFault.Fault → Rose (R.failed arm.old) (R.failed arm.new) }
-    ensures calm { (IsErrOf result PartFault.Fault → ⊥) → R.failed arm.new ≡ R.failed arm.old }
+    ensures arm { LeavesArm R.Arm arm.old arm.new (IsErrOf result PartFault.Fault) }
 {
-    let bytes = read_file(alloc, arm, dir, FileId::Marks)?;
+    let marked = mark_at(schema, manifest, FileId::Marks);
+    let bytes = read_marked(alloc, arm, dir, FileId::Marks, marked)?;
     places_in(alloc, schema, manifest, &bytes)
 }
 
@@ -192,14 +183,10 @@ fn open_keys<R: Arm>(
     ensures damaged { IfErr result (ExplainsFile (R.Dir.files dir.now)
         (mark_for schema.now manifest.now file.Primary) file.Primary
         (GoesWrongAt schema.now manifest.now.rows file.Primary)) }
-
-    // What the arm is then, and its count of faults.
-    ensures tells { R.tells arm.new ≡ R.tells arm.old }
-    ensures later { R.failed arm.old ≤ R.failed arm.new }
-    ensures fault { IsErrOf result PartFault.Fault → Rose (R.failed arm.old) (R.failed arm.new) }
-    ensures calm { (IsErrOf result PartFault.Fault → ⊥) → R.failed arm.new ≡ R.failed arm.old }
+    ensures arm { LeavesArm R.Arm arm.old arm.new (IsErrOf result PartFault.Fault) }
 {
-    let bytes = read_file(alloc, arm, dir, FileId::Primary)?;
+    let marked = mark_at(schema, manifest, FileId::Primary);
+    let bytes = read_marked(alloc, arm, dir, FileId::Primary, marked)?;
     keys_in(alloc, schema, manifest, &bytes)
 }
 
@@ -246,12 +233,7 @@ fn open_indexes<R: Arm>(
         (bytes_of (file.Skip n) files) index) indexes
         → MatchResult result (λ found. found ≡ indexes) IsNoDamage }
     ensures damaged { IfErr result (IsSkipFault (R.Dir.files dir.now) schema.now manifest.now) }
-
-    // What the arm is then, and its count of faults.
-    ensures tells { R.tells arm.new ≡ R.tells arm.old }
-    ensures later { R.failed arm.old ≤ R.failed arm.new }
-    ensures fault { IsErrOf result PartFault.Fault → Rose (R.failed arm.old) (R.failed arm.new) }
-    ensures calm { (IsErrOf result PartFault.Fault → ⊥) → R.failed arm.new ≡ R.failed arm.old }
+    ensures arm { LeavesArm R.Arm arm.old arm.new (IsErrOf result PartFault.Fault) }
 {
     let mut indexes = Seq::new(alloc);
     for place in 0..schema.indexes.len() {
@@ -288,14 +270,10 @@ fn open_index<R: Arm>(
     ensures damaged { IfErr result (ExplainsFile (R.Dir.files dir.now)
         (mark_for schema.now manifest.now (file.Skip number)) (file.Skip number)
         (GoesWrongAt schema.now manifest.now.rows (file.Skip number))) }
-
-    // What the arm is then, and its count of faults.
-    ensures tells { R.tells arm.new ≡ R.tells arm.old }
-    ensures later { R.failed arm.old ≤ R.failed arm.new }
-    ensures fault { IsErrOf result PartFault.Fault → Rose (R.failed arm.old) (R.failed arm.new) }
-    ensures calm { (IsErrOf result PartFault.Fault → ⊥) → R.failed arm.new ≡ R.failed arm.old }
+    ensures arm { LeavesArm R.Arm arm.old arm.new (IsErrOf result PartFault.Fault) }
 {
-    let bytes = read_file(alloc, arm, dir, FileId::Skip(number))?;
+    let marked = mark_at(schema, manifest, FileId::Skip(number));
+    let bytes = read_marked(alloc, arm, dir, FileId::Skip(number), marked)?;
     index_in(alloc, schema, manifest, number, &bytes)
 }
 

@@ -1,10 +1,10 @@
 // The values that wanted rows of chosen granules have: a mask says which of their rows are wanted, and the values of the others are
 // passed over in the bytes.
-ghost use Rattle.std.specs.Prelude.{◌≡◌, ◌+◌, ◌<◌, ◌≤◌, ◌^◌, ◌∷◌, [], IfErr, IsErrOf, List, OnOk, Some, length, slice_get};
+ghost use Rattle.std.specs.Prelude.{◌≡◌, ◌+◌, ◌<◌, ◌^◌, ◌∷◌, [], IfErr, IsErrOf, List, OnOk, Some, length, slice_get};
 ghost use Rattle.part_damage.specs.column_file.Marks.{granules};
 ghost use Rattle.part_damage.specs.column_file.Spellings.{with_values};
+ghost use Rattle.mt_outside.specs.Leaves.{LeavesArm};
 ghost use Rattle.mt_base.specs.declared.name.FileId.TheVariants as file;
-ghost use Rattle.mt_outside.specs.Causes.{Rose};
 ghost use Rattle.mt_values.specs.declared.schema.Schema.{Schema};
 ghost use Rattle.mt_values.specs.Grid.{column_of};
 ghost use Rattle.mt_values.specs.Lists.{where_true};
@@ -61,10 +61,7 @@ pub fn add_granules_where<R: Arm>(
         chosen.now column.old.col_type) }
 
     // What the arm is then, and its count of faults.
-    ensures tells { R.tells arm.new ≡ R.tells arm.old }
-    ensures later { R.failed arm.old ≤ R.failed arm.new }
-    ensures fault { IsErrOf result PartFault.Fault → Rose (R.failed arm.old) (R.failed arm.new) }
-    ensures calm { (IsErrOf result PartFault.Fault → ⊥) → R.failed arm.new ≡ R.failed arm.old }
+    ensures arm { LeavesArm R.Arm arm.old arm.new (IsErrOf result PartFault.Fault) }
 {
     // Where the granules begin that were chosen since the last one that was not, and the mask from their rows on.
     let mut first = 0;
@@ -103,12 +100,7 @@ fn add_run_where<R: Arm>(
         column.old column.new) }
     ensures damaged { IfErr result
         (ExplainsRun (column_in R.Dir.files part.now number) run column.old.col_type) }
-
-    // What the arm is then, and its count of faults.
-    ensures tells { R.tells arm.new ≡ R.tells arm.old }
-    ensures later { R.failed arm.old ≤ R.failed arm.new }
-    ensures fault { IsErrOf result PartFault.Fault → Rose (R.failed arm.old) (R.failed arm.new) }
-    ensures calm { (IsErrOf result PartFault.Fault → ⊥) → R.failed arm.new ≡ R.failed arm.old }
+    ensures arm { LeavesArm R.Arm arm.old arm.new (IsErrOf result PartFault.Fault) }
 {
     if run.count == 0 {
         return Ok(());

@@ -1,7 +1,7 @@
 // Parts, why one is not read, and the values of their columns.
-ghost use Rattle.std.specs.Prelude.{◌≡◌, ◌+◌, ◌≤◌, ℕ, All, IfErr, IsErrOf, List, OnOk, length, map, slice_get};
+ghost use Rattle.std.specs.Prelude.{◌≡◌, ◌+◌, ℕ, All, IfErr, IsErrOf, List, OnOk, length, map, slice_get};
 ghost use Rattle.std.specs.List.{filter_map};
-ghost use Rattle.mt_outside.specs.Causes.{Rose};
+ghost use Rattle.mt_outside.specs.Leaves.{LeavesArm};
 ghost use Rattle.mt_base.specs.declared.name.FileId.TheVariants as file;
 ghost use Rattle.mt_values.specs.declared.schema.Schema.{Schema};
 ghost use Rattle.mt_values.specs.Grid.{Cells};
@@ -73,7 +73,8 @@ pub enum PartFault {
         place: u64,
         /// The mark of the manifest, or `NO_MARK` where it has none, as of itself.
         wanted: FileMark,
-        /// The mark of the bytes that were read, of granules alone where no more was read.
+        /// The mark of the bytes that were read, of granules alone where no more was read; `NO_MARK` where the file is longer than
+        /// wanted, and was read no further.
         found: FileMark,
     },
 }
@@ -135,10 +136,7 @@ pub fn read_columns<R: Arm>(
         part.now.loaded) places.now columns.old) }
 
     // What the arm is then, and its count of faults.
-    ensures tells { R.tells arm.new ≡ R.tells arm.old }
-    ensures later { R.failed arm.old ≤ R.failed arm.new }
-    ensures fault { IsErrOf result PartFault.Fault → Rose (R.failed arm.old) (R.failed arm.new) }
-    ensures calm { (IsErrOf result PartFault.Fault → ⊥) → R.failed arm.new ≡ R.failed arm.old }
+    ensures arm { LeavesArm R.Arm arm.old arm.new (IsErrOf result PartFault.Fault) }
 {
     for (number, place) in places.iter().enumerate() {
         read_column(alloc, arm, part, *place, &mut columns[number])?;
@@ -160,10 +158,7 @@ fn read_column<R: Arm>(
         column.old column.new) }
     ensures damaged { IfErr result (ExplainsColumn (R.Dir.files part.now.dir)
         part.now.loaded number column.old.col_type) }
-    ensures tells { R.tells arm.new ≡ R.tells arm.old }
-    ensures later { R.failed arm.old ≤ R.failed arm.new }
-    ensures fault { IsErrOf result PartFault.Fault → Rose (R.failed arm.old) (R.failed arm.new) }
-    ensures calm { (IsErrOf result PartFault.Fault → ⊥) → R.failed arm.new ≡ R.failed arm.old }
+    ensures arm { LeavesArm R.Arm arm.old arm.new (IsErrOf result PartFault.Fault) }
 {
     let loaded = &part.loaded;
     let file = FileId::Column(number);

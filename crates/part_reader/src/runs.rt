@@ -1,7 +1,7 @@
 // Runs of granules of a column, each read by itself.
-ghost use Rattle.std.specs.Prelude.{◌≡◌, ◌≢◌, ◌≤◌, ◌<◌, ◌+◌, ◌^◌, IfErr, IsErrOf, MatchOption, OnOk, length};
+ghost use Rattle.std.specs.Prelude.{◌≡◌, ◌<◌, ◌+◌, ◌^◌, IfErr, IsErrOf, MatchOption, OnOk};
+ghost use Rattle.mt_outside.specs.Leaves.{LeavesArm};
 ghost use Rattle.mt_base.specs.declared.name.FileId.TheVariants as file;
-ghost use Rattle.mt_outside.specs.Causes.{Rose};
 ghost use Rattle.part_reader.specs.Granules.{ExplainsRun, IsRunAdded, IsSpanOf, column_in, no_run, place_of, rows_in};
 
 use crate::files::{Span, read_span};
@@ -40,12 +40,7 @@ pub fn add_run<R: Arm>(
         (IsRunAdded (column_in R.Dir.files part.now number) run column.old column.new) }
     ensures damaged { IfErr result
         (ExplainsRun (column_in R.Dir.files part.now number) run column.old.col_type) }
-
-    // What the arm is then, and its count of faults.
-    ensures tells { R.tells arm.new ≡ R.tells arm.old }
-    ensures later { R.failed arm.old ≤ R.failed arm.new }
-    ensures fault { IsErrOf result PartFault.Fault → Rose (R.failed arm.old) (R.failed arm.new) }
-    ensures calm { (IsErrOf result PartFault.Fault → ⊥) → R.failed arm.new ≡ R.failed arm.old }
+    ensures arm { LeavesArm R.Arm arm.old arm.new (IsErrOf result PartFault.Fault) }
 {
     if run.count == 0 {
         return Ok(());

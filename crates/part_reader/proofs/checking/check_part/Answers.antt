@@ -1,4 +1,5 @@
-use Rattle.std.proofs.Common.{◌≡◌, ◌∙◌, ℕ, Option, Some, None, arith, get_or, refl, subst, sym, inl, List}
+use Rattle.std.proofs.Common.{◌≡◌, ◌∙◌, ℕ, Option, Some, None, arith, get_or, subst, sym, inl, List}
+use Rattle.mt_outside.proofs.LeftArms.{arm_as, arm_calm, arm_same}
 use Rattle.mt_base.specs.declared.name.FileId.TheVariants as file
 use Rattle.mt_outside.specs.Files.{Files}
 use Rattle.mt_values.specs.Values.{Row}
@@ -41,8 +42,7 @@ pub loop-place-init : goal.loop-place-init
 loop-place-init g c = record {
   gone = gone_over_none (g.R.Dir.Dir.files c.args.part.now.dir) c.args.part.now.loaded.schema c.args.part.now.loaded c.shape-agreed.result c.shape-agreed.ensures.places c.shape-agreed.ensures.keys c.shape-agreed.ensures.index;
   few = omega arith;
-  tells = refl;
-  count = refl;
+  arm = arm_same c.args.arm.now;
 }
 
 pub loop-place-preserved : goal.loop-place-preserved
@@ -50,8 +50,7 @@ loop-place-preserved g c = record {
   gone = gone_over_more (g.R.Dir.Dir.files c.args.part.now.dir) c.args.part.now.loaded.schema c.args.part.now.loaded c.loop-place.place c.in-Some.file c.loop-place.agreed _ _ (sym c.in-Some.ensures)
       c.loop-place.invariant.gone c.in_ok-check_file.ensures.compared c.and-agreed.ensures;
   few = omega arith;
-  tells = c.in_ok-check_file.ensures.tells ∙ c.loop-place.invariant.tells;
-  count = c.in_ok-check_file.ensures.calm (λ fault. cc) ∙ c.loop-place.invariant.count;
+  arm = arm_calm c.loop-place.invariant.arm (λ none. none) c.in_ok-check_file.ensures.arm (λ fault. cc);
 }
 
 -- the fault is that of the file that was read last
@@ -133,5 +132,8 @@ returns-in-Some-unlike-clause-file g c = λ files known is.
 pub returns-in-Some-unlike-clause-sound : goal.returns-in-Some-unlike-clause-sound
 returns-in-Some-unlike-clause-sound g c = λ rows holds. held_sound g.R.Dir.Dir.files c.args.part.now.loaded.schema c.args.part.now rows holds c.unlike_rows.result (unlike_of g c)
 
-pub returns-in-Some-unlike-clause-fault : goal.returns-in-Some-unlike-clause-fault
-returns-in-Some-unlike-clause-fault g c = λ e. absurd (no_check_fault (g.R.Dir.Dir.files c.args.part.now.dir) c.args.part.now.loaded.schema c.args.part.now.loaded c.loop-place.agreed (rows_unlike g c).0 (rows_unlike g c).1 c.in-Some-unlike.file c.unlike_rows.result (sym c.unlike.ensures ∙ c.in-Some-unlike.is) c.unlike_rows.ensures (let same : c.unlike_rows.result ≡ Fault = cc in same))
+pub returns-in-Some-unlike-clause-arm : goal.returns-in-Some-unlike-clause-arm
+returns-in-Some-unlike-clause-arm g c =
+    arm_as c.loop-place.invariant.arm
+    (λ e. no_check_fault (g.R.Dir.Dir.files c.args.part.now.dir) c.args.part.now.loaded.schema c.args.part.now.loaded c.loop-place.agreed (rows_unlike g c).0 (rows_unlike g c).1 c.in-Some-unlike.file c.unlike_rows.result (sym c.unlike.ensures ∙ c.in-Some-unlike.is) c.unlike_rows.ensures (let same : c.unlike_rows.result ≡ Fault = cc in same))
+    (λ none. absurd none)

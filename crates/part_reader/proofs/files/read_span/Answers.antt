@@ -1,4 +1,4 @@
-use Rattle.std.proofs.Common.{◌∙◌, arith, drop, length-take}
+use Rattle.std.proofs.Common.{rules, arith, drop, length-append, length-drop, length-take}
 use Rattle.part_reader.proofs.FilePieces.{span_more, span_within}
 use Rattle.part_reader.proofs.files.read_span.Goals as goal
 
@@ -14,6 +14,6 @@ loop-read-preserved g c =
           span_more (g.R.Dir.Dir.files c.args.dir.now) files c.args.file c.args.span.start _ _ count _ _ buf rest _ known c.in_ok-count.ensures.bytes c.in_ok-count.ensures.bound (omega (arith, c.len-in-loop-read.ensures)) more.len (c.loop-read.invariant.read files known) more.items;
       within = span_within _ _ _ _ count _ buf rest more.len c.in_ok-count.ensures.bound (omega (arith, long, length-take c.min-most.result c.loop-read.piece)) c.min-most.ensures c.len.ensures c.loop-read.invariant.within;
       size = c.loop-read.invariant.size;
-      tells = c.in_ok-count.ensures.tells ∙ c.loop-read.invariant.tells;
-      count = c.in_ok-count.ensures.cause.ok ∙ c.loop-read.invariant.count;
+      arm = search rules;
+      room = omega (arith, long, length-take c.min-most.result c.loop-read.piece, length-drop c.min-most.result c.loop-read.piece, length-append buf rest, c.loop-read.invariant.room);
     }

@@ -1,6 +1,7 @@
 use Rattle.std.proofs.Common.{◌≡◌, ◌<◌, length, get_or, refl, sym, ap, ◌∙◌, arith}
 use Rattle.std.proofs.lemmas.List.{get_or_default}
 use Rattle.std.proofs.lemmas.Option.{slice_get-get_or, slice_get_read}
+use Rattle.mt_outside.proofs.LeftArms.{arm_calm}
 use Rattle.mt_values.specs.Grid.{Cells}
 use Rattle.part_damage.specs.column_file.Marks.{granules}
 use Rattle.part_damage.specs.part_writer.declared.loaded.Loaded.{Loaded}
@@ -22,8 +23,7 @@ loop-number-preserved g c =
       gained = read_more (λ place. GainsChosen (column_in g.R.Dir.Dir.files c.args.part.now place) c.args.chosen.now) c.args.places.now olds c.loop-number.columns _ i old c.add_chosen.new.column (omega arith) (omega arith) c.requires old_is refl
           c.loop-number.invariant.gained c.in_ok-add_chosen.ensures.gained;
       rest = rest_more olds c.loop-number.columns _ i c.add_chosen.new.column c.loop-number.invariant.rest refl;
-      tells = c.in_ok-add_chosen.ensures.tells ∙ c.loop-number.invariant.tells;
-      count = c.in_ok-add_chosen.ensures.calm (λ fault. cc) ∙ c.loop-number.invariant.count;
+      arm = arm_calm c.loop-number.invariant.arm (λ none. none) c.in_ok-add_chosen.ensures.arm (λ fault. cc);
     }
 
 -- the fault is that of the column that was read last

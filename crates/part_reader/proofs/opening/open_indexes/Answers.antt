@@ -1,5 +1,6 @@
-use Rattle.std.proofs.Common.{◌≡◌, ◌<◌, ◌∙◌, ap, arith, length, refl, subst, sym}
+use Rattle.std.proofs.Common.{◌≡◌, ◌<◌, ap, arith, length, subst, sym}
 use Rattle.std.proofs.lemmas.List.{length_push}
+use Rattle.mt_outside.proofs.LeftArms.{arm_calm, arm_same}
 use Rattle.mt_base.specs.declared.name.FileId.TheVariants as file
 use Rattle.part_damage.specs.Sound.{AreBlocksUnder, IsReadAs}
 use Rattle.part_reader.specs.Damage.{IsSkipFault}
@@ -14,8 +15,7 @@ loop-place-init g c = record {
   many = ap length c.new-indexes.ensures;
   read = λ n index here. absurd (none_at c.new-indexes.result n index c.new-indexes.ensures here);
   before = tt;
-  tells = refl;
-  count = refl;
+  arm = arm_same c.args.arm.now;
 }
 
 pub loop-place-preserved : goal.loop-place-preserved
@@ -32,8 +32,7 @@ loop-place-preserved g c =
       read = at_push (λ n index. IsReadAs told (file.Skip n) (λ bytes. AreBlocksUnder schema manifest n bytes index)) c.loop-place.indexes _ c.in_ok-index.index c.in-Ok.ensures.ok i.read
           (subst (λ n. IsReadAs told (file.Skip n) (λ bytes. AreBlocksUnder schema manifest n bytes c.in_ok-index.index)) (sym i.many) read);
       before = skip_more told schema manifest place c.in_ok-index.index below i.before read;
-      tells = c.in_ok-index.ensures.tells ∙ i.tells;
-      count = c.in_ok-index.ensures.calm (λ fault. cc) ∙ i.count;
+      arm = arm_calm i.arm (λ none. none) c.in_ok-index.ensures.arm (λ fault. cc);
     }
 
 pub returns-then-place-clause-damaged : goal.returns-then-place-clause-damaged

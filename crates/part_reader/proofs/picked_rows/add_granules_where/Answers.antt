@@ -1,4 +1,5 @@
-use Rattle.std.proofs.Common.{◌∙◌, ◌+◌, ◌-◌, OnOk, arith, length, refl, subst}
+use Rattle.std.proofs.Common.{◌+◌, ◌-◌, OnOk, arith, length, refl, subst}
+use Rattle.mt_outside.proofs.LeftArms.{arm_calm, arm_same}
 use Rattle.mt_values.specs.declared.value.ColType.{ColType}
 use Rattle.part_reader.specs.declared.runs.Run.{Run}
 use Rattle.part_reader.specs.Faults.{IsNoDamage}
@@ -15,8 +16,7 @@ loop-granule-init g c = record {
   before = omega arith;
   run = refl;
   picked = picked_none (column_in g.R.Dir.Dir.files c.args.part.now c.args.number) c.args.chosen.now c.args.mask.now c.args.column.now;
-  tells = refl;
-  count = refl;
+  arm = arm_same c.args.arm.now;
 }
 
 pub loop-granule-preserved-then-is_chosen : goal.loop-granule-preserved-then-is_chosen
@@ -26,8 +26,7 @@ loop-granule-preserved-then-is_chosen g c =
       before = omega (arith, i.before);
       run = run_more c.args.chosen.now c.loop-granule.first c.loop-granule.granule i.before c.loop-granule-test.true c.if-is_chosen.true i.run;
       picked = i.picked;
-      tells = i.tells;
-      count = i.count;
+      arm = i.arm;
     }
 
 -- the mask that is left has a place for each row of the run
@@ -48,8 +47,7 @@ loop-granule-preserved g c =
       run = run_none chosen (c.loop-granule.granule + 1);
       picked = picked_over (column_in g.R.Dir.Dir.files c.args.part.now c.args.number) chosen c.args.mask.now c.requires.even c.loop-granule.first c.loop-granule.granule c.row_count.result c.loop-granule.rest.now c.split_at.result.0.now c.split_at.result.1.now c.args.column.now c.loop-granule.column c.add_run_where.new.column
           i.before c.loop-granule-test.true c.if-is_chosen.false i.run i.picked c.row_count.ensures c.split_at.ensures.front c.split_at.ensures.back c.in_ok-add_run_where.ensures.read;
-      tells = c.in_ok-add_run_where.ensures.tells ∙ i.tells;
-      count = c.in_ok-add_run_where.ensures.calm (λ fault. cc) ∙ i.count;
+      arm = arm_calm i.arm (λ none. none) c.in_ok-add_run_where.ensures.arm (λ fault. cc);
     }
 
 pub returns-in_err-add_run_where-clause-sound : goal.returns-in_err-add_run_where-clause-sound

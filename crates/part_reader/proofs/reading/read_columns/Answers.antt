@@ -1,6 +1,7 @@
 use Rattle.std.proofs.Common.{◌≡◌, ◌<◌, length, get_or, refl, ◌∙◌, arith}
 use Rattle.std.proofs.lemmas.List.{get_or_default}
 use Rattle.std.proofs.lemmas.Option.{slice_get-get_or, slice_get_read}
+use Rattle.mt_outside.proofs.LeftArms.{arm_calm}
 use Rattle.mt_values.specs.Grid.{Cells}
 use Rattle.part_reader.specs.Columns.{IsRead}
 use Rattle.part_reader.specs.Faults.{ExplainsColumn, ExplainsEach, IsNoDamage}
@@ -20,8 +21,7 @@ loop-number-preserved g c =
       read = read_more (IsRead (g.R.Dir.Dir.files c.args.part.now.dir) c.args.part.now.loaded.manifest) c.args.places.now olds c.loop-number.columns _ i old c.read_column.new.column (omega arith) (omega arith) c.requires old_is refl
           c.loop-number.invariant.read c.in_ok-read_column.ensures.read;
       rest = rest_more olds c.loop-number.columns _ i c.read_column.new.column c.loop-number.invariant.rest refl;
-      tells = c.in_ok-read_column.ensures.tells ∙ c.loop-number.invariant.tells;
-      count = c.in_ok-read_column.ensures.calm (λ fault. cc) ∙ c.loop-number.invariant.count;
+      arm = arm_calm c.loop-number.invariant.arm (λ none. none) c.in_ok-read_column.ensures.arm (λ fault. cc);
     }
 
 -- the fault is that of the column that was read last
