@@ -1,10 +1,9 @@
 // Parts of a partition, read, merged and sealed as one part (docs/engines.md, "Merges").
-ghost use Rattle.std.specs.Prelude.{◌≡◌, ◌<◌, ◌≤◌, ◌^◌, true, All, IfErr, IfOk, IsErrOf, List, OnOk, length};
+ghost use Rattle.std.specs.Prelude.{◌≡◌, ◌<◌, ◌^◌, true, All, IfErr, IfOk, IsErrAnd, IsErrOf, List, length};
 ghost use Rattle.std.specs.List.{range_with_len};
 ghost use Rattle.mt_base.specs.declared.partition.Partition.{Partition};
 ghost use Rattle.part_history.specs.mt_model.History.{IsTableSchema};
-ghost use Rattle.mt_outside.specs.Causes.{Rose};
-ghost use Rattle.mt_outside.specs.DiskCauses.{HasDiskCause};
+ghost use Rattle.mt_outside.specs.Leaves.{LeavesArm};
 ghost use Rattle.mt_values.specs.Grid.{AreRowsOf};
 ghost use Rattle.mt_values.specs.Schemas.{column_types};
 ghost use Rattle.mt_values.specs.Values.{Row};
@@ -58,13 +57,7 @@ pub fn merge_parts<R: Arm>(
     ensures damaged { IfErr result (ExplainsMerge R.Dir.files schema.now parts.now) }
 
     // What the arm is then, and its count of faults.
-    ensures tells { R.tells arm.new ≡ R.tells arm.old }
-    ensures later { R.failed arm.old ≤ R.failed arm.new }
-    ensures fault { IfErr result
-        (λ e. e.1 ≡ PartFault.Fault → Rose (R.failed arm.old) (R.failed arm.new)) }
-    ensures calm { OnOk result (R.failed arm.new ≡ R.failed arm.old) }
-    ensures calm_err { IfErr result
-        (λ e. (e.1 ≡ PartFault.Fault → ⊥) → R.failed arm.new ≡ R.failed arm.old) }
+    ensures arm { LeavesArm R.Arm arm.old arm.new (IsErrAnd result (λ e. e.1 ≡ PartFault.Fault)) }
 {
     let inputs = read_inputs(alloc, arm, schema, parts)?;
     match seal_merged(alloc, arm, schema, inputs.as_slice()) {
@@ -96,13 +89,7 @@ fn read_inputs<R: Arm>(
     ensures damaged { IfErr result (ExplainsMerge R.Dir.files schema.now parts.now) }
 
     // What the arm is then, and its count of faults.
-    ensures tells { R.tells arm.new ≡ R.tells arm.old }
-    ensures later { R.failed arm.old ≤ R.failed arm.new }
-    ensures fault { IfErr result
-        (λ e. e.1 ≡ PartFault.Fault → Rose (R.failed arm.old) (R.failed arm.new)) }
-    ensures calm { OnOk result (R.failed arm.new ≡ R.failed arm.old) }
-    ensures calm_err { IfErr result
-        (λ e. (e.1 ≡ PartFault.Fault → ⊥) → R.failed arm.new ≡ R.failed arm.old) }
+    ensures arm { LeavesArm R.Arm arm.old arm.new (IsErrAnd result (λ e. e.1 ≡ PartFault.Fault)) }
 {
     let mut inputs = Vec::new(alloc);
     for kept in parts {
@@ -140,10 +127,7 @@ fn read_rows<R: Arm>(
     ensures damaged { IfErr result (ExplainsPart R.Dir.files schema.now part.now) }
 
     // What the arm is then, and its count of faults.
-    ensures tells { R.tells arm.new ≡ R.tells arm.old }
-    ensures later { R.failed arm.old ≤ R.failed arm.new }
-    ensures fault { IsErrOf result PartFault.Fault → Rose (R.failed arm.old) (R.failed arm.new) }
-    ensures calm { (IsErrOf result PartFault.Fault → ⊥) → R.failed arm.new ≡ R.failed arm.old }
+    ensures arm { LeavesArm R.Arm arm.old arm.new (IsErrOf result PartFault.Fault) }
 {
     if part.rows() > u32::MAX as u64 {
         return Err(PartFault::NoMemory);
@@ -185,8 +169,7 @@ fn seal_merged<R: Arm>(
     ensures holds { R.tells arm.old ≡ true
         → IfOk result (λ s. IsSealedPart schema.now s.sealed.files s.loaded) }
     ensures none_failed { IfOk result (λ s. s.sealed.failed ≡ 0) }
-    ensures tells { R.tells arm.new ≡ R.tells arm.old }
-    ensures cause { HasDiskCause (R.failed arm.old) (R.failed arm.new) result }
+    ensures arm { LeavesArm R.Arm arm.old arm.new (IsErrOf result DiskError.Fault) }
 {
     let rows = merge_rows(alloc, schema, inputs)?;
     let block = block_of(alloc, schema, rows.as_slice())?;

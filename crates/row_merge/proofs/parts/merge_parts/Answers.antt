@@ -19,10 +19,10 @@ returns-in-Ok-clause-sealed g c = λ tells partition rows holds parts.
     let schema = c.args.schema.now in
     let same : inputs_of c.as_slice.result.now ≡ rows = ap inputs_of c.as_slice.ensures.value ∙ c.in_ok-inputs.ensures.rows rows holds in
     subst (λ (inputs : List (List Row)). IsSealedMerge schema partition inputs c.in-Ok.part.sealed.files c.in-Ok.part.loaded) same
-    (c.in-Ok.ensures.sealed (c.read_inputs.ensures.tells ∙ tells) partition (subst (All (ArePartRows schema partition)) (sym same) parts))
+    (c.in-Ok.ensures.sealed (c.read_inputs.ensures.arm.tells ∙ tells) partition (subst (All (ArePartRows schema partition)) (sym same) parts))
 
 pub returns-in-Ok-clause-holds : goal.returns-in-Ok-clause-holds
-returns-in-Ok-clause-holds g c = λ tells. c.in-Ok.ensures.holds (c.read_inputs.ensures.tells ∙ tells)
+returns-in-Ok-clause-holds g c = λ tells. c.in-Ok.ensures.holds (c.read_inputs.ensures.arm.tells ∙ tells)
 
 pub returns-clause-damaged : goal.returns-clause-damaged
 returns-clause-damaged g c =

@@ -1,5 +1,6 @@
 use Rattle.std.proofs.Common.{◌∙◌, arith, length, refl}
 use Rattle.std.proofs.lemmas.Option.{slice_get_read}
+use Rattle.mt_outside.proofs.LeftArms.{arm_as, arm_calm, arm_then}
 use Rattle.mt_values.specs.Grid.{AreRowsOf}
 use Rattle.mt_values.specs.Schemas.{column_types}
 use Rattle.row_merge.proofs.SealedMerges.{all_lists, inputs_next, part_at, typed_next}
@@ -28,11 +29,11 @@ returns-in_default-clause-damaged g c = record {
   explained = tt;
 }
 
-pub returns-in-Err-clause-calm_err : goal.returns-in-Err-clause-calm_err
-returns-in-Err-clause-calm_err g c = λ other. c.in-Err.ensures.calm (λ is. other cc) ∙ c.loop-kept.invariant.failed
+pub returns-in-Err-clause-arm : goal.returns-in-Err-clause-arm
+returns-in-Err-clause-arm g c = arm_as (arm_then c.loop-kept.invariant.arm (λ none. none) c.in-Err.ensures.arm) (λ fault. cc) (λ fault. cc)
 
-pub returns-in_default-clause-calm_err : goal.returns-in_default-clause-calm_err
-returns-in_default-clause-calm_err g c = λ other. c.in-Ok.ensures.calm (λ fault. cc) ∙ c.loop-kept.invariant.failed
+pub returns-in_default-clause-arm : goal.returns-in_default-clause-arm
+returns-in_default-clause-arm g c = arm_as (arm_calm c.loop-kept.invariant.arm (λ none. none) c.in-Ok.ensures.arm (λ fault. cc)) (λ fault. cc) (λ none. absurd none)
 
 pub loop-kept-preserved : goal.loop-kept-preserved
 loop-kept-preserved g c =
@@ -48,8 +49,7 @@ loop-kept-preserved g c =
           let h = part_at files schema c.args.parts.now rows c.loop-kept.kept-index c.kept-item.result holds (omega arith) c.kept-item.is in
           inputs_next done pushed read pushed_is rows c.loop-kept.kept-index h.rows h.next (kept.rows rows holds) (c.in-Ok.ensures.rows h.rows h.holds);
       typed = typed_next done pushed read pushed_is (AreRowsOf (column_types schema)) kept.typed c.in-Ok.ensures.typed;
-      tells = c.in-Ok.ensures.tells ∙ kept.tells;
-      failed = c.in-Ok.ensures.calm (λ fault. cc) ∙ kept.failed;
+      arm = arm_calm kept.arm (λ none. none) c.in-Ok.ensures.arm (λ fault. cc);
     }
 
 pub returns-clause-rows : goal.returns-clause-rows

@@ -1,5 +1,6 @@
 -- the rows of the parts gone over
 use Rattle.std.proofs.Common.{◌≡◌, All, List, take}
+use Rattle.mt_outside.specs.Leaves.{LeavesArm}
 use Rattle.mt_values.specs.Grid.{AreRowsOf}
 use Rattle.mt_values.specs.Schemas.{column_types}
 use Rattle.mt_values.specs.Values.{Row}
@@ -11,6 +12,5 @@ abbrev pub invariant-loop-kept : goal.invariant-loop-kept
 invariant-loop-kept g l = record {
   rows : (rows : List (List Row)) → PartsHold g.R.Dir.Dir.files l.schema l.parts rows → inputs_of l.inputs.items ≡ take l.kept-index rows;
   typed : All (AreRowsOf (column_types l.schema)) (inputs_of l.inputs.items);
-  tells : g.R.Arm.tells l.arm ≡ g.R.Arm.tells l.initial.arm;
-  failed : g.R.Arm.failed l.arm ≡ g.R.Arm.failed l.initial.arm;
+  arm : LeavesArm g.R.Arm l.initial.arm l.arm ⊥;
 }
