@@ -1,7 +1,7 @@
 // The rows of one part that meet a condition, added to columns.
 ghost use Rattle.std.specs.Prelude.{◌≡◌, ◌≤◌, ◌+◌, ℕ, All, IfErr, IfOk, IsErrOf, List, MatchOption, OnOk, Some, length, map, slice_get};
 ghost use Rattle.std.specs.List.{Contains as HasItem};
-ghost use Rattle.mt_outside.specs.Causes.{Rose};
+ghost use Rattle.mt_outside.specs.Leaves.{LeavesArm};
 ghost use Rattle.mt_values.specs.Grid.{Cells, column_of};
 ghost use Rattle.mt_values.specs.Schemas.{column_types};
 ghost use Rattle.mt_values.specs.Values.{Row};
@@ -61,10 +61,7 @@ pub(crate) fn add_part<R: Arm>(
         (ExplainsAsked R.Dir.files task.now.part.now task.now.chosen.now task.now.wanted) }
 
     // What the arm is then, and its count of faults.
-    ensures tells { R.tells arm.new ≡ R.tells arm.old }
-    ensures later { R.failed arm.old ≤ R.failed arm.new }
-    ensures fault { IsErrOf result PartFault.Fault → Rose (R.failed arm.old) (R.failed arm.new) }
-    ensures calm { (IsErrOf result PartFault.Fault → ⊥) → R.failed arm.new ≡ R.failed arm.old }
+    ensures arm { LeavesArm R.Arm arm.old arm.new (IsErrOf result PartFault.Fault) }
 {
     if task.plan.sieves.is_empty() {
         return add_chosen(alloc, arm, task, columns);
@@ -107,10 +104,7 @@ fn add_chosen<R: Arm>(
         (ExplainsAsked R.Dir.files task.now.part.now task.now.chosen.now task.now.wanted) }
 
     // What the arm is then, and its count of faults.
-    ensures tells { R.tells arm.new ≡ R.tells arm.old }
-    ensures later { R.failed arm.old ≤ R.failed arm.new }
-    ensures fault { IsErrOf result PartFault.Fault → Rose (R.failed arm.old) (R.failed arm.new) }
-    ensures calm { (IsErrOf result PartFault.Fault → ⊥) → R.failed arm.new ≡ R.failed arm.old }
+    ensures arm { LeavesArm R.Arm arm.old arm.new (IsErrOf result PartFault.Fault) }
 {
     let Some(count) = count_chosen(&task.part.loaded, task.chosen) else {
         return Err(PartFault::NoMemory);
@@ -164,10 +158,7 @@ fn add_matching<R: Arm>(
         (ExplainsAsked R.Dir.files task.now.part.now task.now.chosen.now task.now.wanted) }
 
     // What the arm is then, and its count of faults.
-    ensures tells { R.tells arm.new ≡ R.tells arm.old }
-    ensures later { R.failed arm.old ≤ R.failed arm.new }
-    ensures fault { IsErrOf result PartFault.Fault → Rose (R.failed arm.old) (R.failed arm.new) }
-    ensures calm { (IsErrOf result PartFault.Fault → ⊥) → R.failed arm.new ≡ R.failed arm.old }
+    ensures arm { LeavesArm R.Arm arm.old arm.new (IsErrOf result PartFault.Fault) }
 {
     let matches = find_matches(alloc, arm, task)?;
     for (number, place) in task.wanted.places.iter().enumerate() {
@@ -213,10 +204,7 @@ fn add_column<R: Arm>(
         (ExplainsAsked R.Dir.files task.now.part.now task.now.chosen.now task.now.wanted) }
 
     // What the arm is then, and its count of faults.
-    ensures tells { R.tells arm.new ≡ R.tells arm.old }
-    ensures later { R.failed arm.old ≤ R.failed arm.new }
-    ensures fault { IsErrOf result PartFault.Fault → Rose (R.failed arm.old) (R.failed arm.new) }
-    ensures calm { (IsErrOf result PartFault.Fault → ⊥) → R.failed arm.new ≡ R.failed arm.old }
+    ensures arm { LeavesArm R.Arm arm.old arm.new (IsErrOf result PartFault.Fault) }
 {
     let Some(at) = position_of(task.plan.asked.as_slice(), place) else {
         return add_granules_where(

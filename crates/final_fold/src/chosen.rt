@@ -1,9 +1,9 @@
 // The rows of the chosen granules of parts, of each the values of all columns.
-ghost use Rattle.std.specs.Prelude.{◌≡◌, ◌<◌, ◌≤◌, ◌^◌, All, IfErr, IfOk, IsErrOf, List, OnOk, length};
+ghost use Rattle.std.specs.Prelude.{◌≡◌, ◌<◌, All, IfErr, IfOk, IsErrAnd, IsErrOf, List, length};
 ghost use Rattle.std.specs.List.{range_with_len};
 ghost use Rattle.row_merge.specs.column_file.Marks.{granules};
 ghost use Rattle.table_core.specs.mt_model.History.{IsTableSchema};
-ghost use Rattle.mt_outside.specs.Causes.{Rose};
+ghost use Rattle.mt_outside.specs.Leaves.{LeavesArm};
 ghost use Rattle.mt_values.specs.Grid.{AreRowsOf};
 ghost use Rattle.mt_values.specs.Schemas.{column_types};
 ghost use Rattle.mt_values.specs.Values.{Row};
@@ -55,13 +55,7 @@ pub(crate) fn read_inputs<R: Arm>(
     ensures damaged { IfErr result (ExplainsFold R.Dir.files parts.now chosen.now wanted.now) }
 
     // What the arm is then, and its count of faults.
-    ensures tells { R.tells arm.new ≡ R.tells arm.old }
-    ensures later { R.failed arm.old ≤ R.failed arm.new }
-    ensures fault { IfErr result
-        (λ e. e.1 ≡ PartFault.Fault → Rose (R.failed arm.old) (R.failed arm.new)) }
-    ensures calm { OnOk result (R.failed arm.new ≡ R.failed arm.old) }
-    ensures calm_err { IfErr result
-        (λ e. (e.1 ≡ PartFault.Fault → ⊥) → R.failed arm.new ≡ R.failed arm.old) }
+    ensures arm { LeavesArm R.Arm arm.old arm.new (IsErrAnd result (λ e. e.1 ≡ PartFault.Fault)) }
 {
     let Ok(all) = all_places(alloc, wanted.schema.columns.len() as u32) else {
         return Err((parts[0].name, PartFault::NoMemory));
@@ -108,10 +102,7 @@ fn read_chosen<R: Arm>(
         (ExplainsWhole R.Dir.files schema.now part.now chosen.now) }
 
     // What the arm is then, and its count of faults.
-    ensures tells { R.tells arm.new ≡ R.tells arm.old }
-    ensures later { R.failed arm.old ≤ R.failed arm.new }
-    ensures fault { IsErrOf result PartFault.Fault → Rose (R.failed arm.old) (R.failed arm.new) }
-    ensures calm { (IsErrOf result PartFault.Fault → ⊥) → R.failed arm.new ≡ R.failed arm.old }
+    ensures arm { LeavesArm R.Arm arm.old arm.new (IsErrOf result PartFault.Fault) }
 {
     let Ok(mut columns) = empty_columns(alloc, schema, all) else {
         return Err(PartFault::NoMemory);

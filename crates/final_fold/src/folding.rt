@@ -1,10 +1,10 @@
 // The rows that FINAL sees of a table's parts: those of the chosen granules, merged partition by partition by the rule of the table's
 // engine (docs/engines.md, "FINAL"). A key of which a granule was not read is one of which no row meets the condition, so of its rows
 // none is missed.
-ghost use Rattle.std.specs.Prelude.{◌≡◌, ◌<◌, ◌≤◌, ◌+◌, ◌^◌, ◌∷◌, [], ℕ, All, IfErr, IfOk, IsErrOf, List, OnOk, filter_map, length, map, slice_get};
+ghost use Rattle.std.specs.Prelude.{◌≡◌, ◌<◌, ◌+◌, ◌^◌, ◌∷◌, [], ℕ, All, IfErr, IfOk, IsErrAnd, List, OnOk, filter_map, length, map, slice_get};
 ghost use Rattle.mt_base.specs.declared.partition.Partition.{Partition};
 ghost use Rattle.table_core.specs.mt_model.History.{IsTableSchema};
-ghost use Rattle.mt_outside.specs.Causes.{Rose};
+ghost use Rattle.mt_outside.specs.Leaves.{LeavesArm};
 ghost use Rattle.mt_values.specs.Grid.{AreRowsOf, Cells};
 ghost use Rattle.mt_values.specs.Schemas.{column_types};
 ghost use Rattle.mt_values.specs.Tables.{same_partition};
@@ -74,13 +74,7 @@ pub fn final_rows<R: Arm>(
     ensures damaged { IfErr result (ExplainsFold R.Dir.files parts.now chosen.now wanted.now) }
 
     // What the arm is then, and its count of faults.
-    ensures tells { R.tells arm.new ≡ R.tells arm.old }
-    ensures later { R.failed arm.old ≤ R.failed arm.new }
-    ensures fault { IfErr result
-        (λ e. e.1 ≡ PartFault.Fault → Rose (R.failed arm.old) (R.failed arm.new)) }
-    ensures calm { OnOk result (R.failed arm.new ≡ R.failed arm.old) }
-    ensures calm_err { IfErr result
-        (λ e. (e.1 ≡ PartFault.Fault → ⊥) → R.failed arm.new ≡ R.failed arm.old) }
+    ensures arm { LeavesArm R.Arm arm.old arm.new (IsErrAnd result (λ e. e.1 ≡ PartFault.Fault)) }
 {
     let mut count: usize = 0;
     let mut at = 0;
@@ -149,13 +143,7 @@ fn fold_partition<R: Arm>(
     ensures damaged { IfErr result (ExplainsFold R.Dir.files parts.now chosen.now wanted.now) }
 
     // What the arm is then, and its count of faults.
-    ensures tells { R.tells arm.new ≡ R.tells arm.old }
-    ensures later { R.failed arm.old ≤ R.failed arm.new }
-    ensures fault { IfErr result
-        (λ e. e.1 ≡ PartFault.Fault → Rose (R.failed arm.old) (R.failed arm.new)) }
-    ensures calm { OnOk result (R.failed arm.new ≡ R.failed arm.old) }
-    ensures calm_err { IfErr result
-        (λ e. (e.1 ≡ PartFault.Fault → ⊥) → R.failed arm.new ≡ R.failed arm.old) }
+    ensures arm { LeavesArm R.Arm arm.old arm.new (IsErrAnd result (λ e. e.1 ≡ PartFault.Fault)) }
 {
     let inputs = read_inputs(alloc, arm, parts, chosen, wanted)?;
     match add_merged(alloc, wanted, inputs.as_slice(), columns) {

@@ -1,7 +1,7 @@
 // Which rows of a part's chosen granules meet a condition, by the columns of the conjuncts that are asked.
-ghost use Rattle.std.specs.Prelude.{◌≡◌, ◌≤◌, IfErr, IfOk, IsErrOf, List, length};
+ghost use Rattle.std.specs.Prelude.{◌≡◌, IfErr, IfOk, IsErrOf, List, length};
 ghost use Rattle.row_merge.specs.column_file.Marks.{granules};
-ghost use Rattle.mt_outside.specs.Causes.{Rose};
+ghost use Rattle.mt_outside.specs.Leaves.{LeavesArm};
 ghost use Rattle.mt_values.specs.Values.{Row};
 ghost use Rattle.row_merge.specs.part_reader.Faults.{IsNoDamage};
 ghost use Rattle.row_merge.specs.part_reader.Parts.{PartHolds};
@@ -58,10 +58,7 @@ pub(crate) fn find_matches<R: Arm>(
         (ExplainsAsked R.Dir.files task.now.part.now task.now.chosen.now task.now.wanted) }
 
     // What the arm is then, and its count of faults.
-    ensures tells { R.tells arm.new ≡ R.tells arm.old }
-    ensures later { R.failed arm.old ≤ R.failed arm.new }
-    ensures fault { IsErrOf result PartFault.Fault → Rose (R.failed arm.old) (R.failed arm.new) }
-    ensures calm { (IsErrOf result PartFault.Fault → ⊥) → R.failed arm.new ≡ R.failed arm.old }
+    ensures arm { LeavesArm R.Arm arm.old arm.new (IsErrOf result PartFault.Fault) }
 {
     let part = task.part;
     let Some(rows) = count_chosen(&part.loaded, task.chosen) else {

@@ -1,6 +1,6 @@
 // The rows of a table's parts that meet a condition.
-ghost use Rattle.std.specs.Prelude.{◌≡◌, ◌≤◌, ℕ, [], All, IfErr, IfOk, List, OnOk, length, map};
-ghost use Rattle.mt_outside.specs.Causes.{Rose};
+ghost use Rattle.std.specs.Prelude.{◌≡◌, ◌≤◌, [], All, IfErr, IfOk, IsErrAnd, List, OnOk, length, map};
+ghost use Rattle.mt_outside.specs.Leaves.{LeavesArm};
 ghost use Rattle.mt_values.specs.Grid.{Cells};
 ghost use Rattle.mt_values.specs.Values.{Row};
 ghost use Rattle.row_merge.specs.part_reader.Faults.{IsNoDamage};
@@ -68,13 +68,7 @@ pub fn add_matches<R: Arm>(
     ensures damaged { IfErr result (ExplainsMatches R.Dir.files parts.now chosen.now wanted.now) }
 
     // What the arm is then, and its count of faults.
-    ensures tells { R.tells arm.new ≡ R.tells arm.old }
-    ensures later { R.failed arm.old ≤ R.failed arm.new }
-    ensures fault { IfErr result
-        (λ e. e.1 ≡ PartFault.Fault → Rose (R.failed arm.old) (R.failed arm.new)) }
-    ensures calm { OnOk result (R.failed arm.new ≡ R.failed arm.old) }
-    ensures calm_err { IfErr result
-        (λ e. (e.1 ≡ PartFault.Fault → ⊥) → R.failed arm.new ≡ R.failed arm.old) }
+    ensures arm { LeavesArm R.Arm arm.old arm.new (IsErrAnd result (λ e. e.1 ≡ PartFault.Fault)) }
 {
     let mut count: usize = 0;
     for (number, kept) in parts.iter().enumerate() {

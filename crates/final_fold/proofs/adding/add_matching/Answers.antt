@@ -3,6 +3,7 @@ use Rattle.std.specs.List.{range_with_len}
 use Rattle.std.proofs.lemmas.List.{get_or_default, length-map}
 use Rattle.std.proofs.lemmas.List.FromFn.{length-range_with_len}
 use Rattle.std.proofs.lemmas.Option.{slice_get-get_or}
+use Rattle.mt_outside.proofs.LeftArms.{arm_calm}
 use Rattle.mt_values.specs.declared.schema.Column.{Column}
 use Rattle.mt_values.specs.Grid.{Cells, column_of}
 use Rattle.mt_values.specs.Schemas.{column_types}
@@ -65,8 +66,7 @@ loop-number-preserved g c =
             values = λ met are. e.values are.0 are.1 are.2 ∙ ap (λ rs. with_values old (column_of (get_or places i 0) rs)) (sym are.3);
           });
       rest = rest_more olds c.loop-number.columns _ i c.add_column.new.column c.loop-number.invariant.rest refl;
-      tells = e.tells ∙ c.loop-number.invariant.tells;
-      count = e.calm (λ fault. cc) ∙ c.loop-number.invariant.count;
+      arm = arm_calm c.loop-number.invariant.arm (λ none. none) e.arm (λ fault. cc);
     }
 
 pub returns-clause-values : goal.returns-clause-values

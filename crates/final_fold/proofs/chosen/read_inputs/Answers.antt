@@ -1,8 +1,8 @@
 use Rattle.std.proofs.Common.{◌≡◌, ◌∙◌, [], Bool, List, Some, ap, arith, get_or, length, refl, slice_get, subst, sym}
 use Rattle.std.proofs.lemmas.List.{take_all}
 use Rattle.std.proofs.lemmas.Option.{slice_get-get_or, slice_get_read}
+use Rattle.mt_outside.proofs.LeftArms.{arm_as, arm_calm, arm_then}
 use Rattle.row_merge.specs.column_file.Marks.{granules}
-use Rattle.mt_outside.specs.Causes.{Rose}
 use Rattle.mt_values.specs.Grid.{AreRowsOf}
 use Rattle.mt_values.specs.Schemas.{column_types}
 use Rattle.mt_values.specs.Values.{Row}
@@ -62,11 +62,8 @@ returns-in-Err-clause-damaged g c =
       explained = c.in-Err.ensures.damaged;
     }
 
-pub returns-in-Err-clause-fault : goal.returns-in-Err-clause-fault
-returns-in-Err-clause-fault g c = λ is. subst (λ n. Rose n (g.R.Arm.failed c.read_chosen.new.arm)) c.loop-number.invariant.failed (c.in-Err.ensures.fault cc)
-
-pub returns-in-Err-clause-calm_err : goal.returns-in-Err-clause-calm_err
-returns-in-Err-clause-calm_err g c = λ other. c.in-Err.ensures.calm (λ is. other cc) ∙ c.loop-number.invariant.failed
+pub returns-in-Err-clause-arm : goal.returns-in-Err-clause-arm
+returns-in-Err-clause-arm g c = arm_as (arm_then c.loop-number.invariant.arm (λ none. none) c.in-Err.ensures.arm) (λ is. cc) (λ is. cc)
 
 pub returns-in_default-push-clause-damaged : goal.returns-in_default-push-clause-damaged
 returns-in_default-push-clause-damaged g c =
@@ -81,8 +78,9 @@ returns-in_default-push-clause-damaged g c =
       explained = tt;
     }
 
-pub returns-in_default-push-clause-calm_err : goal.returns-in_default-push-clause-calm_err
-returns-in_default-push-clause-calm_err g c = λ other. c.in-Ok-read_chosen.ensures.calm (λ fault. cc) ∙ c.loop-number.invariant.failed
+pub returns-in_default-push-clause-arm : goal.returns-in_default-push-clause-arm
+returns-in_default-push-clause-arm g c =
+    arm_as (arm_calm c.loop-number.invariant.arm (λ none. none) c.in-Ok-read_chosen.ensures.arm (λ fault. cc)) (λ fault. cc) (λ none. absurd none)
 
 pub loop-number-preserved : goal.loop-number-preserved
 loop-number-preserved g c =
@@ -103,8 +101,7 @@ loop-number-preserved g c =
           let h = part_at files schema c.args.parts.now rows i c.index-parts-number.result holds c.loop-number-test.true c.index-parts-number.is in
           inputs_next done pushed read pushed_is (chosen_inputs size chosen rows) i (chosen_of size own h.rows) (chosen_next size chosen rows i own h.rows (own_is g d) h.there) (kept.rows rows holds) (c.in-Ok-read_chosen.ensures.rows h.rows h.holds);
       typed = typed_next done pushed read pushed_is (AreRowsOf (column_types schema)) kept.typed c.in-Ok-read_chosen.ensures.typed;
-      tells = c.in-Ok-read_chosen.ensures.tells ∙ kept.tells;
-      failed = c.in-Ok-read_chosen.ensures.calm (λ fault. cc) ∙ kept.failed;
+      arm = arm_calm kept.arm (λ none. none) c.in-Ok-read_chosen.ensures.arm (λ fault. cc);
     }
 
 pub returns-clause-rows : goal.returns-clause-rows

@@ -1,5 +1,6 @@
 -- the rows of the parts gone over
 use Rattle.std.proofs.Common.{◌≡◌, All, List, take}
+use Rattle.mt_outside.specs.Leaves.{LeavesArm}
 use Rattle.mt_values.specs.Grid.{AreRowsOf}
 use Rattle.mt_values.specs.Schemas.{column_types}
 use Rattle.mt_values.specs.Values.{Row}
@@ -12,6 +13,5 @@ abbrev pub invariant-loop-number : goal.invariant-loop-number
 invariant-loop-number g l = record {
   rows : (rows : List (List Row)) → PartsHold g.R.Dir.Dir.files l.wanted.schema.now l.parts rows → inputs_of l.inputs.items ≡ take l.number (chosen_inputs l.wanted.schema.now.granularity l.chosen rows);
   typed : All (AreRowsOf (column_types l.wanted.schema.now)) (inputs_of l.inputs.items);
-  tells : g.R.Arm.tells l.arm ≡ g.R.Arm.tells l.initial.arm;
-  failed : g.R.Arm.failed l.arm ≡ g.R.Arm.failed l.initial.arm;
+  arm : LeavesArm g.R.Arm l.initial.arm l.arm ⊥;
 }

@@ -1,6 +1,7 @@
 use Rattle.std.proofs.Common.{◌≡◌, ◌+◌, ◌-◌, ◌∙◌, [], All, ap, ap₂, arith, drop, get_or, length, length-drop, refl, subst, sym, take}
 use Rattle.std.proofs.lemmas.List.{take_all}
 use Rattle.std.proofs.lemmas.Option.{slice_get-get_or}
+use Rattle.mt_outside.proofs.LeftArms.{arm_calm}
 use Rattle.row_merge.specs.column_file.Marks.{granules}
 use Rattle.mt_values.specs.Grid.{Cells}
 use Rattle.table_core.specs.part_name.declared.part.PartName.{PartName}
@@ -101,8 +102,7 @@ loop-at-preserved g c =
       even = λ zero. subst (λ k. All (λ (x : Cells). length x.values ≡ k) new) sum (e.even c.loop-at.count (c.loop-at.invariant.even zero));
       types = e.types ∙ c.loop-at.invariant.types;
       few = c.in-Some.ensures.few;
-      tells = e.tells ∙ c.loop-at.invariant.tells;
-      failed = e.calm ∙ c.loop-at.invariant.failed;
+      arm = arm_calm c.loop-at.invariant.arm (λ none. none) e.arm (λ fault. fault);
     }
 
 pub returns-clause-values : goal.returns-clause-values

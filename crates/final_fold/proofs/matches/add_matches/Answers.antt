@@ -1,6 +1,7 @@
 use Rattle.std.proofs.Common.{◌≡◌, ◌∙◌, ◌+◌, [], Bool, List, All, Some, ap, arith, get_or, length, refl, slice_get, subst, sym}
 use Rattle.std.specs.List.{filter, zip as pairs}
 use Rattle.std.proofs.lemmas.Option.{slice_get-get_or, slice_get_read}
+use Rattle.mt_outside.proofs.LeftArms.{arm_calm}
 use Rattle.row_merge.specs.column_file.Marks.{granules}
 use Rattle.mt_values.specs.Grid.{Cells}
 use Rattle.mt_values.specs.Tests.{eval}
@@ -112,8 +113,7 @@ loop-number-preserved g c =
       types = e.types ∙ c.loop-number.invariant.types;
       even = λ zero. subst (λ n. All (λ (x : Cells). length x.values ≡ n) new) sum (e.even c.loop-number.count (c.loop-number.invariant.even zero));
       few = omega (arith, sum, e.few, c.loop-number.invariant.few, rows_next parts i kept c.loop-number-test.true c.index-parts-number.is);
-      tells = e.tells ∙ c.loop-number.invariant.tells;
-      failed = e.calm (λ fault. cc) ∙ c.loop-number.invariant.failed;
+      arm = arm_calm c.loop-number.invariant.arm (λ none. none) e.arm (λ fault. cc);
     }
 
 pub returns-clause-values : goal.returns-clause-values

@@ -1,5 +1,6 @@
 -- what the parts gone over had
 use Rattle.std.proofs.Common.{◌≡◌, ◌≤◌, [], All, List, length, map, take}
+use Rattle.mt_outside.specs.Leaves.{LeavesArm}
 use Rattle.mt_values.specs.Grid.{Cells}
 use Rattle.mt_values.specs.Values.{Row}
 use Rattle.final_fold.specs.Matches.{HoldEachMatch, MeetWhereUnasked, matching}
@@ -16,6 +17,5 @@ invariant-loop-number g l = record {
   types : map (λ (c : Cells). c.col_type) l.columns ≡ map (λ (c : Cells). c.col_type) l.initial.columns;
   even : All (λ (c : Cells). length c.values ≡ 0) l.initial.columns → All (λ (c : Cells). length c.values ≡ l.count) l.columns;
   few : l.count ≤ rows_kept (take l.number l.parts);
-  tells : g.R.Arm.tells l.arm ≡ g.R.Arm.tells l.initial.arm;
-  failed : g.R.Arm.failed l.arm ≡ g.R.Arm.failed l.initial.arm;
+  arm : LeavesArm g.R.Arm l.initial.arm l.arm ⊥;
 }
