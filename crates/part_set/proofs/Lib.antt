@@ -1,5 +1,6 @@
 pub mod Dots
 pub mod Filed
+pub mod Founds
 pub mod GroupSteps
 pub mod Inserts
 pub mod Items

@@ -1,5 +1,5 @@
 -- Parts of one partition that follow each other, and what comes of them (docs/definitions.md, "The set of parts").
-use Rattle.std.specs.Prelude.{◌≡◌, ℕ, ◌+◌, ◌<◌, ◌≤◌, Bool, List, ◌∷◌, ◌++◌, length, map, take, drop, slice_get, Some}
+use Rattle.std.specs.Prelude.{◌≡◌, ◌⊎◌, ℕ, ◌+◌, ◌<◌, ◌≤◌, Bool, true, List, ◌∷◌, ◌++◌, All, length, map, take, drop, slice_get, Some}
 use Rattle.mt_base.specs.declared.partition.Partition.{Partition}
 use Rattle.part_name.specs.declared.part.PartName.{PartName}
 use Rattle.part_set.specs.declared.kept.Kept.{Kept}
@@ -15,6 +15,29 @@ parts_of_run run parts = take run.count (drop run.first parts)
 pub record IsRun {P : Type 0} (run : Run) (parts : List (Kept P)) : Type 0 where
   pub some : 0 < run.count
   pub within : run.first + run.count ≤ length parts
+
+-- the names of parts
+abbrev pub names_of_parts : {P : Type 0} → List (Kept P) → List PartName
+names_of_parts {P} parts = map (λ (k : Kept P). k.name) parts
+
+-- a run of the parts has these names, in this order, and each of its parts bears the mark
+pub record IsBusyRun {P : Type 0} (run : Run) (names : List PartName) (parts : List (Kept P)) : Type 0 where
+  pub is : IsRun run parts
+  pub named : names_of_parts (parts_of_run run parts) ≡ names
+  pub busy : All (λ (k : Kept P). k.busy ≡ true) (parts_of_run run parts)
+
+-- the first n of the parts have the names of the first n sources, and bear the mark
+pub record Begins {P : Type 0} (n : ℕ) (sources parts : List (Kept P)) : Type 0 where
+  pub within : n ≤ length parts
+  pub named : names_of_parts (take n parts) ≡ take n (names_of_parts sources)
+  pub busy : All (λ (k : Kept P). k.busy ≡ true) (take n parts)
+
+-- The first of some names that is missing among parts: no run with marks has the names up to it, and one has those before it, if there are any.
+pub record IsMissing {P : Type 0} (names : List PartName) (parts : List (Kept P)) (name : PartName) : Type 0 where
+  pub place : ℕ
+  pub here : slice_get names place ≡ Some name
+  pub none : (run : Run) → IsBusyRun run (take (place + 1) names) parts → ⊥
+  pub before : (place ≡ 0) ⊎ ((run : Run) × IsBusyRun run (take place names) parts)
 
 -- the part begins no later than it ends
 abbrev pub EndsInOrder : {P : Type 0} → Kept P → Type 0

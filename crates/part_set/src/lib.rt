@@ -1,6 +1,7 @@
 //! The names of the root, which of its parts are visible, and the set of parts that is kept while it runs.
 #![tactic(auto)]
 
+mod found;
 mod groups;
 mod kept;
 mod laws;

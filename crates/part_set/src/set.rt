@@ -1,14 +1,15 @@
 // The parts of all tables.
-ghost use Rattle.std.specs.Prelude.{◌≡◌, ◌≢◌, ◌↔◌, ℕ, List, [], false, IfOk, IsOk, OnOk, OnErr, IsTrue, option_copied};
+ghost use Rattle.std.specs.Prelude.{◌≡◌, ◌≢◌, ◌↔◌, ◌<◌, ℕ, List, [], false, IfErr, IfOk, IsOk, OnOk, OnErr, IsTrue, length, option_copied};
 ghost use Rattle.std.specs.BTreeMap.{IsOrdered};
 ghost use Rattle.std.specs.Cmp.Lexicographic.{slice_cmp};
 ghost use Rattle.std.specs.List.{All};
 ghost use Rattle.std.specs.Ordering.{nat_cmp};
 ghost use Rattle.mt_base.specs.declared.partition.Partition.{Partition as Part};
 ghost use Rattle.part_set.specs.Parts.{AreNeighbours, HasName, IsAdded, IsInBlockOrder, NoneMeets, kept_in};
-ghost use Rattle.part_set.specs.Runs.{EndsInOrder, IsMarked, IsRun, IsSwapped, Spans, parts_of_run};
+ghost use Rattle.part_set.specs.Runs.{EndsInOrder, IsBusyRun, IsMarked, IsMissing, IsRun, IsSwapped, Spans, names_of_parts, parts_of_run};
 ghost use Rattle.part_set.specs.Sets.{HasRoom, IsPut, parts_of, shelves_of};
 
+use crate::found::find_run;
 use crate::tables::TableParts;
 use crate::{Kept, Run, Snap};
 use mt_base::{NoMemory, Partition, Twin};
@@ -78,6 +79,23 @@ impl<P> PartSet<P> {
             Some(parts) => parts.neighbours(a, b),
             None => a != b && a.partition == b.partition,
         }
+    }
+
+    /// The run of a table's partition that has the names of these parts, in their order, and each of whose parts bears
+    /// the mark; else the first of these names that is missing. Takes no memory.
+    pub fn find_run(
+        &self,
+        table: &Name,
+        partition: Partition,
+        sources: &[Kept<P>],
+    ) -> Result<Run, PartName>
+        requires some { 0 < length sources.now }
+        ensures found { IfOk result (λ run. IsBusyRun run (names_of_parts sources.now)
+            (kept_in partition (parts_of self.now table.now))) }
+        ensures missing { IfErr result (IsMissing (names_of_parts sources.now)
+            (kept_in partition (parts_of self.now table.now))) }
+    {
+        find_run(self.parts_in(table, partition), sources)
     }
 
     /// The parts of a run of a table's partition bear the mark, or bear it no more. Takes no memory.
@@ -197,6 +215,7 @@ impl<P: Drop> PartSet<P> {
         P: Twin,
         ensures snap { IfOk result (λ s. (s.schema ≡ schema.now)
             × (s.parts.items ≡ parts_of self.old table.now) × (s.length ≡ length)) }
+        ensures ordered { IfOk result (λ s. IsInBlockOrder s.parts.items) }
         ensures stays { self.new ≡ self.old }
     {
         let schema = schema.twin(alloc)?;
@@ -215,6 +234,10 @@ impl<P: Drop> PartSet<P> {
     pub fn unpin(&mut self, snap: Snap<P>)
         ensures { self.new ≡ self.old }
     {
-        drop(snap);
+        let Snap {
+            schema: _,
+            parts: _,
+            length: _,
+        } = snap;
     }
 }

@@ -162,7 +162,8 @@ impl<P: Twin> TableParts<P> {
     ///
     /// `NoMemory` where an allocation failed.
     pub(crate) fn twins(&self, alloc: Global) -> Result<Vec<Kept<P>>, NoMemory>
-        ensures { IfOk result (λ v. v.items ≡ all_parts self.now) }
+        ensures parts { IfOk result (λ v. v.items ≡ all_parts self.now) }
+        ensures ordered { IfOk result (λ v. IsInBlockOrder v.items) }
     {
         let mut copies = Vec::new(alloc);
         for parts in self.partitions.values() {
