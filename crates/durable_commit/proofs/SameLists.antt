@@ -1,9 +1,9 @@
 -- The list of annals that stays, and what a refusal is not.
-use Rattle.std.proofs.Common.{◌≡◌, ◌∙◌, ℕ, Option, Some, None, true, false, ap, refl, sym, subst}
+use Rattle.std.proofs.Common.{◌≡◌, Option, Some, None, true, false, refl, sym, subst}
 use Rattle.mt_values.specs.declared.command.Entry.{Entry}
-use Rattle.mt_values.specs.Annals.{Told, began, noted}
+use Rattle.mt_values.specs.Annals.{Told, began}
 use Rattle.std.specs.Option.{ForSome, IsSome, option_map}
-use Rattle.durable_commit.specs.Commits.{Notes, SameList}
+use Rattle.durable_commit.specs.Commits.{SameList}
 use Rattle.durable_commit.specs.declared.causes.Refused.TheVariants as refused
 
 -- what is told is the same, and so is its list
@@ -27,8 +27,3 @@ begun_there None new e is = subst (λ (o : Option Told). ForSome o (λ u. IsSome
 pub begun_same : (old new : Option Told) (e : Entry) → new ≡ option_map (began e) old → SameList old new
 begun_same (Some t) new e is = subst (λ (o : Option Told). SameList (Some t) o) (sym is) refl
 begun_same None new e is = is
-
--- and then it is noted
-pub begun_noted : (mark : ℕ) (e : Entry) (old mid new : Option Told) → mid ≡ option_map (began e) old → new ≡ option_map (noted mark) mid → Notes mark e old new
-begun_noted mark e (Some t) mid new begun is = is ∙ ap (option_map (noted mark)) begun
-begun_noted mark e None mid new begun is = is ∙ ap (option_map (noted mark)) begun

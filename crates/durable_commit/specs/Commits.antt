@@ -1,9 +1,8 @@
 -- Why a command is not committed, and what the annals list of one that is (docs/architecture.md, "Commits").
 use Rattle.std.specs.Prelude.{◌≡◌, ℕ, Option, Some, None, if◌then◌else◌, nat_lt}
-use Rattle.std.specs.Option.{option_map}
 use Rattle.mt_values.specs.declared.command.Command.{Command}
 use Rattle.mt_values.specs.declared.command.Entry.{Entry}
-use Rattle.mt_values.specs.Annals.{Told, began, noted}
+use Rattle.mt_values.specs.Annals.{Told}
 use Rattle.mt_outside.specs.declared.disk.DiskError.{DiskError}
 use Rattle.mt_outside.specs.declared.disk.DiskError.TheVariants as failure
 use Rattle.durable_commit.specs.declared.causes.Refused.{Refused}
@@ -30,10 +29,6 @@ refused_by_disk failure.Fault = refused.Disk
 -- a command of a session
 abbrev pub entry_of : ℕ → Command → Entry
 entry_of session command = record { session = session; command = command }
-
--- the annals list one more command, with its mark
-abbrev pub Notes : ℕ → Entry → Option Told → Option Told → Type 0
-Notes mark entry old new = new ≡ option_map (λ (t : Told). noted mark (began entry t)) old
 
 -- the list stays, whatever is begun; where nothing was told nothing is
 abbrev pub SameList : Option Told → Option Told → Type 0

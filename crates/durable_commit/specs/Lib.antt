@@ -1,2 +1,3 @@
 pub mod Commits
+pub mod Publications
 pub use Rattle.stage_dir.specs as stage_dir

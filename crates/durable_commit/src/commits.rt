@@ -1,11 +1,9 @@
 // A name published and settled, with the command that is noted of it or without one.
-ghost use Rattle.std.specs.Prelude.{◌≡◌, ◌+◌, None, IfOk, IsErrOf, OnErr, OnOk};
-ghost use Rattle.std.specs.Option.{ForSome, option_map};
-ghost use Rattle.mt_values.specs.Annals.{began};
-ghost use Rattle.mt_outside.specs.DiskCauses.{HasStageCause};
-ghost use Rattle.mt_outside.specs.Disk.{MayPut, files_at, names_of, put};
-ghost use Rattle.stage_dir.specs.Stages.{AreSealed};
-ghost use Rattle.durable_commit.specs.Commits.{Notes, SameList};
+ghost use Rattle.std.specs.Prelude.{◌≡◌, None, Option, Some, IfOk};
+ghost use Rattle.std.specs.Option.{ForSome};
+ghost use Rattle.mt_values.specs.Annals.{Told};
+ghost use Rattle.mt_outside.specs.Disk.{files_at, names_of};
+ghost use Rattle.durable_commit.specs.Publications.{Settles, publication, storage};
 
 use mt_outside::{Arm, Disk, DiskError};
 use mt_values::{Annals, Entry, Name};
@@ -23,23 +21,12 @@ pub fn publish<D: Disk>(
     name: &Name,
 ) -> Result<<D::Arm as Arm>::Dir, DiskError>
     requires { ForSome (D.told disk.old) (λ t. files_at name.now (names_of t) ≡ None) }
-
-    // What is published and settled.
-    ensures disk { OnOk result (D.told disk.new ≡ put (D.clock disk.old) name.now sealed.files
-        (D.told disk.old)) }
+    ensures turn { (annals : Option Told) → let was = storage (D.told disk.old) (D.clock disk.old)
+        (D.failed disk.old) annals in
+        let now = storage (D.told disk.new) (D.clock disk.new) (D.failed disk.new) annals in
+        Settles (publication name.now sealed None) was now result }
     ensures dir { IfOk result (λ d. D.Arm.Dir.files d ≡ sealed.files) }
-    ensures settled { OnOk result (D.clock disk.new ≡ D.clock disk.old + 1) }
-    ensures sealed { ForSome sealed.files AreSealed }
-
-    // What stands after an error.
-    ensures mark_err { OnErr result (D.clock disk.new ≡ D.clock disk.old) }
-    ensures left { OnErr result (MayPut (D.clock disk.old) name.now sealed.files (D.told disk.old)
-        (D.told disk.new)) }
-    ensures memory { IsErrOf result DiskError.NoMemory → D.told disk.new ≡ D.told disk.old }
-
-    // What stays, and why it failed.
     ensures started { D.started disk.new ≡ D.started disk.old }
-    ensures cause { HasStageCause sealed.failed (D.failed disk.old) (D.failed disk.new) result }
 {
     let dir = match disk.publish(alloc, sealed.into_stage(), name) {
         Ok(dir) => dir,
@@ -65,28 +52,13 @@ pub fn commit<D: Disk, A: Annals>(
 ) -> Result<<D::Arm as Arm>::Dir, DiskError>
     requires free { ForSome (D.told disk.old) (λ t. files_at name.now (names_of t) ≡ None) }
     requires room { A.has_room annals.old }
-
-    // What is published, settled and noted.
-    ensures disk { OnOk result (D.told disk.new ≡ put (D.clock disk.old) name.now sealed.files
-        (D.told disk.old)) }
+    ensures turn { let was = storage (D.told disk.old) (D.clock disk.old) (D.failed disk.old)
+        (A.told annals.old) in
+        let now = storage (D.told disk.new) (D.clock disk.new) (D.failed disk.new)
+        (A.told annals.new) in
+        Settles (publication name.now sealed (Some entry)) was now result }
     ensures dir { IfOk result (λ d. D.Arm.Dir.files d ≡ sealed.files) }
-    ensures settled { OnOk result (D.clock disk.new ≡ D.clock disk.old + 1) }
-    ensures annals { OnOk result
-        (Notes (D.clock disk.new) entry (A.told annals.old) (A.told annals.new)) }
-
-    // What stands after an error.
-    ensures annals_err { OnErr result (SameList (A.told annals.old) (A.told annals.new)) }
-    ensures begun { OnErr result
-        (A.told annals.new ≡ option_map (began entry) (A.told annals.old)) }
-    ensures mark_err { OnErr result (D.clock disk.new ≡ D.clock disk.old) }
-    ensures sealed { ForSome sealed.files AreSealed }
-    ensures left { OnErr result (MayPut (D.clock disk.old) name.now sealed.files (D.told disk.old)
-        (D.told disk.new)) }
-    ensures memory { IsErrOf result DiskError.NoMemory → D.told disk.new ≡ D.told disk.old }
-
-    // What stays, and why it failed.
     ensures started { D.started disk.new ≡ D.started disk.old }
-    ensures cause { HasStageCause sealed.failed (D.failed disk.old) (D.failed disk.new) result }
 {
     annals.begin(entry);
     match publish(alloc, disk, sealed, name) {

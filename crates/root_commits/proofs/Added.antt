@@ -17,7 +17,7 @@ use Rattle.root_store.specs.part_set.RootNames.{IsRootName, root_text}
 use Rattle.root_store.proofs.PartSetItems.{item_first, item_none}
 use Rattle.root_store.proofs.PartSetNameTexts.{root_names_same}
 use Rattle.root_store.proofs.PartSetOrphans.{item_more}
-use Rattle.durable_commit.proofs.StageDirLookups.{other_kept, published_at}
+use Rattle.root_store.proofs.StageDirLookups.{other_kept, published_at}
 use Rattle.root_store.specs.Roots.{AreNamesRead, HasFolder}
 use Rattle.root_store.proofs.Items.{item_either}
 

@@ -25,8 +25,8 @@ use Rattle.root_store.specs.part_set.RootNames.{IsRootName, is_table}
 use Rattle.root_store.specs.part_set.Visible.{HasPart}
 use Rattle.root_store.specs.part_writer.PartFiles.{files_of_part, manifest_of}
 use Rattle.root_store.specs.digest_file.Spellings.{IsManifestOf}
-use Rattle.durable_commit.specs.stage_dir.Stages.{AreSealed}
-use Rattle.durable_commit.proofs.StageDirImages.{is_synced-sealed}
+use Rattle.root_store.specs.durable_commit.stage_dir.Stages.{AreSealed}
+use Rattle.root_store.proofs.StageDirImages.{is_synced-sealed}
 use Rattle.root_store.specs.part_history.Entered.{next_number}
 use Rattle.root_store.specs.declared.store.CoreStore.{CoreStore}
 use Rattle.root_store.specs.declared.store.Table.{Table}

@@ -17,7 +17,8 @@ use Rattle.root_store.specs.Shown.{AreShown}
 use Rattle.root_store.proofs.CrashMarks.{now_is_image}
 use Rattle.root_store.proofs.CrashOrder.{image_rise}
 use Rattle.root_commits.specs.Commits.{SameStore}
-use Rattle.root_commits.specs.Images.{LeavesEither, LeavesOne, OnDisk}
+use Rattle.root_commits.specs.Images.{LeavesEither, LeavesOne}
+use Rattle.root_commits.specs.Turns.{Root}
 use Rattle.root_commits.proofs.Shown.{shown_same}
 
 -- What holds of whatever a crash could leave, once a name was put there, holds of all that it leaves once that is settled.
@@ -69,7 +70,7 @@ module _ (told : Told) (clock : ℕ) (h later : History) (all : AllStand told cl
 -- ---- the turn of a command
 
 -- the disk is as it was, and the store has the same parts
-module _ {F : Type 0} (was now : OnDisk F) (h : History) (one : LeavesOne was h) (same : now.disk ≡ was.disk) (stays : now.clock ≡ was.clock) where
+module _ {F : Type 0} (was now : Root F) (h : History) (one : LeavesOne was h) (same : now.storage.disk ≡ was.storage.disk) (stays : now.storage.clock ≡ was.storage.clock) where
   pub one_same : SameStore was.store now.store → LeavesOne now h
   one_same kept = record {
     told = one.told;
@@ -78,11 +79,11 @@ module _ {F : Type 0} (was now : OnDisk F) (h : History) (one : LeavesOne was h)
     shown = λ names image. shown_same was.store now.store kept names (one.shown names (subst (λ (c : ℕ). Image one.told c names) stays image));
   }
 
-  pub either_same : (later : History) → LeavesEither now.disk now.clock was.clock h later
+  pub either_same : (later : History) → LeavesEither now.storage.disk now.storage.clock was.storage.clock h later
   either_same later = record {
     told = one.told;
     disk_is = same ∙ one.disk_is;
-    images = λ names left. inl (one.all.images names (now_is_image one.told was.clock names (subst (λ (c : ℕ). Since one.told c was.clock names) stays left)));
+    images = λ names left. inl (one.all.images names (now_is_image one.told was.storage.clock names (subst (λ (c : ℕ). Since one.told c was.storage.clock names) stays left)));
   }
 
 -- what a name that is published makes of each root that stands for the history and shows the store's parts: one that stands for a later one
@@ -96,42 +97,42 @@ Shows store name files h now =
     (old : Names) (left : Files) → AreInByteOrder old → Stands old h → AreShown store old → MayBecome files left → AreShown now (insert_entry (slice_cmp nat_cmp) old name left)
 
 -- sealed files were given to the disk
-module _ {F : Type 0} (was now : OnDisk F) (name : List ℕ) (sealed : Option Files) (files : Files) (sealed_is : sealed ≡ Some files) (h later : History) (one : LeavesOne was h)
+module _ {F : Type 0} (was now : Root F) (name : List ℕ) (sealed : Option Files) (files : Files) (sealed_is : sealed ≡ Some files) (h later : History) (one : LeavesOne was h)
     (grows : Grows was.store name files h later) where
   abbrev told : Told
-  told = with_change was.clock (Publish name files) one.told
+  told = with_change was.storage.clock (Publish name files) one.told
 
-  told_is : now.disk ≡ put was.clock name sealed was.disk → now.disk ≡ Some told
-  told_is put_is = put_is ∙ (ap (λ (fs : Option Files). put was.clock name fs was.disk) sealed_is ∙ ap (put was.clock name (Some files)) one.disk_is)
+  told_is : now.storage.disk ≡ put was.storage.clock name sealed was.storage.disk → now.storage.disk ≡ Some told
+  told_is put_is = put_is ∙ (ap (λ (fs : Option Files). put was.storage.clock name fs was.storage.disk) sealed_is ∙ ap (put was.storage.clock name (Some files)) one.disk_is)
 
-  grown : (old : Names) (left : Files) → Image one.told was.clock old → MayBecome files left → Stands (insert_entry (slice_cmp nat_cmp) old name left) later
-  grown old left image become = grows old left (image_rise one.told was.clock old image) (one.all.images old image) (one.shown old image) become
+  grown : (old : Names) (left : Files) → Image one.told was.storage.clock old → MayBecome files left → Stands (insert_entry (slice_cmp nat_cmp) old name left) later
+  grown old left image become = grows old left (image_rise one.told was.storage.clock old image) (one.all.images old image) (one.shown old image) become
 
   -- its name is there or not
-  pub either_failed : now.clock ≡ was.clock → MayPut was.clock name sealed was.disk now.disk → LeavesEither now.disk now.clock was.clock h later
+  pub either_failed : now.storage.clock ≡ was.storage.clock → MayPut was.storage.clock name sealed was.storage.disk now.storage.disk → LeavesEither now.storage.disk now.storage.clock was.storage.clock h later
   either_failed stays (inl same) = either_same was now h one same stays later
   either_failed stays (inr put_is) = record {
     told = told;
     disk_is = told_is put_is;
-    images = λ names left. either_published one.told was.clock h later one.all name files grown names (subst (λ (c : ℕ). Since told c was.clock names) stays left);
+    images = λ names left. either_published one.told was.storage.clock h later one.all name files grown names (subst (λ (c : ℕ). Since told c was.storage.clock names) stays left);
   }
 
   -- it was settled
-  module _ (raised : now.clock ≡ was.clock + 1) (put_is : now.disk ≡ put was.clock name sealed was.disk) where
-    pub either_committed : LeavesEither now.disk now.clock was.clock h later
+  module _ (raised : now.storage.clock ≡ was.storage.clock + 1) (put_is : now.storage.disk ≡ put was.storage.clock name sealed was.storage.disk) where
+    pub either_committed : LeavesEither now.storage.disk now.storage.clock was.storage.clock h later
     either_committed = record {
       told = told;
       disk_is = told_is put_is;
-      images = λ names left. either_settled one.told was.clock h later one.all name files grown names (subst (λ (c : ℕ). Since told c was.clock names) raised left);
+      images = λ names left. either_settled one.told was.storage.clock h later one.all name files grown names (subst (λ (c : ℕ). Since told c was.storage.clock names) raised left);
     }
 
     pub one_committed : Shows was.store name files h now.store → LeavesOne now later
     one_committed shows = record {
       told = told;
       disk_is = told_is put_is;
-      all = subst (λ (c : ℕ). AllStand told c later) (sym raised) (all_settled one.told was.clock h later one.all name files grown);
+      all = subst (λ (c : ℕ). AllStand told c later) (sym raised) (all_settled one.told was.storage.clock h later one.all name files grown);
       shown = λ names image.
-          settled_holds one.told was.clock one.all.stamped name files (AreShown now.store)
-          (λ old left before become. shows old left (image_rise one.told was.clock old before) (one.all.images old before) (one.shown old before) become)
+          settled_holds one.told was.storage.clock one.all.stamped name files (AreShown now.store)
+          (λ old left before become. shows old left (image_rise one.told was.storage.clock old before) (one.all.images old before) (one.shown old before) become)
           names (subst (λ (c : ℕ). Image told c names) raised image);
     }

@@ -14,8 +14,8 @@ use Rattle.mt_outside.specs.Causes.{Rose}
 use Rattle.mt_outside.specs.Disk.{Image, MayBecome, MayPut, Names, Told, put, with_change}
 use Rattle.mt_outside.specs.Files.{Files}
 use Rattle.root_store.specs.mt_model.History.{History}
-use Rattle.durable_commit.specs.declared.causes.Refused.{Refused}
-use Rattle.durable_commit.specs.declared.causes.Refused.TheVariants as refused
+use Rattle.root_store.specs.durable_commit.declared.causes.Refused.{Refused}
+use Rattle.root_store.specs.durable_commit.declared.causes.Refused.TheVariants as refused
 use Rattle.root_store.specs.declared.store.CoreStore.{CoreStore}
 use Rattle.root_store.specs.ByteOrder.{AreInByteOrder}
 use Rattle.root_commits.specs.Commits.{SameStore}

@@ -30,6 +30,7 @@ use Rattle.root_store.specs.declared.store.Table.{Table}
 use Rattle.root_store.specs.Stores.{fresh_table}
 use Rattle.root_commits.specs.Commits.{EntersTable}
 use Rattle.root_store.specs.Stores.{CoreStands, PartsAreThere, core_parts, table_at}
+use Rattle.root_commits.proofs.SameStores.{no_mutation}
 use Rattle.root_commits.proofs.Updated.{it_or, one_some}
 
 pub first_none : (o : Option Schema) → first_of o None ≡ o
@@ -141,6 +142,7 @@ module _ {F : Type 0} (files_of : F → Option Files) (h : History) (old new : C
         drawn = λ t x is. drawn_at t x is (here t);
         parts = λ t x is. parts_at t x is (here t);
         no_other = λ t none. none_at t none (here t);
+        mutations = no_mutation old new a.mutations_are s.mutations;
       }
     where
       tables_at : (t : List ℕ) → IsNewOr t → option_map (λ (x : Table). x.schema) (table_at new t) ≡ schema_of t (h ++ e ∷ [])

@@ -33,6 +33,7 @@ use Rattle.root_store.specs.Stores.{CoreStands, PartsAreThere, core_part, core_p
 use Rattle.root_commits.proofs.Entering.{first_none}
 use Rattle.root_commits.proofs.Placed.{core_insert, table_moved, zip_insert}
 use Rattle.root_store.proofs.InOrder.{core_order}
+use Rattle.root_commits.proofs.SameStores.{no_mutation}
 use Rattle.root_commits.proofs.Updated.{it_or, no_some, one_some}
 
 module _ {F : Type 0} (files_of : F → Option Files) (h : History) (old new : CoreStore F) (session : ℕ) (table : List ℕ) (t : Table) (block : Grid) (sealed : Option Files) (loaded : Loaded)
@@ -150,6 +151,7 @@ module _ {F : Type 0} (files_of : F → Option Files) (h : History) (old new : C
         drawn = λ u x at. drawn_at u x at (here u);
         parts = λ u x at. parts_at u x at (here u);
         no_other = λ u none. none_at u none (here u);
+        mutations = no_mutation old new a.enters.mutations_are s.mutations;
       }
     where
       tables_at : (u : List ℕ) → IsItOr u → option_map (λ (x : Table). x.schema) (table_at new u) ≡ schema_of u (h ++ e ∷ [])

@@ -12,12 +12,14 @@ use Rattle.std.proofs.lemmas.Cmp.{nat_list_cmp_total, tied_itself}
 use Rattle.mt_base.specs.declared.partition.Partition.{Partition}
 use Rattle.root_store.specs.part_set.Parts.{kept_in}
 use Rattle.root_store.specs.part_set.Sets.{parts_of}
-use Rattle.durable_commit.specs.declared.causes.Limit.TheVariants as limit
-use Rattle.durable_commit.specs.declared.causes.Refused.{Refused}
-use Rattle.durable_commit.specs.declared.causes.Refused.TheVariants as refused
+use Rattle.root_store.specs.durable_commit.declared.causes.Limit.TheVariants as limit
+use Rattle.root_store.specs.durable_commit.declared.causes.Refused.{Refused}
+use Rattle.root_store.specs.durable_commit.declared.causes.Refused.TheVariants as refused
+use Rattle.root_store.specs.durable_commit.Commits.{IsOutside}
 use Rattle.root_store.specs.declared.store.CoreStore.{CoreStore}
-use Rattle.root_commits.specs.Commits.{IsCause, SameStore, refuses_create, refuses_part}
+use Rattle.root_commits.specs.Commits.{SameStore, refuses_create, refuses_part}
 use Rattle.root_store.specs.Stores.{table_at}
+use Rattle.root_commits.proofs.Turning.{IsInside}
 
 -- a new entry that is taken out again
 put_and_removed : {K X : Type 0} (cmp : K → K → Ordering) → IsTotalOrder cmp → (es : List (K × X)) (k : K) (v : X) → lookup (is_at (cmp k)) es ≡ None → remove_entry (is_at (cmp k)) (insert_entry cmp es k v) ≡ es
@@ -62,14 +64,6 @@ none_from : {X : Type 0} (o : Option X) → is_some o ≡ false → o ≡ None
 none_from None is = refl
 none_from (Some x) is = cc
 
-module _ (shows : ℕ → Option Refused) (now count : ℕ) (result : Option Refused) (is : result ≡ shows now) (same : now ≡ count) where
-  -- what was shown at a count is the cause at one that is equal
-  pub cause_shown : (found cause : Option Refused) → result ≡ found → IsCause found cause → IsCause (shows count) cause
-  cause_shown found cause found_is caused = subst (λ (o : Option Refused). IsCause o cause) (sym found_is ∙ (is ∙ ap shows same)) caused
-
-  pub none_shown : result ≡ None → shows count ≡ None
-  none_shown none = sym (is ∙ ap shows same) ∙ none
-
 -- a count that is not above the one at opening is that one
 calm : (opened now : ℕ) → nat_lt opened now ≡ false → opened ≤ now → now ≡ opened
 calm opened now test low = grind (arith, nat_tests, test, low)
@@ -101,6 +95,13 @@ module _ {F : Type 0} (store : CoreStore F) (table : List ℕ) (now : ℕ) where
     | inr others ↦ elim others [ inl second ↦ cc | inr third ↦ cc ]
   ]
 
+  -- what is shown is no cause of the outside
+  pub shown_inside : IsInside (refuses_create store table now)
+  shown_inside s is outside = elim (three_some (is_some (table_at store table)) (nat_le 64 (length store.tables.entries)) (nat_lt store.opened now) refused.Exists (refused.Limit limit.Tables) Stopped s is) [
+    | inl first ↦ subst (λ (r : Refused). IsOutside (Some r)) (sym first) outside
+    | inr others ↦ elim others [ inl second ↦ subst (λ (r : Refused). IsOutside (Some r)) (sym second) outside | inr third ↦ subst (λ (r : Refused). IsOutside (Some r)) (sym third) outside ]
+  ]
+
   module _ (partition : Partition) (drawn : ℕ) where
     module _ (none : refuses_part store table partition drawn now ≡ None) where
       part_tests : (nat_le 3000 (length (kept_in partition (parts_of store.set table))) ≡ false) × (nat_le 4294967295 drawn ≡ false) × (nat_lt store.opened now ≡ false)
@@ -121,6 +122,14 @@ module _ {F : Type 0} (store : CoreStore F) (table : List ℕ) (now : ℕ) where
         (refused.Limit limit.Parts) (refused.Limit limit.Numbers) Stopped cause is) [
           | inl first ↦ cc
           | inr others ↦ elim others [ inl second ↦ cc | inr third ↦ cc ]
+        ]
+
+    -- what is shown is no cause of the outside
+    pub shown_part_inside : IsInside (refuses_part store table partition drawn now)
+    shown_part_inside s is outside = elim (three_some (nat_le 3000 (length (kept_in partition (parts_of store.set table)))) (nat_le 4294967295 drawn) (nat_lt store.opened now)
+        (refused.Limit limit.Parts) (refused.Limit limit.Numbers) Stopped s is) [
+          | inl first ↦ subst (λ (r : Refused). IsOutside (Some r)) (sym first) outside
+          | inr others ↦ elim others [ inl second ↦ subst (λ (r : Refused). IsOutside (Some r)) (sym second) outside | inr third ↦ subst (λ (r : Refused). IsOutside (Some r)) (sym third) outside ]
         ]
 
 -- the store with other tables, which are the same

@@ -5,6 +5,8 @@ pub mod CrashImages
 pub mod CrashNames
 pub mod CrashSafe
 pub mod CrashTurns
+pub mod CreateCommits
+pub mod Ending
 pub mod Entering
 pub mod FreeNames
 pub mod Growing
@@ -14,6 +16,7 @@ pub mod Inserted
 pub mod Joining
 pub mod Leaving
 pub mod MergeCauses
+pub mod MergeCommits
 pub mod MergeCrashes
 pub mod MergeReady
 pub mod MergeTurns
@@ -21,10 +24,10 @@ pub mod MergedNames
 pub mod MergedRoots
 pub mod MergedShown
 pub mod MergedStores
+pub mod PartCommits
 pub mod Partitions
 pub mod Placed
 pub mod PutEvents
-pub mod Rooted
 pub mod RunRows
 pub mod SameStores
 pub mod Shown

@@ -4,10 +4,10 @@ use Rattle.std.proofs.lemmas.Bool.Decides.{nat_tests}
 use Rattle.mt_base.specs.Limits.{level_limit}
 use Rattle.root_store.specs.part_name.declared.part.PartName.{PartName}
 use Rattle.root_store.specs.part_name.Merged.{raised}
-use Rattle.durable_commit.specs.declared.causes.Limit.TheVariants as limit
-use Rattle.durable_commit.specs.declared.causes.Refused.{Refused}
-use Rattle.durable_commit.specs.declared.causes.Refused.TheVariants as refused
-use Rattle.durable_commit.specs.Commits.{stopped_by}
+use Rattle.root_store.specs.durable_commit.declared.causes.Limit.TheVariants as limit
+use Rattle.root_store.specs.durable_commit.declared.causes.Refused.{Refused}
+use Rattle.root_store.specs.durable_commit.declared.causes.Refused.TheVariants as refused
+use Rattle.root_store.specs.durable_commit.Commits.{stopped_by}
 use Rattle.root_store.specs.declared.store.CoreStore.{CoreStore}
 use Rattle.root_commits.specs.Commits.{IsCause}
 use Rattle.root_commits.specs.Merges.{Merging, name_of_merge, refuses_merge, sources_of, within_levels}
@@ -41,7 +41,7 @@ raised_within name =
 
 -- ---- causes
 
-stopped_none : (opened now : ℕ) → stopped_by opened now ≡ None → opened ≤ now → now ≡ opened
+pub stopped_none : (opened now : ℕ) → stopped_by opened now ≡ None → opened ≤ now → now ≡ opened
 stopped_none opened now none low = by (nat_lt opened now) refl none
   where
     by : (b : Bool) → nat_lt opened now ≡ b → cond b (Some (refused.Stopped opened now)) None ≡ None → now ≡ opened

@@ -24,7 +24,8 @@ use Rattle.root_store.specs.part_set.Parts.{IsInBlockOrder, kept_in}
 use Rattle.root_store.specs.part_set.Runs.{EndsInOrder}
 use Rattle.root_store.specs.part_set.Sets.{parts_of}
 use Rattle.root_store.proofs.PartSetMaps.{true_or_false}
-use Rattle.durable_commit.specs.declared.causes.Refused.{Refused}
+use Rattle.root_store.specs.durable_commit.declared.causes.Refused.{Refused}
+use Rattle.root_store.specs.durable_commit.Publications.{IsPublished, IsUnsettled, Storage}
 use Rattle.root_store.specs.declared.store.CoreStore.{CoreStore}
 use Rattle.root_store.specs.declared.store.Table.{Table}
 use Rattle.root_store.specs.Shown.{AreShown, GreatestAreShown}
@@ -33,7 +34,7 @@ use Rattle.root_store.specs.Stores.{table_at}
 use Rattle.root_store.proofs.Showing.{greatest_shown}
 use Rattle.root_commits.specs.Commits.{SameStore}
 use Rattle.root_commits.specs.Merges.{EntersMerge, Merging, SealsRows, name_of_merge, sources_of}
-use Rattle.root_commits.specs.Publications.{DiskAt, IsPublished, IsUnsettled, publication_of}
+use Rattle.root_commits.specs.Publications.{publication_of_merge}
 use Rattle.root_commits.proofs.FreeNames.{fits_more}
 use Rattle.root_commits.proofs.MergedNames.{first_of, run_spans, run_within, source_there}
 use Rattle.root_commits.proofs.MergedShown.{greatest_merged, merged_word, shown_merged}
@@ -154,7 +155,7 @@ module _ {F : Type 0} {files_of : F → Option Files} (old new : CoreStore F) (m
 
   -- ---- the root
 
-  module _ (low : a.name.level ≤ 4294967295) (was now : DiskAt) (calm : was.failed ≡ old.opened) (ready : IsReady was.failed was.disk old) (d : IsPublished (publication_of m a.name) was now) where
+  module _ (low : a.name.level ≤ 4294967295) (was now : Storage) (calm : was.failed ≡ old.opened) (ready : IsReady was.failed was.disk old) (d : IsPublished (publication_of_merge m a.name) was now) where
     table : (t : Table) × (table_at old m.table ≡ Some t)
     table = table_of_run old m sound one one_there
 
@@ -202,7 +203,7 @@ module _ {F : Type 0} {files_of : F → Option Files} (old new : CoreStore F) (m
 
 -- it was not settled: its name is there or not
 pub ready_unsettled : {F : Type 0} (old new : CoreStore F) (m : Merging) (ordered : IsInBlockOrder (kept_in m.partition (parts_of old.set m.table))) (fit : All EndsInOrder (parts_of old.set m.table)) (name : PartName) → name_of_merge (sources_of old m) ≡ Some name
-    → name.level ≤ 4294967295 → (cause : Refused) (was now : DiskAt) → was.failed ≡ old.opened → SameStore old new → IsUnsettled (publication_of m name) cause was now → IsReady was.failed was.disk old → IsReady now.failed now.disk new
+    → name.level ≤ 4294967295 → (cause : Refused) (was now : Storage) → was.failed ≡ old.opened → SameStore old new → IsUnsettled (publication_of_merge m name) cause was now → IsReady was.failed was.disk old → IsReady now.failed now.disk new
 ready_unsettled old new m ordered fit name name_is low cause was now calm same d ready =
     ready_kept old new same was.failed now.failed was.disk now.disk cause d.later d.rose d.unchanged
     (after_doubt (GreatestAreShown old) was.clock (part_name m.table (part_text name)) m.files was.disk now.disk

@@ -1,5 +1,5 @@
 -- The store with one part in place of those that were merged stands for the same history.
-use Rattle.std.proofs.Common.{◌≡◌, ◌≢◌, ℕ, ◌+◌, true, false, List, [], ◌∷◌, ◌++◌, Option, Some, None, get_or, refl, sym, ap, ap₂, ◌∙◌, subst, inl, inr, length}
+use Rattle.std.proofs.Common.{◌≡◌, ◌≢◌, ℕ, ◌+◌, true, false, List, [], ◌∷◌, ◌++◌, Option, Some, None, get_or, append-nil, refl, sym, ap, ap₂, ◌∙◌, subst, inl, inr, length}
 use Rattle.std.proofs.lemmas.Bool.{false≢true}
 use Rattle.std.proofs.lemmas.List.Elements.{All-contains, All-from_recursion, Contains-append_left, Contains-append_right, Contains-get_or, recursion_from_All}
 use Rattle.std.specs.List.{All, AllByRecursion, AllZip}
@@ -26,7 +26,7 @@ use Rattle.root_store.specs.part_set.Sets.{parts_of}
 use Rattle.root_store.proofs.PartSetItems.{item_first}
 use Rattle.root_store.proofs.PartSetMaps.{true_or_false}
 use Rattle.root_store.specs.part_history.declared.part.CorePart.{CorePart}
-use Rattle.root_store.specs.part_history.Merges.{IsMergedPart}
+use Rattle.root_store.specs.part_history.Merges.{IsMergedPart, with_rows}
 use Rattle.root_store.specs.part_history.Parts.{AreInBlockOrder, PartStands, TableStands}
 use Rattle.root_store.proofs.PartHistoryMerging.{merged_stand}
 use Rattle.root_store.specs.table_core.declared.event.Merge.{Merge}
@@ -37,9 +37,10 @@ use Rattle.root_store.specs.declared.store.CoreStore.{CoreStore}
 use Rattle.root_store.specs.declared.store.Table.{Table}
 use Rattle.root_store.specs.Stores.{CoreStands, PartsAreThere, core_part, core_parts, table_at}
 use Rattle.root_store.proofs.InOrder.{core_order}
-use Rattle.root_commits.specs.Merges.{EntersMerge, HoldsMerge, IsSealedMerge, Merging, name_of_merge, sources_of}
+use Rattle.root_commits.specs.Merges.{EntersMerge, HoldsMerge, IsSealedMerge, Merging, SealsMerge, name_of_merge, source_names, sources_of}
 use Rattle.root_commits.proofs.MergedNames.{run_own, run_partition}
-use Rattle.root_commits.proofs.RunRows.{part_names, parts_own, parts_stand, rows_of_run, run_among, run_hold, run_neighbours}
+use Rattle.root_commits.proofs.SameStores.{no_mutation}
+use Rattle.root_commits.proofs.RunRows.{part_names, parts_own, reached_stand, rows_of_run, run_among, run_hold, run_neighbours, stand_reached}
 
 -- ---- parts with their rows, in two
 
@@ -80,7 +81,7 @@ middle_of P xs ys zs all = λ i d inside.
 
 module _ {F : Type 0} (files_of : F → Option Files) (h : History) (store : CoreStore F) (m : Merging) (t : Table) (at : table_at store m.table ≡ Some t) (s : CoreStands files_of h store)
     (run : IsRun m.run (kept_in m.partition (parts_of store.set m.table))) (ordered : IsInBlockOrder (kept_in m.partition (parts_of store.set m.table))) (fit : All EndsInOrder (parts_of store.set m.table))
-    (is : IsSealedMerge files_of t.schema store m) (name : PartName) (name_is : name_of_merge (sources_of store m) ≡ Some name) where
+    (is : SealsMerge t.schema h (source_names store m) m) (name : PartName) (name_is : name_of_merge (sources_of store m) ≡ Some name) where
   abbrev Hold : Kept (Part F) → List Row → Type 0
   Hold k r = PartHolds files_of t.schema k.part r
 
@@ -97,16 +98,15 @@ module _ {F : Type 0} (files_of : F → Option Files) (h : History) (store : Cor
       ∙ sym (run_partition (parts_of store.set m.table) m.partition m.run ordered fit name name_is))
 
   -- what was sealed is what a merge may make of the parts, with rows that they hold and with which they stand
-  pub is_merge : (inputs : List (List Row)) (hold : AllZip Hold those inputs) → All (PartStands h) (core_parts m.table those inputs)
-      → IsMergedPart h t.schema (core_parts m.table those inputs) (record { table = m.table; name = name; rows = (is inputs hold).rows })
-  is_merge inputs hold each = record {
+  pub is_merge : (inputs : List (List Row)) (hold : AllZip Hold those inputs) → IsMergedPart h t.schema (core_parts m.table those inputs) (record { table = m.table; name = name; rows = is.holds.rows })
+  is_merge inputs hold = record {
     named = ap merged_of (part_names Hold m.table those inputs hold) ∙ name_is;
     own = All-from_recursion (λ (p : CorePart). p.name.partition ≡ name.partition) (core_parts m.table those inputs) (parts_own Hold (λ (p : Partition). p ≡ name.partition) m.table those inputs hold own);
     leaves = record {
-      inputs = inputs;
-      stand = parts_stand Hold h m.table those inputs hold (recursion_from_All (PartStands h) (core_parts m.table those inputs) each);
-      rising = (is inputs hold).rising;
-      merges = (is inputs hold).merges;
+      inputs = is.inputs;
+      stand = subst (λ (k : History). AllZip (λ (p : CorePart) (r : List Row). PartStands k (with_rows p r)) (core_parts m.table those inputs) is.inputs) (sym is.grown) (reached_stand Hold is.front is.more m.table those inputs is.inputs hold is.reach);
+      rising = is.holds.rising;
+      merges = is.holds.merges;
     };
   }
 
@@ -120,8 +120,8 @@ module _ {F : Type 0} (files_of : F → Option Files) (h : History) (store : Cor
   run_held = run_hold Hold m.partition m.run (parts_of store.set m.table) was.rows was.hold
 
   -- so it holds rows
-  pub made : HoldsMerge t.schema run_rows m
-  made = is run_rows run_held
+  pub made : HoldsMerge t.schema is.inputs m
+  made = is.holds
 
   abbrev event : Merge
   event = record { table = m.table; partition = m.partition; first = m.run.first; count = m.run.count; rows = made.rows }
@@ -143,15 +143,60 @@ module _ {F : Type 0} (files_of : F → Option Files) (h : History) (store : Cor
       let are : all_parts ≡ stand.front ++ (source_parts ++ stand.back) = stand.parts_are ∙ ap (λ (ps : List CorePart). stand.front ++ (ps ++ stand.back)) among in
       let before : TableStands m.table (stand.front ++ (source_parts ++ stand.back)) h = subst (λ (ps : List CorePart). TableStands m.table ps h) are was.stand in
       let rising : AreInBlockOrder (stand.front ++ (source_parts ++ stand.back)) = subst AreInBlockOrder are was.order in
-      let each = middle_of (PartStands h) stand.front source_parts stand.back before.each in
-      let now = merged_stand h t.schema stand.front source_parts stand.back new_part s.legal known (is_merge run_rows run_held each) before rising in
+      let now = merged_stand h t.schema stand.front source_parts stand.back new_part s.legal known (is_merge run_rows run_held) before rising in
       All-contains (PartStands h) (stand.front ++ new_part ∷ stand.back) new_part now.each (Contains-append_right stand.front (new_part ∷ stand.back) new_part (item_first new_part stand.back))
+
+-- ---- where nobody acts in between
+
+module _ {F : Type 0} (files_of : F → Option Files) (store : CoreStore F) (m : Merging) (t : Table) (at : table_at store m.table ≡ Some t) (run : IsRun m.run (kept_in m.partition (parts_of store.set m.table)))
+    (is : IsSealedMerge files_of t.schema store m) (h : History) (s : CoreStands files_of h store) where
+  abbrev Held : Kept (Part F) → List Row → Type 0
+  Held k r = PartHolds files_of t.schema k.part r
+
+  abbrev sealed_parts : List (Kept (Part F))
+  sealed_parts = sources_of store m
+
+  abbrev there : PartsAreThere files_of h store m.table t.schema
+  there = s.parts m.table t at
+
+  abbrev there_rows : List (List Row)
+  there_rows = rows_of_run m.partition m.run (parts_of store.set m.table) there.rows
+
+  there_held : AllZip Held sealed_parts there_rows
+  there_held = run_hold Held m.partition m.run (parts_of store.set m.table) there.rows there.hold
+
+  abbrev meant : Merge
+  meant = record { table = m.table; partition = m.partition; first = m.run.first; count = m.run.count; rows = [] }
+
+  abbrev there_parts : List CorePart
+  there_parts = core_parts m.table (parts_of store.set m.table) there.rows
+
+  abbrev there_place : Run
+  there_place = record { from = length (parts_below m.partition there_parts) + m.run.first; count = m.run.count }
+
+  each_there : All (PartStands h) (core_parts m.table sealed_parts there_rows)
+  each_there =
+      let among = run_among Held meant m.run refl refl (parts_of store.set m.table) there.rows there.hold in
+      let stand = sources_stand there_parts meant there_place there.order (run_neighbours Held meant m.run refl refl (parts_of store.set m.table) there.rows there.hold run) refl refl in
+      let are : there_parts ≡ stand.front ++ (core_parts m.table sealed_parts there_rows ++ stand.back) = stand.parts_are ∙ ap (λ (ps : List CorePart). stand.front ++ (ps ++ stand.back)) among in
+      middle_of (PartStands h) stand.front (core_parts m.table sealed_parts there_rows) stand.back (subst (All (PartStands h)) are there.stand.each)
+
+  -- what was sealed of whatever rows the parts hold is a merge by each history that the store stands for
+  pub sealed_by_parts : SealsMerge t.schema h (source_names store m) m
+  sealed_by_parts = record {
+    front = h;
+    more = [];
+    grown = sym (append-nil h);
+    inputs = there_rows;
+    reach = stand_reached Held h m.table sealed_parts there_rows there_held (recursion_from_All (PartStands h) (core_parts m.table sealed_parts there_rows) each_there);
+    holds = is there_rows there_held;
+  }
 
 -- ---- the store
 
 module _ {F : Type 0} (files_of : F → Option Files) (h : History) (old new : CoreStore F) (m : Merging) (t : Table) (at : table_at old m.table ≡ Some t)
     (ordered : IsInBlockOrder (kept_in m.partition (parts_of old.set m.table))) (fit : All EndsInOrder (parts_of old.set m.table))
-    (is : IsSealedMerge files_of t.schema old m) (a : EntersMerge files_of m old new) where
+    (is : SealsMerge t.schema h (source_names old m) m) (a : EntersMerge files_of m old new) where
   abbrev Holds : Kept (Part F) → List Row → Type 0
   Holds k r = PartHolds files_of t.schema k.part r
 
@@ -193,8 +238,8 @@ module _ {F : Type 0} (files_of : F → Option Files) (h : History) (old new : C
 
   module _ (rows : List (List Row)) (r : Rows rows) where
     -- what the merge made of those of the run
-    abbrev merge : HoldsMerge t.schema r.inputs m
-    merge = is r.inputs r.inputs_hold
+    abbrev merge : HoldsMerge t.schema is.inputs m
+    merge = is.holds
 
     abbrev rows_now : List (List Row)
     rows_now = r.front_rows ++ merge.rows ∷ r.back_rows
@@ -251,7 +296,7 @@ module _ {F : Type 0} (files_of : F → Option Files) (h : History) (old new : C
     stands_now : TableStands m.table (front_parts were.rows rows_were ++ new_part were.rows rows_were ∷ back_parts were.rows rows_were) h
     stands_now =
         merged_stand h t.schema (front_parts were.rows rows_were) (source_parts were.rows rows_were) (back_parts were.rows rows_were) (new_part were.rows rows_were) s.legal schema_known
-        (is_merge files_of h old m t at s run ordered fit is a.name a.name_is rows_were.inputs rows_were.inputs_hold (middle_of (PartStands h) (front_parts were.rows rows_were) (source_parts were.rows rows_were) (back_parts were.rows rows_were) stands_before.each)) stands_before order_before
+        (is_merge files_of h old m t at s run ordered fit is a.name a.name_is rows_were.inputs rows_were.inputs_hold) stands_before order_before
 
     there_now : PartsAreThere files_of h new m.table t.schema
     there_now = record {
@@ -305,4 +350,5 @@ module _ {F : Type 0} (files_of : F → Option Files) (h : History) (old new : C
       drawn = λ u x found. s.drawn u x (sym (here u) ∙ found);
       parts = λ u x found. parts_at u x (sym (here u) ∙ found);
       no_other = λ u none. none_at u (sym (here u) ∙ none);
+      mutations = no_mutation old new a.mutations_are s.mutations;
     }

@@ -2,7 +2,7 @@
 use Rattle.std.proofs.Common.{◌≡◌, ◌≢◌, ℕ, ◌+◌, ◌<◌, ◌≤◌, Bool, true, false, cond, List, [], ◌∷◌, ◌++◌, Option, Some, None, length, filter, not, get_or, is_some, refl, sym, ap, ap₂, ◌∙◌, subst, append-nil, arith, inl, inr}
 use Rattle.std.proofs.lemmas.Bool.{false≢true}
 use Rattle.std.proofs.lemmas.List.{get_or-map, length-map}
-use Rattle.std.proofs.lemmas.List.Elements.{All-contains, Contains-append_left, Contains-append_right, filter-append, recursion_from_All}
+use Rattle.std.proofs.lemmas.List.Elements.{All-contains, Contains-append_left, Contains-append_right, filter-append}
 use Rattle.std.proofs.lemmas.List.Sums.{sum_by-append, sum_by-cons}
 use Rattle.std.proofs.lemmas.Option.{get_or_from_slice_get, slice_get_within}
 use Rattle.std.specs.List.{All, AllByRecursion, AllZip, Contains as HasItem, count_by, slice_get}
@@ -45,10 +45,10 @@ use Rattle.root_store.specs.Stores.{PartsAreThere, core_part, core_parts, table_
 use Rattle.root_store.proofs.Clear.{block_here}
 use Rattle.root_store.proofs.Items.{one_counts}
 use Rattle.root_commits.specs.Events.{IsPut, put_of}
-use Rattle.root_commits.specs.Merges.{EntersMerge, HoldsMerge, IsSealedMerge, Merging, sources_of}
+use Rattle.root_commits.specs.Merges.{EntersMerge, HoldsMerge, Merging, SealsMerge, source_names, sources_of}
 use Rattle.root_commits.proofs.MergedNames.{run_spans}
-use Rattle.root_commits.proofs.MergedStores.{Rows, join_parts, join_rows, made, middle_of, rows_of, stands_merged}
-use Rattle.root_commits.proofs.RunRows.{part_names, rows_of_run, run_among, run_hold, run_neighbours}
+use Rattle.root_commits.proofs.MergedStores.{Rows, join_parts, join_rows, rows_of, stands_merged}
+use Rattle.root_commits.proofs.RunRows.{part_names, reached_stand, rows_of_run, run_among, run_hold, run_neighbours}
 
 -- ---- lists that split in one way
 
@@ -181,7 +181,7 @@ module _ {F : Type 0} (R : Kept (Part F) → List Row → Type 0) (table : List 
 
 module _ {F : Type 0} (files_of : F → Option Files) (core : Core) (old new : CoreStore F) (m : Merging) (t : Table) (at : table_at old m.table ≡ Some t) (s : ShowsCore files_of old core)
     (run : IsRun m.run (kept_in m.partition (parts_of old.set m.table))) (ordered : IsInBlockOrder (kept_in m.partition (parts_of old.set m.table))) (fit : All EndsInOrder (parts_of old.set m.table))
-    (is : IsSealedMerge files_of t.schema old m) (a : EntersMerge files_of m old new) where
+    (is : SealsMerge t.schema core.history (source_names old m) m) (a : EntersMerge files_of m old new) where
   abbrev h : History
   h = core.history
 
@@ -207,8 +207,8 @@ module _ {F : Type 0} (files_of : F → Option Files) (core : Core) (old new : C
   inputs_hold : AllZip Holds those inputs
   inputs_hold = run_hold Holds m.partition m.run ks was.rows was.hold
 
-  abbrev held : HoldsMerge t.schema inputs m
-  held = made files_of h old m t at s.stands run ordered fit is a.name a.name_is
+  abbrev held : HoldsMerge t.schema is.inputs m
+  held = is.holds
 
   abbrev put : Merge
   put = put_of m held.rows
@@ -385,28 +385,11 @@ module _ {F : Type 0} (files_of : F → Option Files) (core : Core) (old new : C
   beside_is : sources_among (core_parts_of m.table core.parts) put ≡ meant
   beside_is = ap (λ (ps : List CorePart). sources_among ps put) there.same ∙ among
 
-  -- each source stands with the rows that the store holds by the history
-  each_stands : AllByRecursion (PartStands h) (core_parts m.table those inputs)
-  each_stands =
-      let among_was = run_among Holds put m.run refl refl ks was.rows was.hold in
-      let standing = sources_stand (core_parts m.table ks was.rows) put (record { from = length (parts_below m.partition (core_parts m.table ks was.rows)) + m.run.first; count = m.run.count }) was.order (run_neighbours Holds put m.run refl refl ks was.rows was.hold run) refl refl in
-      let are = standing.parts_are ∙ ap (λ (ps : List CorePart). standing.front ++ (ps ++ standing.back)) among_was in
-      recursion_from_All (PartStands h) (core_parts m.table those inputs)
-      (middle_of (PartStands h) standing.front (core_parts m.table those inputs) standing.back (subst (All (PartStands h)) are was.stand.each))
-
-  stand_with : (xs : List (Kept (Part F))) (rows more : List (List Row)) → AllZip Holds xs rows → AllZip Holds xs more → AllByRecursion (PartStands h) (core_parts m.table xs more)
-      → AllZip (λ (p : CorePart) (r : List Row). PartStands h (with_rows p r)) (core_parts m.table xs rows) more
-  stand_with [] [] [] hold also each = tt
-  stand_with [] [] (q ∷ more) hold also each = absurd also
-  stand_with [] (r ∷ rows) more hold also each = absurd hold
-  stand_with (x ∷ xs) [] more hold also each = absurd hold
-  stand_with (x ∷ xs) (r ∷ rows) [] hold also each = absurd also
-  stand_with (x ∷ xs) (r ∷ rows) (q ∷ more) hold also each = (each.0, stand_with xs rows more hold.1 also.1 each.1)
-
   leaves : MergeLeaves h t.schema (sources_among (core_parts_of m.table core.parts) put) held.rows
   leaves = record {
-    inputs = inputs;
-    stand = subst (λ (ps : List CorePart). AllZip (λ (p : CorePart) (r : List Row). PartStands h (with_rows p r)) ps inputs) (sym beside_is) (stand_with those shown_inputs inputs shown_hold inputs_hold each_stands);
+    inputs = is.inputs;
+    stand = subst (λ (ps : List CorePart). AllZip (λ (p : CorePart) (r : List Row). PartStands h (with_rows p r)) ps is.inputs) (sym beside_is)
+        (subst (λ (k : History). AllZip (λ (p : CorePart) (r : List Row). PartStands k (with_rows p r)) meant is.inputs) (sym is.grown) (reached_stand Holds is.front is.more m.table those shown_inputs is.inputs shown_hold is.reach));
     rising = held.rising;
     merges = held.merges;
   }

@@ -1,5 +1,5 @@
 -- The parts of a run, with their rows.
-use Rattle.std.proofs.Common.{◌≡◌, ℕ, Bool, true, false, cond, List, [], ◌∷◌, take, drop, length, map, refl, ap, ◌∙◌, zero, suc, arith}
+use Rattle.std.proofs.Common.{◌≡◌, ℕ, Bool, true, false, cond, List, [], ◌∷◌, ◌++◌, take, drop, length, map, refl, ap, ◌∙◌, zero, suc, arith}
 use Rattle.std.specs.List.{AllByRecursion, AllZip}
 use Rattle.mt_base.specs.declared.partition.Partition.{Partition}
 use Rattle.mt_values.specs.Tables.{same_partition}
@@ -17,6 +17,7 @@ use Rattle.root_store.specs.part_history.Parts.{PartStands, parts_in}
 use Rattle.root_store.specs.table_core.declared.event.Merge.{Merge}
 use Rattle.root_store.specs.table_core.Steps.{HasNeighbours, sources_among}
 use Rattle.root_store.specs.Stores.{core_part, core_parts}
+use Rattle.root_store.proofs.PartHistoryGrowing.{part_kept}
 
 -- of rows by part, those of the parts of a partition
 abbrev pub rows_in : {F : Type 0} → Partition → List (Kept (Part F)) → List (List Row) → List (List Row)
@@ -95,13 +96,27 @@ module _ {F : Type 0} (R : Kept (Part F) → List Row → Type 0) where
   part_names table (k ∷ ks) [] hold = absurd hold
   part_names table (k ∷ ks) (r ∷ rows) hold = ap (λ (ns : List PartName). k.name ∷ ns) (part_names table ks rows hold.1)
 
-  -- each stands with its rows
-  pub parts_stand : (h : History) (table : List ℕ) (ks : List (Kept (Part F))) (rows : List (List Row)) → AllZip R ks rows → AllByRecursion (PartStands h) (core_parts table ks rows)
-      → AllZip (λ (p : CorePart) (r : List Row). PartStands h (with_rows p r)) (core_parts table ks rows) rows
-  parts_stand h table [] [] hold each = tt
-  parts_stand h table [] (r ∷ rows) hold each = absurd hold
-  parts_stand h table (k ∷ ks) [] hold each = absurd hold
-  parts_stand h table (k ∷ ks) (r ∷ rows) hold each = (each.0, parts_stand h table ks rows hold.1 each.1)
+  -- rows under the names of parts stand with these, also once commands came after the history that they stand for
+  pub reached_stand : (front more : History) (table : List ℕ) (ks : List (Kept (Part F))) (rows inputs : List (List Row)) → AllZip R ks rows
+      → AllZip (λ (name : PartName) (r : List Row). PartStands front (record { table = table; name = name; rows = r })) (map (λ (k : Kept (Part F)). k.name) ks) inputs
+      → AllZip (λ (p : CorePart) (r : List Row). PartStands (front ++ more) (with_rows p r)) (core_parts table ks rows) inputs
+  reached_stand front more table [] [] [] hold reach = tt
+  reached_stand front more table [] [] (q ∷ inputs) hold reach = absurd reach
+  reached_stand front more table [] (r ∷ rows) inputs hold reach = absurd hold
+  reached_stand front more table (k ∷ ks) [] inputs hold reach = absurd hold
+  reached_stand front more table (k ∷ ks) (r ∷ rows) [] hold reach = absurd reach
+  reached_stand front more table (k ∷ ks) (r ∷ rows) (q ∷ inputs) hold reach = (
+    part_kept front more (record { table = table; name = k.name; rows = q }) reach.0,
+    reached_stand front more table ks rows inputs hold.1 reach.1,
+  )
+
+  -- parts that stand reach their rows under their names
+  pub stand_reached : (h : History) (table : List ℕ) (ks : List (Kept (Part F))) (rows : List (List Row)) → AllZip R ks rows → AllByRecursion (PartStands h) (core_parts table ks rows)
+      → AllZip (λ (name : PartName) (r : List Row). PartStands h (record { table = table; name = name; rows = r })) (map (λ (k : Kept (Part F)). k.name) ks) rows
+  stand_reached h table [] [] hold each = tt
+  stand_reached h table [] (r ∷ rows) hold each = absurd hold
+  stand_reached h table (k ∷ ks) [] hold each = absurd hold
+  stand_reached h table (k ∷ ks) (r ∷ rows) hold each = (each.0, stand_reached h table ks rows hold.1 each.1)
 
   -- what holds of the partition of each part holds of that of each with its rows
   pub parts_own : (P : Partition → Type 0) (table : List ℕ) (ks : List (Kept (Part F))) (rows : List (List Row)) → AllZip R ks rows → AllByRecursion (λ (k : Kept (Part F)). P k.name.partition) ks

@@ -1,5 +1,5 @@
--- A store with the same tables and parts stands for the same history.
-use Rattle.std.proofs.Common.{◌≡◌, ℕ, List, Option, length, sym, ap, ◌∙◌, subst}
+-- A store with the same tables, parts and mutations stands for the same history.
+use Rattle.std.proofs.Common.{◌≡◌, ℕ, List, Option, length, refl, sym, ap, ◌∙◌, subst}
 use Rattle.std.specs.BTreeMap.{is_at}
 use Rattle.std.specs.Cmp.Lexicographic.{slice_cmp}
 use Rattle.std.specs.List.{AllZip}
@@ -10,6 +10,8 @@ use Rattle.mt_values.specs.declared.schema.Schema.{Schema}
 use Rattle.mt_values.specs.Values.{Row}
 use Rattle.mt_outside.specs.Files.{Files}
 use Rattle.root_store.specs.mt_model.History.{History}
+use Rattle.root_store.specs.mutation_queue.declared.mutations.Mutations.{Mutations}
+use Rattle.root_store.specs.mutation_queue.Queue.{mutations_of}
 use Rattle.root_store.specs.part_reader.declared.reading.Part.{Part}
 use Rattle.root_store.specs.part_reader.Parts.{PartHolds}
 use Rattle.root_store.specs.part_set.declared.kept.Kept.{Kept}
@@ -17,7 +19,15 @@ use Rattle.root_store.specs.part_history.Parts.{AreInBlockOrder, TableStands}
 use Rattle.root_store.specs.declared.store.CoreStore.{CoreStore}
 use Rattle.root_store.specs.declared.store.Table.{Table}
 use Rattle.root_commits.specs.Commits.{SameStore}
-use Rattle.root_store.specs.Stores.{CoreStands, core_parts, table_at}
+use Rattle.root_store.specs.Stores.{CoreStands, HasNoMutation, core_parts, table_at}
+
+-- each store is the same as itself
+pub same_itself : {F : Type 0} (store : CoreStore F) → SameStore store store
+same_itself store = record { tables = refl; parts = λ t. refl; mutations_are = refl; length_is = refl; opened_is = refl }
+
+-- the same queues have no mutation
+pub no_mutation : {F : Type 0} (old new : CoreStore F) → new.mutations ≡ old.mutations → HasNoMutation old → HasNoMutation new
+no_mutation old new same none = λ t. ap (λ (queue : Mutations). mutations_of queue t) same ∙ none t
 
 module _ {F : Type 0} (files_of : F → Option Files) where
   abbrev Hold : Schema → List (Kept (Part F)) → List (List Row) → Type 0
@@ -39,6 +49,7 @@ module _ {F : Type 0} (files_of : F → Option Files) where
           order = subst (λ (ks : List (Kept (Part F))). AreInBlockOrder (core_parts t ks p.rows)) (sym (same.parts t)) p.order;
         };
     no_other = λ t none. same.parts t ∙ s.no_other t (sym (here t) ∙ none);
+    mutations = no_mutation old new same.mutations_are s.mutations;
   }
     where
       here : (t : List ℕ) → table_at new t ≡ table_at old t

@@ -22,8 +22,8 @@ use Rattle.root_store.specs.part_set.declared.kept.Kept.{Kept}
 use Rattle.root_store.specs.part_set.declared.set.PartSet.{PartSet}
 use Rattle.root_store.specs.part_set.RootNames.{is_table}
 use Rattle.root_store.specs.part_set.Sets.{parts_of}
-use Rattle.durable_commit.specs.declared.causes.Refused.{Refused}
-use Rattle.durable_commit.specs.declared.causes.Refused.TheVariants as refused
+use Rattle.root_store.specs.durable_commit.declared.causes.Refused.{Refused}
+use Rattle.root_store.specs.durable_commit.declared.causes.Refused.TheVariants as refused
 use Rattle.root_store.specs.declared.store.CoreStore.{CoreStore}
 use Rattle.root_store.specs.declared.store.Table.{Table}
 use Rattle.root_store.specs.Stores.{fresh_table}

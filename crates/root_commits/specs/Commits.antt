@@ -23,10 +23,10 @@ use Rattle.root_store.specs.part_writer.declared.loaded.Loaded.{Loaded}
 use Rattle.root_store.specs.part_writer.PartFiles.{loaded_of}
 use Rattle.root_store.specs.part_set.Parts.{IsAdded, IsInBlockOrder, kept_in}
 use Rattle.root_store.specs.part_set.Sets.{parts_of}
-use Rattle.durable_commit.specs.declared.causes.Limit.TheVariants as limit
-use Rattle.durable_commit.specs.declared.causes.Refused.{Refused}
-use Rattle.durable_commit.specs.declared.causes.Refused.TheVariants as refused
-use Rattle.durable_commit.specs.Commits.{IsOutside, stopped_by}
+use Rattle.root_store.specs.durable_commit.declared.causes.Limit.TheVariants as limit
+use Rattle.root_store.specs.durable_commit.declared.causes.Refused.{Refused}
+use Rattle.root_store.specs.durable_commit.declared.causes.Refused.TheVariants as refused
+use Rattle.root_store.specs.durable_commit.Commits.{IsOutside, stopped_by}
 use Rattle.root_commits.specs.declared.commits.Returned.{Returned}
 use Rattle.root_store.specs.declared.store.CoreStore.{CoreStore}
 use Rattle.root_store.specs.declared.store.Table.{Table}

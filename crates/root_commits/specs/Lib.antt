@@ -5,7 +5,7 @@ pub mod Merges
 pub mod Publications
 pub mod Turns
 pub use Rattle.root_store.specs.digest_file
-pub use Rattle.durable_commit.specs as durable_commit
+pub use Rattle.root_store.specs.durable_commit
 pub use Rattle.root_store.specs.mt_model
 pub use Rattle.root_store.specs.mutation_queue
 pub use Rattle.root_store.specs.part_history
@@ -14,5 +14,5 @@ pub use Rattle.root_store.specs.part_reader
 pub use Rattle.root_store.specs.part_set
 pub use Rattle.root_store.specs.part_writer
 pub use Rattle.root_store.specs as root_store
-pub use Rattle.durable_commit.specs.stage_dir
+pub use Rattle.root_store.specs.durable_commit.stage_dir
 pub use Rattle.root_store.specs.table_core

@@ -1,5 +1,5 @@
 -- What refuses a merge, what is sealed for one, and what it leaves (docs/architecture.md, "Commits").
-use Rattle.std.specs.Prelude.{◌≡◌, ◌≢◌, ℕ, false, List, Option, None, Some, if◌then◌else◌, is_some, map, nat_lt}
+use Rattle.std.specs.Prelude.{◌≡◌, ◌≢◌, ℕ, ◌++◌, false, List, Option, None, Some, if◌then◌else◌, is_some, map, nat_lt}
 use Rattle.std.specs.List.{AllZip, flat_map}
 use Rattle.std.specs.List.Sorted.{IsSorted}
 use Rattle.mt_base.specs.declared.partition.Partition.{Partition}
@@ -8,7 +8,9 @@ use Rattle.mt_values.specs.declared.schema.Schema.{Schema}
 use Rattle.mt_values.specs.Tables.{sorting_cmp}
 use Rattle.mt_values.specs.Values.{Row}
 use Rattle.mt_outside.specs.Files.{Files}
+use Rattle.root_store.specs.mt_model.History.{History}
 use Rattle.root_store.specs.mt_model.Partial.{MergesAll}
+use Rattle.root_store.specs.part_history.Parts.{PartStands}
 use Rattle.root_store.specs.part_name.declared.part.PartName.{PartName}
 use Rattle.root_store.specs.part_name.Merged.{merged_of}
 use Rattle.root_store.specs.part_reader.declared.reading.Part.{Part}
@@ -20,13 +22,14 @@ use Rattle.root_store.specs.part_set.declared.run.Run.{Run}
 use Rattle.root_store.specs.part_set.Parts.{IsInBlockOrder, kept_in}
 use Rattle.root_store.specs.part_set.Runs.{IsSwapped, parts_of_run}
 use Rattle.root_store.specs.part_set.Sets.{parts_of}
-use Rattle.durable_commit.specs.stage_dir.Stages.{Filled}
-use Rattle.durable_commit.specs.declared.causes.Limit.TheVariants as limit
-use Rattle.durable_commit.specs.declared.causes.Refused.{Refused}
-use Rattle.durable_commit.specs.declared.causes.Refused.TheVariants as refused
-use Rattle.durable_commit.specs.Commits.{stopped_by}
+use Rattle.root_store.specs.durable_commit.stage_dir.Stages.{Filled}
+use Rattle.root_store.specs.durable_commit.declared.causes.Limit.TheVariants as limit
+use Rattle.root_store.specs.durable_commit.declared.causes.Refused.{Refused}
+use Rattle.root_store.specs.durable_commit.declared.causes.Refused.TheVariants as refused
+use Rattle.root_store.specs.durable_commit.Commits.{stopped_by}
 use Rattle.root_store.specs.declared.store.CoreStore.{CoreStore}
 use Rattle.root_store.specs.Roots.{FolderHolds}
+use Rattle.root_store.specs.Stores.{CoreStands}
 
 -- a merge: a run of the parts of a table's partition, and what was sealed for them: its files, how many calls of its stage had failed, and
 -- what is kept of it
@@ -88,6 +91,23 @@ pub record SealsRows (schema : Schema) (m : Merging) : Type 0 where
 abbrev pub IsSealedMerge : {F : Type 0} → (F → Option Files) → Schema → CoreStore F → Merging → Type 0
 IsSealedMerge {F} files_of schema store m =
     (inputs : List (List Row)) → AllZip (λ (k : Kept (Part F)) (rows : List Row). PartHolds files_of schema k.part rows) (sources_of store m) inputs → HoldsMerge schema inputs m
+
+-- the names of the parts that are merged
+abbrev pub source_names : {F : Type 0} → CoreStore F → Merging → List PartName
+source_names {F} store m = map (λ (k : Kept (Part F)). k.name) (sources_of store m)
+
+-- By history: under these names there are rows that stand for a front of it, and what was sealed holds what one merge may leave of them.
+pub record SealsMerge (schema : Schema) (h : History) (names : List PartName) (m : Merging) : Type 0 where
+  pub front : History
+  pub more : History
+  pub grown : h ≡ front ++ more
+  pub inputs : List (List Row)
+  pub reach : AllZip (λ (name : PartName) (rows : List Row). PartStands front (record { table = m.table; name = name; rows = rows })) names inputs
+  pub holds : HoldsMerge schema inputs m
+
+-- the same, by each history that the store stands for
+abbrev pub MergesSources : {F : Type 0} → (F → Option Files) → Schema → CoreStore F → Merging → Type 0
+MergesSources files_of schema store m = (h : History) → CoreStands files_of h store → SealsMerge schema h (source_names store m) m
 
 -- one part stands in place of those that were merged, with their name and what was sealed; nothing else changes
 pub record EntersMerge {F : Type 0} (files_of : F → Option Files) (m : Merging) (old new : CoreStore F) : Type 0 where

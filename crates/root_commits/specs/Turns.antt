@@ -1,94 +1,84 @@
--- What the turn of a command does to the outside (docs/architecture.md, "Commits").
-use Rattle.std.specs.Prelude.{◌≡◌, ◌≢◌, ℕ, ◌+◌, ◌≤◌, List, [], ◌∷◌, ◌++◌, Option, Some, Result, Ok, Err}
-use Rattle.std.specs.Option.{MatchOption, option_map}
-use Rattle.mt_values.specs.declared.command.Command.TheVariants as command
+-- What a commit does to a root: one relation for each commit (docs/architecture.md, "Commits").
+use Rattle.std.specs.Prelude.{◌≡◌, ◌≤◌, ℕ, IsTrue, Option, Some, Result}
+use Rattle.std.specs.Result.{MatchResult}
+use Rattle.mt_base.specs.Limits.{level_limit}
 use Rattle.mt_values.specs.declared.command.Create.{Create}
-use Rattle.mt_values.specs.declared.command.Entry.{Entry}
 use Rattle.mt_values.specs.Annals as keeper
-use Rattle.mt_values.specs.Annals.{began}
-use Rattle.mt_values.specs.Grid.{Grid}
-use Rattle.mt_values.specs.RootNames.{create_name, part_name}
-use Rattle.mt_outside.specs.Causes.{Rose}
-use Rattle.mt_outside.specs.Disk.{MayPut, Told, put}
+use Rattle.mt_outside.specs.Disk.{Told}
 use Rattle.mt_outside.specs.Files.{Files}
-use Rattle.root_store.specs.mt_model.History.{History}
-use Rattle.root_store.specs.part_name.PartNames.{part_text}
-use Rattle.durable_commit.specs.stage_dir.Stages.{Filled}
-use Rattle.durable_commit.specs.declared.causes.Refused.{Refused}
-use Rattle.durable_commit.specs.declared.causes.Refused.TheVariants as refused
-use Rattle.durable_commit.specs.Commits.{IsOutside, Notes, entry_of}
+use Rattle.root_store.specs.durable_commit.declared.causes.Refused.{Refused}
+use Rattle.root_store.specs.durable_commit.Commits.{stopped_by}
+use Rattle.root_store.specs.durable_commit.Publications.{Publication, Storage}
+pub use Rattle.root_store.specs.durable_commit.Publications.{storage}
+use Rattle.root_store.specs.durable_commit.stage_dir.Stages.{Filled}
+use Rattle.root_store.specs.mt_model.History.{IsInsertInto, IsTableSchema}
+use Rattle.root_store.specs.part_name.declared.part.PartName.{PartName}
+use Rattle.root_store.specs.part_set.Parts.{IsInBlockOrder, kept_in}
+use Rattle.root_store.specs.part_set.RootNames.{is_table}
+use Rattle.root_store.specs.part_set.Runs.{IsRun}
+use Rattle.root_store.specs.part_set.Sets.{parts_of}
+use Rattle.root_store.specs.declared.store.CoreStore.{CoreStore}
+use Rattle.root_store.specs.Soundness.{IsReady}
+use Rattle.root_store.specs.Stores.{table_at}
 use Rattle.root_commits.specs.declared.commits.Returned.{Returned}
-use Rattle.root_commits.specs.Commits.{fresh_part, insert_of_block, partition_of_block}
-use Rattle.root_store.specs.declared.store.Table.{Table}
-use Rattle.root_store.specs.Crashes.{Storage}
+use Rattle.root_commits.specs.Commits.{EntersSealed, EntersTable, IsCause, SameStore, cause_of, insert_into, refuses_create, refuses_part}
+use Rattle.root_commits.specs.Merges.{EntersMerge, Merging, name_of_merge, sources_of}
+use Rattle.root_commits.specs.Publications.{Adding, Publishes, partition_of_adding, publication_of_create, publication_of_merge, publication_of_part}
 
--- what a turn publishes and notes: a name, the files that were sealed for it, how many calls of their stage had failed, and the entry
-pub record Turn : Type 0 where
-  pub name : List ℕ
-  pub files : Option Files
-  pub failed : ℕ
-  pub entry : Entry
+-- what a commit starts from, and what it leaves: a store, and what is known of the outside
+pub record Root (F : Type 0) : Type 0 where
+  pub store : CoreStore F
+  pub storage : Storage
 
--- the history with the entry of a turn
-abbrev pub with_entry : Turn → History → History
-with_entry turn h = h ++ turn.entry ∷ []
+abbrev pub root_of : {F : Type 0} → CoreStore F → Option Told → ℕ → ℕ → Option keeper.Told → Root F
+root_of store disk clock failed annals = record { store = store; storage = storage disk clock failed annals }
 
--- the turn of a CREATE whose entry was sealed
-abbrev pub turn_of_create : ℕ → Create → Filled → Turn
-turn_of_create session create sealed = record {
-  name = create_name create.table;
-  files = sealed.files;
-  failed = sealed.failed;
-  entry = entry_of session (command.Create create);
-}
+-- turns may follow
+abbrev pub IsReadyRoot : {F : Type 0} → Root F → Type 0
+IsReadyRoot now = IsReady now.storage.failed now.storage.disk now.store
 
--- the turn of a block whose part was sealed, into a table that is kept as this one
-abbrev pub turn_of_part : ℕ → List ℕ → Table → Grid → Filled → Turn
-turn_of_part session table t block sealed = record {
-  name = part_name table (part_text (fresh_part (partition_of_block t.schema block) (t.drawn + 1)));
-  files = sealed.files;
-  failed = sealed.failed;
-  entry = entry_of session (insert_of_block table (partition_of_block t.schema block) block);
-}
+-- A commit, from a root that it may start from. Its cause is the one that is shown, or one of the outside. A name is published and settled, and
+-- the store has what was committed; or it was refused, and the store has the same tables and parts. Turns may follow.
+pub record Commits {F T S : Type 0} (From : Type 0) (shown : Option Refused) (p : Publication) (Enters : CoreStore F → CoreStore F → Type 0) (was now : Root F) (sealed : S) (result : Result T (Returned S)) : Type 0 where
+  pub from : From
+  pub cause : IsCause shown (cause_of result)
+  pub turn : Publishes p was.storage now.storage sealed result
+  pub enters : MatchResult result (λ _. Enters was.store now.store) (λ _. SameStore was.store now.store)
+  pub ready : IsReadyRoot now
 
--- what is known of the outside at some moment, by each
-abbrev pub storage : Option Told → ℕ → ℕ → Option keeper.Told → Storage
-storage disk clock failed annals = record { disk = disk; clock = clock; failed = failed; annals = annals }
+-- a root that a CREATE may be committed to: turns may follow, and the table's name and schema are ones that a table may have
+pub record MayCreate {F : Type 0} (create : Create) (was : Root F) : Type 0 where
+  pub ready : IsReadyRoot was
+  pub named : IsTrue (is_table create.table)
+  pub schema : IsTableSchema create.schema
 
--- The turn was done: its name has what was sealed and is settled, the mark is one higher, and the annals list its entry with that mark.
--- The disk's count of faults is as it was where no call of the stage had failed.
-pub record IsDone (turn : Turn) (was now : Storage) : Type 0 where
-  pub root : now.disk ≡ put was.clock turn.name turn.files was.disk
-  pub mark : now.clock ≡ was.clock + 1
-  pub annals : Notes now.clock turn.entry was.annals now.annals
-  pub later : was.failed ≤ now.failed
-  pub calm : turn.failed ≡ 0 → now.failed ≡ was.failed
+-- a CREATE of a session, whose entry was sealed
+abbrev pub CommitsCreate : {F T S : Type 0} → ℕ → Create → Filled → Root F → Root F → S → Result T (Returned S) → Type 0
+CommitsCreate session create entry was now sealed result =
+    Commits (MayCreate create was) (refuses_create was.store create.table was.storage.failed) (publication_of_create session create entry) (EntersTable create.table create.schema) was now sealed result
 
--- The turn failed after what was sealed was given to the disk: its name is there or not, the mark stays, and its entry is begun. The cause is
--- one of the outside. It is `Disk` only where the disk's count rose; else the names are as they were, and the count too where no call of the
--- stage had failed.
-pub record IsInDoubt (turn : Turn) (cause : Refused) (was now : Storage) : Type 0 where
-  pub outside : IsOutside (Some cause)
-  pub root : MayPut was.clock turn.name turn.files was.disk now.disk
-  pub mark : now.clock ≡ was.clock
-  pub annals : now.annals ≡ option_map (began turn.entry) was.annals
-  pub later : was.failed ≤ now.failed
-  pub rose : cause ≡ refused.Disk → Rose was.failed now.failed
-  pub unchanged : cause ≢ refused.Disk → now.disk ≡ was.disk
-  pub calm : turn.failed ≡ 0 → cause ≢ refused.Disk → now.failed ≡ was.failed
+-- a root that a block may be added to: turns may follow, and the block's rows are of the table, which is there
+pub record MayAdd {F : Type 0} (a : Adding) (was : Root F) : Type 0 where
+  pub ready : IsReadyRoot was
+  pub there : table_at was.store a.table ≡ Some a.kept
+  pub rows : IsInsertInto a.kept.schema (insert_into a.table (partition_of_adding a) a.block)
 
--- The turn was refused before anything was given to the disk, for another cause than `Disk`: what was sealed comes back, and the outside is
--- as it was.
-pub record IsNotGiven {S : Type 0} (sealed back : S) (cause : Refused) (was now : Storage) : Type 0 where
-  pub returned : back ≡ sealed
-  pub stays : now ≡ was
-  pub other : cause ≢ refused.Disk
+-- a block that is added, whose part was sealed
+abbrev pub CommitsPart : {F T S : Type 0} → (F → Option Files) → Adding → Root F → Root F → S → Result T (Returned S) → Type 0
+CommitsPart files_of a was now sealed result =
+    Commits (MayAdd a was) (refuses_part was.store a.table (partition_of_adding a) a.kept.drawn was.storage.failed) (publication_of_part a)
+    (EntersSealed files_of a.sealed.files a.loaded a.table (partition_of_adding a) a.kept) was now sealed result
 
--- a turn was refused: before anything was given to the disk where what was sealed comes back, else after it
-abbrev pub IsTurnRefused : {S : Type 0} → Turn → Storage → Storage → S → Returned S → Type 0
-IsTurnRefused turn was now sealed r = MatchOption r.back (IsInDoubt turn r.cause was now) (λ back. IsNotGiven sealed back r.cause was now)
+-- A root in whose store a part may take the place of a run of a table's parts: turns may follow, and the name is the one that a merge of the run
+-- has, whose level is none that is greater than may be.
+pub record MaySwap {F : Type 0} (m : Merging) (name : PartName) (was : Root F) : Type 0 where
+  pub ready : IsReadyRoot was
+  pub run : IsRun m.run (kept_in m.partition (parts_of was.store.set m.table))
+  pub ordered : IsInBlockOrder (kept_in m.partition (parts_of was.store.set m.table))
+  pub named : name_of_merge (sources_of was.store m) ≡ Some name
+  pub low : name.level ≤ level_limit
 
--- what a turn does to the outside: it is done, or refused
-abbrev pub Turns : {T S : Type 0} → Turn → Storage → Storage → S → Result T (Returned S) → Type 0
-Turns turn was now sealed (Ok x) = IsDone turn was now
-Turns turn was now sealed (Err r) = IsTurnRefused turn was now sealed r
+-- a merge, whose part was sealed
+abbrev pub CommitsMerge : {F T S : Type 0} → (F → Option Files) → Merging → PartName → Root F → Root F → S → Result T (Returned S) → Type 0
+CommitsMerge files_of m name was now sealed result =
+    Commits (MaySwap m name was) (stopped_by was.store.opened was.storage.failed) (publication_of_merge m name) (EntersMerge files_of m) was now sealed result

@@ -1,37 +1,27 @@
 // A command added to the disk, to what the annals list and to the store.
-ghost use Rattle.std.specs.Prelude.{◌≡◌, ◌≢◌, ◌+◌, ℕ, false, IsSome, IsTrue, List, Option, Some, None, IfErr, IfOk, IfSome, OnErr, OnOk, length};
+ghost use Rattle.std.specs.Prelude.{◌≡◌, ◌≢◌, ◌+◌, ℕ, false, IsSome, IsTrue, List, Some, None, IfOk, OnErr, OnOk, length};
 ghost use Rattle.std.specs.BTreeMap.{Updates, get, insert_entry};
 ghost use Rattle.std.specs.Cmp.Lexicographic.{slice_cmp};
 ghost use Rattle.std.specs.Ordering.{nat_cmp};
-ghost use Rattle.std.specs.Result.{MatchResult};
-ghost use Rattle.mt_values.specs.Annals.{Told};
 ghost use Rattle.mt_values.specs.RootNames.{create_name, part_name};
+ghost use Rattle.root_store.specs.durable_commit.Commits.{entry_of};
+ghost use Rattle.root_store.specs.mt_model.History.{IsInsertInto, IsTableSchema};
 ghost use Rattle.root_store.specs.part_name.PartNames.{part_text};
-ghost use Rattle.root_store.specs.part_set.RootNames.{is_table};
 ghost use Rattle.root_store.specs.part_set.Parts.{IsAdded, IsInBlockOrder, NoneMeets};
+ghost use Rattle.root_store.specs.part_set.RootNames.{is_table};
 ghost use Rattle.root_store.specs.part_set.Sets.{HasRoom, parts_of};
-ghost use Rattle.root_store.specs.mt_model.History.{History, IsInsertInto, IsTableSchema};
-ghost use Rattle.root_commits.specs.Events.{IsAccepted, accept_of_block};
-ghost use Rattle.root_store.specs.Cores.{ShowsCore};
-ghost use Rattle.root_store.specs.table_core.declared.event.Accept.TheVariants as accept;
-ghost use Rattle.root_store.specs.table_core.Core.{Core};
-ghost use Rattle.root_store.specs.Stores.{fresh_table};
-ghost use Rattle.durable_commit.specs.Commits.{entry_of};
-ghost use Rattle.root_commits.specs.Commits.{EntersSealed, EntersTable, IsCause, IsSealedEntry, SameStore, StandsWhere, cause_of, fresh_part, IsSealedOf, insert_into, insert_of_block, partition_of_block, refuses_create, refuses_part};
-ghost use Rattle.root_commits.specs.Images.{LeavesAfter, LeavesOne, on_disk};
-ghost use Rattle.root_commits.specs.Turns.{Turns, storage, turn_of_create, turn_of_part, with_entry};
-ghost use Rattle.root_store.specs.Crashes.{KeepsThroughCrashes};
-ghost use Rattle.root_store.specs.Shown.{HasNoMark};
-ghost use Rattle.root_store.specs.Soundness.{HasSoundParts, IsReady, RootStands};
-ghost use Rattle.root_store.specs.Stores.{CoreStands, table_at};
+ghost use Rattle.root_store.specs.Soundness.{IsReady};
+ghost use Rattle.root_store.specs.Stores.{fresh_table, table_at};
 ghost use Rattle.root_store.specs.declared.store.Table.{Table as Made};
+ghost use Rattle.root_commits.specs.Commits.{fresh_part, insert_into, insert_of_block, partition_of_block, refuses_create, refuses_part};
+ghost use Rattle.root_commits.specs.Publications.{adding};
+ghost use Rattle.root_commits.specs.Turns.{CommitsCreate, CommitsPart, root_of};
 
-use crate::turns::turn;
-use durable_commit::stage_dir::Sealed;
-use durable_commit::{Limit, Refused, refuse_stopped, take_out};
 use mt_base::{NUMBER_LIMIT, NoMemory, PART_LIMIT, Partition, TABLE_LIMIT, Twin};
 use mt_outside::{Arm, Disk, DiskError};
 use mt_values::{Annals, Block, Command, Create, Entry, Insert, Name};
+use root_store::durable_commit::stage_dir::Sealed;
+use root_store::durable_commit::{Limit, Refused, commit, refuse_stopped, take_out};
 use root_store::part_name::PartName;
 use root_store::part_reader::Part;
 use root_store::part_set::{PartSet, RootName, TablePart, spell_name};
@@ -227,50 +217,12 @@ pub fn commit_create<D: Disk, A: Annals>(
     requires named { IsTrue (is_table create.table) }
     requires schema { IsTableSchema create.schema }
     requires ready { IsReady (D.failed disk.old) (D.told disk.old) store.old }
-
-    // What is answered, and what the turn does to the outside.
-    ensures cause { IsCause (refuses_create store.old create.table (D.failed disk.old))
-        (cause_of result) }
-    ensures turn { let was = storage (D.told disk.old) (D.clock disk.old) (D.failed disk.old)
-        (A.told annals.old) in
-        let now = storage (D.told disk.new) (D.clock disk.new) (D.failed disk.new)
-        (A.told annals.new) in
-        Turns (turn_of_create session create sealed) was now sealed result }
-    ensures untouched { IfErr result (λ r. IfSome r.back (λ _. disk.new ≡ disk.old)) }
-
-    // What the store is then, and what it and the root stand for.
-    ensures enters { MatchResult result
-        (λ _. EntersTable create.table create.schema store.old store.new)
-        (λ _. SameStore store.old store.new) }
-    ensures stands { (h : History) → CoreStands D.Arm.Dir.files h store.old
-        → OnOk result (StandsWhere D.Arm.Dir.files
-        (with_entry (turn_of_create session create sealed) h) store.new (D.told disk.new)
-        (IsSealedEntry create sealed.files × RootStands (D.told disk.old) h)) }
-    ensures held { HasSoundParts D.Arm.Dir.files store.old
-        → HasSoundParts D.Arm.Dir.files store.new }
-    ensures ready { IsReady (D.failed disk.new) (D.told disk.new) store.new }
-    ensures idle { HasNoMark store.old → HasNoMark store.new }
-    ensures opened { store.new.opened ≡ store.old.opened }
-    ensures started { D.started disk.new ≡ D.started disk.old }
-
-    // Which event of the core it is.
-    ensures event { (core : Core) → ShowsCore D.Arm.Dir.files store.old core → MatchResult result
-        (λ _. IsAccepted D.Arm.Dir.files core (accept.Create session create) store.new)
-        (λ _. ShowsCore D.Arm.Dir.files store.new core) }
-
-    // What a crash leaves: of the disk alone, and of the disk and the annals.
-    ensures images { let was = on_disk store.old (D.told disk.old) (D.clock disk.old) in
-        let now = on_disk store.new (D.told disk.new) (D.clock disk.new) in
-        (h : History) → IsSealedEntry create sealed.files → CoreStands D.Arm.Dir.files h store.old
-        → LeavesOne was h
-        → LeavesAfter was now h (with_entry (turn_of_create session create sealed) h) result }
-    ensures through_crashes { let was = storage (D.told disk.old) (D.clock disk.old)
+    ensures commits { let was = root_of store.old (D.told disk.old) (D.clock disk.old)
         (D.failed disk.old) (A.told annals.old) in
-        let now = storage (D.told disk.new) (D.clock disk.new) (D.failed disk.new)
+        let now = root_of store.new (D.told disk.new) (D.clock disk.new) (D.failed disk.new)
         (A.told annals.new) in
-        (first : Told) (start : ℕ) → IsSealedEntry create sealed.files
-        → KeepsThroughCrashes D.Arm.Dir.files store.old was first start
-        → KeepsThroughCrashes D.Arm.Dir.files store.new now first start }
+        CommitsCreate session create sealed was now sealed result }
+    ensures started { D.started disk.new ≡ D.started disk.old }
 {
     if let Some(cause) = refuse_create(store, &create.table, disk.faults()) {
         let back = Some(sealed);
@@ -289,7 +241,7 @@ pub fn commit_create<D: Disk, A: Annals>(
     } = ready;
     let command = Command::Create(create);
     let entry = Entry { session, command };
-    match turn(alloc, disk, annals, sealed, &name, entry) {
+    match commit(alloc, disk, annals, sealed, &name, entry) {
         Ok(_) => {
             store.length = length;
             Ok(())
@@ -367,63 +319,13 @@ pub fn commit_part<D: Disk, A: Annals>(
     requires rows { (t : Made) → table_at store.old table.now ≡ Some t
         → IsInsertInto t.schema (insert_into table.now (partition_of_block t.schema block) block) }
     requires ready { IsReady (D.failed disk.old) (D.told disk.old) store.old }
-
-    // What is answered, and what the turn does to the outside.
-    ensures cause { (t : Made) → table_at store.old table.now ≡ Some t
-        → IsCause (refuses_part store.old table.now (partition_of_block t.schema block) t.drawn
-        (D.failed disk.old)) (cause_of result) }
-    ensures turn { let was = storage (D.told disk.old) (D.clock disk.old) (D.failed disk.old)
-        (A.told annals.old) in
-        let now = storage (D.told disk.new) (D.clock disk.new) (D.failed disk.new)
-        (A.told annals.new) in
-        (t : Made) → table_at store.old table.now ≡ Some t
-        → Turns (turn_of_part session table.now t block part.sealed) was now part result }
-    ensures untouched { IfErr result (λ r. IfSome r.back (λ _. disk.new ≡ disk.old)) }
-
-    // What the store is then, and what it and the root stand for.
-    ensures enters { (t : Made) → table_at store.old table.now ≡ Some t → MatchResult result
-        (λ _. EntersSealed D.Arm.Dir.files part.sealed.files part.loaded table.now
-        (partition_of_block t.schema block) t store.old store.new)
-        (λ _. SameStore store.old store.new) }
-    ensures stands { (h : History) (t : Made) → table_at store.old table.now ≡ Some t
-        → IsSealedOf t.schema block part.sealed.files part.loaded
-        → CoreStands D.Arm.Dir.files h store.old
-        → OnOk result (StandsWhere D.Arm.Dir.files
-        (with_entry (turn_of_part session table.now t block part.sealed) h) store.new
-        (D.told disk.new) (RootStands (D.told disk.old) h)) }
-    ensures held { (t : Made) → table_at store.old table.now ≡ Some t
-        → IsSealedOf t.schema block part.sealed.files part.loaded
-        → HasSoundParts D.Arm.Dir.files store.old → HasSoundParts D.Arm.Dir.files store.new }
-    ensures ready { IsReady (D.failed disk.new) (D.told disk.new) store.new }
-    ensures idle { HasNoMark store.old → HasNoMark store.new }
-    ensures opened { store.new.opened ≡ store.old.opened }
-    ensures started { D.started disk.new ≡ D.started disk.old }
-
-    // Which event of the core it is.
-    ensures event { (core : Core) (t : Made) → ShowsCore D.Arm.Dir.files store.old core
-        → table_at store.old table.now ≡ Some t
-        → IsSealedOf t.schema block part.sealed.files part.loaded
-        → OnOk result (IsAccepted D.Arm.Dir.files core
-        (accept_of_block session table.now t.schema block) store.new) }
-    ensures no_event { (core : Core) → ShowsCore D.Arm.Dir.files store.old core
-        → OnErr result (ShowsCore D.Arm.Dir.files store.new core) }
-
-    // What a crash leaves: of the disk alone, and of the disk and the annals.
-    ensures images { let was = on_disk store.old (D.told disk.old) (D.clock disk.old) in
-        let now = on_disk store.new (D.told disk.new) (D.clock disk.new) in
-        (h : History) (t : Made) → table_at store.old table.now ≡ Some t
-        → IsSealedOf t.schema block part.sealed.files part.loaded
-        → CoreStands D.Arm.Dir.files h store.old → LeavesOne was h
-        → LeavesAfter was now h
-        (with_entry (turn_of_part session table.now t block part.sealed) h) result }
-    ensures through_crashes { let was = storage (D.told disk.old) (D.clock disk.old)
+    ensures commits { let was = root_of store.old (D.told disk.old) (D.clock disk.old)
         (D.failed disk.old) (A.told annals.old) in
-        let now = storage (D.told disk.new) (D.clock disk.new) (D.failed disk.new)
+        let now = root_of store.new (D.told disk.new) (D.clock disk.new) (D.failed disk.new)
         (A.told annals.new) in
-        (t : Made) (first : Told) (start : ℕ) → table_at store.old table.now ≡ Some t
-        → IsSealedOf t.schema block part.sealed.files part.loaded
-        → KeepsThroughCrashes D.Arm.Dir.files store.old was first start
-        → KeepsThroughCrashes D.Arm.Dir.files store.new now first start }
+        (t : Made) → table_at store.old table.now ≡ Some t → CommitsPart D.Arm.Dir.files
+        (adding session table.now t block part.sealed part.loaded) was now part result }
+    ensures started { D.started disk.new ≡ D.started disk.old }
 {
     let found = &store.tables[table];
     let drawn = found.drawn;
@@ -441,7 +343,7 @@ pub fn commit_part<D: Disk, A: Annals>(
     };
     let entry = entry_of_part(session, ready.table, partition, block);
     let SealedPart { sealed, loaded } = part;
-    let dir = match turn(alloc, disk, annals, sealed, &ready.name, entry) {
+    let dir = match commit(alloc, disk, annals, sealed, &ready.name, entry) {
         Ok(dir) => dir,
         Err(error) => {
             let cause = Refused::of_disk(error);

@@ -4,12 +4,14 @@
 mod commits;
 mod laws;
 mod merges;
-mod turns;
 
 pub use commits::{Returned, commit_create, commit_part};
-pub use durable_commit;
-pub use durable_commit::stage_dir;
-pub use laws::{crashes_leave_what_was_noted, runs_go_on_after_a_crash};
-pub use merges::commit_merge;
+pub use laws::{
+    commits_are_events, commits_hold_rows, commits_keep_through_crashes, commits_leave_images,
+    commits_mark_nothing, commits_stand, crashes_leave_what_was_noted, parts_are_merged_by_history,
+    runs_go_on_after_a_crash,
+};
+pub use merges::{commit_merge, merged_name};
 pub use root_store;
-pub use root_store::{digest_file, part_name, part_reader, part_set, part_writer};
+pub use root_store::durable_commit::stage_dir;
+pub use root_store::{digest_file, durable_commit, part_name, part_reader, part_set, part_writer};

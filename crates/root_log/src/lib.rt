@@ -3,7 +3,8 @@
 
 pub use root_commits::durable_commit::{Limit, Refused};
 pub use root_commits::{
-    Returned, commit_create, commit_part, crashes_leave_what_was_noted, runs_go_on_after_a_crash,
+    Returned, commit_create, commit_merge, commit_part, crashes_leave_what_was_noted, merged_name,
+    runs_go_on_after_a_crash,
 };
 pub use root_opening::root_store::{CoreStore, Table};
 pub use root_opening::{

@@ -17,6 +17,10 @@ pub mod TableIndexes
 pub mod TableMarks
 pub mod Tabled
 pub mod Undamaged
+pub use Rattle.durable_commit.proofs.SameLists as DurableCommitSameLists
+pub use Rattle.durable_commit.proofs.WhyRefused as DurableCommitWhyRefused
+pub use Rattle.durable_commit.proofs.StageDirImages
+pub use Rattle.durable_commit.proofs.StageDirLookups
 pub use Rattle.table_core.proofs.MtModelCommands
 pub use Rattle.table_core.proofs.MtModelHistories
 pub use Rattle.table_core.proofs.MtModelKeys

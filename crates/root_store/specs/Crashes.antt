@@ -8,17 +8,11 @@ use Rattle.mt_outside.specs.Disk.{Image, IsStamped, LeftAt, Names, Since, Told}
 use Rattle.mt_outside.specs.Files.{Files}
 use Rattle.table_core.specs.mt_model.History.{History}
 pub use Rattle.table_core.specs.mt_model.History.{entries_of}
+pub use Rattle.durable_commit.specs.Publications.{Storage}
 use Rattle.root_store.specs.declared.store.CoreStore.{CoreStore}
 use Rattle.root_store.specs.Roots.{Stands}
 use Rattle.root_store.specs.Shown.{ImagesShow}
 use Rattle.root_store.specs.Stores.{CoreStands}
-
--- What is known of the outside at some moment: of the disk all changes of its names, its mark and its count of faults; and what annals list.
-pub record Storage : Type 0 where
-  pub disk : Option Told
-  pub clock : ℕ
-  pub failed : ℕ
-  pub annals : Option keeper.Told
 
 -- Whatever a crash now leaves of the disk stands for the history. What is settled comes before what isn't.
 pub record AllStand (told : Told) (clock : ℕ) (h : History) : Type 0 where

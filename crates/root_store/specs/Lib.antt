@@ -8,6 +8,7 @@ pub mod Shown
 pub mod Soundness
 pub mod Stores
 pub use Rattle.part_reader.specs.digest_file
+pub use Rattle.durable_commit.specs as durable_commit
 pub use Rattle.table_core.specs.mt_model
 pub use Rattle.mutation_queue.specs as mutation_queue
 pub use Rattle.table_core.specs.part_history

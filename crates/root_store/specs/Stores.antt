@@ -10,6 +10,7 @@ use Rattle.mt_values.specs.RootNames.{create_name}
 use Rattle.mt_values.specs.Values.{Row}
 use Rattle.mt_outside.specs.Disk.{Names, files_at}
 use Rattle.mt_outside.specs.Files.{Files}
+use Rattle.mutation_queue.specs.Queue.{mutations_of}
 use Rattle.table_core.specs.mt_model.History.{History, IsLegal, creates, schema_of}
 use Rattle.table_core.specs.mt_model.Numbers.{last_number}
 use Rattle.part_reader.specs.declared.reading.Part.{Part}
@@ -56,8 +57,13 @@ pub record PartsAreThere {F : Type 0} (files_of : F → Option Files) (h : Histo
   pub stand : TableStands table (core_parts table (parts_of store.set table) rows) h
   pub order : AreInBlockOrder (core_parts table (parts_of store.set table) rows)
 
+-- no table's queue has a mutation
+abbrev pub HasNoMutation : {F : Type 0} → CoreStore F → Type 0
+HasNoMutation store = (table : List ℕ) → mutations_of store.mutations table ≡ []
+
 -- The store stands for a history: its tables are those of the history, each with the number that was drawn last, and their parts hold the
--- rows of the history. It keeps no parts of any other table.
+-- rows of the history. It keeps no parts of any other table. The mutations of each table's queue are those of the history: none, since no
+-- command is a mutation.
 pub record CoreStands {F : Type 0} (files_of : F → Option Files) (h : History) (store : CoreStore F) : Type 0 where
   pub legal : IsLegal h
   pub length_is : store.length ≡ length h
@@ -66,6 +72,7 @@ pub record CoreStands {F : Type 0} (files_of : F → Option Files) (h : History)
   pub drawn : (table : List ℕ) (t : Table) → table_at store table ≡ Some t → t.drawn ≡ last_number table h
   pub parts : (table : List ℕ) (t : Table) → table_at store table ≡ Some t → PartsAreThere files_of h store table t.schema
   pub no_other : (table : List ℕ) → table_at store table ≡ None → parts_of store.set table ≡ []
+  pub mutations : HasNoMutation store
 
 -- ---- what a root is opened as
 
@@ -92,7 +99,7 @@ pub record IsKeptOf {F : Type 0} (files_of : F → Option Files) (names : Names)
   pub loaded : IsLoadedOf schema files kept.part.loaded
 
 -- The store is what opening makes of a root: its tables are those among the names, and of each table it has exactly the visible parts, in
--- block order, of which no two meet.
+-- block order, of which no two meet. No name tells a mutation, so no table's queue has one.
 pub record StoreOf {F : Type 0} (files_of : F → Option Files) (names : Names) (store : CoreStore F) : Type 0 where
   pub read : List RootName
   pub are : AreNamesRead names read
@@ -102,4 +109,5 @@ pub record StoreOf {F : Type 0} (files_of : F → Option Files) (names : Names) 
   pub parts : (table : List ℕ) (name : PartName) → IsVisible read (record { table = table; name = name }) ↔ HasItem (map (λ (k : Kept (Part F)). k.name) (parts_of store.set table)) name
   pub kept : (table : List ℕ) (t : Table) → table_at store table ≡ Some t → All (IsKeptOf files_of names table t.schema) (parts_of store.set table)
   pub order : (table : List ℕ) → IsInBlockOrder (parts_of store.set table)
+  pub mutations : HasNoMutation store
   pub length_is : store.length ≡ sum_by (λ (e : List ℕ × Table). 1 + e.1.drawn) store.tables.entries

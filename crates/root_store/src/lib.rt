@@ -4,7 +4,9 @@
 mod laws;
 mod store;
 
+pub use durable_commit;
 pub use laws::stores_show_the_core;
+pub use mutation_queue;
 pub use part_reader;
 pub use part_reader::{digest_file, part_writer};
 pub use part_set;
