@@ -13,6 +13,8 @@ use Rattle.mt_values.specs.Tables.{MayHavePartition}
 use Rattle.mt_outside.specs.Disk.{Names, files_at}
 use Rattle.mt_outside.specs.Files.{Files}
 use Rattle.root_store.specs.mt_model.History.{IsTableSchema}
+use Rattle.root_store.specs.mutation_queue.declared.mutations.Mutations.{Mutations}
+use Rattle.root_store.specs.mutation_queue.Queue.{mutations_of}
 use Rattle.root_store.specs.part_name.declared.part.PartName.{PartName}
 use Rattle.root_store.specs.part_reader.declared.reading.Part.{Part}
 use Rattle.root_store.specs.part_set.declared.kept.Kept.{Kept}
@@ -133,11 +135,12 @@ module _ (read seen : List RootName) (n : RootName) where
       order = k.order;
       no_other = k.no_other;
       idle = k.idle;
+      mutations = k.mutations;
     }
 
 -- ---- a table
 
-module _ {F : Type 0} (read seen : List RootName) (old new : CoreStore F) (table : List ℕ) (schema : Schema) (same : new.set ≡ old.set)
+module _ {F : Type 0} (read seen : List RootName) (old new : CoreStore F) (table : List ℕ) (schema : Schema) (same : new.set ≡ old.set) (queues : new.mutations ≡ old.mutations)
     (updates : Updates (slice_cmp nat_cmp) old.tables new.tables table (Some (fresh_table schema))) (absent : HasTable seen table → ⊥) (k : Keeps read seen old) where
   abbrev C : RootName
   C = root.Create table
@@ -192,6 +195,7 @@ module _ {F : Type 0} (read seen : List RootName) (old new : CoreStore F) (table
       | inr other ↦ sym (same_parts t) ∙ k.no_other t (sym other.1 ∙ none)
     ];
     idle = λ t. subst (All (λ (y : Kept (Part F)). y.busy ≡ false)) (same_parts t) (k.idle t);
+    mutations = λ t. ap (λ (queue : Mutations). mutations_of queue t) queues ∙ k.mutations t;
   }
 
   pub table_told : (files_of : F → Option Files) (names : Names) → HasFolder names (create_name table) (EntryHolds table schema) → KeepsTold files_of names read seen old → KeepsTold files_of names read (seen ++ C ∷ []) new
@@ -262,8 +266,8 @@ module _ {F : Type 0} (read seen : List RootName) (old new : CoreStore F) (part 
       | inr other ↦ subst (λ (xs : List (Kept (Part F))). HasName xs p.name) (other_parts p.table other.0) has
     ]
 
-    pub part_kept : t0.drawn ≤ n → part.name.max_block ≤ n → (n ≡ t0.drawn) ⊎ (n ≡ part.name.max_block) → IsInBlockOrder (parts_of new.set part.table) → Keeps read (seen ++ P ∷ []) new
-    part_kept above ends is ordered = record {
+    pub part_kept : t0.drawn ≤ n → part.name.max_block ≤ n → (n ≡ t0.drawn) ⊎ (n ≡ part.name.max_block) → IsInBlockOrder (parts_of new.set part.table) → new.mutations ≡ old.mutations → Keeps read (seen ++ P ∷ []) new
+    part_kept above ends is ordered queues = record {
       known = λ t x at. elim (either_table old.tables new.tables part.table t (Some (drawn_to t0 n)) updates) [
         | inl here ↦ (
             let one = one_some (table_at new t) (drawn_to t0 n) x here.1 at in
@@ -308,6 +312,7 @@ module _ {F : Type 0} (read seen : List RootName) (old new : CoreStore F) (part 
             (all_added (λ (y : Kept (Part F)). y.busy ≡ false) (parts_of old.set part.table) (parts_of new.set part.table) K added (k.idle part.table) refl)
         | inr other ↦ subst (All (λ (y : Kept (Part F)). y.busy ≡ false)) (other_parts t other.0) (k.idle t)
       ];
+      mutations = λ t. ap (λ (queue : Mutations). mutations_of queue t) queues ∙ k.mutations t;
     }
 
   module _ (files_of : F → Option Files) (names : Names) (r : IsPartRead files_of names (root_text P) t0.schema checked) (told : KeepsTold files_of names read seen old) where

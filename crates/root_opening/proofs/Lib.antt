@@ -6,6 +6,7 @@ pub mod FirstNames
 pub mod Held
 pub mod ImagesShown
 pub mod KeptNames
+pub mod Leaving
 pub mod Lengths
 pub mod Loading
 pub mod NameReads

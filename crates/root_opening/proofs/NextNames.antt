@@ -191,6 +191,7 @@ module _ {F : Type 0} (r : Root) (named : IsNamedRoot r) (store : CoreStore F) (
     parts = λ table name. (λ visible. k.all_parts (record { table = table; name = name }) visible visible.here, λ has. (seen_one table name has).visible);
     kept = kept.kept;
     order = k.order;
+    mutations = k.mutations;
     length_is = sum;
   }
 
@@ -237,6 +238,7 @@ module _ {F : Type 0} (read : List RootName) (store : CoreStore F) (files_of : F
     order = λ table. subst (λ (xs : List (Kept (Part F))). IsInBlockOrder xs) (sym (no_parts_yet table)) (λ i j d less inside. absurd (omega (arith, inside)));
     no_other = λ table none. no_parts_yet table;
     idle = λ table. subst (All (λ (x : Kept (Part F)). x.busy ≡ false)) (sym (no_parts_yet table)) (All-nil (λ (x : Kept (Part F)). x.busy ≡ false));
+    mutations = s.mutations;
   }
 
   pub told_none : (names : Names) → KeepsTold files_of names read [] store

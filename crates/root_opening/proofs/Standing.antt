@@ -339,4 +339,5 @@ module _ {F : Type 0} (files_of : F → Option Files) (names : Names) (h : Histo
     drawn = drawn_is;
     parts = λ table t at. parts_there table t.schema (schema_at table t at) t at refl;
     no_other = no_parts;
+    mutations = o.mutations;
   }

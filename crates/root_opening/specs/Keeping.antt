@@ -36,7 +36,7 @@ use Rattle.root_store.specs.Entries.{EntryHolds}
 use Rattle.root_opening.specs.Names.{AreNamesOf, creates_in}
 use Rattle.root_store.specs.Roots.{HasFolder}
 use Rattle.root_store.specs.Shown.{HasNoMark}
-use Rattle.root_store.specs.Stores.{IsKeptOf, table_at}
+use Rattle.root_store.specs.Stores.{HasNoMutation, IsKeptOf, table_at}
 
 -- ---- faults
 
@@ -94,7 +94,7 @@ pub record IsSeenTable (read seen : List RootName) (table : List ℕ) (t : Table
   pub drawn : IsGreatestSeen read seen table t.drawn
 
 -- Of the names gone over the store has the tables and the visible parts, each of a partition that its table may have and without a mark, and
--- nothing else, whatever the disk tells.
+-- nothing else, no mutation either, whatever the disk tells.
 pub record Keeps {F : Type 0} (read seen : List RootName) (store : CoreStore F) : Type 0 where
   pub known : (table : List ℕ) (t : Table) → table_at store table ≡ Some t → IsSeenTable read seen table t
   pub all : (table : List ℕ) → HasTable seen table → IsSome (table_at store table)
@@ -105,6 +105,7 @@ pub record Keeps {F : Type 0} (read seen : List RootName) (store : CoreStore F) 
   pub order : (table : List ℕ) → IsInBlockOrder (parts_of store.set table)
   pub no_other : (table : List ℕ) → table_at store table ≡ None → parts_of store.set table ≡ []
   pub idle : HasNoMark store
+  pub mutations : HasNoMutation store
 
 -- Where the disk tells, each has what its folder holds, and no file of them is damaged.
 pub record KeepsTold {F : Type 0} (files_of : F → Option Files) (names : Names) (read seen : List RootName) (store : CoreStore F) : Type 0 where

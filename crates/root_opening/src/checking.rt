@@ -1,10 +1,10 @@
 // The folders of names, opened and checked.
-ghost use Rattle.std.specs.Prelude.{◌≡◌, ◌≤◌, ◌⊎◌, IfErr, IfOk, IsErrOf, IsSome, OnOk, Some, None};
+ghost use Rattle.std.specs.Prelude.{◌≡◌, IfErr, IfOk, IsErrOf, IsSome, OnOk, Some, None};
 ghost use Rattle.std.specs.Option.{ForSome};
 ghost use Rattle.mt_base.specs.declared.name.FileId.TheVariants as file;
 ghost use Rattle.mt_values.specs.Tables.{MayHavePartition};
-ghost use Rattle.mt_outside.specs.Causes.{Rose};
 ghost use Rattle.mt_outside.specs.Disk.{Told, files_at, names_of};
+ghost use Rattle.mt_outside.specs.Leaves.{LeavesDisk};
 ghost use Rattle.root_store.specs.mt_model.History.{IsTableSchema};
 ghost use Rattle.root_store.specs.Damage.{EntryDamaged, PartDamaged};
 ghost use Rattle.root_store.specs.Entries.{EntryHolds};
@@ -50,19 +50,9 @@ pub fn check_table<D: Disk>(
         (λ files f. EntryDamaged (names_of told) table.now files × (f ≡ file.Entry))) }
 
     // What stays.
-    ensures told { D.told disk.new ≡ D.told disk.old }
+    ensures disk { LeavesDisk D.Disk D.Arm.Arm (disk.old, arm.old) (disk.new, arm.new)
+        (IsErrOf result OpenFault.Disk) }
     ensures clock { D.clock disk.new ≡ D.clock disk.old }
-    ensures started { D.started disk.new ≡ D.started disk.old }
-    ensures tells { D.Arm.tells arm.new ≡ D.Arm.tells arm.old }
-
-    // What the counts of faults are.
-    ensures later { D.failed disk.old ≤ D.failed disk.new }
-    ensures arm_later { D.Arm.failed arm.old ≤ D.Arm.failed arm.new }
-    ensures fault { IsErrOf result OpenFault.Disk → Rose (D.failed disk.old) (D.failed disk.new)
-        ⊎ Rose (D.Arm.failed arm.old) (D.Arm.failed arm.new) }
-    ensures calm { (IsErrOf result OpenFault.Disk → ⊥) → D.failed disk.new ≡ D.failed disk.old }
-    ensures arm_calm { (IsErrOf result OpenFault.Disk → ⊥)
-        → D.Arm.failed arm.new ≡ D.Arm.failed arm.old }
 {
     let dir = disk.open(alloc, text)?;
     match open_entry(alloc, arm, &dir, table)? {
@@ -93,19 +83,9 @@ pub fn check_table_part<D: Disk>(
         → IfErr result (TellsFile (names_of told) text.now (PartDamaged schema.now part.now)) }
 
     // What stays.
-    ensures told { D.told disk.new ≡ D.told disk.old }
+    ensures disk { LeavesDisk D.Disk D.Arm.Arm (disk.old, arm.old) (disk.new, arm.new)
+        (IsErrOf result OpenFault.Disk) }
     ensures clock { D.clock disk.new ≡ D.clock disk.old }
-    ensures started { D.started disk.new ≡ D.started disk.old }
-    ensures tells { D.Arm.tells arm.new ≡ D.Arm.tells arm.old }
-
-    // What the counts of faults are.
-    ensures later { D.failed disk.old ≤ D.failed disk.new }
-    ensures arm_later { D.Arm.failed arm.old ≤ D.Arm.failed arm.new }
-    ensures fault { IsErrOf result OpenFault.Disk → Rose (D.failed disk.old) (D.failed disk.new)
-        ⊎ Rose (D.Arm.failed arm.old) (D.Arm.failed arm.new) }
-    ensures calm { (IsErrOf result OpenFault.Disk → ⊥) → D.failed disk.new ≡ D.failed disk.old }
-    ensures arm_calm { (IsErrOf result OpenFault.Disk → ⊥)
-        → D.Arm.failed arm.new ≡ D.Arm.failed arm.old }
 {
     if !schema.may_have(part.name.partition) {
         return Err(damaged(alloc, text, FileId::Manifest));

@@ -1,9 +1,9 @@
 // The entries of tables.
-ghost use Rattle.std.specs.Prelude.{◌≡◌, ◌≤◌, ◌∷◌, IfOk, IfSome, IsErrOf, Ok, Some, is_some};
+ghost use Rattle.std.specs.Prelude.{◌≡◌, ◌∷◌, IfOk, IfSome, IsErrOf, Ok, Some, is_some};
 ghost use Rattle.mt_values.specs.declared.schema.Schema.{Schema};
 ghost use Rattle.mt_values.specs.Script.{next_statement, statement_and, statements_of};
-ghost use Rattle.mt_outside.specs.Causes.{Rose};
 ghost use Rattle.mt_outside.specs.Files.{Files};
+ghost use Rattle.mt_outside.specs.Leaves.{LeavesArm};
 ghost use Rattle.root_store.specs.mt_model.History.{IsTableSchema};
 ghost use Rattle.root_store.specs.Entries.{EntryHolds, IsEntryWith, schema_of_statement, schema_of_items, schema_of_entry};
 
@@ -139,10 +139,7 @@ pub fn open_entry<R: Arm>(
     ensures sound { IfOk result (λ found. IfSome found IsTableSchema) }
     ensures only { (files : Files) (schema : Schema) → R.Dir.files dir.now ≡ Some files
         → EntryHolds table.now schema files → IfOk result (λ found. found ≡ Some schema) }
-    ensures tells { R.tells arm.new ≡ R.tells arm.old }
-    ensures later { R.failed arm.old ≤ R.failed arm.new }
-    ensures fault { IsErrOf result DiskError.Fault → Rose (R.failed arm.old) (R.failed arm.new) }
-    ensures calm { (IsErrOf result DiskError.Fault → ⊥) → R.failed arm.new ≡ R.failed arm.old }
+    ensures arm { LeavesArm R.Arm arm.old arm.new (IsErrOf result DiskError.Fault) }
 {
     let bytes = match read_file(alloc, arm, dir, FileId::Entry) {
         Ok(bytes) => bytes,

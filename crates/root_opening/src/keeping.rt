@@ -1,5 +1,5 @@
 // The store that the names of a root make, one name after the other.
-ghost use Rattle.std.specs.Prelude.{◌≡◌, ◌≤◌, ◌<◌, ◌+◌, ◌++◌, ◌∷◌, ◌⊎◌, [], ℕ, IfErr, IfOk, IsErrOf, IsSome, List, OnOk, Some, length, take};
+ghost use Rattle.std.specs.Prelude.{◌≡◌, ◌<◌, ◌+◌, ◌++◌, ◌∷◌, [], ℕ, IfErr, IfOk, IsErrOf, IsSome, List, OnOk, Some, length, take};
 ghost use Rattle.std.specs.BTreeMap.{IsOrdered};
 ghost use Rattle.std.specs.Cmp.Lexicographic.{slice_cmp};
 ghost use Rattle.std.specs.List.{sum_by};
@@ -8,8 +8,8 @@ ghost use Rattle.std.specs.Ordering.{nat_cmp};
 ghost use Rattle.mt_base.specs.declared.name.FileId.{FileId};
 ghost use Rattle.mt_values.specs.RootNames.{create_name};
 ghost use Rattle.root_store.specs.mt_model.History.{IsTableSchema};
-ghost use Rattle.mt_outside.specs.Causes.{Rose};
 ghost use Rattle.mt_outside.specs.Disk.{Told, files_at, names_of};
+ghost use Rattle.mt_outside.specs.Leaves.{LeavesDisk};
 ghost use Rattle.root_store.specs.part_set.declared.root_name.RootName.{RootName as Named};
 ghost use Rattle.root_store.specs.part_set.declared.root_name.RootName.TheVariants as root;
 ghost use Rattle.root_store.specs.part_set.Parts.{NoneMeets};
@@ -61,19 +61,9 @@ fn keep_table<D: Disk>(
 
     // What stays.
     ensures opened { store.new.opened ≡ store.old.opened }
-    ensures told { D.told disk.new ≡ D.told disk.old }
+    ensures disk { LeavesDisk D.Disk D.Arm.Arm (disk.old, arm.old) (disk.new, arm.new)
+        (IsErrOf result OpenFault.Disk) }
     ensures clock { D.clock disk.new ≡ D.clock disk.old }
-    ensures started { D.started disk.new ≡ D.started disk.old }
-    ensures tells { D.Arm.tells arm.new ≡ D.Arm.tells arm.old }
-
-    // What the counts of faults are.
-    ensures later { D.failed disk.old ≤ D.failed disk.new }
-    ensures arm_later { D.Arm.failed arm.old ≤ D.Arm.failed arm.new }
-    ensures fault { IsErrOf result OpenFault.Disk → Rose (D.failed disk.old) (D.failed disk.new)
-        ⊎ Rose (D.Arm.failed arm.old) (D.Arm.failed arm.new) }
-    ensures calm { (IsErrOf result OpenFault.Disk → ⊥) → D.failed disk.new ≡ D.failed disk.old }
-    ensures arm_calm { (IsErrOf result OpenFault.Disk → ⊥)
-        → D.Arm.failed arm.new ≡ D.Arm.failed arm.old }
 {
     let schema = check_table(alloc, disk, arm, text, table)?;
     put_table(alloc, &mut store.tables, table, schema)?;
@@ -110,19 +100,9 @@ fn keep_part<D: Disk>(
 
     // What stays.
     ensures opened { store.new.opened ≡ store.old.opened }
-    ensures told { D.told disk.new ≡ D.told disk.old }
+    ensures disk { LeavesDisk D.Disk D.Arm.Arm (disk.old, arm.old) (disk.new, arm.new)
+        (IsErrOf result OpenFault.Disk) }
     ensures clock { D.clock disk.new ≡ D.clock disk.old }
-    ensures started { D.started disk.new ≡ D.started disk.old }
-    ensures tells { D.Arm.tells arm.new ≡ D.Arm.tells arm.old }
-
-    // What the counts of faults are.
-    ensures later { D.failed disk.old ≤ D.failed disk.new }
-    ensures arm_later { D.Arm.failed arm.old ≤ D.Arm.failed arm.new }
-    ensures fault { IsErrOf result OpenFault.Disk → Rose (D.failed disk.old) (D.failed disk.new)
-        ⊎ Rose (D.Arm.failed arm.old) (D.Arm.failed arm.new) }
-    ensures calm { (IsErrOf result OpenFault.Disk → ⊥) → D.failed disk.new ≡ D.failed disk.old }
-    ensures arm_calm { (IsErrOf result OpenFault.Disk → ⊥)
-        → D.Arm.failed arm.new ≡ D.Arm.failed arm.old }
 {
     let Some(table) = store.tables.get_mut(&part.table) else {
         unreachable!()
@@ -161,19 +141,9 @@ fn keep_name<D: Disk>(
 
     // What stays.
     ensures opened { store.new.opened ≡ store.old.opened }
-    ensures told { D.told disk.new ≡ D.told disk.old }
+    ensures disk { LeavesDisk D.Disk D.Arm.Arm (disk.old, arm.old) (disk.new, arm.new)
+        (IsErrOf result OpenFault.Disk) }
     ensures clock { D.clock disk.new ≡ D.clock disk.old }
-    ensures started { D.started disk.new ≡ D.started disk.old }
-    ensures tells { D.Arm.tells arm.new ≡ D.Arm.tells arm.old }
-
-    // What the counts of faults are.
-    ensures later { D.failed disk.old ≤ D.failed disk.new }
-    ensures arm_later { D.Arm.failed arm.old ≤ D.Arm.failed arm.new }
-    ensures fault { IsErrOf result OpenFault.Disk → Rose (D.failed disk.old) (D.failed disk.new)
-        ⊎ Rose (D.Arm.failed arm.old) (D.Arm.failed arm.new) }
-    ensures calm { (IsErrOf result OpenFault.Disk → ⊥) → D.failed disk.new ≡ D.failed disk.old }
-    ensures arm_calm { (IsErrOf result OpenFault.Disk → ⊥)
-        → D.Arm.failed arm.new ≡ D.Arm.failed arm.old }
 {
     let text = &root.texts[place];
     match &root.names[place] {
@@ -209,19 +179,9 @@ fn keep_names<D: Disk>(
 
     // What stays.
     ensures opened { IfOk result (λ store. store.opened ≡ opened) }
-    ensures told { D.told disk.new ≡ D.told disk.old }
+    ensures disk { LeavesDisk D.Disk D.Arm.Arm (disk.old, arm.old) (disk.new, arm.new)
+        (IsErrOf result OpenFault.Disk) }
     ensures clock { D.clock disk.new ≡ D.clock disk.old }
-    ensures started { D.started disk.new ≡ D.started disk.old }
-    ensures tells { D.Arm.tells arm.new ≡ D.Arm.tells arm.old }
-
-    // What the counts of faults are.
-    ensures later { D.failed disk.old ≤ D.failed disk.new }
-    ensures arm_later { D.Arm.failed arm.old ≤ D.Arm.failed arm.new }
-    ensures fault { IsErrOf result OpenFault.Disk → Rose (D.failed disk.old) (D.failed disk.new)
-        ⊎ Rose (D.Arm.failed arm.old) (D.Arm.failed arm.new) }
-    ensures calm { (IsErrOf result OpenFault.Disk → ⊥) → D.failed disk.new ≡ D.failed disk.old }
-    ensures arm_calm { (IsErrOf result OpenFault.Disk → ⊥)
-        → D.Arm.failed arm.new ≡ D.Arm.failed arm.old }
 {
     let mut store = CoreStore::new(alloc, opened);
     for place in 0..root.names.len() {
@@ -272,19 +232,9 @@ pub fn keep_root<D: Disk>(
     ensures opened { IfOk result (λ store. store.opened ≡ opened) }
 
     // What stays.
-    ensures told { D.told disk.new ≡ D.told disk.old }
+    ensures disk { LeavesDisk D.Disk D.Arm.Arm (disk.old, arm.old) (disk.new, arm.new)
+        (IsErrOf result OpenFault.Disk) }
     ensures clock { D.clock disk.new ≡ D.clock disk.old }
-    ensures started { D.started disk.new ≡ D.started disk.old }
-    ensures tells { D.Arm.tells arm.new ≡ D.Arm.tells arm.old }
-
-    // What the counts of faults are.
-    ensures later { D.failed disk.old ≤ D.failed disk.new }
-    ensures arm_later { D.Arm.failed arm.old ≤ D.Arm.failed arm.new }
-    ensures fault { IsErrOf result OpenFault.Disk → Rose (D.failed disk.old) (D.failed disk.new)
-        ⊎ Rose (D.Arm.failed arm.old) (D.Arm.failed arm.new) }
-    ensures calm { (IsErrOf result OpenFault.Disk → ⊥) → D.failed disk.new ≡ D.failed disk.old }
-    ensures arm_calm { (IsErrOf result OpenFault.Disk → ⊥)
-        → D.Arm.failed arm.new ≡ D.Arm.failed arm.old }
 {
     let mut store = keep_names(alloc, disk, arm, root, opened)?;
     store.length = length_of(&store.tables)?;

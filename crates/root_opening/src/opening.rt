@@ -4,8 +4,8 @@ ghost use Rattle.std.specs.Cmp.Lexicographic.{slice_cmp};
 ghost use Rattle.std.specs.List.Sorted.{IsStrictlySortedBy};
 ghost use Rattle.std.specs.Ordering.{nat_cmp};
 ghost use Rattle.mt_values.specs.declared.annals.Noted.{Noted};
-ghost use Rattle.mt_outside.specs.Causes.{Rose};
 ghost use Rattle.mt_outside.specs.Disk.{Names, Told, names_of};
+ghost use Rattle.mt_outside.specs.Leaves.{LeavesDisk};
 ghost use Rattle.root_store.specs.mt_model.History.{History};
 ghost use Rattle.root_store.specs.part_set.NameOrder.{Rise};
 ghost use Rattle.root_store.specs.ByteOrder.{AreInByteOrder};
@@ -194,8 +194,6 @@ pub fn open<D: Disk>(
         → IsRootDamage (names_of told) damage → OnOk result ⊥ }
 
     // What the disk shows then, and what a crash leaves of it.
-    ensures told { D.told disk.new ≡ D.told disk.old }
-    ensures started { D.started disk.new ≡ D.started disk.old }
     ensures settled { (told : Told) → D.told disk.old ≡ Some told → names_of told ≢ []
         → OnOk result (D.clock disk.new ≡ D.clock disk.old + 1) }
     ensures mark { (D.clock disk.new ≡ D.clock disk.old)
@@ -208,16 +206,9 @@ pub fn open<D: Disk>(
         → AllStand told (D.clock disk.old) h
         → IfOk result (ImagesShow (D.told disk.new) (D.clock disk.new)) }
 
-    // What the counts of faults are.
-    ensures tells { D.Arm.tells arm.new ≡ D.Arm.tells arm.old }
-    ensures later { D.failed disk.old ≤ D.failed disk.new }
-    ensures arm_later { D.Arm.failed arm.old ≤ D.Arm.failed arm.new }
-    ensures fault { IfErr result (λ e. e ≡ OpenFault.Disk
-        → Rose (D.failed disk.old) (D.failed disk.new)
-        ⊎ Rose (D.Arm.failed arm.old) (D.Arm.failed arm.new)) }
-    ensures calm { (IsErrOf result OpenFault.Disk → ⊥) → D.failed disk.new ≡ D.failed disk.old }
-    ensures arm_calm { (IsErrOf result OpenFault.Disk → ⊥)
-        → D.Arm.failed arm.new ≡ D.Arm.failed arm.old }
+    // What the disk and the arm are then, and their counts of faults.
+    ensures disk { LeavesDisk D.Disk D.Arm.Arm (disk.old, arm.old) (disk.new, arm.new)
+        (IsErrOf result OpenFault.Disk) }
 {
     let opened = disk.faults();
     let root = read_root(alloc, disk.list(alloc)?)?;

@@ -1,7 +1,7 @@
 // The files of a part, checked.
-ghost use Rattle.std.specs.Prelude.{◌≡◌, ◌≤◌, IfErr, IfOk, IsErrOf, OnOk, Some, None};
-ghost use Rattle.mt_outside.specs.Causes.{Rose};
+ghost use Rattle.std.specs.Prelude.{◌≡◌, IfErr, IfOk, IsErrOf, OnOk, Some, None};
 ghost use Rattle.mt_outside.specs.Files.{Files};
+ghost use Rattle.mt_outside.specs.Leaves.{LeavesArm};
 ghost use Rattle.root_store.specs.mt_model.History.{IsTableSchema};
 ghost use Rattle.root_store.specs.part_reader.Damage.{Tells};
 ghost use Rattle.root_store.specs.part_reader.DamagedFile.{damaged_file};
@@ -31,10 +31,7 @@ pub fn check_files<R: Arm>(
         → IfErr result (Tells (λ found. damaged_file schema.now files ≡ found)) }
 
     // What the arm is then, and its count of faults.
-    ensures tells { R.tells arm.new ≡ R.tells arm.old }
-    ensures later { R.failed arm.old ≤ R.failed arm.new }
-    ensures fault { IsErrOf result PartFault.Fault → Rose (R.failed arm.old) (R.failed arm.new) }
-    ensures calm { (IsErrOf result PartFault.Fault → ⊥) → R.failed arm.new ≡ R.failed arm.old }
+    ensures arm { LeavesArm R.Arm arm.old arm.new (IsErrOf result PartFault.Fault) }
 {
     let part = open_part(alloc, dir, schema, arm)?;
     match check_part(alloc, &part, arm) {

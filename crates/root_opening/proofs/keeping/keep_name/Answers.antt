@@ -1,5 +1,6 @@
-use Rattle.std.proofs.Common.{List, ℕ, le_refl, refl, take, sym, subst, OnOk}
+use Rattle.std.proofs.Common.{List, ℕ, refl, take, sym, subst, OnOk}
 use Rattle.std.proofs.lemmas.Result.{IfErr-weaker}
+use Rattle.mt_outside.proofs.LeftDisks.{disk_as, disk_same}
 use Rattle.mt_outside.specs.Disk.{names_of}
 use Rattle.root_store.specs.part_set.declared.root_name.RootName.{RootName}
 use Rattle.root_store.specs.part_set.declared.root_name.RootName.TheVariants as root
@@ -123,50 +124,20 @@ keep_part-requires-clause-text g c κs within =
 pub returns-in-Create-clause-opened : goal.returns-in-Create-clause-opened
 returns-in-Create-clause-opened g c = c.keep_table.ensures.opened
 
-pub returns-in-Create-clause-told : goal.returns-in-Create-clause-told
-returns-in-Create-clause-told g c = c.keep_table.ensures.told
-
-pub returns-in-Create-clause-started : goal.returns-in-Create-clause-started
-returns-in-Create-clause-started g c = c.keep_table.ensures.started
+pub returns-in-Create-clause-disk : goal.returns-in-Create-clause-disk
+returns-in-Create-clause-disk g c = c.keep_table.ensures.disk
 
 pub returns-in-Create-clause-clock : goal.returns-in-Create-clause-clock
 returns-in-Create-clause-clock g c = c.keep_table.ensures.clock
 
-pub returns-in-Create-clause-tells : goal.returns-in-Create-clause-tells
-returns-in-Create-clause-tells g c = c.keep_table.ensures.tells
-
-pub returns-in-Create-clause-later : goal.returns-in-Create-clause-later
-returns-in-Create-clause-later g c = c.keep_table.ensures.later
-
-pub returns-in-Create-clause-arm_later : goal.returns-in-Create-clause-arm_later
-returns-in-Create-clause-arm_later g c = c.keep_table.ensures.arm_later
-
-pub returns-in-Create-clause-fault : goal.returns-in-Create-clause-fault
-returns-in-Create-clause-fault g c = c.keep_table.ensures.fault
-
 pub returns-then-shows-clause-opened : goal.returns-then-shows-clause-opened
 returns-then-shows-clause-opened g c = c.keep_part.ensures.opened
 
-pub returns-then-shows-clause-told : goal.returns-then-shows-clause-told
-returns-then-shows-clause-told g c = c.keep_part.ensures.told
-
-pub returns-then-shows-clause-started : goal.returns-then-shows-clause-started
-returns-then-shows-clause-started g c = c.keep_part.ensures.started
+pub returns-then-shows-clause-disk : goal.returns-then-shows-clause-disk
+returns-then-shows-clause-disk g c = c.keep_part.ensures.disk
 
 pub returns-then-shows-clause-clock : goal.returns-then-shows-clause-clock
 returns-then-shows-clause-clock g c = c.keep_part.ensures.clock
-
-pub returns-then-shows-clause-tells : goal.returns-then-shows-clause-tells
-returns-then-shows-clause-tells g c = c.keep_part.ensures.tells
-
-pub returns-then-shows-clause-later : goal.returns-then-shows-clause-later
-returns-then-shows-clause-later g c = c.keep_part.ensures.later
-
-pub returns-then-shows-clause-arm_later : goal.returns-then-shows-clause-arm_later
-returns-then-shows-clause-arm_later g c = c.keep_part.ensures.arm_later
-
-pub returns-then-shows-clause-fault : goal.returns-then-shows-clause-fault
-returns-then-shows-clause-fault g c = c.keep_part.ensures.fault
 
 pub returns-then-shows-clause-keeps_told : goal.returns-then-shows-clause-keeps_told
 returns-then-shows-clause-keeps_told g c = λ told known tells.
@@ -183,20 +154,8 @@ returns-else-shows-clause-damaged g c = λ told known tells. tt
 pub returns-else-shows-clause-opened : goal.returns-else-shows-clause-opened
 returns-else-shows-clause-opened g c = refl
 
-pub returns-else-shows-clause-told : goal.returns-else-shows-clause-told
-returns-else-shows-clause-told g c = refl
-
-pub returns-else-shows-clause-started : goal.returns-else-shows-clause-started
-returns-else-shows-clause-started g c = refl
+pub returns-else-shows-clause-disk : goal.returns-else-shows-clause-disk
+returns-else-shows-clause-disk g c = disk_as (disk_same c.args.disk.now c.args.arm.now) (λ f. cc) (λ f. absurd f)
 
 pub returns-else-shows-clause-clock : goal.returns-else-shows-clause-clock
 returns-else-shows-clause-clock g c = refl
-
-pub returns-else-shows-clause-tells : goal.returns-else-shows-clause-tells
-returns-else-shows-clause-tells g c = refl
-
-pub returns-else-shows-clause-later : goal.returns-else-shows-clause-later
-returns-else-shows-clause-later g c = le_refl _
-
-pub returns-else-shows-clause-arm_later : goal.returns-else-shows-clause-arm_later
-returns-else-shows-clause-arm_later g c = le_refl _

@@ -1,4 +1,4 @@
-use Rattle.std.proofs.Common.{◌≡◌, ◌≤◌, ◌⊎◌, List, ℕ, subst, sym, rules}
+use Rattle.std.proofs.Common.{◌≡◌, ◌≤◌, ◌⊎◌, List, ℕ, refl, subst, sym, rules}
 use Rattle.mt_outside.specs.Disk.{names_of}
 use Rattle.root_store.specs.part_set.declared.root_name.RootName.TheVariants as root
 use Rattle.root_store.specs.Damage.{IsDamaged, PartDamaged}
@@ -29,7 +29,7 @@ returns-clause-keeps g c = λ read seen visible k.
     let above : table.drawn ≤ n = search rules in
     let ends : part.name.max_block ≤ n = search rules in
     let is : (n ≡ table.drawn) ⊎ (n ≡ part.name.max_block) = search rules in
-    part_kept read seen c.args.store.now _ part c.in_ok-checked.checked table n (sym c.in-Some.ensures.value) updates c.in_ok-add.ensures.ok c.in_ok-add.ensures.others c.in_ok-checked.ensures.may visible k above ends is c.in_ok-add.ensures.ordered
+    part_kept read seen c.args.store.now _ part c.in_ok-checked.checked table n (sym c.in-Some.ensures.value) updates c.in_ok-add.ensures.ok c.in_ok-add.ensures.others c.in_ok-checked.ensures.may visible k above ends is c.in_ok-add.ensures.ordered refl
 
 pub returns-clause-keeps_told : goal.returns-clause-keeps_told
 returns-clause-keeps_told g c = λ told read seen is tells.

@@ -1,5 +1,6 @@
-use Rattle.std.proofs.Common.{◌≡◌, ◌≢◌, ◌⊎◌, ◌∙◌, ◌+◌, List, ℕ, [], ap, le_refl, le_trans, refl, sym, subst, inl, rules}
+use Rattle.std.proofs.Common.{◌≡◌, ◌≢◌, ◌⊎◌, ◌∙◌, ◌+◌, Err, List, Ok, ℕ, [], ap, sym, subst, inl, rules}
 use Rattle.std.proofs.lemmas.Option.{MatchOption-at_some}
+use Rattle.mt_outside.proofs.LeftDisks.{disk_then}
 use Rattle.mt_outside.specs.Disk.{Image, Names, Told, names_of}
 use Rattle.root_store.specs.part_set.Visible.{HasNoOrphan}
 use Rattle.root_store.specs.part_set.declared.root_name.RootName.{RootName}
@@ -12,6 +13,7 @@ use Rattle.root_store.proofs.CrashMarks.{safe_opened, some_one}
 use Rattle.root_store.proofs.Fitting.{fits_store}
 use Rattle.root_opening.proofs.Held.{held_opened}
 use Rattle.root_opening.proofs.ImagesShown.{images_opened, shown_opened}
+use Rattle.root_opening.proofs.Leaving.{disk_calm, disk_failed, disk_gave, disk_handed}
 use Rattle.root_opening.proofs.NamesTold.{told_first}
 use Rattle.root_opening.proofs.NextNames.{are_read}
 use Rattle.root_opening.proofs.Opened.{no_names, nothing_told, stands_undamaged}
@@ -100,93 +102,44 @@ returns-clause-held g c = λ told known.
     held_opened g.D.Arm.Dir.Dir.files (names_of told) c.in_ok-store.store store c.in_ok-store.ensures.sound
     (λ place f bad. c.in_ok-store.ensures.undamaged told place f (c.in_ok-list.ensures.told ∙ known) (subst (λ (read : List RootName). DamagedAt (names_of told) read place f) (sym same) bad))
 
--- what the disk tells stays
-pub returns-in_err-list-clause-tells : goal.returns-in_err-list-clause-tells
-returns-in_err-list-clause-tells g c = refl
+-- what the disk and the arm are then
+pub returns-in_err-list-clause-disk : goal.returns-in_err-list-clause-disk
+returns-in_err-list-clause-disk g c =
+    disk_failed _ _ c.args.arm.now c.in_err-list.field-0.0 c.from_residual.result c.from_residual.ensures.1 c.in_err-list.ensures.told c.in_err-list.ensures.started c.in_err-list.ensures.cause
 
-pub returns-in_err-list-clause-arm_later : goal.returns-in_err-list-clause-arm_later
-returns-in_err-list-clause-arm_later g c = le_refl _
+pub returns-in_err-root-clause-disk : goal.returns-in_err-root-clause-disk
+returns-in_err-root-clause-disk g c =
+    disk_handed c.in_err-root.field-0.0 c.from_residual-in_err-root.result c.from_residual-in_err-root.ensures.1
+    (disk_calm (Err c.in_err-root.field-0.0) c.in_err-root.ensures.fault (disk_gave _ _ c.args.arm.now _ c.in_ok-list.ensures.told c.in_ok-list.ensures.started c.in_ok-list.ensures.cause))
 
-pub returns-in_err-list-clause-told : goal.returns-in_err-list-clause-told
-returns-in_err-list-clause-told g c = c.in_err-list.ensures.told
+pub returns-in_err-store-clause-disk : goal.returns-in_err-store-clause-disk
+returns-in_err-store-clause-disk g c =
+    disk_handed c.in_err-store.field-0.0 c.from_residual-in_err-store.result c.from_residual-in_err-store.ensures.1
+    (disk_then (disk_gave _ _ c.args.arm.now _ c.in_ok-list.ensures.told c.in_ok-list.ensures.started c.in_ok-list.ensures.cause) (λ f. f) c.in_err-store.ensures.disk)
 
-pub returns-in_err-list-clause-started : goal.returns-in_err-list-clause-started
-returns-in_err-list-clause-started g c = c.in_err-list.ensures.started
+pub returns-in_err-settle-clause-disk : goal.returns-in_err-settle-clause-disk
+returns-in_err-settle-clause-disk g c =
+    disk_then (disk_then (disk_gave _ _ c.args.arm.now _ c.in_ok-list.ensures.told c.in_ok-list.ensures.started c.in_ok-list.ensures.cause) (λ f. f) c.in_ok-store.ensures.disk) (λ f. cc)
+    (disk_failed _ _ c.keep_root.new.arm c.in_err-settle.field-0.0 c.from_residual-in_err-settle.result c.from_residual-in_err-settle.ensures.1 c.in_err-settle.ensures.told c.in_err-settle.ensures.started c.in_err-settle.ensures.cause)
 
-pub returns-in_err-list-clause-later : goal.returns-in_err-list-clause-later
-returns-in_err-list-clause-later g c = c.in_err-list.ensures.cause.later
+pub returns-clause-disk : goal.returns-clause-disk
+returns-clause-disk g c =
+    disk_calm (Ok c.in_ok-store.store) (λ f. cc)
+    (disk_then (disk_then (disk_gave _ _ c.args.arm.now _ c.in_ok-list.ensures.told c.in_ok-list.ensures.started c.in_ok-list.ensures.cause) (λ f. f) c.in_ok-store.ensures.disk) (λ f. cc)
+    (disk_gave _ _ c.keep_root.new.arm _ c.in_ok-settle.ensures.told c.in_ok-settle.ensures.started c.in_ok-settle.ensures.cause))
 
+-- the mark
 pub returns-in_err-list-clause-mark : goal.returns-in_err-list-clause-mark
 returns-in_err-list-clause-mark g c = inl (c.in_err-list.ensures.clock)
-
-pub returns-in_err-root-clause-tells : goal.returns-in_err-root-clause-tells
-returns-in_err-root-clause-tells g c = refl
-
-pub returns-in_err-root-clause-arm_later : goal.returns-in_err-root-clause-arm_later
-returns-in_err-root-clause-arm_later g c = le_refl _
-
-pub returns-in_err-root-clause-told : goal.returns-in_err-root-clause-told
-returns-in_err-root-clause-told g c = c.in_ok-list.ensures.told
-
-pub returns-in_err-root-clause-started : goal.returns-in_err-root-clause-started
-returns-in_err-root-clause-started g c = c.in_ok-list.ensures.started
-
-pub returns-in_err-root-clause-later : goal.returns-in_err-root-clause-later
-returns-in_err-root-clause-later g c = c.in_ok-list.ensures.cause.later
 
 pub returns-in_err-root-clause-mark : goal.returns-in_err-root-clause-mark
 returns-in_err-root-clause-mark g c = inl (c.in_ok-list.ensures.clock)
 
-pub returns-in_err-store-clause-tells : goal.returns-in_err-store-clause-tells
-returns-in_err-store-clause-tells g c = c.in_err-store.ensures.tells
-
-pub returns-in_err-store-clause-arm_later : goal.returns-in_err-store-clause-arm_later
-returns-in_err-store-clause-arm_later g c = c.in_err-store.ensures.arm_later
-
-pub returns-in_err-store-clause-told : goal.returns-in_err-store-clause-told
-returns-in_err-store-clause-told g c = c.in_err-store.ensures.told ∙ c.in_ok-list.ensures.told
-
-pub returns-in_err-store-clause-started : goal.returns-in_err-store-clause-started
-returns-in_err-store-clause-started g c = c.in_err-store.ensures.started ∙ c.in_ok-list.ensures.started
-
-pub returns-in_err-store-clause-later : goal.returns-in_err-store-clause-later
-returns-in_err-store-clause-later g c = le_trans c.in_ok-list.ensures.cause.later c.in_err-store.ensures.later
-
 pub returns-in_err-store-clause-mark : goal.returns-in_err-store-clause-mark
 returns-in_err-store-clause-mark g c = inl (c.in_err-store.ensures.clock ∙ c.in_ok-list.ensures.clock)
 
-pub returns-in_err-settle-clause-tells : goal.returns-in_err-settle-clause-tells
-returns-in_err-settle-clause-tells g c = c.in_ok-store.ensures.tells
-
-pub returns-in_err-settle-clause-arm_later : goal.returns-in_err-settle-clause-arm_later
-returns-in_err-settle-clause-arm_later g c = c.in_ok-store.ensures.arm_later
-
-pub returns-in_err-settle-clause-told : goal.returns-in_err-settle-clause-told
-returns-in_err-settle-clause-told g c = c.in_err-settle.ensures.told ∙ (c.in_ok-store.ensures.told ∙ c.in_ok-list.ensures.told)
-
-pub returns-in_err-settle-clause-started : goal.returns-in_err-settle-clause-started
-returns-in_err-settle-clause-started g c = c.in_err-settle.ensures.started ∙ (c.in_ok-store.ensures.started ∙ c.in_ok-list.ensures.started)
-
-pub returns-in_err-settle-clause-later : goal.returns-in_err-settle-clause-later
-returns-in_err-settle-clause-later g c = le_trans (le_trans c.in_ok-list.ensures.cause.later c.in_ok-store.ensures.later) c.in_err-settle.ensures.cause.later
-
 pub returns-in_err-settle-clause-mark : goal.returns-in_err-settle-clause-mark
 returns-in_err-settle-clause-mark g c = inl (c.in_err-settle.ensures.mark_err ∙ (c.in_ok-store.ensures.clock ∙ c.in_ok-list.ensures.clock))
-
-pub returns-clause-tells : goal.returns-clause-tells
-returns-clause-tells g c = c.in_ok-store.ensures.tells
-
-pub returns-clause-arm_later : goal.returns-clause-arm_later
-returns-clause-arm_later g c = c.in_ok-store.ensures.arm_later
-
-pub returns-clause-told : goal.returns-clause-told
-returns-clause-told g c = c.in_ok-settle.ensures.told ∙ (c.in_ok-store.ensures.told ∙ c.in_ok-list.ensures.told)
-
-pub returns-clause-started : goal.returns-clause-started
-returns-clause-started g c = c.in_ok-settle.ensures.started ∙ (c.in_ok-store.ensures.started ∙ c.in_ok-list.ensures.started)
-
-pub returns-clause-later : goal.returns-clause-later
-returns-clause-later g c = le_trans (le_trans c.in_ok-list.ensures.cause.later c.in_ok-store.ensures.later) c.in_ok-settle.ensures.cause.later
 
 pub returns-clause-mark : goal.returns-clause-mark
 returns-clause-mark g c =
@@ -222,13 +175,10 @@ returns-clause-sound g c = c.in_ok-store.ensures.sound
 pub returns-clause-idle : goal.returns-clause-idle
 returns-clause-idle g c = c.in_ok-store.ensures.idle
 
-pub returns-clause-fault : goal.returns-clause-fault
-returns-clause-fault g c = tt
-
 -- what a crash leaves of it shows the same parts
 pub returns-clause-images : goal.returns-clause-images
 returns-clause-images g c = λ told h known all root is.
-    let same : told ≡ root = some_one told root (sym known ∙ (sym (c.in_ok-settle.ensures.told ∙ (c.in_ok-store.ensures.told ∙ c.in_ok-list.ensures.told)) ∙ is)) in
+    let same : told ≡ root = some_one told root (sym known ∙ (sym (c.in_ok-settle.ensures.told ∙ (c.in_ok-store.ensures.disk.told ∙ c.in_ok-list.ensures.told)) ∙ is)) in
     subst (λ (t : Told). (names : Names) → Image t (g.D.Disk.clock c.settle.new.disk) names → AreShown c.in_ok-store.store names) same
     (images_opened g.D.Arm.Dir.Dir.files c.in_ok-store.store told (g.D.Disk.clock c.args.disk.now) (g.D.Disk.clock c.settle.new.disk) h all (c.in_ok-store.ensures.store told (c.in_ok-list.ensures.told ∙ known))
     (returns-clause-mark g c) (returns-clause-settled g c told known))
