@@ -1,5 +1,5 @@
 -- Parts of the greatest level and marks of parts, and what a turn leaves of them.
-use Rattle.std.proofs.Common.{◌≡◌, ◌⊎◌, ◌||◌, ℕ, Bool, true, false, List, [], ◌∷◌, Option, Some, None, IsSome, refl, sym, ap, ◌∙◌, ◌≤◌, nat_le, subst, inl, inr, arith}
+use Rattle.std.proofs.Common.{◌≡◌, ◌⊎◌, ◌||◌, ℕ, Bool, true, false, List, [], ◌∷◌, ◌++◌, length, map, get_or, ◌<◌, Option, Some, None, Result, Ok, Err, refl, sym, ap, ◌∙◌, ◌≤◌, subst, inl, inr, arith}
 use Rattle.std.specs.BTreeMap.{is_at}
 use Rattle.std.specs.Cmp.Lexicographic.{slice_cmp}
 use Rattle.std.specs.List.{All, Contains as HasItem, list_any}
@@ -7,30 +7,51 @@ use Rattle.std.specs.Map.{lookup}
 use Rattle.std.specs.Ordering.{is_eq, nat_cmp}
 use Rattle.std.proofs.lemmas.Bool.{false≢true}
 use Rattle.std.proofs.lemmas.Bool.Decides.{nat_tests}
-use Rattle.std.proofs.lemmas.List.Elements.{Contains-append_right}
+use Rattle.std.proofs.lemmas.List.Elements.{All-contains, Contains-append_cases, Contains-append_left, Contains-append_right, Contains-get_or}
 use Rattle.std.proofs.lemmas.List.Folds.{list_any_at}
 use Rattle.std.proofs.lemmas.Cmp.{nat_list_cmp_total, tied_itself}
 use Rattle.std.proofs.lemmas.Map.Views.{Contains-from_lookup}
 use Rattle.mt_base.specs.declared.partition.Partition.{Partition}
 use Rattle.mt_base.specs.Limits.{level_limit}
+use Rattle.mt_values.specs.declared.command.Create.{Create}
 use Rattle.mt_values.specs.declared.schema.Schema.{Schema}
+use Rattle.mt_values.specs.Grammar.{same_bytes}
 use Rattle.mt_outside.specs.Files.{Files}
+use Rattle.root_commits.specs.part_name.declared.part.PartName.{PartName}
 use Rattle.root_commits.specs.part_writer.declared.loaded.Loaded.{Loaded}
 use Rattle.root_commits.specs.part_reader.declared.reading.Part.{Part}
 use Rattle.root_commits.specs.part_set.declared.kept.Kept.{Kept}
-use Rattle.root_commits.specs.part_set.Parts.{HasName}
+use Rattle.root_commits.specs.part_set.declared.run.Run.{Run}
+use Rattle.root_commits.specs.part_set.Parts.{HasName, IsInBlockOrder, kept_in}
+use Rattle.root_commits.specs.part_set.Runs.{parts_of_run}
+use Rattle.root_commits.specs.stage_dir.Stages.{Filled}
+use Rattle.root_commits.proofs.MtModelTables.{same_is}
+use Rattle.root_commits.proofs.PartSetShelving.{mine_within}
 use Rattle.root_commits.specs.part_set.Sets.{parts_of}
 use Rattle.root_commits.proofs.PartSetItems.{item_first, item_kept, item_none}
 use Rattle.root_commits.proofs.PartSetMaps.{found_is, true_or_false}
-use Rattle.root_commits.specs.Commits.{EntersPart, EntersSealed, EntersTable, SameStore}
+use Rattle.root_commits.specs.Commits.{EntersPart, EntersTable, SameStore}
+use Rattle.root_commits.specs.declared.commits.Returned.{Returned}
+use Rattle.root_commits.specs.Merges.{EntersMerge, Merging, sources_of}
+use Rattle.root_commits.specs.Publications.{Adding, partition_of_adding}
+use Rattle.root_commits.specs.Turns.{CommitsCreate, CommitsPart, Root}
 use Rattle.root_commits.proofs.Placed.{all_added}
 use Rattle.root_commits.specs.root_store.declared.store.CoreStore.{CoreStore}
 use Rattle.root_commits.specs.root_store.declared.store.Table.{Table}
 use Rattle.root_commits.specs.root_store.Shown.{HasNoMark}
 use Rattle.root_commits.specs.root_store.Soundness.{IsSoundStore}
 use Rattle.root_commits.specs.root_store.Stores.{table_at}
-use Rattle.root_commits.proofs.RootStoreItems.{map_item}
+use Rattle.root_commits.proofs.RootStoreItems.{map_item, mapped}
+use Rattle.root_commits.proofs.MergedNames.{of_run, run_within}
+use Rattle.shared_store.specs.declared.work.Work.{Work}
+use Rattle.shared_store.specs.Engines.{GoesOn, IsOpen, Opened, root_in}
 use Rattle.shared_store.specs.Levels.{KeepsGreatest, LeavesParts, has_greatest, is_greatest}
+use Rattle.shared_store.specs.Works.{DropsWork, PutsRun, TakesWork, WorkStands, merging_of, parts_beside}
+use Rattle.shared_store.proofs.Marked.{marks_after}
+use Rattle.shared_store.proofs.Marking.{StoresAlike, alike_names, marked_alike}
+use Rattle.shared_store.proofs.Merging.{merges_done, merges_refused}
+use Rattle.shared_store.proofs.Standing.{long_run, some_item}
+use Rattle.shared_store.proofs.Working.{long_of, other_by_bytes}
 
 -- ---- lists
 
@@ -70,6 +91,9 @@ pub record HasGreatest {F : Type 0} (store : CoreStore F) : Type 0 where
   pub is : level_limit ≤ kept.name.level
 
 module _ {F : Type 0} where
+  abbrev name_of : Kept (Part F) → PartName
+  name_of k = k.name
+
   pub greatest_level : (kept : Kept (Part F)) → is_greatest kept ≡ true → level_limit ≤ kept.name.level
   greatest_level kept is = grind (arith, is, nat_tests)
 
@@ -155,19 +179,90 @@ module _ {F : Type 0} where
   pub parts_part : (table : List ℕ) (partition : Partition) (part : Part F) (t : Table) (was now : CoreStore F) → IsSoundStore now → EntersPart table partition part t was now → LeavesParts was now
   parts_part table partition part t was now sound enters = record { free = free_part table partition part t was now enters; levels = keeps_part table partition part t was now sound enters }
 
-  -- a block had its turn
-  pub parts_entered : (files_of : F → Option Files) (files : Option Files) (loaded : Loaded) (table : List ℕ) (partition : Table → Partition) (was now : CoreStore F) → IsSoundStore now → IsSome (table_at was table)
-      → ((t : Table) → table_at was table ≡ Some t → EntersSealed files_of files loaded table (partition t) t was now) → LeavesParts was now
-  parts_entered files_of files loaded table partition was now sound there enters = by (table_at was table) refl there
-    where
-      by : (o : Option Table) → table_at was table ≡ o → IsSome o → LeavesParts was now
-      by (Some t) at some = let e = enters t at in parts_part table (partition t) e.part t was now sound e.enters
-      by None none some = absurd (false≢true some)
+  -- of a CREATE, or of a block
+  pub parts_created : {T S : Type 0} (session : ℕ) (create : Create) (entry : Filled) (was now : Root F) (sealed : S) (result : Result T (Returned S)) → CommitsCreate session create entry was now sealed result → LeavesParts was.store now.store
+  parts_created session create entry was now sealed (Ok x) d = parts_table create.table was.store now.store create.schema d.ready.sound d.enters
+  parts_created session create entry was now sealed (Err r) d = parts_same was.store now.store d.ready.sound d.enters
 
-  -- or it was refused
-  pub parts_refused : (table : List ℕ) (was now : CoreStore F) → IsSoundStore now → IsSome (table_at was table) → ((t : Table) → table_at was table ≡ Some t → SameStore was now) → LeavesParts was now
-  parts_refused table was now sound there same = by (table_at was table) refl there
+  pub parts_added : {T S : Type 0} (files_of : F → Option Files) (a : Adding) (was now : Root F) (sealed : S) (result : Result T (Returned S)) → CommitsPart files_of a was now sealed result → LeavesParts was.store now.store
+  parts_added files_of a was now sealed (Ok x) d = parts_part a.table (partition_of_adding a) d.enters.part a.kept was.store now.store d.ready.sound d.enters.enters
+  parts_added files_of a was now sealed (Err r) d = parts_same was.store now.store d.ready.sound d.enters
+
+  -- ---- marks, and works
+
+  -- parts of the same names have the same levels
+  pub levels_alike : (was now : CoreStore F) → IsSoundStore now → StoresAlike was now → KeepsGreatest was now
+  levels_alike was now sound same = keeps_by was now sound (λ table kept here is.
+      let parts = parts_of now.set table in
+      let named : HasItem (map name_of parts) kept.name = subst (λ (ns : List PartName). HasItem ns kept.name) (sym (alike_names (parts_of was.set table) parts (same.parts table))) (map_item name_of (parts_of was.set table) kept here) in
+      let found = mapped name_of parts kept.name named in
+      record { table = table; kept = found.0; here = found.1; is = subst (λ (n : PartName). level_limit ≤ n.level) (sym found.2) is })
+
+  -- a store with a work whose sources stand has a mark
+  stands_marked : (store : CoreStore F) (work : Work F) (run : Run) → WorkStands store work run → HasNoMark store → ⊥
+  stands_marked store work run stands none =
+      let parts = parts_beside store work in
+      let some = stands.is.some in
+      let long = long_run run parts stands.is in
+      let inside : 0 < length (parts_of_run run parts) = omega (arith, some, long) in
+      let k = some_item (parts_of_run run parts) inside in
+      let first = get_or (parts_of_run run parts) 0 k in
+      let here = mine_within work.partition (parts_of store.set work.table) first (of_run run parts first (Contains-get_or (parts_of_run run parts) 0 k inside)) in
+      false≢true (sym (All-contains (λ (l : Kept (Part F)). l.busy ≡ false) (parts_of store.set work.table) first (none work.table) here) ∙ stands.busy 0 k inside)
+
+  pub levels_taken : (was now : Opened F) (work : Work F) (run : Run) → IsOpen now → TakesWork was now work run → KeepsGreatest was.store now.store
+  levels_taken was now work run ready takes = levels_alike was.store now.store ready.sound (marked_alike work run true was.store now.store takes.takes.marks)
+
+  pub parts_dropped : (was now : Opened F) (work : Work F) → IsOpen now → DropsWork work was now → LeavesParts was.store now.store
+  parts_dropped was now work ready (inl d) = record {
+    free = λ none. absurd (stands_marked was.store work d.0 d.1 none);
+    levels = levels_alike was.store now.store ready.sound (marked_alike work d.0 false was.store now.store d.2);
+  }
+  parts_dropped was now work ready (inr none) = subst (λ (o : Opened F). LeavesParts was.store o.store) (sym none.1) (parts_stay was.store)
+
+  -- a part of the greatest level is none of those that were merged
+  levels_merged : (files_of : F → Option Files) (m : Merging) (was now : CoreStore F) → IsSoundStore was → IsSoundStore now → IsInBlockOrder (kept_in m.partition (parts_of was.set m.table)) → (e : EntersMerge files_of m was now) → e.name.level ≤ level_limit → KeepsGreatest was now
+  levels_merged files_of m was now sound_was sound ordered e low = keeps_by was now sound (λ table kept here is. by table kept here is (true_or_false (same_bytes m.table table)))
     where
-      by : (o : Option Table) → table_at was table ≡ o → IsSome o → LeavesParts was now
-      by (Some t) at some = parts_same was now sound (same t at)
-      by None none some = absurd (false≢true some)
+      k : Kept (Part F)
+      k = record { name = e.name; part = e.part; busy = false }
+
+      sources : List (Kept (Part F))
+      sources = sources_of was m
+
+      now_has : (kept : Kept (Part F)) → HasItem (e.swapped.front ++ k ∷ e.swapped.back) kept → HasItem (parts_of now.set m.table) kept
+      now_has kept has = subst (λ (ks : List (Kept (Part F))). HasItem ks kept) (sym e.swapped.after_is) has
+
+      here_still : (kept : Kept (Part F)) → HasItem (parts_of was.set m.table) kept → level_limit ≤ kept.name.level → HasItem (parts_of now.set m.table) kept
+      here_still kept has is = elim (Contains-append_cases e.swapped.front (sources ++ e.swapped.back) kept (subst (λ (ks : List (Kept (Part F))). HasItem ks kept) e.swapped.before_is has)) [
+        | inl front ↦ now_has kept (Contains-append_left e.swapped.front (k ∷ e.swapped.back) kept front)
+        | inr rest ↦ elim (Contains-append_cases sources e.swapped.back kept rest) [
+          | inl merged ↦ (
+              let within = run_within (parts_of was.set m.table) m.partition m.run ordered (long_of was sound_was m.table) e.name e.name_is kept merged in
+              absurd (omega (arith, low, is, within.1))
+              )
+          | inr back ↦ now_has kept (Contains-append_right e.swapped.front (k ∷ e.swapped.back) kept (Contains-append_right (k ∷ []) e.swapped.back kept back))
+        ]
+      ]
+
+      by : (u : List ℕ) (kept : Kept (Part F)) → HasItem (parts_of was.set u) kept → level_limit ≤ kept.name.level → (same_bytes m.table u ≡ true) ⊎ (same_bytes m.table u ≡ false) → HasGreatest now
+      by u kept has is (inl same) =
+          record { table = m.table; kept = kept; here = here_still kept (subst (λ (v : List ℕ). HasItem (parts_of was.set v) kept) (sym (same_is m.table u same)) has) is; is = is }
+      by u kept has is (inr differ) =
+          record { table = u; kept = kept; here = subst (λ (ks : List (Kept (Part F))). HasItem ks kept) (sym (e.others u (other_by_bytes m.table u differ))) has; is = is }
+
+  -- of a put
+  pub parts_put : {T S : Type 0} (files_of : F → Option Files) (work : Work F) (sealed : Filled) (loaded : Loaded) (was now : Opened F) (part : S) (result : Result T (Returned S)) → GoesOn was now → PutsRun files_of work sealed loaded was now part result → LeavesParts was.store now.store
+  parts_put {T} {S} files_of work sealed loaded was now part result goes p = record { free = λ none. absurd (stands_marked was.store work p.run p.there none); levels = by result p }
+    where
+      by : (r : Result T (Returned S)) → PutsRun files_of work sealed loaded was now part r → KeepsGreatest was.store now.store
+      by (Ok x) p =
+          let m = merging_of work p.run sealed loaded in
+          let d = merges_done files_of m (root_in was) p.mid part x p.merges in
+          let e : EntersMerge files_of m was.store now.store = subst (λ (r : Root F). EntersMerge files_of m was.store r.store) (sym p.left) d.1.enters in
+          let named : Some d.0 ≡ Some e.name = sym d.1.from.named ∙ e.name_is in
+          let same : d.0 ≡ e.name = cc in
+          levels_merged files_of m was.store now.store goes.found.sound goes.left.sound d.1.from.ordered e (subst (λ (n : PartName). n.level ≤ level_limit) same d.1.from.low)
+      by (Err r) p =
+          let same = merges_refused files_of (merging_of work p.run sealed loaded) (root_in was) p.mid part T r p.merges in
+          levels_alike was.store now.store goes.left.sound (marked_alike work p.run false was.store now.store (marks_after work p.run false was.store p.mid.store now.store same p.left.0))

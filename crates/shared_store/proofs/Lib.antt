@@ -1,8 +1,11 @@
 pub mod Levels
 pub mod Marked
 pub mod Marking
+pub mod Merging
+pub mod Others
 pub mod Picked
-pub mod Taken
+pub mod Puts
+pub mod Standing
 pub mod Working
 pub use Rattle.root_commits.proofs.PartReaderCutRows
 pub use Rattle.root_commits.proofs.PartReaderHolding
@@ -14,9 +17,12 @@ pub use Rattle.root_commits.proofs.PartSetShelving
 pub use Rattle.root_commits.proofs.PartSetSwaps
 pub use Rattle.root_commits.proofs.PartWriterContents
 pub use Rattle.root_commits.proofs.CrashTurns as RootCommitsCrashTurns
+pub use Rattle.root_commits.proofs.CreateCommits as RootCommitsCreateCommits
 pub use Rattle.root_commits.proofs.Holding as RootCommitsHolding
 pub use Rattle.root_commits.proofs.Leaving as RootCommitsLeaving
-pub use Rattle.root_commits.proofs.MergedNames as RootCommitsMergedNames
+pub use Rattle.root_commits.proofs.MergeCommits as RootCommitsMergeCommits
+pub use Rattle.root_commits.proofs.MergedStores as RootCommitsMergedStores
+pub use Rattle.root_commits.proofs.PartCommits as RootCommitsPartCommits
 pub use Rattle.root_commits.proofs.SameStores as RootCommitsSameStores
 pub use Rattle.root_commits.proofs.Turning as RootCommitsTurning
 pub use Rattle.root_commits.proofs.RootStoreCores

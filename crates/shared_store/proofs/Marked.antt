@@ -1,76 +1,128 @@
--- A root whose marks alone a turn changed, and works whose parts lose their marks.
-use Rattle.std.proofs.Common.{◌≡◌, ◌≢◌, ◌⊎◌, ℕ, ◌≤◌, arith, Bool, true, false, Option, Some, None, Result, Ok, Err, IfOk, OnErr, List, [], length, drop, ◌∷◌, ◌++◌, map, refl, sym, ap, ◌∙◌, subst, inl, inr}
-use Rattle.std.specs.BTreeMap.{is_at}
-use Rattle.std.specs.Cmp.Lexicographic.{slice_cmp}
-use Rattle.std.specs.List.{All, Contains as HasItem}
-use Rattle.std.specs.Map.{lookup}
+-- A turn that leaves the root ready, and what it keeps: a commit, and a turn that changed marks alone.
+use Rattle.std.proofs.Common.{◌≡◌, ◌≢◌, inl, inr, ℕ, ◌≤◌, arith, Bool, true, false, IsSome, Option, Some, None, Result, Ok, Err, IfOk, OnErr, List, refl, sym, ap, ◌∙◌, subst}
+use Rattle.std.proofs.lemmas.Bool.{false≢true}
 use Rattle.std.specs.Option.{MatchOption}
-use Rattle.std.specs.Ordering.{nat_cmp}
-use Rattle.std.proofs.lemmas.List.{length-drop, length-take-le}
 use Rattle.mt_base.specs.declared.memory.NoMemory.{NoMemory}
-use Rattle.mt_base.specs.declared.partition.Partition.{Partition}
+use Rattle.mt_values.specs.Grid.{Grid}
 use Rattle.mt_outside.specs.Files.{Files}
-use Rattle.root_commits.specs.mt_model.History.{History}
-use Rattle.root_commits.specs.part_name.declared.part.PartName.{PartName}
+use Rattle.root_commits.specs.durable_commit.declared.causes.Refused.{Refused}
+use Rattle.root_commits.specs.durable_commit.Publications.{IsUnsettled, Publication, Storage}
+use Rattle.root_commits.specs.part_writer.declared.loaded.Loaded.{Loaded}
+use Rattle.root_commits.specs.stage_dir.Stages.{Filled}
 use Rattle.root_commits.specs.part_reader.declared.reading.Part.{Part}
 use Rattle.root_commits.specs.part_set.declared.kept.Kept.{Kept}
 use Rattle.root_commits.specs.part_set.declared.run.Run.{Run}
 use Rattle.root_commits.specs.part_set.declared.set.PartSet.{PartSet}
 use Rattle.root_commits.specs.part_set.Parts.{IsInBlockOrder, kept_in}
-use Rattle.root_commits.specs.part_set.Runs.{EndsInOrder, IsMarked, IsRun, parts_of_run, with_mark}
+use Rattle.root_commits.specs.part_set.Runs.{IsMarked, IsRun}
 use Rattle.root_commits.specs.part_set.Sets.{parts_of}
-use Rattle.root_commits.proofs.PartSetItems.{item_none, item_split}
 use Rattle.root_commits.specs.root_store.declared.store.CoreStore.{CoreStore}
 use Rattle.root_commits.specs.root_store.declared.store.Table.{Table}
-use Rattle.root_commits.specs.root_store.Crashes.{KeepsThroughCrashes, Storage}
-use Rattle.root_commits.specs.root_store.Shown.{HasNoMark}
-use Rattle.root_commits.specs.root_store.Soundness.{IsReady, IsSoundStore}
+use Rattle.root_commits.specs.root_store.Crashes.{KeepsThroughCrashes}
+use Rattle.root_commits.specs.root_store.Soundness.{IsReady}
 use Rattle.root_commits.specs.root_store.Stores.{table_at}
-use Rattle.root_commits.proofs.RootStoreItems.{mapped}
-use Rattle.root_commits.specs.Commits.{SameStore}
-use Rattle.root_commits.specs.Images.{LeavesOne, on_disk}
+use Rattle.root_commits.specs.Commits.{EntersSealed, SameStore, refuses_part}
 use Rattle.root_commits.specs.declared.commits.Returned.{Returned}
-use Rattle.root_commits.specs.Merges.{EntersMerge, name_of_merge}
-use Rattle.root_commits.specs.Publications.{DiskAt, IsKeptBack, IsUnsettled, Publication, Publishes}
-use Rattle.root_commits.specs.stage_dir.Stages.{Filled}
-use Rattle.root_commits.specs.part_writer.declared.loaded.Loaded.{Loaded}
+use Rattle.root_commits.specs.Images.{LeavesOne}
+use Rattle.root_commits.specs.Publications.{IsKeptBack, Publishes, adding, partition_of_adding, publication_of_part}
+use Rattle.root_commits.specs.Turns.{Commits, CommitsPart, MayAdd, Root}
 use Rattle.shared_store.specs.declared.work.Work.{Work}
-use Rattle.shared_store.specs.Engines.{GoesOn, IsOpen, Opened, disk_of}
-use Rattle.shared_store.specs.Levels.{any_greatest}
-use Rattle.shared_store.specs.Works.{Marks, StandsOn, TakesUp, WorkStands, merging_of, parts_of_work}
+use Rattle.shared_store.specs.Engines.{GoesOn, IsOpen, Opened, root_in}
+use Rattle.shared_store.specs.Works.{DropsWork, Marks, StandsOn, TakesUp, parts_beside}
 use Rattle.shared_store.proofs.Marking.{AreAlike, StoresAlike, alike_itself, held_alike, keeps_alike, leaves_alike, marked_alike, ready_alike, shows_alike, stands_alike}
-use Rattle.shared_store.proofs.Working.{freed, taken_stands}
 
--- what a refused merge did to the disk took no fault away
-pub later_by : {S : Type 0} (p : Publication) (was now : DiskAt) (sealed : S) (r : Returned S) → Publishes {T = Unit {0}} p was now sealed (Err r) → was.failed ≤ now.failed
-later_by {S} p was now sealed r done = by r.back done
+-- ---- commits
+
+-- what a commit did to the disk took no fault away
+pub publishes_later : {T S : Type 0} (p : Publication) (was now : Storage) (sealed : S) (result : Result T (Returned S)) → Publishes p was now sealed result → was.failed ≤ now.failed
+publishes_later p was now sealed (Ok x) done = done.later
+publishes_later {S = S} p was now sealed (Err r) done = by r.back done
   where
     by : (b : Option S) → MatchOption b (IsUnsettled p r.cause was now) (λ back. IsKeptBack sealed back r.cause was now) → was.failed ≤ now.failed
     by None unsettled = unsettled.later
-    by (Some back) kept = subst (λ (d : DiskAt). was.failed ≤ d.failed) (sym kept.stays) (omega arith)
+    by (Some back) kept = subst (λ (s : Storage). was.failed ≤ s.failed) (sym kept.stays) (omega arith)
+
+module _ {F S : Type 0} (From : Type 0) (shown : Option Refused) (p : Publication) (Enters : CoreStore F → CoreStore F → Type 0) (sealed : S) where
+  -- the same commit, whatever is answered of it where it was done
+  pub done_as : {T U : Type 0} (was now : Root F) (x : T) (y : U) → Commits From shown p Enters was now sealed (Ok x) → Commits From shown p Enters was now sealed (Ok y)
+  done_as was now x y d = record { from = d.from; cause = d.cause; turn = d.turn; enters = d.enters; ready = d.ready }
+
+  pub refused_as : {T U : Type 0} (was now : Root F) (r : Returned S) → Commits {T = T} From shown p Enters was now sealed (Err r) → Commits {T = U} From shown p Enters was now sealed (Err r)
+  refused_as was now r d = record { from = d.from; cause = d.cause; turn = d.turn; enters = d.enters; ready = d.ready }
+
+  module _ (keeps : (old new : CoreStore F) → Enters old new → new.opened ≡ old.opened) where
+    pub commit_opened : {T : Type 0} (was now : Root F) (result : Result T (Returned S)) → Commits From shown p Enters was now sealed result → now.store.opened ≡ was.store.opened
+    commit_opened was now (Ok x) d = keeps was.store now.store d.enters
+    commit_opened was now (Err r) d = d.enters.opened_is
+
+    -- turns may follow a commit
+    pub commit_goes : {T : Type 0} (was now : Opened F) (result : Result T (Returned S)) → Commits From shown p Enters (root_in was) (root_in now) sealed result → IsOpen was → now.policy ≡ was.policy → now.started ≡ was.started → GoesOn was now
+    commit_goes was now result d ready policy started = record {
+      found = ready;
+      left = d.ready;
+      opened = commit_opened (root_in was) (root_in now) result d;
+      policy = policy;
+      started = started;
+      later = publishes_later p was.storage now.storage sealed result d.turn;
+    }
+
+-- ---- a block that is added to a table, which is there
+
+table_there : {F : Type 0} (store : CoreStore F) (table : List ℕ) → IsSome (table_at store table) → (t : Table) × (table_at store table ≡ Some t)
+table_there store table some = by (table_at store table) refl some
+  where
+    by : (o : Option Table) → table_at store table ≡ o → IsSome o → (t : Table) × (table_at store table ≡ Some t)
+    by (Some t) at some = (t, at)
+    by None none some = absurd (false≢true some)
+
+module _ {F S : Type 0} (files_of : F → Option Files) (session : ℕ) (table : List ℕ) (block : Grid) (sealed : Filled) (loaded : Loaded) (seen was now : Opened F) (same : seen ≡ was) (part : S) where
+  abbrev pub AddsTo : {T : Type 0} → Opened F → Result T (Returned S) → Type 0
+  AddsTo root result = (t : Table) → table_at root.store table ≡ Some t → CommitsPart files_of (adding session table t block sealed loaded) (root_in root) (root_in now) part result
+
+  pub added_done : {T U : Type 0} (x : T) (y : U) → AddsTo seen (Ok x) → AddsTo was (Ok y)
+  added_done x y adds = subst (λ (o : Opened F). AddsTo o (Ok y)) same (λ t at. let d = adds t at in record { from = d.from; cause = d.cause; turn = d.turn; enters = d.enters; ready = d.ready })
+
+  pub added_refused : (T U : Type 0) (r : Returned S) → AddsTo {T = T} seen (Err r) → AddsTo {T = U} was (Err r)
+  added_refused T U r adds = subst (λ (o : Opened F). AddsTo {T = U} o (Err r)) same (λ t at. let d = adds t at in record { from = d.from; cause = d.cause; turn = d.turn; enters = d.enters; ready = d.ready })
+
+  module _ {T : Type 0} (result : Result T (Returned S)) (there : IsSome (table_at was.store table)) (adds : AddsTo seen result) where
+    seen_there : (t : Table) × (table_at seen.store table ≡ Some t)
+    seen_there = table_there seen.store table (subst (λ (o : Opened F). IsSome (table_at o.store table)) (sym same) there)
+
+    pub added_ready : IsOpen now
+    added_ready = (adds seen_there.0 seen_there.1).ready
+
+    pub added_goes : IsOpen seen → now.policy ≡ seen.policy → now.started ≡ seen.started → GoesOn was now
+    added_goes ready policy started =
+        let a = adding session table seen_there.0 block sealed loaded in
+        let d = adds seen_there.0 seen_there.1 in
+        subst (λ (o : Opened F). GoesOn o now) same
+        (commit_goes (MayAdd a (root_in seen)) (refuses_part seen.store table (partition_of_adding a) seen_there.0.drawn seen.storage.failed) (publication_of_part a) (EntersSealed files_of sealed.files loaded table (partition_of_adding a) seen_there.0)
+        part (λ old new e. e.enters.opened_is) seen now result d ready policy started)
 
 module _ {F : Type 0} where
   -- ---- stores that differ in marks alone
 
   pub store_itself : (store : CoreStore F) → StoresAlike store store
-  store_itself store = record { parts = λ u. alike_itself (parts_of store.set u); tables = refl; length_is = refl; opened_is = refl }
+  store_itself store = record { parts = λ u. alike_itself (parts_of store.set u); tables = refl; mutations_are = refl; length_is = refl; opened_is = refl }
 
   pub same_alike : (old new : CoreStore F) → SameStore old new → StoresAlike old new
   same_alike old new same = record {
     parts = λ u. subst (λ (ks : List (Kept (Part F))). AreAlike (parts_of old.set u) ks) (sym (same.parts u)) (alike_itself (parts_of old.set u));
     tables = same.tables;
+    mutations_are = same.mutations_are;
     length_is = same.length_is;
     opened_is = same.opened_is;
   }
 
   -- a store that is the same has the run of a work
-  pub run_same : (work : Work F) (old new : CoreStore F) → SameStore old new → IsRun work.run (kept_in work.partition (parts_of old.set work.table)) → IsRun work.run (kept_in work.partition (parts_of new.set work.table))
-  run_same work old new same run = subst (λ (ks : List (Kept (Part F))). IsRun work.run (kept_in work.partition ks)) (sym (same.parts work.table)) run
+  pub run_same : (work : Work F) (run : Run) (old new : CoreStore F) → SameStore old new → IsRun run (parts_beside old work) → IsRun run (parts_beside new work)
+  run_same work run old new same is = subst (λ (ks : List (Kept (Part F))). IsRun run (kept_in work.partition ks)) (sym (same.parts work.table)) is
 
   -- marks that were changed after a turn that changed nothing
-  pub marks_after : (work : Work F) (busy : Bool) (old between new : CoreStore F) → SameStore old between → Marks work busy between new → Marks work busy old new
-  marks_after work busy old between new same m = record {
-    marked = subst (λ (ks : List (Kept (Part F))). IsMarked work.partition work.run busy ks (parts_of new.set work.table)) (same.parts work.table) m.marked;
+  pub marks_after : (work : Work F) (run : Run) (busy : Bool) (old between new : CoreStore F) → SameStore old between → Marks work run busy between new → Marks work run busy old new
+  marks_after work run busy old between new same m = record {
+    marked = subst (λ (ks : List (Kept (Part F))). IsMarked work.partition run busy ks (parts_of new.set work.table)) (same.parts work.table) m.marked;
     ordered = m.ordered;
     others = λ u other. m.others u other ∙ same.parts u;
     tables = m.tables ∙ same.tables;
@@ -87,9 +139,7 @@ module _ {F : Type 0} where
       stands = λ h. stands_alike was.store now.store alike files_of h;
       shows = λ core. shows_alike was.store now.store alike files_of core;
       held = held_alike was.store now.store alike files_of;
-      leaves = λ h one.
-          subst (λ (s : Storage). LeavesOne (on_disk now.store s.disk s.clock) h) (sym storage_is)
-          (leaves_alike was.store now.store alike was.storage.disk was.storage.clock h one);
+      leaves = λ h one. subst (λ (s : Storage). LeavesOne (record { store = now.store; storage = s }) h) (sym storage_is) (leaves_alike was.store now.store alike was.storage h one);
       crashes = λ first start keeps.
           subst (λ (s : Storage). KeepsThroughCrashes files_of now.store s first start) (sym storage_is)
           (keeps_alike was.store now.store alike files_of was.storage first start keeps);
@@ -107,28 +157,13 @@ module _ {F : Type 0} where
     }
 
   -- as the fields of the root showed it
-  module _ (files_of : F → Option Files) (seen was now : Opened F) (same : seen ≡ was) (ready : IsOpen seen) (alike : StoresAlike seen.store now.store) (storage_is : now.storage ≡ seen.storage) where
-    pub on_seen : StandsOn files_of was now
-    on_seen = subst (λ (o : Opened F). StandsOn files_of o now) same (alike_on files_of seen now alike storage_is)
+  pub goes_seen : (files_of : F → Option Files) (seen was now : Opened F) → seen ≡ was → IsOpen seen → StoresAlike seen.store now.store → now.storage ≡ seen.storage → now.policy ≡ seen.policy → now.started ≡ seen.started → GoesOn was now
+  goes_seen files_of seen was now same ready alike storage_is policy started = subst (λ (o : Opened F). GoesOn o now) same (alike_goes files_of seen now alike storage_is policy started ready)
 
-    pub goes_seen : now.policy ≡ seen.policy → now.started ≡ seen.started → GoesOn was now
-    goes_seen policy started = subst (λ (o : Opened F). GoesOn o now) same (alike_goes files_of seen now alike storage_is policy started ready)
-
-  -- a turn after which the root is open
+  -- a turn after which the root is ready
   pub goes_by : (seen was now : Opened F) → seen ≡ was → IsOpen seen → IsOpen now → now.store.opened ≡ seen.store.opened → now.policy ≡ seen.policy → now.started ≡ seen.started → seen.storage.failed ≤ now.storage.failed → GoesOn was now
   goes_by seen was now same ready ready_now opened policy started later =
       subst (λ (o : Opened F). GoesOn o now) same (record { found = ready; left = ready_now; opened = opened; policy = policy; started = started; later = later })
-
-  -- the parts of a run have a name when they are merged
-  pub run_named : (run : Run) (parts : List (Kept (Part F))) → IsRun run parts → (name : PartName) × (name_of_merge (parts_of_run run parts) ≡ Some name)
-  run_named run parts is = by (parts_of_run run parts) (length-take-le run.count (drop run.first parts) fits)
-    where
-      fits : run.count ≤ length (drop run.first parts)
-      fits = let within = is.within in omega (arith, length-drop run.first parts, within)
-
-      by : (ks : List (Kept (Part F))) → length ks ≡ run.count → (name : PartName) × (name_of_merge ks ≡ Some name)
-      by [] long = let some = is.some in absurd (omega (arith, some, long))
-      by (k ∷ ks) long = (_, refl)
 
   -- a turn that changed nothing
   pub goes_itself : (was : Opened F) → IsOpen was → GoesOn was was
@@ -140,48 +175,16 @@ module _ {F : Type 0} where
   abbrev pub with_set : CoreStore F → PartSet (Part F) → CoreStore F
   with_set store set = record { tables = store.tables; set = set; mutations = store.mutations; length = store.length; opened = store.opened }
 
-  pub marks_set : (work : Work F) (busy : Bool) (store : CoreStore F) (set : PartSet (Part F)) → IsMarked work.partition work.run busy (parts_of store.set work.table) (parts_of set work.table) → IsInBlockOrder (parts_of set work.table)
-      → ((u : List ℕ) → u ≢ work.table → parts_of set u ≡ parts_of store.set u) → Marks work busy store (with_set store set)
-  marks_set work busy store set marked ordered others = record { marked = marked; ordered = ordered; others = others; tables = refl; mutations_are = refl; length_is = refl; opened_is = refl }
+  pub marks_set : (work : Work F) (run : Run) (busy : Bool) (store : CoreStore F) (set : PartSet (Part F)) → IsMarked work.partition run busy (parts_of store.set work.table) (parts_of set work.table) → IsInBlockOrder (parts_of set work.table)
+      → ((u : List ℕ) → u ≢ work.table → parts_of set u ≡ parts_of store.set u) → Marks work run busy store (with_set store set)
+  marks_set work run busy store set marked ordered others = record { marked = marked; ordered = ordered; others = others; tables = refl; mutations_are = refl; length_is = refl; opened_is = refl }
 
   -- a work was taken up, or there was no memory
-  pub taking_alike : (old new : CoreStore F) (r : Result (Work F) NoMemory) → IfOk r (TakesUp old new) → OnErr r (new ≡ old) → StoresAlike old new
-  taking_alike old new (Ok work) takes same = marked_alike work true old new takes.marks
-  taking_alike old new (Err e) takes same = subst (λ (s : CoreStore F). StoresAlike old s) (sym same) (store_itself old)
+  pub taking_alike : (run : Run) (old new : CoreStore F) (r : Result (Work F) NoMemory) → IfOk r (λ work. TakesUp old new work run) → OnErr r (new ≡ old) → StoresAlike old new
+  taking_alike run old new (Ok work) takes same = marked_alike work run true old new takes.marks
+  taking_alike run old new (Err e) takes same = subst (λ (s : CoreStore F). StoresAlike old s) (sym same) (store_itself old)
 
-  -- a work has the parts of the run for which it was taken up
-  pub low_taken : (old : CoreStore F) (work : Work F) (table : List ℕ) (p : Partition) (run : Run) → work.table ≡ table → work.partition ≡ p → work.run ≡ run → work.sources.items ≡ parts_of_work old work
-      → any_greatest (parts_of_run run (kept_in p (parts_of old.set table))) ≡ false → any_greatest work.sources.items ≡ false
-  low_taken old work table p run of_table of_partition of_run sources low =
-      ap any_greatest (sources ∙ (ap (λ (r : Run). parts_of_run r (kept_in work.partition (parts_of old.set work.table))) of_run
-      ∙ (ap (λ (q : Partition). parts_of_run run (kept_in q (parts_of old.set work.table))) of_partition
-      ∙ ap (λ (t : List ℕ). parts_of_run run (kept_in p (parts_of old.set t))) of_table))) ∙ low
-
-  -- ---- a work that was taken up
-
-  module _ (before now : CoreStore F) (work : Work F) (takes : TakesUp before now work) (sound : IsSoundStore now) where
-    in_order : All EndsInOrder (parts_of now.set work.table)
-    in_order =
-        (sound.tables work.table takes.made (ap (λ (es : List (List ℕ × Table)). lookup (is_at (slice_cmp nat_cmp work.table)) es) takes.marks.tables ∙ takes.there)).order
-
-    pub still_stands : WorkStands now work
-    still_stands = taken_stands before now work takes in_order
-
-    -- once its parts have no marks, no part bears one
-    pub freed_by_marks : HasNoMark before → (later : CoreStore F) → Marks work false now later → HasNoMark later
-    freed_by_marks idle later m =
-        freed before now work takes in_order idle later m.marked.front m.marked.back (map (with_mark false) (parts_of_work now work)) m.marked.before_is m.marked.after_is free m.others
-      where
-        free : (k : Kept (Part F)) → HasItem (map (with_mark false) (parts_of_work now work)) k → k.busy ≡ false
-        free k has = let from = mapped (with_mark false) (parts_of_work now work) k has in ap (λ (l : Kept (Part F)). l.busy) (sym from.2)
-
-    -- nor once one part stands in their place
-    pub freed_by_put : HasNoMark before → (files_of : F → Option Files) (sealed : Filled) (loaded : Loaded) (later : CoreStore F) → EntersMerge files_of (merging_of work sealed loaded) now later → HasNoMark later
-    freed_by_put idle files_of sealed loaded later e =
-        freed before now work takes in_order idle later e.swapped.front e.swapped.back (new ∷ []) e.swapped.before_is e.swapped.after_is free e.others
-      where
-        new : Kept (Part F)
-        new = record { name = e.name; part = e.part; busy = false }
-
-        free : (k : Kept (Part F)) → HasItem (new ∷ []) k → k.busy ≡ false
-        free k has = elim (item_split new [] k has) [ inl same ↦ ap (λ (l : Kept (Part F)). l.busy) (sym same) | inr none ↦ absurd (item_none k none) ]
+  -- a work was let go
+  pub dropping_alike : (was now : Opened F) (work : Work F) → DropsWork work was now → StoresAlike was.store now.store × (now.storage ≡ was.storage)
+  dropping_alike was now work (inl marks) = (marked_alike work marks.0 false was.store now.store marks.2, marks.3)
+  dropping_alike was now work (inr stays) = (subst (λ (o : Opened F). StoresAlike was.store o.store) (sym stays.1) (store_itself was.store), ap (λ (o : Opened F). o.storage) stays.1)

@@ -1,5 +1,5 @@
 -- A store whose parts bear other marks.
-use Rattle.std.proofs.Common.{◌≡◌, ◌≢◌, ℕ, ◌+◌, ◌≤◌, Bool, true, false, List, [], ◌∷◌, ◌++◌, Option, length, map, refl, sym, ap, ap₂, ◌∙◌, subst, arith, inl, inr}
+use Rattle.std.proofs.Common.{◌≡◌, ◌≢◌, ℕ, ◌≤◌, Bool, true, false, List, [], ◌∷◌, ◌++◌, Option, length, map, refl, sym, ap, ap₂, ◌∙◌, subst, arith, inl, inr}
 use Rattle.std.proofs.lemmas.Bool.{false≢true}
 use Rattle.std.proofs.lemmas.List.Elements.{All-from_recursion, recursion_from_All}
 use Rattle.std.specs.BTreeMap.{is_at}
@@ -16,10 +16,13 @@ use Rattle.mt_outside.specs.Disk.{Names, Told, names_of}
 use Rattle.mt_outside.specs.Files.{Files}
 use Rattle.root_commits.specs.mt_model.History.{History}
 use Rattle.root_commits.proofs.MtModelTables.{itself_same, same_is}
+use Rattle.root_commits.specs.mutation_queue.declared.mutations.Mutations.{Mutations}
+use Rattle.root_commits.specs.mutation_queue.Queue.{mutations_of}
 use Rattle.root_commits.specs.part_name.declared.part.PartName.{PartName}
 use Rattle.root_commits.specs.part_reader.declared.reading.Part.{Part}
 use Rattle.root_commits.specs.part_reader.Parts.{PartHolds}
 use Rattle.root_commits.specs.part_set.declared.kept.Kept.{Kept}
+use Rattle.root_commits.specs.part_set.declared.run.Run.{Run}
 use Rattle.root_commits.specs.part_set.Parts.{HasName}
 use Rattle.root_commits.specs.part_set.Runs.{with_mark}
 use Rattle.root_commits.specs.part_set.Sets.{parts_of}
@@ -30,11 +33,12 @@ use Rattle.root_commits.specs.table_core.Core.{Core}
 use Rattle.root_commits.specs.root_store.declared.store.CoreStore.{CoreStore}
 use Rattle.root_commits.specs.root_store.declared.store.Table.{Table}
 use Rattle.root_commits.specs.root_store.Cores.{ShowsCore}
-use Rattle.root_commits.specs.root_store.Crashes.{KeepsThroughCrashes, Storage, entries_of}
+use Rattle.root_commits.specs.durable_commit.Publications.{Storage}
+use Rattle.root_commits.specs.root_store.Crashes.{KeepsThroughCrashes, entries_of}
 use Rattle.root_commits.specs.root_store.Shown.{AreShown, GreatestAreShown, ImagesShow}
 use Rattle.root_commits.specs.root_store.Soundness.{HasSoundParts, IsReady, IsSoundStore, NamesFit}
 use Rattle.root_commits.specs.root_store.Stores.{CoreStands, core_parts, table_at}
-use Rattle.root_commits.specs.Images.{LeavesOne, on_disk}
+use Rattle.root_commits.specs.Images.{LeavesOne}
 use Rattle.shared_store.specs.declared.work.Work.{Work}
 use Rattle.shared_store.specs.Works.{Marks}
 
@@ -105,16 +109,18 @@ module _ {F : Type 0} where
   pub record StoresAlike (old new : CoreStore F) : Type 0 where
     pub parts : (u : List ℕ) → AreAlike (parts_of old.set u) (parts_of new.set u)
     pub tables : new.tables.entries ≡ old.tables.entries
+    pub mutations_are : new.mutations ≡ old.mutations
     pub length_is : new.length ≡ old.length
     pub opened_is : new.opened ≡ old.opened
 
-  pub marked_alike : (work : Work F) (busy : Bool) (old new : CoreStore F) → Marks work busy old new → StoresAlike old new
-  marked_alike work busy old new m = record {
+  pub marked_alike : (work : Work F) (run : Run) (busy : Bool) (old new : CoreStore F) → Marks work run busy old new → StoresAlike old new
+  marked_alike work run busy old new m = record {
     parts = λ u. elim (true_or_false (same_bytes work.table u)) [
       | inl same ↦ subst (λ (v : List ℕ). AreAlike (parts_of old.set v) (parts_of new.set v)) (same_is work.table u same) here
       | inr differ ↦ subst (AreAlike (parts_of old.set u)) (sym (m.others u (other u differ))) (alike_itself (parts_of old.set u))
     ];
     tables = m.tables;
+    mutations_are = m.mutations_are;
     length_is = m.length_is;
     opened_is = m.opened_is;
   }
@@ -125,8 +131,8 @@ module _ {F : Type 0} where
       here : AreAlike (parts_of old.set work.table) (parts_of new.set work.table)
       here =
           let x = m.marked in
-          let run = alike_run busy x.front _ x.back in
-          subst (λ (ks : List (Kept (Part F))). AreAlike ks (parts_of new.set work.table)) (sym x.before_is) (subst (AreAlike _) (sym x.after_is) run)
+          let same = alike_run busy x.front _ x.back in
+          subst (λ (ks : List (Kept (Part F))). AreAlike ks (parts_of new.set work.table)) (sym x.before_is) (subst (AreAlike _) (sym x.after_is) same)
 
   module _ (old new : CoreStore F) (s : StoresAlike old new) where
     here : (u : List ℕ) → table_at new u ≡ table_at old u
@@ -174,6 +180,7 @@ module _ {F : Type 0} where
               order = subst AreInBlockOrder core p.order;
             };
         no_other = λ u none. none_more u (x.no_other u (sym (here u) ∙ none));
+        mutations = λ u. ap (λ (queue : Mutations). mutations_of queue u) s.mutations_are ∙ x.mutations u;
       }
 
       pub held_alike : HasSoundParts files_of old → HasSoundParts files_of new
@@ -205,8 +212,8 @@ module _ {F : Type 0} where
       }
 
     -- what a crash leaves of the disk
-    pub leaves_alike : (disk : Option Told) (clock : ℕ) (h : History) → LeavesOne (on_disk old disk clock) h → LeavesOne (on_disk new disk clock) h
-    leaves_alike disk clock h x = record { told = x.told; disk_is = x.disk_is; all = x.all; shown = λ names image. shown_alike names (x.shown names image) }
+    pub leaves_alike : (now : Storage) (h : History) → LeavesOne (record { store = old; storage = now }) h → LeavesOne (record { store = new; storage = now }) h
+    leaves_alike now h x = record { told = x.told; disk_is = x.disk_is; all = x.all; shown = λ names image. shown_alike names (x.shown names image) }
 
     -- whether turns may follow
     sound_alike : IsSoundStore old → IsSoundStore new

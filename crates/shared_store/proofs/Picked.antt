@@ -1,31 +1,23 @@
 -- What a pick tells of the parts that it takes.
-use Rattle.std.proofs.Common.{◌≡◌, add-one, ℕ, ◌+◌, ◌<◌, ◌≤◌, max, Bool, true, false, ◌||◌, List, [], ◌∷◌, Option, Some, None, IsSome, length, take, drop, get_or, refl, sym, ap, ap₂, ◌∙◌, subst, arith, suc}
-use Rattle.std.specs.List.{All, Contains as HasItem, slice_get}
+use Rattle.std.proofs.Common.{◌≡◌, add-one, ℕ, ◌+◌, ◌<◌, false, List, [], ◌∷◌, Option, Some, None, IsSome, length, take, drop, refl, sym, ap, ap₂, ◌∙◌, subst, arith, suc}
+use Rattle.std.specs.List.{All, slice_get}
 use Rattle.std.proofs.Math.Seq.{drop-cons, take-length}
-use Rattle.std.proofs.lemmas.Bool.{false≢true}
-use Rattle.std.proofs.lemmas.Bool.Decides.{nat_tests}
-use Rattle.std.proofs.lemmas.List.Elements.{All-contains, All-from_recursion, Contains-get_or}
+use Rattle.std.proofs.lemmas.List.Elements.{All-from_recursion}
 use Rattle.std.proofs.lemmas.Option.{get_or_from_slice_get, slice_get_within}
 use Rattle.mt_base.specs.declared.partition.Partition.{Partition}
-use Rattle.mt_base.specs.Limits.{level_limit}
 use Rattle.merge_select.specs.declared.scope.Pick.{Pick}
 use Rattle.merge_select.specs.declared.scope.Scope.{Scope}
 use Rattle.merge_select.specs.Picks.{Choice, IsPick}
-use Rattle.merge_select.specs.Whole.{IsFirstBusy}
-use Rattle.root_commits.specs.part_name.declared.part.PartName.{PartName}
 use Rattle.root_commits.specs.part_reader.declared.reading.Part.{Part}
 use Rattle.root_commits.specs.part_set.declared.kept.Kept.{Kept}
 use Rattle.root_commits.specs.part_set.declared.run.Run.{Run}
 use Rattle.root_commits.specs.part_set.Parts.{kept_in}
 use Rattle.root_commits.specs.part_set.Runs.{IsRun, parts_of_run}
 use Rattle.root_commits.specs.part_set.Sets.{parts_of}
-use Rattle.root_commits.proofs.PartSetShelving.{mine_within}
 use Rattle.root_commits.specs.root_store.declared.store.CoreStore.{CoreStore}
 use Rattle.root_commits.specs.root_store.declared.store.Table.{Table}
-use Rattle.root_commits.specs.root_store.Shown.{HasNoMark}
 use Rattle.root_commits.specs.root_store.Soundness.{IsSoundStore}
 use Rattle.root_commits.specs.root_store.Stores.{table_at}
-use Rattle.shared_store.specs.Levels.{any_greatest, is_greatest}
 
 -- ---- lists
 
@@ -38,10 +30,6 @@ module _ {X : Type 0} where
       let two : suc n < length xs = slice_get_within xs (suc n) b next in
       let rest : drop (suc n) xs ≡ b ∷ drop (suc (suc n)) xs = drop-cons xs (suc n) b two ∙ ap (λ (x : X). x ∷ drop (suc (suc n)) xs) (get_or_from_slice_get xs (suc n) b b next) in
       ap (λ (ys : List X). take 2 ys) (drop-cons xs n a one ∙ ap₂ (λ (x : X) (ys : List X). x ∷ ys) (get_or_from_slice_get xs n a a first) rest)
-
-  -- what stands at a place is in the list
-  item_at : (xs : List X) (n : ℕ) (x : X) → slice_get xs n ≡ Some x → HasItem xs x
-  item_at xs n x is = subst (HasItem xs) (get_or_from_slice_get xs n x x is) (Contains-get_or xs n x (slice_get_within xs n x is))
 
 -- ---- a run
 
@@ -59,9 +47,6 @@ module _ {F : Type 0} where
           absurd (omega (arith, empty, some, within))
 
   -- ---- the pair that a policy takes
-
-  low_level : (k : Kept (Part F)) → k.name.level < level_limit → is_greatest k ≡ false
-  low_level k low = grind (arith, low, nat_tests)
 
   module _ (c : Choice (Part F)) (scope : Scope) (pick : Pick) (is : IsPick c scope pick) where
     abbrev mine : List (Kept (Part F))
@@ -87,13 +72,6 @@ module _ {F : Type 0} where
         let free = is.chooses.takes.free in
         subst (All (λ (k : Kept (Part F)). k.busy ≡ false)) (sym pair_is) (All-from_recursion (λ (k : Kept (Part F)). k.busy ≡ false) (first ∷ second ∷ []) (free.first, (free.second, tt)))
 
-    pub picked_low : any_greatest (parts_of_run pick.run mine) ≡ false
-    picked_low =
-        let low = is.chooses.takes.free.level in
-        let one = low_level first (omega (arith, low)) in
-        let two = low_level second (omega (arith, low)) in
-        ap any_greatest pair_is ∙ ap₂ (λ (x y : Bool). x || (y || false)) one two
-
   -- ---- all parts of a partition
 
   module _ (parts : List (Kept (Part F))) (run : Run) (some : 0 < length parts) (begins : run.first ≡ 0) (count : run.count ≡ length parts) where
@@ -105,9 +83,3 @@ module _ {F : Type 0} where
 
     pub whole_idle : All (λ (k : Kept (Part F)). k.busy ≡ false) parts → All (λ (k : Kept (Part F)). k.busy ≡ false) (parts_of_run run parts)
     whole_idle idle = subst (All (λ (k : Kept (Part F)). k.busy ≡ false)) (sym whole_is) idle
-
-  -- a part that bears a mark is one of a store with marks
-  pub busy_marked : (store : CoreStore F) (table : List ℕ) (p : Partition) (name : PartName) → HasNoMark store → IsFirstBusy (kept_in p (parts_of store.set table)) name → ⊥
-  busy_marked store table p name none is =
-      let has = mine_within p (parts_of store.set table) is.kept (item_at (kept_in p (parts_of store.set table)) is.place is.kept is.here) in
-      false≢true (sym (All-contains (λ (k : Kept (Part F)). k.busy ≡ false) (parts_of store.set table) is.kept (none table) has) ∙ is.busy)

@@ -8,11 +8,13 @@ use Rattle.mt_outside.specs.Files.{Files}
 use Rattle.merge_select.specs.Picks.{Choice}
 use Rattle.root_commits.specs.part_reader.declared.reading.Part.{Part}
 use Rattle.root_commits.specs.part_set.declared.kept.Snap.{Snap}
+use Rattle.root_commits.specs.part_set.Parts.{IsInBlockOrder}
 use Rattle.root_commits.specs.part_set.Sets.{parts_of}
-use Rattle.root_commits.specs.Images.{OnDisk, on_disk}
+use Rattle.root_commits.specs.Turns.{Root}
 use Rattle.root_commits.specs.root_store.declared.store.CoreStore.{CoreStore}
 use Rattle.root_commits.specs.root_store.declared.store.Table.{Table}
-use Rattle.root_commits.specs.root_store.Crashes.{KeepsThroughCrashes, Storage}
+use Rattle.root_commits.specs.durable_commit.Publications.{Storage}
+use Rattle.root_commits.specs.root_store.Crashes.{KeepsThroughCrashes}
 use Rattle.root_commits.specs.root_store.Soundness.{IsReady}
 use Rattle.root_commits.specs.root_store.Stores.{table_at}
 
@@ -28,9 +30,9 @@ pub record Opened (F : Type 0) : Type 0 where
 abbrev pub IsOpen : {F : Type 0} → Opened F → Type 0
 IsOpen root = IsReady root.storage.failed root.storage.disk root.store
 
--- its store, and what is known of its disk
-abbrev pub disk_of : {F : Type 0} → Opened F → OnDisk F
-disk_of root = on_disk root.store root.storage.disk root.storage.clock
+-- its store, and what is known of the outside
+abbrev pub root_in : {F : Type 0} → Opened F → Root F
+root_in root = record { store = root.store; storage = root.storage }
 
 -- A turn finds the root ready for it and leaves it ready for the next. It keeps the disk's count of faults at opening, the policy and the
 -- folder that was started, and the count now does not fall.
@@ -51,12 +53,13 @@ GoesThroughCrashes files_of was now =
 abbrev pub choice_of : {F : Type 0} → Opened F → Choice (Part F)
 choice_of root = record { set = root.store.set; queue = root.store.mutations; count = (λ part. part.loaded.manifest.rows); policy = root.policy }
 
--- the snapshot has what the store keeps of a table, and the length of its history
+-- the snapshot has what the store keeps of a table, its parts in block order, and the length of its history
 pub record IsSnapOf {F : Type 0} (store : CoreStore F) (table : List ℕ) (snap : Snap (Part F)) : Type 0 where
   pub made : Table
   pub there : table_at store table ≡ Some made
   pub schema : snap.schema ≡ made.schema
   pub parts : snap.parts.items ≡ parts_of store.set table
+  pub ordered : IsInBlockOrder snap.parts.items
   pub length_is : snap.length ≡ store.length
 
 -- a snapshot of a table, where there is the table

@@ -1,10 +1,15 @@
-//! A root that is open as one value: its store, its disk and the annals of its commands, the turns that change or show it, and merges that are taken up and put in place.
+//! A root that is open as one value: its store, its disk and the annals of its commands, the turns that change or show
+//! it, and merges that are taken up and put in place.
 #![tactic(auto)]
 
 mod engine;
+mod laws;
 mod work;
 
 pub use engine::Engine;
+pub use laws::{
+    other_works_stand, puts_keep_the_history, works_change_marks_alone, works_leave_no_mark,
+};
 pub use merge_select;
 pub use root_commits;
 pub use root_commits::{
