@@ -4,6 +4,7 @@
 
 mod forming;
 mod lines;
+mod ok_line;
 mod printing;
 mod reply;
 mod tally;
@@ -12,6 +13,7 @@ mod writing;
 pub use forming::{MergeReplies, Replies, merge_replies, replies_after};
 pub use lines::{damaged, data_line, failed_line, no_table_line, stage_line, unsettled_line};
 pub use mt_model;
+pub use ok_line::OkLine;
 pub use printing::{explained, print};
 pub use reply::Reply;
 pub use run_streams;
