@@ -1,5 +1,6 @@
 -- From what a statement did to what its answer says.
-use Rattle.std.proofs.Common.{◌≡◌, ℕ, ◌+◌, ◌-◌, ◌≤◌, true, false, List, [], ◌∷◌, ◌++◌, length, map, take, refl, sym, ap, ◌∙◌, subst, append-nil, Option, Some, Ok, Err, Result, IfOk, IfErr, length-append, inl, inr, arith}
+use Rattle.std.proofs.Common.{◌≡◌, ℕ, ◌+◌, ◌-◌, ◌≤◌, true, false, List, [], ◌∷◌, ◌++◌, length, map, take, refl, sym, ap, ◌∙◌, subst, append-nil, Option, Some, Ok, Err, Result, IfOk, IfErr, IsErr, length-append, inl, inr, arith}
+use Rattle.std.proofs.lemmas.Bool.{false≢true}
 use Rattle.std.specs.Option.{option_map}
 use Rattle.std.proofs.lemmas.List.{take_at, map-append}
 use Rattle.std.proofs.lemmas.List.Elements.{All-cons, All-nil}
@@ -15,15 +16,16 @@ use Rattle.replies.specs.mt_model.declared.refusal.Refusal.{Refusal}
 use Rattle.replies.specs.mt_model.Outside.{Outside}
 use Rattle.replies.specs.mt_model.Refusals.{refusal_line}
 use Rattle.replies.specs.mt_model.Reply.{ok_line}
-use Rattle.replies.specs.mt_model.Session.{Adds, StopsAfter, Takes, TakesCommands, TurnAllows, Unanswered}
+use Rattle.replies.specs.mt_model.Session.{Adds, AddsNothing, StopsAfter, Takes, TakesCommands, TurnAllows}
 use Rattle.replies.proofs.MtModelGrowing.{adds_last, stays}
-use Rattle.shared_store.specs.durable_commit.Commits.{Notes, entry_of}
+use Rattle.shared_store.specs.durable_commit.Commits.{entry_of}
+use Rattle.shared_store.specs.durable_commit.Publications.{Notes}
 use Rattle.shared_store.specs.root_store.Soundness.{RootStands}
 use Rattle.shared_store.specs.root_store.Stores.{CoreStands}
 use Rattle.mt_base.specs.declared.memory.NoMemory.{NoMemory}
-use Rattle.shared_store.specs.Engines.{GoesOn, IsOpen, Opened}
+use Rattle.shared_store.specs.Engines.{Opened}
 use Rattle.shared_store.specs.Levels.{has_greatest}
-use Rattle.session.specs.Answers.{AcceptsNothing, Answered, Answers, BeginsNext, EndsUnanswered, IsBegun, Knows, Turned, unsettles}
+use Rattle.session.specs.Answers.{Answered, Answers, BeginsNext, EndsUnanswered, IsBegun, Knows, Turned, unsettles}
 use Rattle.replies.specs.Foreseen.{history, Foresees, is_unsettled}
 use Rattle.replies.proofs.Ends.{added_nothing, length_history, whole_front}
 use Rattle.replies.proofs.Refusing.{stops_first}
@@ -48,11 +50,6 @@ answered_nothing files_of kept now st t reply is same begun stands takes settled
       settled = λ calm before. subst (RootStands t.now.storage.disk) (sym h) (settled calm before);
     }
 
--- a statement that adds nothing gives nothing
-nothing_given : (kept : Told) (st : Item) → Unanswered (history kept) 0 st (length kept.list) (length kept.list)
-nothing_given kept (Ok s) = inl (added_nothing kept)
-nothing_given kept (Err why) = added_nothing kept
-
 -- a statement that adds nothing and has no reply
 pub unanswered_nothing : {F : Type 0} (files_of : F → Option Files) (kept now : Told) (st : Item) (t : Turned F)
     → t.now.storage.annals ≡ Some now → now.list ≡ kept.list → IsBegun kept now st (Unit {0}) → CoreStands files_of (history kept) t.now.store
@@ -67,8 +64,8 @@ unanswered_nothing files_of kept now st t is same begun stands settled =
       begun = begun;
       sessions = All-nil (λ (n : Noted). n.entry.session ≡ 0);
       stands = subst (λ (x : History). CoreStands files_of x t.now.store) (sym h) stands;
-      gives = subst (λ (m : ℕ). Unanswered (history now) 0 st (length kept.list) m) (sym (ap length same))
-          (subst (λ (x : History). Unanswered x 0 st (length kept.list) (length kept.list)) (sym h) (nothing_given kept st));
+      gives = inl (subst (λ (m : ℕ). AddsNothing (history now) 0 (length kept.list) m) (sym (ap length same))
+          (subst (λ (x : History). AddsNothing x 0 (length kept.list) (length kept.list)) (sym h) (added_nothing kept)));
       settled = λ before. subst (RootStands t.now.storage.disk) (sym h) (settled before);
     }
 
@@ -97,18 +94,10 @@ pub answers_kept : {F : Type 0} (files_of : F → Option Files) (kept : Told) (s
 answers_kept files_of kept st here arm (Ok text) P knows is takes = answered_nothing files_of kept kept st (unturned here arm) text knows.told_is refl (inl (refl, refl)) knows.stands (takes text is) (λ calm before. before)
 answers_kept files_of kept st here arm (Err e) P knows is takes = keeps_nothing files_of kept st here arm knows
 
--- what holds in any case holds of an error
-pub in_any_case : {T E P : Type 0} (line : Result T E) → P → IfErr line (λ _. P)
-in_any_case (Ok x) p = tt
-in_any_case (Err e) p = p
-
--- what was not touched
-pub nothing_accepted : {F : Type 0} (here : Opened F) → AcceptsNothing here here
-nothing_accepted here = record { store_is = record { tables = refl; parts = λ table. refl; mutations_are = refl; length_is = refl; opened_is = refl }; storage_is = refl }
-
--- a turn that did nothing
-pub stays_open : {F : Type 0} (here : Opened F) → IsOpen here → GoesOn here here
-stays_open here ready = record { found = ready; left = ready; opened = refl; policy = refl; started = refl; later = omega arith }
+-- memory ran out
+pub answers_err : {F : Type 0} (files_of : F → Option Files) (kept : Told) (st : Item) (here : Opened F) (arm : ℕ) → Knows files_of kept here → (line : Result (List ℕ) NoMemory) → IsErr line → Answers files_of kept st (unturned here arm) line
+answers_err files_of kept st here arm knows (Ok text) is = absurd (false≢true is)
+answers_err files_of kept st here arm knows (Err e) is = keeps_nothing files_of kept st here arm knows
 
 -- the first command of a statement that is begun and was not accepted
 pub begins_first : (kept now : Told) (said : Statement) (next : Command) (rest : List Command) → now.list ≡ kept.list → commands_of (history kept) said ≡ Ok (next ∷ rest) → now.begun ≡ Some (entry_of 0 next)
@@ -170,7 +159,7 @@ module _ (mark : ℕ) (c : Command) (kept : Told) where
 
   -- a statement that adds one command
   pub accepts_command : {F : Type 0} (files_of : F → Option Files) (st : Item) (t : Turned F) (reply : List ℕ)
-      → t.was.storage.annals ≡ Some kept → Notes mark (entry_of 0 c) t.was.storage.annals t.now.storage.annals → CoreStands files_of (history kept ++ entry_of 0 c ∷ []) t.now.store
+      → t.was.storage.annals ≡ Some kept → Notes mark (Some (entry_of 0 c)) t.was.storage.annals t.now.storage.annals → CoreStands files_of (history kept ++ entry_of 0 c ∷ []) t.now.store
       → ((n : Outside) (h : History) (m : ℕ) → take m h ≡ history kept → Adds h 0 c m (m + 1) → m ≡ length kept.list → Takes n h 0 st m (m + 1) reply)
       → (RootStands t.was.storage.disk (history kept) → RootStands t.now.storage.disk (history kept ++ entry_of 0 c ∷ [])) → Answered files_of kept st t reply
   accepts_command files_of st t reply is notes stands takes settled = record {

@@ -21,12 +21,14 @@ use Rattle.shared_store.specs.part_set.Sets.{parts_of}
 use Rattle.shared_store.proofs.PartSetMaps.{true_or_false}
 use Rattle.shared_store.specs.part_writer.declared.loaded.Loaded.{Loaded}
 use Rattle.shared_store.specs.stage_dir.Stages.{Filled}
+use Rattle.shared_store.specs.root_commits.Commits.{SameStore}
 use Rattle.shared_store.specs.root_commits.Merges.{EntersMerge, name_of_merge}
+use Rattle.shared_store.specs.root_store.declared.store.CoreStore.{CoreStore}
 use Rattle.shared_store.specs.declared.work.Work.{Work}
 use Rattle.shared_store.specs.Engines.{Opened}
-use Rattle.shared_store.specs.Works.{merging_of, parts_of_work}
-use Rattle.session.specs.Merges.{BecameOne, IsTaken, KeepsBeside, parts_at}
-use Rattle.session.proofs.Putting.{sources_are}
+use Rattle.shared_store.specs.Works.{merging_of}
+use Rattle.session.specs.Merges.{BecameOne, KeepsBeside, parts_at}
+use Rattle.session.proofs.Putting.{IsTaken, run_in, sources_are}
 use Rattle.session.proofs.Taken.{all_pass, sources_own}
 
 none_long : {X : Type 0} (xs : List X) → length xs ≡ 0 → xs ≡ []
@@ -120,17 +122,21 @@ module _ {P : Type 0} where
         let many = length-map ms (with_mark busy) in
         omega (arith, were, are, many)
 
+-- the store keeps the same
+pub same_beside : {F : Type 0} (These : List ℕ → Partition → Type 0) (was now : CoreStore F) → SameStore was now → KeepsBeside These was now
+same_beside These was now same = λ t p other. ap (kept_in p) (same.parts t)
+
 -- ---- a work that was put in its place
 
-module _ {F : Type 0} (files_of : F → Option Files) (was mid new : Opened F) (work : Work F) (t : IsTaken files_of was mid work) (sealed : Filled) (loaded : Loaded) (e : EntersMerge files_of (merging_of work sealed loaded) mid.store new.store) where
+module _ {F : Type 0} (files_of : F → Option Files) (was mid new : Opened F) (work : Work F) (run : Run) (t : IsTaken files_of was mid work run) (sealed : Filled) (loaded : Loaded) (e : EntersMerge files_of (merging_of work run sealed loaded) mid.store new.store) where
   abbrev one : Kept (Part F)
   one = record { name = e.name; part = e.part; busy = false }
 
   abbrev merged : List (Kept (Part F))
-  merged = parts_of_work mid.store work
+  merged = run_in mid.store work run
 
   own_merged : All (IsOf work.partition) merged
-  own_merged = sources_own work.partition work.run (parts_of mid.store.set work.table)
+  own_merged = sources_own work.partition run (parts_of mid.store.set work.table)
 
   own_one : All (IsOf work.partition) (one ∷ [])
   own_one = All-cons (IsOf work.partition) one [] (merged_partition work.partition merged e.name e.name_is own_merged) (All-nil (IsOf work.partition))
@@ -145,7 +151,7 @@ module _ {F : Type 0} (files_of : F → Option Files) (was mid new : Opened F) (
         let at : u ≡ work.table = sym (same_is work.table u same) in
         let apart = λ (is : q ≡ work.partition). other (at, is) in
         let swapped = beside work.partition (parts_of mid.store.set work.table) (parts_of new.store.set work.table) e.swapped.front e.swapped.back merged (one ∷ []) e.swapped.before_is e.swapped.after_is own_merged own_one q apart in
-        let marked = marked_beside work.partition work.run true (parts_of was.store.set work.table) (parts_of mid.store.set work.table) t.takes.marks.marked q apart in
+        let marked = marked_beside work.partition run true (parts_of was.store.set work.table) (parts_of mid.store.set work.table) t.takes.marks.marked q apart in
         subst (λ (v : List ℕ). parts_at new.store v q ≡ parts_at was.store v q) (sym at) (swapped ∙ marked))
     | inr differ ↦ ap (kept_in q) (e.others u (other_table u differ) ∙ t.takes.marks.others u (other_table u differ))
   ]
@@ -154,12 +160,12 @@ module _ {F : Type 0} (files_of : F → Option Files) (was mid new : Opened F) (
   pub put_whole : work.sources.items ≡ parts_at was.store work.table work.partition → BecameOne (parts_at was.store work.table work.partition) (parts_at new.store work.table work.partition)
   put_whole whole =
       let marks = map (with_mark true) work.sources.items in
-      let are : merged ≡ marks = sources_are files_of was mid work t in
+      let are : merged ≡ marks = sources_are files_of was mid work run t in
       let many : length merged ≡ length (parts_at mid.store work.table work.partition) =
       ap (λ (ks : List (Kept (Part F))). length ks) are
       ∙ (length-map work.sources.items (with_mark true)
       ∙ (ap (λ (ks : List (Kept (Part F))). length ks) whole
-      ∙ sym (marked_length work.partition work.run true (parts_of was.store.set work.table) (parts_of mid.store.set work.table) t.takes.marks.marked))) in
+      ∙ sym (marked_length work.partition run true (parts_of was.store.set work.table) (parts_of mid.store.set work.table) t.takes.marks.marked))) in
       record {
         kept = one;
         name_is = ap (λ (ks : List (Kept (Part F))). name_of_merge ks) (sym whole) ∙ (sym (marked_name work.sources.items) ∙ (ap (λ (ks : List (Kept (Part F))). name_of_merge ks) (sym are) ∙ e.name_is));

@@ -21,7 +21,8 @@ use Rattle.replies.specs.mt_model.History.{History, schema_of, creates}
 use Rattle.replies.specs.mt_model.Reply.{schema_of_text, create_turn, ok_line}
 use Rattle.replies.specs.mt_model.Written.{IsCreateText}
 use Rattle.replies.proofs.MtModelTables.{itself_same}
-use Rattle.shared_store.specs.durable_commit.Commits.{Notes, entry_of}
+use Rattle.shared_store.specs.durable_commit.Commits.{entry_of}
+use Rattle.shared_store.specs.durable_commit.Publications.{Notes}
 use Rattle.shared_store.specs.root_store.Entries.{EntryHolds, schema_of_items, schema_of_entry}
 use Rattle.shared_store.specs.root_store.Soundness.{RootStands}
 use Rattle.shared_store.specs.root_store.Stores.{CoreStands}
@@ -73,7 +74,7 @@ module _ (text : CreateText) (schema : Schema) (says : schema_of_text text ≡ O
 
   -- a CREATE that is accepted
   pub created_accepts : {F : Type 0} (files_of : F → Option Files) (kept : Told) (t : Turned F) (mark : ℕ) (reply : List ℕ) → Knows files_of kept t.was → create_turn text.table (history kept) ≡ None
-      → Notes mark (entry_of 0 created) t.was.storage.annals t.now.storage.annals → CoreStands files_of (history kept ++ entry_of 0 created ∷ []) t.now.store → reply ≡ ok_line (t.was.store.length + 1)
+      → Notes mark (Some (entry_of 0 created)) t.was.storage.annals t.now.storage.annals → CoreStands files_of (history kept ++ entry_of 0 created ∷ []) t.now.store → reply ≡ ok_line (t.was.store.length + 1)
       → (RootStands t.was.storage.disk (history kept) → RootStands t.now.storage.disk (history kept ++ entry_of 0 created ∷ []))
       → Answered files_of kept (Ok (statement.Create text)) t reply
   created_accepts files_of kept t mark reply knows turn notes stands ok settled =

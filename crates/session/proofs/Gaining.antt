@@ -20,7 +20,8 @@ use Rattle.shared_store.specs.root_commits.Commits.{IsCause, SameStore, refuses_
 use Rattle.shared_store.proofs.RootCommitsLeaving.{shown_calm, shown_part_calm}
 use Rattle.replies.specs.Foreseen.{history, is_unsettled}
 use Rattle.shared_store.specs.Engines.{Opened}
-use Rattle.session.specs.Answers.{AcceptsNothing, EndsUnanswered, IsBegun, Turned}
+use Rattle.session.specs.Answers.{EndsUnanswered, IsBegun, Turned}
+use Rattle.session.specs.Lapses.{AcceptsNothing}
 use Rattle.session.proofs.Accepting.{begins_first, unanswered_nothing}
 use Rattle.mt_outside.specs.Disk as root
 use Rattle.mt_outside.specs.Files.{Files}

@@ -1,6 +1,7 @@
 pub mod Accepting
 pub mod Asking
 pub mod Beside
+pub mod CreateTurns
 pub mod Creating
 pub mod Damaged
 pub mod Explaining
@@ -10,7 +11,9 @@ pub mod GivenUp
 pub mod Inserting
 pub mod Kept
 pub mod Lapses
+pub mod Leaving
 pub mod Matching
+pub mod MergeSteps
 pub mod Optimizing
 pub mod PartRows
 pub mod Partitions
@@ -18,7 +21,7 @@ pub mod Picking
 pub mod Placing
 pub mod Planned
 pub mod Progressing
-pub mod PutEnds
+pub mod PutSays
 pub mod Putting
 pub mod Running
 pub mod SealedParts
@@ -34,6 +37,8 @@ pub mod Taking
 pub mod Turning
 pub mod Unread
 pub mod Whole
+pub mod WorkEnds
+pub mod WorkLaws
 pub use Rattle.replies.proofs.MtModelCauses
 pub use Rattle.replies.proofs.MtModelGained
 pub use Rattle.replies.proofs.MtModelGrowing

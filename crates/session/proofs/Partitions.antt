@@ -147,6 +147,6 @@ module _ {P : Type 0} (all : List (Kept P)) (i : ℕ) (found : List Partition) (
               omega (arith, low, last_lower)
 
 -- all of them
-pub all_found : {P : Type 0} (all : List (Kept P)) (i : ℕ) (found : List Partition) (last : Option Partition) → take i all ≡ all → SoFar all i found last → ArePartitionsOf all found
-all_found {P} all i found last whole so =
-    record { each = subst (λ (ks : List (Kept P)). (partition : Partition) → HasItem found partition ↔ HasItem (partitions_in ks) partition) whole so.each; ascend = so.ascend }
+pub all_found : {P : Type 0} (all : List (Kept P)) (i : ℕ) (found : List Partition) (last : Option Partition) → take i all ≡ all → IsInBlockOrder all → SoFar all i found last → ArePartitionsOf all found
+all_found {P} all i found last whole order so =
+    record { each = subst (λ (ks : List (Kept P)). (partition : Partition) → HasItem found partition ↔ HasItem (partitions_in ks) partition) whole so.each; ascend = so.ascend order }

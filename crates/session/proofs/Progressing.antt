@@ -215,7 +215,7 @@ module _ {F : Type 0} (files_of : F → Option Files) (kept : Told) (was here : 
           begun = begun_next only l;
           sessions = has.sessions;
           stands = stands_next only l;
-          gives = inr (done, c ∷ rest, stops_next only l);
+          gives = inr (c, (done, rest, stops_next only l));
           settled = λ before. subst (RootStands new.storage.disk) (sym (history_same only l)) (e.settled (p.settled before));
         }
 

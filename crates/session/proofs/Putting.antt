@@ -1,8 +1,9 @@
--- A work from the moment it was taken up to the moment it is put or given up.
-use Rattle.std.proofs.Common.{◌≡◌, ◌≢◌, ℕ, ◌+◌, ◌<◌, Bool, true, false, cond, ◌||◌, max, nat_le, nat_lt, List, [], ◌∷◌, ◌++◌, length, map, is_some, Option, Some, None, refl, sym, ap, ap₂, ◌∙◌, subst, inl, inr, arith}
+-- A work from the moment it was taken up to the moment it is put or let go.
+use Rattle.std.proofs.Common.{◌≡◌, ◌≢◌, ◌⊎◌, ℕ, ◌+◌, ◌<◌, Bool, true, false, cond, ◌||◌, max, nat_le, nat_lt, List, [], ◌∷◌, ◌++◌, length, map, is_some, Option, Some, None, IfSome, Result, Ok, Err, refl, sym, ap, ap₂, ◌∙◌, subst, inl, inr, arith}
 use Rattle.std.proofs.lemmas.Bool.{false≢true}
 use Rattle.std.proofs.lemmas.Bool.Decides.{nat_tests}
 use Rattle.std.proofs.lemmas.List.{length-map}
+use Rattle.std.proofs.lemmas.List.Elements.{All-map}
 use Rattle.std.specs.BTreeMap.{is_at}
 use Rattle.std.specs.Cmp.Lexicographic.{slice_cmp}
 use Rattle.std.specs.List.{All, AllZip, fold}
@@ -10,6 +11,7 @@ use Rattle.std.specs.Map.{lookup}
 use Rattle.std.specs.Ordering.{nat_cmp}
 use Rattle.std.specs.Option.{MatchOption}
 use Rattle.mt_base.specs.Limits.{level_limit}
+use Rattle.mt_values.specs.declared.command.Entry.{Entry}
 use Rattle.mt_values.specs.declared.schema.Schema.{Schema}
 use Rattle.mt_values.specs.Grammar.{same_bytes}
 use Rattle.mt_values.specs.Values.{Row}
@@ -23,34 +25,45 @@ use Rattle.shared_store.specs.part_reader.declared.reading.Part.{Part}
 use Rattle.shared_store.specs.part_reader.Parts.{PartHolds}
 use Rattle.shared_store.specs.part_writer.declared.loaded.Loaded.{Loaded}
 use Rattle.shared_store.specs.part_set.declared.kept.Kept.{Kept}
+use Rattle.shared_store.specs.part_set.declared.run.Run.{Run}
 use Rattle.shared_store.specs.part_set.Parts.{IsInBlockOrder}
-use Rattle.shared_store.specs.part_set.Runs.{EndsInOrder, with_mark}
+use Rattle.shared_store.specs.part_set.Runs.{EndsInOrder, IsMarked, parts_of_run, with_mark}
 use Rattle.shared_store.specs.part_set.Sets.{parts_of}
 use Rattle.shared_store.proofs.PartSetMaps.{true_or_false}
 use Rattle.shared_store.specs.durable_commit.declared.causes.Limit.TheVariants as limit
 use Rattle.shared_store.specs.durable_commit.declared.causes.Refused.{Refused}
 use Rattle.shared_store.specs.durable_commit.declared.causes.Refused.TheVariants as refused
 use Rattle.shared_store.specs.durable_commit.Commits.{stopped_by}
+use Rattle.shared_store.specs.durable_commit.Publications.{Begins, IsUnsettled, Publication, Storage}
 use Rattle.shared_store.specs.stage_dir.Stages.{Filled}
 use Rattle.shared_store.specs.root_store.declared.store.CoreStore.{CoreStore}
 use Rattle.shared_store.specs.root_store.declared.store.Table.{Table}
-use Rattle.shared_store.specs.root_store.Crashes.{Storage}
 use Rattle.shared_store.specs.root_store.Stores.{CoreStands, table_at}
 use Rattle.shared_store.specs.root_commits.declared.commits.Returned.{Returned}
 use Rattle.shared_store.specs.root_commits.Commits.{IsCause, SameStore}
-use Rattle.shared_store.specs.root_commits.Merges.{HoldsMerge, IsSealedMerge, Merging, SealsRows, name_of_merge, refuses_merge, sources_of, within_levels}
-use Rattle.shared_store.specs.root_commits.Publications.{IsKeptBack, IsUnsettled, Publication, disk_side}
-use Rattle.shared_store.proofs.RootCommitsMergedNames.{name_there}
+use Rattle.shared_store.specs.root_commits.Merges.{EntersMerge, HoldsMerge, IsSealedMerge, Merging, MergesSources, SealsRows, name_of_merge, sources_of, within_levels}
+use Rattle.shared_store.specs.root_commits.Publications.{IsKeptBack, Publishes, publication_of_merge}
+use Rattle.shared_store.specs.root_commits.Turns.{CommitsMerge, Root}
 use Rattle.shared_store.specs.declared.work.Work.{Work}
-use Rattle.shared_store.specs.Engines.{Opened}
+use Rattle.shared_store.specs.Engines.{GoesOn, Opened, root_in}
 use Rattle.shared_store.specs.Levels.{any_greatest, is_greatest}
-use Rattle.shared_store.specs.Works.{Marks, WorkStands, merging_of, parts_of_work}
+use Rattle.shared_store.specs.Works.{DropsWork, IsGone, Marks, MergesRun, PutsRun, StandsOn, TakesUp, WorkStands, merging_of, names_of_work, parts_beside}
 use Rattle.final_fold.specs.row_merge.Merged.{ArePartRows}
-use Rattle.session.specs.Merges.{IsTaken, SealsWork}
+use Rattle.session.specs.Merges.{SealsWork}
 use Rattle.session.proofs.GivenUp.{IsAsBefore}
 use Rattle.session.proofs.PartRows.{rows_of_sources}
-use Rattle.shared_store.proofs.Working.{taken_stands}
-use Rattle.session.proofs.Taken.{ordered_before, run_marked, some_sources, sources_own, unmarked}
+use Rattle.session.proofs.Taken.{kept_long, kept_order, none_missing, ordered_before, run_marked, same_run, some_sources, sources_own, unmarked}
+use Rattle.session.proofs.WorkLaws.{merged_by_history, taken_there}
+
+-- A work was taken up, and but for its marks the root is as it was.
+pub record IsTaken {F : Type 0} (files_of : F → Option Files) (was now : Opened F) (work : Work F) (run : Run) : Type 0 where
+  pub takes : TakesUp was.store now.store work run
+  pub stands : StandsOn files_of was now
+  pub goes_on : GoesOn was now
+
+-- the parts of a work's run, in a store
+abbrev pub run_in : {F : Type 0} → CoreStore F → Work F → Run → List (Kept (Part F))
+run_in store work run = parts_of_run run (parts_beside store work)
 
 -- ---- levels
 
@@ -102,7 +115,7 @@ module _ {P : Type 0} where
 
 -- ---- a work that was taken up
 
-module _ {F : Type 0} (files_of : F → Option Files) (was mid : Opened F) (work : Work F) (t : IsTaken files_of was mid work) where
+module _ {F : Type 0} (files_of : F → Option Files) (was mid : Opened F) (work : Work F) (run : Run) (t : IsTaken files_of was mid work run) where
   abbrev own : Kept (Part F) → Type 0
   own k = k.busy ≡ false
 
@@ -122,24 +135,27 @@ module _ {F : Type 0} (files_of : F → Option Files) (was mid : Opened F) (work
   long_mid = (t.goes_on.left.sound.tables work.table t.takes.made there_still).order
 
   ordered_was : IsInBlockOrder (parts_of was.store.set work.table)
-  ordered_was = ordered_before work.partition work.run true (parts_of was.store.set work.table) (parts_of mid.store.set work.table) t.takes.marks.marked t.takes.marks.ordered
+  ordered_was = ordered_before work.partition run true (parts_of was.store.set work.table) (parts_of mid.store.set work.table) t.takes.marks.marked t.takes.marks.ordered
 
   -- the parts that it has bear marks where they stand
-  sources_marked : parts_of_work mid.store work ≡ map (with_mark true) (parts_of_work was.store work)
-  sources_marked = run_marked work.partition work.run (parts_of was.store.set work.table) t.takes.run ordered_was long_was (parts_of mid.store.set work.table) t.takes.marks.marked
+  sources_marked : run_in mid.store work run ≡ map (with_mark true) (run_in was.store work run)
+  sources_marked = run_marked work.partition run (parts_of was.store.set work.table) t.takes.is ordered_was long_was (parts_of mid.store.set work.table) t.takes.marks.marked
 
-  pub sources_are : parts_of_work mid.store work ≡ map (with_mark true) work.sources.items
+  pub sources_are : run_in mid.store work run ≡ map (with_mark true) work.sources.items
   sources_are = sources_marked ∙ ap (λ (ks : List (Kept (Part F))). map (with_mark true) ks) (sym t.takes.sources_are)
 
   pub some_of_work : 0 < length work.sources.items
-  some_of_work = subst (λ (ks : List (Kept (Part F))). 0 < length ks) (sym t.takes.sources_are) (some_sources work.partition work.run (parts_of was.store.set work.table) t.takes.run ordered_was long_was)
+  some_of_work = subst (λ (ks : List (Kept (Part F))). 0 < length ks) (sym t.takes.sources_are) (some_sources work.partition run (parts_of was.store.set work.table) t.takes.is ordered_was long_was)
 
-  pub work_stands : WorkStands mid.store work
-  work_stands = taken_stands was.store mid.store work t.takes long_mid
+  -- the parts of the work stand before they got marks
+  pub sources_before : parts_of was.store.set work.table ≡ t.takes.marks.marked.front ++ (work.sources.items ++ t.takes.marks.marked.back)
+  sources_before =
+      let x = t.takes.marks.marked in
+      subst (λ (ks : List (Kept (Part F))). parts_of was.store.set work.table ≡ x.front ++ (ks ++ x.back)) (sym t.takes.sources_are) x.before_is
 
   -- ---- without its marks
 
-  pub same_again : (new : CoreStore F) → Marks work false mid.store new → SameStore was.store new
+  pub same_again : (new : CoreStore F) → Marks work run false mid.store new → SameStore was.store new
   same_again new m = record {
     tables = m.tables ∙ same_tables;
     parts = λ u. elim (true_or_false (same_bytes work.table u)) [
@@ -156,26 +172,34 @@ module _ {F : Type 0} (files_of : F → Option Files) (was mid : Opened F) (work
 
       here : parts_of new.set work.table ≡ parts_of was.store.set work.table
       here =
-          unmarked work.partition work.run (parts_of was.store.set work.table) t.takes.run ordered_was long_was (parts_of mid.store.set work.table) t.takes.marks.marked
+          unmarked work.partition run (parts_of was.store.set work.table) t.takes.is ordered_was long_was (parts_of mid.store.set work.table) t.takes.marks.marked
           (subst (All own) t.takes.sources_are t.takes.idle) long_mid t.takes.marks.ordered (parts_of new.set work.table) m.marked
-
-  pub as_before : (new : Opened F) → Marks work false mid.store new.store → new.storage ≡ mid.storage → IsAsBefore was new
-  as_before new m stays = record { same = same_again new.store m; storage_is = stays ∙ t.stands.storage_is }
 
   -- ---- what was sealed for it
 
+  -- ---- where it stands
+
+  pub work_stands : WorkStands mid.store work run
+  work_stands = taken_there was.store mid work run t.goes_on.left t.takes
+
+  pub the_run : (r : Run) → WorkStands mid.store work r → r ≡ run
+  the_run r stands =
+      same_run (parts_beside mid.store work) (kept_order work.partition (parts_of mid.store.set work.table) t.takes.marks.ordered) (kept_long work.partition (parts_of mid.store.set work.table) long_mid) r run stands.is work_stands.is
+      (stands.named ∙ sym work_stands.named)
+
   module _ (sealed : Filled) (loaded : Loaded) (seals : SealsWork files_of work sealed.files loaded) where
     -- it is a merge of the rows of the work's parts, whatever history the store stands for
-    pub sealed_merge : (h : History) → CoreStands files_of h was.store → IsSealedMerge files_of t.takes.made.schema mid.store (merging_of work sealed loaded)
+    sealed_merge : (h : History) → CoreStands files_of h mid.store → IsSealedMerge files_of t.takes.made.schema mid.store (merging_of work run sealed loaded)
     sealed_merge h stands inputs held =
         let made = t.takes.made in
         let Q = λ (schema : Schema) (k : Kept (Part F)) (r : List Row). PartHolds files_of schema k.part r in
+        let marks = map (with_mark true) work.sources.items in
         let marked = t.takes.marks.marked in
-        let unmarked_hold = marked_hold (PartHolds files_of made.schema) true work.sources.items inputs (subst (λ (ks : List (Kept (Part F))). AllZip (Q made.schema) ks inputs) sources_are held) in
-        let parts_are = subst (λ (ks : List (Kept (Part F))). parts_of was.store.set work.table ≡ marked.front ++ (ks ++ marked.back)) (sym t.takes.sources_are) marked.before_is in
-        let rows = rows_of_sources files_of h was.store stands work.table made t.takes.there work.partition marked.front work.sources.items marked.back parts_are own_partition inputs unmarked_hold in
+        let marks_hold = subst (λ (ks : List (Kept (Part F))). AllZip (Q made.schema) ks inputs) sources_are held in
+        let rows = rows_of_sources files_of h mid.store stands work.table made there_still work.partition marked.front marks marked.back sources_after own_marks inputs marks_hold in
+        let unmarked_hold = marked_hold (PartHolds files_of made.schema) true work.sources.items inputs marks_hold in
         let one = seals.merged inputs (subst (λ (s : Schema). AllZip (Q s) work.sources.items inputs) (sym t.takes.schema_is) unmarked_hold) (subst (λ (s : Schema). All (ArePartRows s work.partition) inputs) (sym t.takes.schema_is) rows) in
-        subst (λ (s : Schema). HoldsMerge s inputs (merging_of work sealed loaded)) t.takes.schema_is (record {
+        subst (λ (s : Schema). HoldsMerge s inputs (merging_of work run sealed loaded)) t.takes.schema_is (record {
           files = one.files;
           sealed_are = one.sealed_are;
           rows = one.rows;
@@ -185,76 +209,187 @@ module _ {F : Type 0} (files_of : F → Option Files) (was mid : Opened F) (work
           loaded_is = one.loaded_is;
         })
       where
-        own_partition : All (λ (k : Kept (Part F)). k.name.partition ≡ work.partition) work.sources.items
-        own_partition = subst (All (λ (k : Kept (Part F)). k.name.partition ≡ work.partition)) (sym t.takes.sources_are) (sources_own work.partition work.run (parts_of was.store.set work.table))
+        sources_after : parts_of mid.store.set work.table ≡ t.takes.marks.marked.front ++ (map (with_mark true) work.sources.items ++ t.takes.marks.marked.back)
+        sources_after =
+            let x = t.takes.marks.marked in
+            subst (λ (ks : List (Kept (Part F))). parts_of mid.store.set work.table ≡ x.front ++ (map (with_mark true) ks ++ x.back)) (sym t.takes.sources_are) x.after_is
 
-    pub sealed_rows : SealsRows t.takes.made.schema (merging_of work sealed loaded)
+        own_sources : All (λ (k : Kept (Part F)). k.name.partition ≡ work.partition) work.sources.items
+        own_sources = subst (All (λ (k : Kept (Part F)). k.name.partition ≡ work.partition)) (sym t.takes.sources_are) (sources_own work.partition run (parts_of was.store.set work.table))
+
+        own_marks : All (λ (k : Kept (Part F)). k.name.partition ≡ work.partition) (map (with_mark true) work.sources.items)
+        own_marks = All-map (λ (k : Kept (Part F)). k.name.partition ≡ work.partition) (with_mark true) work.sources.items own_sources
+
+    pub merges_sources : MergesSources files_of t.takes.made.schema mid.store (merging_of work run sealed loaded)
+    merges_sources h stands = merged_by_history files_of mid.store (merging_of work run sealed loaded) t.takes.made there_still work_stands.is (sealed_merge h stands) h stands
+
+    pub sealed_rows : SealsRows t.takes.made.schema (merging_of work run sealed loaded)
     sealed_rows =
         let held = seals.holds in
-        subst (λ (s : Schema). SealsRows s (merging_of work sealed loaded)) t.takes.schema_is (record { files = held.files; sealed_are = held.sealed_are; rows = held.rows; holds = held.holds; loaded_is = held.loaded_is })
+        subst (λ (s : Schema). SealsRows s (merging_of work run sealed loaded)) t.takes.schema_is (record { files = held.files; sealed_are = held.sealed_are; rows = held.rows; holds = held.holds; loaded_is = held.loaded_is })
 
-  -- ---- why it is not put
+  -- ---- a work that is let go
+
+  pub let_go : (new : Opened F) → DropsWork work mid new → IsAsBefore was new
+  let_go new (inl (r, stands, marks, stays)) =
+      record { same = same_again new.store (subst (λ (x : Run). Marks work x false mid.store new.store) (the_run r stands) marks); storage_is = stays ∙ t.stands.storage_is }
+  let_go new (inr (none, same)) = absurd (none run work_stands)
+
+  -- ---- a work that is put
+
+  -- its sources are all there
+  pub none_gone : {S : Type 0} (new : Opened F) (part : S) (name : PartName) (back : S) → IsGone mid new work part name back → ⊥
+  none_gone new part name back gone = none_missing run (names_of_work work) (parts_beside mid.store work) name work_stands gone.missing
 
   module _ (sealed : Filled) (loaded : Loaded) where
     abbrev m : Merging
-    m = merging_of work sealed loaded
+    m = merging_of work run sealed loaded
 
     abbrev greatest : Bool
     greatest = any_greatest work.sources.items
 
-    any_is : any_greatest (parts_of_work mid.store work) ≡ greatest
+    any_is : any_greatest (run_in mid.store work run) ≡ greatest
     any_is = ap (λ (ks : List (Kept (Part F))). any_greatest ks) sources_are ∙ marked_levels true work.sources.items
 
-    some_mid : 0 < length (parts_of_work mid.store work)
+    some_mid : 0 < length (run_in mid.store work run)
     some_mid = let count = length-map work.sources.items (with_mark true) in let some = some_of_work in subst (λ (ks : List (Kept (Part F))). 0 < length ks) (sym sources_are) (omega (arith, count, some))
 
-    refuses_is : refuses_merge mid.store m mid.storage.failed ≡ cond greatest (Some (refused.Limit limit.Levels)) (stopped_by was.store.opened was.storage.failed)
-    refuses_is =
-        ap (λ (b : Bool). cond b (stopped_by mid.store.opened mid.storage.failed) (Some (refused.Limit limit.Levels))) (levels_of (parts_of_work mid.store work) some_mid ∙ ap (λ (b : Bool). cond b false true) any_is)
-        ∙ (turned greatest (stopped_by mid.store.opened mid.storage.failed)
-        ∙ ap₂ (λ (o n : ℕ). cond greatest (Some (refused.Limit limit.Levels)) (stopped_by o n)) t.takes.marks.opened_is (ap (λ (s : Storage). s.failed) t.stands.storage_is))
+    -- by whether a source has the greatest level
+    level_is : is_some (within_levels (name_of_merge (sources_of mid.store m))) ≡ cond greatest false true
+    level_is = levels_of (run_in mid.store work run) some_mid ∙ ap (λ (b : Bool). cond b false true) any_is
+
+    merged_as : {T S : Type 0} (now : Root F) (part : S) (result : Result T (Returned S)) → MergesRun {F = F} {T = T} {S = S} files_of m (root_in mid) now part result
+        → ((greatest ≡ true) × (result ≡ Err (record { cause = refused.Limit limit.Levels; back = Some part })) × (now ≡ root_in mid)) ⊎ ((greatest ≡ false) × (name : PartName) × CommitsMerge {F = F} {T = T} {S = S} files_of m name (root_in mid) now part result)
+    merged_as {T} {S} now part result merges = by (within_levels (name_of_merge (sources_of mid.store m))) level_is merges
       where
-        turned : (full : Bool) (o : Option Refused) → cond (cond full false true) o (Some (refused.Limit limit.Levels)) ≡ cond full (Some (refused.Limit limit.Levels)) o
-        turned true o = refl
-        turned false o = refl
+        full : (b : Bool) → false ≡ cond b false true → b ≡ true
+        full true is = refl
+        full false is = cc
 
-    pub cause_is : (cause : Option Refused) → IsCause (refuses_merge mid.store m mid.storage.failed) cause → IsCause (cond greatest (Some (refused.Limit limit.Levels)) (stopped_by was.store.opened was.storage.failed)) cause
-    cause_is cause is = subst (λ (o : Option Refused). IsCause o cause) refuses_is is
+        low : (b : Bool) → true ≡ cond b false true → b ≡ false
+        low true is = cc
+        low false is = refl
 
-    pub name_is : (name : PartName) × (name_of_merge (sources_of mid.store m) ≡ Some name)
-    name_is = name_there (parts_of_work mid.store work) some_mid
+        by : (o : Option PartName) → is_some o ≡ cond greatest false true
+            → MatchOption o ((result ≡ Err (record { cause = refused.Limit limit.Levels; back = Some part })) × (now ≡ root_in mid)) (λ name. CommitsMerge {F = F} {T = T} {S = S} files_of m name (root_in mid) now part result)
+            → ((greatest ≡ true) × (result ≡ Err (record { cause = refused.Limit limit.Levels; back = Some part })) × (now ≡ root_in mid)) ⊎ ((greatest ≡ false) × (name : PartName) × CommitsMerge {F = F} {T = T} {S = S} files_of m name (root_in mid) now part result)
+        by None is came = inl (full greatest is, came.0, came.1)
+        by (Some name) is came = inr (low greatest is, name, came)
 
--- ---- what is known of the outside
+-- What was sealed for a work stands in place of its sources. Nothing was shown against it.
+pub record IsPut {F : Type 0} (files_of : F → Option Files) (mid new : Opened F) (work : Work F) (run : Run) (sealed : Filled) (loaded : Loaded) : Type 0 where
+  pub low : any_greatest work.sources.items ≡ false
+  pub shown : IsCause (stopped_by mid.store.opened mid.storage.failed) None
+  pub enters : EntersMerge files_of (merging_of work run sealed loaded) mid.store new.store
+  pub annals : new.storage.annals ≡ mid.storage.annals
+  pub calm : sealed.failed ≡ 0 → new.storage.failed ≡ mid.storage.failed
 
--- what is known of the outside is the same where that of the disk is and the annals list the same
-pub same_storage : (was now : Storage) → disk_side now ≡ disk_side was → now.annals ≡ was.annals → now ≡ was
-same_storage was now disk annals = λ i. record { disk = (disk i).disk; clock = (disk i).clock; failed = (disk i).failed; annals = annals i }
+-- It was refused, and the sources have no marks any more.
+pub record IsRefusedPut {F S : Type 0} (mid new : Opened F) (work : Work F) (run : Run) (sealed : Filled) (part : S) (r : Returned S) : Type 0 where
+  pub shown : IsCause (cond (any_greatest work.sources.items) (Some (refused.Limit limit.Levels)) (stopped_by mid.store.opened mid.storage.failed)) (Some r.cause)
+  pub marks : Marks work run false mid.store new.store
+  pub annals : new.storage.annals ≡ mid.storage.annals
+  pub stays : sealed.failed ≡ 0 → r.cause ≢ refused.Disk → new.storage ≡ mid.storage
+  pub rose : r.cause ≡ refused.Disk → Rose mid.storage.failed new.storage.failed
+  pub returned : IfSome r.back (λ b. b ≡ part)
 
-module _ {S : Type 0} (p : Publication) (was now : Storage) (sealed : S) (r : Returned S) (annals : now.annals ≡ was.annals) (none_failed : p.failed ≡ 0)
-    (turn : MatchOption r.back (IsUnsettled p r.cause (disk_side was) (disk_side now)) (λ back. IsKeptBack sealed back r.cause (disk_side was) (disk_side now))) where
+-- marks of a store that keeps the same
+marks_after : {F : Type 0} (work : Work F) (run : Run) (old between new : CoreStore F) → SameStore old between → Marks work run false between new → Marks work run false old new
+marks_after {F = F} work run old between new same m = record {
+  marked = subst (λ (ks : List (Kept (Part F))). IsMarked work.partition run false ks (parts_of new.set work.table)) (same.parts work.table) m.marked;
+  ordered = m.ordered;
+  others = λ u other. m.others u other ∙ same.parts u;
+  tables = m.tables ∙ same.tables;
+  mutations_are = m.mutations_are ∙ same.mutations_are;
+  length_is = m.length_is ∙ same.length_is;
+  opened_is = m.opened_is ∙ same.opened_is;
+}
+
+-- what becomes of the outside where a merge is refused
+module _ {S : Type 0} (p : Publication) (none : p.entry ≡ None) (was now : Storage) (part : S) (cause : Refused) where
   abbrev Turn : Option S → Type 0
-  Turn o = MatchOption o (IsUnsettled p r.cause (disk_side was) (disk_side now)) (λ back. IsKeptBack sealed back r.cause (disk_side was) (disk_side now))
+  Turn o = MatchOption o (IsUnsettled p cause was now) (λ back. IsKeptBack part back cause was now)
 
-  -- but where the disk refused it, it is as it was
-  pub storage_stays : r.cause ≢ refused.Disk → now ≡ was
-  storage_stays other = by r.back turn
-    where
-      by : (o : Option S) → Turn o → now ≡ was
-      by (Some back) kept = same_storage was now kept.stays annals
-      by None u = λ i. record { disk = u.unchanged other i; clock = u.mark i; failed = u.calm none_failed other i; annals = annals i }
+  no_entry : (entry : Option Entry) → entry ≡ None → Begins entry was.annals now.annals → now.annals ≡ was.annals
+  no_entry None is begins = begins
+  no_entry (Some e) is begins = cc
 
-  -- and there its count rose
-  pub disk_rose : r.cause ≡ refused.Disk → Rose was.failed now.failed
-  disk_rose is = by r.back turn
-    where
-      by : (o : Option S) → Turn o → Rose was.failed now.failed
-      by (Some back) kept = absurd (kept.other is)
-      by None u = u.rose is
+  annals_stay : (o : Option S) → Turn o → now.annals ≡ was.annals
+  annals_stay None u = no_entry p.entry none u.annals
+  annals_stay (Some b) k = ap (λ (s : Storage). s.annals) k.stays
 
-  -- what comes back is what was sealed
-  pub comes_back : (Q : S → Type 0) → Q sealed → MatchOption r.back (Unit {0}) Q
-  comes_back Q is = by r.back turn
-    where
-      by : (o : Option S) → Turn o → MatchOption o (Unit {0}) Q
-      by (Some back) kept = subst Q (sym kept.returned) is
-      by None u = tt
+  storage_stays : (o : Option S) → Turn o → p.failed ≡ 0 → cause ≢ refused.Disk → now ≡ was
+  storage_stays None u calm other = λ i. record { disk = u.unchanged other i; clock = u.mark i; failed = u.calm calm other i; annals = no_entry p.entry none u.annals i }
+  storage_stays (Some b) k calm other = k.stays
+
+  disk_rose : (o : Option S) → Turn o → cause ≡ refused.Disk → Rose was.failed now.failed
+  disk_rose None u is = u.rose is
+  disk_rose (Some b) k is = absurd (k.other is)
+
+  comes_back : (o : Option S) → Turn o → IfSome o (λ b. b ≡ part)
+  comes_back None u = tt
+  comes_back (Some b) k = k.returned
+
+module _ {F : Type 0} (files_of : F → Option Files) (was mid new : Opened F) (work : Work F) (run : Run) (t : IsTaken files_of was mid work run) (sealed : Filled) (loaded : Loaded) where
+  abbrev merging_now : Merging
+  merging_now = merging_of work run sealed loaded
+
+  module _ {T S : Type 0} (part : S) where
+    -- where it stands is where it stood
+    pub run_is : (result : Result T (Returned S)) (p : PutsRun {F = F} {T = T} {S = S} files_of work sealed loaded mid new part result) → p.run ≡ run
+    run_is result p = the_run files_of was mid work run t p.run p.there
+
+    came : (result : Result T (Returned S)) (p : PutsRun {F = F} {T = T} {S = S} files_of work sealed loaded mid new part result) → MergesRun {F = F} {T = T} {S = S} files_of merging_now (root_in mid) p.mid part result
+    came result p = subst (λ (r : Run). MergesRun {F = F} {T = T} {S = S} files_of (merging_of work r sealed loaded) (root_in mid) p.mid part result) (run_is result p) p.merges
+
+    pub put_done : (x : T) → PutsRun {F = F} {T = T} {S = S} files_of work sealed loaded mid new part (Ok x) → IsPut files_of mid new work run sealed loaded
+    put_done x p = elim (merged_as files_of was mid work run t sealed loaded {T = T} {S = S} p.mid part (Ok x) (came (Ok x) p)) [
+      | inl levels ↦ absurd (no_levels levels.1)
+      | inr (low, name, d) ↦ by low name (subst (λ (o : Root F). CommitsMerge {F = F} {T = T} {S = S} files_of merging_now name (root_in mid) o part (Ok x)) (sym p.left) d)
+    ]
+      where
+        no_levels : ◌≡◌ {A = Result T (Returned S)} (Ok x) (Err (record { cause = refused.Limit limit.Levels; back = Some part })) → ⊥
+        no_levels is = cc
+
+        by : any_greatest work.sources.items ≡ false → (name : PartName) → CommitsMerge {F = F} {T = T} {S = S} files_of merging_now name (root_in mid) (root_in new) part (Ok x) → IsPut files_of mid new work run sealed loaded
+        by low name d = record { low = low; shown = d.cause; enters = d.enters; annals = d.turn.annals; calm = d.turn.calm }
+
+    pub put_refused : (r : Returned S) → PutsRun {F = F} {T = T} {S = S} files_of work sealed loaded mid new part (Err r) → IsRefusedPut mid new work run sealed part r
+    put_refused r p = elim (merged_as files_of was mid work run t sealed loaded {T = T} {S = S} p.mid part (Err r) (came (Err r) p)) [
+      | inl (full, is, same) ↦ by_level full (same_cause is) (same_back is) same
+      | inr (low, name, d) ↦ by_commit low name d
+    ]
+      where
+        marks : Marks work run false p.mid.store new.store
+        marks = subst (λ (x : Run). Marks work x false p.mid.store new.store) (run_is (Err r) p) p.left.0
+
+        same_cause : ◌≡◌ {A = Result T (Returned S)} (Err r) (Err (record { cause = refused.Limit limit.Levels; back = Some part })) → r.cause ≡ refused.Limit limit.Levels
+        same_cause is = let one : r ≡ record { cause = refused.Limit limit.Levels; back = Some part } = cc in ap (λ (x : Returned S). x.cause) one
+
+        same_back : ◌≡◌ {A = Result T (Returned S)} (Err r) (Err (record { cause = refused.Limit limit.Levels; back = Some part })) → r.back ≡ Some part
+        same_back is = let one : r ≡ record { cause = refused.Limit limit.Levels; back = Some part } = cc in ap (λ (x : Returned S). x.back) one
+
+        by_level : any_greatest work.sources.items ≡ true → r.cause ≡ refused.Limit limit.Levels → r.back ≡ Some part → p.mid ≡ root_in mid → IsRefusedPut mid new work run sealed part r
+        by_level full cause back same =
+            let stays : new.storage ≡ mid.storage = p.left.1 ∙ ap (λ (o : Root F). o.storage) same in
+            record {
+              shown = subst (λ (b : Bool). IsCause (cond b (Some (refused.Limit limit.Levels)) (stopped_by mid.store.opened mid.storage.failed)) (Some r.cause)) (sym full) (ap (λ (c : Refused). Some c) cause);
+              marks = subst (λ (o : Root F). Marks work run false o.store new.store) same marks;
+              annals = ap (λ (s : Storage). s.annals) stays;
+              stays = λ _ _. stays;
+              rose = λ disk. let bad : refused.Limit limit.Levels ≡ refused.Disk = sym cause ∙ disk in cc;
+              returned = subst (λ (o : Option S). IfSome o (λ b. b ≡ part)) (sym back) refl;
+            }
+
+        by_commit : any_greatest work.sources.items ≡ false → (name : PartName) → CommitsMerge {F = F} {T = T} {S = S} files_of merging_now name (root_in mid) p.mid part (Err r) → IsRefusedPut mid new work run sealed part r
+        by_commit low name d =
+            let pub_of = publication_of_merge merging_now name in
+            let turn = subst (λ (s : Storage). Publishes {T = T} {S = S} pub_of mid.storage s part (Err r)) (sym p.left.1) d.turn in
+            record {
+              shown = subst (λ (b : Bool). IsCause (cond b (Some (refused.Limit limit.Levels)) (stopped_by mid.store.opened mid.storage.failed)) (Some r.cause)) (sym low) d.cause;
+              marks = marks_after work run mid.store p.mid.store new.store d.enters marks;
+              annals = annals_stay pub_of refl mid.storage new.storage part r.cause r.back turn;
+              stays = storage_stays pub_of refl mid.storage new.storage part r.cause r.back turn;
+              rose = disk_rose pub_of refl mid.storage new.storage part r.cause r.back turn;
+              returned = comes_back pub_of refl mid.storage new.storage part r.cause r.back turn;
+            }

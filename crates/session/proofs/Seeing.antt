@@ -1,7 +1,8 @@
 -- What a SELECT sees of a pinned table: what is asked for that, with FINAL and without it.
-use Rattle.std.proofs.Common.{◌≡◌, ◌<◌, ◌∙◌, ℕ, Bool, true, false, List, [], ◌∷◌, All, Option, Some, Result, Ok, Err, length, map, refl, sym, ap, subst}
+use Rattle.std.proofs.Common.{◌≡◌, ◌<◌, ◌^◌, ◌∙◌, ℕ, Bool, true, false, List, [], ◌∷◌, All, Option, Some, Result, Ok, Err, length, map, refl, sym, ap, subst}
 use Rattle.std.specs.List.{AllZip, zip as pairs}
-use Rattle.std.specs.Result.{IfOk, OnOk}
+use Rattle.std.specs.Result.{IfErr, IfOk, OnOk}
+use Rattle.std.proofs.lemmas.Bool.{false≢true}
 use Rattle.std.proofs.lemmas.List.Elements.{All-cons, All-head, All-nil, All-tail, recursion_from_All}
 use Rattle.mt_values.specs.declared.expr.Test.{Test}
 use Rattle.mt_values.specs.declared.schema.Schema.{Schema}
@@ -17,7 +18,10 @@ use Rattle.replies.specs.mt_model.Live.{live}
 use Rattle.final_fold.specs.part_history.declared.part.CorePart.{CorePart}
 use Rattle.final_fold.specs.part_history.Parts.{PartStands}
 use Rattle.final_fold.proofs.PartHistoryOwnRows.{own_rows}
+use Rattle.shared_store.specs.part_name.declared.part.PartName.{PartName}
 use Rattle.shared_store.specs.part_reader.declared.reading.Part.{Part}
+use Rattle.shared_store.specs.part_reader.declared.reading.PartFault.{PartFault}
+use Rattle.shared_store.specs.part_reader.Faults.{IsNoDamage}
 use Rattle.shared_store.specs.part_set.declared.kept.Kept.{Kept}
 use Rattle.shared_store.specs.part_set.declared.kept.Snap.{Snap}
 use Rattle.shared_store.specs.root_store.declared.store.CoreStore.{CoreStore}
@@ -32,7 +36,7 @@ use Rattle.final_fold.specs.Matches.{HoldEachMatch, MeetWhereUnasked, SayOfEach,
 use Rattle.final_fold.specs.Scans.{PartsHold, joined_rows, values_at}
 use Rattle.final_fold.proofs.Scanning.{joined_typed}
 use Rattle.shared_store.specs.Engines.{IsSnapOf}
-use Rattle.session.specs.Selects.{IsSeen}
+use Rattle.session.specs.Selects.{AddsSeen, ExplainsRead, IsSeen, SaysRead}
 use Rattle.session.proofs.Damaged.{all_hold}
 use Rattle.session.proofs.FinalReads.{are_of_partitions, folded_of, folded_typed, skip_no_fold, stand_parted}
 use Rattle.session.proofs.Matching.{plans_hold, plans_sure, reads_count}
@@ -47,6 +51,20 @@ unmapped P f (x ∷ xs) all = All-cons (λ y. P (f y)) x xs (All-head P (f x) (m
 pub ok_both : {X E : Type 0} (r : Result X E) (A : Type 0) (B C : X → Type 0) → ((x : X) → A → B x → C x) → OnOk r A → IfOk r B → IfOk r C
 ok_both (Ok x) A B C join a b = join x a b
 ok_both (Err e) A B C join a b = tt
+
+-- what was added, by what is known of each
+pub adds_seen : {F E : Type 0} (files_of : F → Option Files) (snap : Snap (Part F)) (is_final : Bool) (w : Wanted) (old new : List Cells) (r : Result ℕ E)
+    → ((h : History) (store : CoreStore F) (table : List ℕ) → CoreStands files_of h store → IsSnapOf store table snap → map (λ (c : Cells). c.values) old ≡ values_at [] w.places.now → IfOk r (IsSeen files_of snap.parts.items w is_final (live table w.schema.now h) new))
+    → (All (λ (c : Cells). length c.values ≡ 0) old → IfOk r (λ count. All (λ (c : Cells). length c.values ≡ count) new)) → OnOk r (map (λ (c : Cells). c.col_type) new ≡ map (λ (c : Cells). c.col_type) old) → IfOk r (λ count. count < 2 ^ 32)
+    → IfOk r (AddsSeen files_of snap is_final w old new)
+adds_seen files_of snap is_final w old new (Ok count) values even types few = record { values = values; even = even; types = types; few = few }
+adds_seen files_of snap is_final w old new (Err e) values even types few = tt
+
+-- and what is said of a part that was not read
+pub says_read : {F : Type 0} (files_of : F → Option Files) (snap : Snap (Part F)) (is_final : Bool) (w : Wanted) (r : Result ℕ (PartName × PartFault)) → (All (HoldsRows files_of w.schema.now) snap.parts.items → IfErr r (λ e. IsNoDamage e.1))
+    → IfErr r (ExplainsRead files_of is_final snap.parts.items (planned snap is_final w.condition.now) w) → IfErr r (SaysRead files_of snap is_final w)
+says_read files_of snap is_final w (Ok count) sound damaged = tt
+says_read files_of snap is_final w (Err e) sound damaged = record { sound = sound; damaged = damaged }
 
 module _ {F : Type 0} (files_of : F → Option Files) (snap : Snap (Part F)) (w : Wanted) (same : snap.schema ≡ w.schema.now) (fits : IsTableSchema w.schema.now) (wanted : IsWanted w) where
   -- the columns of the condition's tests are the table's
@@ -78,7 +96,7 @@ module _ {F : Type 0} (files_of : F → Option Files) (snap : Snap (Part F)) (w 
       pub hold : PartsHold files_of w.schema.now snap.parts.items rows
       pub own : AreOfPartitions w.schema.now snap.parts.items rows
       pub skip : SkipNoFold w chosen rows
-      pub seen : (columns : List Cells) (count : ℕ) → IsFolded w (joined_rows rows) columns count → IsSeen w true (live table w.schema.now h) columns count
+      pub seen : (columns : List Cells) (count : ℕ) → IsFolded w (joined_rows rows) columns count → IsSeen files_of snap.parts.items w true (live table w.schema.now h) columns count
 
     pub final_parts : (chosen : List (List Bool)) → chosen ≡ planned snap true w.condition.now → FinalParts chosen
     final_parts chosen is =
@@ -94,6 +112,7 @@ module _ {F : Type 0} (files_of : F → Option Files) (snap : Snap (Part F)) (w 
               (recursion_from_All (λ (p : CorePart). All (λ (r : Row). partition_of w.schema.now r ≡ p.name.partition) p.rows) parts (own_rows h stands.legal table w.schema.now parts there held.stand)));
           seen = λ columns count folded. record {
             rows = folded.out;
+            plain = λ no. absurd (false≢true (sym no));
             seen = folded_of files_of h stands.legal table w.schema.now there held.rows folded.out held.partly folded.merges;
             typed = folded_typed files_of h stands.legal table w.schema.now there held.rows folded.out held.partly folded.merges;
             values = folded.values;
@@ -110,7 +129,7 @@ module _ {F : Type 0} (files_of : F → Option Files) (snap : Snap (Part F)) (w 
       pub each : HoldEachMatch w chosen rows
       pub sure : MeetWhereUnasked w chosen asked rows
       pub seen : (columns : List Cells) (count : ℕ) → map (λ (c : Cells). c.values) columns ≡ values_at (matching w.condition.now (joined_rows rows)) w.places.now
-          → count ≡ length (matching w.condition.now (joined_rows rows)) → IsSeen w false (live table w.schema.now h) columns count
+          → count ≡ length (matching w.condition.now (joined_rows rows)) → IsSeen files_of snap.parts.items w false (live table w.schema.now h) columns count
 
     pub plain_parts : (chosen : List (List Bool)) (asked : List (List (List Bool))) → chosen ≡ planned snap false w.condition.now → asked ≡ asked_over snap false w.condition.now → PlainParts chosen asked
     plain_parts chosen asked is asked_is =
@@ -129,6 +148,7 @@ module _ {F : Type 0} (files_of : F → Option Files) (snap : Snap (Part F)) (w 
           seen = λ columns count values counted. record {
             rows = joined_rows held.rows;
             seen = held.partly;
+            plain = λ _. record { held = held.rows; hold = held.hold; joined = refl };
             typed = joined_typed files_of schema parts held.rows held.hold;
             values = values;
             counted = counted;

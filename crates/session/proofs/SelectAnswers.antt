@@ -9,13 +9,14 @@ use Rattle.shared_store.specs.Engines.{Opened}
 use Rattle.shared_store.specs.Levels.{has_greatest}
 use Rattle.session.specs.Answers.{Answers, Knows}
 use Rattle.session.proofs.Accepting.{answers_kept, unturned}
-use Rattle.replies.specs.Foreseen.{Explained, Selected}
+use Rattle.session.specs.Selects.{SelectsFrom}
+use Rattle.replies.specs.Foreseen.{Explained}
 
 -- a SELECT adds nothing
 pub selected_answers : {F : Type 0} (files_of : F → Option Files) (kept : Told) (text : SelectText) (here : Opened F) (arm : ℕ) (result : Result (List ℕ) NoMemory)
-    → Knows files_of kept here → IfOk result (λ reply. Selected kept text arm here.store.opened reply) → Answers files_of kept (Ok (statement.Select text)) (unturned here arm) result
+    → Knows files_of kept here → IfOk result (SelectsFrom files_of here.store kept text arm) → Answers files_of kept (Ok (statement.Select text)) (unturned here arm) result
 selected_answers files_of kept text here arm result knows chosen =
-    answers_kept files_of kept (Ok (statement.Select text)) here arm result (Selected kept text arm here.store.opened) knows chosen (λ reply takes n f. takes n here.storage.failed (has_greatest here.store) f)
+    answers_kept files_of kept (Ok (statement.Select text)) here arm result (SelectsFrom files_of here.store kept text arm) knows chosen (λ reply from n f. from.takes n here.storage.failed (has_greatest here.store) f)
 
 -- and neither does an EXPLAIN
 pub explained_answers : {F : Type 0} (files_of : F → Option Files) (kept : Told) (text : SelectText) (here : Opened F) (arm : ℕ) (result : Result (List ℕ) NoMemory)

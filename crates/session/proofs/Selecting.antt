@@ -77,26 +77,39 @@ read_below schema s places own read is chosen same =
 
 -- ---- the reply
 
--- a SELECT's answer, from the rows of its table
-pub selects : (h : History) (s : SelectText) (schema : Schema) (q : Query) (rows : List Row) (block : Grid) (shown : List ℕ) (place : ℕ) (reply : List ℕ)
-    → take place h ≡ h → schema_of s.table h ≡ Some schema → query_of schema.columns s ≡ Ok q → Sees schema s.is_final (live s.table schema h) rows
-    → map (key_of shown) block.rows ≡ map (key_of q.places) (filter (eval q.condition) rows) → Printed block shown place reply → Selects h s place reply
-selects h s schema q rows block shown place reply all there asked seen rows_are p =
+-- what is printed of rows that meet a condition
+pub record PrintsOf (q : Query) (rows : List Row) (place : ℕ) (reply : List ℕ) : Type 0 where
+  pub lines : List (List ℕ)
+  pub prints : Prints (map (key_of q.places) (filter (eval q.condition) rows)) lines
+  pub reply_is : reply ≡ rows_line (length lines) place ++ concat lines
+
+-- it is what the block prints that was read of them
+pub prints_of : (q : Query) (rows : List Row) (block : Grid) (shown : List ℕ) (place : ℕ) (reply : List ℕ) → map (key_of shown) block.rows ≡ map (key_of q.places) (filter (eval q.condition) rows) → Printed block shown place reply → PrintsOf q rows place reply
+prints_of q rows block shown place reply rows_are p =
     let ordered = map (key_of shown) (picked block.rows p.order) in
     let lines = map line ordered in
     let count : length lines ≡ length block.rows = length-map ordered line ∙ length-map (picked block.rows p.order) (key_of shown) ∙ length-picked shown block.rows p.order p.by in
-    let prints : Prints (map (key_of q.places) (filter (eval q.condition) rows)) lines = subst (λ (rs : List Row). Prints rs lines) rows_are (record {
-      order = ordered;
-      same = IsPermutation-map (key_of shown) block.rows (picked block.rows p.order) (IsPermutation-picked shown block.rows p.order p.by);
-      rising = shown_rising shown (picked block.rows p.order) p.by.rising;
-      lines_are = refl;
-    }) in
-    let answer : Answer h schema s lines = record { query = q; asked = asked; rows = rows; seen = seen; prints = prints } in
     record {
-      schema = schema;
       lines = lines;
-      there = ap (schema_of s.table) all ∙ there;
-      answer = subst (λ (x : History). Answer x schema s lines) (sym all) answer;
+      prints = subst (λ (rs : List Row). Prints rs lines) rows_are (record {
+        order = ordered;
+        same = IsPermutation-map (key_of shown) block.rows (picked block.rows p.order) (IsPermutation-picked shown block.rows p.order p.by);
+        rising = shown_rising shown (picked block.rows p.order) p.by.rising;
+        lines_are = refl;
+      });
       reply_is = p.reply_is
           ∙ (ap (λ ls. rows_line (length block.rows) place ++ ls) (shown_lines shown (picked block.rows p.order)) ∙ ap (λ n. rows_line n place ++ concat lines) (sym count));
+    }
+
+-- a SELECT's answer, from the rows of its table
+pub selects : (h : History) (s : SelectText) (schema : Schema) (q : Query) (rows : List Row) (place : ℕ) (reply : List ℕ)
+    → take place h ≡ h → schema_of s.table h ≡ Some schema → query_of schema.columns s ≡ Ok q → Sees schema s.is_final (live s.table schema h) rows → PrintsOf q rows place reply → Selects h s place reply
+selects h s schema q rows place reply all there asked seen p =
+    let answer : Answer h schema s p.lines = record { query = q; asked = asked; rows = rows; seen = seen; prints = p.prints } in
+    record {
+      schema = schema;
+      lines = p.lines;
+      there = ap (schema_of s.table) all ∙ there;
+      answer = subst (λ (x : History). Answer x schema s p.lines) (sym all) answer;
+      reply_is = p.reply_is;
     }

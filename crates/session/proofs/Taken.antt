@@ -1,16 +1,19 @@
 -- A work that was taken up, and its marks taken off again: the parts are as they were.
-use Rattle.std.proofs.Common.{◌≡◌, ℕ, ◌+◌, ◌<◌, ◌≤◌, Bool, true, false, cond, List, [], ◌∷◌, ◌++◌, length, map, take, drop, filter, get_or, refl, sym, ap, ap₂, ◌∙◌, subst, arith}
-use Rattle.std.proofs.lemmas.List.{length-drop, length-map, length-take-le}
+use Rattle.std.proofs.Common.{◌≡◌, ℕ, ◌+◌, ◌<◌, ◌≤◌, Bool, true, false, cond, List, [], ◌∷◌, ◌++◌, length, map, take, drop, filter, get_or, inl, inr, refl, sym, ap, ap₂, ◌∙◌, subst, arith}
+use Rattle.std.proofs.lemmas.Bool.{cases_lt}
+use Rattle.std.proofs.lemmas.List.{get_or-drop, get_or-map, get_or-take, length-drop, length-map, length-take-le, take-map, take-take}
 use Rattle.std.proofs.lemmas.List.Elements.{All-contains, All-drop, All-filter, All-head, All-map, All-tail, All-take, Contains-append_right, filter-append, filter_passes}
 use Rattle.std.proofs.lemmas.List.Kept.{AllPairs-filter}
+use Rattle.std.proofs.lemmas.Option.{slice_get_within}
 use Rattle.std.specs.List.{All, Contains as HasItem}
 use Rattle.mt_base.specs.declared.partition.Partition.{Partition}
 use Rattle.mt_values.specs.Tables.{same_partition}
 use Rattle.replies.proofs.MtModelCommands.{partition_is}
+use Rattle.shared_store.specs.part_name.declared.part.PartName.{PartName}
 use Rattle.shared_store.specs.part_set.declared.kept.Kept.{Kept}
 use Rattle.shared_store.specs.part_set.declared.run.Run.{Run}
 use Rattle.shared_store.specs.part_set.Parts.{IsInBlockOrder, StandsClear, kept_in}
-use Rattle.shared_store.specs.part_set.Runs.{EndsInOrder, IsMarked, IsRun, parts_of_run, with_mark}
+use Rattle.shared_store.specs.part_set.Runs.{EndsInOrder, IsBusyRun, IsMarked, IsMissing, IsRun, names_of_parts, parts_of_run, with_mark}
 use Rattle.shared_store.proofs.PartSetItems.{item_first}
 use Rattle.shared_store.proofs.PartSetSwaps.{marked_names, named_ordered, pairs_across, pairs_back, run_parts}
 
@@ -199,3 +202,84 @@ module _ {P : Type 0} where
       let is_own = λ (k : Kept P). same_partition k.name.partition p in
       let passes = All-take (λ (k : Kept P). is_own k ≡ true) run.count (drop run.first (kept_in p parts)) (All-drop (λ (k : Kept P). is_own k ≡ true) run.first (kept_in p parts) (filter_passes is_own parts)) in
       λ i d inside. partition_is (get_or (parts_of_run run (kept_in p parts)) i d).name.partition p (passes i d inside)
+
+  -- those of a partition stand in order too
+  pub kept_order : (p : Partition) (ks : List (Kept P)) → IsInBlockOrder ks → IsInBlockOrder (kept_in p ks)
+  kept_order p ks ordered = AllPairs-filter Clear (λ (k : Kept P). same_partition k.name.partition p) ks ordered
+
+  pub kept_long : (p : Partition) (ks : List (Kept P)) → All EndsInOrder ks → All EndsInOrder (kept_in p ks)
+  kept_long p ks long = All-filter (λ (k : Kept P). same_partition k.name.partition p) EndsInOrder ks long
+
+  -- ---- one run with these names
+
+  -- two parts that follow each other have two names
+  two_names : (a b : Kept P) → EndsInOrder a → Clear a b → a.name ≡ b.name → ⊥
+  two_names a b long clear same = not_itself a long (subst (λ (n : PartName). StandsClear a.name n) (sym same) clear)
+
+  module _ (mine : List (Kept P)) (ordered : IsInBlockOrder mine) (long : All EndsInOrder mine) where
+    counted : (run : Run) → IsRun run mine → length (names_of_parts (parts_of_run run mine)) ≡ run.count
+    counted run is =
+        let within = is.within in
+        let rest = length-drop run.first mine in
+        length-map (parts_of_run run mine) (λ (k : Kept P). k.name) ∙ length-take-le run.count (drop run.first mine) (omega (arith, within, rest))
+
+    -- the first name of a run is that of the part at its place
+    first_name : (run : Run) → IsRun run mine → (d : Kept P) → get_or (names_of_parts (parts_of_run run mine)) 0 d.name ≡ (get_or mine run.first d).name
+    first_name run is d =
+        let some = is.some in
+        let long_run = counted run is in
+        let as_long = length-map (parts_of_run run mine) (λ (k : Kept P). k.name) in
+        let zero_is : run.first + 0 ≡ run.first = omega arith in
+        get_or-map (λ (k : Kept P). k.name) (parts_of_run run mine) 0 d d.name (omega (arith, some, long_run, as_long))
+        ∙ ap (λ (k : Kept P). k.name) (get_or-take run.count (drop run.first mine) 0 d some ∙ (get_or-drop run.first mine 0 d ∙ ap (λ (n : ℕ). get_or mine n d) zero_is))
+
+    -- a run is told by the names of its parts
+    pub same_run : (r s : Run) → IsRun r mine → IsRun s mine → names_of_parts (parts_of_run r mine) ≡ names_of_parts (parts_of_run s mine) → r ≡ s
+    same_run r s is other names = λ i. record { first = first i; count = count i }
+      where
+        count : r.count ≡ s.count
+        count = sym (counted r is) ∙ (ap (λ (ns : List PartName). length ns) names ∙ counted s other)
+
+        within : r.first < length mine
+        within = let some = is.some in let low = is.within in omega (arith, some, low)
+
+        inside : s.first < length mine
+        inside = let some = other.some in let low = other.within in omega (arith, some, low)
+
+        one : (x : Kept P) × (rest : List (Kept P)) × (mine ≡ x ∷ rest)
+        one = some_first mine (omega (arith, within))
+
+        at : (get_or mine r.first one.0).name ≡ (get_or mine s.first one.0).name
+        at = sym (first_name r is one.0) ∙ (ap (λ (ns : List PartName). get_or ns 0 one.0.name) names ∙ first_name s other one.0)
+
+        first : r.first ≡ s.first
+        first = elim (cases_lt r.first s.first) [
+          | inl less ↦ absurd (two_names (get_or mine r.first one.0) (get_or mine s.first one.0) (long r.first one.0 within) (ordered r.first s.first one.0 less inside) at)
+          | inr more ↦ elim (cases_lt s.first r.first) [
+            | inl less ↦ absurd (two_names (get_or mine s.first one.0) (get_or mine r.first one.0) (long s.first one.0 inside) (ordered s.first r.first one.0 less within) (sym at))
+            | inr most ↦ omega (arith, more, most)
+          ]
+        ]
+
+  -- the front of a run that bears marks is one
+  front_of_run : (run : Run) (names : List PartName) (mine : List (Kept P)) → IsBusyRun run names mine → (k : ℕ) → 0 < k → k ≤ length names → IsBusyRun (record { first = run.first; count = k }) (take k names) mine
+  front_of_run run names mine busy k some few =
+      let IsBusy = λ (x : Kept P). x.busy ≡ true in
+      let within = busy.is.within in
+      let rest = length-drop run.first mine in
+      let taken = length-take-le run.count (drop run.first mine) (omega (arith, within, rest)) in
+      let as_long = length-map (parts_of_run run mine) (λ (x : Kept P). x.name) in
+      let named = ap (λ (ns : List PartName). length ns) busy.named in
+      let less : k ≤ run.count = omega (arith, few, named, as_long, taken) in
+      let same : take k (parts_of_run run mine) ≡ take k (drop run.first mine) = take-take k run.count (drop run.first mine) less in
+      record {
+        is = record { some = some; within = omega (arith, within, less) };
+        named = ap (λ (xs : List (Kept P)). names_of_parts xs) (sym same) ∙ (sym (take-map (λ (x : Kept P). x.name) k (parts_of_run run mine)) ∙ ap (take k) busy.named);
+        busy = subst (All IsBusy) same (All-take IsBusy k (parts_of_run run mine) busy.busy);
+      }
+
+  -- of parts that stand in a run with marks none is missing
+  pub none_missing : (run : Run) (names : List PartName) (mine : List (Kept P)) (name : PartName) → IsBusyRun run names mine → IsMissing names mine name → ⊥
+  none_missing run names mine name busy gone =
+      let low = slice_get_within names gone.place name gone.here in
+      gone.none (record { first = run.first; count = gone.place + 1 }) (front_of_run run names mine busy (gone.place + 1) (omega arith) (omega (arith, low)))

@@ -8,10 +8,10 @@ use Rattle.mt_values.specs.Annals.{Told}
 use Rattle.mt_values.specs.Script.{Item}
 use Rattle.mt_outside.specs.Files.{Files}
 use Rattle.replies.specs.mt_model.Outside.{Outside}
-use Rattle.replies.specs.mt_model.Session.{StopsAfter, Takes, Unanswered}
+use Rattle.replies.specs.mt_model.History.{History}
+use Rattle.replies.specs.mt_model.Session.{AddsNothing, IsNextCommand, StopsAfter, Takes}
 use Rattle.replies.specs.Foreseen.{Foresees, history, is_unsettled}
 use Rattle.shared_store.specs.durable_commit.Commits.{entry_of}
-use Rattle.shared_store.specs.root_commits.Commits.{SameStore}
 use Rattle.shared_store.specs.root_store.Soundness.{RootStands}
 use Rattle.shared_store.specs.root_store.Stores.{CoreStands}
 use Rattle.mt_base.specs.declared.memory.NoMemory.{NoMemory}
@@ -23,6 +23,9 @@ pub record Turned (F : Type 0) : Type 0 where
   pub was : Opened F
   pub now : Opened F
   pub arm : ℕ
+
+abbrev pub met : {F : Type 0} → Opened F → Opened F → ℕ → Turned F
+met was now arm = record { was = was; now = now; arm = arm }
 
 -- the first of a statement's commands were accepted, and the next one is begun and was not
 pub record BeginsNext (kept now : Told) (statement : Item) (done : List Command) : Type 0 where
@@ -65,8 +68,12 @@ pub record Answered {F : Type 0} (files_of : F → Option Files) (kept : Told) (
   pub takes : (n : Outside) → Foresees t.was.store.opened t.now.storage.failed t.arm (has_greatest t.now.store) n → Takes n (history now) 0 statement (length kept.list) (length now.list) reply
   pub settled : unsettles statement reply ≡ false → RootStands t.was.storage.disk (history kept) → RootStands t.now.storage.disk (history now)
 
--- A statement that ended the run without a reply: the annals list the first of its commands as entries of session 0, or none. The store stands
--- for all of it, and so does a root that stood for what was told.
+-- A statement added nothing, or its first commands were accepted and the next one was not.
+abbrev pub LacksNext : History → Item → ℕ → ℕ → Type 0
+LacksNext h statement from to = AddsNothing h 0 from to ⊎ ((next : Command) × IsNextCommand h 0 statement from to next)
+
+-- A statement that ended the run without a reply: the annals list the first of its commands as entries of session 0, or none, and not all of
+-- them. The store stands for all of it, and so does a root that stood for what was told.
 pub record EndsUnanswered {F : Type 0} (files_of : F → Option Files) (kept : Told) (statement : Item) (t : Turned F) : Type 0 where
   pub now : Told
   pub more : List Noted
@@ -75,7 +82,7 @@ pub record EndsUnanswered {F : Type 0} (files_of : F → Option Files) (kept : T
   pub begun : IsBegun kept now statement (Unit {0})
   pub sessions : All (λ (n : Noted). n.entry.session ≡ 0) more
   pub stands : CoreStands files_of (history now) t.now.store
-  pub gives : Unanswered (history now) 0 statement (length kept.list) (length now.list)
+  pub gives : LacksNext (history now) statement (length kept.list) (length now.list)
   pub settled : RootStands t.was.storage.disk (history kept) → RootStands t.now.storage.disk (history now)
 
 -- a statement's reply, or out of memory
@@ -86,8 +93,3 @@ Answers files_of kept statement t result = MatchResult result (Answered files_of
 pub record Knows {F : Type 0} (files_of : F → Option Files) (kept : Told) (root : Opened F) : Type 0 where
   pub told_is : root.storage.annals ≡ Some kept
   pub stands : CoreStands files_of (history kept) root.store
-
--- a statement accepted nothing: the store keeps the same, and what is known of the disk and the annals is as it was
-pub record AcceptsNothing {F : Type 0} (was now : Opened F) : Type 0 where
-  pub store_is : SameStore was.store now.store
-  pub storage_is : now.storage ≡ was.storage

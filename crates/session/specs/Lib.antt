@@ -1,4 +1,5 @@
 pub mod Answers
+pub mod Lapses
 pub mod Merges
 pub mod Selects
 pub mod Staged

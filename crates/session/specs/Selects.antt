@@ -1,31 +1,50 @@
 -- What a SELECT tells of damage.
-use Rattle.std.specs.Prelude.{◌≡◌, ℕ, Bool, true, false, List, All, Ok, Option, length, map}
-use Rattle.std.specs.List.{Contains as HasItem}
+use Rattle.std.specs.Prelude.{◌≡◌, ◌⊎◌, ◌<◌, ◌^◌, ℕ, [], ◌++◌, Bool, true, false, List, All, Result, Ok, Err, IfOk, Option, length, map}
+use Rattle.std.specs.List.{Contains as HasItem, concat}
+use Rattle.mt_base.specs.declared.memory.NoMemory.{NoMemory}
 use Rattle.mt_base.specs.declared.name.FileId.{FileId}
 use Rattle.mt_base.specs.Files.{file_name}
 use Rattle.mt_values.specs.declared.manifest.FileMark.{FileMark}
+use Rattle.mt_values.specs.declared.schema.Schema.{Schema}
 use Rattle.mt_values.specs.declared.statement.SelectText.{SelectText}
+use Rattle.mt_values.specs.declared.statement.Statement.TheVariants as statement
+use Rattle.mt_values.specs.Annals.{Told}
 use Rattle.mt_values.specs.Grid.{Cells}
+use Rattle.mt_values.specs.Order.{key_of}
 use Rattle.mt_values.specs.Schemas.{column_types}
+use Rattle.mt_values.specs.Script.{Item}
 use Rattle.mt_values.specs.Values.{Row, types_of}
 use Rattle.mt_outside.specs.Files.{Files}
 use Rattle.replies.specs.mt_model.declared.query.Query.{Query}
 use Rattle.replies.specs.mt_model.declared.refusal.Refusal.TheVariants as refusal
+use Rattle.replies.specs.mt_model.Answer.{Prints}
 use Rattle.replies.specs.mt_model.Final.{Sees}
+use Rattle.replies.specs.mt_model.History.{History, IsTableSchema}
+use Rattle.replies.specs.mt_model.Live.{live}
 use Rattle.replies.specs.mt_model.Queries.{query_of}
 use Rattle.replies.specs.mt_model.Refusals.{refusal_line}
+use Rattle.replies.specs.mt_model.Reply.{rows_line}
+use Rattle.replies.specs.Foreseen.{Selected}
 use Rattle.shared_store.specs.part_name.declared.part.PartName.{PartName}
 use Rattle.shared_store.specs.part_name.PartNames.{part_text}
 use Rattle.shared_store.specs.part_reader.declared.reading.Part.{Part}
 use Rattle.shared_store.specs.part_reader.declared.reading.PartFault.{PartFault}
 use Rattle.shared_store.specs.part_reader.declared.reading.PartFault.TheVariants as fault
+use Rattle.shared_store.specs.part_reader.Faults.{IsNoDamage}
 use Rattle.shared_store.specs.part_set.declared.kept.Kept.{Kept}
 use Rattle.shared_store.specs.part_set.declared.kept.Snap.{Snap}
+use Rattle.shared_store.specs.root_store.declared.store.CoreStore.{CoreStore}
+use Rattle.shared_store.specs.root_store.Soundness.{HoldsRows}
+use Rattle.shared_store.specs.root_store.Stores.{CoreStands}
+use Rattle.shared_store.specs.Engines.{IsSnapOf}
 use Rattle.final_fold.specs.declared.asking.Wanted.{Wanted}
+use Rattle.final_fold.specs.Asked.{IsWanted}
 use Rattle.final_fold.specs.Folded.{ExplainsFold}
 use Rattle.final_fold.specs.Matches.{ExplainsMatches, matching}
-use Rattle.final_fold.specs.Scans.{values_at}
-use Rattle.select_plan.specs.Plans.{planned}
+use Rattle.final_fold.specs.Scans.{PartsHold, joined_rows, values_at}
+use Rattle.select_plan.specs.declared.counting.Plan.{Plan}
+use Rattle.select_plan.specs.Plans.{asked_over, planned}
+use Rattle.session.specs.Merges.{IsRefusal, TellsOfTable}
 
 -- what is read is what a query asks of a pinned table: its condition, and columns that it selects (docs/architecture.md, "The way of a SELECT")
 pub record IsAskedOf {F : Type 0} (snap : Snap (Part F)) (query : Query) (wanted : Wanted) : Type 0 where
@@ -33,18 +52,51 @@ pub record IsAskedOf {F : Type 0} (snap : Snap (Part F)) (query : Query) (wanted
   pub condition : wanted.condition.now ≡ query.condition
   pub places : All (HasItem query.places) wanted.places.now
 
--- columns have the values at the wanted places of what a SELECT sees of live rows and meets its condition, rows of the table, and these are counted (docs/architecture.md, "The way of a SELECT")
-pub record IsSeen (w : Wanted) (is_final : Bool) (live : List Row) (columns : List Cells) (count : ℕ) : Type 0 where
+-- the rows are those that parts hold, one part after another
+pub record AreHeld {F : Type 0} (files_of : F → Option Files) (schema : Schema) (parts : List (Kept (Part F))) (rows : List Row) : Type 0 where
+  pub held : List (List Row)
+  pub hold : PartsHold files_of schema parts held
+  pub joined : rows ≡ joined_rows held
+
+-- Columns have the values at the wanted places of what a SELECT sees of live rows and meets its condition, rows of the table, and these are counted.
+-- Without FINAL it sees what the parts hold (docs/architecture.md, "The way of a SELECT").
+pub record IsSeen {F : Type 0} (files_of : F → Option Files) (parts : List (Kept (Part F))) (w : Wanted) (is_final : Bool) (live : List Row) (columns : List Cells) (count : ℕ) : Type 0 where
   pub rows : List Row
   pub seen : Sees w.schema.now is_final live rows
+  pub plain : is_final ≡ false → AreHeld files_of w.schema.now parts rows
   pub typed : All (λ (row : Row). types_of row ≡ column_types w.schema.now) rows
   pub values : map (λ (c : Cells). c.values) columns ≡ values_at (matching w.condition.now rows) w.places.now
   pub counted : count ≡ length (matching w.condition.now rows)
+
+-- what is wanted is of a pinned table (docs/architecture.md, "The way of a SELECT")
+pub record IsWantedOf {F : Type 0} (snap : Snap (Part F)) (w : Wanted) : Type 0 where
+  pub schema : snap.schema ≡ w.schema.now
+  pub table : IsTableSchema w.schema.now
+  pub wanted : IsWanted w
+
+-- which granules are read, and which of them are asked, is what the plan says (docs/architecture.md, "The way of a SELECT")
+pub record IsPlanFor {F : Type 0} (plan : Plan) (snap : Snap (Part F)) (is_final : Bool) (w : Wanted) : Type 0 where
+  pub parts : plan.parts.items ≡ planned snap is_final w.condition.now
+  pub asked : plan.asked.items ≡ asked_over snap is_final w.condition.now
+
+-- What a SELECT sees is added to columns: of a table that stands for a history, where they were empty, the values of what it sees. They have as
+-- many values as rows were added, and 32 bits count these (docs/architecture.md, "The way of a SELECT").
+pub record AddsSeen {F : Type 0} (files_of : F → Option Files) (snap : Snap (Part F)) (is_final : Bool) (w : Wanted) (old new : List Cells) (count : ℕ) : Type 0 where
+  pub values : (h : History) (store : CoreStore F) (table : List ℕ) → CoreStands files_of h store → IsSnapOf store table snap
+      → map (λ (c : Cells). c.values) old ≡ values_at [] w.places.now → IsSeen files_of snap.parts.items w is_final (live table w.schema.now h) new count
+  pub even : All (λ (c : Cells). length c.values ≡ 0) old → All (λ (c : Cells). length c.values ≡ count) new
+  pub types : map (λ (c : Cells). c.col_type) new ≡ map (λ (c : Cells). c.col_type) old
+  pub few : count < 2 ^ 32
 
 -- what a fault says of one of the parts, by its name: with FINAL all columns are read, without it those that the SELECT names (docs/architecture.md, "The way of a SELECT")
 abbrev pub ExplainsRead : {F : Type 0} → (F → Option Files) → Bool → List (Kept (Part F)) → List (List Bool) → Wanted → PartName × PartFault → Type 0
 ExplainsRead files_of true parts chosen w e = ExplainsFold files_of parts chosen w e
 ExplainsRead files_of false parts chosen w e = ExplainsMatches files_of parts chosen w e
+
+-- What is said of a part that was not read: no damage where each part holds rows, and else what damage there is (docs/architecture.md, "The way of a SELECT").
+pub record SaysRead {F : Type 0} (files_of : F → Option Files) (snap : Snap (Part F)) (is_final : Bool) (w : Wanted) (e : PartName × PartFault) : Type 0 where
+  pub sound : All (HoldsRows files_of w.schema.now) snap.parts.items → IsNoDamage e.1
+  pub damaged : ExplainsRead files_of is_final snap.parts.items (planned snap is_final w.condition.now) w e
 
 -- The reply tells of damage: of a part of the table, and of a file of it. What was read there of a column, with FINAL of any and without it of one that the SELECT
 -- names, in granules that its plan chooses, is no spelling of a value of the column's type for each of their rows, or no such granules are kept (docs/replies.md, "Faults").
@@ -60,3 +112,42 @@ pub record TellsOfDamage {F : Type 0} (files_of : F → Option Files) (snap : Sn
   pub found : FileMark
   pub part : ExplainsRead files_of text.is_final snap.parts.items (planned snap text.is_final query.condition) read (name, fault.Damaged file place wanted found)
   pub reply_is : reply ≡ refusal_line (refusal.Damaged text.table (part_text name) (file_name file))
+
+-- the reply to a SELECT of a table that a store keeps tells of damage of its parts (docs/replies.md, "Faults")
+abbrev pub TellsOfSelect : {F : Type 0} → (F → Option Files) → CoreStore F → SelectText → List ℕ → Type 0
+TellsOfSelect {F} files_of store text reply = (snap : Snap (Part F)) × IsSnapOf store text.table snap × TellsOfDamage files_of snap text reply
+
+-- of which damage the reply to a statement may tell (docs/replies.md, "Faults")
+abbrev pub TellsOfStatement : {F : Type 0} → (F → Option Files) → CoreStore F → Item → List ℕ → Type 0
+TellsOfStatement files_of store (Ok (statement.Create c)) reply = ⊥
+TellsOfStatement files_of store (Ok (statement.Insert i)) reply = ⊥
+TellsOfStatement files_of store (Ok (statement.Select s)) reply = TellsOfSelect files_of store s reply
+TellsOfStatement files_of store (Ok (statement.Explain s)) reply = ⊥
+TellsOfStatement files_of store (Ok (statement.Optimize o)) reply = TellsOfTable files_of store o.table reply
+TellsOfStatement files_of store (Err why) reply = ⊥
+
+-- The reply has a line for each of the rows that a pinned table's parts hold and that meet the condition: of the selected columns, sorted by these
+-- (docs/replies.md, "SELECT").
+pub record ReadsParts {F : Type 0} (files_of : F → Option Files) (snap : Snap (Part F)) (text : SelectText) (reply : List ℕ) : Type 0 where
+  pub query : Query
+  pub asked : query_of snap.schema.columns text ≡ Ok query
+  pub rows : List Row
+  pub are : AreHeld files_of snap.schema snap.parts.items rows
+  pub lines : List (List ℕ)
+  pub prints : Prints (map (key_of query.places) (matching query.condition rows)) lines
+  pub reply_is : reply ≡ rows_line (length lines) snap.length ++ concat lines
+
+-- A SELECT of a table that a store keeps is answered so: with a reply that it may have at the end of the history, whatever the outside comes to.
+-- Without FINAL it reads the parts as they are, unless it is refused (docs/definitions.md, "SELECT").
+pub record SelectsFrom {F : Type 0} (files_of : F → Option Files) (store : CoreStore F) (kept : Told) (text : SelectText) (arm : ℕ) (reply : List ℕ) : Type 0 where
+  pub takes : Selected kept text arm store.opened reply
+  pub plain : text.is_final ≡ false → IsRefusal reply ⊎ ((snap : Snap (Part F)) × IsSnapOf store text.table snap × ReadsParts files_of snap text reply)
+
+-- the same where the statement is one (docs/definitions.md, "SELECT")
+abbrev pub SelectsAsAsked : {F : Type 0} → (F → Option Files) → CoreStore F → Told → Item → ℕ → Result (List ℕ) NoMemory → Type 0
+SelectsAsAsked files_of store kept (Ok (statement.Select text)) arm result = IfOk result (SelectsFrom files_of store kept text arm)
+SelectsAsAsked files_of store kept (Ok (statement.Create c)) arm result = Unit {0}
+SelectsAsAsked files_of store kept (Ok (statement.Insert i)) arm result = Unit {0}
+SelectsAsAsked files_of store kept (Ok (statement.Explain s)) arm result = Unit {0}
+SelectsAsAsked files_of store kept (Ok (statement.Optimize o)) arm result = Unit {0}
+SelectsAsAsked files_of store kept (Err why) arm result = Unit {0}

@@ -1,5 +1,5 @@
 -- The turns of an INSERT: one for each partition of its rows, in a turn of its own (docs/definitions-of-runs.md, "Turns").
-use Rattle.std.specs.Prelude.{◌≡◌, ◌⊎◌, ℕ, true, false, List, [], ◌∷◌, ◌++◌, map, reverse, Option, Some, Result, Ok, Err}
+use Rattle.std.specs.Prelude.{◌≡◌, ◌⊎◌, ℕ, true, false, List, [], ◌∷◌, ◌++◌, All, map, reverse, Option, Some, Result, Ok, Err}
 use Rattle.mt_base.specs.declared.memory.NoMemory.{NoMemory}
 use Rattle.mt_values.specs.declared.command.Command.{Command}
 use Rattle.mt_values.specs.declared.schema.Schema.{Schema}
@@ -7,12 +7,15 @@ use Rattle.mt_values.specs.Annals.{Told, began, noted}
 use Rattle.mt_outside.specs.Files.{Files}
 use Rattle.replies.specs.mt_model.History.{IsInsertInto}
 use Rattle.replies.specs.mt_model.Outside.{Outside}
+use Rattle.replies.specs.mt_model.Reply.{ok_line}
 use Rattle.replies.specs.mt_model.Session.{RefusedInTurn, TurnAllows}
 use Rattle.shared_store.specs.durable_commit.Commits.{entry_of}
 use Rattle.shared_store.specs.root_commits.Commits.{IsSealedOf, insert_into, insert_of_block, partition_of_block}
 use Rattle.shared_store.specs.root_store.Soundness.{RootStands}
-use Rattle.shared_store.specs.root_store.Stores.{CoreStands}
+use Rattle.shared_store.specs.root_store.declared.store.CoreStore.{CoreStore}
+use Rattle.shared_store.specs.root_store.Stores.{CoreStands, table_at}
 use Rattle.replies.specs.Foreseen.{Foresees, history, is_unsettled}
+use Rattle.shared_store.specs.Engines.{Opened, schema_kept}
 use Rattle.shared_store.specs.Levels.{has_greatest}
 use Rattle.session.specs.Answers.{Turned}
 use Rattle.session.specs.declared.sealing.SealedBlock.{SealedBlock}
@@ -44,6 +47,16 @@ part_command schema table s = insert_of_block table (partition_of_block schema s
 -- the commands of parts, in the order of their turns (docs/definitions-of-runs.md, "Turns")
 abbrev pub commands_in_turn : {S : Type 0} → Schema → List ℕ → List (SealedBlock S) → List Command
 commands_in_turn schema table parts = map (part_command schema table) (in_turn parts)
+
+-- what was sealed is the block's part, of the table that a store keeps (docs/formats.md, "Parts")
+pub record IsPartAt {F S : Type 0} (store : CoreStore F) (table : List ℕ) (s : SealedBlock S) (schema : Schema) : Type 0 where
+  pub has : schema_kept (table_at store table) ≡ Some schema
+  pub is : IsPartFor schema s
+
+-- the same of all parts (docs/formats.md, "Parts")
+pub record ArePartsAt {F S : Type 0} (store : CoreStore F) (table : List ℕ) (parts : List (SealedBlock S)) (schema : Schema) : Type 0 where
+  pub has : schema_kept (table_at store table) ≡ Some schema
+  pub are : All (IsPartFor schema) (in_turn parts)
 
 -- ---- one turn
 
@@ -93,8 +106,12 @@ abbrev pub reply_in : TurnReply → List ℕ
 reply_in (Accepted reply) = reply
 reply_in (Refused reply) = reply
 
--- what is so of the reply where the command was accepted (docs/replies.md)
-abbrev pub IfAccepted : Result TurnReply NoMemory → (List ℕ → Type 0) → Type 0
-IfAccepted (Ok (Accepted reply)) P = P reply
-IfAccepted (Ok (Refused reply)) P = Unit {0}
-IfAccepted (Err why) P = Unit {0}
+abbrev pub replied : Result TurnReply NoMemory → Result (List ℕ) NoMemory
+replied (Ok x) = Ok (reply_in x)
+replied (Err why) = Err why
+
+-- where the command was accepted, the reply has the length of the history, and no call of the disk failed (docs/replies.md)
+abbrev pub IsAcceptedAs : {F : Type 0} → Opened F → Opened F → Result TurnReply NoMemory → Type 0
+IsAcceptedAs was now (Ok (Accepted reply)) = (reply ≡ ok_line now.store.length) × (now.storage.failed ≡ was.storage.failed)
+IsAcceptedAs was now (Ok (Refused reply)) = Unit {0}
+IsAcceptedAs was now (Err why) = Unit {0}

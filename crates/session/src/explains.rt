@@ -1,14 +1,13 @@
 // Running an EXPLAIN: a table is pinned in one turn, and what a SELECT would read of its parts is counted outside of it. No file is read.
-ghost use Rattle.std.specs.Prelude.{◌≡◌, ℕ, false, IfOk};
+ghost use Rattle.std.specs.Prelude.{◌≡◌, ℕ, IfOk};
 ghost use Rattle.mt_values.specs.Annals.{Told};
 ghost use Rattle.replies.specs.mt_model.History.{IsTableSchema};
-ghost use Rattle.replies.specs.mt_model.Refusals.{is_damage};
-ghost use Rattle.replies.specs.Causes.{HasCauses};
 ghost use Rattle.replies.specs.Foreseen.{Explained, history};
 ghost use Rattle.shared_store.specs.root_store.declared.store.CoreStore.{CoreStore};
 ghost use Rattle.shared_store.specs.root_store.Stores.{CoreStands};
+ghost use Rattle.shared_store.specs.Engines.{IsSnapOf};
 ghost use Rattle.session.specs.Answers.{Knows};
-ghost use Rattle.shared_store.specs.Engines.{IsOpen, IsSnapOf};
+ghost use Rattle.session.specs.Lapses.{Accounts, Never, still};
 
 use mt_base::{NoMemory, Stop};
 use mt_outside::{Arm, Dir, Disk};
@@ -32,8 +31,7 @@ pub fn count_reads<F: Dir>(
     requires { IsTableSchema snap.now.schema }
     ensures answers { (kept : Told) (store : CoreStore F) → CoreStands F.files (history kept) store
         → IsSnapOf store text.now.table snap.now → IfOk result (Explained kept text.now) }
-    ensures undamaged { IfOk result (λ reply. is_damage reply ≡ false) }
-    ensures causes { (opened disk arm : ℕ) → IfOk result (HasCauses opened disk disk arm arm) }
+    ensures accounts { (opened disk arm : ℕ) → Accounts (still opened disk arm arm) Never result }
 {
     let query = match query_of(alloc, snap.schema.columns.as_slice(), text) {
         Ok(query) => query,
@@ -55,15 +53,9 @@ pub fn explain<F: Dir, R: Arm<Dir = F>, D: Disk<Arm = R>, A: Annals>(
     engine: &mut Engine<F, R, D, A>,
     text: &SelectText,
 ) -> Result<Reply, NoMemory>
-    // What is answered, and why.
     ensures answers { (kept : Told) → Knows F.files kept engine.old
         → IfOk result (Explained kept text.now) }
-    ensures undamaged { IfOk result (λ reply. is_damage reply ≡ false) }
-    ensures causes { (opened disk arm : ℕ) → IfOk result (HasCauses opened disk disk arm arm) }
-
-    ensures open { IsOpen engine.old }
-
-    // What stays.
+    ensures accounts { (opened disk arm : ℕ) → Accounts (still opened disk arm arm) Never result }
     ensures stays { engine.new ≡ engine.old }
 {
     let Some(snap) = engine.snapshot(alloc, &text.table)? else {

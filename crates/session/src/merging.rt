@@ -1,12 +1,11 @@
 // A work of parts, merged and put in its place, or given up.
-ghost use Rattle.std.specs.Prelude.{◌≡◌, ◌<◌, Some, true, IfErr, IfOk, IsSome, length};
-ghost use Rattle.replies.specs.mt_model.declared.refusal.Bound.TheVariants as bound;
+ghost use Rattle.std.specs.Prelude.{◌≡◌, ◌<◌, true, IfErr, IfOk, length};
 ghost use Rattle.replies.specs.mt_model.declared.refusal.Refusal.TheVariants as refusal;
 ghost use Rattle.replies.specs.mt_model.History.{IsTableSchema};
 ghost use Rattle.replies.specs.mt_model.Refusals.{refusal_line};
-ghost use Rattle.session.specs.Merges.{ChangesOwn, IsTaken, IsUnreadLine, Lapse, Merges, SealsWork};
-ghost use Rattle.shared_store.specs.Engines.{Opened};
-ghost use Rattle.shared_store.specs.Levels.{any_greatest};
+ghost use Rattle.shared_store.specs.Engines.{GoesOn};
+ghost use Rattle.session.specs.Lapses.{lapse};
+ghost use Rattle.session.specs.Merges.{EndsWork, IsUnreadLine, SealsWork};
 
 use crate::give_back_part;
 use crate::stopped::refused_line;
@@ -47,11 +46,11 @@ fn unread_line(
     }
 }
 
-/// Puts the part that a work's parts became in their place, or gives it back to the arm. The reply where it was refused, and none
-/// where it was put.
+/// Puts the part that a work's parts became in their place, or gives it back to the arm: also where a source is gone. The reply where it
+/// was refused, else none.
 ///
-/// `NoMemory` where an allocation failed; the root is as it was before the work was taken, and no count of faults rose.
-fn put_work<F: Dir, R: Arm<Dir = F>, D: Disk<Arm = R>, A: Annals>(
+/// `NoMemory` where an allocation failed; no count of faults rose.
+fn put_part<F: Dir, R: Arm<Dir = F>, D: Disk<Arm = R>, A: Annals>(
     alloc: Global,
     engine: &mut Engine<F, R, D, A>,
     arm: &mut R,
@@ -60,30 +59,20 @@ fn put_work<F: Dir, R: Arm<Dir = F>, D: Disk<Arm = R>, A: Annals>(
     part: SealedPart<R::Stage>,
     unsettled: Reply,
 ) -> Result<Option<Reply>, NoMemory>
+    requires some { 0 < length work.sources.items }
     requires none_failed { part.sealed.failed ≡ 0 }
     requires unsettled { unsettled ≡ refusal_line (refusal.Unsettled 0) }
     requires sealed { R.tells arm.old ≡ true
         → SealsWork F.files work part.sealed.files part.loaded }
-    ensures merges { (was : Opened F) → IsTaken F.files was engine.old work →
-        let m : Lapse F = record {
-          was = was;
-          now = engine.new;
-          tells = R.tells arm.old;
-          arm_was = R.failed arm.old;
-          arm = R.failed arm.new;
-        } in
-        Merges F.files m (any_greatest work.sources.items) result }
-    ensures levels { (was : Opened F) → IsTaken F.files was engine.old work
-        → any_greatest work.sources.items ≡ true → IfOk result
-        (λ found. found ≡ Some (refusal_line (refusal.Past bound.Levels))) }
-    ensures changes { (was : Opened F) → IsTaken F.files was engine.old work
-        → ChangesOwn was.store engine.new.store work result }
+    ensures ends { EndsWork R.Stage F.files (R.tells arm.old ≡ true) table.now work
+        (lapse engine.old engine.new (R.failed arm.old) (R.failed arm.new)) result }
+    ensures goes_on { GoesOn engine.old engine.new }
     ensures tells { R.tells arm.new ≡ R.tells arm.old }
 {
-    match engine.put_merge(alloc, work, part) {
+    match engine.put_work(alloc, work, part) {
         Ok(Put::Done) => Ok(None),
-        Ok(Put::Gone(part)) => {
-            give_back_part(arm, Some(part));
+        Ok(Put::Gone { part: _, back }) => {
+            give_back_part(arm, Some(back));
             Ok(None)
         }
         Err(Returned { cause, back }) => {
@@ -94,10 +83,10 @@ fn put_work<F: Dir, R: Arm<Dir = F>, D: Disk<Arm = R>, A: Annals>(
     }
 }
 
-/// Merges the parts of a work and puts what they became in their place, or gives the work up: no mark of it stands then. The reply
-/// where it was refused, and none where it was put.
+/// Merges the parts of a work and puts what they became in their place, or lets the work go. The reply where it was refused, and none
+/// where it was put, or where a source was gone by then.
 ///
-/// `NoMemory` where an allocation failed; the root is as it was before the work was taken, and no count of faults rose.
+/// `NoMemory` where an allocation failed; no count of faults rose.
 pub fn merge_work<F: Dir, R: Arm<Dir = F>, D: Disk<Arm = R>, A: Annals>(
     alloc: Global,
     engine: &mut Engine<F, R, D, A>,
@@ -110,24 +99,14 @@ pub fn merge_work<F: Dir, R: Arm<Dir = F>, D: Disk<Arm = R>, A: Annals>(
     requires schema { IsTableSchema work.schema }
     requires failed { replies.failed ≡ refusal_line refusal.Failed }
     requires unsettled { replies.unsettled ≡ refusal_line (refusal.Unsettled 0) }
-    ensures merges { (was : Opened F) → IsTaken F.files was engine.old work →
-        let m : Lapse F = record {
-          was = was;
-          now = engine.new;
-          tells = R.tells arm.old;
-          arm_was = R.failed arm.old;
-          arm = R.failed arm.new;
-        } in
-        Merges F.files m (any_greatest work.sources.items) result }
-    ensures levels { (was : Opened F) → IsTaken F.files was engine.old work
-        → any_greatest work.sources.items ≡ true → IfOk result (λ found. IsSome found) }
-    ensures changes { (was : Opened F) → IsTaken F.files was engine.old work
-        → ChangesOwn was.store engine.new.store work result }
+    ensures ends { EndsWork R.Stage F.files (R.tells arm.old ≡ true) table.now work
+        (lapse engine.old engine.new (R.failed arm.old) (R.failed arm.new)) result }
+    ensures goes_on { GoesOn engine.old engine.new }
     ensures tells { R.tells arm.new ≡ R.tells arm.old }
 {
     let MergeReplies { failed, unsettled } = replies;
     match merge_parts(alloc, arm, &work.schema, work.sources.as_slice()) {
-        Ok(part) => put_work(alloc, engine, arm, table, work, part, unsettled),
+        Ok(part) => put_part(alloc, engine, arm, table, work, part, unsettled),
         Err((part, fault)) => {
             engine.drop_work(work);
             let reply = unread_line(alloc, table, &part, fault, failed)?;

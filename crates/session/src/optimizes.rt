@@ -1,7 +1,8 @@
 // Running an OPTIMIZE: parts are taken as a work in one turn, merged outside of any, and what they became is put in their place in
 // another. It adds nothing to the history.
-ghost use Rattle.std.specs.Prelude.{◌≡◌, ◌⊎◌, ◌<◌, ◌≤◌, Ok, true, false, is_some, IfNone, IfOk, IfSome, IsSome, OnErr};
+ghost use Rattle.std.specs.Prelude.{◌≡◌, ◌<◌, ℕ, List, Ok, true, false, is_some, IfOk, IfSome, IsSome};
 ghost use Rattle.std.specs.List.{AllPairs};
+ghost use Rattle.mt_base.specs.declared.partition.Partition.{Partition};
 ghost use Rattle.mt_values.specs.declared.statement.Statement.TheVariants as statement;
 ghost use Rattle.mt_values.specs.Annals.{Told};
 ghost use Rattle.replies.specs.mt_model.Refusals.{is_damage};
@@ -11,11 +12,9 @@ ghost use Rattle.shared_store.specs.part_set.Sets.{parts_of};
 ghost use Rattle.shared_store.specs.root_store.Shown.{HasNoMark};
 ghost use Rattle.shared_store.specs.root_store.Soundness.{HasSoundParts};
 ghost use Rattle.shared_store.specs.root_store.Stores.{table_at};
-ghost use Rattle.replies.specs.Causes.{HasCauses};
-ghost use Rattle.session.specs.Answers.{AcceptsNothing, Answers, Knows, Turned};
-ghost use Rattle.session.specs.Merges.{AllAreFinal, AreFinal, ArePartitionsOf, IsFinalAt, IsNamed, IsRefusal, KeepsBeside, Lapse, Merges};
-ghost use Rattle.shared_store.specs.Engines.{GoesOn, GoesThroughCrashes, IsOpen};
-ghost use Rattle.shared_store.specs.Levels.{LeavesParts};
+ghost use Rattle.session.specs.Answers.{Answers, Knows, met};
+ghost use Rattle.session.specs.Lapses.{Accounts, Leaves, counts, lapse};
+ghost use Rattle.session.specs.Merges.{Any, ArePartitionsOf, EndsAt, Finishes, IsNamed, KeepsBeside, Merges, MergesEach, MergesNamed, MergesWhole, TellsOfTable};
 
 use crate::merging::merge_work;
 use mt_base::{NoMemory, Partition};
@@ -29,10 +28,11 @@ use shared_store::part_set::Kept;
 use shared_store::{Engine, TakeFault};
 use std::alloc::Global;
 
-/// The partitions of parts, each once. Of parts in block order they are ascending.
+/// The partitions of parts in block order, each once, ascending.
 ///
 /// `NoMemory` where an allocation failed.
 fn partitions_of<F: Dir>(alloc: Global, parts: &[Kept<Part<F>>]) -> Result<Vec<Partition>, NoMemory>
+    requires { IsInBlockOrder parts.now }
     ensures { IfOk result (λ found. ArePartitionsOf parts.now found.items) }
 {
     let mut found = Vec::new(alloc);
@@ -61,7 +61,6 @@ fn partitions_there<F: Dir, R: Arm<Dir = F>, D: Disk<Arm = R>, A: Annals>(
         (λ found. is_some found ≡ is_some (table_at engine.old.store table.now)) }
     ensures found { IfOk result (λ found. IfSome found
         (λ v. ArePartitionsOf (parts_of engine.old.store.set table.now) v.items)) }
-    ensures open { IsOpen engine.old }
     ensures stays { engine.new ≡ engine.old }
 {
     let Some(snap) = engine.snapshot(alloc, table)? else {
@@ -83,19 +82,14 @@ fn merge_pair<F: Dir, R: Arm<Dir = F>, D: Disk<Arm = R>, A: Annals>(
     scope: Scope<'_>,
 ) -> Result<Option<Reply>, NoMemory>
     requires there { IsSome (table_at engine.old.store table.now) }
+    requires of { (t : List ℕ) (p : Partition) → InScope scope t p → t ≡ table.now }
     requires free { HasNoMark engine.old.store }
-    ensures merges { let m : Lapse F = record {
-      was = engine.old;
-      now = engine.new;
-      tells = R.tells arm.old;
-      arm_was = R.failed arm.old;
-      arm = R.failed arm.new;
-    } in
-        Merges F.files m false result }
+    ensures merges { Merges F.files (R.tells arm.old ≡ true)
+        (lapse engine.old engine.new (R.failed arm.old) (R.failed arm.new)) false result }
     ensures beside { KeepsBeside (InScope scope.entry) engine.old.store engine.new.store }
+    ensures ends { EndsAt Any Any (TellsOfTable F.files engine.old.store table.now) result }
     ensures tells { R.tells arm.new ≡ R.tells arm.old }
 {
-    engine.is_open();
     let Ok(replies) = merge_replies(alloc) else {
         return Err(NoMemory);
     };
@@ -118,21 +112,12 @@ fn merge_partition<F: Dir, R: Arm<Dir = F>, D: Disk<Arm = R>, A: Annals>(
 ) -> Result<Option<Reply>, NoMemory>
     requires there { IsSome (table_at engine.old.store table.now) }
     requires free { HasNoMark engine.old.store }
-    ensures merges { let m : Lapse F = record {
-      was = engine.old;
-      now = engine.new;
-      tells = R.tells arm.old;
-      arm_was = R.failed arm.old;
-      arm = R.failed arm.new;
-    } in
-        Merges F.files m true result }
-    ensures beside { KeepsBeside (λ t p. (t ≡ table.now) × (p ≡ partition)) engine.old.store
-        engine.new.store }
-    ensures whole { IfOk result (λ found. IfNone found
-        (IsFinalAt engine.old.store engine.new.store table.now partition)) }
+    ensures merges { Merges F.files (R.tells arm.old ≡ true)
+        (lapse engine.old engine.new (R.failed arm.old) (R.failed arm.new)) true result }
+    ensures whole { MergesWhole F.files engine.old.store engine.new.store table.now partition
+        result }
     ensures tells { R.tells arm.new ≡ R.tells arm.old }
 {
-    engine.is_open();
     let Ok(replies) = merge_replies(alloc) else {
         return Err(NoMemory);
     };
@@ -158,21 +143,13 @@ fn merge_partitions<F: Dir, R: Arm<Dir = F>, D: Disk<Arm = R>, A: Annals>(
 ) -> Result<Option<Reply>, NoMemory>
     requires there { IsSome (table_at engine.old.store table.now) }
     requires free { HasNoMark engine.old.store }
-    ensures merges { let m : Lapse F = record {
-      was = engine.old;
-      now = engine.new;
-      tells = R.tells arm.old;
-      arm_was = R.failed arm.old;
-      arm = R.failed arm.new;
-    } in
-        Merges F.files m true result }
-    ensures beside { KeepsBeside (λ t _. t ≡ table.now) engine.old.store engine.new.store }
-    ensures whole { AllPairs (λ a b. partition_rank a < partition_rank b) partitions.now
-        → IfOk result (λ found. IfNone found
-        (AreFinal engine.old.store engine.new.store table.now partitions.now)) }
+    requires ascend { AllPairs (λ a b. partition_rank a < partition_rank b) partitions.now }
+    ensures merges { Merges F.files (R.tells arm.old ≡ true)
+        (lapse engine.old engine.new (R.failed arm.old) (R.failed arm.new)) true result }
+    ensures each { MergesEach F.files engine.old.store engine.new.store table.now partitions.now
+        result }
     ensures tells { R.tells arm.new ≡ R.tells arm.old }
 {
-    engine.is_open();
     for partition in partitions {
         match merge_partition(alloc, engine, arm, table, *partition) {
             Ok(None) => {}
@@ -198,21 +175,11 @@ fn merge_as_asked<F: Dir, R: Arm<Dir = F>, D: Disk<Arm = R>, A: Annals>(
     requires parts { ArePartitionsOf (parts_of engine.old.store.set text.now.table)
         partitions.now }
     requires free { HasNoMark engine.old.store }
-    ensures merges { let m : Lapse F = record {
-      was = engine.old;
-      now = engine.new;
-      tells = R.tells arm.old;
-      arm_was = R.failed arm.old;
-      arm = R.failed arm.new;
-    } in
-        Merges F.files m text.now.whole result }
-    ensures beside { KeepsBeside (IsNamed text.now) engine.old.store engine.new.store }
-    ensures whole { IsInBlockOrder (parts_of engine.old.store.set text.now.table)
-        → text.now.whole ≡ true → IfOk result (λ found. IfNone found
-        (AllAreFinal text.now engine.old.store engine.new.store)) }
+    ensures merges { Merges F.files (R.tells arm.old ≡ true)
+        (lapse engine.old engine.new (R.failed arm.old) (R.failed arm.new)) text.now.whole result }
+    ensures named { MergesNamed F.files text.now engine.old.store engine.new.store result }
     ensures tells { R.tells arm.new ≡ R.tells arm.old }
 {
-    engine.is_open();
     let table = &text.table;
     let id = match &text.partition {
         None if text.whole => return merge_partitions(alloc, engine, arm, table, partitions),
@@ -243,41 +210,23 @@ pub fn optimize<F: Dir, R: Arm<Dir = F>, D: Disk<Arm = R>, A: Annals>(
     requires { HasNoMark engine.old.store }
 
     // What is answered, and why.
-    ensures answers { let turned : Turned F = record {
-      was = engine.old;
-      now = engine.new;
-      arm = R.failed arm.new;
-    } in
-        (kept : Told) → R.tells arm.old ≡ true → Knows F.files kept engine.old
-        → Answers F.files kept (Ok (statement.Optimize text.now)) turned result }
-    ensures causes { IfOk result (HasCauses engine.old.store.opened engine.old.storage.failed
-        engine.new.storage.failed (R.failed arm.old) (R.failed arm.new)) }
-    ensures stopped { engine.old.store.opened < engine.old.storage.failed
-        → AcceptsNothing engine.old engine.new }
+    ensures answers { (kept : Told) → R.tells arm.old ≡ true → Knows F.files kept engine.old
+        → Answers F.files kept (Ok (statement.Optimize text.now))
+        (met engine.old engine.new (R.failed arm.new)) result }
+    ensures accounts { Accounts
+        (counts (lapse engine.old engine.new (R.failed arm.old) (R.failed arm.new)))
+        (TellsOfTable F.files engine.old.store text.now.table) result }
     ensures undamaged { R.tells arm.old ≡ true → HasSoundParts F.files engine.old.store
         → IfOk result (λ reply. is_damage reply ≡ false) }
 
     // Which parts are merged.
     ensures beside { KeepsBeside (IsNamed text.now) engine.old.store engine.new.store }
-    ensures whole { IsInBlockOrder (parts_of engine.old.store.set text.now.table)
-        → text.now.whole ≡ true → IfOk result (λ reply. IsRefusal reply
-        ⊎ AllAreFinal text.now engine.old.store engine.new.store) }
+    ensures whole { text.now.whole ≡ true
+        → IfOk result (Finishes text.now engine.old.store engine.new.store) }
 
-    // What a crash leaves.
-    ensures through_crashes { R.tells arm.old ≡ true
-        → GoesThroughCrashes F.files engine.old engine.new }
-
-    // What the root is then, and what stays.
-    ensures held { R.tells arm.old ≡ true → HasSoundParts F.files engine.old.store
-        → HasSoundParts F.files engine.new.store }
-    ensures parts { LeavesParts engine.old.store engine.new.store }
-    ensures goes_on { GoesOn engine.old engine.new }
-
-    // What the arm is then, and the counts of faults where there is no reply.
+    // What the root and the arm are then.
+    ensures leaves { Leaves F.files (R.tells arm.old ≡ true) engine.old engine.new }
     ensures tells { R.tells arm.new ≡ R.tells arm.old }
-    ensures later { R.failed arm.old ≤ R.failed arm.new }
-    ensures memory { OnErr result ((engine.new.storage.failed ≡ engine.old.storage.failed)
-        × (R.failed arm.new ≡ R.failed arm.old)) }
 {
     let Some(partitions) = partitions_there(alloc, engine, &text.table)? else {
         return no_table_line(alloc, &text.table);

@@ -1,18 +1,8 @@
 // What a SELECT sees of a pinned table's parts: without FINAL the rows as merges left them, with FINAL each key folded wholly.
-ghost use Rattle.std.specs.Prelude.{◌≡◌, ◌≤◌, ◌<◌, ◌^◌, [], ℕ, All, IfErr, IfOk, List, OnOk, length, map};
-ghost use Rattle.replies.specs.mt_model.History.{History, IsTableSchema};
-ghost use Rattle.replies.specs.mt_model.Live.{live};
-ghost use Rattle.mt_outside.specs.Causes.{Rose};
-ghost use Rattle.mt_values.specs.Grid.{Cells};
-ghost use Rattle.final_fold.specs.Asked.{IsWanted};
-ghost use Rattle.final_fold.specs.Scans.{HaveTypes, rows_kept, values_at};
-ghost use Rattle.shared_store.specs.part_reader.Faults.{IsNoDamage};
-ghost use Rattle.shared_store.specs.root_store.declared.store.CoreStore.{CoreStore};
-ghost use Rattle.shared_store.specs.root_store.Soundness.{HoldsRows};
-ghost use Rattle.shared_store.specs.root_store.Stores.{CoreStands};
-ghost use Rattle.select_plan.specs.Plans.{asked_over, planned};
-ghost use Rattle.session.specs.Selects.{ExplainsRead, IsSeen};
-ghost use Rattle.shared_store.specs.Engines.{IsSnapOf};
+ghost use Rattle.std.specs.Prelude.{◌≡◌, ◌<◌, ◌^◌, IfErr, IfOk, IsErrAnd};
+ghost use Rattle.mt_outside.specs.Leaves.{LeavesArm};
+ghost use Rattle.final_fold.specs.Scans.{HaveTypes, rows_kept};
+ghost use Rattle.session.specs.Selects.{AddsSeen, IsPlanFor, IsWantedOf, SaysRead};
 
 use final_fold::{Wanted, add_matches, final_rows};
 use mt_outside::Arm;
@@ -38,41 +28,14 @@ pub fn add_seen<R: Arm>(
     is_final: bool,
     columns: &mut [ColumnData],
 ) -> Result<usize, (PartName, PartFault)>
-    requires schema { snap.now.schema ≡ wanted.now.schema.now }
-    requires table { IsTableSchema wanted.now.schema.now }
-    requires wanted { IsWanted wanted.now }
+    requires wanted { IsWantedOf snap.now wanted.now }
+    requires plan { IsPlanFor plan.now snap.now is_final wanted.now }
     requires columns { HaveTypes wanted.now.schema.now wanted.now.places.now columns.old }
-    requires parts { plan.now.parts.items ≡ planned snap.now is_final wanted.now.condition.now }
-    requires asked { plan.now.asked.items ≡ asked_over snap.now is_final
-        wanted.now.condition.now }
     requires few { rows_kept snap.now.parts.items < 2 ^ 32 }
-
-    // What the columns get.
-    ensures values { (h : History) (store : CoreStore R.Dir) (table : List ℕ)
-        → CoreStands R.Dir.files h store → IsSnapOf store table snap.now
-        → map (λ (c : Cells). c.values) columns.old ≡ values_at [] wanted.now.places.now
-        → IfOk result (IsSeen wanted.now is_final (live table wanted.now.schema.now h)
+    ensures seen { IfOk result (AddsSeen R.Dir.files snap.now is_final wanted.now columns.old
         columns.new) }
-    ensures even { All (λ (c : Cells). length c.values ≡ 0) columns.old
-        → IfOk result (λ count. All (λ (c : Cells). length c.values ≡ count) columns.new) }
-    ensures types { OnOk result (map (λ (c : Cells). c.col_type) columns.new ≡ map
-        (λ (c : Cells). c.col_type) columns.old) }
-    ensures few { IfOk result (λ count. count < 2 ^ 32) }
-
-    // What a fault says.
-    ensures sound { All (HoldsRows R.Dir.files wanted.now.schema.now) snap.now.parts.items
-        → IfErr result (λ e. IsNoDamage e.1) }
-    ensures damaged { IfErr result (ExplainsRead R.Dir.files is_final snap.now.parts.items
-        (planned snap.now is_final wanted.now.condition.now) wanted.now) }
-
-    // What the arm is then, and its count of faults.
-    ensures tells { R.tells arm.new ≡ R.tells arm.old }
-    ensures later { R.failed arm.old ≤ R.failed arm.new }
-    ensures fault { IfErr result
-        (λ e. e.1 ≡ PartFault.Fault → Rose (R.failed arm.old) (R.failed arm.new)) }
-    ensures calm { OnOk result (R.failed arm.new ≡ R.failed arm.old) }
-    ensures calm_err { IfErr result
-        (λ e. (e.1 ≡ PartFault.Fault → ⊥) → R.failed arm.new ≡ R.failed arm.old) }
+    ensures fault { IfErr result (SaysRead R.Dir.files snap.now is_final wanted.now) }
+    ensures arm { LeavesArm R.Arm arm.old arm.new (IsErrAnd result (λ e. e.1 ≡ PartFault.Fault)) }
 {
     let parts = snap.parts.as_slice();
     let chosen = plan.parts.as_slice();

@@ -1,21 +1,18 @@
 // Running a SELECT: a table is pinned in one turn, and its parts are read outside of it.
-ghost use Rattle.std.specs.Prelude.{◌≡◌, ◌≤◌, ◌<◌, ◌^◌, Ok, true, false, ℕ, All, IfOk, OnErr, length};
-ghost use Rattle.mt_values.specs.declared.statement.Statement.TheVariants as statement;
+ghost use Rattle.std.specs.Prelude.{◌≡◌, ◌<◌, ◌^◌, Ok, false, ℕ, All, IfOk};
 ghost use Rattle.mt_values.specs.Annals.{Told};
 ghost use Rattle.replies.specs.mt_model.History.{IsTableSchema};
 ghost use Rattle.replies.specs.mt_model.Refusals.{is_damage};
 ghost use Rattle.replies.specs.mt_model.Queries.{query_of};
 ghost use Rattle.final_fold.specs.Scans.{rows_kept};
-ghost use Rattle.replies.specs.Causes.{HasCauses};
-ghost use Rattle.replies.specs.Foreseen.{Selected, history};
+ghost use Rattle.replies.specs.Foreseen.{history};
 ghost use Rattle.shared_store.specs.root_store.declared.store.CoreStore.{CoreStore};
 ghost use Rattle.shared_store.specs.root_store.Soundness.{HasSoundParts, HoldsRows};
 ghost use Rattle.shared_store.specs.root_store.Stores.{CoreStands};
+ghost use Rattle.shared_store.specs.Engines.{IsSnapOf};
 ghost use Rattle.session.specs.Answers.{Knows};
-ghost use Rattle.session.specs.Selects.{TellsOfDamage};
-ghost use Rattle.shared_store.specs.Engines.{IsOpen, IsSnapOf};
-ghost use Rattle.shared_store.specs.part_set.declared.kept.Snap.{Snap};
-ghost use Rattle.shared_store.specs.part_reader.declared.reading.Part.{Part};
+ghost use Rattle.session.specs.Lapses.{Accounts, still};
+ghost use Rattle.session.specs.Selects.{SelectsFrom, TellsOfDamage, TellsOfSelect};
 
 use crate::seen::add_seen;
 use final_fold::{Wanted, count_rows, pick_columns};
@@ -48,18 +45,13 @@ fn read_matches<R: Arm>(
     // What is answered, and why.
     ensures answers { (kept : Told) (store : CoreStore R.Dir)
         → CoreStands R.Dir.files (history kept) store → IsSnapOf store text.now.table snap.now
-        → IfOk result (λ reply. Selected kept text.now (R.failed arm.new) store.opened reply) }
+        → IfOk result (SelectsFrom R.Dir.files store kept text.now (R.failed arm.new)) }
+    ensures accounts { (opened disk : ℕ)
+        → Accounts (still opened disk (R.failed arm.old) (R.failed arm.new))
+        (TellsOfDamage R.Dir.files snap.now text.now) result }
     ensures undamaged { All (HoldsRows R.Dir.files snap.now.schema) snap.now.parts.items
         → IfOk result (λ reply. is_damage reply ≡ false) }
-    ensures damaged { IfOk result (λ reply. is_damage reply ≡ true
-        → TellsOfDamage R.Dir.files snap.now text.now reply) }
-    ensures causes { (opened disk : ℕ) → IfOk result
-        (HasCauses opened disk disk (R.failed arm.old) (R.failed arm.new)) }
-
-    // What the arm is then, and its count of faults.
     ensures tells { R.tells arm.new ≡ R.tells arm.old }
-    ensures later { R.failed arm.old ≤ R.failed arm.new }
-    ensures memory { OnErr result (R.failed arm.new ≡ R.failed arm.old) }
 {
     let planned = plan(alloc, snap, query, text.is_final)?;
     let picked = pick_columns(alloc, snap.schema.columns.len(), query.places.as_slice())?;
@@ -93,21 +85,15 @@ pub fn scan<R: Arm>(
 ) -> Result<Reply, NoMemory>
     requires { IsTableSchema snap.now.schema }
 
-    // What is answered, and why.
     ensures answers { (kept : Told) (store : CoreStore R.Dir)
         → CoreStands R.Dir.files (history kept) store → IsSnapOf store text.now.table snap.now
-        → IfOk result (λ reply. Selected kept text.now (R.failed arm.new) store.opened reply) }
+        → IfOk result (SelectsFrom R.Dir.files store kept text.now (R.failed arm.new)) }
+    ensures accounts { (opened disk : ℕ)
+        → Accounts (still opened disk (R.failed arm.old) (R.failed arm.new))
+        (TellsOfDamage R.Dir.files snap.now text.now) result }
     ensures undamaged { All (HoldsRows R.Dir.files snap.now.schema) snap.now.parts.items
         → IfOk result (λ reply. is_damage reply ≡ false) }
-    ensures damaged { IfOk result (λ reply. is_damage reply ≡ true
-        → TellsOfDamage R.Dir.files snap.now text.now reply) }
-    ensures causes { (opened disk : ℕ) → IfOk result
-        (HasCauses opened disk disk (R.failed arm.old) (R.failed arm.new)) }
-
-    // What the arm is then, and its count of faults.
     ensures tells { R.tells arm.new ≡ R.tells arm.old }
-    ensures later { R.failed arm.old ≤ R.failed arm.new }
-    ensures memory { OnErr result (R.failed arm.new ≡ R.failed arm.old) }
 {
     let query = match query_of(alloc, snap.schema.columns.as_slice(), text) {
         Ok(query) => query,
@@ -131,24 +117,15 @@ pub fn select<F: Dir, R: Arm<Dir = F>, D: Disk<Arm = R>, A: Annals, G: Gate>(
     gate: &mut G,
     text: &SelectText,
 ) -> Result<Reply, NoMemory>
-    // What is answered, and why.
     ensures answers { (kept : Told) → Knows F.files kept engine.old → IfOk result
-        (λ reply. Selected kept text.now (R.failed arm.new) engine.old.store.opened reply) }
-    ensures causes { (disk : ℕ) → IfOk result (HasCauses engine.old.store.opened disk disk
-        (R.failed arm.old) (R.failed arm.new)) }
+        (SelectsFrom F.files engine.old.store kept text.now (R.failed arm.new)) }
+    ensures accounts { Accounts (still engine.old.store.opened engine.old.storage.failed
+        (R.failed arm.old) (R.failed arm.new))
+        (TellsOfSelect F.files engine.old.store text.now) result }
     ensures undamaged { HasSoundParts F.files engine.old.store
         → IfOk result (λ reply. is_damage reply ≡ false) }
-    ensures damaged { IfOk result (λ reply. is_damage reply ≡ true → (snap : Snap (Part F))
-        × IsSnapOf engine.old.store text.now.table snap
-        × TellsOfDamage F.files snap text.now reply) }
-
-    ensures open { IsOpen engine.old }
-
-    // What stays, and the arm's count of faults.
     ensures stays { engine.new ≡ engine.old }
     ensures tells { R.tells arm.new ≡ R.tells arm.old }
-    ensures later { R.failed arm.old ≤ R.failed arm.new }
-    ensures memory { OnErr result (R.failed arm.new ≡ R.failed arm.old) }
 {
     let Some(snap) = engine.snapshot(alloc, &text.table)? else {
         return no_table_line(alloc, &text.table);

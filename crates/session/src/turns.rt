@@ -1,20 +1,18 @@
 // The turns of an INSERT: one for each of its parts.
-ghost use Rattle.std.specs.Prelude.{◌≡◌, ◌<◌, ◌≤◌, All, IfOk, IsSome, Ok, OnErr, Some, false};
+ghost use Rattle.std.specs.Prelude.{◌≡◌, All, IsSome, Ok, Some};
 ghost use Rattle.mt_values.specs.declared.schema.Schema.{Schema};
 ghost use Rattle.mt_values.specs.declared.statement.InsertText.{InsertText};
 ghost use Rattle.mt_values.specs.declared.statement.Statement.TheVariants as statement;
 ghost use Rattle.mt_values.specs.Annals.{Told};
+ghost use Rattle.mt_outside.specs.Leaves.{LeavesArm};
 ghost use Rattle.replies.specs.mt_model.Commands.{commands_of};
-ghost use Rattle.replies.specs.mt_model.Refusals.{is_damage};
 ghost use Rattle.replies.specs.mt_model.Reply.{ok_line};
-ghost use Rattle.shared_store.specs.root_store.Soundness.{HasSoundParts};
-ghost use Rattle.shared_store.specs.root_store.Stores.{table_at};
-ghost use Rattle.replies.specs.Causes.{HasCauses};
 ghost use Rattle.replies.specs.Foreseen.{history};
-ghost use Rattle.session.specs.Answers.{AcceptsNothing, Answers, Knows, Turned};
-ghost use Rattle.session.specs.Turns.{IfAccepted, InTurn, IsPartFor, IsRowsFor, NoneFailed, TakesTurn, commands_in_turn, in_turn, part_command, reply_in};
-ghost use Rattle.shared_store.specs.Engines.{GoesOn, GoesThroughCrashes, schema_kept};
-ghost use Rattle.shared_store.specs.Levels.{LeavesParts};
+ghost use Rattle.shared_store.specs.root_store.Stores.{table_at};
+ghost use Rattle.shared_store.specs.Engines.{schema_kept};
+ghost use Rattle.session.specs.Answers.{Answers, Knows, met};
+ghost use Rattle.session.specs.Lapses.{Accounts, Leaves, Never, counts, lapse};
+ghost use Rattle.session.specs.Turns.{ArePartsAt, IsAcceptedAs, IsPartAt, IsRowsFor, NoneFailed, TakesTurn, commands_in_turn, in_turn, part_command, replied};
 
 use crate::sealing::{SealedBlock, give_back_part, give_back_parts};
 use crate::stopped::refused_line;
@@ -54,49 +52,25 @@ fn commit_block<F: Dir, R: Arm<Dir = F>, D: Disk<Arm = R>, A: Annals>(
     requires none_failed { NoneFailed sealed }
 
     // What is answered, and why.
-    ensures answers { let turned : Turned F = record {
-      was = engine.old;
-      now = engine.new;
-      arm = R.failed arm.new;
-    } in
-        (kept : Told) (schema : Schema) → Knows F.files kept engine.old
-        → schema_kept (table_at engine.old.store table.now) ≡ Some schema
-        → IsPartFor schema sealed → TakesTurn F.files kept
+    ensures answers { (kept : Told) (schema : Schema) → Knows F.files kept engine.old
+        → IsPartAt engine.old.store table.now sealed schema → TakesTurn F.files kept
         (record { command = part_command schema table.now sealed; before = accepted })
-        turned result }
-    ensures accepted { IfAccepted result (λ reply. reply ≡ ok_line engine.new.store.length) }
-    ensures causes { IfOk result (λ reply. HasCauses engine.old.store.opened
-        engine.old.storage.failed engine.new.storage.failed (R.failed arm.old) (R.failed arm.new)
-        (reply_in reply)) }
-    ensures stopped { engine.old.store.opened < engine.old.storage.failed
-        → AcceptsNothing engine.old engine.new }
-    ensures undamaged { IfOk result (λ reply. is_damage (reply_in reply) ≡ false) }
+        (met engine.old engine.new (R.failed arm.new)) result }
+    ensures accepted { IsAcceptedAs engine.old engine.new result }
+    ensures accounts { Accounts
+        (counts (lapse engine.old engine.new (R.failed arm.old) (R.failed arm.new))) Never
+        (replied result) }
 
-    // What a crash leaves.
-    ensures through_crashes { (schema : Schema)
-        → schema_kept (table_at engine.old.store table.now) ≡ Some schema
-        → IsPartFor schema sealed → GoesThroughCrashes F.files engine.old engine.new }
-
-    // What the root is then, and what stays.
-    ensures held { (schema : Schema)
-        → schema_kept (table_at engine.old.store table.now) ≡ Some schema
-        → IsPartFor schema sealed → HasSoundParts F.files engine.old.store
-        → HasSoundParts F.files engine.new.store }
-    ensures parts { LeavesParts engine.old.store engine.new.store }
-    ensures goes_on { GoesOn engine.old engine.new }
+    // What the root and the arm are then.
+    ensures leaves { Leaves F.files
+        ((schema : Schema) × IsPartAt engine.old.store table.now sealed schema) engine.old
+        engine.new }
     ensures schema { schema_kept (table_at engine.new.store table.now)
         ≡ schema_kept (table_at engine.old.store table.now) }
-
-    // What the arm is then, and the counts of faults where the part was added, and where there is no reply.
-    ensures tells { R.tells arm.new ≡ R.tells arm.old }
-    ensures calm { R.failed arm.new ≡ R.failed arm.old }
-    ensures calm_disk { IfAccepted result
-        (λ _. engine.new.storage.failed ≡ engine.old.storage.failed) }
-    ensures memory { OnErr result (engine.new.storage.failed ≡ engine.old.storage.failed) }
+    ensures arm { LeavesArm R.Arm arm.old arm.new ⊥ }
 {
-    engine.is_open();
     let SealedBlock { part, block } = sealed;
-    let replies = match replies_after(alloc, engine.look(), accepted) {
+    let replies = match replies_after(alloc, accepted) {
         Ok(replies) => replies,
         Err(NoMemory) => {
             give_back_part(arm, Some(part));
@@ -104,7 +78,7 @@ fn commit_block<F: Dir, R: Arm<Dir = F>, D: Disk<Arm = R>, A: Annals>(
         }
     };
     match engine.insert(alloc, 0, table, part, block) {
-        Ok(_) => Ok(TurnReply::Accepted(replies.accepted)),
+        Ok(length) => Ok(TurnReply::Accepted(replies.accepted.fill(length))),
         Err(Returned { cause, back }) => {
             give_back_part(arm, back);
             let reply = refused_line(alloc, accepted, table, cause, replies.unsettled)?;
@@ -133,43 +107,22 @@ pub fn commit_parts<F: Dir, R: Arm<Dir = F>, D: Disk<Arm = R>, A: Annals>(
     requires unchanged { unchanged ≡ ok_line engine.old.store.length }
 
     // What is answered, and why.
-    ensures answers { let turned : Turned F = record {
-      was = engine.old;
-      now = engine.new;
-      arm = R.failed arm.new;
-    } in
-        (kept : Told) (schema : Schema) (text : InsertText) → Knows F.files kept engine.old
-        → schema_kept (table_at engine.old.store table.now) ≡ Some schema
-        → All (IsPartFor schema) (in_turn parts.items)
+    ensures answers { (kept : Told) (schema : Schema) (text : InsertText)
+        → Knows F.files kept engine.old
+        → ArePartsAt engine.old.store table.now parts.items schema
         → commands_of (history kept) (statement.Insert text)
         ≡ Ok (commands_in_turn schema table.now parts.items)
-        → Answers F.files kept (Ok (statement.Insert text)) turned result }
-    ensures causes { IfOk result (HasCauses engine.old.store.opened engine.old.storage.failed
-        engine.new.storage.failed (R.failed arm.old) (R.failed arm.new)) }
-    ensures stopped { engine.old.store.opened < engine.old.storage.failed
-        → AcceptsNothing engine.old engine.new }
-    ensures undamaged { IfOk result (λ reply. is_damage reply ≡ false) }
+        → Answers F.files kept (Ok (statement.Insert text))
+        (met engine.old engine.new (R.failed arm.new)) result }
+    ensures accounts { Accounts
+        (counts (lapse engine.old engine.new (R.failed arm.old) (R.failed arm.new))) Never result }
 
-    // What a crash leaves.
-    ensures through_crashes { (schema : Schema)
-        → schema_kept (table_at engine.old.store table.now) ≡ Some schema
-        → All (IsPartFor schema) (in_turn parts.items)
-        → GoesThroughCrashes F.files engine.old engine.new }
-
-    // What the root is then, and what stays.
-    ensures held { (schema : Schema)
-        → schema_kept (table_at engine.old.store table.now) ≡ Some schema
-        → All (IsPartFor schema) (in_turn parts.items) → HasSoundParts F.files engine.old.store
-        → HasSoundParts F.files engine.new.store }
-    ensures parts { LeavesParts engine.old.store engine.new.store }
-    ensures goes_on { GoesOn engine.old engine.new }
-
-    // What the arm is then, and the counts of faults where there is no reply.
-    ensures tells { R.tells arm.new ≡ R.tells arm.old }
-    ensures calm { R.failed arm.new ≡ R.failed arm.old }
-    ensures memory { OnErr result (engine.new.storage.failed ≡ engine.old.storage.failed) }
+    // What the root and the arm are then.
+    ensures leaves { Leaves F.files
+        ((schema : Schema) × ArePartsAt engine.old.store table.now parts.items schema) engine.old
+        engine.new }
+    ensures arm { LeavesArm R.Arm arm.old arm.new ⊥ }
 {
-    engine.is_open();
     let mut reply = unchanged;
     let mut accepted = 0;
     'turns: while let Some(sealed) = parts.pop() {

@@ -1,22 +1,25 @@
 use Rattle.std.proofs.lemmas.Result.{IfOk-weaker}
-use Rattle.std.proofs.Common.{◌≡◌, ◌∙◌, List, Ok, length, map, sym, ap, subst, arith}
+use Rattle.std.proofs.Common.{◌≡◌, ◌∙◌, List, Ok, length, map, refl, sym, ap, subst, arith}
 use Rattle.mt_base.specs.Stops.{Refuses}
 use Rattle.mt_values.specs.declared.schema.Column.{Column}
 use Rattle.replies.specs.mt_model.Explain.{Portion, counts_of, explain_line}
 use Rattle.replies.specs.mt_model.Queries.{query_of}
+use Rattle.replies.specs.mt_model.Refusals.{is_damage, refusal_line}
 use Rattle.replies.proofs.MtModelCauses.{query_is_cause, undamaged_line}
 use Rattle.final_fold.proofs.PartHistoryPortions.{portions_stand}
 use Rattle.final_fold.specs.part_history.Parts.{portion_of}
-use Rattle.replies.proofs.Causing.{says_script}
+use Rattle.replies.proofs.Causing.{says_answer, says_script}
 use Rattle.replies.proofs.Ends.{length_history}
 use Rattle.replies.proofs.Refusing.{explain_refused, explains_all}
 use Rattle.replies.proofs.Undamaged.{line_of}
 use Rattle.replies.specs.Foreseen.{history}
 use Rattle.shared_store.specs.root_store.Stores.{core_parts}
 use Rattle.select_plan.specs.Plans.{counts_over}
+use Rattle.session.specs.Lapses.{Never}
 use Rattle.session.proofs.Accepting.{refused_as}
 use Rattle.session.proofs.Asking.{query_is}
 use Rattle.session.proofs.Explaining.{counts_are, explains, plan_is}
+use Rattle.session.proofs.Leaving.{accounts_still}
 use Rattle.session.proofs.SelectStanding.{snap_held, snap_schema}
 use Rattle.session.proofs.explains.count_reads.Goals as goal
 
@@ -36,21 +39,15 @@ returns-in-Err-Refused-clause-answers g c = λ kept store stands pinned.
     IfOk-weaker c.refused.result _ _ (λ line is n. explain_refused n kept line text c.in-Err-Refused.refusal (query_is text (history kept) c.args.snap.now.schema there ∙ asked) is)
     (refused_as _ c.in-Err-Refused.refusal c.refused.result c.in-Err-Refused.refusal-is c.refused.ensures)
 
-pub returns-in-Err-Refused-clause-undamaged : goal.returns-in-Err-Refused-clause-undamaged
-returns-in-Err-Refused-clause-undamaged g c =
+pub returns-in-Err-Refused-clause-accounts : goal.returns-in-Err-Refused-clause-accounts
+returns-in-Err-Refused-clause-accounts g c = λ opened disk arm.
     let text = c.args.text.now in
+    let why = c.in-Err-Refused.refusal in
     let asked = ap (λ (cs : List Column). query_of cs text) (sym c.as_slice.ensures)
     ∙ subst (Refuses (query_of c.as_slice.result.now text)) c.in-Err-Refused.field-0-is c.in-Err-Refused.ensures in
-    IfOk-weaker c.refused.result _ _ (λ line is. line_of line c.in-Err-Refused.refusal is (undamaged_line c.in-Err-Refused.refusal (query_is_cause c.args.snap.now.schema.columns text c.in-Err-Refused.refusal asked)))
-    (refused_as _ c.in-Err-Refused.refusal c.refused.result c.in-Err-Refused.refusal-is c.refused.ensures)
-
-pub returns-in-Err-Refused-clause-causes : goal.returns-in-Err-Refused-clause-causes
-returns-in-Err-Refused-clause-causes g c = λ opened disk arm.
-    let text = c.args.text.now in
-    let asked = ap (λ (cs : List Column). query_of cs text) (sym c.as_slice.ensures)
-    ∙ subst (Refuses (query_of c.as_slice.result.now text)) c.in-Err-Refused.field-0-is c.in-Err-Refused.ensures in
-    IfOk-weaker c.refused.result _ _ (λ line is. says_script opened disk disk arm arm line c.in-Err-Refused.refusal is (query_is_cause c.args.snap.now.schema.columns text c.in-Err-Refused.refusal asked))
-    (refused_as _ c.in-Err-Refused.refusal c.refused.result c.in-Err-Refused.refusal-is c.refused.ensures)
+    let caused = query_is_cause c.args.snap.now.schema.columns text why asked in
+    accounts_still Never opened disk arm c.refused.result (λ reply. reply ≡ refusal_line why) (refused_as _ why c.refused.result c.in-Err-Refused.refusal-is c.refused.ensures)
+    (λ reply is. says_script opened disk disk arm arm reply why is caused) (λ reply is. line_of reply why is (undamaged_line why caused))
 
 -- the numbers of the plan
 pub returns-clause-answers : goal.returns-clause-answers
@@ -71,3 +68,7 @@ returns-clause-answers g c = λ kept store stands pinned.
     IfOk-weaker c.explained.result _ _ (λ reply is n.
     explains_all n kept reply text (explains (history kept) text schema q ps c.in-Some.counts (length kept.list) reply there asked
     (portions_stand (history kept) text.table schema there (core_parts text.table snap.parts.items held.rows) held.stand) counted (is ∙ ap (explain_line c.in-Some.counts) place))) c.explained.ensures
+
+pub returns-clause-accounts : goal.returns-clause-accounts
+returns-clause-accounts g c = λ opened disk arm.
+    accounts_still Never opened disk arm c.explained.result _ c.explained.ensures (λ reply is. says_answer opened disk disk arm arm reply _ is refl) (λ reply is. ap is_damage is)

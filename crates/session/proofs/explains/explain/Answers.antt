@@ -1,10 +1,14 @@
 use Rattle.std.proofs.lemmas.Result.{IfOk-weaker}
-use Rattle.std.proofs.Common.{sym, subst}
+use Rattle.std.proofs.Common.{◌≡◌, inl, sym, ap, subst, arith}
 use Rattle.replies.specs.mt_model.declared.refusal.Refusal.TheVariants as refusal
 use Rattle.replies.specs.mt_model.History.{IsTableSchema}
+use Rattle.replies.specs.mt_model.Refusals.{is_damage, refusal_line}
 use Rattle.replies.specs.Foreseen.{history}
+use Rattle.replies.proofs.Causing.{says_script}
 use Rattle.replies.proofs.Refusing.{explain_refused}
+use Rattle.session.specs.Lapses.{Never}
 use Rattle.session.proofs.Asking.{no_query}
+use Rattle.session.proofs.Leaving.{accounts_still}
 use Rattle.session.proofs.SelectStanding.{no_table}
 use Rattle.shared_store.specs.Engines.{Snaps}
 use Rattle.session.proofs.explains.explain.Goals as goal
@@ -16,6 +20,12 @@ returns-in_default-clause-answers g c = λ kept knows.
     let here = c.args.engine.now in
     let none = no_table g.F.Dir.files (history kept) here.store knows.stands text.table (subst (Snaps here.store text.table) c.in_default.is c.in_ok-snap.ensures.snap) in
     IfOk-weaker c.no_table_line.result _ _ (λ line is n. explain_refused n kept line text (refusal.NoTable text.table) (no_query text (history kept) none) is) c.no_table_line.ensures
+
+pub returns-in_default-clause-accounts : goal.returns-in_default-clause-accounts
+returns-in_default-clause-accounts g c = λ opened disk arm.
+    let why = refusal.NoTable c.args.text.now.table in
+    accounts_still Never opened disk arm c.no_table_line.result (λ reply. reply ≡ refusal_line why) c.no_table_line.ensures
+    (λ reply is. says_script opened disk disk arm arm reply why is (inl (omega arith))) (λ reply is. ap is_damage is)
 
 -- a table of the store has a schema that a table may have
 pub count_reads-reply-requires-after_bounds : goal.count_reads-reply-requires-after_bounds

@@ -1,4 +1,4 @@
-use Rattle.std.proofs.lemmas.Result.{IfErr-weaker, IfOk-weaker}
+use Rattle.std.proofs.lemmas.Result.{IfErr-weaker}
 use Rattle.std.proofs.lemmas.List.Elements.{All-weaker}
 use Rattle.std.proofs.Common.{◌≡◌, ◌<◌, ℕ, All, Bool, List, [], Option, Some, Ok, Err, true, false, IsSome, length, refl, sym, ap, ◌∙◌, subst, arith, inl, IfOk}
 use Rattle.mt_base.specs.Stops.{Refuses}
@@ -22,10 +22,11 @@ use Rattle.replies.proofs.Counting.{line_of_stage}
 use Rattle.replies.proofs.Ends.{length_history}
 use Rattle.replies.proofs.Refusing.{command_refused}
 use Rattle.replies.proofs.Undamaged.{data_line, stage_line}
-use Rattle.session.proofs.Accepting.{accepted_none, answers_kept, in_any_case, nothing_accepted}
+use Rattle.session.specs.Lapses.{Accounts, Never, counts, lapse}
+use Rattle.session.proofs.Accepting.{accepted_none, answers_kept}
+use Rattle.session.proofs.Leaving.{accounts_line, accounts_nothing, leaves_where, never_by}
 use Rattle.mt_outside.proofs.Unfailed.{unfailed}
 use Rattle.shared_store.specs.Engines.{schema_kept}
-use Rattle.replies.specs.Causes.{HasCauses}
 use Rattle.session.specs.Turns.{IsRowsFor, in_turn}
 use Rattle.session.proofs.Progressing.{none_sealed}
 use Rattle.session.proofs.Inserting.{data_is_cause, no_rows, no_such_table, not_empty, parts_come, parts_give, rows_give, rows_refused, rows_signed, some_commands}
@@ -139,90 +140,55 @@ returns-clause-answers g c = λ kept tells knows.
     let types = All-weaker (λ (b : PartitionBlock). b.block.types ≡ block.types) (λ (b : PartitionBlock). b.block.types ≡ column_types schema) (λ b same. same ∙ c.in-Ok.ensures.types) blocks c.in_ok-blocks.ensures.types in
     let same = parts_give schema text.table block.rows blocks parts c.in-Ok-seal_blocks.ensures.blocks c.in_ok-blocks.ensures.blocks types (c.in_ok-blocks.ensures.inserts text.table c.in-Ok.ensures.values (rows_signed text schema block.rows c.in-Ok.ensures.rows)) in
     let gives = ap (commands_for text) there ∙ (rows_give text schema block.rows c.in-Ok.ensures.rows ∙ ap Ok (sym same)) in
-    c.commit_parts.ensures.answers kept schema text knows (sym c.in_ok-schema.ensures.schema ∙ c.in-Some.is) (c.in-Ok-seal_blocks.ensures.sealed tells) gives
+    c.commit_parts.ensures.answers kept schema text knows (record { has = sym c.in_ok-schema.ensures.schema ∙ c.in-Some.is; are = c.in-Ok-seal_blocks.ensures.sealed tells }) gives
 
--- what a crash leaves
-pub returns-clause-through_crashes : goal.returns-clause-through_crashes
-returns-clause-through_crashes g c = λ tells.
-    c.commit_parts.ensures.through_crashes c.in-Some.schema (sym c.in_ok-schema.ensures.schema ∙ c.in-Some.is) (c.in-Ok-seal_blocks.ensures.sealed tells)
-
--- what the outside did where the reply says so
-pub returns-in_default-clause-causes : goal.returns-in_default-clause-causes
-returns-in_default-clause-causes g c =
-    let disk = c.args.engine.now.storage.failed in
+-- what accounts for it
+pub returns-in_default-clause-accounts : goal.returns-in_default-clause-accounts
+returns-in_default-clause-accounts g c =
+    let here = c.args.engine.now in
     let arm = g.R.Arm.failed c.args.arm.now in
-    IfOk-weaker c.no_table_line.result _ _ (λ line is. says_script c.args.engine.now.store.opened disk disk arm arm line (refusal.NoTable c.args.text.now.table) is (inl (omega arith))) c.no_table_line.ensures
+    let why = refusal.NoTable c.args.text.now.table in
+    accounts_nothing Never here arm c.no_table_line.result (λ reply. reply ≡ refusal_line why) c.no_table_line.ensures
+    (λ reply is. says_script here.store.opened here.storage.failed here.storage.failed arm arm reply why is (inl (omega arith))) (λ reply is. ap is_damage is)
 
-pub returns-in-Err-Refused-clause-causes : goal.returns-in-Err-Refused-clause-causes
-returns-in-Err-Refused-clause-causes g c =
+pub returns-in-Err-Refused-clause-accounts : goal.returns-in-Err-Refused-clause-accounts
+returns-in-Err-Refused-clause-accounts g c =
     let text = c.args.text.now in
-    let disk = c.args.engine.now.storage.failed in
+    let here = c.args.engine.now in
     let arm = g.R.Arm.failed c.args.arm.now in
     let schema = c.in-Some.schema in
     let read = subst (Refuses (inserted_rows (column_types schema) (sign_place schema.engine) text.lines text.ended)) c.in-Err-Refused.field-0-is c.in-Err-Refused.ensures.refused in
     let fault = c.in-Err-Refused.fault in
-    IfOk-weaker c.data_line.result _ _ (λ line is. says_script c.args.engine.now.store.opened disk disk arm arm line (refusal_of_data fault) is (data_is_cause text schema fault read))
+    accounts_nothing Never here arm c.data_line.result (λ reply. reply ≡ refusal_line (refusal_of_data fault))
     (subst (λ (f : DataFault). IfOk c.data_line.result (λ line. line ≡ refusal_line (refusal_of_data f))) c.in-Err-Refused.fault-is c.data_line.ensures)
+    (λ reply is. says_script here.store.opened here.storage.failed here.storage.failed arm arm reply (refusal_of_data fault) is (data_is_cause text schema fault read)) (λ reply is. ap is_damage is ∙ data_line fault)
 
-pub returns-then-is_empty-clause-causes : goal.returns-then-is_empty-clause-causes
-returns-then-is_empty-clause-causes g c =
-    let disk = c.args.engine.now.storage.failed in
+pub returns-then-is_empty-clause-accounts : goal.returns-then-is_empty-clause-accounts
+returns-then-is_empty-clause-accounts g c =
+    let here = c.args.engine.now in
     let arm = g.R.Arm.failed c.args.arm.now in
-    says_answer c.args.engine.now.store.opened disk disk arm arm c.in_ok-unchanged.unchanged _ c.in_ok-unchanged.ensures refl
+    accounts_nothing Never here arm (Ok c.in_ok-unchanged.unchanged) (λ reply. reply ≡ ok_line c.look.result) c.in_ok-unchanged.ensures
+    (λ reply is. says_answer here.store.opened here.storage.failed here.storage.failed arm arm reply _ is refl) (λ reply is. ap is_damage is)
 
-pub returns-in-Err-clause-causes : goal.returns-in-Err-clause-causes
-returns-in-Err-clause-causes g c =
-    let disk = c.args.engine.now.storage.failed in
-    IfOk-weaker c.stage_line.result _ _ (λ line is. says_failed c.args.engine.now.store.opened disk disk (g.R.Arm.failed c.args.arm.now) (g.R.Arm.failed c.seal_blocks.new.arm) line c.in-Err.error is
-    (λ e. c.in-Err.ensures.cause.failed (ap Err e))) c.stage_line.ensures.line
+pub returns-in-Err-clause-accounts : goal.returns-in-Err-clause-accounts
+returns-in-Err-clause-accounts g c =
+    let here = c.args.engine.now in
+    let before = g.R.Arm.failed c.args.arm.now in
+    let after = g.R.Arm.failed c.seal_blocks.new.arm in
+    let cause = c.in-Err.ensures.cause in
+    accounts_line (counts (lapse here here before after)) Never c.stage_line.result (IsLineOfStage c.in-Err.error) c.stage_line.ensures.line
+    (λ reply is. says_failed here.store.opened here.storage.failed here.storage.failed before after reply c.in-Err.error is (λ e. cause.failed (ap Err e)))
+    (λ reply is bad. never_by reply (stage_line c.in-Err.error reply is) bad)
+    (IfErr-weaker c.stage_line.result _ _ (λ e calm. (refl, unfailed _ _ c.in-Err.error (λ is. cause.memory (ap Err is)) calm)) c.stage_line.ensures.fault) cause.later
 
-pub returns-clause-causes : goal.returns-clause-causes
-returns-clause-causes g c =
+pub returns-clause-accounts : goal.returns-clause-accounts
+returns-clause-accounts g c =
     let here = c.args.engine.now in
     let now = c.commit_parts.new.engine in
-    subst (λ (n : ℕ). IfOk c.commit_parts.result (HasCauses here.store.opened here.storage.failed now.storage.failed n (g.R.Arm.failed c.commit_parts.new.arm))) c.in-Ok-seal_blocks.ensures.cause.ok c.commit_parts.ensures.causes
+    subst (λ (n : ℕ). Accounts (counts (lapse here now n (g.R.Arm.failed c.commit_parts.new.arm))) Never c.commit_parts.result) c.in-Ok-seal_blocks.ensures.cause.ok c.commit_parts.ensures.accounts
 
--- where the store was stopped before
-pub returns-in_default-clause-stopped : goal.returns-in_default-clause-stopped
-returns-in_default-clause-stopped g c = λ risen. nothing_accepted c.args.engine.now
-
-pub returns-in-Err-Refused-clause-stopped : goal.returns-in-Err-Refused-clause-stopped
-returns-in-Err-Refused-clause-stopped g c = λ risen. nothing_accepted c.args.engine.now
-
-pub returns-then-is_empty-clause-stopped : goal.returns-then-is_empty-clause-stopped
-returns-then-is_empty-clause-stopped g c = λ risen. nothing_accepted c.args.engine.now
-
-pub returns-in-Err-clause-stopped : goal.returns-in-Err-clause-stopped
-returns-in-Err-clause-stopped g c = λ risen. nothing_accepted c.args.engine.now
-
--- the reply does not tell of damage
-pub returns-in_default-clause-undamaged : goal.returns-in_default-clause-undamaged
-returns-in_default-clause-undamaged g c = IfOk-weaker c.no_table_line.result _ _ (λ line is. ap is_damage is) c.no_table_line.ensures
-
-pub returns-in-Err-Refused-clause-undamaged : goal.returns-in-Err-Refused-clause-undamaged
-returns-in-Err-Refused-clause-undamaged g c = IfOk-weaker c.data_line.result _ _ (λ line is. ap is_damage is ∙ data_line _) c.data_line.ensures
-
-pub returns-then-is_empty-clause-undamaged : goal.returns-then-is_empty-clause-undamaged
-returns-then-is_empty-clause-undamaged g c = ap is_damage c.in_ok-unchanged.ensures
-
-pub returns-in-Err-clause-undamaged : goal.returns-in-Err-clause-undamaged
-returns-in-Err-clause-undamaged g c = IfOk-weaker c.stage_line.result _ _ (λ line is. stage_line c.in-Err.error _ is) c.stage_line.ensures.line
-
--- the parts of the store hold rows
-pub returns-clause-held : goal.returns-clause-held
-returns-clause-held g c = λ tells. c.commit_parts.ensures.held c.in-Some.schema (sym c.in_ok-schema.ensures.schema ∙ c.in-Some.is) (c.in-Ok-seal_blocks.ensures.sealed tells)
-
--- without a fault no count rose
-pub returns-in_default-clause-memory : goal.returns-in_default-clause-memory
-returns-in_default-clause-memory g c = in_any_case c.no_table_line.result (refl, refl)
-
-pub returns-in-Err-Refused-clause-memory : goal.returns-in-Err-Refused-clause-memory
-returns-in-Err-Refused-clause-memory g c = in_any_case c.data_line.result (refl, refl)
-
-pub returns-in-Err-clause-memory : goal.returns-in-Err-clause-memory
-returns-in-Err-clause-memory g c =
-    IfErr-weaker c.stage_line.result _ _ (λ e calm. (refl, unfailed _ _ c.in-Err.error (λ is. c.in-Err.ensures.cause.memory (ap Err is)) calm)) c.stage_line.ensures.fault
-
-pub returns-clause-memory : goal.returns-clause-memory
-returns-clause-memory g c =
-    IfErr-weaker c.commit_parts.result _ _ (λ e same. (same, c.commit_parts.ensures.calm ∙ c.in-Ok-seal_blocks.ensures.cause.ok)) c.commit_parts.ensures.memory
+-- what is left
+pub returns-clause-leaves : goal.returns-clause-leaves
+returns-clause-leaves g c =
+    leaves_where g.F.Dir.files _ (g.R.Arm.tells c.args.arm.now ≡ true) c.args.engine.now c.commit_parts.new.engine
+    (λ tells. (c.in-Some.schema, record { has = sym c.in_ok-schema.ensures.schema ∙ c.in-Some.is; are = c.in-Ok-seal_blocks.ensures.sealed tells })) c.commit_parts.ensures.leaves

@@ -28,4 +28,4 @@ loop-kept-preserved g c =
 pub returns : goal.returns
 returns g c =
     let l = c.loop-kept in
-    all_found c.args.parts.now l.kept-index l.found.items l.last (take_all l.kept-index c.args.parts.now c.loop-kept-test.false) l.invariant
+    all_found c.args.parts.now l.kept-index l.found.items l.last (take_all l.kept-index c.args.parts.now c.loop-kept-test.false) c.requires l.invariant

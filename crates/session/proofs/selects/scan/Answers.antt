@@ -1,16 +1,18 @@
 use Rattle.std.proofs.lemmas.Result.{IfOk-weaker}
-use Rattle.std.proofs.Common.{◌∙◌, List, length, sym, ap, subst, arith}
+use Rattle.std.proofs.Common.{◌≡◌, ◌∙◌, List, length, inl, sym, ap, subst, arith}
 use Rattle.mt_base.specs.Stops.{Refuses}
 use Rattle.mt_values.specs.declared.schema.Column.{Column}
 use Rattle.replies.specs.mt_model.Queries.{query_of}
 use Rattle.replies.specs.Foreseen.{history}
-use Rattle.std.proofs.lemmas.Bool.{false≢true}
+use Rattle.replies.specs.mt_model.Refusals.{refusal_line}
 use Rattle.replies.proofs.MtModelCauses.{query_is_cause, undamaged_line}
 use Rattle.replies.proofs.Causing.{says_script}
 use Rattle.replies.proofs.Undamaged.{line_of}
 use Rattle.replies.proofs.Refusing.{select_refused}
+use Rattle.session.specs.Selects.{TellsOfDamage}
 use Rattle.session.proofs.Accepting.{refused_as}
 use Rattle.session.proofs.Asking.{query_is}
+use Rattle.session.proofs.Leaving.{accounts_still}
 use Rattle.session.proofs.SelectStanding.{snap_schema}
 use Rattle.session.proofs.selects.scan.Goals as goal
 
@@ -20,7 +22,10 @@ returns-in-Err-Refused-clause-answers g c = λ kept store stands pinned.
     let there = snap_schema g.R.Dir.Dir.files (history kept) store stands c.args.text.now.table c.args.snap.now pinned in
     let chosen = ap (λ (cs : List Column). query_of cs c.args.text.now) (sym c.as_slice.ensures)
     ∙ subst (Refuses (query_of c.as_slice.result.now c.args.text.now)) c.in-Err-Refused.field-0-is c.in-Err-Refused.ensures in
-    IfOk-weaker c.refused.result _ _ (λ line is n disk full f. select_refused n kept line c.args.text.now c.in-Err-Refused.refusal (query_is c.args.text.now (history kept) c.args.snap.now.schema there ∙ chosen) is) (refused_as _ c.in-Err-Refused.refusal c.refused.result c.in-Err-Refused.refusal-is c.refused.ensures)
+    IfOk-weaker c.refused.result _ _ (λ line is. record {
+      takes = λ n disk full f. select_refused n kept line c.args.text.now c.in-Err-Refused.refusal (query_is c.args.text.now (history kept) c.args.snap.now.schema there ∙ chosen) is;
+      plain = λ _. inl (c.in-Err-Refused.refusal, is);
+    }) (refused_as _ c.in-Err-Refused.refusal c.refused.result c.in-Err-Refused.refusal-is c.refused.ensures)
 
 -- the columns of a table are not too many
 pub query_of-requires : goal.query_of-requires
@@ -40,19 +45,13 @@ returns-in-Err-Refused-clause-undamaged g c = λ held.
     ∙ subst (Refuses (query_of c.as_slice.result.now c.args.text.now)) c.in-Err-Refused.field-0-is c.in-Err-Refused.ensures in
     IfOk-weaker c.refused.result _ _ (λ line is. line_of line c.in-Err-Refused.refusal is (undamaged_line c.in-Err-Refused.refusal (query_is_cause c.args.snap.now.schema.columns c.args.text.now c.in-Err-Refused.refusal chosen))) (refused_as _ c.in-Err-Refused.refusal c.refused.result c.in-Err-Refused.refusal-is c.refused.ensures)
 
--- what it tells where it does
-pub returns-in-Err-Refused-clause-damaged : goal.returns-in-Err-Refused-clause-damaged
-returns-in-Err-Refused-clause-damaged g c =
-    let chosen = ap (λ (cs : List Column). query_of cs c.args.text.now) (sym c.as_slice.ensures)
-    ∙ subst (Refuses (query_of c.as_slice.result.now c.args.text.now)) c.in-Err-Refused.field-0-is c.in-Err-Refused.ensures in
-    IfOk-weaker c.refused.result _ _ (λ line is bad.
-    let none = line_of line c.in-Err-Refused.refusal is (undamaged_line c.in-Err-Refused.refusal (query_is_cause c.args.snap.now.schema.columns c.args.text.now c.in-Err-Refused.refusal chosen)) in
-    absurd (false≢true (sym none ∙ bad))) (refused_as _ c.in-Err-Refused.refusal c.refused.result c.in-Err-Refused.refusal-is c.refused.ensures)
-
--- what the outside did where it says so
-pub returns-in-Err-Refused-clause-causes : goal.returns-in-Err-Refused-clause-causes
-returns-in-Err-Refused-clause-causes g c = λ opened disk.
+-- what accounts for it
+pub returns-in-Err-Refused-clause-accounts : goal.returns-in-Err-Refused-clause-accounts
+returns-in-Err-Refused-clause-accounts g c = λ opened disk.
     let arm = g.R.Arm.failed c.args.arm.now in
+    let why = c.in-Err-Refused.refusal in
     let chosen = ap (λ (cs : List Column). query_of cs c.args.text.now) (sym c.as_slice.ensures)
     ∙ subst (Refuses (query_of c.as_slice.result.now c.args.text.now)) c.in-Err-Refused.field-0-is c.in-Err-Refused.ensures in
-    IfOk-weaker c.refused.result _ _ (λ line is. says_script opened disk disk arm arm line c.in-Err-Refused.refusal is (query_is_cause c.args.snap.now.schema.columns c.args.text.now c.in-Err-Refused.refusal chosen)) (refused_as _ c.in-Err-Refused.refusal c.refused.result c.in-Err-Refused.refusal-is c.refused.ensures)
+    let caused = query_is_cause c.args.snap.now.schema.columns c.args.text.now why chosen in
+    accounts_still (TellsOfDamage g.R.Dir.Dir.files c.args.snap.now c.args.text.now) opened disk arm c.refused.result (λ reply. reply ≡ refusal_line why) (refused_as _ why c.refused.result c.in-Err-Refused.refusal-is c.refused.ensures)
+    (λ reply is. says_script opened disk disk arm arm reply why is caused) (λ reply is. line_of reply why is (undamaged_line why caused))

@@ -1,15 +1,20 @@
 use Rattle.std.proofs.lemmas.Result.{IfOk-weaker}
-use Rattle.std.proofs.Common.{List, All, sym, subst}
+use Rattle.std.proofs.Common.{◌≡◌, List, All, inl, sym, ap, subst, arith}
 use Rattle.mt_values.specs.declared.schema.Schema.{Schema}
 use Rattle.replies.specs.mt_model.declared.refusal.Refusal.TheVariants as refusal
 use Rattle.replies.specs.mt_model.History.{IsTableSchema}
+use Rattle.replies.specs.mt_model.Refusals.{is_damage, refusal_line}
+use Rattle.replies.proofs.Causing.{says_script}
 use Rattle.shared_store.specs.part_reader.declared.reading.Part.{Part}
 use Rattle.shared_store.specs.part_set.declared.kept.Kept.{Kept}
 use Rattle.shared_store.specs.part_set.Sets.{parts_of}
 use Rattle.replies.specs.Foreseen.{history}
 use Rattle.replies.proofs.Refusing.{select_refused}
 use Rattle.shared_store.specs.root_store.Soundness.{HoldsRows}
+use Rattle.session.specs.Lapses.{still}
+use Rattle.session.specs.Selects.{TellsOfDamage, TellsOfSelect}
 use Rattle.session.proofs.Asking.{no_query}
+use Rattle.session.proofs.Leaving.{accounts_still, accounts_where}
 use Rattle.session.proofs.SelectStanding.{no_table}
 use Rattle.shared_store.specs.Engines.{Snaps}
 use Rattle.session.proofs.selects.select.Goals as goal
@@ -20,7 +25,18 @@ returns-in_default-clause-answers g c = λ kept knows.
     let text = c.args.text.now in
     let here = c.args.engine.now in
     let none = no_table g.F.Dir.files (history kept) here.store knows.stands text.table (subst (Snaps here.store text.table) c.in_default.is c.in_ok-snap.ensures.snap) in
-    IfOk-weaker c.no_table_line.result _ _ (λ line is n disk full f. select_refused n kept line text (refusal.NoTable text.table) (no_query text (history kept) none) is) c.no_table_line.ensures
+    IfOk-weaker c.no_table_line.result _ _ (λ line is. record {
+      takes = λ n disk full f. select_refused n kept line text (refusal.NoTable text.table) (no_query text (history kept) none) is;
+      plain = λ _. inl (refusal.NoTable text.table, is);
+    }) c.no_table_line.ensures
+
+pub returns-in_default-clause-accounts : goal.returns-in_default-clause-accounts
+returns-in_default-clause-accounts g c =
+    let here = c.args.engine.now in
+    let arm = g.R.Arm.failed c.args.arm.now in
+    let why = refusal.NoTable c.args.text.now.table in
+    accounts_still (TellsOfSelect g.F.Dir.files here.store c.args.text.now) here.store.opened here.storage.failed arm c.no_table_line.result (λ reply. reply ≡ refusal_line why) c.no_table_line.ensures
+    (λ reply is. says_script here.store.opened here.storage.failed here.storage.failed arm arm reply why is (inl (omega arith))) (λ reply is. ap is_damage is)
 
 -- a table of the store has a schema that a table may have
 pub scan-reply-requires-after_bounds : goal.scan-reply-requires-after_bounds
@@ -39,9 +55,11 @@ returns-clause-undamaged g c = λ held.
     (subst (λ (ps : List (Kept (Part _))). All (HoldsRows g.F.Dir.files c.in-Some.snap.schema) ps) (sym pinned.parts)
     (subst (λ (s : Schema). All (HoldsRows g.F.Dir.files s) (parts_of store.set text.table)) (sym pinned.schema) (held text.table pinned.made pinned.there)))
 
--- what it tells where it does
-pub returns-clause-damaged : goal.returns-clause-damaged
-returns-clause-damaged g c =
+-- what accounts for it
+pub returns-clause-accounts : goal.returns-clause-accounts
+returns-clause-accounts g c =
+    let here = c.args.engine.now in
     let text = c.args.text.now in
-    let pinned = subst (Snaps c.args.engine.now.store text.table) c.in-Some.is c.in_ok-snap.ensures.snap in
-    IfOk-weaker c.scan-reply.result _ _ (λ reply tells bad. (c.in-Some.snap, pinned, tells bad)) c.scan-reply.ensures.damaged
+    let pinned = subst (Snaps here.store text.table) c.in-Some.is c.in_ok-snap.ensures.snap in
+    accounts_where (still here.store.opened here.storage.failed (g.R.Arm.failed c.args.arm.now) (g.R.Arm.failed c.scan-reply.new.arm)) (TellsOfDamage g.F.Dir.files c.in-Some.snap text) (TellsOfSelect g.F.Dir.files here.store text)
+    (λ reply tells. (c.in-Some.snap, pinned, tells)) c.scan-reply.result (c.scan-reply.ensures.accounts here.store.opened here.storage.failed)

@@ -1,13 +1,16 @@
-use Rattle.std.proofs.Common.{◌≡◌, ◌∷◌, [], ℕ, List, Ok, length, refl, sym, ◌∙◌, subst, arith}
+use Rattle.std.proofs.Common.{◌≡◌, ◌∷◌, [], ℕ, List, Ok, Err, length, refl, sym, ◌∙◌, subst, arith}
 use Rattle.mt_values.specs.declared.statement.Statement.TheVariants as statement
-use Rattle.replies.specs.Causes.{HasCauses}
 use Rattle.session.specs.declared.sealing.SealedBlock.{SealedBlock}
-use Rattle.replies.specs.mt_model.Reply.{ok_line}
-use Rattle.session.specs.Answers.{Answered, EndsUnanswered}
 use Rattle.session.specs.declared.turns.TurnReply.{TurnReply}
-use Rattle.session.specs.Turns.{IfAccepted, IsRowsFor, NoneFailed, TakesTurn, part_command, reply_in}
-use Rattle.session.proofs.Running.{causes_same, counted, crashes_next, parts_next, goes_next, held_next, of_next, of_rest, run_done, run_ended, run_on, run_refused, stopped_next}
+use Rattle.session.specs.Answers.{Answered, EndsUnanswered, met}
+use Rattle.session.specs.Lapses.{Accounts, Never, counts, lapse}
+use Rattle.session.specs.Turns.{IsAcceptedAs, IsRowsFor, NoneFailed, TakesTurn, part_command, reply_in}
+use Rattle.session.proofs.Leaving.{arm_stays, arm_stays_on}
+use Rattle.session.proofs.Running.{accounts_next, counted, leaves_next, of_next, of_rest, run_accounts, run_begins, run_done, run_ended, run_on, run_refused}
 use Rattle.session.proofs.turns.commit_parts.Goals as goal
+
+pub turns-init : goal.turns-init
+turns-init g c = record { run = run_begins g.F.Dir.files c.args.table.now c.args.parts.items c.args.engine.now; reply = c.requires.unchanged; arm = arm_stays g.R.Arm c.args.arm.now c.args.arm.now refl refl }
 
 pub commit_block-requires-clause-rows : goal.commit_block-requires-clause-rows
 commit_block-requires-clause-rows g c κs within = λ schema has.
@@ -30,85 +33,68 @@ turns-preserved g c =
     let new = c.commit_block.new.engine in
     let arm = g.R.Arm.failed c.commit_block.new.arm in
     let here = c.turns.engine in
+    let accepted = subst (λ (x : TurnReply). IsAcceptedAs here new (Ok x)) is done.accepted in
     record {
-      run = run_on g.F.Dir.files _ c.turns.invariant.run c.pop.new.self.items c.in-Some.sealed c.in-Some.ensures.items new arm done.goes_on
-          (subst (λ (x : TurnReply). IfAccepted (Ok x) (λ _. new.storage.failed ≡ here.storage.failed)) is done.calm_disk)
-          done.schema done.parts done.stopped done.through_crashes done.held
-          (λ kept schema knows has part. subst (λ (x : TurnReply). TakesTurn g.F.Dir.files kept (record { command = part_command schema c.args.table.now c.in-Some.sealed; before = c.turns.accepted }) (record { was = here; now = new; arm = arm }) (Ok x)) is
-          (done.answers kept schema knows has part));
-      reply = subst (λ (x : TurnReply). IfAccepted (Ok x) (λ reply. reply ≡ ok_line new.store.length)) is done.accepted;
-      tells = done.tells ∙ c.turns.invariant.tells;
-      count = done.calm ∙ c.turns.invariant.count;
+      run = run_on g.F.Dir.files _ c.turns.invariant.run c.pop.new.self.items c.in-Some.sealed c.in-Some.ensures.items new arm done.leaves accepted.1 done.schema
+          (λ kept schema knows at. subst (λ (x : TurnReply). TakesTurn g.F.Dir.files kept (record { command = part_command schema c.args.table.now c.in-Some.sealed; before = c.turns.accepted }) (met here new arm) (Ok x)) is
+          (done.answers kept schema knows at));
+      reply = accepted.0;
+      arm = arm_stays_on g.R.Arm c.args.arm.now c.turns.arm c.commit_block.new.arm c.turns.invariant.arm done.arm.tells (done.arm.calm (λ no. no));
     }
 
 -- a part was not, and no turn comes after
-pub returns-in-Ok-Refused-clause-calm : goal.returns-in-Ok-Refused-clause-calm
-returns-in-Ok-Refused-clause-calm g c =
-    c.give_back_parts.ensures.none_failed (of_rest g.F.Dir.files _ c.turns.invariant.run c.pop.new.self.items c.in-Some.sealed c.in-Some.ensures.items NoneFailed c.requires.none_failed) ∙ (c.commit_block.ensures.calm ∙ c.turns.invariant.count)
+pub returns-in-Ok-Refused-clause-arm : goal.returns-in-Ok-Refused-clause-arm
+returns-in-Ok-Refused-clause-arm g c =
+    let on = arm_stays_on g.R.Arm c.args.arm.now c.turns.arm c.commit_block.new.arm c.turns.invariant.arm c.commit_block.ensures.arm.tells (c.commit_block.ensures.arm.calm (λ no. no)) in
+    arm_stays_on g.R.Arm c.args.arm.now c.commit_block.new.arm c.give_back_parts.new.arm on c.give_back_parts.ensures.tells
+    (c.give_back_parts.ensures.none_failed (of_rest g.F.Dir.files _ c.turns.invariant.run c.pop.new.self.items c.in-Some.sealed c.in-Some.ensures.items NoneFailed c.requires.none_failed))
 
 pub returns-in-Ok-Refused-clause-answers : goal.returns-in-Ok-Refused-clause-answers
-returns-in-Ok-Refused-clause-answers g c = λ kept schema text knows has parts gives.
+returns-in-Ok-Refused-clause-answers g c = λ kept schema text knows parts gives.
     let new = c.commit_block.new.engine in
     let here = c.turns.engine in
     let back = c.give_back_parts.ensures.none_failed (of_rest g.F.Dir.files _ c.turns.invariant.run c.pop.new.self.items c.in-Some.sealed c.in-Some.ensures.items NoneFailed c.requires.none_failed) in
     let arm = g.R.Arm.failed c.commit_block.new.arm in
-    subst (λ (n : ℕ). Answered g.F.Dir.files kept (Ok (statement.Insert text)) (record { was = c.args.engine.now; now = new; arm = n }) c.in-Ok-Refused.line) (sym back)
-    (run_refused g.F.Dir.files _ c.turns.invariant.run c.pop.new.self.items c.in-Some.sealed c.in-Some.ensures.items new arm kept schema text (record { has = has; are = parts }) knows gives c.in-Ok-Refused.line
-    (λ now known still part. subst (λ (x : TurnReply). TakesTurn g.F.Dir.files now (record { command = part_command schema c.args.table.now c.in-Some.sealed; before = c.turns.accepted }) (record { was = here; now = new; arm = arm }) (Ok x)) c.in-Ok-Refused.field-0-is
-    (c.in-Ok-Refused.ensures.answers now schema known still part)))
+    subst (λ (n : ℕ). Answered g.F.Dir.files kept (Ok (statement.Insert text)) (met c.args.engine.now new n) c.in-Ok-Refused.line) (sym back)
+    (run_refused g.F.Dir.files _ c.turns.invariant.run c.pop.new.self.items c.in-Some.sealed c.in-Some.ensures.items new arm kept schema text parts knows gives c.in-Ok-Refused.line
+    (λ now known at. subst (λ (x : TurnReply). TakesTurn g.F.Dir.files now (record { command = part_command schema c.args.table.now c.in-Some.sealed; before = c.turns.accepted }) (met here new arm) (Ok x)) c.in-Ok-Refused.field-0-is
+    (c.in-Ok-Refused.ensures.answers now schema known at)))
 
-pub returns-in-Ok-Refused-clause-causes : goal.returns-in-Ok-Refused-clause-causes
-returns-in-Ok-Refused-clause-causes g c =
+pub returns-in-Ok-Refused-clause-accounts : goal.returns-in-Ok-Refused-clause-accounts
+returns-in-Ok-Refused-clause-accounts g c =
     let new = c.commit_block.new.engine in
     let here = c.turns.engine in
-    let run = c.turns.invariant.run in
     let back = c.give_back_parts.ensures.none_failed (of_rest g.F.Dir.files _ c.turns.invariant.run c.pop.new.self.items c.in-Some.sealed c.in-Some.ensures.items NoneFailed c.requires.none_failed) in
-    causes_same c.args.engine.now.store.opened here.store.opened c.args.engine.now.storage.failed here.storage.failed new.storage.failed (g.R.Arm.failed c.args.arm.now) (g.R.Arm.failed c.turns.arm) (g.R.Arm.failed c.give_back_parts.new.arm)
-    (g.R.Arm.failed c.commit_block.new.arm) c.in-Ok-Refused.line run.goes_on.opened run.calm c.turns.invariant.count (sym back)
-    (subst (λ (x : TurnReply). HasCauses here.store.opened here.storage.failed new.storage.failed (g.R.Arm.failed c.turns.arm) (g.R.Arm.failed c.commit_block.new.arm) (reply_in x)) c.in-Ok-Refused.field-0-is c.in-Ok-Refused.ensures.causes)
+    accounts_next g.F.Dir.files _ c.turns.invariant.run c.pop.new.self.items c.in-Some.sealed c.in-Some.ensures.items new (g.R.Arm.failed c.args.arm.now) (g.R.Arm.failed c.turns.arm) (g.R.Arm.failed c.commit_block.new.arm)
+    (g.R.Arm.failed c.give_back_parts.new.arm) (c.turns.invariant.arm.calm (λ no. no)) (sym back) (Ok c.in-Ok-Refused.line)
+    (subst (λ (x : TurnReply). Accounts (counts (lapse here new (g.R.Arm.failed c.turns.arm) (g.R.Arm.failed c.commit_block.new.arm))) Never (Ok (reply_in x))) c.in-Ok-Refused.field-0-is c.in-Ok-Refused.ensures.accounts)
 
-pub returns-in-Ok-Refused-clause-parts : goal.returns-in-Ok-Refused-clause-parts
-returns-in-Ok-Refused-clause-parts g c = parts_next g.F.Dir.files _ c.turns.invariant.run c.pop.new.self.items c.in-Some.sealed c.in-Some.ensures.items c.commit_block.new.engine 0 c.commit_block.ensures.parts
+pub returns-in-Ok-Refused-clause-leaves : goal.returns-in-Ok-Refused-clause-leaves
+returns-in-Ok-Refused-clause-leaves g c = leaves_next g.F.Dir.files _ c.turns.invariant.run c.pop.new.self.items c.in-Some.sealed c.in-Some.ensures.items c.commit_block.new.engine c.commit_block.ensures.leaves
 
-pub returns-in-Ok-Refused-clause-stopped : goal.returns-in-Ok-Refused-clause-stopped
-returns-in-Ok-Refused-clause-stopped g c = stopped_next g.F.Dir.files _ c.turns.invariant.run c.pop.new.self.items c.in-Some.sealed c.in-Some.ensures.items c.commit_block.new.engine 0 c.commit_block.ensures.stopped
-
-pub returns-in-Ok-Refused-clause-through_crashes : goal.returns-in-Ok-Refused-clause-through_crashes
-returns-in-Ok-Refused-clause-through_crashes g c = λ schema has parts. crashes_next g.F.Dir.files _ c.turns.invariant.run c.pop.new.self.items c.in-Some.sealed c.in-Some.ensures.items c.commit_block.new.engine 0 c.commit_block.ensures.through_crashes schema (record { has = has; are = parts })
-
-pub returns-in-Ok-Refused-clause-held : goal.returns-in-Ok-Refused-clause-held
-returns-in-Ok-Refused-clause-held g c = λ schema has parts. held_next g.F.Dir.files _ c.turns.invariant.run c.pop.new.self.items c.in-Some.sealed c.in-Some.ensures.items c.commit_block.new.engine 0 c.commit_block.ensures.held schema (record { has = has; are = parts })
-
-pub returns-in-Ok-Refused-clause-goes_on : goal.returns-in-Ok-Refused-clause-goes_on
-returns-in-Ok-Refused-clause-goes_on g c = goes_next g.F.Dir.files _ c.turns.invariant.run c.pop.new.self.items c.in-Some.sealed c.in-Some.ensures.items c.commit_block.new.engine 0 c.commit_block.ensures.goes_on
-
-pub returns-in-Err-clause-calm : goal.returns-in-Err-clause-calm
-returns-in-Err-clause-calm g c =
-    c.give_back_parts-in-Err.ensures.none_failed (of_rest g.F.Dir.files _ c.turns.invariant.run c.pop.new.self.items c.in-Some.sealed c.in-Some.ensures.items NoneFailed c.requires.none_failed) ∙ (c.commit_block.ensures.calm ∙ c.turns.invariant.count)
+-- memory ran out
+pub returns-in-Err-clause-arm : goal.returns-in-Err-clause-arm
+returns-in-Err-clause-arm g c =
+    let on = arm_stays_on g.R.Arm c.args.arm.now c.turns.arm c.commit_block.new.arm c.turns.invariant.arm c.commit_block.ensures.arm.tells (c.commit_block.ensures.arm.calm (λ no. no)) in
+    arm_stays_on g.R.Arm c.args.arm.now c.commit_block.new.arm c.give_back_parts-in-Err.new.arm on c.give_back_parts-in-Err.ensures.tells
+    (c.give_back_parts-in-Err.ensures.none_failed (of_rest g.F.Dir.files _ c.turns.invariant.run c.pop.new.self.items c.in-Some.sealed c.in-Some.ensures.items NoneFailed c.requires.none_failed))
 
 pub returns-in-Err-clause-answers : goal.returns-in-Err-clause-answers
-returns-in-Err-clause-answers g c = λ kept schema text knows has parts gives.
+returns-in-Err-clause-answers g c = λ kept schema text knows parts gives.
     let new = c.commit_block.new.engine in
-    let here = c.turns.engine in
     let back = c.give_back_parts-in-Err.ensures.none_failed (of_rest g.F.Dir.files _ c.turns.invariant.run c.pop.new.self.items c.in-Some.sealed c.in-Some.ensures.items NoneFailed c.requires.none_failed) in
     let arm = g.R.Arm.failed c.commit_block.new.arm in
-    subst (λ (n : ℕ). EndsUnanswered g.F.Dir.files kept (Ok (statement.Insert text)) (record { was = c.args.engine.now; now = new; arm = n })) (sym back)
-    (run_ended g.F.Dir.files _ c.turns.invariant.run c.pop.new.self.items c.in-Some.sealed c.in-Some.ensures.items new arm kept schema text (record { has = has; are = parts }) knows gives (λ now known still part. c.in-Err.ensures.answers now schema known still part))
+    subst (λ (n : ℕ). EndsUnanswered g.F.Dir.files kept (Ok (statement.Insert text)) (met c.args.engine.now new n)) (sym back)
+    (run_ended g.F.Dir.files _ c.turns.invariant.run c.pop.new.self.items c.in-Some.sealed c.in-Some.ensures.items new arm kept schema text parts knows gives (λ now known at. c.in-Err.ensures.answers now schema known at))
 
-pub returns-in-Err-clause-parts : goal.returns-in-Err-clause-parts
-returns-in-Err-clause-parts g c = parts_next g.F.Dir.files _ c.turns.invariant.run c.pop.new.self.items c.in-Some.sealed c.in-Some.ensures.items c.commit_block.new.engine 0 c.commit_block.ensures.parts
+pub returns-in-Err-clause-accounts : goal.returns-in-Err-clause-accounts
+returns-in-Err-clause-accounts g c =
+    let back = c.give_back_parts-in-Err.ensures.none_failed (of_rest g.F.Dir.files _ c.turns.invariant.run c.pop.new.self.items c.in-Some.sealed c.in-Some.ensures.items NoneFailed c.requires.none_failed) in
+    accounts_next g.F.Dir.files _ c.turns.invariant.run c.pop.new.self.items c.in-Some.sealed c.in-Some.ensures.items c.commit_block.new.engine (g.R.Arm.failed c.args.arm.now) (g.R.Arm.failed c.turns.arm) (g.R.Arm.failed c.commit_block.new.arm)
+    (g.R.Arm.failed c.give_back_parts-in-Err.new.arm) (c.turns.invariant.arm.calm (λ no. no)) (sym back) (Err c.in-Err.field-0) c.in-Err.ensures.accounts
 
-pub returns-in-Err-clause-stopped : goal.returns-in-Err-clause-stopped
-returns-in-Err-clause-stopped g c = stopped_next g.F.Dir.files _ c.turns.invariant.run c.pop.new.self.items c.in-Some.sealed c.in-Some.ensures.items c.commit_block.new.engine 0 c.commit_block.ensures.stopped
-
-pub returns-in-Err-clause-through_crashes : goal.returns-in-Err-clause-through_crashes
-returns-in-Err-clause-through_crashes g c = λ schema has parts. crashes_next g.F.Dir.files _ c.turns.invariant.run c.pop.new.self.items c.in-Some.sealed c.in-Some.ensures.items c.commit_block.new.engine 0 c.commit_block.ensures.through_crashes schema (record { has = has; are = parts })
-
-pub returns-in-Err-clause-held : goal.returns-in-Err-clause-held
-returns-in-Err-clause-held g c = λ schema has parts. held_next g.F.Dir.files _ c.turns.invariant.run c.pop.new.self.items c.in-Some.sealed c.in-Some.ensures.items c.commit_block.new.engine 0 c.commit_block.ensures.held schema (record { has = has; are = parts })
-
-pub returns-in-Err-clause-goes_on : goal.returns-in-Err-clause-goes_on
-returns-in-Err-clause-goes_on g c = goes_next g.F.Dir.files _ c.turns.invariant.run c.pop.new.self.items c.in-Some.sealed c.in-Some.ensures.items c.commit_block.new.engine 0 c.commit_block.ensures.goes_on
+pub returns-in-Err-clause-leaves : goal.returns-in-Err-clause-leaves
+returns-in-Err-clause-leaves g c = leaves_next g.F.Dir.files _ c.turns.invariant.run c.pop.new.self.items c.in-Some.sealed c.in-Some.ensures.items c.commit_block.new.engine c.commit_block.ensures.leaves
 
 -- all were added
 none_left : {S : Type 0} (parts : List (SealedBlock S)) → length parts ≡ 0 → parts ≡ []
@@ -116,11 +102,11 @@ none_left [] is = refl
 none_left (s ∷ parts) is = cc
 
 pub returns-clause-answers : goal.returns-clause-answers
-returns-clause-answers g c = λ kept schema text knows has parts gives.
-    run_done g.F.Dir.files _ c.turns.invariant.run kept schema text c.turns.reply (g.R.Arm.failed c.turns.arm) (none_left c.turns.parts.items (omega (arith, c.turns.parts.ok.0, c.in_default.ensures.cases.0))) (record { has = has; are = parts }) knows gives c.turns.invariant.reply
+returns-clause-answers g c = λ kept schema text knows parts gives.
+    run_done g.F.Dir.files _ c.turns.invariant.run kept schema text c.turns.reply (g.R.Arm.failed c.turns.arm) (none_left c.turns.parts.items (omega (arith, c.turns.parts.ok.0, c.in_default.ensures.cases.0))) parts knows gives c.turns.invariant.reply
 
-pub returns-clause-through_crashes : goal.returns-clause-through_crashes
-returns-clause-through_crashes g c = λ schema has parts. c.turns.invariant.run.crashes schema (record { has = has; are = parts })
+pub returns-clause-accounts : goal.returns-clause-accounts
+returns-clause-accounts g c = run_accounts g.F.Dir.files _ c.turns.invariant.run c.turns.reply (g.R.Arm.failed c.args.arm.now) (g.R.Arm.failed c.turns.arm) c.turns.invariant.reply (c.turns.invariant.arm.calm (λ no. no))
 
-pub returns-clause-held : goal.returns-clause-held
-returns-clause-held g c = λ schema has parts. c.turns.invariant.run.held schema (record { has = has; are = parts })
+pub returns-clause-arm : goal.returns-clause-arm
+returns-clause-arm g c = c.turns.invariant.arm
