@@ -17,7 +17,7 @@ use Rattle.root_log.specs.durable_commit.Commits.{entry_of}
 use Rattle.session.specs.replies.Foreseen.{Foresees, history, is_unsettled}
 use Rattle.session.proofs.RepliesEnds.{length_history}
 use Rattle.root_log.specs.root_store.Crashes.{StandsForKept}
-use Rattle.session.specs.Answers.{Answered, BeginsNext, EndsUnanswered, IsBegun, Knows, Turned}
+use Rattle.session.specs.Answers.{Answered, BeginsNext, EndsUnanswered, IsBegun, Knows, LacksNext, Turned}
 use Rattle.session.specs.shared_store.Levels.{has_greatest}
 use Rattle.session.specs.shared_store.Engines.{Opened}
 use Rattle.mt_program.specs.Crashes.{IsGainedBy, MayBeBegunBy, MayBeNextOf}
@@ -51,6 +51,13 @@ may_begin_more first now ran rest (inr (inr (c, is, of))) = inr (inr (
   is,
   record { before = of.before; said = of.said; after = of.after ++ rest; split = ap (λ (xs : List Item). xs ++ rest) of.split ∙ append_assoc of.before (of.said ∷ of.after) rest; place = of.place; gives = of.gives; next = of.next },
 ))
+
+-- a statement without a reply gave the first of its commands, or none
+pub unanswered_by : (h : History) (s : Item) (from to : ℕ) → LacksNext h s from to → Unanswered h 0 s from to
+unanswered_by h (Ok said) from to (inl nothing) = inl nothing
+unanswered_by h (Ok said) from to (inr (next, (done, rest, stops))) = inr (done, next ∷ rest, stops)
+unanswered_by h (Err why) from to (inl nothing) = nothing
+unanswered_by h (Err why) from to (inr (next, is)) = absurd is
 
 -- What one statement did to the annals.
 pub record Stepped (old now : Told) (s : Item) : Type 0 where
@@ -95,7 +102,7 @@ stepped_answered files_of old s t reply a =
 
 -- and one that has no reply
 pub stepped_unanswered : {F : Type 0} (files_of : F → Option Files) (old : Told) (s : Item) (t : Turned F) (k : EndsUnanswered files_of old s t) → Stepped old k.now s
-stepped_unanswered files_of old s t k = record { more = k.more; list_is = k.list_is; sessions = k.sessions; gives = k.gives; begun = begun_by old k.now s (Unit {0}) k.begun }
+stepped_unanswered files_of old s t k = record { more = k.more; list_is = k.list_is; sessions = k.sessions; gives = unanswered_by (history k.now) s (length old.list) (length k.now.list) k.gives; begun = begun_by old k.now s (Unit {0}) k.begun }
 
 -- and one after which the annals are as they were
 stepped_same : (old : Told) (s : Item) → Stepped old old s

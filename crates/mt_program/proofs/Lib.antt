@@ -8,3 +8,4 @@ pub mod Promising
 pub mod Reopened
 pub mod ServedScripts
 pub mod Undamaged
+pub mod Unopened

@@ -1,47 +1,17 @@
--- From what a run over a folder left, by its status, to all that is promised by its number.
-use Rattle.std.proofs.Common.{◌≡◌, ◌⊎◌, ◌<◌, ◌≤◌, ◌-◌, ◌^◌, ℕ, List, [], length, Some, None, inl, inr, refl, sym, ◌∙◌, ap, subst, arith, true≢false}
+-- From what a run over a folder leaves, by its status, to all that is promised by its number.
+use Rattle.std.proofs.Common.{◌≡◌, ◌⊎◌, ◌≤◌, ℕ, List, Some, None, inl, inr, refl, sym, ◌∙◌, ap, subst, arith, true≢false}
 use Rattle.std.specs.Prelude.{String, is_some}
 use Rattle.std.specs.declared.alloc.Global.{Global}
-use Rattle.mt_values.specs.Annals.{Told}
-use Rattle.mt_outside.specs.Causes.{Rose}
-use Rattle.mt_outside.specs.Disk as root
-use Rattle.root_log.specs.root_opening.declared.opening.Damage.{Damage}
-use Rattle.root_log.specs.root_opening.Opening.{IsRootDamage}
-use Rattle.root_log.specs.root_store.Roots.{Stands}
 use Rattle.root_log.proofs.RootStoreCrashMarks.{safe_at_start}
-use Rattle.session.specs.replies.Foreseen.{history}
 use Rattle.command_line.specs.Words.{Line, command_of}
-use Rattle.session.specs.run_streams.Streams.{ConsumesMost}
 use Rattle.mt_program.specs.declared.status.Status.{Status}
 use Rattle.mt_program.specs.declared.status.Status.TheVariants as status
-use Rattle.mt_program.specs.Damage.{IsDamagedRoot, WritesDamage, damage_line}
-use Rattle.mt_program.specs.Endings.{IsAnswered}
-use Rattle.mt_program.specs.Headline.{Headline}
-use Rattle.mt_program.specs.Promises.{IsComplete, IsUntouched, OfCauses, OfCrashes, OfDamage, OfFolder, Promises}
+use Rattle.mt_program.specs.Promises.{IsComplete, IsUntouched, LeavesOfRun, OfCauses, OfCrashes, OfDamage, OfFolder, Promises}
 use Rattle.mt_program.specs.Statuses.{status_number}
-use Rattle.mt_program.specs.Worlds.{Starts, World}
+use Rattle.mt_program.specs.Worlds.{World}
 use Rattle.mt_program.proofs.Completing.{none_refused, not_too_long, zero_or_six}
 use Rattle.mt_program.proofs.Crashing.{nothing_of_script}
 use Rattle.mt_program.proofs.Heading.{at_most_one_is, by_status, nothing_leaves, same_number}
-
--- What a run over a folder left, by its status.
-pub record Leaves (before : World) (ended : Status) (after : World) : Type 0 where
-  pub headline : (kept : Told) (script written : List ℕ) → Starts before kept script written → Headline ended before after kept script written
-  pub crashes : OfCrashes before after
-  pub opening : (told : root.Told) (damage : Damage) → before.storage.disk ≡ Some told → IsRootDamage (root.names_of told) damage
-      → WritesDamage ended (damage_line damage) before.sink_failed after.sink_failed before.sink after.sink × (after.storage.disk ≡ before.storage.disk) × (after.storage.clock ≡ before.storage.clock) × (after.storage.annals ≡ before.storage.annals)
-  pub sound : (kept : Told) (told : root.Told) → before.storage.annals ≡ Some kept → before.storage.disk ≡ Some told → Stands (root.names_of told) (history kept) → ended ≡ status.Damaged → ⊥
-  pub damaged : (told : root.Told) → before.storage.disk ≡ Some told → ended ≡ status.Damaged → IsDamagedRoot (root.names_of told)
-  pub full : before.storage.failed ≡ 2 ^ 64 - 1 → ended ≡ status.DiskFault
-  pub whole : (script : List ℕ) → before.source ≡ Some script → IsAnswered ended → (length script < 2 ^ 40) × (after.source ≡ Some [])
-  pub words : ended ≡ status.NotWords → ⊥
-  pub read : ended ≡ status.ReadFault → Rose before.source_failed after.source_failed
-  pub unfailed : (ended ≡ status.ReadFault → ⊥) → after.source_failed ≡ before.source_failed
-  pub write : ended ≡ status.WriteFault → Rose before.sink_failed after.sink_failed
-  pub disk : ended ≡ status.DiskFault → Rose before.storage.failed after.storage.failed
-  pub long : ended ≡ status.TooLong → ConsumesMost before.source after.source
-  pub calm : IsAnswered ended → after.storage.failed ≡ before.storage.failed
-  pub later : before.storage.failed ≤ after.storage.failed
 
 at_most_eight : (ended : Status) → status_number ended ≤ 8
 at_most_eight status.Done = omega arith
@@ -58,7 +28,7 @@ pub not_some : {X : Type 0} (x : X) → Some x ≡ None → ⊥
 not_some x same = cc
 
 -- the words are a command line
-module _ (words : List (String Global)) (line : Line) (says : command_of words ≡ Some line) (before after : World) (ended : Status) (left : Leaves before ended after) where
+module _ (words : List (String Global)) (line : Line) (says : command_of words ≡ Some line) (before after : World) (ended : Status) (left : LeavesOfRun line.folder before ended after) where
   of_causes : OfCauses words before (status_number ended) after
   of_causes = record {
     number = at_most_eight ended;
@@ -90,13 +60,19 @@ module _ (words : List (String Global)) (line : Line) (says : command_of words �
     sound = λ kept told listed known stands bad. left.sound kept told listed known stands (same_number ended status.Damaged bad);
   }
 
-  pub promised : (number : ℕ) → number ≡ status_number ended → OfFolder words before after → Promises words before number after
-  promised number is folder = subst (λ (n : ℕ). Promises words before n after) (sym is) (record {
+  of_folder : OfFolder words before after
+  of_folder = elim left.folder [
+    | inl started ↦ inl (record { line = line; says = says; started = started })
+    | inr same ↦ inr same
+  ]
+
+  pub promised : (number : ℕ) → number ≡ status_number ended → Promises words before number after
+  promised number is = subst (λ (n : ℕ). Promises words before n after) (sym is) (record {
     headline = λ kept script written starts. (ended, refl, left.headline kept script written starts);
     complete = is_complete;
     crashes = left.crashes;
     damage = of_damage;
-    folder = folder;
+    folder = of_folder;
     causes = of_causes;
   })
 

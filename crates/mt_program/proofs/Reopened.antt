@@ -1,5 +1,5 @@
 -- A store whose count of faults at opening is the one before the disk was started.
-use Rattle.std.proofs.Common.{◌≡◌, ◌+◌, ℕ, Bool, true, List, map, [], Option, Some, Result, ap, sym, subst, ◌∙◌}
+use Rattle.std.proofs.Common.{◌≡◌, ◌+◌, ◌-◌, ◌<◌, ◌≤◌, ◌^◌, ℕ, Bool, true, List, map, [], Option, Some, Result, ap, sym, subst, ◌∙◌}
 use Rattle.std.proofs.lemmas.List.Elements.{All-weaker}
 use Rattle.std.specs.Map.{keys_of}
 use Rattle.mt_outside.specs.Disk.{Image, IsStamped, Names, Survive, Told, names_of}
@@ -14,7 +14,7 @@ use Rattle.session.specs.Answers.{Knows}
 use Rattle.root_log.specs.part_set.Sets.{parts_of}
 use Rattle.session.specs.shared_store.Levels.{has_greatest}
 use Rattle.session.proofs.SharedStoreLevels.{greatest_there, name_here}
-use Rattle.session.specs.shared_store.Engines.{Opened}
+use Rattle.session.specs.shared_store.Engines.{IsOpen, Opened}
 use Rattle.root_log.specs.root_store.Crashes.{KeepsThroughCrashes, Storage}
 use Rattle.root_log.specs.root_store.Shown.{AreShown, GreatestAreShown, ImagesShow, part_called}
 use Rattle.root_log.proofs.RootStoreCrashOrder.{same_names}
@@ -50,6 +50,7 @@ module _ {F : Type 0} (store : CoreStore F) (opened : ℕ) where
     drawn = s.drawn;
     parts = λ table t at. let one = s.parts table t at in record { rows = one.rows; hold = one.hold; stand = one.stand; order = one.order };
     no_other = s.no_other;
+    mutations = s.mutations;
   }
 
   pub shown_reopened : (names : Names) → AreShown store names → AreShown (reopened store opened) names
@@ -57,6 +58,16 @@ module _ {F : Type 0} (store : CoreStore F) (opened : ℕ) where
 
   pub greatest_reopened : (names : Names) → AreShown store names → GreatestAreShown (reopened store opened) names
   greatest_reopened names s = λ table name has level. record { read = s.read; are = s.are; visible = (s.parts table name).1 has }
+
+  pub ready_reopened : (failed : ℕ) (told : Option Told) → ((t : Told) → told ≡ Some t → NamesFit store t) → ((t : Told) → told ≡ Some t → AreShown store (names_of t)) → IsSoundStore store → opened ≤ failed → opened < 2 ^ 64 - 1 → IsReady failed told (reopened store opened)
+  ready_reopened failed told names shown sound low below = record {
+    names = λ still t is. names_reopened t (names t is);
+    shown = λ still t is. shown_reopened (names_of t) (shown t is);
+    greatest = λ t is. greatest_reopened (names_of t) (shown t is);
+    sound = sound_reopened sound;
+    opened = low;
+    below = below;
+  }
 
   pub images_reopened : (disk : Option Told) (clock : ℕ) → ImagesShow disk clock store → ImagesShow disk clock (reopened store opened)
   images_reopened disk clock show = λ told is names image. shown_reopened names (show told is names image)
@@ -78,6 +89,10 @@ images_settled store told clock disk now known raised stamped shown = λ root is
 -- ---- the root as one value
 
 module _ {F : Type 0} (files_of : F → Option Files) (root : Opened F) (store : CoreStore F) (s : Storage) (store_is : root.store ≡ store) (storage_is : root.storage ≡ s) where
+  -- it is ready for a turn
+  pub open_root : IsReady s.failed s.disk store → IsOpen root
+  open_root ready = subst (λ (c : CoreStore F). IsReady root.storage.failed root.storage.disk c) (sym store_is) (subst (λ (x : Storage). IsReady x.failed x.disk store) (sym storage_is) ready)
+
   -- the annals are known, and the store that was opened stands for them
   pub knows_root : (kept : keeper.Told) → s.annals ≡ Some kept → CoreStands files_of (history kept) store → Knows files_of kept root
   knows_root kept is stands = record {

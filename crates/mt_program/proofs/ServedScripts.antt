@@ -17,7 +17,8 @@ use Rattle.session.proofs.MtModelKeys.{statements_are}
 use Rattle.session.proofs.MtModelReplies.{replies_more, replies_append}
 use Rattle.session.specs.replies.declared.tally.Tally.{Tally}
 use Rattle.root_log.specs.root_store.Soundness.{RootStands}
-use Rattle.session.specs.Answers.{AcceptsNothing, Answered, EndsUnanswered, Knows, Turned, unsettles}
+use Rattle.session.specs.Answers.{Answered, EndsUnanswered, Knows, Turned, unsettles}
+use Rattle.session.specs.Lapses.{Leaves}
 use Rattle.session.specs.shared_store.Levels.{KeepsGreatest, has_greatest}
 use Rattle.session.specs.shared_store.Engines.{GoesOn, Opened}
 use Rattle.root_log.specs.root_store.Crashes.{Storage}
@@ -26,6 +27,7 @@ use Rattle.session.specs.replies.Causes.{HasCauses}
 use Rattle.session.specs.replies.Foreseen.{Foresees, history, is_unsettled}
 use Rattle.mt_program.specs.Courses.{AreStopped, Item, TalliesReplies, any_unsettles, course_of}
 use Rattle.mt_program.specs.Serving.{MayComeTo, Output, Progress, Ran, Served, ServedBy, stretch_of}
+use Rattle.mt_program.proofs.Gaining.{unanswered_by}
 use Rattle.mt_program.proofs.Begun.{begun_answered, begun_unanswered, replies_length}
 use Rattle.session.specs.mt_model.Outside.{Outside}
 use Rattle.session.proofs.RepliesEnds.{length_history}
@@ -149,19 +151,18 @@ pub record Follows {F : Type 0} (start before after : Opened F) (arm arm_after :
   pub still : start.store.opened < before.storage.failed → after.storage.annals ≡ before.storage.annals
 
 -- the counts of roots that go on
-pub follows : {F : Type 0} (start before after : Opened F) (arm arm_after : ℕ) → GoesOn start before → GoesOn before after → arm ≤ arm_after → KeepsGreatest before.store after.store
-    → (before.store.opened < before.storage.failed → AcceptsNothing before after) → Follows start before after arm arm_after
-follows start before after arm arm_after first next less levels stops =
+pub follows : {F : Type 0} {files_of : F → Option Files} {known : Type 0} (start before after : Opened F) (arm arm_after : ℕ) → GoesOn start before → Leaves files_of known before after → arm ≤ arm_after → Follows start before after arm arm_after
+follows start before after arm arm_after first next less =
     let low = first.found.opened in
     let later = first.later in
     record {
       opened = first.opened;
       low = omega (arith, low, later);
       below = first.found.below;
-      later = next.later;
+      later = next.keeps.later;
       arm_later = less;
-      levels = levels;
-      still = λ risen. ap (λ (s : Storage). s.annals) (stops (subst (λ (m : ℕ). m < before.storage.failed) (sym first.opened) risen)).storage_is;
+      levels = next.parts.levels;
+      still = λ risen. ap (λ (s : Storage). s.annals) (next.stopped (subst (λ (m : ℕ). m < before.storage.failed) (sym first.opened) risen)).storage_is;
     }
 
 module _ {F : Type 0} (kept : Told) (start before after : Opened F) (arm arm_after : ℕ) (fits : Follows start before after arm arm_after) (done : List Item) (replies : List (List ℕ))
@@ -320,7 +321,7 @@ ran_unanswered files_of kept start before after arm arm_after fits done replies 
       sessions = All-append (λ (n : Noted). n.entry.session ≡ 0) r.more k.more r.sessions k.sessions;
       place = length r.now.list;
       run = before_this;
-      last = k.gives;
+      last = unanswered_by (history k.now) st (length r.now.list) (length k.now.list) k.gives;
       stopped = λ n f front more x is unsettled. stops_still kept start before after arm arm_after fits done replies r k.now k.more k.list_is k.told_is n f front more x is unsettled;
       risen = risen_still kept start before after arm arm_after fits done replies r;
       begun = λ n f.
@@ -364,8 +365,8 @@ module _ {F : Type 0} (files_of : F → Option Files) (kept : Told) (p : Progres
   }
 
 -- the place after a statement, and what the replies said with its own
-abbrev pub further : Progress → ℕ → List ℕ → Progress
-further p used reply = record { script = p.script; at = p.at + used; tally = tallied p.tally reply }
+abbrev pub further : Progress → ℕ → Tally → Progress
+further p used told = record { script = p.script; at = p.at + used; tally = told }
 
 module _ {F : Type 0} (files_of : F → Option Files) (kept : Told) (p : Progress) (start before after : Opened F) (arm arm_after : ℕ) (output : Output) (s : Served files_of kept p (turned start before arm) output)
     (fits : Follows start before after arm arm_after) (used : ℕ) (st : Item) (left : statements_of (drop p.at p.script) ≡ st ∷ statements_of (drop (p.at + used) p.script)) where
@@ -392,16 +393,16 @@ module _ {F : Type 0} (files_of : F → Option Files) (kept : Told) (p : Progres
     ran_answered = ran_more files_of kept start before after arm arm_after fits s.done s.replies st reply s.ran a failed
 
     -- its reply was written whole
-    pub served_more : (written : Option (List ℕ)) → Appends output.after written reply → Served files_of kept (further p used reply) (turned start after arm_after) (record { before = output.before; after = written })
+    pub served_more : (told : Tally) → told ≡ tallied p.tally reply → (written : Option (List ℕ)) → Appends output.after written reply → Served files_of kept (further p used told) (turned start after arm_after) (record { before = output.before; after = written })
     unfolding ran_more ran_answered
-    served_more written wrote = record {
+    served_more told told_is written wrote = record {
       done = s.done ++ st ∷ [];
       replies = s.replies ++ reply ∷ [];
       split = split_more;
       ran = ran_answered;
       stands = a.stands;
       wrote = subst (Appends output.before written) (sym (concat_push s.replies reply)) (appends_more output.before output.after written (concat s.replies) reply s.wrote wrote);
-      tells = tells_more p.tally s.replies reply s.tells;
+      tells = subst (λ (t : Tally). TalliesReplies t (s.replies ++ reply ∷ [])) {x = tallied p.tally reply} (sym told_is) (tells_more p.tally s.replies reply s.tells);
     }
 
     -- a front of its reply was written

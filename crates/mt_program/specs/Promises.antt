@@ -17,10 +17,12 @@ use Rattle.session.specs.replies.Foreseen.{history}
 use Rattle.command_line.specs.Words.{Line, command_of}
 use Rattle.session.specs.run_streams.Streams.{ConsumesMost}
 use Rattle.mt_program.specs.declared.status.Status.{Status}
+use Rattle.mt_program.specs.declared.status.Status.TheVariants as ending
 use Rattle.mt_program.specs.Statuses.{status_number}
 use Rattle.mt_program.specs.Crashes.{IsAsBefore, LeavesOfScript}
 use Rattle.mt_program.specs.Damage.{IsDamagedRoot, WritesDamage, damage_line}
-use Rattle.mt_program.specs.Headline.{HeadlineBy}
+use Rattle.mt_program.specs.Endings.{IsAnswered}
+use Rattle.mt_program.specs.Headline.{Headline, HeadlineBy}
 use Rattle.mt_program.specs.Worlds.{HasNoFullPart, Starts, World}
 
 -- no call of the disk, the source or the sink failed, as far as their counts show
@@ -90,6 +92,27 @@ pub record IsUntouched (before after : World) : Type 0 where
   pub annals : after.storage.annals ≡ before.storage.annals
   pub source : after.source ≡ before.source
   pub sink : after.sink ≡ before.sink
+
+-- What a run over the folder of a path leaves, by its status: what is answered and what is told of damage, what a crash leaves, which folder was
+-- opened, what was read, and which counts rose.
+pub record LeavesOfRun (path : List ℕ) (before : World) (ended : Status) (after : World) : Type 0 where
+  pub headline : (kept : Told) (script written : List ℕ) → Starts before kept script written → Headline ended before after kept script written
+  pub opening : (told : root.Told) (damage : Damage) → before.storage.disk ≡ Some told → IsRootDamage (root.names_of told) damage
+      → WritesDamage ended (damage_line damage) before.sink_failed after.sink_failed before.sink after.sink × (after.storage.disk ≡ before.storage.disk) × (after.storage.clock ≡ before.storage.clock) × (after.storage.annals ≡ before.storage.annals)
+  pub sound : (kept : Told) (told : root.Told) → before.storage.annals ≡ Some kept → before.storage.disk ≡ Some told → Stands (root.names_of told) (history kept) → ended ≡ ending.Damaged → ⊥
+  pub damaged : (told : root.Told) → before.storage.disk ≡ Some told → ended ≡ ending.Damaged → IsDamagedRoot (root.names_of told)
+  pub crashes : OfCrashes before after
+  pub folder : (after.started ≡ Some path) ⊎ IsUntouched before after
+  pub full : before.storage.failed ≡ 2 ^ 64 - 1 → ended ≡ ending.DiskFault
+  pub whole : (script : List ℕ) → before.source ≡ Some script → IsAnswered ended → (length script < 2 ^ 40) × (after.source ≡ Some [])
+  pub words : ended ≡ ending.NotWords → ⊥
+  pub read : ended ≡ ending.ReadFault → Rose before.source_failed after.source_failed
+  pub unfailed : (ended ≡ ending.ReadFault → ⊥) → after.source_failed ≡ before.source_failed
+  pub write : ended ≡ ending.WriteFault → Rose before.sink_failed after.sink_failed
+  pub disk : ended ≡ ending.DiskFault → Rose before.storage.failed after.storage.failed
+  pub long : ended ≡ ending.TooLong → ConsumesMost before.source after.source
+  pub calm : IsAnswered ended → after.storage.failed ≡ before.storage.failed
+  pub later : before.storage.failed ≤ after.storage.failed
 
 -- Why a run ends with its number: 2 only where the words are no command line, and where they are none it ends with 2, or with 6, and nothing was
 -- touched; 3 exactly where the source's count rose, but for one that can't rise; 4 and 5 only where the count of the sink or the disk rose; 8 only

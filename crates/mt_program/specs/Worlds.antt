@@ -2,11 +2,16 @@
 use Rattle.std.specs.Prelude.{◌≡◌, ◌≤◌, ℕ, Bool, true, List, Option, Some}
 use Rattle.mt_base.specs.Limits.{level_limit}
 use Rattle.mt_values.specs.Annals.{Told}
+use Rattle.mt_values.specs.declared.annals.Annals.{Ghosts as AnnalsGhosts}
+use Rattle.mt_outside.specs.declared.disk.Disk.{Ghosts as DiskGhosts}
+use Rattle.mt_outside.specs.declared.streams.Sink.{Ghosts as SinkGhosts}
+use Rattle.mt_outside.specs.declared.streams.Source.{Ghosts as SourceGhosts}
 use Rattle.mt_outside.specs.Disk as root
 use Rattle.session.specs.mt_model.Outside.{Outside}
 use Rattle.root_log.specs.part_set.declared.root_name.RootName.{RootName}
 use Rattle.root_log.specs.part_set.declared.root_name.TablePart.{TablePart}
 use Rattle.root_log.specs.part_set.Visible.{IsVisible}
+use Rattle.root_log.specs.root_commits.Turns.{storage}
 use Rattle.root_log.specs.root_store.Crashes.{Storage}
 use Rattle.root_log.specs.root_store.Roots.{AreNamesRead, Stands}
 use Rattle.session.specs.replies.Foreseen.{history}
@@ -23,8 +28,17 @@ pub record World : Type 0 where
 
 -- what is known at a moment, by each
 abbrev pub world : Storage → Option (List ℕ) → Option (List ℕ) → ℕ → Option (List ℕ) → ℕ → World
-world storage started source source_failed sink sink_failed =
-    record { storage = storage; started = started; source = source; source_failed = source_failed; sink = sink; sink_failed = sink_failed }
+world kept started source source_failed sink sink_failed =
+    record { storage = kept; started = started; source = source; source_failed = source_failed; sink = sink; sink_failed = sink_failed }
+
+-- what is known of a disk and the annals
+abbrev pub storage_of : {D R S F N : Type 0} → DiskGhosts D R S F → AnnalsGhosts N → D × N → Storage
+storage_of disks annals kept = storage (disks.told kept.0) (disks.clock kept.0) (disks.failed kept.0) (annals.told kept.1)
+
+-- what is known of a disk and the annals, of a source and a sink
+abbrev pub world_of : {D R S F N I O : Type 0} → DiskGhosts D R S F → AnnalsGhosts N → SourceGhosts I → SinkGhosts O → D × N → I → O → World
+world_of disks annals sources sinks kept source sink =
+    world (storage_of disks annals kept) (disks.started kept.0) (sources.left source) (sources.failed source) (sinks.written sink) (sinks.failed sink)
 
 -- a visible part among the names of a root has the greatest level (docs/definitions-of-runs.md, "Faults of the outside")
 pub record HasFullPart (names : root.Names) : Type 0 where

@@ -8,7 +8,7 @@ ghost use Rattle.root_log.specs.root_store.Crashes.{KeepsThroughCrashes};
 ghost use Rattle.root_log.specs.root_store.Shown.{HasNoMark};
 ghost use Rattle.root_log.specs.root_store.Soundness.{HasSoundParts, RootStands};
 ghost use Rattle.session.specs.Answers.{Knows, Turned};
-ghost use Rattle.session.specs.shared_store.Engines.{GoesOn};
+ghost use Rattle.session.specs.shared_store.Engines.{GoesOn, IsOpen};
 ghost use Rattle.session.specs.replies.Foreseen.{history};
 ghost use Rattle.mt_program.specs.Crashes.{IsGainedBy, LeavesForCrashes};
 ghost use Rattle.mt_program.specs.Endings.{MetNoDamage};
@@ -63,7 +63,8 @@ pub fn serve<F: Dir, R: Arm<Dir = F>, D: Disk<Arm = R>, A: Annals, K: Sink, G: G
     gate: &mut G,
     script: &[u8],
 ) -> Ending
-    requires { HasNoMark engine.old.store }
+    requires open { IsOpen engine.old }
+    requires free { HasNoMark engine.old.store }
 
     // What is answered and written, and what a crash leaves.
     ensures run { let turned : Turned F = record {
@@ -90,7 +91,6 @@ pub fn serve<F: Dir, R: Arm<Dir = F>, D: Disk<Arm = R>, A: Annals, K: Sink, G: G
     ensures write_fault { result ≡ Ending.WriteFault
         → Rose (K.failed sink.old) (K.failed sink.new) }
 {
-    engine.is_open();
     let mut at = 0;
     let mut tally = Tally::none();
     'statements: while at < script.len() {

@@ -9,17 +9,15 @@ ghost use Rattle.root_log.specs.root_opening.Opening.{IsNotDamaged, IsRootDamage
 ghost use Rattle.root_log.specs.root_store.Shown.{HasNoMark};
 ghost use Rattle.root_log.specs.root_store.Roots.{Stands};
 ghost use Rattle.root_log.specs.root_store.Soundness.{HasSoundParts, RootStands};
-ghost use Rattle.root_log.specs.root_commits.Turns.{storage};
 ghost use Rattle.session.specs.replies.Foreseen.{history};
 ghost use Rattle.session.specs.Answers.{Knows, Turned};
-ghost use Rattle.session.specs.shared_store.Engines.{GoesOn};
+ghost use Rattle.session.specs.shared_store.Engines.{GoesOn, IsOpen};
 ghost use Rattle.mt_program.specs.Crashes.{IsAsBefore, IsGainedBy, LeavesOfScript};
 ghost use Rattle.mt_program.specs.Damage.{IsDamagedRoot, WritesDamage, WritesFault, damage_line};
-ghost use Rattle.mt_program.specs.Endings.{IsAnswered, IsEarly, LeftAtEnd, LeftBy, MetNoDamage, status_of, status_of_error, status_of_stop};
-ghost use Rattle.mt_program.specs.Headline.{Headline};
-ghost use Rattle.mt_program.specs.Promises.{IsUntouched, OfCrashes, Promises};
+ghost use Rattle.mt_program.specs.Endings.{IsEarly, LeftAtEnd, LeftBy, MetNoDamage, status_of, status_of_error, status_of_stop};
+ghost use Rattle.mt_program.specs.Promises.{LeavesOfRun, Promises};
 ghost use Rattle.mt_program.specs.Serving.{Output, Stretch, stretch_of};
-ghost use Rattle.mt_program.specs.Worlds.{Starts, world};
+ghost use Rattle.mt_program.specs.Worlds.{storage_of, world_of};
 ghost use Rattle.command_line.specs.Words.{command_of, said};
 ghost use Rattle.session.specs.run_streams.Streams.{ConsumesMost};
 
@@ -101,7 +99,8 @@ fn run_script<F: Dir, R: Arm<Dir = F>, D: Disk<Arm = R>, A: Annals, S: Source, K
     arm: &mut R,
     gate: &mut G,
 ) -> Result<Ending, Status>
-    requires { HasNoMark engine.old.store }
+    requires open { IsOpen engine.old }
+    requires free { HasNoMark engine.old.store }
 
     // What is answered, and what a crash leaves.
     ensures leaves { let turned : Turned F = record {
@@ -137,7 +136,6 @@ fn run_script<F: Dir, R: Arm<Dir = F>, D: Disk<Arm = R>, A: Annals, S: Source, K
     ensures goes_on { GoesOn engine.old engine.new }
     ensures arm_later { R.failed arm.old ≤ R.failed arm.new }
 {
-    engine.is_open();
     let text = match read_all(alloc, source) {
         Ok(text) => text,
         Err(stop) => return Err(failed_reading(stop)),
@@ -200,8 +198,7 @@ fn run_root<D: Disk, A: Annals, S: Source, K: Sink, G: Gate>(
     ensures leaves { let stretch : Bool → Stretch = λ full. record {
       opened = opened;
       root = D.told disk;
-      now = storage (D.told result.disk) (D.clock result.disk) (D.failed result.disk)
-          (A.told result.annals);
+      now = storage_of D.Disk A.Annals (result.disk, result.annals);
       arm = D.Arm.failed arm.new;
       full = full;
     } in
@@ -222,15 +219,12 @@ fn run_root<D: Disk, A: Annals, S: Source, K: Sink, G: Gate>(
         → MetNoDamage result.end ⊎ IsDamagedRoot (root.names_of told) }
 
     // What a crash leaves.
-    ensures crashes { let now = storage (D.told result.disk) (D.clock result.disk)
-        (D.failed result.disk) (A.told result.annals) in
+    ensures crashes { let now = storage_of D.Disk A.Annals (result.disk, result.annals) in
         (kept : Told) (told : root.Told) → A.told annals ≡ Some kept → D.told disk ≡ Some told
         → D.Arm.tells arm.old ≡ true → AllStand told (D.clock disk) (history kept)
         → LeavesOfScript (S.left source.old) opened now kept (D.clock disk) }
-    ensures settles { let was = storage (D.told disk) (D.clock disk) (D.failed disk)
-        (A.told annals) in
-        let now = storage (D.told result.disk) (D.clock result.disk) (D.failed result.disk)
-        (A.told result.annals) in
+    ensures settles { let was = storage_of D.Disk A.Annals (disk, annals) in
+        let now = storage_of D.Disk A.Annals (result.disk, result.annals) in
         (kept : Told) (told : root.Told) → A.told annals ≡ Some kept → D.told disk ≡ Some told
         → D.Arm.tells arm.old ≡ true → root.names_of told ≢ []
         → AllStand told (D.clock disk + 1) (history kept) → root.IsStamped (D.clock disk) told
@@ -321,62 +315,11 @@ fn run_opened<D: Disk, A: Annals, S: Source, K: Sink, G: Gate>(
     annals: A,
     gate: &mut G,
 ) -> Ended<Status, D, A>
-    // What is answered, and what is told of damage.
-    ensures headline { let before = world (storage (D.told disk) (D.clock disk) (D.failed disk)
-        (A.told annals)) (D.started disk) (S.left source.old) (S.failed source.old)
-        (K.written sink.old) (K.failed sink.old) in
-        let after = world (storage (D.told result.disk) (D.clock result.disk)
-        (D.failed result.disk) (A.told result.annals)) (D.started result.disk)
-        (S.left source.new) (S.failed source.new) (K.written sink.new) (K.failed sink.new) in
-        (kept : Told) (script written : List ℕ) → Starts before kept script written
-        → Headline result.end before after kept script written }
-    ensures opening { (told : root.Told) (damage : Damaged) → D.told disk ≡ Some told
-        → IsRootDamage (root.names_of told) damage
-        → WritesDamage result.end (damage_line damage) (K.failed sink.old) (K.failed sink.new)
-        (K.written sink.old) (K.written sink.new) × (D.told result.disk ≡ D.told disk)
-        × (D.clock result.disk ≡ D.clock disk) × (A.told result.annals ≡ A.told annals) }
-    ensures sound { (kept : Told) (told : root.Told) → A.told annals ≡ Some kept
-        → D.told disk ≡ Some told → Stands (root.names_of told) (history kept)
-        → result.end ≡ Status.Damaged → ⊥ }
-    ensures damaged { (told : root.Told) → D.told disk ≡ Some told
-        → result.end ≡ Status.Damaged → IsDamagedRoot (root.names_of told) }
-
-    // What a crash leaves, and which folder was opened.
-    ensures crashes { let before = world (storage (D.told disk) (D.clock disk) (D.failed disk)
-        (A.told annals)) (D.started disk) (S.left source.old) (S.failed source.old)
-        (K.written sink.old) (K.failed sink.old) in
-        let after = world (storage (D.told result.disk) (D.clock result.disk)
-        (D.failed result.disk) (A.told result.annals)) (D.started result.disk)
-        (S.left source.new) (S.failed source.new) (K.written sink.new) (K.failed sink.new) in
-        OfCrashes before after }
-    ensures folder { let before = world (storage (D.told disk) (D.clock disk) (D.failed disk)
-        (A.told annals)) (D.started disk) (S.left source.old) (S.failed source.old)
-        (K.written sink.old) (K.failed sink.old) in
-        let after = world (storage (D.told result.disk) (D.clock result.disk)
-        (D.failed result.disk) (A.told result.annals)) (D.started result.disk)
-        (S.left source.new) (S.failed source.new) (K.written sink.new) (K.failed sink.new) in
-        (D.started result.disk ≡ Some line.now.folder.now) ⊎ IsUntouched before after }
-
-    // What was read, and why it ended so.
-    ensures full { D.failed disk ≡ 2 ^ 64 - 1 → (result.end ≡ Status.DiskFault)
-        × (source.new ≡ source.old) × (sink.new ≡ sink.old) × (result.disk ≡ disk)
-        × (result.annals ≡ annals) }
-    ensures whole { (script : List ℕ) → S.left source.old ≡ Some script
-        → IsAnswered result.end → (length script < 2 ^ 40) × (S.left source.new ≡ Some []) }
-    ensures words { result.end ≡ Status.NotWords → ⊥ }
-
-    // Which counts of faults rose.
-    ensures read { result.end ≡ Status.ReadFault
-        → Rose (S.failed source.old) (S.failed source.new) }
-    ensures unfailed { (result.end ≡ Status.ReadFault → ⊥)
-        → S.failed source.new ≡ S.failed source.old }
-    ensures write { result.end ≡ Status.WriteFault
-        → Rose (K.failed sink.old) (K.failed sink.new) }
-    ensures disk { result.end ≡ Status.DiskFault → Rose (D.failed disk) (D.failed result.disk) }
-    ensures long { result.end ≡ Status.TooLong
-        → ConsumesMost (S.left source.old) (S.left source.new) }
-    ensures calm { IsAnswered result.end → D.failed result.disk ≡ D.failed disk }
-    ensures later { D.failed disk ≤ D.failed result.disk }
+    ensures run { LeavesOfRun line.now.folder.now
+        (world_of D.Disk A.Annals S.Source K.Sink (disk, annals) source.old sink.old) result.end
+        (world_of D.Disk A.Annals S.Source K.Sink (result.disk, result.annals) source.new sink.new) }
+    ensures full { D.failed disk ≡ 2 ^ 64 - 1 → (source.new ≡ source.old) × (sink.new ≡ sink.old)
+        × (result.disk ≡ disk) × (result.annals ≡ annals) }
 {
     let mut disk = disk;
     let opened = disk.faults();
@@ -427,13 +370,9 @@ pub fn run_alone<D: Disk, A: Annals, S: Source, K: Sink, G: Gate>(
     annals: A,
     gate: &mut G,
 ) -> Done<D, A>
-    ensures promises { let before = world (storage (D.told disk) (D.clock disk) (D.failed disk)
-        (A.told annals)) (D.started disk) (S.left source.old) (S.failed source.old)
-        (K.written sink.old) (K.failed sink.old) in
-        let after = world (storage (D.told result.disk) (D.clock result.disk)
-        (D.failed result.disk) (A.told result.annals)) (D.started result.disk)
-        (S.left source.new) (S.failed source.new) (K.written sink.new) (K.failed sink.new) in
-        Promises words.now before result.status after }
+    ensures promises { Promises words.now
+        (world_of D.Disk A.Annals S.Source K.Sink (disk, annals) source.old sink.old) result.status
+        (world_of D.Disk A.Annals S.Source K.Sink (result.disk, result.annals) source.new sink.new) }
     ensures untouched { (command_of words.now ≡ None) ⊎ (D.failed disk ≡ 2 ^ 64 - 1)
         → (source.new ≡ source.old) × (sink.new ≡ sink.old) × (result.disk ≡ disk)
         × (result.annals ≡ annals) }
@@ -473,13 +412,9 @@ pub fn run<R: Threads + Wait + Sync, D: Disk, A: Annals, S: Source, K: Sink, G: 
     annals: A,
     gate: &mut G,
 ) -> Done<D, A>
-    ensures promises { let before = world (storage (D.told disk) (D.clock disk) (D.failed disk)
-        (A.told annals)) (D.started disk) (S.left source.old) (S.failed source.old)
-        (K.written sink.old) (K.failed sink.old) in
-        let after = world (storage (D.told result.disk) (D.clock result.disk)
-        (D.failed result.disk) (A.told result.annals)) (D.started result.disk)
-        (S.left source.new) (S.failed source.new) (K.written sink.new) (K.failed sink.new) in
-        Promises words.now before result.status after }
+    ensures promises { Promises words.now
+        (world_of D.Disk A.Annals S.Source K.Sink (disk, annals) source.old sink.old) result.status
+        (world_of D.Disk A.Annals S.Source K.Sink (result.disk, result.annals) source.new sink.new) }
     ensures untouched { (command_of words.now ≡ None) ⊎ (D.failed disk ≡ 2 ^ 64 - 1)
         → (source.new ≡ source.old) × (sink.new ≡ sink.old) × (result.disk ≡ disk)
         × (result.annals ≡ annals) }

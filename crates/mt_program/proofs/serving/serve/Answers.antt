@@ -1,17 +1,17 @@
-use Rattle.std.proofs.Common.{◌∙◌, ◌∷◌, ◌++◌, [], refl, sym, subst, ap, arith, ◌+◌, drop}
+use Rattle.std.proofs.Common.{◌∙◌, ◌∷◌, ◌++◌, [], refl, subst, ap, arith, ◌+◌, drop}
 use Rattle.mt_values.specs.Script.{statements_of}
 use Rattle.root_log.specs.root_store.Crashes.{Storage}
 use Rattle.mt_program.proofs.ServedScripts.{follows, served_none, served_all, served_so_far, served_unanswered, served_more, served_cut, turned, no_statement, nothing_left, one_statement, is_written, Found, Used, used_within}
 use Rattle.mt_program.proofs.Gaining.{gained_one, stepped_answered, stepped_unanswered}
 use Rattle.mt_program.proofs.Crashing.{goes_further, left_behind, one_more, stays_open}
-use Rattle.mt_program.specs.Serving.{Output, Progress, Served}
+use Rattle.mt_program.specs.Serving.{Output, Progress}
 use Rattle.mt_program.proofs.Undamaged.{tallied_undamaged}
 use Rattle.mt_program.proofs.serving.serve.Goals as goal
 
 pub statements-init : goal.statements-init
 statements-init g c = record {
-  goes_on = stays_open c.args.engine.now c.is_open.ensures;
-  free = c.requires;
+  goes_on = stays_open c.args.engine.now c.requires.open;
+  free = c.requires.free;
   tells = refl;
   served = λ kept tells knows settled. served_none g.F.Dir.files kept c.args.script.now c.none-tally.result c.args.engine.now (g.R.Arm.failed c.args.arm.now) (g.K.Sink.written c.args.sink.now) knows settled c.none-tally.ensures.refused c.none-tally.ensures.damaged;
   held = λ tells held. held;
@@ -50,7 +50,7 @@ returns-in-Err-run_statement-clause-run g c = λ kept tells knows settled.
     let s = c.statements.invariant.served kept tells knows settled in
     let found = subst (λ o. Found c.args.script.now c.statements.at o) c.in-Ok-Some.field-0-is c.in-Ok-Some.ensures.found in
     let left = one_statement c.args.script.now c.statements.at c.in-Ok-Some.found.1 c.in-Ok-Some.found.0 found in
-    let fits = follows start before after arm arm_after c.statements.invariant.goes_on done.goes_on done.later done.parts.levels done.stopped in
+    let fits = follows start before after arm arm_after c.statements.invariant.goes_on done.leaves done.accounts.later in
     served_unanswered g.F.Dir.files kept progress start before after arm arm_after output s fits c.in-Ok-Some.found.1 c.in-Ok-Some.found.0 left
     (done.answers s.ran.now (c.statements.invariant.tells ∙ tells) (record { told_is = s.ran.told_is; stands = s.stands }))
 
@@ -67,9 +67,9 @@ returns-in-Err-write_reply-clause-run g c = λ kept tells knows settled.
     let s = c.statements.invariant.served kept tells knows settled in
     let found = subst (λ o. Found c.args.script.now c.statements.at o) c.in-Ok-Some.field-0-is c.in-Ok-Some.ensures.found in
     let left = one_statement c.args.script.now c.statements.at c.in-Ok-Some.found.1 c.in-Ok-Some.found.0 found in
-    let fits = follows start before after arm arm_after c.statements.invariant.goes_on done.goes_on done.later done.parts.levels done.stopped in
+    let fits = follows start before after arm arm_after c.statements.invariant.goes_on done.leaves done.accounts.later in
     served_cut g.F.Dir.files kept progress start before after arm arm_after output s fits c.in-Ok-Some.found.1 c.in-Ok-Some.found.0 left c.in-Ok.reply
-    (done.answers s.ran.now (c.statements.invariant.tells ∙ tells) (record { told_is = s.ran.told_is; stands = s.stands })) done.causes (g.K.Sink.written c.write_reply.new.sink) c.in-Err-write_reply.ensures.front
+    (done.answers s.ran.now (c.statements.invariant.tells ∙ tells) (record { told_is = s.ran.told_is; stands = s.stands })) done.accounts.causes (g.K.Sink.written c.write_reply.new.sink) c.in-Err-write_reply.ensures.front
 
 pub statements-preserved : goal.statements-preserved
 statements-preserved g c =
@@ -86,29 +86,27 @@ statements-preserved g c =
     let found = subst (λ o. Found c.args.script.now at o) c.in-Ok-Some.field-0-is c.in-Ok-Some.ensures.found in
     let left = one_statement c.args.script.now at used st found in
     record {
-      goes_on = goes_further start before after c.statements.invariant.goes_on done.goes_on;
-      free = done.parts.free c.statements.invariant.free;
+      goes_on = goes_further start before after c.statements.invariant.goes_on done.leaves.keeps;
+      free = done.leaves.parts.free c.statements.invariant.free;
       tells = done.tells ∙ c.statements.invariant.tells;
       served = λ kept tells knows settled.
           let progress : Progress = record { script = c.args.script.now; at = at; tally = c.statements.tally } in
           let output : Output = record { before = g.K.Sink.written c.args.sink.now; after = g.K.Sink.written c.statements.sink } in
-          let written : Output = record { before = g.K.Sink.written c.args.sink.now; after = g.K.Sink.written c.write_reply.new.sink } in
           let s = c.statements.invariant.served kept tells knows settled in
-          let fits = follows start before after arm arm_after c.statements.invariant.goes_on done.goes_on done.later done.parts.levels done.stopped in
-          let more = served_more files kept progress start before after arm arm_after output s fits used st left c.in-Ok.reply
-          (done.answers s.ran.now (c.statements.invariant.tells ∙ tells) (record { told_is = s.ran.told_is; stands = s.stands })) done.causes written.after c.in-Ok-write_reply.ensures.all in
-          subst (λ t. Served files kept (record { script = c.args.script.now; at = at + used; tally = t }) (turned start after arm_after) written) (sym c.in-Ok-write_reply.ensures.tally) more;
-      held = λ tells held. done.held (c.statements.invariant.tells ∙ tells) (c.statements.invariant.held tells held);
+          let fits = follows start before after arm arm_after c.statements.invariant.goes_on done.leaves done.accounts.later in
+          served_more files kept progress start before after arm arm_after output s fits used st left c.in-Ok.reply
+          (done.answers s.ran.now (c.statements.invariant.tells ∙ tells) (record { told_is = s.ran.told_is; stands = s.stands })) done.accounts.causes c.in-Ok-write_reply.told c.in-Ok-write_reply.ensures.tally (g.K.Sink.written c.write_reply.new.sink) c.in-Ok-write_reply.ensures.all;
+      held = λ tells held. done.leaves.held (c.statements.invariant.tells ∙ tells) (c.statements.invariant.held tells held);
       undamaged = λ tells held.
           tallied_undamaged c.statements.tally c.in-Ok.reply c.in-Ok-write_reply.told c.in-Ok-write_reply.ensures.tally (c.statements.invariant.undamaged tells held) (done.undamaged (c.statements.invariant.tells ∙ tells) (c.statements.invariant.held tells held));
       keeps = λ first start_mark tells keeps gained.
           let was = c.statements.invariant.keeps first start_mark tells keeps gained in (
             was.0 ++ st ∷ [],
             one_more c.args.script.now was.0 _ st _ was.1 left,
-            done.through_crashes (c.statements.invariant.tells ∙ tells) first start_mark was.2,
+            done.leaves.crashes (c.statements.invariant.tells ∙ tells) first start_mark was.2,
             gained_one files before after was.0 st first was.3 c.statements.invariant.goes_on.left.opened (λ still. (was.2.calm still).1)
                 (λ kept knows. let a = done.answers kept (c.statements.invariant.tells ∙ tells) knows in (a.now, a.told_is, stepped_answered files kept st (turned before after arm_after) c.in-Ok.reply a))
-                (λ risen. ap (λ (s : Storage). s.annals) (done.stopped risen).storage_is),
+                (λ risen. ap (λ (s : Storage). s.annals) (done.leaves.stopped risen).storage_is),
           );
       within = used_within c.args.script.now at used c.statements.invariant.within (subst (λ o. Used c.args.script.now at o) c.in-Ok-Some.field-0-is c.in-Ok-Some.ensures.used).1;
       arm_later = omega arith;
@@ -141,10 +139,10 @@ returns-in-Err-run_statement-clause-through_crashes g c = λ first start tells k
     let left = one_statement c.args.script.now c.statements.at c.in-Ok-Some.found.1 st found in
     let was = c.statements.invariant.keeps first start tells keeps gained in
     left_behind c.args.engine.now.store.opened (statements_of c.args.script.now) (was.0 ++ st ∷ []) (statements_of (drop (c.statements.at + c.in-Ok-Some.found.1) c.args.script.now)) (one_more c.args.script.now was.0 _ st _ was.1 left)
-    (done.goes_on.opened ∙ c.statements.invariant.goes_on.opened) (done.through_crashes (c.statements.invariant.tells ∙ tells) first start was.2)
+    (done.leaves.keeps.opened ∙ c.statements.invariant.goes_on.opened) (done.leaves.crashes (c.statements.invariant.tells ∙ tells) first start was.2)
     (gained_one files before after was.0 st first was.3 c.statements.invariant.goes_on.left.opened (λ still. (was.2.calm still).1)
     (λ kept knows. let k = done.answers kept (c.statements.invariant.tells ∙ tells) knows in (k.now, k.told_is, stepped_unanswered files kept st (turned before after (g.R.Arm.failed c.run_statement.new.arm)) k))
-    (λ risen. ap (λ (s : Storage). s.annals) (done.stopped risen).storage_is))
+    (λ risen. ap (λ (s : Storage). s.annals) (done.leaves.stopped risen).storage_is))
 
 pub returns-in-Err-write_reply-clause-through_crashes : goal.returns-in-Err-write_reply-clause-through_crashes
 returns-in-Err-write_reply-clause-through_crashes g c = λ first start tells keeps gained.
@@ -157,10 +155,10 @@ returns-in-Err-write_reply-clause-through_crashes g c = λ first start tells kee
     let left = one_statement c.args.script.now c.statements.at c.in-Ok-Some.found.1 st found in
     let was = c.statements.invariant.keeps first start tells keeps gained in
     left_behind c.args.engine.now.store.opened (statements_of c.args.script.now) (was.0 ++ st ∷ []) (statements_of (drop (c.statements.at + c.in-Ok-Some.found.1) c.args.script.now)) (one_more c.args.script.now was.0 _ st _ was.1 left)
-    (done.goes_on.opened ∙ c.statements.invariant.goes_on.opened) (done.through_crashes (c.statements.invariant.tells ∙ tells) first start was.2)
+    (done.leaves.keeps.opened ∙ c.statements.invariant.goes_on.opened) (done.leaves.crashes (c.statements.invariant.tells ∙ tells) first start was.2)
     (gained_one files before after was.0 st first was.3 c.statements.invariant.goes_on.left.opened (λ still. (was.2.calm still).1)
     (λ kept knows. let a = done.answers kept (c.statements.invariant.tells ∙ tells) knows in (a.now, a.told_is, stepped_answered files kept st (turned before after (g.R.Arm.failed c.run_statement.new.arm)) c.in-Ok.reply a))
-    (λ risen. ap (λ (s : Storage). s.annals) (done.stopped risen).storage_is))
+    (λ risen. ap (λ (s : Storage). s.annals) (done.leaves.stopped risen).storage_is))
 
 pub returns-clause-through_crashes : goal.returns-clause-through_crashes
 returns-clause-through_crashes g c = λ first start tells keeps gained.
@@ -169,10 +167,10 @@ returns-clause-through_crashes g c = λ first start tells keeps gained.
 
 -- what the root is then
 pub returns-in-Err-run_statement-clause-goes_on : goal.returns-in-Err-run_statement-clause-goes_on
-returns-in-Err-run_statement-clause-goes_on g c = goes_further c.args.engine.now c.statements.engine c.run_statement.new.engine c.statements.invariant.goes_on c.in-Err-run_statement.ensures.goes_on
+returns-in-Err-run_statement-clause-goes_on g c = goes_further c.args.engine.now c.statements.engine c.run_statement.new.engine c.statements.invariant.goes_on c.in-Err-run_statement.ensures.leaves.keeps
 
 pub returns-in-Err-write_reply-clause-goes_on : goal.returns-in-Err-write_reply-clause-goes_on
-returns-in-Err-write_reply-clause-goes_on g c = goes_further c.args.engine.now c.statements.engine c.run_statement.new.engine c.statements.invariant.goes_on c.in-Ok.ensures.goes_on
+returns-in-Err-write_reply-clause-goes_on g c = goes_further c.args.engine.now c.statements.engine c.run_statement.new.engine c.statements.invariant.goes_on c.in-Ok.ensures.leaves.keeps
 
 -- no reply told of damage
 pub returns-in-Ok-None-clause-undamaged : goal.returns-in-Ok-None-clause-undamaged

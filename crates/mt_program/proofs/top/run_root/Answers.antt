@@ -10,7 +10,7 @@ use Rattle.mt_program.proofs.Crashing.{keeps_opened, nothing_of_script}
 use Rattle.mt_program.proofs.Gaining.{gained_nothing}
 use Rattle.mt_program.proofs.Heading.{root_told, writes_damage, writes_nothing}
 use Rattle.session.specs.shared_store.Levels.{has_greatest}
-use Rattle.mt_program.proofs.Reopened.{gained_root, greatest_reopened, images_reopened, images_settled, keeps_root, knows_root, left_as, names_reopened, reopened, script_as, shown_reopened, shows_full, sound_reopened, sound_root, stands_reopened, stands_root}
+use Rattle.mt_program.proofs.Reopened.{gained_root, images_reopened, images_settled, keeps_root, knows_root, left_as, open_root, ready_reopened, reopened, script_as, shown_reopened, shows_full, sound_root, stands_reopened, stands_root}
 use Rattle.mt_program.proofs.Undamaged.{not_opened}
 use Rattle.mt_program.proofs.top.run_root.Goals as goal
 
@@ -23,7 +23,7 @@ returns-in-Err-clause-leaves g c = λ kept names script told is stands tells lef
     told,
     writes_nothing c.in-Err.fault c.failed_root.result (g.K.Sink.failed c.args.sink.now) (g.K.Sink.failed c.failed_root.new.sink) (g.K.Sink.written c.args.sink.now) (g.K.Sink.written c.failed_root.new.sink)
         (c.in-Err.ensures.stands names (history kept) is stands) c.failed_root.ensures.writes,
-    c.in-Err.ensures.told,
+    c.in-Err.ensures.disk.told,
   );
 }
 
@@ -31,7 +31,7 @@ pub returns-in-Err-clause-opening : goal.returns-in-Err-clause-opening
 returns-in-Err-clause-opening g c = λ names damage is damaged. (
   writes_damage _ damage c.in-Err.fault c.failed_root.result (g.K.Sink.failed c.args.sink.now) (g.K.Sink.failed c.failed_root.new.sink) (g.K.Sink.written c.args.sink.now) (g.K.Sink.written c.failed_root.new.sink)
       damaged (c.in-Err.ensures.damaged names is) c.failed_root.ensures.writes,
-  c.in-Err.ensures.told,
+  c.in-Err.ensures.disk.told,
   c.in-Err.ensures.mark_err,
   refl,
 )
@@ -43,19 +43,20 @@ returns-in-Err-clause-sound g c = λ kept names told is stands tells. c.failed_r
 pub new-engine-requires-after_bounds : goal.new-engine-requires-after_bounds
 new-engine-requires-after_bounds g c κs within =
     let low = c.requires.opened in
-    let later = c.in-Ok.ensures.later in
-    record {
-      names = λ still names is. names_reopened c.in-Ok.store c.args.opened names (c.in-Ok.ensures.names names (sym c.in-Ok.ensures.told ∙ is));
-      shown = λ still names is. shown_reopened c.in-Ok.store c.args.opened (names_of names) (c.in-Ok.ensures.shown names (sym c.in-Ok.ensures.told ∙ is));
-      greatest = λ names is. greatest_reopened c.in-Ok.store c.args.opened (names_of names) (c.in-Ok.ensures.shown names (sym c.in-Ok.ensures.told ∙ is));
-      sound = sound_reopened c.in-Ok.store c.args.opened c.in-Ok.ensures.sound;
-      opened = omega (arith, low, later);
-      below = c.requires.below;
-    }
+    let later = c.in-Ok.ensures.disk.later in
+    ready_reopened c.in-Ok.store c.args.opened (g.D.Disk.failed c.open.new.disk) (g.D.Disk.told c.open.new.disk) (λ names is. c.in-Ok.ensures.names names (sym c.in-Ok.ensures.disk.told ∙ is)) (λ names is. c.in-Ok.ensures.shown names (sym c.in-Ok.ensures.disk.told ∙ is)) c.in-Ok.ensures.sound (omega (arith, low, later)) c.requires.below
+
+pub run_script-end-requires-clause-open : goal.run_script-end-requires-clause-open
+run_script-end-requires-clause-open g c κs within =
+    let here = storage (g.D.Disk.told c.open.new.disk) (g.D.Disk.clock c.open.new.disk) (g.D.Disk.failed c.open.new.disk) (g.A.Annals.told c.args.annals) in
+    let low = c.requires.opened in
+    let later = c.in-Ok.ensures.disk.later in
+    open_root g.D.Arm.Dir.Dir.files c.new-engine.result (reopened c.in-Ok.store c.args.opened) here c.new-engine.ensures.store c.new-engine.ensures.storage
+    (ready_reopened c.in-Ok.store c.args.opened here.failed here.disk (λ names is. c.in-Ok.ensures.names names (sym c.in-Ok.ensures.disk.told ∙ is)) (λ names is. c.in-Ok.ensures.shown names (sym c.in-Ok.ensures.disk.told ∙ is)) c.in-Ok.ensures.sound (omega (arith, low, later)) c.requires.below)
 
 -- the parts of a root that is opened bear no mark
-pub run_script-end-requires-after_bounds : goal.run_script-end-requires-after_bounds
-run_script-end-requires-after_bounds g c κs within = subst HasNoMark (sym c.new-engine.ensures.store) c.in-Ok.ensures.idle
+pub run_script-end-requires-clause-free : goal.run_script-end-requires-clause-free
+run_script-end-requires-clause-free g c κs within = subst HasNoMark (sym c.new-engine.ensures.store) c.in-Ok.ensures.idle
 
 -- the script was served
 pub returns-clause-leaves : goal.returns-clause-leaves
@@ -66,7 +67,7 @@ returns-clause-leaves g c = λ kept names script told is stands tells left.
     let store = reopened c.in-Ok.store c.args.opened in
     let here = storage (g.D.Disk.told c.open.new.disk) (g.D.Disk.clock c.open.new.disk) (g.D.Disk.failed c.open.new.disk) (g.A.Annals.told c.args.annals) in
     let output : Output = record { before = g.K.Sink.written c.args.sink.now; after = g.K.Sink.written c.run_script-end.new.sink } in
-    let settled = root_told (g.D.Disk.told c.open.new.disk) names (history kept) (c.in-Ok.ensures.told ∙ is) stands in
+    let settled = root_told (g.D.Disk.told c.open.new.disk) names (history kept) (c.in-Ok.ensures.disk.told ∙ is) stands in
     let core = stands_reopened c.in-Ok.store c.args.opened files (history kept) (c.in-Ok.ensures.stands names (history kept) is stands) in
     let end = c.run_script-end.new.engine in
     let full = has_greatest end.store in
@@ -74,13 +75,13 @@ returns-clause-leaves g c = λ kept names script told is stands tells left.
       full = full;
       only = λ is names there. shows_full end.store end.storage.failed names end.storage.disk c.run_script-end.ensures.goes_on.left is (ap (λ (x : Storage). x.disk) c.into_outside-disk.ensures.storage ∙ there);
       left = left_as c.run_script-end.result kept script output (g.D.Arm.Arm.failed c.run_script-end.new.arm) full root.store.opened c.args.opened root.storage.disk (g.D.Disk.told c.args.disk) end.storage _
-          (ap (λ x. x.opened) was.store) (ap (λ (x : Storage). x.disk) was.storage ∙ c.in-Ok.ensures.told) c.into_outside-disk.ensures.storage
-          (c.run_script-end.ensures.leaves kept script (c.in-Ok.ensures.tells ∙ tells) (knows_root files root store here was.store was.storage kept told core) (stands_root files root store here was.store was.storage kept settled) left);
+          (ap (λ x. x.opened) was.store) (ap (λ (x : Storage). x.disk) was.storage ∙ c.in-Ok.ensures.disk.told) c.into_outside-disk.ensures.storage
+          (c.run_script-end.ensures.leaves kept script (c.in-Ok.ensures.disk.tells ∙ tells) (knows_root files root store here was.store was.storage kept told core) (stands_root files root store here was.store was.storage kept settled) left);
     }
 
 pub returns-clause-sound : goal.returns-clause-sound
 returns-clause-sound g c = λ kept names told is stands tells.
-    c.run_script-end.ensures.undamaged (c.in-Ok.ensures.tells ∙ tells)
+    c.run_script-end.ensures.undamaged (c.in-Ok.ensures.disk.tells ∙ tells)
     (sound_root g.D.Arm.Dir.Dir.files c.new-engine.result (reopened c.in-Ok.store c.args.opened) _ c.new-engine.ensures.store c.new-engine.ensures.storage (c.in-Ok.ensures.held names is))
 
 -- damage was met only where the root is damaged
@@ -89,14 +90,14 @@ returns-in-Err-clause-damaged g c = λ names is tells. not_opened (names_of name
 
 pub returns-clause-damaged : goal.returns-clause-damaged
 returns-clause-damaged g c = λ names is tells.
-    inl (c.run_script-end.ensures.undamaged (c.in-Ok.ensures.tells ∙ tells)
+    inl (c.run_script-end.ensures.undamaged (c.in-Ok.ensures.disk.tells ∙ tells)
     (sound_root g.D.Arm.Dir.Dir.files c.new-engine.result (reopened c.in-Ok.store c.args.opened) _ c.new-engine.ensures.store c.new-engine.ensures.storage (c.in-Ok.ensures.held names is)))
 
 -- what a crash leaves
 pub returns-in-Err-clause-crashes : goal.returns-in-Err-clause-crashes
 returns-in-Err-clause-crashes g c = λ kept told is known tells all.
     let now = storage (g.D.Disk.told c.open.new.disk) (g.D.Disk.clock c.open.new.disk) (g.D.Disk.failed c.open.new.disk) (g.A.Annals.told c.args.annals) in
-    nothing_of_script told kept now (g.D.Disk.clock c.args.disk) (c.in-Err.ensures.told ∙ known) is (c.in-Err.ensures.crashes told kept.list known all) (g.S.Source.left c.args.source.now) c.args.opened
+    nothing_of_script told kept now (g.D.Disk.clock c.args.disk) (c.in-Err.ensures.disk.told ∙ known) is (c.in-Err.ensures.crashes told kept.list known all) (g.S.Source.left c.args.source.now) c.args.opened
 
 pub returns-clause-crashes : goal.returns-clause-crashes
 returns-clause-crashes g c = λ kept told is known tells all.
@@ -108,9 +109,9 @@ returns-clause-crashes g c = λ kept told is known tells all.
     let core = stands_reopened c.in-Ok.store c.args.opened files (history kept) (c.in-Ok.ensures.stands told (history kept) known (stands_as_read told start (history kept) all)) in
     let here = storage (g.D.Disk.told c.open.new.disk) (g.D.Disk.clock c.open.new.disk) (g.D.Disk.failed c.open.new.disk) (g.A.Annals.told c.args.annals) in
     let images = images_reopened c.in-Ok.store c.args.opened here.disk here.clock (c.in-Ok.ensures.images told (history kept) known all) in
-    let keeps = keeps_opened told kept here start (c.in-Ok.ensures.told ∙ known) is (c.in-Ok.ensures.crashes told kept.list known all) files store core images in
+    let keeps = keeps_opened told kept here start (c.in-Ok.ensures.disk.told ∙ known) is (c.in-Ok.ensures.crashes told kept.list known all) files store core images in
     script_as (g.S.Source.left c.args.source.now) root.store.opened c.args.opened c.run_script-end.new.engine.storage _ kept start (ap (λ x. x.opened) was.store) c.into_outside-disk.ensures.storage
-    (c.run_script-end.ensures.through_crashes kept start (c.in-Ok.ensures.tells ∙ tells) (keeps_root files root store here was.store was.storage kept start keeps)
+    (c.run_script-end.ensures.through_crashes kept start (c.in-Ok.ensures.disk.tells ∙ tells) (keeps_root files root store here was.store was.storage kept start keeps)
     (gained_root files root store here was.store was.storage kept (gained_nothing (g.A.Annals.told c.args.annals) kept is)))
 
 -- what a crash leaves once the names that were read are settled
@@ -118,7 +119,7 @@ pub returns-in-Err-clause-settles : goal.returns-in-Err-clause-settles
 returns-in-Err-clause-settles g c = λ kept told is known tells some all stamped.
     let stands = stands_as_read told (g.D.Disk.clock c.args.disk + 1) (history kept) all in
     inl (record {
-      names = c.in-Err.ensures.told;
+      names = c.in-Err.ensures.disk.told;
       mark = c.in-Err.ensures.mark_err;
       list = refl;
       output = writes_nothing c.in-Err.fault c.failed_root.result (g.K.Sink.failed c.args.sink.now) (g.K.Sink.failed c.failed_root.new.sink) (g.K.Sink.written c.args.sink.now) (g.K.Sink.written c.failed_root.new.sink)
@@ -135,8 +136,8 @@ returns-clause-settles g c = λ kept told is known tells some all stamped.
     let core = stands_reopened c.in-Ok.store c.args.opened files (history kept) (c.in-Ok.ensures.stands told (history kept) known (stands_as_read told start (history kept) all)) in
     let safe = subst (λ (m : ℕ). IsCrashSafe told m (none_begun kept.list) kept.list start) (sym (c.in-Ok.ensures.settled told known some)) (safe_at_start told start kept.list all) in
     let here = storage (g.D.Disk.told c.open.new.disk) (g.D.Disk.clock c.open.new.disk) (g.D.Disk.failed c.open.new.disk) (g.A.Annals.told c.args.annals) in
-    let images = images_settled store told (g.D.Disk.clock c.args.disk) here.disk here.clock (c.in-Ok.ensures.told ∙ known) (c.in-Ok.ensures.settled told known some) stamped (shown_reopened c.in-Ok.store c.args.opened (names_of told) (c.in-Ok.ensures.shown told known)) in
-    let keeps = keeps_opened told kept here start (c.in-Ok.ensures.told ∙ known) is safe files store core images in
+    let images = images_settled store told (g.D.Disk.clock c.args.disk) here.disk here.clock (c.in-Ok.ensures.disk.told ∙ known) (c.in-Ok.ensures.settled told known some) stamped (shown_reopened c.in-Ok.store c.args.opened (names_of told) (c.in-Ok.ensures.shown told known)) in
+    let keeps = keeps_opened told kept here start (c.in-Ok.ensures.disk.told ∙ known) is safe files store core images in
     inr (script_as (g.S.Source.left c.args.source.now) root.store.opened c.args.opened c.run_script-end.new.engine.storage _ kept start (ap (λ x. x.opened) was.store) c.into_outside-disk.ensures.storage
-    (c.run_script-end.ensures.through_crashes kept start (c.in-Ok.ensures.tells ∙ tells) (keeps_root files root store here was.store was.storage kept start keeps)
+    (c.run_script-end.ensures.through_crashes kept start (c.in-Ok.ensures.disk.tells ∙ tells) (keeps_root files root store here was.store was.storage kept start keeps)
     (gained_root files root store here was.store was.storage kept (gained_nothing (g.A.Annals.told c.args.annals) kept is))))

@@ -14,7 +14,7 @@ pub returns-in-Err-clause-undamaged : goal.returns-in-Err-clause-undamaged
 returns-in-Err-clause-undamaged g c = λ tells held bad. stop_undamaged c.in-Err.stop (sym c.failed_reading.ensures ∙ bad)
 
 pub returns-in-Err-clause-goes_on : goal.returns-in-Err-clause-goes_on
-returns-in-Err-clause-goes_on g c = stays_open c.args.engine.now c.is_open.ensures
+returns-in-Err-clause-goes_on g c = stays_open c.args.engine.now c.requires.open
 
 -- it was served
 pub returns-clause-leaves : goal.returns-clause-leaves
