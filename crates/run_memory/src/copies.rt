@@ -105,14 +105,17 @@ fn two_blocks(alloc: Global) -> Result<Index, NoMemory> {
     })
 }
 
-// The pin of a table with one part, at a length of the history.
-fn pinned(alloc: Global, length: u64, first: u8, second: u8) -> Result<Snap<CorePart>, NoMemory> {
-    let table = Seq::from_slice(alloc, b"t")?;
-    let part = part_of(alloc, &table, first, second)?;
+// A set with one part of a table, its first.
+fn one_part(
+    alloc: Global,
+    table: &Name,
+    first: u8,
+    second: u8,
+) -> Result<PartSet<CorePart>, NoMemory> {
+    let part = part_of(alloc, table, first, second)?;
     let mut set = PartSet::new(alloc);
-    set.add(alloc, &table, first_part(), part)?;
-    let schema = numbers_schema(alloc)?;
-    set.pin(alloc, &table, &schema, length)
+    set.add(alloc, table, first_part(), part)?;
+    Ok(set)
 }
 
 // The primary keys of two rows, each of one number.
@@ -295,7 +298,29 @@ impl Answer {
         self.given(twin)
     }
 
-    /// Prints what a pinned table has: its schema, its one part with two rows, and the length of the history.
+    // Prints what a pinned table has: its schema, its parts and the length of the history.
+    fn snap(&mut self, snap: &Snap<CorePart>) {
+        self.schema(&snap.schema);
+        self.put("; ");
+        for kept in &snap.parts {
+            self.kept_part(kept);
+        }
+        self.put("; length ");
+        self.number(snap.length);
+    }
+
+    // Pins a table with one part, at a length of the history, prints what it has, and lets it go.
+    fn pinned(&mut self, length: u64, first: u8, second: u8) -> Result<(), NoMemory> {
+        let table = Seq::from_slice(self.alloc, b"t")?;
+        let mut set = one_part(self.alloc, &table, first, second)?;
+        let schema = numbers_schema(self.alloc)?;
+        let snap = set.pin(self.alloc, &table, &schema, length)?;
+        self.snap(&snap);
+        set.unpin(snap);
+        Ok(())
+    }
+
+    /// Prints what a pinned table has, whose one part has two rows.
     pub fn pin(&mut self, rest: &str) {
         self.open();
         let (length, rest) = first_word(rest);
@@ -303,16 +328,8 @@ impl Answer {
         let length = self.number_of(length);
         let first = self.small_of(first);
         let second = self.small_of(second);
-        let snap = pinned(self.alloc, length, first, second);
-        if let Some(snap) = self.given(snap) {
-            self.schema(&snap.schema);
-            self.put("; ");
-            for kept in &snap.parts {
-                self.kept_part(kept);
-            }
-            self.put("; length ");
-            self.number(snap.length);
-        }
+        let printed = self.pinned(length, first, second);
+        self.note(printed.is_ok());
     }
 
     // Prints a number and its twins, of 8, of 32 and of 64 bits.
