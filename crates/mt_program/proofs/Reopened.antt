@@ -15,8 +15,12 @@ use Rattle.root_log.specs.part_set.Sets.{parts_of}
 use Rattle.session.specs.shared_store.Levels.{has_greatest}
 use Rattle.session.proofs.SharedStoreLevels.{greatest_there, name_here}
 use Rattle.session.specs.shared_store.Engines.{IsOpen, Opened}
+use Rattle.root_log.specs.root_opening.Opened.{Opens}
 use Rattle.root_log.specs.root_store.Crashes.{KeepsThroughCrashes, Storage}
+use Rattle.root_log.specs.root_store.Roots.{Stands}
 use Rattle.root_log.specs.root_store.Shown.{AreShown, GreatestAreShown, ImagesShow, part_called}
+use Rattle.root_log.proofs.RootOpeningImagesShown.{shown_opened}
+use Rattle.root_log.proofs.RootOpeningStanding.{core_stands}
 use Rattle.root_log.proofs.RootStoreCrashOrder.{same_names}
 use Rattle.root_log.specs.root_store.Soundness.{HasSoundParts, IsNameUnder, IsReady, IsSoundStore, NamesFit, RootStands}
 use Rattle.mt_program.specs.Crashes.{IsGainedBy, LeavesOfScript}
@@ -31,17 +35,17 @@ abbrev pub reopened : {F : Type 0} → CoreStore F → ℕ → CoreStore F
 reopened store opened = record { tables = store.tables; set = store.set; mutations = store.mutations; length = store.length; opened = opened }
 
 module _ {F : Type 0} (store : CoreStore F) (opened : ℕ) where
-  pub sound_reopened : IsSoundStore store → IsSoundStore (reopened store opened)
+  sound_reopened : IsSoundStore store → IsSoundStore (reopened store opened)
   sound_reopened s = record {
     tables = λ table t at. let one = s.tables table t at in record { named = one.named; schema = one.schema; order = one.order; ends = one.ends; may = one.may };
     no_other = s.no_other;
   }
 
-  pub names_reopened : (told : Told) → NamesFit store told → NamesFit (reopened store opened) told
+  names_reopened : (told : Told) → NamesFit store told → NamesFit (reopened store opened) told
   names_reopened told fit =
       All-weaker (IsNameUnder store) (IsNameUnder (reopened store opened)) (λ name one. record { table = one.table; kept = one.kept; there = one.there; is = one.is }) (keys_of (names_of told)) fit
 
-  pub stands_reopened : (files_of : F → Option Files) (h : History) → CoreStands files_of h store → CoreStands files_of h (reopened store opened)
+  stands_reopened : (files_of : F → Option Files) (h : History) → CoreStands files_of h store → CoreStands files_of h (reopened store opened)
   stands_reopened files_of h s = record {
     legal = s.legal;
     length_is = s.length_is;
@@ -56,18 +60,25 @@ module _ {F : Type 0} (store : CoreStore F) (opened : ℕ) where
   pub shown_reopened : (names : Names) → AreShown store names → AreShown (reopened store opened) names
   shown_reopened names s = record { read = s.read; are = s.are; parts = s.parts }
 
-  pub greatest_reopened : (names : Names) → AreShown store names → GreatestAreShown (reopened store opened) names
+  greatest_reopened : (names : Names) → AreShown store names → GreatestAreShown (reopened store opened) names
   greatest_reopened names s = λ table name has level. record { read = s.read; are = s.are; visible = (s.parts table name).1 has }
 
-  pub ready_reopened : (failed : ℕ) (told : Option Told) → ((t : Told) → told ≡ Some t → NamesFit store t) → ((t : Told) → told ≡ Some t → AreShown store (names_of t)) → IsSoundStore store → opened ≤ failed → opened < 2 ^ 64 - 1 → IsReady failed told (reopened store opened)
-  ready_reopened failed told names shown sound low below = record {
-    names = λ still t is. names_reopened t (names t is);
-    shown = λ still t is. shown_reopened (names_of t) (shown t is);
-    greatest = λ t is. greatest_reopened (names_of t) (shown t is);
-    sound = sound_reopened sound;
-    opened = low;
-    below = below;
-  }
+  -- a root that was opened is ready for a turn
+  pub ready_opened : (files_of : F → Option Files) (disk now : Option Told) (count failed : ℕ) → Opens files_of disk count store → now ≡ disk → opened ≤ failed → opened < 2 ^ 64 - 1 → IsReady failed now (reopened store opened)
+  ready_opened files_of disk now count failed o same low below =
+      let shown : (t : Told) → now ≡ Some t → AreShown store (names_of t) = λ t is. shown_opened files_of (names_of t) store (o.told t (sym same ∙ is)).store_of in
+      record {
+        names = λ still t is. names_reopened t (o.told t (sym same ∙ is)).names;
+        shown = λ still t is. shown_reopened (names_of t) (shown t is);
+        greatest = λ t is. greatest_reopened (names_of t) (shown t is);
+        sound = sound_reopened o.sound;
+        opened = low;
+        below = below;
+      }
+
+  -- and stands for what the root stands for
+  pub stands_opened : (files_of : F → Option Files) (disk : Option Told) (count : ℕ) (told : Told) (h : History) → Opens files_of disk count store → disk ≡ Some told → Stands (names_of told) h → CoreStands files_of h (reopened store opened)
+  stands_opened files_of disk count told h o is stands = stands_reopened files_of h (core_stands files_of (names_of told) h store (o.told told is).store_of stands)
 
   pub images_reopened : (disk : Option Told) (clock : ℕ) → ImagesShow disk clock store → ImagesShow disk clock (reopened store opened)
   images_reopened disk clock show = λ told is names image. shown_reopened names (show told is names image)

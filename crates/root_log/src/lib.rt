@@ -8,6 +8,7 @@ pub use root_commits::{
 };
 pub use root_opening::root_store::{CoreStore, Table};
 pub use root_opening::{
-    Damage, NameFault, OpenFault, damage_of_a_root_is_one, open, open_entry, read_names,
-    roots_stand_by_their_stores, sound_roots_are_not_damaged, sql_read, told_names_rise,
+    Damage, NameFault, OpenFault, damage_of_a_root_is_one, open, open_entry,
+    openings_leave_what_was_noted, read_names, roots_stand_by_their_stores,
+    sound_roots_are_not_damaged, sql_read, told_names_rise,
 };

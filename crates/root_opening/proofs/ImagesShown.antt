@@ -1,6 +1,7 @@
--- The visible parts of whatever a crash leaves of a root that was opened are the store's.
-use Rattle.std.proofs.Common.{◌≡◌, ◌≢◌, ◌⊎◌, inl, inr, ℕ, ◌+◌, List, [], ◌∷◌, map, Option, is_some, refl, ap, ◌∙◌, subst, arith}
+-- What a crash leaves of a root that was opened: what was noted, and the store's visible parts.
+use Rattle.std.proofs.Common.{◌≡◌, inl, ℕ, ◌+◌, List, [], ◌∷◌, map, Err, Ok, Option, Result, Some, is_some, refl, sym, ap, ◌∙◌, subst}
 use Rattle.std.specs.List.{Contains as HasItem}
+use Rattle.mt_values.specs.declared.annals.Noted.{Noted}
 use Rattle.mt_outside.specs.Disk.{Image, Names, Survive, Told, names_of}
 use Rattle.mt_outside.specs.Files.{Files}
 use Rattle.mt_outside.proofs.Changes.{at_clock-none, before_clock-all}
@@ -15,11 +16,13 @@ use Rattle.root_store.specs.part_set.Sets.{parts_of}
 use Rattle.root_store.specs.part_set.Visible.{IsVisible}
 use Rattle.root_store.proofs.PartSetItems.{item_none}
 use Rattle.root_store.specs.declared.store.CoreStore.{CoreStore}
-use Rattle.root_store.specs.Crashes.{AllStand}
+use Rattle.root_store.specs.Crashes.{AllStand, IsCrashSafe, entries_of, none_begun}
 use Rattle.root_store.specs.Roots.{AreNamesRead, Stands}
-use Rattle.root_store.specs.Shown.{AreShown, part_called}
+use Rattle.root_store.specs.Shown.{AreShown, ImagesShow, part_called}
 use Rattle.root_store.specs.Stores.{StoreOf}
-use Rattle.root_store.proofs.CrashMarks.{stands_as_read}
+use Rattle.root_opening.specs.declared.opening.OpenFault.{OpenFault}
+use Rattle.root_opening.specs.Opened.{SettlesNames, mark_settled}
+use Rattle.root_store.proofs.CrashMarks.{safe_opened, some_one, stands_as_read}
 use Rattle.root_store.proofs.CrashOrder.{same_names}
 use Rattle.root_store.proofs.Orphaned.{of_core}
 use Rattle.root_store.proofs.Tabled.{table_here}
@@ -65,15 +68,20 @@ module _ {F : Type 0} (files_of : F → Option Files) (store : CoreStore F) (tol
       let kept : Survive (names_of told) names = rw (before_clock-all told clock by, at_clock-none told clock by) at (subst (λ (c : ℕ). Image told c names) raised image) in
       shown_alike store (names_of told) names (same_names (names_of told) names kept) (shown_opened files_of (names_of told) store o)
 
-  -- there was none to settle
-  unsettled_shown : now ≡ clock → (read : Names) → names_of told ≡ read → (read ≢ [] → now ≡ clock + 1) → (names : Names) → Image told now names → AreShown store names
-  unsettled_shown stays [] is settled names image =
+  -- there was none to settle, or they were
+  by_names : (read : Names) → names_of told ≡ read → now ≡ mark_settled read clock → (names : Names) → Image told now names → AreShown store names
+  by_names [] is stays names image =
       none_shown store h (subst (λ (ns : Names). Stands ns h) is (stands_as_read told clock h all)) (subst (AreShown store) is (shown_opened files_of (names_of told) store o)) names
       (all.images names (subst (λ (c : ℕ). Image told c names) stays image))
-  unsettled_shown stays (n ∷ read) is settled names image =
-      let raised = settled (λ none. let e : n ∷ read ≡ [] = none in cc) in
-      absurd (omega (arith, stays, raised))
+  by_names (n ∷ read) is raised names image = settled_shown raised names image
 
-  pub images_opened : (now ≡ clock) ⊎ (now ≡ clock + 1) → (names_of told ≢ [] → now ≡ clock + 1) → (names : Names) → Image told now names → AreShown store names
-  images_opened (inl stays) settled = unsettled_shown stays (names_of told) refl settled
-  images_opened (inr raised) settled = settled_shown raised
+  -- what is told by other words is shown too
+  pub images_opened : now ≡ mark_settled (names_of told) clock → (disk : Option Told) → disk ≡ Some told → ImagesShow disk now store
+  images_opened settled disk known = λ root is.
+      let same : told ≡ root = some_one told root (sym known ∙ is) in
+      subst (λ (t : Told). (names : Names) → Image t now names → AreShown store names) same (by_names (names_of told) refl settled)
+
+-- an opening leaves a crash what was noted, whatever it answers
+pub safe_settled : {T : Type 0} (disk : Option Told) (told : Told) (before now : ℕ) (result : Result T OpenFault) (list : List Noted) → SettlesNames disk before now result → AllStand told before (entries_of list) → IsCrashSafe told now (none_begun list) list before
+safe_settled disk told before now (Ok store) list settled all = safe_opened told before now list all settled.upto
+safe_settled disk told before now (Err e) list stays all = safe_opened told before now list all (inl stays)

@@ -1,4 +1,3 @@
-pub mod BadNames
 pub mod Checked
 pub mod Created
 pub mod EntryScripts
@@ -14,6 +13,7 @@ pub mod NamesTold
 pub mod NextNames
 pub mod OneDamage
 pub mod Opened
+pub mod OpenedRoots
 pub mod Settled
 pub mod Standing
 pub use Rattle.root_store.proofs.PartSetItems

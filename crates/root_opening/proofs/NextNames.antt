@@ -170,7 +170,7 @@ module _ (r : Root) (named : IsNamedRoot r) (told : Told) (listed : IsTextsOf r 
 -- ---- the whole store
 
 module _ {F : Type 0} (r : Root) (named : IsNamedRoot r) (store : CoreStore F) (n : ℕ) (k : Keeps r.names.items r.names.items store) where
-  abbrev Whole_ : CoreStore F
+  abbrev pub Whole_ : CoreStore F
   Whole_ = record { tables = store.tables; set = store.set; mutations = store.mutations; length = n; opened = store.opened }
 
   seen_one : (table : List ℕ) (name : PartName) → HasName (parts_of store.set table) name → IsSeen r.names.items r.names.items table name

@@ -6,7 +6,7 @@ use Rattle.std.specs.List.{slice_get}
 use Rattle.mt_base.specs.declared.name.FileId.{FileId}
 use Rattle.mt_values.specs.declared.schema.Schema.{Schema}
 use Rattle.mt_values.specs.RootNames.{create_name}
-use Rattle.mt_outside.specs.Disk.{Names, files_at}
+use Rattle.mt_outside.specs.Disk.{Names, Told, files_at, names_of}
 use Rattle.mt_outside.specs.Files.{Files}
 use Rattle.root_store.specs.mt_model.History.{History}
 use Rattle.root_store.specs.part_set.declared.root_name.RootName.{RootName}
@@ -17,16 +17,19 @@ use Rattle.root_store.specs.part_set.Visible.{HasNoOrphan, HasNoOverlap, IsFirst
 use Rattle.root_store.proofs.PartSetPasses.{there}
 use Rattle.root_opening.specs.declared.opening.Damage.{Damage}
 use Rattle.root_opening.specs.declared.opening.Damage.TheVariants as damage
+use Rattle.root_opening.specs.declared.opening.OpenFault.{OpenFault}
+use Rattle.root_opening.specs.declared.opening.OpenFault.TheVariants as fault
 use Rattle.root_store.specs.ByteOrder.{AreInByteOrder}
 use Rattle.root_store.specs.Damage.{DamagedAt, IsDamaged, IsFirstDamaged, PartDamaged}
-use Rattle.root_opening.specs.Opening.{AreGood, IsBadNameOf, IsDamagedFileOf, IsOrphanOf, IsOverlapOf, IsRootDamage, IsSpelledAt}
+use Rattle.root_opening.specs.Opening.{AreGood, IsBadNameOf, IsDamagedFileOf, IsNotDamaged, IsOrphanOf, IsOverlapOf, IsRootDamage, IsSpelledAt, IsUndamaged, TellsDamage}
 use Rattle.root_store.specs.Roots.{Stands}
-use Rattle.root_opening.proofs.BadNames.{no_bad_name}
 use Rattle.root_store.proofs.Clear as clear
 use Rattle.root_opening.proofs.FirstNames.{none_bad, same_place}
 use Rattle.root_opening.proofs.NamesTold.{text_of, told_first, told_read}
 use Rattle.root_store.proofs.Orphaned as orphaned
 use Rattle.root_store.proofs.Readings.{item_at, one_reading}
+use Rattle.root_store.proofs.Rising.{told_rise}
+use Rattle.root_store.proofs.Tabled.{few_tables}
 use Rattle.root_store.proofs.Undamaged as undamaged
 use Rattle.root_store.proofs.Undamaged.{folders_agree}
 
@@ -156,14 +159,25 @@ one_damage names (damage.File a f) (damage.Orphan b) x y = absurd (no_orphan_of 
 one_damage names (damage.File a f) (damage.Overlap b d) x y = absurd (no_overlap_of names x.read b d x.good x.no_overlap y)
 one_damage names (damage.File a f) (damage.File b g) x y = damaged_file_one names a b f g x y
 
--- ---- roots that stand
+-- ---- none
 
--- nothing keeps a root that stands for a history from being opened
+-- nothing keeps a root from being opened whose names are good, without orphans, parts that overlap and damaged files
+pub none_damages : (names : Names) (read : List RootName) → AreGood names read → HasNoOrphan read → HasNoOverlap read → ((place : ℕ) (f : FileId) → DamagedAt names read place f → ⊥) → IsUndamaged names
+none_damages names read good orphan overlap sound (damage.Name a) x = good_none_bad names read a good x
+none_damages names read good orphan overlap sound (damage.Orphan a) x = no_orphan_of names read a good orphan x
+none_damages names read good orphan overlap sound (damage.Overlap a b) x = no_overlap_of names read a b good overlap x
+none_damages names read good orphan overlap sound (damage.File a f) x = sound x.place f (subst (λ (r : List RootName). DamagedAt names r x.place f) (one_read names x.read read x.good good) x.first.here)
+
+-- nor a root that stands for a history
 pub no_root_damage : (names : Names) (h : History) (d : Damage) → AreInByteOrder names → Stands names h → IsRootDamage names d → ⊥
-no_root_damage names h (damage.Name a) rise s x = no_bad_name names h s rise x.place a x.first
-no_root_damage names h (damage.Orphan a) rise s x =
-    orphan_at s.read x.place (orphaned.no_orphan names h s) (subst (λ (r : List RootName). OrphanAt r x.place) (one_reading names x.read s.read x.good.are s.are) x.first.is)
-no_root_damage names h (damage.Overlap a b) rise s x =
-    overlap_at s.read x.i x.j (clear.no_overlap names h s) (subst (λ (r : List RootName). OverlapAt r x.i x.j) (one_reading names x.read s.read x.good.are s.are) x.first.is)
-no_root_damage names h (damage.File a f) rise s x =
-    undamaged.no_damage names h s x.place f (subst (λ (r : List RootName). DamagedAt names r x.place f) (one_reading names x.read s.read x.good.are s.are) x.first.here)
+no_root_damage names h d rise s = none_damages names s.read (record { are = s.are; few = few_tables names h s rise }) (orphaned.no_orphan names h s) (clear.no_overlap names h s) (undamaged.no_damage names h s) d
+
+-- so none is told of it
+pub none_told : (names : Names) (h : History) (e : OpenFault) → AreInByteOrder names → Stands names h → TellsDamage names e → IsNotDamaged e
+none_told names h fault.NoMemory rise s told = tt
+none_told names h fault.Disk rise s told = tt
+none_told names h (fault.Damaged d) rise s told = no_root_damage names h d rise s told
+
+-- of the names that a disk tells
+pub none_told_of : (told : Told) (h : History) (e : OpenFault) → Stands (names_of told) h → TellsDamage (names_of told) e → IsNotDamaged e
+none_told_of told h e s tells = none_told (names_of told) h e (told_rise told) s tells

@@ -1,5 +1,5 @@
 -- What is told of the texts of a root's names.
-use Rattle.std.proofs.Common.{◌≡◌, ℕ, ◌+◌, ◌-◌, ◌<◌, ◌≤◌, List, [], ◌∷◌, length, map, filter, get_or, refl, sym, ap, ap₂, ◌∙◌, subst, arith, Option, Some, None, IsSomeAnd}
+use Rattle.std.proofs.Common.{◌≡◌, ℕ, ◌+◌, ◌-◌, ◌<◌, ◌≤◌, List, [], length, map, filter, get_or, refl, sym, ap, ap₂, ◌∙◌, subst, arith, Option, Some, None, IsSomeAnd}
 use Rattle.std.proofs.lemmas.Cmp.{nat_list_cmp_total}
 use Rattle.std.proofs.lemmas.List.{get_or_read}
 use Rattle.std.proofs.lemmas.Map.Keys.{Less-from_sorted, sorted_from_all_adjacent}
@@ -10,34 +10,23 @@ use Rattle.std.specs.List.Sorted.{IsStrictlySortedBy}
 use Rattle.std.specs.Ordering.{nat_cmp}
 use Rattle.std.specs.declared.cmp.Ordering.TheVariants.{Less}
 use Rattle.std.specs.Option.{option_map}
-use Rattle.mt_base.specs.declared.name.FileId.{FileId}
-use Rattle.mt_outside.specs.Disk.{Names, Told, names_of}
+use Rattle.mt_outside.specs.Disk.{Names}
 use Rattle.mt_outside.specs.Files.{Files}
-use Rattle.root_store.specs.mt_model.History.{History}
 use Rattle.root_store.specs.part_set.declared.root_name.RootName.{RootName}
-use Rattle.root_store.specs.part_set.declared.root_name.RootName.TheVariants as root
 use Rattle.root_store.specs.part_set.declared.roots.SetFault.{SetFault}
 use Rattle.root_store.specs.part_set.declared.roots.SetFault.TheVariants as set
 use Rattle.root_store.specs.part_set.Clashes.{IsFault}
 use Rattle.root_store.specs.part_set.RootNames.{root_text}
-use Rattle.root_store.specs.part_set.Visible.{HasNoOrphan, HasNoOverlap, IsFirstOrphan, IsFirstOverlap, IsOrphan, Overlapping}
+use Rattle.root_store.specs.part_set.Visible.{IsOrphan, Overlapping}
 use Rattle.root_store.proofs.PartSetPasses.{there}
 use Rattle.root_opening.specs.declared.opening.Damage.{Damage}
-use Rattle.root_opening.specs.declared.opening.Damage.TheVariants as damage
 use Rattle.root_opening.specs.declared.opening.OpenFault.{OpenFault}
 use Rattle.root_opening.specs.declared.opening.OpenFault.TheVariants as fault
-use Rattle.root_store.specs.Damage.{DamagedAt, IsFirstBadName, is_entry_name, most_tables}
+use Rattle.root_store.specs.Damage.{IsFirstBadName, is_entry_name, most_tables}
 use Rattle.root_opening.specs.Keeping.{IsBadNameAt, IsDamageOfSet}
 use Rattle.root_opening.specs.Names.{AreNamesOf, IsFirstBadText}
-use Rattle.root_opening.specs.Opening.{AreGood, IsNotDamaged, IsRootDamage, IsSpelledAt, TellsDamage}
-use Rattle.root_store.specs.Roots.{AreNamesRead, Stands}
-use Rattle.root_opening.proofs.BadNames.{no_bad_name}
-use Rattle.root_store.proofs.Clear as clear
+use Rattle.root_opening.specs.Opening.{AreGood, IsRootDamage, IsSpelledAt, TellsDamage}
 use Rattle.root_opening.proofs.NamesTold.{first_told, text_of}
-use Rattle.root_store.proofs.Orphaned as orphaned
-use Rattle.root_store.proofs.Readings.{item_at, one_reading}
-use Rattle.root_store.proofs.Rising.{told_rise}
-use Rattle.root_store.proofs.Undamaged as undamaged
 
 -- names of which each stands below the next one rise
 pub rise_from_next : (texts : List (List ℕ)) (place : ℕ) → length texts ≤ place → ((k : ℕ) (d : List ℕ) → k + 1 < place → slice_cmp nat_cmp (get_or texts k d) (get_or texts (k + 1) d) ≡ Less) → IsStrictlySortedBy (slice_cmp nat_cmp) texts
@@ -95,44 +84,3 @@ module _ (names : Names) (texts : List (List ℕ)) (read : List RootName) (are :
         spelled = spelled_there i told_d.0 (slice_get_within read i first.0 first.1) told_d.2;
         spelled_too = spelled_there j told_d.1 (slice_get_within read j second.0 second.1) told_d.3;
       })
-
--- ---- where nothing is wrong, nothing is told
-
-module _ (names : Names) (read : List RootName) (are : AreNamesRead names read) (no_bad : (place : ℕ) (name : List ℕ) → IsFirstBadName names place name → ⊥) (no_orphan : HasNoOrphan read) (no_overlap : HasNoOverlap read)
-    (none : (place : ℕ) (f : FileId) → DamagedAt names read place f → ⊥) where
-  overlapping_none : (a b : RootName) → Overlapping read a b → ⊥
-  overlapping_none (root.Create t) b is = is
-  overlapping_none (root.Part p) (root.Create u) is = is
-  overlapping_none (root.Part p) (root.Part q) is = no_overlap p q is
-
-  pub nothing_told : (d : Damage) → IsRootDamage names d → ⊥
-  nothing_told (damage.Name n) is = no_bad is.place n is.first
-  nothing_told (damage.Orphan n) is =
-      let same = one_reading names is.read read is.good.are are in
-      let first = subst (λ (r : List RootName). IsFirstOrphan r is.place) same is.first in
-      let found = there (slice_get read is.place) (IsOrphan read) first.is in
-      no_orphan found.0 (item_at read is.place found.0 found.1) found.2
-  nothing_told (damage.Overlap m n) is =
-      let same = one_reading names is.read read is.good.are are in
-      let pair = subst (λ (r : List RootName). IsFirstOverlap r is.i is.j) same is.first in
-      let first = there (slice_get read is.i) (λ (a : RootName). IsSomeAnd (slice_get read is.j) (Overlapping read a)) pair.is in
-      let second = there (slice_get read is.j) (Overlapping read first.0) first.2 in
-      overlapping_none first.0 second.0 second.2
-  nothing_told (damage.File n f) is =
-      let same = one_reading names is.read read is.good.are are in
-      none is.place f (subst (λ (r : List RootName). DamagedAt names r is.place f) same is.first.here)
-
-  pub not_damaged : (e : OpenFault) → TellsDamage names e → IsNotDamaged e
-  not_damaged fault.NoMemory told = tt
-  not_damaged fault.Disk told = tt
-  not_damaged (fault.Damaged d) told = nothing_told d told
-
--- a root that stands for a history is not damaged
-pub stands_undamaged : (told : Told) (h : History) → Stands (names_of told) h → (e : OpenFault) → TellsDamage (names_of told) e → IsNotDamaged e
-stands_undamaged told h s =
-    not_damaged (names_of told) s.read s.are (λ place name bad. no_bad_name (names_of told) h s (told_rise told) place name bad) (orphaned.no_orphan (names_of told) h s) (clear.no_overlap (names_of told) h s) (undamaged.no_damage (names_of told) h s)
-
--- names without texts are none
-pub no_names : (names : Names) → map (λ (n : List ℕ × Files). n.0) names ≡ [] → names ≡ []
-no_names [] none = refl
-no_names (n ∷ names) none = absurd cc

@@ -1,5 +1,5 @@
 -- What is told of a root that is not opened (docs/replies.md, "Damage").
-use Rattle.std.specs.Prelude.{◌≡◌, ⊤, ℕ, ◌≤◌, List, length, filter, slice_get, Some}
+use Rattle.std.specs.Prelude.{◌≡◌, ⊤, ℕ, ◌≤◌, List, length, filter, slice_get, Some, Result, MatchResult}
 use Rattle.mt_base.specs.declared.name.FileId.{FileId}
 use Rattle.mt_outside.specs.Disk.{Names}
 use Rattle.root_store.specs.part_set.declared.root_name.RootName.{RootName}
@@ -75,3 +75,11 @@ abbrev pub IsNotDamaged : OpenFault → Type 0
 IsNotDamaged fault.NoMemory = ⊤
 IsNotDamaged fault.Disk = ⊤
 IsNotDamaged (fault.Damaged d) = ⊥
+
+-- nothing keeps the root from being opened
+abbrev pub IsUndamaged : Names → Type 0
+IsUndamaged names = (d : Damage) → IsRootDamage names d → ⊥
+
+-- what is answered of damage: a root is opened where nothing keeps it from that, and else what is told of damage is what does
+abbrev pub AnswersDamage : {T : Type 0} → Names → Result T OpenFault → Type 0
+AnswersDamage names result = MatchResult result (λ _. IsUndamaged names) (TellsDamage names)

@@ -1,11 +1,10 @@
 // The store that the names of a root make, one name after the other.
-ghost use Rattle.std.specs.Prelude.{◌≡◌, ◌<◌, ◌+◌, ◌++◌, ◌∷◌, [], ℕ, IfErr, IfOk, IsErrOf, IsSome, List, OnOk, Some, length, take};
+ghost use Rattle.std.specs.Prelude.{◌≡◌, ◌<◌, ◌+◌, ◌++◌, ◌∷◌, [], IfErr, IfOk, IsErrOf, IsSome, List, OnOk, Some, length, take};
 ghost use Rattle.std.specs.BTreeMap.{IsOrdered};
 ghost use Rattle.std.specs.Cmp.Lexicographic.{slice_cmp};
 ghost use Rattle.std.specs.List.{sum_by};
 ghost use Rattle.std.specs.Option.{ForSome};
 ghost use Rattle.std.specs.Ordering.{nat_cmp};
-ghost use Rattle.mt_base.specs.declared.name.FileId.{FileId};
 ghost use Rattle.mt_values.specs.RootNames.{create_name};
 ghost use Rattle.root_store.specs.mt_model.History.{IsTableSchema};
 ghost use Rattle.mt_outside.specs.Disk.{Told, files_at, names_of};
@@ -17,12 +16,11 @@ ghost use Rattle.root_store.specs.part_set.RootNames.{root_text};
 ghost use Rattle.root_store.specs.part_set.Sets.{parts_of};
 ghost use Rattle.root_store.specs.part_set.Visible.{HasTable, IsVisible};
 ghost use Rattle.root_store.specs.declared.store.Table.{Table as Kept};
-ghost use Rattle.root_store.specs.Damage.{DamagedAt, IsDamaged};
+ghost use Rattle.root_store.specs.Damage.{IsDamaged};
 ghost use Rattle.root_opening.specs.Keeping.{IsNamedRoot, IsTextsOf, Keeps, KeepsTold, TellsFile};
-ghost use Rattle.root_opening.specs.Opening.{TellsDamage};
-ghost use Rattle.root_store.specs.Shown.{HasNoMark};
-ghost use Rattle.root_store.specs.Soundness.{IsSoundStore};
-ghost use Rattle.root_store.specs.Stores.{StoreOf, table_at};
+ghost use Rattle.root_opening.specs.Opened.{Opens};
+ghost use Rattle.root_opening.specs.Opening.{AnswersDamage, TellsDamage};
+ghost use Rattle.root_store.specs.Stores.{table_at};
 
 use crate::checking::{check_table, check_table_part};
 use crate::{OpenFault, Root, commands_of, shows};
@@ -220,16 +218,9 @@ pub fn keep_root<D: Disk>(
     requires named { IsNamedRoot root.now }
     requires listed { ForSome (D.told disk.old) (IsTextsOf root.now) }
 
-    // What the store is then, and what damage is told.
-    ensures store { (told : Told) → D.told disk.old ≡ Some told
-        → IfOk result (StoreOf D.Arm.Dir.files (names_of told)) }
-    ensures sound { IfOk result IsSoundStore }
-    ensures idle { IfOk result HasNoMark }
-    ensures undamaged { (told : Told) (place : ℕ) (f : FileId) → D.told disk.old ≡ Some told
-        → DamagedAt (names_of told) root.now.names.items place f → OnOk result ⊥ }
-    ensures damaged { (told : Told) → D.told disk.old ≡ Some told
-        → IfErr result (TellsDamage (names_of told)) }
-    ensures opened { IfOk result (λ store. store.opened ≡ opened) }
+    // What the store is then, and what is told of damage.
+    ensures opens { IfOk result (Opens D.Arm.Dir.files (D.told disk.old) opened) }
+    ensures damage { ForSome (D.told disk.old) (λ told. AnswersDamage (names_of told) result) }
 
     // What stays.
     ensures disk { LeavesDisk D.Disk D.Arm.Arm (disk.old, arm.old) (disk.new, arm.new)

@@ -12,8 +12,8 @@ mod steps;
 
 pub use entries::open_entry;
 pub use laws::{
-    damage_of_a_root_is_one, roots_stand_by_their_stores, sound_roots_are_not_damaged,
-    told_names_rise,
+    damage_of_a_root_is_one, openings_leave_what_was_noted, roots_stand_by_their_stores,
+    sound_roots_are_not_damaged, told_names_rise,
 };
 pub use names::{NameFault, read_names};
 pub use opening::{Damage, OpenFault, open};

@@ -1,24 +1,18 @@
 // A root opened: its names read, its entries and its visible parts checked, and the store that is kept of it.
-ghost use Rattle.std.specs.Prelude.{◌≡◌, ◌≢◌, ◌⊎◌, ◌+◌, ◌<◌, ◌≤◌, [], ℕ, IfErr, IfNone, IfOk, IfSome, IsErrOf, IsNone, List, MatchResult, OnErr, OnOk, Some, length, map};
+ghost use Rattle.std.specs.Prelude.{◌≡◌, ◌<◌, ◌≤◌, IfErr, IfNone, IfOk, IfSome, IsErrOf, IsNone, length, map};
 ghost use Rattle.std.specs.Cmp.Lexicographic.{slice_cmp};
 ghost use Rattle.std.specs.List.Sorted.{IsStrictlySortedBy};
+ghost use Rattle.std.specs.Option.{ForSome};
 ghost use Rattle.std.specs.Ordering.{nat_cmp};
-ghost use Rattle.mt_values.specs.declared.annals.Noted.{Noted};
-ghost use Rattle.mt_outside.specs.Disk.{Names, Told, names_of};
+ghost use Rattle.mt_outside.specs.Disk.{Names, names_of};
 ghost use Rattle.mt_outside.specs.Leaves.{LeavesDisk};
-ghost use Rattle.root_store.specs.mt_model.History.{History};
 ghost use Rattle.root_store.specs.part_set.NameOrder.{Rise};
 ghost use Rattle.root_store.specs.ByteOrder.{AreInByteOrder};
-ghost use Rattle.root_store.specs.Cores.{ShowsCoreOf};
-ghost use Rattle.root_store.specs.Crashes.{AllStand, IsCrashSafe, entries_of, none_begun};
 ghost use Rattle.root_store.specs.Damage.{most_tables};
 ghost use Rattle.root_opening.specs.Keeping.{IsBadNameAt, IsDamageOfSet, IsNamedRoot, PlacesWithin};
-ghost use Rattle.root_opening.specs.Names.{AreNamesOf, IsFirstBadText, creates_in};
-ghost use Rattle.root_opening.specs.Opening.{IsNotDamaged, IsRootDamage, TellsDamage};
-ghost use Rattle.root_store.specs.Roots.{Stands};
-ghost use Rattle.root_store.specs.Shown.{AreShown, HasNoMark, ImagesShow};
-ghost use Rattle.root_store.specs.Soundness.{HasSoundParts, IsSoundStore, NamesFit};
-ghost use Rattle.root_store.specs.Stores.{CoreStands, StoreOf};
+ghost use Rattle.root_opening.specs.Names.{AreNamesOf, creates_in};
+ghost use Rattle.root_opening.specs.Opened.{Opens, SettlesNames};
+ghost use Rattle.root_opening.specs.Opening.{AnswersDamage, TellsDamage};
 
 use crate::keeping::keep_root;
 use crate::{NameFault, Root, read_names, settle};
@@ -111,7 +105,6 @@ fn read_texts(alloc: Global, texts: &[Name]) -> Result<Vec<RootName>, OpenFault>
     ensures rise { IfOk result (λ names. Rise names.items) }
     ensures damaged { (told : Names) → AreInByteOrder told → texts.now ≡ map (λ e. e.0) told
         → IfErr result (TellsDamage told) }
-    ensures exact { (place : ℕ) → IsFirstBadText texts.now place → OnOk result ⊥ }
     ensures fault { IsErrOf result OpenFault.Disk → ⊥ }
 {
     if let Some(place) = first_unsorted(texts) {
@@ -145,7 +138,6 @@ fn read_root(alloc: Global, texts: Vec<Name>) -> Result<Root, OpenFault>
     ensures named { IfOk result IsNamedRoot }
     ensures damaged { (told : Names) → AreInByteOrder told → texts.items ≡ map (λ e. e.0) told
         → IfErr result (TellsDamage told) }
-    ensures exact { (place : ℕ) → IsFirstBadText texts.items place → OnOk result ⊥ }
     ensures fault { IsErrOf result OpenFault.Disk → ⊥ }
 {
     let names = read_texts(alloc, &texts)?;
@@ -169,44 +161,9 @@ pub fn open<D: Disk>(
     disk: &mut D,
     arm: &mut D::Arm,
 ) -> Result<CoreStore<<D::Arm as Arm>::Dir>, OpenFault>
-    // What the store is then, and what it stands for.
-    ensures store { (told : Told) → D.told disk.old ≡ Some told
-        → IfOk result (StoreOf D.Arm.Dir.files (names_of told)) }
-    ensures stands { (told : Told) (h : History) → D.told disk.old ≡ Some told
-        → Stands (names_of told) h
-        → MatchResult result (CoreStands D.Arm.Dir.files h) IsNotDamaged }
-    ensures core { (told : Told) (h : History) → D.told disk.old ≡ Some told
-        → Stands (names_of told) h → IfOk result (ShowsCoreOf D.Arm.Dir.files h) }
-    ensures sound { IfOk result IsSoundStore }
-    ensures idle { IfOk result HasNoMark }
-    ensures held { (told : Told) → D.told disk.old ≡ Some told
-        → IfOk result (HasSoundParts D.Arm.Dir.files) }
-    ensures names { (told : Told) → D.told disk.old ≡ Some told
-        → IfOk result (λ store. NamesFit store told) }
-    ensures shown { (told : Told) → D.told disk.old ≡ Some told
-        → IfOk result (λ store. AreShown store (names_of told)) }
-    ensures opened { IfOk result (λ store. store.opened ≡ D.failed disk.old) }
-
-    // What is told of damage.
-    ensures damaged { (told : Told) → D.told disk.old ≡ Some told
-        → IfErr result (TellsDamage (names_of told)) }
-    ensures exact { (told : Told) (damage : Damage) → D.told disk.old ≡ Some told
-        → IsRootDamage (names_of told) damage → OnOk result ⊥ }
-
-    // What the disk shows then, and what a crash leaves of it.
-    ensures settled { (told : Told) → D.told disk.old ≡ Some told → names_of told ≢ []
-        → OnOk result (D.clock disk.new ≡ D.clock disk.old + 1) }
-    ensures mark { (D.clock disk.new ≡ D.clock disk.old)
-        ⊎ (D.clock disk.new ≡ D.clock disk.old + 1) }
-    ensures mark_err { OnErr result (D.clock disk.new ≡ D.clock disk.old) }
-    ensures crashes { (told : Told) (list : List Noted) → D.told disk.old ≡ Some told
-        → AllStand told (D.clock disk.old) (entries_of list)
-        → IsCrashSafe told (D.clock disk.new) (none_begun list) list (D.clock disk.old) }
-    ensures images { (told : Told) (h : History) → D.told disk.old ≡ Some told
-        → AllStand told (D.clock disk.old) h
-        → IfOk result (ImagesShow (D.told disk.new) (D.clock disk.new)) }
-
-    // What the disk and the arm are then, and their counts of faults.
+    ensures opens { IfOk result (Opens D.Arm.Dir.files (D.told disk.old) (D.failed disk.old)) }
+    ensures damage { ForSome (D.told disk.old) (λ told. AnswersDamage (names_of told) result) }
+    ensures mark { SettlesNames (D.told disk.old) (D.clock disk.old) (D.clock disk.new) result }
     ensures disk { LeavesDisk D.Disk D.Arm.Arm (disk.old, arm.old) (disk.new, arm.new)
         (IsErrOf result OpenFault.Disk) }
 {

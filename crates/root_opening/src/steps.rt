@@ -1,8 +1,9 @@
 // The names of a root: which parts are shown, how many commands there are, and how the names are settled.
-ghost use Rattle.std.specs.Prelude.{◌≡◌, ◌≢◌, ◌⊎◌, ◌+◌, ◌↔◌, [], IsTrue, OnErr, OnOk};
+ghost use Rattle.std.specs.Prelude.{◌≡◌, ◌+◌, ◌↔◌, IsTrue, OnErr, OnOk};
 ghost use Rattle.mt_outside.specs.DiskCauses.{HasDiskCause};
 ghost use Rattle.root_store.specs.part_set.Shows.{Shows};
 ghost use Rattle.root_store.specs.part_set.Visible.{IsVisible};
+ghost use Rattle.root_opening.specs.Opened.{mark_settled};
 
 use mt_outside::{Disk, DiskError};
 use mt_values::Name;
@@ -33,9 +34,7 @@ pub fn commands_of(drawn: u32) -> u64
 
 /// Settles the names, where there are any.
 pub fn settle<D: Disk>(disk: &mut D, texts: &[Name]) -> Result<(), DiskError>
-    ensures settled { texts.now ≢ [] → OnOk result (D.clock disk.new ≡ D.clock disk.old + 1) }
-    ensures mark { (D.clock disk.new ≡ D.clock disk.old)
-        ⊎ (D.clock disk.new ≡ D.clock disk.old + 1) }
+    ensures mark { OnOk result (D.clock disk.new ≡ mark_settled texts.now (D.clock disk.old)) }
     ensures mark_err { OnErr result (D.clock disk.new ≡ D.clock disk.old) }
     ensures told { D.told disk.new ≡ D.told disk.old }
     ensures started { D.started disk.new ≡ D.started disk.old }

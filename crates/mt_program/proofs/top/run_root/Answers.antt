@@ -4,13 +4,16 @@ use Rattle.session.specs.replies.Foreseen.{history}
 use Rattle.root_log.specs.root_commits.Turns.{storage}
 use Rattle.root_log.specs.root_store.Crashes.{IsCrashSafe, Storage, none_begun}
 use Rattle.root_log.specs.root_store.Shown.{HasNoMark}
-use Rattle.root_log.proofs.RootStoreCrashMarks.{safe_at_start, stands_as_read}
+use Rattle.root_log.proofs.RootOpeningImagesShown.{images_opened, shown_opened}
+use Rattle.root_log.proofs.RootOpeningOneDamage.{none_told_of}
+use Rattle.root_log.proofs.RootOpeningSettled.{raised}
+use Rattle.root_log.proofs.RootStoreCrashMarks.{safe_at_start, safe_opened, stands_as_read}
 use Rattle.mt_program.specs.Serving.{Output}
 use Rattle.mt_program.proofs.Crashing.{keeps_opened, nothing_of_script}
 use Rattle.mt_program.proofs.Gaining.{gained_nothing}
 use Rattle.mt_program.proofs.Heading.{root_told, writes_damage, writes_nothing}
 use Rattle.session.specs.shared_store.Levels.{has_greatest}
-use Rattle.mt_program.proofs.Reopened.{gained_root, images_reopened, images_settled, keeps_root, knows_root, left_as, open_root, ready_reopened, reopened, script_as, shown_reopened, shows_full, sound_root, stands_reopened, stands_root}
+use Rattle.mt_program.proofs.Reopened.{gained_root, images_reopened, images_settled, keeps_root, knows_root, left_as, open_root, ready_opened, reopened, script_as, shown_reopened, shows_full, sound_root, stands_opened, stands_root}
 use Rattle.mt_program.proofs.Undamaged.{not_opened}
 use Rattle.mt_program.proofs.top.run_root.Goals as goal
 
@@ -22,7 +25,7 @@ returns-in-Err-clause-leaves g c = λ kept names script told is stands tells lef
   left = (
     told,
     writes_nothing c.in-Err.fault c.failed_root.result (g.K.Sink.failed c.args.sink.now) (g.K.Sink.failed c.failed_root.new.sink) (g.K.Sink.written c.args.sink.now) (g.K.Sink.written c.failed_root.new.sink)
-        (c.in-Err.ensures.stands names (history kept) is stands) c.failed_root.ensures.writes,
+        (none_told_of names (history kept) c.in-Err.fault stands (c.in-Err.ensures.damage names is)) c.failed_root.ensures.writes,
     c.in-Err.ensures.disk.told,
   );
 }
@@ -30,21 +33,21 @@ returns-in-Err-clause-leaves g c = λ kept names script told is stands tells lef
 pub returns-in-Err-clause-opening : goal.returns-in-Err-clause-opening
 returns-in-Err-clause-opening g c = λ names damage is damaged. (
   writes_damage _ damage c.in-Err.fault c.failed_root.result (g.K.Sink.failed c.args.sink.now) (g.K.Sink.failed c.failed_root.new.sink) (g.K.Sink.written c.args.sink.now) (g.K.Sink.written c.failed_root.new.sink)
-      damaged (c.in-Err.ensures.damaged names is) c.failed_root.ensures.writes,
+      damaged (c.in-Err.ensures.damage names is) c.failed_root.ensures.writes,
   c.in-Err.ensures.disk.told,
-  c.in-Err.ensures.mark_err,
+  c.in-Err.ensures.mark,
   refl,
 )
 
 pub returns-in-Err-clause-sound : goal.returns-in-Err-clause-sound
-returns-in-Err-clause-sound g c = λ kept names told is stands tells. c.failed_root.ensures.damaged (c.in-Err.ensures.stands names (history kept) is stands)
+returns-in-Err-clause-sound g c = λ kept names told is stands tells. c.failed_root.ensures.damaged (none_told_of names (history kept) c.in-Err.fault stands (c.in-Err.ensures.damage names is))
 
 -- the root is ready
 pub new-engine-requires-after_bounds : goal.new-engine-requires-after_bounds
 new-engine-requires-after_bounds g c κs within =
     let low = c.requires.opened in
     let later = c.in-Ok.ensures.disk.later in
-    ready_reopened c.in-Ok.store c.args.opened (g.D.Disk.failed c.open.new.disk) (g.D.Disk.told c.open.new.disk) (λ names is. c.in-Ok.ensures.names names (sym c.in-Ok.ensures.disk.told ∙ is)) (λ names is. c.in-Ok.ensures.shown names (sym c.in-Ok.ensures.disk.told ∙ is)) c.in-Ok.ensures.sound (omega (arith, low, later)) c.requires.below
+    ready_opened c.in-Ok.store c.args.opened g.D.Arm.Dir.Dir.files _ (g.D.Disk.told c.open.new.disk) _ (g.D.Disk.failed c.open.new.disk) c.in-Ok.ensures.opens c.in-Ok.ensures.disk.told (omega (arith, low, later)) c.requires.below
 
 pub run_script-end-requires-clause-open : goal.run_script-end-requires-clause-open
 run_script-end-requires-clause-open g c κs within =
@@ -52,11 +55,11 @@ run_script-end-requires-clause-open g c κs within =
     let low = c.requires.opened in
     let later = c.in-Ok.ensures.disk.later in
     open_root g.D.Arm.Dir.Dir.files c.new-engine.result (reopened c.in-Ok.store c.args.opened) here c.new-engine.ensures.store c.new-engine.ensures.storage
-    (ready_reopened c.in-Ok.store c.args.opened here.failed here.disk (λ names is. c.in-Ok.ensures.names names (sym c.in-Ok.ensures.disk.told ∙ is)) (λ names is. c.in-Ok.ensures.shown names (sym c.in-Ok.ensures.disk.told ∙ is)) c.in-Ok.ensures.sound (omega (arith, low, later)) c.requires.below)
+    (ready_opened c.in-Ok.store c.args.opened g.D.Arm.Dir.Dir.files _ here.disk _ here.failed c.in-Ok.ensures.opens c.in-Ok.ensures.disk.told (omega (arith, low, later)) c.requires.below)
 
 -- the parts of a root that is opened bear no mark
 pub run_script-end-requires-clause-free : goal.run_script-end-requires-clause-free
-run_script-end-requires-clause-free g c κs within = subst HasNoMark (sym c.new-engine.ensures.store) c.in-Ok.ensures.idle
+run_script-end-requires-clause-free g c κs within = subst HasNoMark (sym c.new-engine.ensures.store) c.in-Ok.ensures.opens.idle
 
 -- the script was served
 pub returns-clause-leaves : goal.returns-clause-leaves
@@ -68,7 +71,7 @@ returns-clause-leaves g c = λ kept names script told is stands tells left.
     let here = storage (g.D.Disk.told c.open.new.disk) (g.D.Disk.clock c.open.new.disk) (g.D.Disk.failed c.open.new.disk) (g.A.Annals.told c.args.annals) in
     let output : Output = record { before = g.K.Sink.written c.args.sink.now; after = g.K.Sink.written c.run_script-end.new.sink } in
     let settled = root_told (g.D.Disk.told c.open.new.disk) names (history kept) (c.in-Ok.ensures.disk.told ∙ is) stands in
-    let core = stands_reopened c.in-Ok.store c.args.opened files (history kept) (c.in-Ok.ensures.stands names (history kept) is stands) in
+    let core = stands_opened c.in-Ok.store c.args.opened files _ _ names (history kept) c.in-Ok.ensures.opens is stands in
     let end = c.run_script-end.new.engine in
     let full = has_greatest end.store in
     record {
@@ -82,22 +85,22 @@ returns-clause-leaves g c = λ kept names script told is stands tells left.
 pub returns-clause-sound : goal.returns-clause-sound
 returns-clause-sound g c = λ kept names told is stands tells.
     c.run_script-end.ensures.undamaged (c.in-Ok.ensures.disk.tells ∙ tells)
-    (sound_root g.D.Arm.Dir.Dir.files c.new-engine.result (reopened c.in-Ok.store c.args.opened) _ c.new-engine.ensures.store c.new-engine.ensures.storage (c.in-Ok.ensures.held names is))
+    (sound_root g.D.Arm.Dir.Dir.files c.new-engine.result (reopened c.in-Ok.store c.args.opened) _ c.new-engine.ensures.store c.new-engine.ensures.storage (c.in-Ok.ensures.opens.told names is).held)
 
 -- damage was met only where the root is damaged
 pub returns-in-Err-clause-damaged : goal.returns-in-Err-clause-damaged
-returns-in-Err-clause-damaged g c = λ names is tells. not_opened (names_of names) c.in-Err.fault c.failed_root.result (c.in-Err.ensures.damaged names is) c.failed_root.ensures.damaged
+returns-in-Err-clause-damaged g c = λ names is tells. not_opened (names_of names) c.in-Err.fault c.failed_root.result (c.in-Err.ensures.damage names is) c.failed_root.ensures.damaged
 
 pub returns-clause-damaged : goal.returns-clause-damaged
 returns-clause-damaged g c = λ names is tells.
     inl (c.run_script-end.ensures.undamaged (c.in-Ok.ensures.disk.tells ∙ tells)
-    (sound_root g.D.Arm.Dir.Dir.files c.new-engine.result (reopened c.in-Ok.store c.args.opened) _ c.new-engine.ensures.store c.new-engine.ensures.storage (c.in-Ok.ensures.held names is)))
+    (sound_root g.D.Arm.Dir.Dir.files c.new-engine.result (reopened c.in-Ok.store c.args.opened) _ c.new-engine.ensures.store c.new-engine.ensures.storage (c.in-Ok.ensures.opens.told names is).held))
 
 -- what a crash leaves
 pub returns-in-Err-clause-crashes : goal.returns-in-Err-clause-crashes
 returns-in-Err-clause-crashes g c = λ kept told is known tells all.
     let now = storage (g.D.Disk.told c.open.new.disk) (g.D.Disk.clock c.open.new.disk) (g.D.Disk.failed c.open.new.disk) (g.A.Annals.told c.args.annals) in
-    nothing_of_script told kept now (g.D.Disk.clock c.args.disk) (c.in-Err.ensures.disk.told ∙ known) is (c.in-Err.ensures.crashes told kept.list known all) (g.S.Source.left c.args.source.now) c.args.opened
+    nothing_of_script told kept now (g.D.Disk.clock c.args.disk) (c.in-Err.ensures.disk.told ∙ known) is (safe_opened told _ _ kept.list all (inl c.in-Err.ensures.mark)) (g.S.Source.left c.args.source.now) c.args.opened
 
 pub returns-clause-crashes : goal.returns-clause-crashes
 returns-clause-crashes g c = λ kept told is known tells all.
@@ -106,10 +109,11 @@ returns-clause-crashes g c = λ kept told is known tells all.
     let was = c.new-engine.ensures in
     let start = g.D.Disk.clock c.args.disk in
     let store = reopened c.in-Ok.store c.args.opened in
-    let core = stands_reopened c.in-Ok.store c.args.opened files (history kept) (c.in-Ok.ensures.stands told (history kept) known (stands_as_read told start (history kept) all)) in
+    let core = stands_opened c.in-Ok.store c.args.opened files _ _ told (history kept) c.in-Ok.ensures.opens known (stands_as_read told start (history kept) all) in
     let here = storage (g.D.Disk.told c.open.new.disk) (g.D.Disk.clock c.open.new.disk) (g.D.Disk.failed c.open.new.disk) (g.A.Annals.told c.args.annals) in
-    let images = images_reopened c.in-Ok.store c.args.opened here.disk here.clock (c.in-Ok.ensures.images told (history kept) known all) in
-    let keeps = keeps_opened told kept here start (c.in-Ok.ensures.disk.told ∙ known) is (c.in-Ok.ensures.crashes told kept.list known all) files store core images in
+    let settled = c.in-Ok.ensures.mark.told told known in
+    let images = images_reopened c.in-Ok.store c.args.opened here.disk here.clock (images_opened files c.in-Ok.store told start here.clock (history kept) all (c.in-Ok.ensures.opens.told told known).store_of settled here.disk (c.in-Ok.ensures.disk.told ∙ known)) in
+    let keeps = keeps_opened told kept here start (c.in-Ok.ensures.disk.told ∙ known) is (safe_opened told _ _ kept.list all c.in-Ok.ensures.mark.upto) files store core images in
     script_as (g.S.Source.left c.args.source.now) root.store.opened c.args.opened c.run_script-end.new.engine.storage _ kept start (ap (λ x. x.opened) was.store) c.into_outside-disk.ensures.storage
     (c.run_script-end.ensures.through_crashes kept start (c.in-Ok.ensures.disk.tells ∙ tells) (keeps_root files root store here was.store was.storage kept start keeps)
     (gained_root files root store here was.store was.storage kept (gained_nothing (g.A.Annals.told c.args.annals) kept is)))
@@ -120,10 +124,10 @@ returns-in-Err-clause-settles g c = λ kept told is known tells some all stamped
     let stands = stands_as_read told (g.D.Disk.clock c.args.disk + 1) (history kept) all in
     inl (record {
       names = c.in-Err.ensures.disk.told;
-      mark = c.in-Err.ensures.mark_err;
+      mark = c.in-Err.ensures.mark;
       list = refl;
       output = writes_nothing c.in-Err.fault c.failed_root.result (g.K.Sink.failed c.args.sink.now) (g.K.Sink.failed c.failed_root.new.sink) (g.K.Sink.written c.args.sink.now) (g.K.Sink.written c.failed_root.new.sink)
-          (c.in-Err.ensures.stands told (history kept) known stands) c.failed_root.ensures.writes;
+          (none_told_of told (history kept) c.in-Err.fault stands (c.in-Err.ensures.damage told known)) c.failed_root.ensures.writes;
     })
 
 pub returns-clause-settles : goal.returns-clause-settles
@@ -133,10 +137,11 @@ returns-clause-settles g c = λ kept told is known tells some all stamped.
     let was = c.new-engine.ensures in
     let start = g.D.Disk.clock c.args.disk + 1 in
     let store = reopened c.in-Ok.store c.args.opened in
-    let core = stands_reopened c.in-Ok.store c.args.opened files (history kept) (c.in-Ok.ensures.stands told (history kept) known (stands_as_read told start (history kept) all)) in
-    let safe = subst (λ (m : ℕ). IsCrashSafe told m (none_begun kept.list) kept.list start) (sym (c.in-Ok.ensures.settled told known some)) (safe_at_start told start kept.list all) in
+    let core = stands_opened c.in-Ok.store c.args.opened files _ _ told (history kept) c.in-Ok.ensures.opens known (stands_as_read told start (history kept) all) in
+    let mark = c.in-Ok.ensures.mark.told told known ∙ raised (names_of told) (g.D.Disk.clock c.args.disk) some in
+    let safe = subst (λ (m : ℕ). IsCrashSafe told m (none_begun kept.list) kept.list start) (sym mark) (safe_at_start told start kept.list all) in
     let here = storage (g.D.Disk.told c.open.new.disk) (g.D.Disk.clock c.open.new.disk) (g.D.Disk.failed c.open.new.disk) (g.A.Annals.told c.args.annals) in
-    let images = images_settled store told (g.D.Disk.clock c.args.disk) here.disk here.clock (c.in-Ok.ensures.disk.told ∙ known) (c.in-Ok.ensures.settled told known some) stamped (shown_reopened c.in-Ok.store c.args.opened (names_of told) (c.in-Ok.ensures.shown told known)) in
+    let images = images_settled store told (g.D.Disk.clock c.args.disk) here.disk here.clock (c.in-Ok.ensures.disk.told ∙ known) mark stamped (shown_reopened c.in-Ok.store c.args.opened (names_of told) (shown_opened files (names_of told) c.in-Ok.store (c.in-Ok.ensures.opens.told told known).store_of)) in
     let keeps = keeps_opened told kept here start (c.in-Ok.ensures.disk.told ∙ known) is safe files store core images in
     inr (script_as (g.S.Source.left c.args.source.now) root.store.opened c.args.opened c.run_script-end.new.engine.storage _ kept start (ap (λ x. x.opened) was.store) c.into_outside-disk.ensures.storage
     (c.run_script-end.ensures.through_crashes kept start (c.in-Ok.ensures.disk.tells ∙ tells) (keeps_root files root store here was.store was.storage kept start keeps)

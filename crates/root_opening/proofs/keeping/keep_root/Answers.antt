@@ -1,19 +1,23 @@
-use Rattle.root_opening.proofs.NextNames.{none_damaged, sound_store, store_is}
-use Rattle.root_store.proofs.Readings.{item_at}
+use Rattle.mt_outside.specs.Disk.{names_of}
+use Rattle.root_opening.proofs.NextNames.{sound_store}
+use Rattle.root_opening.proofs.OpenedRoots.{opened_of, tells_handed, undamaged_root}
 use Rattle.root_opening.proofs.keeping.keep_root.Goals as goal
 
-pub returns-clause-store : goal.returns-clause-store
-returns-clause-store g c = λ told is.
-    store_is c.args.root.now c.requires.named c.in_ok-store.store c.in_ok-store-2.field-0 c.in_ok-store.ensures.keeps g.D.Arm.Dir.Dir.files told (c.requires.listed told is)
-    (c.in_ok-store.ensures.keeps_told told is) c.in_ok-store-2.ensures.ordered c.in_ok-store-2.ensures.sum
+pub returns-clause-opens : goal.returns-clause-opens
+returns-clause-opens g c =
+    let kept = c.in_ok-store.ensures in
+    record {
+      told = λ told is.
+          opened_of c.args.root.now c.requires.named g.D.Arm.Dir.Dir.files told (c.requires.listed told is) c.in_ok-store.store (kept.keeps_told told is) c.in_ok-store-2.field-0 kept.keeps c.in_ok-store-2.ensures.ordered c.in_ok-store-2.ensures.sum;
+      sound = sound_store c.args.root.now c.requires.named c.in_ok-store.store c.in_ok-store-2.field-0 kept.keeps;
+      idle = kept.keeps.idle;
+      opened = kept.opened;
+    }
 
-pub returns-clause-sound : goal.returns-clause-sound
-returns-clause-sound g c = sound_store c.args.root.now c.requires.named c.in_ok-store.store c.in_ok-store-2.field-0 c.in_ok-store.ensures.keeps
+pub returns-clause-damage : goal.returns-clause-damage
+returns-clause-damage g c = λ told is.
+    undamaged_root c.args.root.now c.requires.named g.D.Arm.Dir.Dir.files told (c.requires.listed told is) c.in_ok-store.store (c.in_ok-store.ensures.keeps_told told is)
 
-pub returns-clause-idle : goal.returns-clause-idle
-returns-clause-idle g c = c.in_ok-store.ensures.keeps.idle
-
-pub returns-clause-undamaged : goal.returns-clause-undamaged
-returns-clause-undamaged g c = λ told place f is bad.
-    let names = c.args.root.now.names.items in
-    none_damaged c.args.root.now c.requires.named told (c.requires.listed told is) g.D.Arm.Dir.Dir.files names c.in_ok-store.store (c.in_ok-store.ensures.keeps_told told is) place f (λ n at. item_at names place n at) bad
+pub returns-in_err-store-clause-damage : goal.returns-in_err-store-clause-damage
+returns-in_err-store-clause-damage g c = λ told is.
+    tells_handed (names_of told) c.in_err-store.field-0.0 c.from_residual.result c.from_residual.ensures.1 (c.in_err-store.ensures.damaged told is)

@@ -2,7 +2,8 @@ use Rattle.std.proofs.Common.{◌≤◌, List, filter, length, subst}
 use Rattle.root_store.specs.part_set.declared.root_name.RootName.{RootName}
 use Rattle.root_store.specs.part_set.Visible.{HasNoOrphan, HasNoOverlap}
 use Rattle.root_store.specs.Damage.{DamagedAt, is_entry_name, most_tables}
-use Rattle.root_opening.proofs.BadNames.{no_bad_name}
+use Rattle.root_opening.specs.declared.opening.Damage.TheVariants as damage
+use Rattle.root_opening.proofs.OneDamage.{no_root_damage}
 use Rattle.root_store.proofs.Clear as clear
 use Rattle.root_store.proofs.Orphaned as orphaned
 use Rattle.root_store.proofs.Readings.{one_reading}
@@ -28,4 +29,4 @@ returns-clause-few c = λ names h read rise s are.
     subst (λ (r : List RootName). length (filter is_entry_name r) ≤ most_tables) (one_reading names s.read read s.are are) (tabled.few_tables names h s rise)
 
 pub returns-clause-no_bad_name : goal.returns-clause-no_bad_name
-returns-clause-no_bad_name c = λ names h place name rise s bad. no_bad_name names h s rise place name bad
+returns-clause-no_bad_name c = λ names h place name rise s bad. no_root_damage names h (damage.Name name) rise s (record { place = place; first = bad })

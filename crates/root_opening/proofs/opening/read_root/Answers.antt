@@ -1,13 +1,10 @@
-use Rattle.std.proofs.Common.{List, ℕ, sym, subst}
+use Rattle.std.proofs.Common.{List, ℕ, subst}
 use Rattle.root_store.specs.part_set.declared.root_name.RootName.{RootName}
 use Rattle.root_store.specs.part_set.Clashes.{IsFault}
 use Rattle.root_opening.specs.Keeping.{IsDamageOfSet}
-use Rattle.root_opening.specs.Names.{AreNamesOf, IsFirstBadText}
+use Rattle.root_opening.specs.Names.{AreNamesOf}
 use Rattle.root_opening.proofs.Opened.{set_told}
 use Rattle.root_opening.proofs.opening.read_root.Goals as goal
-
-pub returns-in-Ok-clause-exact : goal.returns-in-Ok-clause-exact
-returns-in-Ok-clause-exact c = λ place first. c.in_ok-names.ensures.exact place (subst (λ (ts : List (List ℕ)). IsFirstBadText ts place) (sym c.deref.ensures.value) first)
 
 pub returns-in_ok-damage_of-in-Err-clause-damaged : goal.returns-in_ok-damage_of-in-Err-clause-damaged
 returns-in_ok-damage_of-in-Err-clause-damaged c = λ told rise are.
