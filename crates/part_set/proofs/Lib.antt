@@ -1,3 +1,4 @@
+pub mod Clearing
 pub mod Dots
 pub mod Filed
 pub mod Founds

@@ -2,6 +2,7 @@
 use Rattle.std.proofs.Common.{◌≡◌, ℕ, ◌≤◌, true, false, ◌&&◌, ◌||◌, eqb, ltb, leb, List, get_or, subst, inl, inr, arith}
 use Rattle.std.proofs.lemmas.Bool.{cases_lt}
 use Rattle.std.proofs.lemmas.Bool.Decides.{nat_tests}
+use Rattle.std.specs.List.{AllWithin}
 use Rattle.std.specs.List.Sorted.{IsPartitionedBy}
 use Rattle.part_name.specs.declared.part.PartName.{PartName}
 use Rattle.part_set.specs.declared.kept.Kept.{Kept}
@@ -50,3 +51,7 @@ front_first parts name ordered = λ i j d below inside is.
       | inl less ↦ order_passed (get_or parts i d).name (get_or parts j d).name name (ordered i j d less inside).order is
       | inr not_less ↦ (let same : j ≡ i = omega arith in subst (λ (k : ℕ). in_order (get_or parts k d).name name ≡ true) same is)
     ]
+
+-- what does not stand in front of a name stands behind it
+pub all_turned : {P : Type 0} (parts : List (Kept P)) (name : PartName) (from to : ℕ) → AllWithin (λ (kept : Kept P). in_order kept.name name ≡ false) parts from to → AllWithin (λ (kept : Kept P). in_order name kept.name ≡ true) parts from to
+all_turned parts name from to all k d low high = order_turned (get_or parts k d).name name (all k d low high)

@@ -1,19 +1,16 @@
 -- A part in place of those of a run, and marks on the parts of a run.
-use Rattle.std.proofs.Common.{◌≡◌, ℕ, ◌+◌, ◌-◌, ◌<◌, ◌≤◌, Bool, true, false, cond, List, [], ◌∷◌, ◌++◌, length, length-append, map, get_or, take, drop, append_assoc, slice_get, Option, Some, None, refl, sym, ap, ◌∙◌, subst, ◌⊎◌, inl, inr, arith}
+use Rattle.std.proofs.Common.{◌≡◌, ℕ, ◌+◌, ◌-◌, ◌<◌, ◌≤◌, Bool, true, false, cond, List, [], ◌∷◌, ◌++◌, length, length-append, map, get_or, take, drop, append_assoc, slice_get, Some, refl, sym, ap, ◌∙◌, subst, inl, inr, arith}
 use Rattle.std.proofs.lemmas.Bool.{cases_lt}
 use Rattle.std.proofs.lemmas.List.{append-nil, drop-drop, drop_all, get_or-append-add, get_or-map, get_or_append_left, get_or_default, length-drop, length-map, length-take-le, map-append, take-append-drop, take_all}
 use Rattle.std.proofs.lemmas.List.Elements.{All-append, All-cons, All-contains, All-drop, All-take, Contains-append_left, Contains-append_right, Contains-get_or}
 use Rattle.std.proofs.lemmas.List.Kept.{AllPairs-cons}
 use Rattle.std.proofs.lemmas.Option.{get_or_from_slice_get, slice_get_within}
 use Rattle.std.proofs.lemmas.Simd.{map-map}
-use Rattle.std.specs.BTreeMap.{is_at}
 use Rattle.std.specs.List.{All, AllPairs, Contains as HasItem}
 use Rattle.std.specs.Map.{lookup, set_value}
-use Rattle.std.specs.Ordering.{nat_cmp}
 use Rattle.mt_base.specs.declared.partition.Partition.{Partition}
 use Rattle.mt_base.specs.declared.partition.Partition.TheVariants.{Whole, Number}
 use Rattle.part_name.specs.declared.part.PartName.{PartName}
-use Rattle.part_name.specs.PartNames.{Meet}
 use Rattle.part_set.specs.declared.kept.Kept.{Kept}
 use Rattle.part_set.specs.declared.run.Run.{Run}
 use Rattle.part_set.specs.Parts.{IsInBlockOrder, StandsClear, in_order, kept_in, partition_rank}
@@ -77,7 +74,7 @@ clear_after first last b name order within clear long partition begins ends = re
       clear.apart (record { partition = rank_is last.partition b.partition same; low = omega (arith, low, long); high = omega (arith, both.high, ends) });
 }
 
-order_itself : (a : PartName) → in_order a a ≡ true
+pub order_itself : (a : PartName) → in_order a a ≡ true
 order_itself a = order_tested a a (omega arith) (λ _. omega arith)
 
 -- a shelf's parts among those of all shelves, before and after it is written anew

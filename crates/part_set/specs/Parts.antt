@@ -1,5 +1,5 @@
 -- How the parts of one table stand to each other (docs/definitions.md, "Visible parts").
-use Rattle.std.specs.Prelude.{◌≡◌, ◌≢◌, ℕ, ◌+◌, ◌≤◌, ◌<◌, Bool, ◌==◌, ◌&&◌, ◌||◌, nat_lt, nat_le, List, filter, length, map, IsTrue}
+use Rattle.std.specs.Prelude.{◌≡◌, ◌≢◌, ℕ, ◌+◌, ◌≤◌, ◌<◌, Bool, true, false, ◌==◌, ◌&&◌, ◌||◌, nat_lt, nat_le, List, filter, length, map, Option, None, Some, IsTrue}
 use Rattle.std.specs.List.{All, AllPairs, Contains as HasItem, insert}
 use Rattle.mt_base.specs.declared.partition.Partition.{Partition}
 use Rattle.mt_base.specs.declared.partition.Partition.TheVariants.{Whole, Number}
@@ -27,6 +27,18 @@ pub record StandsClear (a b : PartName) : Type 0 where
 -- a list of parts in block order, of which no two meet
 abbrev pub IsInBlockOrder : {P : Type 0} → List (Kept P) → Type 0
 IsInBlockOrder parts = AllPairs (λ a b. StandsClear a.name b.name) parts
+
+-- the same number of a mutation, or none
+abbrev pub same_mutation : Option ℕ → Option ℕ → Bool
+same_mutation None None = true
+same_mutation (Some m) (Some n) = m == n
+same_mutation a b = false
+
+-- two names say the same
+abbrev pub same_part : PartName → PartName → Bool
+same_part a b =
+    same_partition a.partition b.partition
+    && (a.min_block == b.min_block && (a.max_block == b.max_block && (a.level == b.level && same_mutation a.mutation b.mutation)))
 
 -- the parts that are of a partition
 abbrev pub kept_in : {P : Type 0} → Partition → List (Kept P) → List (Kept P)

@@ -1,10 +1,11 @@
 -- Parts of one partition that follow each other, and what comes of them (docs/definitions.md, "The set of parts").
-use Rattle.std.specs.Prelude.{◌≡◌, ◌⊎◌, ℕ, ◌+◌, ◌<◌, ◌≤◌, Bool, true, List, ◌∷◌, ◌++◌, All, length, map, take, drop, slice_get, Some}
+use Rattle.std.specs.Prelude.{◌≡◌, ◌⊎◌, ℕ, ◌+◌, ◌<◌, ◌≤◌, Bool, true, false, List, ◌∷◌, ◌++◌, All, length, map, take, drop, slice_get, Some, if◌then◌else◌}
+use Rattle.std.specs.List.{list_any}
 use Rattle.mt_base.specs.declared.partition.Partition.{Partition}
 use Rattle.part_name.specs.declared.part.PartName.{PartName}
 use Rattle.part_set.specs.declared.kept.Kept.{Kept}
 use Rattle.part_set.specs.declared.run.Run.{Run}
-use Rattle.part_set.specs.Parts.{kept_in}
+use Rattle.part_set.specs.Parts.{kept_in, same_part}
 use Rattle.part_set.specs.Passes.{last_of}
 
 -- the parts of a run, out of those of its partition
@@ -32,7 +33,8 @@ pub record Begins {P : Type 0} (n : ℕ) (sources parts : List (Kept P)) : Type 
   pub named : names_of_parts (take n parts) ≡ take n (names_of_parts sources)
   pub busy : All (λ (k : Kept P). k.busy ≡ true) (take n parts)
 
--- The first of some names that is missing among parts: no run with marks has the names up to it, and one has those before it, if there are any.
+-- The first of some names that does not follow among parts with its mark: no run with marks has the names up to it, and one has those before it, if
+-- there are any.
 pub record IsMissing {P : Type 0} (names : List PartName) (parts : List (Kept P)) (name : PartName) : Type 0 where
   pub place : ℕ
   pub here : slice_get names place ≡ Some name
@@ -70,3 +72,7 @@ pub record IsMarked {P : Type 0} (partition : Partition) (run : Run) (busy : Boo
   pub back : List (Kept P)
   pub before_is : before ≡ front ++ (parts_of_run run (kept_in partition before) ++ back)
   pub after_is : after ≡ front ++ (map (with_mark busy) (parts_of_run run (kept_in partition before)) ++ back)
+
+-- the part without its mark, where it has one of the names; else as it was
+abbrev pub cleared : {P : Type 0} → List PartName → Kept P → Kept P
+cleared names kept = if list_any (same_part kept.name) names then with_mark false kept else kept

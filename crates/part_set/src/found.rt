@@ -22,7 +22,7 @@ fn count_taken<P>(parts: &[Kept<P>], sources: &[Kept<P>]) -> usize
 }
 
 /// The run of parts that has the names of the sources, in their order, and each of whose parts bears the mark; else the
-/// first of these names that is missing. Takes no memory.
+/// first of these names that does not follow there with its mark. Takes no memory.
 pub(crate) fn find_run<P>(parts: &[Kept<P>], sources: &[Kept<P>]) -> Result<Run, PartName>
     requires some { 0 < length sources.now }
     ensures found { IfOk result

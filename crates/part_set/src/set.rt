@@ -1,12 +1,12 @@
 // The parts of all tables.
-ghost use Rattle.std.specs.Prelude.{◌≡◌, ◌≢◌, ◌↔◌, ◌<◌, ℕ, List, [], false, IfErr, IfOk, IsOk, OnOk, OnErr, IsTrue, length, option_copied};
+ghost use Rattle.std.specs.Prelude.{◌≡◌, ◌≢◌, ◌↔◌, ◌<◌, ℕ, List, [], false, IfErr, IfOk, IsOk, OnOk, OnErr, IsTrue, length, map, option_copied};
 ghost use Rattle.std.specs.BTreeMap.{IsOrdered};
 ghost use Rattle.std.specs.Cmp.Lexicographic.{slice_cmp};
 ghost use Rattle.std.specs.List.{All};
 ghost use Rattle.std.specs.Ordering.{nat_cmp};
 ghost use Rattle.mt_base.specs.declared.partition.Partition.{Partition as Part};
 ghost use Rattle.part_set.specs.Parts.{AreNeighbours, HasName, IsAdded, IsInBlockOrder, NoneMeets, kept_in};
-ghost use Rattle.part_set.specs.Runs.{EndsInOrder, IsBusyRun, IsMarked, IsMissing, IsRun, IsSwapped, Spans, names_of_parts, parts_of_run};
+ghost use Rattle.part_set.specs.Runs.{EndsInOrder, IsBusyRun, IsMarked, IsMissing, IsRun, IsSwapped, Spans, cleared, names_of_parts, parts_of_run};
 ghost use Rattle.part_set.specs.Sets.{HasRoom, IsPut, parts_of, shelves_of};
 
 use crate::found::find_run;
@@ -82,7 +82,7 @@ impl<P> PartSet<P> {
     }
 
     /// The run of a table's partition that has the names of these parts, in their order, and each of whose parts bears
-    /// the mark; else the first of these names that is missing. Takes no memory.
+    /// the mark; else the first of these names that does not follow there with its mark. Takes no memory.
     pub fn find_run(
         &self,
         table: &Name,
@@ -111,6 +111,19 @@ impl<P> PartSet<P> {
             unreachable!()
         };
         parts.set_busy(partition, run, busy);
+    }
+
+    /// The parts of a table that have the names of these bear no mark any more, wherever they stand. Takes no memory.
+    pub fn clear_marks(&mut self, table: &Name, sources: &[Kept<P>])
+        ensures cleared { parts_of self.new table.now
+            ≡ map (cleared (names_of_parts sources.now)) (parts_of self.old table.now) }
+        ensures others { (t : List ℕ) → t ≢ table.now → parts_of self.new t ≡ parts_of self.old t }
+        ensures rooms { (t : List ℕ) (p : Part) → HasRoom self.old t p → HasRoom self.new t p }
+    {
+        let Some(parts) = self.tables.get_mut(table) else {
+            return;
+        };
+        parts.clear_marks(sources);
     }
 }
 

@@ -2,7 +2,7 @@
 ghost use Rattle.std.specs.Prelude.{◌≡◌, ◌+◌, ◌<◌, ◌≤◌, ◌↔◌, ◌++◌, ◌∷◌, [], false, take, drop, map, length, vec_capacity, IfOk, IsOk, OnOk, OnErr, IsTrue};
 ghost use Rattle.std.specs.List.{All, AllWithin};
 ghost use Rattle.part_set.specs.Parts.{AreNeighbours, HasName, IsAdded, IsInBlockOrder, NoneMeets, in_order};
-ghost use Rattle.part_set.specs.Runs.{EndsInOrder, IsRun, Spans, parts_of_run, with_mark};
+ghost use Rattle.part_set.specs.Runs.{EndsInOrder, IsRun, Spans, cleared, parts_of_run, with_mark};
 
 use crate::order::{in_order, lies_between};
 use crate::{Kept, Run};
@@ -34,7 +34,7 @@ fn place_of<P>(parts: &[Kept<P>], name: &PartName) -> usize
     requires { IsInBlockOrder parts.now }
     ensures within { result ≤ length parts.now }
     ensures front { AllWithin (λ kept. IsTrue (in_order kept.name name.now)) parts.now 0 result }
-    ensures back { AllWithin (λ kept. IsTrue (in_order name.now kept.name)) parts.now result
+    ensures back { AllWithin (λ kept. in_order kept.name name.now ≡ false) parts.now result
         (length parts.now) }
 {
     parts.partition_point(|kept| in_order(&kept.name, name))
@@ -94,6 +94,14 @@ impl<P> PartitionParts<P> {
         ensures room { self.new.room ≡ self.old.room }
     {
         mark_run(&mut self.parts, run, busy);
+    }
+
+    /// The parts of this name bear no mark any more. Takes no memory.
+    pub(crate) fn clear_mark(&mut self, name: &PartName)
+        ensures parts { self.new.parts ≡ map (cleared (name.now ∷ [])) self.old.parts }
+        ensures room { self.new.room ≡ self.old.room }
+    {
+        clear_named(&mut self.parts, name);
     }
 
     /// Makes room for one more part.
@@ -156,6 +164,27 @@ fn mark_run<P>(parts: &mut Vec<Kept<P>>, run: Run, busy: bool)
 {
     let end = run.first + run.count;
     mark(parts.slice_mut(run.first..end), busy);
+}
+
+// Each of the parts that has this name bears no mark any more.
+fn clear<P>(parts: &mut [Kept<P>], name: &PartName)
+    ensures { parts.new ≡ map (cleared (name.now ∷ [])) parts.old }
+{
+    for kept in parts.iter_mut() {
+        let other = kept.name != *name;
+        kept.busy = kept.busy & other;
+    }
+}
+
+// The same in block order: only those that begin where the name begins are looked at.
+fn clear_named<P>(parts: &mut Vec<Kept<P>>, name: &PartName)
+    requires { IsInBlockOrder parts.old.items }
+    ensures items { parts.new.items ≡ map (cleared (name.now ∷ [])) parts.old.items }
+    ensures capacity { vec_capacity parts.new ≡ vec_capacity parts.old }
+{
+    let start = start_of(parts.as_slice(), name);
+    let end = place_of(parts.as_slice(), name);
+    clear(parts.slice_mut(start..end), name);
 }
 
 impl<P: Drop> PartitionParts<P> {

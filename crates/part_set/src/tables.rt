@@ -2,11 +2,11 @@
 //
 // A map has them by the place of their partition among all: so one part more costs no more than the search for its
 // partition, and moves parts of its own partition alone. Contracts see one list in block order (`all_parts`).
-ghost use Rattle.std.specs.Prelude.{◌≡◌, ◌<◌, ◌↔◌, ◌++◌, [], false, IfOk, IsOk, OnOk, OnErr, IsTrue};
+ghost use Rattle.std.specs.Prelude.{◌≡◌, ◌<◌, ◌↔◌, ◌++◌, ◌∷◌, [], false, map, IfOk, IsOk, OnOk, OnErr, IsTrue};
 ghost use Rattle.std.specs.List.{All};
 ghost use Rattle.mt_base.specs.declared.partition.Partition.{Partition as Part};
 ghost use Rattle.part_set.specs.Parts.{AreNeighbours, HasName, IsAdded, IsInBlockOrder, NoneMeets, kept_in};
-ghost use Rattle.part_set.specs.Runs.{EndsInOrder, IsMarked, IsRun, IsSwapped, Spans, parts_of_run};
+ghost use Rattle.part_set.specs.Runs.{EndsInOrder, IsMarked, IsRun, IsSwapped, Spans, cleared, names_of_parts, parts_of_run};
 ghost use Rattle.part_set.specs.Shelf.{AreFiled, all_parts, room_of, shelf_at};
 
 use crate::order::partition_rank;
@@ -93,6 +93,32 @@ impl<P> TableParts<P> {
             unreachable!()
         };
         parts.set_busy(run, busy);
+    }
+
+    // The parts of this name bear no mark any more.
+    fn clear_mark(&mut self, name: &PartName)
+        ensures cleared { all_parts self.new
+            ≡ map (cleared (name.now ∷ [])) (all_parts self.old) }
+        ensures rooms { (p : Part) → 0 < room_of (shelf_at p self.old)
+            → 0 < room_of (shelf_at p self.new) }
+    {
+        let place = partition_rank(name.partition);
+        let Some(parts) = self.partitions.get_mut(&place) else {
+            return;
+        };
+        parts.clear_mark(name);
+    }
+
+    /// The parts that have the names of these bear no mark any more. Takes no memory.
+    pub(crate) fn clear_marks(&mut self, sources: &[Kept<P>])
+        ensures cleared { all_parts self.new
+            ≡ map (cleared (names_of_parts sources.now)) (all_parts self.old) }
+        ensures rooms { (p : Part) → 0 < room_of (shelf_at p self.old)
+            → 0 < room_of (shelf_at p self.new) }
+    {
+        for source in sources {
+            self.clear_mark(&source.name);
+        }
     }
 }
 

@@ -3,6 +3,7 @@ use Rattle.std.proofs.lemmas.Result.{err_from_is_err_and}
 use Rattle.part_set.specs.Parts.{IsAdded, NoneMeets}
 use Rattle.part_set.specs.Shelf.{Shelf}
 use Rattle.part_set.proofs.Inserts.{order_inserted}
+use Rattle.part_set.proofs.Orders.{all_turned}
 use Rattle.part_set.proofs.shelf.PartitionParts.add.Goals as goal
 
 pub invariant_of-self-2 : goal.invariant_of-self-2
@@ -10,7 +11,7 @@ invariant_of-self-2 g c =
     let value = c.as_slice.ensures.value in
     let within = rw value at c.place_of-place.ensures.within in
     let front = c.place_of-place.ensures.front in
-    let back = rw value at c.place_of-place.ensures.back in
+    let back = all_turned c.self.inside.parts.items c.args.name _ _ (rw value at c.place_of-place.ensures.back) in
     let none = subst (λ (s : Shelf g.row.P.Denot). NoneMeets s.parts c.args.name) (sym c.self.view_is) c.requires in
     rw c.in_ok-insert.ensures.items (order_inserted c.self.inside.parts.items (record { name = c.args.name; part = c.args.part; busy = false }) c.place_of-place.result within c.self.invariant none (rw value at front) back)
 
@@ -19,7 +20,7 @@ returns-clause-ordered g c =
     let value = c.as_slice.ensures.value in
     let within = rw value at c.place_of-place.ensures.within in
     let front = c.place_of-place.ensures.front in
-    let back = rw value at c.place_of-place.ensures.back in
+    let back = all_turned c.self.inside.parts.items c.args.name _ _ (rw value at c.place_of-place.ensures.back) in
     let none = subst (λ (s : Shelf g.row.P.Denot). NoneMeets s.parts c.args.name) (sym c.self.view_is) c.requires in
     rw c.in_ok-insert.ensures.items (order_inserted c.self.inside.parts.items (record { name = c.args.name; part = c.args.part; busy = false }) c.place_of-place.result within c.self.invariant none (rw value at front) back)
 
