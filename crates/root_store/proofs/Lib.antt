@@ -38,6 +38,7 @@ pub use Rattle.part_reader.proofs.HeldRows as PartReaderHeldRows
 pub use Rattle.part_reader.proofs.Holding as PartReaderHolding
 pub use Rattle.part_reader.proofs.Opened as PartReaderOpened
 pub use Rattle.part_reader.proofs.SoundRows as PartReaderSoundRows
+pub use Rattle.part_set.proofs.Clearing as PartSetClearing
 pub use Rattle.part_set.proofs.Dots as PartSetDots
 pub use Rattle.part_set.proofs.Items as PartSetItems
 pub use Rattle.part_set.proofs.Maps as PartSetMaps

@@ -20,7 +20,7 @@ use Rattle.root_store.specs.declared.store.CoreStore.{CoreStore}
 use Rattle.root_store.specs.declared.store.Table.{Table}
 use Rattle.root_store.specs.Roots.{Stands}
 use Rattle.root_store.specs.Shown.{AreShown, GreatestAreShown}
-use Rattle.root_store.specs.Stores.{table_at}
+use Rattle.root_store.specs.Stores.{HasNoMutation, table_at}
 
 -- each part of the table ends by the last number that was drawn, so that a new part meets none of them
 abbrev pub EndsByDrawn : {F : Type 0} → CoreStore F → List ℕ → ℕ → Type 0
@@ -35,10 +35,11 @@ pub record IsSoundTable {F : Type 0} (store : CoreStore F) (table : List ℕ) (t
   pub may : All (λ (k : Kept (Part F)). MayHavePartition t.schema k.name.partition) (parts_of store.set table)
   pub order : All (λ (k : Kept (Part F)). k.name.min_block ≤ k.name.max_block) (parts_of store.set table)
 
--- each table is so, and no other has parts
+-- each table is so, no other has parts, and no table's queue has a mutation
 pub record IsSoundStore {F : Type 0} (store : CoreStore F) : Type 0 where
   pub tables : (table : List ℕ) (t : Table) → table_at store table ≡ Some t → IsSoundTable store table t
   pub no_other : (table : List ℕ) → table_at store table ≡ None → parts_of store.set table ≡ []
+  pub mutations : HasNoMutation store
 
 -- a name that the root may have under this store: the entry of a table, or a part of one that ends by the number that was drawn last
 pub record IsNameUnder {F : Type 0} (store : CoreStore F) (name : List ℕ) : Type 0 where
