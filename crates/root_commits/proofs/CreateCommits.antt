@@ -7,7 +7,7 @@ use Rattle.std.specs.Result.{MatchResult}
 use Rattle.mt_values.specs.declared.command.Create.{Create}
 use Rattle.mt_values.specs.Annals as keeper
 use Rattle.mt_values.specs.RootNames.{create_name}
-use Rattle.mt_outside.specs.Disk.{Told, names_of}
+use Rattle.mt_outside.specs.Disk.{names_of}
 use Rattle.mt_outside.specs.Files.{Files}
 use Rattle.root_store.specs.durable_commit.declared.causes.Refused.{Refused}
 use Rattle.root_store.specs.durable_commit.Publications.{IsPublished, IsUnsettled, Storage}
@@ -140,9 +140,9 @@ module _ {F : Type 0} (files_of : F → Option Files) (session : ℕ) (create : 
   create_stands sealed (Ok x) d h stands = record {
     store_stands = later session create entry was now d.from files_of (done_none (MayCreate create was) shown_against (publication_of_create session create entry) EntersNow was now sealed inside x d) d.enters h stands;
     root_stands = λ both.
-        root_done (MayCreate create was) shown_against (publication_of_create session create entry) EntersNow was now sealed inside files_of d.from.ready (calm session create entry was now d.from)
-        (fits session create entry was now d.from files_of both.0) (shows session create entry was now d.from files_of)
-        (λ none e synced. later session create entry was now d.from files_of none e) x d h stands both.1;
+        root_done (MayCreate create was) shown_against (publication_of_create session create entry) EntersNow was now sealed inside files_of (λ h. Unit {0}) d.from.ready (calm session create entry was now d.from)
+        (λ none synced h known. fits session create entry was now d.from files_of both.0 none synced h) (shows session create entry was now d.from files_of)
+        (λ none e synced h known. later session create entry was now d.from files_of none e h) x d h tt stands both.1;
   }
   create_stands sealed (Err r) d h stands = tt
 
@@ -157,16 +157,16 @@ module _ {F : Type 0} (files_of : F → Option Files) (session : ℕ) (create : 
 
   pub create_images : {T S : Type 0} (sealed : S) (result : Result T (Returned S)) → CommitsCreate session create entry was now sealed result → IsSealedEntry create entry.files → (h : History) → CoreStands files_of h was.store → LeavesOne was h
       → LeavesAfter was now h (with_entry (publication_of_create session create entry) h) result
-  create_images sealed result d is =
-      images_left (MayCreate create was) shown_against (publication_of_create session create entry) EntersNow was now sealed inside files_of d.from.ready (calm session create entry was now d.from)
-      (fits session create entry was now d.from files_of is) (shows session create entry was now d.from files_of)
-      (λ none e synced. later session create entry was now d.from files_of none e) result d
+  create_images sealed result d is h =
+      images_left (MayCreate create was) shown_against (publication_of_create session create entry) EntersNow was now sealed inside files_of (λ h. Unit {0}) d.from.ready (calm session create entry was now d.from)
+      (λ none synced h known. fits session create entry was now d.from files_of is none synced h) (shows session create entry was now d.from files_of)
+      (λ none e synced h known. later session create entry was now d.from files_of none e h) result d h tt
 
   pub create_crashes : {T S : Type 0} (sealed : S) (result : Result T (Returned S)) → CommitsCreate session create entry was now sealed result → IsSealedEntry create entry.files → (first : keeper.Told) (start : ℕ) → KeepsThroughCrashes files_of was.store was.storage first start → KeepsThroughCrashes files_of now.store now.storage first start
   create_crashes sealed result d is =
-      crashes_left (MayCreate create was) shown_against (publication_of_create session create entry) EntersNow was now sealed inside files_of d.from.ready (calm session create entry was now d.from)
-      (fits session create entry was now d.from files_of is) (shows session create entry was now d.from files_of)
-      (λ none e synced. later session create entry was now d.from files_of none e) result d
+      crashes_left (MayCreate create was) shown_against (publication_of_create session create entry) EntersNow was now sealed inside files_of (λ h. Unit {0}) d.from.ready (calm session create entry was now d.from)
+      (λ none synced h known. fits session create entry was now d.from files_of is none synced h) (shows session create entry was now d.from files_of)
+      (λ none e synced h known. later session create entry was now d.from files_of none e h) result d (λ kept there. tt)
 
 pub create_idle : {F T S : Type 0} (session : ℕ) (create : Create) (entry : Filled) (was now : Root F) (sealed : S) (result : Result T (Returned S)) → CommitsCreate session create entry was now sealed result → HasNoMark was.store → HasNoMark now.store
 create_idle {F} session create entry was now sealed (Ok x) d idle = λ u. subst (All (λ (k : Kept (Part F)). k.busy ≡ false)) (sym (ap (λ (s : PartSet (Part F)). parts_of s u) d.enters.set_is)) (idle u)

@@ -39,6 +39,7 @@ pub mod Updated
 pub use Rattle.root_store.proofs.MtModelTables
 pub use Rattle.root_store.proofs.PartReaderCutRows
 pub use Rattle.root_store.proofs.PartReaderHolding
+pub use Rattle.root_store.proofs.PartSetClearing
 pub use Rattle.root_store.proofs.PartSetItems
 pub use Rattle.root_store.proofs.PartSetMaps
 pub use Rattle.root_store.proofs.PartSetOrders

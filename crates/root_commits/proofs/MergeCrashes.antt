@@ -56,6 +56,6 @@ module _ {F : Type 0} (store : CoreStore F) (m : Merging) (ordered : IsInBlockOr
             (folder_left held.files left (sealed held.files held.sealed_are) become t.schema held.rows held.holds) (merged_free store m ordered fit name name_is old shown word);
       }
 
-  pub shows_by_merge : (files_of : F → Option Files) (h : History) (files : Files) (now : CoreStore F) (a : EntersMerge files_of m store now) → a.name ≡ name → Shows store text files h now
-  shows_by_merge files_of h files now a same = λ old left rise stands shown become.
-      shown_merged store m ordered fit name name_is old shown (merged_word store m ordered fit name name_is old shown low) left now a same
+  pub shows_by_merge : (files_of : F → Option Files) (h : History) (files : Files) (now : CoreStore F) (a : EntersMerge files_of m name store now) → Shows store text files h now
+  shows_by_merge files_of h files now a = λ old left rise stands shown become.
+      shown_merged store m ordered fit name name_is old shown (merged_word store m ordered fit name name_is old shown low) left now a

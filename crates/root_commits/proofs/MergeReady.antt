@@ -40,6 +40,7 @@ use Rattle.root_commits.proofs.MergedNames.{first_of, run_spans, run_within, sou
 use Rattle.root_commits.proofs.MergedShown.{greatest_merged, merged_word, shown_merged}
 use Rattle.root_commits.proofs.Shown.{after_doubt, after_put}
 use Rattle.root_commits.proofs.Sounding.{ready_kept}
+use Rattle.root_commits.proofs.SameStores.{no_mutation}
 
 -- ---- the table of a run is there
 
@@ -56,7 +57,7 @@ table_of_run store m sound k has = not_none (table_at store m.table) (λ none. i
 -- ---- the store
 
 module _ {F : Type 0} {files_of : F → Option Files} (old new : CoreStore F) (m : Merging) (ordered : IsInBlockOrder (kept_in m.partition (parts_of old.set m.table))) (sound : IsSoundStore old)
-    (fit : All EndsInOrder (parts_of old.set m.table)) (a : EntersMerge files_of m old new) where
+    (fit : All EndsInOrder (parts_of old.set m.table)) (name : PartName) (name_is : name_of_merge (sources_of old m) ≡ Some name) (a : EntersMerge files_of m name old new) where
   abbrev parts : List (Kept (Part F))
   parts = parts_of old.set m.table
 
@@ -64,16 +65,16 @@ module _ {F : Type 0} {files_of : F → Option Files} (old new : CoreStore F) (m
   sources = sources_of old m
 
   abbrev kept : Kept (Part F)
-  kept = record { name = a.name; part = a.part; busy = false }
+  kept = record { name = name; part = a.part; busy = false }
 
   abbrev one : Kept (Part F)
-  one = (first_of sources a.name a.name_is).0
+  one = (first_of sources name name_is).0
 
   one_source : HasItem sources one
-  one_source = (first_of sources a.name a.name_is).1
+  one_source = (first_of sources name name_is).1
 
   one_there : HasItem parts one
-  one_there = source_there parts m.partition m.run ordered fit a.name a.name_is one one_source
+  one_there = source_there parts m.partition m.run ordered fit name name_is one one_source
 
   -- what holds of each part and of the new one holds of each then
   pub all_swapped : (Q : Kept (Part F) → Type 0) → All Q parts → Q kept → All Q (parts_of new.set m.table)
@@ -91,27 +92,27 @@ module _ {F : Type 0} {files_of : F → Option Files} (old new : CoreStore F) (m
   here u = ap (λ (ts : BTreeMap (List ℕ) Table). get (slice_cmp nat_cmp) ts u) a.tables_are
 
   -- the new part ends by the number that was drawn last
-  pub ends_by : (n : ℕ) → All (λ (k : Kept (Part F)). k.name.max_block ≤ n) parts → a.name.max_block ≤ n
+  pub ends_by : (n : ℕ) → All (λ (k : Kept (Part F)). k.name.max_block ≤ n) parts → name.max_block ≤ n
   ends_by n ends =
-      let spans = run_spans parts m.partition m.run ordered fit a.name a.name_is in
+      let spans = run_spans parts m.partition m.run ordered fit name name_is in
       let has : HasItem sources spans.last = (length sources - 1, slice_get_within sources (length sources - 1) spans.last spans.last_is, get_or_from_slice_get sources (length sources - 1) spans.last spans.last spans.last_is) in
-      let last = All-contains (λ (k : Kept (Part F)). k.name.max_block ≤ n) parts spans.last ends (source_there parts m.partition m.run ordered fit a.name a.name_is spans.last has) in
+      let last = All-contains (λ (k : Kept (Part F)). k.name.max_block ≤ n) parts spans.last ends (source_there parts m.partition m.run ordered fit name name_is spans.last has) in
       let is = spans.ends in
       omega (arith, last, is)
 
   -- begins no later than it ends
-  rises : a.name.min_block ≤ a.name.max_block
+  rises : name.min_block ≤ name.max_block
   rises =
-      let within = (run_within parts m.partition m.run ordered fit a.name a.name_is one one_source).0 in
+      let within = (run_within parts m.partition m.run ordered fit name name_is one one_source).0 in
       let low = within.min_block in
       let high = within.max_block in
       let own = All-contains EndsInOrder parts one fit one_there in
       omega (arith, low, high, own)
 
   -- and is of a partition that the table may have
-  may_have : (schema : Schema) → All (λ (k : Kept (Part F)). MayHavePartition schema k.name.partition) parts → MayHavePartition schema a.name.partition
+  may_have : (schema : Schema) → All (λ (k : Kept (Part F)). MayHavePartition schema k.name.partition) parts → MayHavePartition schema name.partition
   may_have schema may =
-      let own = (run_within parts m.partition m.run ordered fit a.name a.name_is one one_source).0.partition in
+      let own = (run_within parts m.partition m.run ordered fit name name_is one one_source).0.partition in
       subst (MayHavePartition schema) (sym own) (All-contains (λ (k : Kept (Part F)). MayHavePartition schema k.name.partition) parts one may one_there)
 
   swapped_table : (t : Table) → IsSoundTable old m.table t → IsSoundTable new m.table t
@@ -147,6 +148,7 @@ module _ {F : Type 0} {files_of : F → Option Files} (old new : CoreStore F) (m
       | inr differ ↦ kept_table u t (a.others u (other u differ)) (sound.tables u t (sym (here u) ∙ at))
     ];
     no_other = λ u none. none_at u (sym (here u) ∙ none);
+    mutations = no_mutation old new a.mutations_are sound.mutations;
   }
 
   -- a name under the old store is one under the new
@@ -155,7 +157,7 @@ module _ {F : Type 0} {files_of : F → Option Files} (old new : CoreStore F) (m
 
   -- ---- the root
 
-  module _ (low : a.name.level ≤ 4294967295) (was now : Storage) (calm : was.failed ≡ old.opened) (ready : IsReady was.failed was.disk old) (d : IsPublished (publication_of_merge m a.name) was now) where
+  module _ (low : name.level ≤ 4294967295) (was now : Storage) (calm : was.failed ≡ old.opened) (ready : IsReady was.failed was.disk old) (d : IsPublished (publication_of_merge m name) was now) where
     table : (t : Table) × (table_at old m.table ≡ Some t)
     table = table_of_run old m sound one one_there
 
@@ -167,24 +169,24 @@ module _ {F : Type 0} {files_of : F → Option Files} (old new : CoreStore F) (m
         fits_in told is = by was.disk refl
           where
             by : (o : Option Told) → was.disk ≡ o → NamesFit new told
-            by None none = absurd (no_put m.files (sym is ∙ (d.root ∙ ap (put was.clock (part_name m.table (part_text a.name)) m.files) none)))
+            by None none = absurd (no_put m.files (sym is ∙ (d.root ∙ ap (put was.clock (part_name m.table (part_text name)) m.files) none)))
               where
-                no_put : (files : Option Files) → Some told ≡ put was.clock (part_name m.table (part_text a.name)) files None → ⊥
+                no_put : (files : Option Files) → Some told ≡ put was.clock (part_name m.table (part_text name)) files None → ⊥
                 no_put None e = cc
                 no_put (Some files) e = cc
             by (Some before) there =
                 let shown = ready.shown calm before there in
-                let word = merged_word old m ordered fit a.name a.name_is (names_of before) shown low in
+                let word = merged_word old m ordered fit name name_is (names_of before) shown low in
                 let ends = (sound.tables m.table table.0 table.1).ends in
-                fits_more old new was.clock (part_name m.table (part_text a.name)) m.files was.disk now.disk under (record { table = m.table; kept = table.0; there = here m.table ∙ table.1; is = inr (a.name, word.1, ends_by table.0.drawn ends, refl) })
+                fits_more old new was.clock (part_name m.table (part_text name)) m.files was.disk now.disk under (record { table = m.table; kept = table.0; there = here m.table ∙ table.1; is = inr (name, word.1, ends_by table.0.drawn ends, refl) })
                 (ready.names calm) d.root told is
 
     shown_now : ForSome now.disk (λ (t : Told). AreShown new (names_of t))
     shown_now =
-        after_put (AreShown new) was.clock (part_name m.table (part_text a.name)) m.files was.disk now.disk
+        after_put (AreShown new) was.clock (part_name m.table (part_text name)) m.files was.disk now.disk
         (λ told fs is.
         let shown = ready.shown calm told is in
-        shown_merged old m ordered fit a.name a.name_is (names_of told) shown (merged_word old m ordered fit a.name a.name_is (names_of told) shown low) fs new a refl) d.root
+        shown_merged old m ordered fit name name_is (names_of told) shown (merged_word old m ordered fit name name_is (names_of told) shown low) fs new a) d.root
 
     pub ready_merged : IsReady now.failed now.disk new
     ready_merged =
@@ -217,19 +219,19 @@ ready_unsettled old new m ordered fit name name_is low cause was now calm same d
 module _ {F : Type 0} (files_of : F → Option Files) where
   -- with one part in place of those that were merged the parts hold rows still
   pub held_merged : (old new : CoreStore F) (m : Merging) (t : Table) → table_at old m.table ≡ Some t → (ordered : IsInBlockOrder (kept_in m.partition (parts_of old.set m.table))) → IsSoundStore old → (fit : All EndsInOrder (parts_of old.set m.table))
-      → SealsRows t.schema m → (a : EntersMerge files_of m old new) → HasSoundParts files_of old → HasSoundParts files_of new
-  held_merged old new m t at ordered sound fit is a held = λ u x found. elim (true_or_false (same_bytes m.table u)) [
+      → SealsRows t.schema m → (name : PartName) → (name_is : name_of_merge (sources_of old m) ≡ Some name) → (a : EntersMerge files_of m name old new) → HasSoundParts files_of old → HasSoundParts files_of new
+  held_merged old new m t at ordered sound fit is name name_is a held = λ u x found. elim (true_or_false (same_bytes m.table u)) [
     | inl same ↦ (
         let it = same_is m.table u same in
-        let one : t ≡ x = one_table t x (sym at ∙ (ap (table_at old) it ∙ (sym (here old new m ordered sound fit a u) ∙ found))) in
+        let one : t ≡ x = one_table t x (sym at ∙ (ap (table_at old) it ∙ (sym (here old new m ordered sound fit name name_is a u) ∙ found))) in
         subst (λ (v : List ℕ). All (HoldsRows files_of x.schema) (parts_of new.set v)) it
         (subst (λ (y : Table). All (HoldsRows files_of y.schema) (parts_of new.set m.table)) one
-        (all_swapped old new m ordered sound fit a (HoldsRows files_of t.schema) (held m.table t at) new_holds)))
-    | inr differ ↦ subst (All (HoldsRows files_of x.schema)) (sym (a.others u (other old new m ordered sound fit a u differ))) (held u x (sym (here old new m ordered sound fit a u) ∙ found))
+        (all_swapped old new m ordered sound fit name name_is a (HoldsRows files_of t.schema) (held m.table t at) new_holds)))
+    | inr differ ↦ subst (All (HoldsRows files_of x.schema)) (sym (a.others u (other old new m ordered sound fit name name_is a u differ))) (held u x (sym (here old new m ordered sound fit name name_is a u) ∙ found))
   ]
     where
       one_table : (x y : Table) → Some x ≡ Some y → x ≡ y
       one_table x y same = cc
 
-      new_holds : HoldsRows files_of t.schema (record { name = a.name; part = a.part; busy = false })
+      new_holds : HoldsRows files_of t.schema (record { name = name; part = a.part; busy = false })
       new_holds = (is.rows, written_holds files_of t.schema a.part is.rows is.files (a.files_are ∙ is.sealed_are) (a.loaded_is ∙ is.loaded_is) is.holds)

@@ -125,9 +125,9 @@ module _ {F : Type 0} (store : CoreStore F) (m : Merging) (ordered : IsInBlockOr
                   absurd (omega (arith, less, greatest, low)));
             }
 
-        module _ {files_of : F → Option Files} (now : CoreStore F) (a : EntersMerge files_of m store now) (same : a.name ≡ name) where
+        module _ {files_of : F → Option Files} (now : CoreStore F) (a : EntersMerge files_of m name store now) where
           abbrev kept : Kept (Part F)
-          kept = record { name = a.name; part = a.part; busy = false }
+          kept = record { name = name; part = a.part; busy = false }
 
           abbrev Clear : Kept (Part F) → Kept (Part F) → Type 0
           Clear x y = StandsClear x.name y.name
@@ -138,10 +138,10 @@ module _ {F : Type 0} (store : CoreStore F) (m : Merging) (ordered : IsInBlockOr
           -- what stands beside the run has no block in common with the new part
           beside_apart : (k : Kept (Part F)) → HasItem a.swapped.front k ⊎ HasItem a.swapped.back k → Meet k.name name → ⊥
           beside_apart k (inl front) meet =
-              (pairs_across Clear a.swapped.front (kept ∷ a.swapped.back) ordered_now k kept front (item_first kept a.swapped.back)).apart (subst (Meet k.name) (sym same) meet)
+              (pairs_across Clear a.swapped.front (kept ∷ a.swapped.back) ordered_now k kept front (item_first kept a.swapped.back)).apart meet
           beside_apart k (inr back) meet =
               (pairs_across Clear (kept ∷ []) a.swapped.back (pairs_back Clear a.swapped.front (kept ∷ a.swapped.back) ordered_now) kept k (item_first kept []) back).apart
-              (subst (λ (n : PartName). Meet n k.name) (sym same) (record { partition = sym meet.partition; low = meet.high; high = meet.low }))
+              (record { partition = sym meet.partition; low = meet.high; high = meet.low })
 
           beside_before : (k : Kept (Part F)) → HasItem a.swapped.front k ⊎ HasItem a.swapped.back k → HasItem parts k
           beside_before k (inl front) = subst (λ (ks : List (Kept (Part F))). HasItem ks k) (sym a.swapped.before_is) (Contains-append_left a.swapped.front (sources ++ a.swapped.back) k front)
@@ -175,7 +175,7 @@ module _ {F : Type 0} (store : CoreStore F) (m : Merging) (ordered : IsInBlockOr
                   | inl beside ↦ subst (HasName (parts_of now.set m.table)) k.2 (map_item name_of (parts_of now.set m.table) k.0 (beside_after k.0 beside))
                   | inr inside ↦ absurd (hides s.read new may_replace (part_called m.table n) old (record { table = refl; name = subst (Contains name) k.2 (within_run k.0 inside).0 }) visible there_now)
                 ])
-            | inr is ↦ subst (HasName (parts_of now.set m.table)) (same ∙ ap (λ (p : TablePart). p.name) is) (map_item name_of (parts_of now.set m.table) kept kept_there)
+            | inr is ↦ subst (HasName (parts_of now.set m.table)) (ap (λ (p : TablePart). p.name) is) (map_item name_of (parts_of now.set m.table) kept kept_there)
           ]
 
           from_here : (n : PartName) → HasName (parts_of now.set m.table) n → IsVisible (names_with s.read new) (part_called m.table n)
@@ -187,7 +187,7 @@ module _ {F : Type 0} (store : CoreStore F) (m : Merging) (ordered : IsInBlockOr
                     let order = (named_kept k.0 before).1.order in
                     subst (λ (x : PartName). IsVisible (names_with s.read new) (part_called m.table x)) k.2
                     (still_visible s.read new (part_called m.table k.0.name) (kept_visible k.0 before) (λ covers. beside_apart k.0 beside (covered_meets new (part_called m.table k.0.name) order covers))))
-                | inr is ↦ subst (λ (x : PartName). IsVisible (names_with s.read new) (part_called m.table x)) (sym same ∙ (ap name_of is ∙ k.2)) (new_visible s.read new (not_covered s.read new may_replace) there_now)
+                | inr is ↦ subst (λ (x : PartName). IsVisible (names_with s.read new) (part_called m.table x)) (ap name_of is ∙ k.2) (new_visible s.read new (not_covered s.read new may_replace) there_now)
               ]
 
           other : (u : List ℕ) → same_bytes m.table u ≡ false → u ≢ m.table

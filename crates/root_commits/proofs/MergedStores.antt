@@ -37,7 +37,7 @@ use Rattle.root_store.specs.declared.store.CoreStore.{CoreStore}
 use Rattle.root_store.specs.declared.store.Table.{Table}
 use Rattle.root_store.specs.Stores.{CoreStands, PartsAreThere, core_part, core_parts, table_at}
 use Rattle.root_store.proofs.InOrder.{core_order}
-use Rattle.root_commits.specs.Merges.{EntersMerge, HoldsMerge, IsSealedMerge, Merging, SealsMerge, name_of_merge, source_names, sources_of}
+use Rattle.root_commits.specs.Merges.{EntersMerge, HoldsMerge, Merging, SealsMerge, SealsMergeOfParts, name_of_merge, source_names, sources_of}
 use Rattle.root_commits.proofs.MergedNames.{run_own, run_partition}
 use Rattle.root_commits.proofs.SameStores.{no_mutation}
 use Rattle.root_commits.proofs.RunRows.{part_names, parts_own, reached_stand, rows_of_run, run_among, run_hold, run_neighbours, stand_reached}
@@ -149,7 +149,7 @@ module _ {F : Type 0} (files_of : F → Option Files) (h : History) (store : Cor
 -- ---- where nobody acts in between
 
 module _ {F : Type 0} (files_of : F → Option Files) (store : CoreStore F) (m : Merging) (t : Table) (at : table_at store m.table ≡ Some t) (run : IsRun m.run (kept_in m.partition (parts_of store.set m.table)))
-    (is : IsSealedMerge files_of t.schema store m) (h : History) (s : CoreStands files_of h store) where
+    (is : SealsMergeOfParts files_of t.schema store m) (h : History) (s : CoreStands files_of h store) where
   abbrev Held : Kept (Part F) → List Row → Type 0
   Held k r = PartHolds files_of t.schema k.part r
 
@@ -196,7 +196,7 @@ module _ {F : Type 0} (files_of : F → Option Files) (store : CoreStore F) (m :
 
 module _ {F : Type 0} (files_of : F → Option Files) (h : History) (old new : CoreStore F) (m : Merging) (t : Table) (at : table_at old m.table ≡ Some t)
     (ordered : IsInBlockOrder (kept_in m.partition (parts_of old.set m.table))) (fit : All EndsInOrder (parts_of old.set m.table))
-    (is : SealsMerge t.schema h (source_names old m) m) (a : EntersMerge files_of m old new) where
+    (is : SealsMerge t.schema h (source_names old m) m) (name : PartName) (name_is : name_of_merge (sources_of old m) ≡ Some name) (a : EntersMerge files_of m name old new) where
   abbrev Holds : Kept (Part F) → List Row → Type 0
   Holds k r = PartHolds files_of t.schema k.part r
 
@@ -204,7 +204,7 @@ module _ {F : Type 0} (files_of : F → Option Files) (h : History) (old new : C
   sources = sources_of old m
 
   abbrev kept : Kept (Part F)
-  kept = record { name = a.name; part = a.part; busy = false }
+  kept = record { name = name; part = a.part; busy = false }
 
   abbrev front : List (Kept (Part F))
   front = a.swapped.front
@@ -296,7 +296,7 @@ module _ {F : Type 0} (files_of : F → Option Files) (h : History) (old new : C
     stands_now : TableStands m.table (front_parts were.rows rows_were ++ new_part were.rows rows_were ∷ back_parts were.rows rows_were) h
     stands_now =
         merged_stand h t.schema (front_parts were.rows rows_were) (source_parts were.rows rows_were) (back_parts were.rows rows_were) (new_part were.rows rows_were) s.legal schema_known
-        (is_merge files_of h old m t at s run ordered fit is a.name a.name_is rows_were.inputs rows_were.inputs_hold) stands_before order_before
+        (is_merge files_of h old m t at s run ordered fit is name name_is rows_were.inputs rows_were.inputs_hold) stands_before order_before
 
     there_now : PartsAreThere files_of h new m.table t.schema
     there_now = record {

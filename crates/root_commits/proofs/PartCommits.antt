@@ -173,8 +173,8 @@ module _ {F : Type 0} (files_of : F → Option Files) (a : Adding) (was now : Ro
     part_stands sealed (Ok x) d h stands = record {
       store_stands = later files_of a was now d.from is d.enters h stands;
       root_stands = λ root.
-          root_done (MayAdd a was) shown_against (publication_of_part a) EntersNow was now sealed inside files_of d.from.ready (calm files_of a was now d.from) (fits files_of a was now d.from is)
-          (shows files_of a was now d.from) (λ none e synced. later files_of a was now d.from is e) x d h stands root;
+          root_done (MayAdd a was) shown_against (publication_of_part a) EntersNow was now sealed inside files_of (λ h. Unit {0}) d.from.ready (calm files_of a was now d.from) (λ none synced h known. fits files_of a was now d.from is none synced h)
+          (shows files_of a was now d.from) (λ none e synced h known. later files_of a was now d.from is e h) x d h tt stands root;
     }
     part_stands sealed (Err r) d h stands = tt
 
@@ -189,14 +189,14 @@ module _ {F : Type 0} (files_of : F → Option Files) (a : Adding) (was now : Ro
     part_event sealed (Err r) d core s = tt
 
     pub part_images : {T S : Type 0} (sealed : S) (result : Result T (Returned S)) → CommitsPart files_of a was now sealed result → (h : History) → CoreStands files_of h was.store → LeavesOne was h → LeavesAfter was now h (with_entry (publication_of_part a) h) result
-    part_images sealed result d =
-        images_left (MayAdd a was) shown_against (publication_of_part a) EntersNow was now sealed inside files_of d.from.ready (calm files_of a was now d.from) (fits files_of a was now d.from is)
-        (shows files_of a was now d.from) (λ none e synced. later files_of a was now d.from is e) result d
+    part_images sealed result d h =
+        images_left (MayAdd a was) shown_against (publication_of_part a) EntersNow was now sealed inside files_of (λ h. Unit {0}) d.from.ready (calm files_of a was now d.from) (λ none synced h known. fits files_of a was now d.from is none synced h)
+        (shows files_of a was now d.from) (λ none e synced h known. later files_of a was now d.from is e h) result d h tt
 
     pub part_crashes : {T S : Type 0} (sealed : S) (result : Result T (Returned S)) → CommitsPart files_of a was now sealed result → (first : keeper.Told) (start : ℕ) → KeepsThroughCrashes files_of was.store was.storage first start → KeepsThroughCrashes files_of now.store now.storage first start
     part_crashes sealed result d =
-        crashes_left (MayAdd a was) shown_against (publication_of_part a) EntersNow was now sealed inside files_of d.from.ready (calm files_of a was now d.from) (fits files_of a was now d.from is)
-        (shows files_of a was now d.from) (λ none e synced. later files_of a was now d.from is e) result d
+        crashes_left (MayAdd a was) shown_against (publication_of_part a) EntersNow was now sealed inside files_of (λ h. Unit {0}) d.from.ready (calm files_of a was now d.from) (λ none synced h known. fits files_of a was now d.from is none synced h)
+        (shows files_of a was now d.from) (λ none e synced h known. later files_of a was now d.from is e h) result d (λ kept there. tt)
 
   pub part_idle : {T S : Type 0} (sealed : S) (result : Result T (Returned S)) → CommitsPart files_of a was now sealed result → HasNoMark was.store → HasNoMark now.store
   part_idle sealed (Ok x) d idle = idle_added was.store now.store _ _ _ _ d.enters.enters idle

@@ -45,7 +45,7 @@ use Rattle.root_store.specs.Stores.{PartsAreThere, core_part, core_parts, table_
 use Rattle.root_store.proofs.Clear.{block_here}
 use Rattle.root_store.proofs.Items.{one_counts}
 use Rattle.root_commits.specs.Events.{IsPut, put_of}
-use Rattle.root_commits.specs.Merges.{EntersMerge, HoldsMerge, Merging, SealsMerge, source_names, sources_of}
+use Rattle.root_commits.specs.Merges.{EntersMerge, HoldsMerge, Merging, SealsMerge, name_of_merge, source_names, sources_of}
 use Rattle.root_commits.proofs.MergedNames.{run_spans}
 use Rattle.root_commits.proofs.MergedStores.{Rows, join_parts, join_rows, rows_of, stands_merged}
 use Rattle.root_commits.proofs.RunRows.{part_names, reached_stand, rows_of_run, run_among, run_hold, run_neighbours}
@@ -181,7 +181,7 @@ module _ {F : Type 0} (R : Kept (Part F) → List Row → Type 0) (table : List 
 
 module _ {F : Type 0} (files_of : F → Option Files) (core : Core) (old new : CoreStore F) (m : Merging) (t : Table) (at : table_at old m.table ≡ Some t) (s : ShowsCore files_of old core)
     (run : IsRun m.run (kept_in m.partition (parts_of old.set m.table))) (ordered : IsInBlockOrder (kept_in m.partition (parts_of old.set m.table))) (fit : All EndsInOrder (parts_of old.set m.table))
-    (is : SealsMerge t.schema core.history (source_names old m) m) (a : EntersMerge files_of m old new) where
+    (is : SealsMerge t.schema core.history (source_names old m) m) (name : PartName) (name_is : name_of_merge (sources_of old m) ≡ Some name) (a : EntersMerge files_of m name old new) where
   abbrev h : History
   h = core.history
 
@@ -216,8 +216,8 @@ module _ {F : Type 0} (files_of : F → Option Files) (core : Core) (old new : C
   abbrev all : List CorePart
   all = core_parts m.table ks there.rows
 
-  abbrev split : Rows files_of h old new m t at ordered fit is a there.rows
-  split = rows_of files_of h old new m t at ordered fit is a there.rows there.hold
+  abbrev split : Rows files_of h old new m t at ordered fit is name name_is a there.rows
+  split = rows_of files_of h old new m t at ordered fit is name name_is a there.rows there.hold
 
   abbrev front : List CorePart
   front = core_parts m.table a.swapped.front split.front_rows
@@ -258,7 +258,7 @@ module _ {F : Type 0} (files_of : F → Option Files) (core : Core) (old new : C
 
   -- the first source
   first_there : (k : Kept (Part F)) × (slice_get those 0 ≡ Some k)
-  first_there = let spans = run_spans ks m.partition m.run ordered fit a.name a.name_is in (spans.first, spans.first_is)
+  first_there = let spans = run_spans ks m.partition m.run ordered fit name name_is in (spans.first, spans.first_is)
 
   abbrev one : Kept (Part F)
   one = first_there.0
@@ -320,7 +320,7 @@ module _ {F : Type 0} (files_of : F → Option Files) (core : Core) (old new : C
   -- ---- the state after it
 
   abbrev kept : Kept (Part F)
-  kept = record { name = a.name; part = a.part; busy = false }
+  kept = record { name = name; part = a.part; busy = false }
 
   abbrev part : CorePart
   part = core_part m.table kept held.rows
@@ -435,23 +435,23 @@ module _ {F : Type 0} (files_of : F → Option Files) (core : Core) (old new : C
   ]
 
   -- the merge is the event
-  pub merge_put : a.name.level ≤ 4294967295 → IsPut files_of core m new
+  pub merge_put : name.level ≤ 4294967295 → IsPut files_of core m new
   merge_put low = record {
     rows = held.rows;
-    name = a.name;
+    name = name;
     next = next;
     may = λ schema found has. subst (λ (x : Schema). MergeLeaves h x (sources_among (core_parts_of m.table core.parts) put) held.rows) (one_schema t.schema schema (sym known ∙ found)) leaves;
     gives = record {
       there = ap is_some known;
       neighbours = subst (λ (ps : List CorePart). HasNeighbours ps put) (sym there.same) neighbours;
-      named = ap (λ (ps : List CorePart). merged_of (names_of ps)) beside_is ∙ (ap merged_of (part_names Holds m.table those shown_inputs shown_hold) ∙ a.name_is);
+      named = ap (λ (ps : List CorePart). merged_of (names_of ps)) beside_is ∙ (ap merged_of (part_names Holds m.table those shown_inputs shown_hold) ∙ name_is);
       room = low;
       parts = swaps;
       history = refl;
       snapshots = refl;
     };
     shows = record {
-      stands = stands_merged files_of h old new m t at ordered fit is a s.stands run;
+      stands = stands_merged files_of h old new m t at ordered fit is name name_is a s.stands run;
       parts = λ u x found. shown_at u x (sym (here u) ∙ found);
       no_other = λ u none. none_at u (sym (here u) ∙ none);
     };

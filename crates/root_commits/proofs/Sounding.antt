@@ -34,6 +34,7 @@ use Rattle.root_store.specs.Stores.{table_at}
 use Rattle.root_commits.proofs.Placed.{all_added}
 use Rattle.root_commits.proofs.Shown.{greatest_same, shown_same}
 use Rattle.root_commits.proofs.Updated.{it_or, no_some, one_some}
+use Rattle.root_commits.proofs.SameStores.{no_mutation}
 
 module _ {F : Type 0} where
   abbrev Ends : ℕ → Kept (Part F) → Type 0
@@ -68,6 +69,7 @@ module _ {F : Type 0} where
       sound_same sound = record {
         tables = λ table t at. moved old new table t (same.parts table) (sound.tables table t (sym (same_table table) ∙ at));
         no_other = λ table none. same.parts table ∙ sound.no_other table (sym (same_table table) ∙ none);
+        mutations = no_mutation old new same.mutations_are sound.mutations;
       }
 
       under_same : (name : List ℕ) → IsNameUnder old name → IsNameUnder new name
@@ -142,6 +144,7 @@ module _ {F : Type 0} where
         | inl same ↦ subst (λ (v : List ℕ). parts_of new.set v ≡ []) same no_parts
         | inr other ↦ parts u ∙ sound.no_other u (sym other.1 ∙ none)
       ];
+      mutations = no_mutation old new enters.mutations_are sound.mutations;
     }
       where
         parts : (u : List ℕ) → parts_of new.set u ≡ parts_of old.set u
@@ -196,4 +199,5 @@ module _ {F : Type 0} where
           | inl same ↦ absurd (no_some (table_at new u) more none (subst (λ (v : List ℕ). table_at new v ≡ Some more) same a.updates.1))
           | inr other ↦ a.others u (apart u other.0) ∙ sound.no_other u (sym other.1 ∙ none)
         ];
+        mutations = no_mutation old new a.mutations_are sound.mutations;
       }

@@ -48,11 +48,12 @@ module _ {F : Type 0} (files_of : F → Option Files) (old new : CoreStore F) (f
     (s : AreCalm was first start) (shown : ImagesShow was.disk was.clock old)
   where
     pub kept_settled : (entry : Option Entry) → Grows old name files (entries_of s.kept.list) (pushed entry (entries_of s.kept.list)) → StandsForKept files_of was.annals old → now.clock ≡ was.clock + 1 → now.disk ≡ put was.clock name sealed was.disk
-        → Notes now.clock entry was.annals now.annals → ((h : History) → CoreStands files_of h old → CoreStands files_of (pushed entry h) new) → Shows old name files (entries_of s.kept.list) new → KeepsThroughCrashes files_of new now first start
+        → Notes now.clock entry was.annals now.annals → ForSome was.annals (λ (kept : keeper.Told). CoreStands files_of (entries_of kept.list) old → CoreStands files_of (pushed entry (entries_of kept.list)) new)
+        → Shows old name files (entries_of s.kept.list) new → KeepsThroughCrashes files_of new now first start
     kept_settled None grows stands mark root same later shows =
-        kept_merged files_of old new first start was now name sealed files sealed_is same s shown grows mark root (λ kept there. later (entries_of kept.list) (stands kept there)) shows
+        kept_merged files_of old new first start was now name sealed files sealed_is same s shown grows mark root (λ kept there. later kept there (stands kept there)) shows
     kept_settled (Some e) grows stands mark root notes later shows =
-        kept_committed files_of old new first start was now name sealed files e sealed_is s shown grows mark root notes (later (entries_of s.kept.list) (stands s.kept s.annals_is)) shows
+        kept_committed files_of old new first start was now name sealed files e sealed_is s shown grows mark root notes (later s.kept s.annals_is (stands s.kept s.annals_is)) shows
 
     pub kept_unsettled : (entry : Option Entry) → Grows old name files (entries_of s.kept.list) (pushed entry (entries_of s.kept.list)) → StandsForKept files_of was.annals old → now.clock ≡ was.clock → MayPut was.clock name sealed was.disk now.disk
         → Begins entry was.annals now.annals → SameStore old new → (now.failed ≡ new.opened → now.disk ≡ was.disk) → KeepsThroughCrashes files_of new now first start
@@ -93,28 +94,28 @@ module _ {F T S : Type 0} (From : Type 0) (shown : Option Refused) (p : Publicat
   unsettled_none : (r : Returned S) → Does (Err r) → IsUnsettled p r.cause was.storage now.storage → shown ≡ None
   unsettled_none r does d = none_shown_by shown (Some r.cause) inside does.cause d.outside
 
-  -- where what was published may be, for each history that the store stands for
-  module _ (files_of : F → Option Files) (ready : IsReadyRoot was) (calm : shown ≡ None → was.storage.failed ≡ was.store.opened)
-      (fits : shown ≡ None → ForSome p.files AreSealed → (h : History) → CoreStands files_of h was.store → Fits was.store p h)
+  -- where what was published may be, for each history that the store stands for and of which something is known
+  module _ (files_of : F → Option Files) (Known : History → Type 0) (ready : IsReadyRoot was) (calm : shown ≡ None → was.storage.failed ≡ was.store.opened)
+      (fits : shown ≡ None → ForSome p.files AreSealed → (h : History) → Known h → CoreStands files_of h was.store → Fits was.store p h)
       (shows : shown ≡ None → Enters was.store now.store → (h : History) → CoreStands files_of h was.store → (files : Files) → Shows was.store p.name files h now.store)
-      (later : shown ≡ None → Enters was.store now.store → ForSome p.files AreSealed → (h : History) → CoreStands files_of h was.store → CoreStands files_of (with_entry p h) now.store)
+      (later : shown ≡ None → Enters was.store now.store → ForSome p.files AreSealed → (h : History) → Known h → CoreStands files_of h was.store → CoreStands files_of (with_entry p h) now.store)
     where
       -- ---- of the disk alone
 
-      pub images_left : (result : Result T (Returned S)) → Does result → (h : History) → CoreStands files_of h was.store → LeavesOne was h → LeavesAfter {F = F} {T = T} {S = S} was now h (with_entry p h) result
-      images_left (Ok x) does h stands one =
+      pub images_left : (result : Result T (Returned S)) → Does result → (h : History) → Known h → CoreStands files_of h was.store → LeavesOne was h → LeavesAfter {F = F} {T = T} {S = S} was now h (with_entry p h) result
+      images_left (Ok x) does h known stands one =
           let none = done_none x does in
           let d = does.turn in
-          let f = fits none d.sealed h stands in
+          let f = fits none d.sealed h known stands in
           record {
             during = either_committed was now p.name p.files f.files f.sealed_is h (with_entry p h) one f.grows d.mark d.root;
             after = one_committed was now p.name p.files f.files f.sealed_is h (with_entry p h) one f.grows d.mark d.root (shows none does.enters h stands f.files);
           }
-      images_left (Err r) does h stands one = by (given_or_kept p was.storage now.storage sealed r.cause r.back does.turn)
+      images_left (Err r) does h known stands one = by (given_or_kept p was.storage now.storage sealed r.cause r.back does.turn)
         where
           by : IsUnsettled p r.cause was.storage now.storage ⊎ ((s : S) × IsKeptBack sealed s r.cause was.storage now.storage) → LeavesAfter {F = F} {T = T} {S = S} was now h (with_entry p h) (Err r)
           by (inl d) =
-              let f = fits (unsettled_none r does d) d.sealed h stands in
+              let f = fits (unsettled_none r does d) d.sealed h known stands in
               record {
                 during = either_failed was now p.name p.files f.files f.sealed_is h (with_entry p h) one f.grows d.mark d.root;
                 after = λ other. one_same was now h one (d.unchanged other) d.mark does.enters;
@@ -126,24 +127,24 @@ module _ {F T S : Type 0} (From : Type 0) (shown : Option Refused) (p : Publicat
 
       -- ---- of the disk and the annals
 
-      pub crashes_left : (result : Result T (Returned S)) → Does result → (first : keeper.Told) (start : ℕ) → KeepsThroughCrashes files_of was.store was.storage first start → KeepsThroughCrashes files_of now.store now.storage first start
-      crashes_left (Ok x) does first start keeps =
+      pub crashes_left : (result : Result T (Returned S)) → Does result → ForSome was.storage.annals (λ (kept : keeper.Told). Known (entries_of kept.list)) → (first : keeper.Told) (start : ℕ) → KeepsThroughCrashes files_of was.store was.storage first start → KeepsThroughCrashes files_of now.store now.storage first start
+      crashes_left (Ok x) does known first start keeps =
           let none = done_none x does in
           let d = does.turn in
           let before = keeps.calm (calm none) in
           let h = entries_of before.0.kept.list in
           let stands = before.1 before.0.kept before.0.annals_is in
-          let f = fits none d.sealed h stands in
+          let f = fits none d.sealed h (known before.0.kept before.0.annals_is) stands in
           kept_settled files_of was.store now.store first start was.storage now.storage p.name p.files f.files f.sealed_is before.0 before.2 p.entry f.grows before.1 d.mark d.root d.annals
-          (λ k there. later none does.enters d.sealed k there) (shows none does.enters h stands f.files)
-      crashes_left (Err r) does first start keeps = by (given_or_kept p was.storage now.storage sealed r.cause r.back does.turn)
+          (λ kept there. later none does.enters d.sealed (entries_of kept.list) (known kept there)) (shows none does.enters h stands f.files)
+      crashes_left (Err r) does known first start keeps = by (given_or_kept p was.storage now.storage sealed r.cause r.back does.turn)
         where
           by : IsUnsettled p r.cause was.storage now.storage ⊎ ((s : S) × IsKeptBack sealed s r.cause was.storage now.storage) → KeepsThroughCrashes files_of now.store now.storage first start
           by (inl d) =
               let none = unsettled_none r does d in
               let before = keeps.calm (calm none) in
               let h = entries_of before.0.kept.list in
-              let f = fits none d.sealed h (before.1 before.0.kept before.0.annals_is) in
+              let f = fits none d.sealed h (known before.0.kept before.0.annals_is) (before.1 before.0.kept before.0.annals_is) in
               let low = calm none in
               kept_unsettled files_of was.store now.store first start was.storage now.storage p.name p.files f.files f.sealed_is before.0 before.2 p.entry f.grows before.1 d.mark d.root d.annals does.enters
               (λ is. unrisen r.cause was.store.opened was.storage.failed now.storage.failed was.storage.disk now.storage.disk (omega (arith, low)) ready.below d.later d.rose d.unchanged (is ∙ does.enters.opened_is))
@@ -154,13 +155,13 @@ module _ {F T S : Type 0} (From : Type 0) (shown : Option Refused) (p : Publicat
 
       -- ---- of the names as they read
 
-      pub root_done : (x : T) → Does (Ok x) → (h : History) → CoreStands files_of h was.store → RootStands was.storage.disk h → RootStands now.storage.disk (with_entry p h)
-      root_done x does h s root = root_given p was now h (fits (done_none x does) does.turn.sealed h s) (ready.shown (calm (done_none x does))) does.turn.root root
+      pub root_done : (x : T) → Does (Ok x) → (h : History) → Known h → CoreStands files_of h was.store → RootStands was.storage.disk h → RootStands now.storage.disk (with_entry p h)
+      root_done x does h known s root = root_given p was now h (fits (done_none x does) does.turn.sealed h known s) (ready.shown (calm (done_none x does))) does.turn.root root
 
       -- whatever became of it, where no entry is noted
-      pub root_left : (result : Result T (Returned S)) → Does result → (h : History) → CoreStands files_of h was.store → with_entry p h ≡ h → RootStands was.storage.disk h → RootStands now.storage.disk h
-      root_left (Ok x) does h s none root = subst (RootStands now.storage.disk) none (root_done x does h s root)
-      root_left (Err r) does h s none root = by (given_or_kept p was.storage now.storage sealed r.cause r.back does.turn)
+      pub root_left : (result : Result T (Returned S)) → Does result → (h : History) → Known h → CoreStands files_of h was.store → with_entry p h ≡ h → RootStands was.storage.disk h → RootStands now.storage.disk h
+      root_left (Ok x) does h known s none root = subst (RootStands now.storage.disk) none (root_done x does h known s root)
+      root_left (Err r) does h known s none root = by (given_or_kept p was.storage now.storage sealed r.cause r.back does.turn)
         where
           same : now.storage.disk ≡ was.storage.disk → RootStands now.storage.disk h
           same is = subst (λ (o : Option Told). RootStands o h) (sym is) root
@@ -168,6 +169,6 @@ module _ {F T S : Type 0} (From : Type 0) (shown : Option Refused) (p : Publicat
           by : IsUnsettled p r.cause was.storage now.storage ⊎ ((s : S) × IsKeptBack sealed s r.cause was.storage now.storage) → RootStands now.storage.disk h
           by (inl d) = elim d.root [
             | inl is ↦ same is
-            | inr put_is ↦ subst (RootStands now.storage.disk) none (root_given p was now h (fits (unsettled_none r does d) d.sealed h s) (ready.shown (calm (unsettled_none r does d))) put_is root)
+            | inr put_is ↦ subst (RootStands now.storage.disk) none (root_given p was now h (fits (unsettled_none r does d) d.sealed h known s) (ready.shown (calm (unsettled_none r does d))) put_is root)
           ]
           by (inr k) = same (ap (λ (x : Storage). x.disk) k.1.stays)

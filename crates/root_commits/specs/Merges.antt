@@ -1,9 +1,11 @@
--- What refuses a merge, what is sealed for one, and what it leaves (docs/architecture.md, "Commits").
-use Rattle.std.specs.Prelude.{◌≡◌, ◌≢◌, ℕ, ◌++◌, false, List, Option, None, Some, if◌then◌else◌, is_some, map, nat_lt}
+-- What is merged under which name, what is sealed for it, and what it leaves (docs/architecture.md, "Commits").
+use Rattle.std.specs.Prelude.{◌≡◌, ◌≢◌, ℕ, ◌++◌, false, List, Option, None, Some, if◌then◌else◌, map, nat_lt}
 use Rattle.std.specs.List.{AllZip, flat_map}
 use Rattle.std.specs.List.Sorted.{IsSorted}
+use Rattle.std.specs.Option.{ForSome}
 use Rattle.mt_base.specs.declared.partition.Partition.{Partition}
 use Rattle.mt_base.specs.Limits.{level_limit}
+use Rattle.mt_values.specs.Annals as keeper
 use Rattle.mt_values.specs.declared.schema.Schema.{Schema}
 use Rattle.mt_values.specs.Tables.{sorting_cmp}
 use Rattle.mt_values.specs.Values.{Row}
@@ -23,12 +25,9 @@ use Rattle.root_store.specs.part_set.Parts.{IsInBlockOrder, kept_in}
 use Rattle.root_store.specs.part_set.Runs.{IsSwapped, parts_of_run}
 use Rattle.root_store.specs.part_set.Sets.{parts_of}
 use Rattle.root_store.specs.durable_commit.stage_dir.Stages.{Filled}
-use Rattle.root_store.specs.durable_commit.declared.causes.Limit.TheVariants as limit
-use Rattle.root_store.specs.durable_commit.declared.causes.Refused.{Refused}
-use Rattle.root_store.specs.durable_commit.declared.causes.Refused.TheVariants as refused
-use Rattle.root_store.specs.durable_commit.Commits.{stopped_by}
 use Rattle.root_store.specs.declared.store.CoreStore.{CoreStore}
 use Rattle.root_store.specs.Roots.{FolderHolds}
+use Rattle.root_store.specs.Crashes.{entries_of}
 use Rattle.root_store.specs.Stores.{CoreStands}
 
 -- a merge: a run of the parts of a table's partition, and what was sealed for them: its files, how many calls of its stage had failed, and
@@ -64,11 +63,6 @@ abbrev pub within_levels : Option PartName → Option PartName
 within_levels None = None
 within_levels (Some name) = if nat_lt level_limit name.level then None else Some name
 
--- what the store and the disk's count show against a merge: its part would have a greater level than may be, or the store was stopped
-abbrev pub refuses_merge : {F : Type 0} → CoreStore F → Merging → ℕ → Option Refused
-refuses_merge store m now =
-    if is_some (within_levels (name_of_merge (sources_of store m))) then stopped_by store.opened now else Some (refused.Limit limit.Levels)
-
 -- what was sealed holds, in the table's order, what one merge may leave of these rows
 pub record HoldsMerge (schema : Schema) (inputs : List (List Row)) (m : Merging) : Type 0 where
   pub files : Files
@@ -88,8 +82,8 @@ pub record SealsRows (schema : Schema) (m : Merging) : Type 0 where
   pub loaded_is : m.loaded ≡ loaded_of schema rows
 
 -- whatever rows the parts hold that are merged, what was sealed holds a merge of these
-abbrev pub IsSealedMerge : {F : Type 0} → (F → Option Files) → Schema → CoreStore F → Merging → Type 0
-IsSealedMerge {F} files_of schema store m =
+abbrev pub SealsMergeOfParts : {F : Type 0} → (F → Option Files) → Schema → CoreStore F → Merging → Type 0
+SealsMergeOfParts {F} files_of schema store m =
     (inputs : List (List Row)) → AllZip (λ (k : Kept (Part F)) (rows : List Row). PartHolds files_of schema k.part rows) (sources_of store m) inputs → HoldsMerge schema inputs m
 
 -- the names of the parts that are merged
@@ -105,14 +99,13 @@ pub record SealsMerge (schema : Schema) (h : History) (names : List PartName) (m
   pub reach : AllZip (λ (name : PartName) (rows : List Row). PartStands front (record { table = m.table; name = name; rows = rows })) names inputs
   pub holds : HoldsMerge schema inputs m
 
--- the same, by each history that the store stands for
-abbrev pub MergesSources : {F : Type 0} → (F → Option Files) → Schema → CoreStore F → Merging → Type 0
-MergesSources files_of schema store m = (h : History) → CoreStands files_of h store → SealsMerge schema h (source_names store m) m
+-- the same, by the list of annals that are known, where the store stands for it
+abbrev pub SealsForKept : {F : Type 0} → (F → Option Files) → Schema → CoreStore F → Option keeper.Told → List PartName → Merging → Type 0
+SealsForKept files_of schema store annals names m =
+    ForSome annals (λ (kept : keeper.Told). CoreStands files_of (entries_of kept.list) store → SealsMerge schema (entries_of kept.list) names m)
 
--- one part stands in place of those that were merged, with their name and what was sealed; nothing else changes
-pub record EntersMerge {F : Type 0} (files_of : F → Option Files) (m : Merging) (old new : CoreStore F) : Type 0 where
-  pub name : PartName
-  pub name_is : name_of_merge (sources_of old m) ≡ Some name
+-- one part of this name stands in place of those that were merged, with what was sealed; nothing else changes
+pub record EntersMerge {F : Type 0} (files_of : F → Option Files) (m : Merging) (name : PartName) (old new : CoreStore F) : Type 0 where
   pub part : Part F
   pub files_are : files_of part.dir ≡ m.files
   pub loaded_is : part.loaded ≡ m.loaded

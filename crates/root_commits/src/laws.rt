@@ -27,7 +27,7 @@ ghost use Rattle.root_store.specs.table_core.declared.event.Accept.TheVariants a
 ghost use Rattle.root_commits.specs.Commits.{IsSealedEntry, IsSealedOf, SameStore, StandsWhere};
 ghost use Rattle.root_commits.specs.Events.{IsAccepted, IsPut, accept_of_block};
 ghost use Rattle.root_commits.specs.Images.{LeavesAfter, LeavesOne};
-ghost use Rattle.root_commits.specs.Merges.{IsSealedMerge, Merging, MergesSources, SealsRows};
+ghost use Rattle.root_commits.specs.Merges.{Merging, SealsForKept, SealsMerge, SealsMergeOfParts, SealsRows, source_names};
 ghost use Rattle.root_commits.specs.Publications.{Adding, publication_of_create, publication_of_part, with_entry};
 ghost use Rattle.root_commits.specs.Turns.{CommitsCreate, CommitsMerge, CommitsPart, Root};
 ghost use Rattle.root_commits.specs.declared.commits.Returned.{Returned};
@@ -53,8 +53,8 @@ pub fn commits_stand<F, T, S>()
         (sealed : S) (result : Result T (Returned S))
         → CommitsMerge files_of m name was now sealed result
         → (t : Table) → table_at was.store m.table ≡ Some t
-        → MergesSources files_of t.schema was.store m
         → (h : History) → CoreStands files_of h was.store
+        → SealsMerge t.schema h (source_names was.store m) m
         → StandsWhere files_of h now.store now.storage.disk (RootStands was.storage.disk h) }
 {}
 
@@ -92,8 +92,8 @@ pub fn commits_are_events<F, T, S>()
         (sealed : S) (result : Result T (Returned S))
         → CommitsMerge files_of m name was now sealed result
         → (t : Table) → table_at was.store m.table ≡ Some t
-        → MergesSources files_of t.schema was.store m
         → (core : Core) → ShowsCore files_of was.store core
+        → SealsMerge t.schema core.history (source_names was.store m) m
         → OnOk result (IsPut files_of core m now.store) }
     ensures refused { (files_of : F → Option Files) (core : Core) (old new : CoreStore F)
         → SameStore old new → ShowsCore files_of old core → ShowsCore files_of new core }
@@ -116,8 +116,8 @@ pub fn commits_leave_images<F, T, S>()
         (sealed : S) (result : Result T (Returned S))
         → CommitsMerge files_of m name was now sealed result
         → (t : Table) → table_at was.store m.table ≡ Some t
-        → MergesSources files_of t.schema was.store m
-        → (h : History) → CoreStands files_of h was.store → LeavesOne was h
+        → (h : History) → CoreStands files_of h was.store
+        → SealsMerge t.schema h (source_names was.store m) m → LeavesOne was h
         → LeavesAfter was now h h result }
 {}
 
@@ -139,7 +139,7 @@ pub fn commits_keep_through_crashes<F, T, S>()
         (sealed : S) (result : Result T (Returned S))
         → CommitsMerge files_of m name was now sealed result
         → (t : Table) → table_at was.store m.table ≡ Some t
-        → MergesSources files_of t.schema was.store m
+        → SealsForKept files_of t.schema was.store was.storage.annals (source_names was.store m) m
         → (first : keeper.Told) (start : ℕ)
         → KeepsThroughCrashes files_of was.store was.storage first start
         → KeepsThroughCrashes files_of now.store now.storage first start }
@@ -162,7 +162,9 @@ pub fn parts_are_merged_by_history<F>()
     ensures { (files_of : F → Option Files) (store : CoreStore F) (m : Merging) (t : Table)
         → table_at store m.table ≡ Some t
         → IsRun m.run (kept_in m.partition (parts_of store.set m.table))
-        → IsSealedMerge files_of t.schema store m → MergesSources files_of t.schema store m }
+        → SealsMergeOfParts files_of t.schema store m
+        → (h : History) → CoreStands files_of h store
+        → SealsMerge t.schema h (source_names store m) m }
 {}
 
 /// Where a crash leaves all that was noted and what is begun has left nothing, whatever it leaves now stands for the list: so do the names as they read.

@@ -7,7 +7,6 @@ use Rattle.mt_values.specs.declared.command.Entry.{Entry}
 use Rattle.mt_values.specs.RootNames.{part_name}
 use Rattle.mt_outside.specs.Disk.{files_at, names_of}
 use Rattle.root_store.specs.durable_commit.declared.causes.Refused.{Refused}
-use Rattle.root_store.specs.durable_commit.declared.causes.Refused.TheVariants as refused
 use Rattle.root_store.specs.durable_commit.Commits.{entry_of}
 use Rattle.root_store.specs.durable_commit.Publications.{publication, storage}
 use Rattle.root_store.specs.part_name.declared.part.PartName.{PartName}

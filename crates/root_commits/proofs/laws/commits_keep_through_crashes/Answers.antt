@@ -10,4 +10,4 @@ pub returns-clause-part : goal.returns-clause-part
 returns-clause-part g c = λ files_of a was now sealed result d is first start keeps. part_crashes files_of a was now is sealed result d first start keeps
 
 pub returns-clause-merge : goal.returns-clause-merge
-returns-clause-merge g c = λ files_of m name was now sealed result d t at is first start keeps. merge_crashes files_of m name was now t at is sealed result d first start keeps
+returns-clause-merge g c = λ files_of m name was now sealed result d t at is first start keeps. merge_crashes files_of m name was now t at sealed result d is first start keeps

@@ -10,4 +10,4 @@ pub returns-clause-part : goal.returns-clause-part
 returns-clause-part g c = λ files_of a was now sealed result d is h stands one. part_images files_of a was now is sealed result d h stands one
 
 pub returns-clause-merge : goal.returns-clause-merge
-returns-clause-merge g c = λ files_of m name was now sealed result d t at is h stands one. merge_images files_of m name was now t at is sealed result d h stands one
+returns-clause-merge g c = λ files_of m name was now sealed result d t at h stands is one. merge_images files_of m name was now t at sealed result d h is stands one

@@ -10,4 +10,4 @@ pub returns-clause-part : goal.returns-clause-part
 returns-clause-part g c = λ files_of a was now sealed result d is h stands. part_stands files_of a was now is sealed result d h stands
 
 pub returns-clause-merge : goal.returns-clause-merge
-returns-clause-merge g c = λ files_of m name was now sealed result d t at is h stands. merge_stands files_of m name was now t at is sealed result d h stands
+returns-clause-merge g c = λ files_of m name was now sealed result d t at h stands is. merge_stands files_of m name was now t at sealed result d h is stands

@@ -112,8 +112,6 @@ returns-clause-commits g c = λ annals.
     committed (MaySwap m c.args.name was) _ (publication_of_merge m c.args.name) _ was now c.args.part (merges g.D.Arm.Dir.Dir.files m c.args.name was now from c.args.part) none _
     (published_as _ (publication_of_merge m c.args.name) (ap (λ (n : List ℕ). publication n c.args.part.sealed None) c.in-Ok.ensures) was.storage was.storage now.storage refl (c.in-Ok-publish.ensures.turn annals))
     (record {
-      name = c.args.name;
-      name_is = c.requires.named;
       part = c.of-part.result;
       files_are = ap g.D.Arm.Dir.Dir.files c.of-part.ensures.dir ∙ c.in-Ok-publish.ensures.dir;
       loaded_is = c.of-part.ensures.loaded;
