@@ -65,8 +65,8 @@ module _ {F S : Type 0} (files_of : F → Option Files) (known : Type 0) (was mi
     pub whole_merges : Merges files_of known (lapse was new arm_was arm) true result
     whole_merges = merges_as files_of known (lapse was new arm_was arm) (any_greatest work.sources.items) true (λ _. refl) result (work_merges {F = F} files_of known was mid new work _ whole goes table arm_was arm result ends)
 
-    pub whole_parts : MergesWhole files_of was.store new.store table partition result
+    pub whole_parts : MergesWhole S files_of known table partition (lapse was new arm_was arm) result
     whole_parts =
         let same = whole_table files_of was mid work taking table partition takes in
-        whole_of files_of was.store new.store work table partition same (whole_partition files_of was mid work taking table partition takes) (whole_sources files_of was mid work taking table partition takes) result
+        whole_of S files_of known was new arm_was arm table partition mid work same (whole_partition files_of was mid work taking table partition takes) (whole_sources files_of was mid work taking table partition takes) takes result ends
         (work_beside {F = F} files_of known was mid new work _ whole goes table arm_was arm result ends) (work_parts {F = F} files_of known was mid new work _ whole goes table arm_was arm result ends (sym same))

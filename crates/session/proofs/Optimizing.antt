@@ -1,5 +1,5 @@
 -- From the merges of an OPTIMIZE to its answer.
-use Rattle.std.proofs.Common.{◌≡◌, ℕ, Bool, true, false, List, [], length, is_some, refl, sym, ap, ◌∙◌, subst, inl, Option, Some, None, IsSome, Result, Ok, Err, IfOk}
+use Rattle.std.proofs.Common.{◌≡◌, ℕ, Bool, true, false, List, [], length, is_some, refl, sym, ap, ◌∙◌, subst, inl, inr, Option, Some, None, IsSome, Result, Ok, Err, IfOk, IsErr}
 use Rattle.std.proofs.lemmas.Bool.{false≢true}
 use Rattle.mt_base.specs.declared.memory.NoMemory.{NoMemory}
 use Rattle.mt_values.specs.declared.schema.Schema.{Schema}
@@ -18,7 +18,6 @@ use Rattle.replies.specs.Foreseen.{Foresees, history}
 use Rattle.replies.proofs.Causing.{says_answer}
 use Rattle.replies.proofs.Ends.{length_history}
 use Rattle.replies.proofs.Refusing.{optimize_done, optimize_failed}
-use Rattle.shared_store.specs.root_store.declared.store.CoreStore.{CoreStore}
 use Rattle.shared_store.specs.root_store.declared.store.Table.{Table}
 use Rattle.shared_store.specs.root_store.Soundness.{HasSoundParts}
 use Rattle.shared_store.specs.root_store.Stores.{table_at}
@@ -26,7 +25,7 @@ use Rattle.shared_store.specs.Engines.{Opened}
 use Rattle.shared_store.specs.Levels.{has_greatest}
 use Rattle.session.specs.Answers.{Answered, Answers, EndsUnanswered, Knows, Turned, met}
 use Rattle.session.specs.Lapses.{Accounts, Lapse, counts, lapse}
-use Rattle.session.specs.Merges.{AddsNoCommand, KeepsRows, Merges, MergesNamed, RefusesMerge}
+use Rattle.session.specs.Merges.{AddsNoCommand, AllAreFinal, Finishes, IsRefusal, KeepsRows, Merges, MergesNamed, RefusesMerge}
 use Rattle.session.proofs.Accepting.{answered_nothing, unanswered_nothing}
 use Rattle.session.proofs.Leaving.{never_by}
 use Rattle.session.proofs.Standing.{table_schema}
@@ -74,9 +73,27 @@ merges_found files_of known was here now arm_was arm full found is same stays ms
     subst (λ (o : Option (List ℕ)). Merges files_of known (lapse was now arm_was arm) full (Ok o)) same (subst (λ (o : Opened _). Merges files_of known (lapse o now arm_was arm) full (Ok found)) stays ms)
 
 -- which parts were merged
-pub named_found : {F : Type 0} (files_of : F → Option Files) (text : OptimizeText) (was here : Opened F) (now : CoreStore F) (found is : Option (List ℕ)) → found ≡ is → here ≡ was → MergesNamed files_of text here.store now (Ok found) → MergesNamed files_of text was.store now (Ok is)
-named_found files_of text was here now found is same stays named =
-    subst (λ (o : Option (List ℕ)). MergesNamed files_of text was.store now (Ok o)) same (subst (λ (o : Opened _). MergesNamed files_of text o.store now (Ok found)) stays named)
+pub named_found : {F : Type 0} (S : Type 0) (files_of : F → Option Files) (known : Type 0) (text : OptimizeText) (was here now : Opened F) (arm_was arm : ℕ) (found is : Option (List ℕ)) → found ≡ is → here ≡ was → MergesNamed S files_of known text (lapse here now arm_was arm) (Ok found)
+    → MergesNamed S files_of known text (lapse was now arm_was arm) (Ok is)
+named_found S files_of known text was here now arm_was arm found is same stays named =
+    subst (λ (o : Option (List ℕ)). MergesNamed S files_of known text (lapse was now arm_was arm) (Ok o)) same (subst (λ (o : Opened _). MergesNamed S files_of known text (lapse o now arm_was arm) (Ok found)) stays named)
+
+-- what its FINAL did
+module _ {F : Type 0} (S : Type 0) (files_of : F → Option Files) (known : Type 0) (text : OptimizeText) (m : Lapse F) where
+  -- all merges were done, whether it has a reply or none
+  pub all_finished : (result : Result (List ℕ) NoMemory) → AllAreFinal text m.was.store m.now.store → Finishes S files_of known text m result
+  all_finished (Ok reply) done = inl done
+  all_finished (Err e) done = inl done
+
+  -- there is no such table
+  pub none_finished : (result : Result (List ℕ) NoMemory) → IfOk result IsRefusal → table_at m.was.store text.table ≡ None → m.now ≡ m.was → Finishes S files_of known text m result
+  none_finished (Ok reply) why none same = inr (why, inr (none, same))
+  none_finished (Err e) why none same = inr (inr same)
+
+  -- memory ran out before any merge
+  pub never_finished : (result : Result (List ℕ) NoMemory) → IsErr result → m.now ≡ m.was → Finishes S files_of known text m result
+  never_finished (Ok reply) is same = absurd (false≢true is)
+  never_finished (Err e) is same = inr (inr same)
 
 -- there is such a table
 pub some_there : {X Y : Type 0} (found : Option X) (x : X) (o : Option Y) → found ≡ Some x → is_some found ≡ is_some o → IsSome o

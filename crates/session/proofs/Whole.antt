@@ -30,10 +30,12 @@ use Rattle.shared_store.specs.root_store.declared.store.CoreStore.{CoreStore}
 use Rattle.shared_store.specs.root_store.declared.store.Table.{Table}
 use Rattle.shared_store.specs.declared.work.Work.{Work}
 use Rattle.shared_store.specs.Engines.{Opened}
+use Rattle.shared_store.specs.Works.{TakesWhole}
 use Rattle.shared_store.specs.merge_select.Whole.{PicksAll}
 use Rattle.shared_store.specs.mutation_queue.declared.mutations.Mutations.{Mutations}
 use Rattle.shared_store.specs.mutation_queue.Queue.{mutations_of}
-use Rattle.session.specs.Merges.{AllAreFinal, Any, AreFinal, ArePartitionsOf, BecameOne, EndsAt, IsFinal, IsFinalAt, IsNamed, KeepsBeside, MergesEach, MergesNamed, MergesWhole, StopsAt, StopsAtOne, TellsOfMerge, TellsOfTable, parts_at, partitions_in}
+use Rattle.session.specs.Lapses.{Lapse, lapse}
+use Rattle.session.specs.Merges.{AllAreFinal, Any, AreFinal, ArePartitionsOf, BecameOne, EndsAt, EndsWork, IsFinal, IsFinalAt, IsNamed, KeepsBeside, MergesEach, MergesNamed, MergesWhole, StopsAt, StopsAtOne, StopsWhole, TellsOfMerge, TellsOfTable, parts_at, partitions_in}
 
 module _ {F : Type 0} where
   pub beside_same : (These : List ℕ → Partition → Type 0) (was now : Opened F) → now ≡ was → KeepsBeside These was.store now.store
@@ -89,37 +91,52 @@ tells_within files_of store table ks ls within reply t = record {
 
 -- ---- one partition
 
--- no merge is to be done
-pub whole_none : {F : Type 0} (files_of : F → Option Files) (was now : Opened F) (table : List ℕ) (p : Partition) → now ≡ was → PicksAll (mutations_of was.store.mutations table) (parts_at was.store table p) (Ok None) → MergesWhole files_of was.store now.store table p (Ok None)
-whole_none files_of was now table p same none = (beside_same (λ t q. (t ≡ table) × (q ≡ p)) was now same, inr (ap (λ (o : Opened _). parts_at o.store table p) same, none))
+module _ {F : Type 0} (S : Type 0) (files_of : F → Option Files) (known : Type 0) (was now : Opened F) (arm_was arm : ℕ) (table : List ℕ) (p : Partition) where
+  abbrev Whole : Result (Option (List ℕ)) NoMemory → Type 0
+  Whole result = MergesWhole S files_of known table p (lapse was now arm_was arm) result
 
--- memory ran out before
-pub whole_ended : {F : Type 0} (files_of : F → Option Files) (was now : Opened F) (table : List ℕ) (p : Partition) (e : NoMemory) → now ≡ was → MergesWhole files_of was.store now.store table p (Err e)
-whole_ended files_of was now table p e same = (beside_same (λ t q. (t ≡ table) × (q ≡ p)) was now same, ap (λ (o : Opened _). parts_at o.store table p) same)
+  abbrev Here : List ℕ → Partition → Type 0
+  Here t q = (t ≡ table) × (q ≡ p)
 
--- it was, of all parts of the partition
-pub whole_of : {F : Type 0} (files_of : F → Option Files) (was now : CoreStore F) (work : Work F) (table : List ℕ) (p : Partition) → work.table ≡ table → work.partition ≡ p → work.sources.items ≡ parts_at was table p → (result : Result (Option (List ℕ)) NoMemory)
-    → KeepsBeside (λ t q. (t ≡ work.table) × (q ≡ work.partition)) was now
-    → EndsAt (work.sources.items ≡ parts_at was work.table work.partition → BecameOne (parts_at was work.table work.partition) (parts_at now work.table work.partition)) (parts_at now work.table work.partition ≡ parts_at was work.table work.partition)
-    (TellsOfMerge files_of was table work.sources.items) result
-    → MergesWhole files_of was now table p result
-whole_of files_of was now work table p table_is partition_is all result beside ends = (
-  beside_more (λ t q. (t ≡ work.table) × (q ≡ work.partition)) (λ t q. (t ≡ table) × (q ≡ p)) was now (λ t q w. (w.0 ∙ table_is, w.1 ∙ partition_is)) beside,
-  ends_by _ _ (IsFinalAt was now table p) (parts_at now table p ≡ parts_at was table p) (TellsOfMerge files_of was table work.sources.items) (TellsOfMerge files_of was table (parts_at was table p)) (λ one. inl (done one)) stays
-      (λ reply tells. subst (λ (ks : List (Kept (Part _))). TellsOfMerge files_of was table ks reply) all tells) result ends,
-)
-  where
-    own : work.sources.items ≡ parts_at was work.table work.partition
-    own = subst (λ (t : List ℕ). work.sources.items ≡ parts_at was t work.partition) (sym table_is) (subst (λ (q : Partition). work.sources.items ≡ parts_at was table q) (sym partition_is) all)
+  -- no merge is to be done
+  pub whole_none : now ≡ was → PicksAll (mutations_of was.store.mutations table) (parts_at was.store table p) (Ok None) → Whole (Ok None)
+  whole_none same none = (beside_same Here was now same, inr (ap (λ (o : Opened F). parts_at o.store table p) same, none))
 
-    done : (work.sources.items ≡ parts_at was work.table work.partition → BecameOne (parts_at was work.table work.partition) (parts_at now work.table work.partition)) → BecameOne (parts_at was table p) (parts_at now table p)
+  -- memory ran out before
+  pub whole_ended : (e : NoMemory) → now ≡ was → arm ≡ arm_was → Whole (Err e)
+  whole_ended e same calm = (beside_same Here was now same, (ap (λ (o : Opened F). parts_at o.store table p) same, inr (same, calm)))
+
+  -- it was, of all parts of the partition
+  module _ (taken : Opened F) (work : Work F) (table_is : work.table ≡ table) (partition_is : work.partition ≡ p) (all : work.sources.items ≡ parts_at was.store table p) (takes : TakesWhole table p was taken (Ok (Some work))) where
+    own : work.sources.items ≡ parts_at was.store work.table work.partition
+    own = subst (λ (t : List ℕ). work.sources.items ≡ parts_at was.store t work.partition) (sym table_is) (subst (λ (q : Partition). work.sources.items ≡ parts_at was.store table q) (sym partition_is) all)
+
+    done : (work.sources.items ≡ parts_at was.store work.table work.partition → BecameOne (parts_at was.store work.table work.partition) (parts_at now.store work.table work.partition)) → BecameOne (parts_at was.store table p) (parts_at now.store table p)
     done one =
-        subst (λ (t : List ℕ). BecameOne (parts_at was t p) (parts_at now t p)) table_is
-        (subst (λ (q : Partition). BecameOne (parts_at was work.table q) (parts_at now work.table q)) partition_is (one own))
+        subst (λ (t : List ℕ). BecameOne (parts_at was.store t p) (parts_at now.store t p)) table_is
+        (subst (λ (q : Partition). BecameOne (parts_at was.store work.table q) (parts_at now.store work.table q)) partition_is (one own))
 
-    stays : parts_at now work.table work.partition ≡ parts_at was work.table work.partition → parts_at now table p ≡ parts_at was table p
-    stays same =
-        subst (λ (t : List ℕ). parts_at now t p ≡ parts_at was t p) table_is (subst (λ (q : Partition). parts_at now work.table q ≡ parts_at was work.table q) partition_is same)
+    stay : parts_at now.store work.table work.partition ≡ parts_at was.store work.table work.partition → parts_at now.store table p ≡ parts_at was.store table p
+    stay same =
+        subst (λ (t : List ℕ). parts_at now.store t p ≡ parts_at was.store t p) table_is
+        (subst (λ (q : Partition). parts_at now.store work.table q ≡ parts_at was.store work.table q) partition_is same)
+
+    -- where it stopped
+    stopped : (result : Result (Option (List ℕ)) NoMemory) → EndsWork S files_of known table work (lapse taken now arm_was arm) result → StopsWhole S files_of known table p (lapse was now arm_was arm) result
+    stopped (Ok found) ends = record { taken = taken; work = work; takes = takes; ends = ends }
+    stopped (Err e) ends = inl (record { taken = taken; work = work; takes = takes; ends = ends })
+
+    pub whole_of : (result : Result (Option (List ℕ)) NoMemory) → EndsWork S files_of known table work (lapse taken now arm_was arm) result
+        → KeepsBeside (λ t q. (t ≡ work.table) × (q ≡ work.partition)) was.store now.store
+        → EndsAt (work.sources.items ≡ parts_at was.store work.table work.partition → BecameOne (parts_at was.store work.table work.partition) (parts_at now.store work.table work.partition)) (parts_at now.store work.table work.partition ≡ parts_at was.store work.table work.partition)
+        (TellsOfMerge files_of was.store table work.sources.items) result
+        → Whole result
+    whole_of result ends beside parts = (
+      beside_more (λ t q. (t ≡ work.table) × (q ≡ work.partition)) Here was.store now.store (λ t q w. (w.0 ∙ table_is, w.1 ∙ partition_is)) beside,
+      ends_by _ _ (IsFinalAt was.store now.store table p) ((parts_at now.store table p ≡ parts_at was.store table p) × StopsWhole S files_of known table p (lapse was now arm_was arm) result)
+          (TellsOfMerge files_of was.store table work.sources.items) (TellsOfMerge files_of was.store table (parts_at was.store table p)) (λ one. inl (done one)) (λ same. (stay same, stopped result ends))
+          (λ reply tells. subst (λ (ks : List (Kept (Part F))). TellsOfMerge files_of was.store table ks reply) all tells) result parts,
+    )
 
 -- ---- one partition after another
 
@@ -162,39 +179,47 @@ module _ {F : Type 0} (was mid now : CoreStore F) (table : List ℕ) (partitions
             (subst (λ (ks : List (Kept (Part F))). IsFinal (mutations_of mid.mutations table) ks (parts_at now table here)) stays_before final))
 
 -- the merges of partitions of a list, as far as a place, and of the next one
-module _ {F : Type 0} (files_of : F → Option Files) (was mid now : CoreStore F) (table : List ℕ) (partitions : List Partition) (i : ℕ) (d : Partition) (inside : i < length partitions) (ascend : AllPairs (λ a b. partition_rank a < partition_rank b) partitions)
-    (so : AreFinal was mid table (take i partitions)) (mutations_are : mid.mutations ≡ was.mutations) (tables : mid.tables.entries ≡ was.tables.entries) where
+module _ {F : Type 0} (S : Type 0) (files_of : F → Option Files) (known : Type 0) (was mid now : Opened F) (arm_was arm : ℕ) (table : List ℕ) (partitions : List Partition) (i : ℕ) (d : Partition) (inside : i < length partitions) (ascend : AllPairs (λ a b. partition_rank a < partition_rank b) partitions)
+    (so : AreFinal was.store mid.store table (take i partitions)) (mutations_are : mid.store.mutations ≡ was.store.mutations) (tables : mid.store.tables.entries ≡ was.store.tables.entries) where
   abbrev here : Partition
   here = get_or partitions i d
+
+  abbrev WholeHere : Result (Option (List ℕ)) NoMemory → Type 0
+  WholeHere result = MergesWhole S files_of known table here (lapse mid now arm_was arm) result
+
+  abbrev Each : Result (Option (List ℕ)) NoMemory → Type 0
+  Each result = MergesEach S files_of known table partitions (lapse was now arm_was arm) result
 
   is : here ≡ get_or partitions i here
   is = get_or_default partitions i d here inside
 
   -- it is done
-  pub done_at : MergesWhole files_of mid now table here (Ok None) → AreFinal was now table (take (i + 1) partitions)
-  done_at whole = done_more was mid now table partitions i here inside is ascend so whole.0 mutations_are whole.1
+  pub done_at : WholeHere (Ok None) → AreFinal was.store now.store table (take (i + 1) partitions)
+  done_at whole = done_more was.store mid.store now.store table partitions i here inside is ascend so whole.0 mutations_are whole.1
 
-  -- or its parts stay
-  stops_at : KeepsBeside (λ t p. (t ≡ table) × (p ≡ here)) mid now → parts_at now table here ≡ parts_at mid table here → StopsAt was now table partitions
-  stops_at beside stays = record {
+  -- or it stopped, and its parts stay
+  stops_at : (result : Result (Option (List ℕ)) NoMemory) → KeepsBeside (λ t p. (t ≡ table) × (p ≡ here)) mid.store now.store
+      → (parts_at now.store table here ≡ parts_at mid.store table here) × StopsWhole S files_of known table here (lapse mid now arm_was arm) result → StopsAt S files_of known table partitions (lapse was now arm_was arm) result
+  stops_at result beside stays = record {
     done = take i partitions;
     here = here;
     rest = drop (i + 1) partitions;
     split = sym (take-append-drop i partitions) ∙ ap (λ (ps : List Partition). take i partitions ++ ps) (drop_more partitions i d inside);
-    final = record {
-      each = λ p has. subst (λ (ks : List (Kept (Part F))). IsFinal (mutations_of was.mutations table) (parts_at was table p) ks) (sym (all_same mid now table here beside stays table p)) (so.each p has);
-      beside = λ t p other. all_same mid now table here beside stays t p ∙ so.beside t p other;
-    };
+    mid = mid;
+    final = so;
+    stops = stays.1;
+    same = all_same mid.store now.store table here beside stays.0;
   }
 
   -- damage of its parts is damage of parts that the table had
-  damage_at : (reply : List ℕ) → TellsOfMerge files_of mid table (parts_at mid table here) reply → TellsOfTable files_of was table reply
+  damage_at : (reply : List ℕ) → TellsOfMerge files_of mid.store table (parts_at mid.store table here) reply → TellsOfTable files_of was.store table reply
   damage_at reply t = record {
     made = t.made;
     there = sym (ap (λ (es : List (List ℕ × Table)). lookup (is_at (slice_cmp nat_cmp table)) es) tables) ∙ t.there;
     tells = record {
       kept = t.tells.kept;
-      here = mine_within here (parts_of was.set table) t.tells.kept (subst (λ (ks : List (Kept (Part F))). HasItem ks t.tells.kept) (stays_before was mid mid table partitions i here inside is ascend so (λ t p other. refl) mutations_are) t.tells.here);
+      here = mine_within here (parts_of was.store.set table) t.tells.kept
+          (subst (λ (ks : List (Kept (Part F))). HasItem ks t.tells.kept) (stays_before was.store mid.store mid.store table partitions i here inside is ascend so (λ t p other. refl) mutations_are) t.tells.here);
       file = t.tells.file;
       place = t.tells.place;
       wanted = t.tells.wanted;
@@ -204,11 +229,11 @@ module _ {F : Type 0} (files_of : F → Option Files) (was mid now : CoreStore F
     };
   }
 
-  pub stopped_at : (reply : List ℕ) → MergesWhole files_of mid now table here (Ok (Some reply)) → MergesEach files_of was now table partitions (Ok (Some reply))
-  stopped_at reply whole = (stops_at whole.0 whole.1.0, λ bad. damage_at reply (whole.1.1 bad))
+  pub stopped_at : (reply : List ℕ) → WholeHere (Ok (Some reply)) → Each (Ok (Some reply))
+  stopped_at reply whole = (stops_at (Ok (Some reply)) whole.0 whole.1.0, λ bad. damage_at reply (whole.1.1 bad))
 
-  pub ended_at : (e : NoMemory) → MergesWhole files_of mid now table here (Err e) → MergesEach files_of was now table partitions (Err e)
-  ended_at e whole = stops_at whole.0 whole.1
+  pub ended_at : (e : NoMemory) → WholeHere (Err e) → Each (Err e)
+  ended_at e whole = stops_at (Err e) whole.0 whole.1
 
 pub done_none : {F : Type 0} (was : CoreStore F) (table : List ℕ) → AreFinal was was table []
 done_none was table = record { each = λ p has. absurd (item_none p has); beside = λ t p other. refl }
@@ -241,63 +266,74 @@ module _ {F : Type 0} (was now : CoreStore F) (table : List ℕ) (partitions : L
 
 -- ---- what an OPTIMIZE names
 
-module _ {F : Type 0} (files_of : F → Option Files) (was now : CoreStore F) (text : OptimizeText) where
+module _ {F : Type 0} (S : Type 0) (files_of : F → Option Files) (known : Type 0) (was now : Opened F) (arm_was arm : ℕ) (text : OptimizeText) where
+  abbrev Whole : Partition → Result (Option (List ℕ)) NoMemory → Type 0
+  Whole p result = MergesWhole S files_of known text.table p (lapse was now arm_was arm) result
+
+  abbrev Named : Result (Option (List ℕ)) NoMemory → Type 0
+  Named result = MergesNamed S files_of known text (lapse was now arm_was arm) result
+
   -- all partitions of the table
-  pub named_all : (partitions : List Partition) → text.partition ≡ None → ArePartitionsOf (parts_of was.set text.table) partitions → (result : Result (Option (List ℕ)) NoMemory) → MergesEach files_of was now text.table partitions result → MergesNamed files_of text was now result
+  pub named_all : (partitions : List Partition) → text.partition ≡ None → ArePartitionsOf (parts_of was.store.set text.table) partitions → (result : Result (Option (List ℕ)) NoMemory)
+      → MergesEach S files_of known text.table partitions (lapse was now arm_was arm) result → Named result
   named_all partitions none are result ends = record {
-    beside = beside_more (λ t _. t ≡ text.table) (IsNamed text) was now (λ t p same. (same, subst (λ (o : Option (List ℕ)). IfSome o (λ id. IsPartition p × (partition_text p ≡ id))) (sym none) tt)) (each_beside result ends);
-    ends = ends_by (AreFinal was now text.table partitions) (StopsAt was now text.table partitions) _ _ (TellsOfTable files_of was text.table) (TellsOfTable files_of was text.table)
-        (λ done _ p named. all_done was now text.table partitions are done p)
-        (λ stops _. (partitions, subst (λ (o : Option (List ℕ)). MatchOption o (ArePartitionsOf (parts_of was.set text.table) partitions) (λ id. (p : Partition) × (partitions ≡ p ∷ []) × IsNamed text text.table p)) (sym none) are, stops)) (λ reply tells. tells) result ends;
+    beside = beside_more (λ t _. t ≡ text.table) (IsNamed text) was.store now.store (λ t p same. (same, subst (λ (o : Option (List ℕ)). IfSome o (λ id. IsPartition p × (partition_text p ≡ id))) (sym none) tt)) (each_beside result ends);
+    ends = ends_by (AreFinal was.store now.store text.table partitions) (StopsAt S files_of known text.table partitions (lapse was now arm_was arm) result) _ _ (TellsOfTable files_of was.store text.table) (TellsOfTable files_of was.store text.table)
+        (λ done _ p named. all_done was.store now.store text.table partitions are done p)
+        (λ stops _. (partitions, subst (λ (o : Option (List ℕ)). MatchOption o (ArePartitionsOf (parts_of was.store.set text.table) partitions) (λ id. (p : Partition) × (partitions ≡ p ∷ []) × IsNamed text text.table p)) (sym none) are, stops)) (λ reply tells. tells) result ends;
   }
     where
       -- no other table has changed
-      each_beside : (r : Result (Option (List ℕ)) NoMemory) → MergesEach files_of was now text.table partitions r → KeepsBeside (λ t _. t ≡ text.table) was now
+      each_beside : (r : Result (Option (List ℕ)) NoMemory) → MergesEach S files_of known text.table partitions (lapse was now arm_was arm) r → KeepsBeside (λ t _. t ≡ text.table) was.store now.store
       each_beside (Ok None) done = λ t p other. done.beside t p (λ w. other w.0)
-      each_beside (Ok (Some reply)) stops = λ t p other. stops.0.final.beside t p (λ w. other w.0)
-      each_beside (Err e) stops = λ t p other. stops.final.beside t p (λ w. other w.0)
+      each_beside (Ok (Some reply)) stops = λ t p other. stops.0.same t p ∙ stops.0.final.beside t p (λ w. other w.0)
+      each_beside (Err e) stops = λ t p other. stops.same t p ∙ stops.final.beside t p (λ w. other w.0)
 
   -- one of them, by its id
   module _ (id : List ℕ) (named : text.partition ≡ Some id) (p : Partition) (spelled : IsPartition p × (partition_text p ≡ id)) where
     is_named : (t : List ℕ) (q : Partition) → (t ≡ text.table) × (q ≡ p) → IsNamed text t q
     is_named t q w = (w.0, subst (λ (x : Partition). IfSome text.partition (λ i. IsPartition x × (partition_text x ≡ i))) (sym w.1) (subst (λ (o : Option (List ℕ)). IfSome o (λ i. IsPartition p × (partition_text p ≡ i))) (sym named) spelled))
 
-    pub named_one : ((q : Partition) → IsNamed text text.table q → q ≡ p) → (result : Result (Option (List ℕ)) NoMemory) → MergesWhole files_of was now text.table p result → MergesNamed files_of text was now result
+    pub named_one : ((q : Partition) → IsNamed text text.table q → q ≡ p) → (result : Result (Option (List ℕ)) NoMemory) → Whole p result → Named result
     named_one only result whole = record {
-      beside = beside_more (λ t q. (t ≡ text.table) × (q ≡ p)) (IsNamed text) was now is_named whole.0;
-      ends = ends_by (IsFinalAt was now text.table p) (parts_at now text.table p ≡ parts_at was text.table p) _ _ (TellsOfMerge files_of was text.table (parts_at was text.table p)) (TellsOfTable files_of was text.table)
-          (λ final _ q of. subst (λ (x : Partition). IsFinalAt was now text.table x) (sym (only q of)) final) (λ stays _. stops stays)
-          (λ reply tells. tells_within files_of was text.table (parts_at was text.table p) (parts_of was.set text.table) (mine_within p (parts_of was.set text.table)) reply tells) result whole.1;
+      beside = beside_more (λ t q. (t ≡ text.table) × (q ≡ p)) (IsNamed text) was.store now.store is_named whole.0;
+      ends = ends_by (IsFinalAt was.store now.store text.table p) ((parts_at now.store text.table p ≡ parts_at was.store text.table p) × StopsWhole S files_of known text.table p (lapse was now arm_was arm) result) _ _
+          (TellsOfMerge files_of was.store text.table (parts_at was.store text.table p)) (TellsOfTable files_of was.store text.table)
+          (λ final _ q of. subst (λ (x : Partition). IsFinalAt was.store now.store text.table x) (sym (only q of)) final) (λ stays _. stops stays)
+          (λ reply tells. tells_within files_of was.store text.table (parts_at was.store text.table p) (parts_of was.store.set text.table) (mine_within p (parts_of was.store.set text.table)) reply tells) result whole.1;
     }
       where
-        stops : parts_at now text.table p ≡ parts_at was text.table p → StopsAtOne text was now
+        stops : (parts_at now.store text.table p ≡ parts_at was.store text.table p) × StopsWhole S files_of known text.table p (lapse was now arm_was arm) result → StopsAtOne S files_of known text (lapse was now arm_was arm) result
         stops stays = (
           p ∷ [],
-          subst (λ (o : Option (List ℕ)). MatchOption o (ArePartitionsOf (parts_of was.set text.table) (p ∷ [])) (λ i. (q : Partition) × ((p ∷ []) ≡ q ∷ []) × IsNamed text text.table q)) (sym named) (p, refl, is_named text.table p (refl, refl)),
+          subst (λ (o : Option (List ℕ)). MatchOption o (ArePartitionsOf (parts_of was.store.set text.table) (p ∷ [])) (λ i. (q : Partition) × ((p ∷ []) ≡ q ∷ []) × IsNamed text text.table q)) (sym named) (p, refl, is_named text.table p (refl, refl)),
           record {
             done = [];
             here = p;
             rest = [];
             split = refl;
-            final = record { each = λ q has. absurd (item_none q has); beside = λ t q other. all_same was now text.table p whole.0 stays t q };
+            mid = was;
+            final = done_none was.store text.table;
+            stops = stays.1;
+            same = all_same was.store now.store text.table p whole.0 stays.0;
           },
         )
 
   -- none is spelled so
-  pub named_none : now ≡ was → ((q : Partition) → IsNamed text text.table q → ⊥) → MergesNamed files_of text was now (Ok None)
-  named_none same none = record { beside = λ t p other. ap (λ (o : CoreStore F). parts_at o t p) same; ends = λ _ q of. absurd (none q of) }
+  pub named_none : now ≡ was → ((q : Partition) → IsNamed text text.table q → ⊥) → Named (Ok None)
+  named_none same none = record { beside = beside_same (IsNamed text) was now same; ends = λ _ q of. absurd (none q of) }
 
   -- a pair of them, without FINAL
-  pub named_pair : (Own : List ℕ → Partition → Type 0) → text.whole ≡ false → ((t : List ℕ) (q : Partition) → Own t q → IsNamed text t q) → (result : Result (Option (List ℕ)) NoMemory) → KeepsBeside Own was now
-      → EndsAt Any Any (TellsOfTable files_of was text.table) result → MergesNamed files_of text was now result
+  pub named_pair : (Own : List ℕ → Partition → Type 0) → text.whole ≡ false → ((t : List ℕ) (q : Partition) → Own t q → IsNamed text t q) → (result : Result (Option (List ℕ)) NoMemory) → KeepsBeside Own was.store now.store
+      → EndsAt Any Any (TellsOfTable files_of was.store text.table) result → Named result
   named_pair Own part within result beside ends = record {
-    beside = beside_more Own (IsNamed text) was now within beside;
-    ends = ends_by Any Any _ _ (TellsOfTable files_of was text.table) (TellsOfTable files_of was text.table) (λ _ whole. absurd (false≢true (sym part ∙ whole))) (λ _ whole. absurd (false≢true (sym part ∙ whole))) (λ reply tells. tells) result ends;
+    beside = beside_more Own (IsNamed text) was.store now.store within beside;
+    ends = ends_by Any Any _ _ (TellsOfTable files_of was.store text.table) (TellsOfTable files_of was.store text.table) (λ _ whole. absurd (false≢true (sym part ∙ whole))) (λ _ whole. absurd (false≢true (sym part ∙ whole))) (λ reply tells. tells) result ends;
   }
 
 -- ---- by the id that was read
 
-module _ {F : Type 0} (files_of : F → Option Files) (was now : CoreStore F) (text : OptimizeText) (id spelt : List ℕ) (named : text.partition ≡ Some id) (same : spelt ≡ id) (found : Option Partition)
+module _ {F : Type 0} (S : Type 0) (files_of : F → Option Files) (known : Type 0) (was now : Opened F) (arm_was arm : ℕ) (text : OptimizeText) (id spelt : List ℕ) (named : text.partition ≡ Some id) (same : spelt ≡ id) (found : Option Partition)
     (spelled : IfSome found (λ p. IsPartition p × (partition_text p ≡ spelt))) (read : (p : Partition) → IsPartition p → partition_text p ≡ spelt → found ≡ Some p) where
   of_id : (q : Partition) → IsNamed text text.table q → found ≡ Some q
   of_id q of = let one = subst (λ (o : Option (List ℕ)). IfSome o (λ i. IsPartition q × (partition_text q ≡ i))) named of.1 in read q one.0 (one.1 ∙ sym same)
@@ -309,25 +345,28 @@ module _ {F : Type 0} (files_of : F → Option Files) (was now : CoreStore F) (t
     only : (q : Partition) → IsNamed text text.table q → q ≡ p
     only q of = let both : Some q ≡ Some p = sym (of_id q of) ∙ is in cc
 
-    pub parsed_one : (result : Result (Option (List ℕ)) NoMemory) → MergesWhole files_of was now text.table p result → MergesNamed files_of text was now result
-    parsed_one result whole = named_one files_of was now text id named p spelled_one only result whole
+    pub parsed_one : (result : Result (Option (List ℕ)) NoMemory) → MergesWhole S files_of known text.table p (lapse was now arm_was arm) result → MergesNamed S files_of known text (lapse was now arm_was arm) result
+    parsed_one result whole = named_one S files_of known was now arm_was arm text id named p spelled_one only result whole
 
-    pub parsed_pair : text.whole ≡ false → (result : Result (Option (List ℕ)) NoMemory) → KeepsBeside (λ t q. (t ≡ text.table) × (q ≡ p)) was now → EndsAt Any Any (TellsOfTable files_of was text.table) result → MergesNamed files_of text was now result
-    parsed_pair part result beside ends = named_pair files_of was now text (λ t q. (t ≡ text.table) × (q ≡ p)) part (is_named files_of was now text id named p spelled_one) result beside ends
+    pub parsed_pair : text.whole ≡ false → (result : Result (Option (List ℕ)) NoMemory) → KeepsBeside (λ t q. (t ≡ text.table) × (q ≡ p)) was.store now.store → EndsAt Any Any (TellsOfTable files_of was.store text.table) result
+        → MergesNamed S files_of known text (lapse was now arm_was arm) result
+    parsed_pair part result beside ends = named_pair S files_of known was now arm_was arm text (λ t q. (t ≡ text.table) × (q ≡ p)) part (is_named S files_of known was now arm_was arm text id named p spelled_one) result beside ends
 
-  pub parsed_none : found ≡ None → now ≡ was → MergesNamed files_of text was now (Ok None)
-  parsed_none none stays = named_none files_of was now text stays (λ q of. let bad : Some q ≡ None = sym (of_id q of) ∙ none in cc)
+  pub parsed_none : found ≡ None → now ≡ was → MergesNamed S files_of known text (lapse was now arm_was arm) (Ok None)
+  parsed_none none stays = named_none S files_of known was now arm_was arm text stays (λ q of. let bad : Some q ≡ None = sym (of_id q of) ∙ none in cc)
 
 -- a pair of the whole table
-pub table_pair : {F : Type 0} (files_of : F → Option Files) (was now : CoreStore F) (text : OptimizeText) → text.partition ≡ None → text.whole ≡ false → (result : Result (Option (List ℕ)) NoMemory) → KeepsBeside (λ t _. t ≡ text.table) was now
-    → EndsAt Any Any (TellsOfTable files_of was text.table) result → MergesNamed files_of text was now result
-table_pair files_of was now text none part result beside ends =
-    named_pair files_of was now text (λ t _. t ≡ text.table) part (λ t q same. (same, subst (λ (o : Option (List ℕ)). IfSome o (λ id. IsPartition q × (partition_text q ≡ id))) (sym none) tt)) result beside ends
+pub table_pair : {F : Type 0} (S : Type 0) (files_of : F → Option Files) (known : Type 0) (was now : Opened F) (arm_was arm : ℕ) (text : OptimizeText) → text.partition ≡ None → text.whole ≡ false → (result : Result (Option (List ℕ)) NoMemory)
+    → KeepsBeside (λ t _. t ≡ text.table) was.store now.store → EndsAt Any Any (TellsOfTable files_of was.store text.table) result → MergesNamed S files_of known text (lapse was now arm_was arm) result
+table_pair S files_of known was now arm_was arm text none part result beside ends =
+    named_pair S files_of known was now arm_was arm text (λ t _. t ≡ text.table) part (λ t q same. (same, subst (λ (o : Option (List ℕ)). IfSome o (λ id. IsPartition q × (partition_text q ≡ id))) (sym none) tt)) result beside ends
 
 -- what was found, as it was matched
-pub whole_found : {F : Type 0} (files_of : F → Option Files) (was now : CoreStore F) (table : List ℕ) (p : Partition) (found met : Option (List ℕ)) → found ≡ met → MergesWhole files_of was now table p (Ok found) → MergesWhole files_of was now table p (Ok met)
-whole_found files_of was now table p found met same whole = subst (λ (o : Option (List ℕ)). MergesWhole files_of was now table p (Ok o)) same whole
+pub whole_found : {F : Type 0} (S : Type 0) (files_of : F → Option Files) (known : Type 0) (m : Lapse F) (table : List ℕ) (p : Partition) (found met : Option (List ℕ)) → found ≡ met → MergesWhole S files_of known table p m (Ok found) → MergesWhole S files_of known table p m (Ok met)
+whole_found S files_of known m table p found met same whole = subst (λ (o : Option (List ℕ)). MergesWhole S files_of known table p m (Ok o)) same whole
 
-pub if_ok : {T : Type 0} (P : T → Type 0) (r : Result T NoMemory) → ((x : T) → P x) → IfOk r P
-if_ok P (Ok x) each = each x
-if_ok P (Err e) each = tt
+-- of an arm that tells as one did before, and of which no call failed since
+pub whole_since : {F A : Type 0} (S : Type 0) (files_of : F → Option Files) (now_arm first : A) (tells : A → Bool) (mid now : Opened F) (x start y : ℕ) (table : List ℕ) (p : Partition) → tells now_arm ≡ tells first → x ≡ start → (result : Result (Option (List ℕ)) NoMemory)
+    → MergesWhole S files_of (tells now_arm ≡ true) table p (lapse mid now x y) result → MergesWhole S files_of (tells first ≡ true) table p (lapse mid now start y) result
+whole_since S files_of now_arm first tells mid now x start y table p same calm result whole =
+    subst (λ (n : ℕ). MergesWhole S files_of (tells first ≡ true) table p (lapse mid now n y) result) calm (subst (λ (b : Bool). MergesWhole S files_of (b ≡ true) table p (lapse mid now x y) result) same whole)

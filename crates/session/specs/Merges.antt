@@ -44,10 +44,10 @@ use Rattle.shared_store.specs.Engines.{Opened}
 use Rattle.shared_store.specs.Levels.{has_greatest}
 use Rattle.shared_store.specs.declared.work.Put.{Put}
 use Rattle.shared_store.specs.declared.work.Work.{Work}
-use Rattle.shared_store.specs.Works.{DropsWork, PutsWork}
+use Rattle.shared_store.specs.Works.{DropsWork, PutsWork, TakesWhole}
 use Rattle.final_fold.specs.row_merge.Merged.{ArePartRows}
 use Rattle.final_fold.specs.row_merge.MergedParts.{ExplainsMerge, ExplainsPart, IsSealedMerge, IsSealedPart, PartsHold}
-use Rattle.session.specs.Lapses.{Lapse, Leaves, NoneFailedIn, counts}
+use Rattle.session.specs.Lapses.{Lapse, Leaves, NoneFailedIn, counts, lapse}
 use Rattle.session.specs.Stops.{IsLineOf}
 
 -- ---- the partitions of a table
@@ -66,6 +66,10 @@ abbrev pub parts_at : {F : Type 0} → CoreStore F → List ℕ → Partition �
 parts_at store table partition = kept_in partition (parts_of store.set table)
 
 -- ---- which parts are merged
+
+-- each partition of each table has the parts that it had (docs/engines.md, "Which parts are merged")
+abbrev pub KeepsParts : {F : Type 0} → CoreStore F → CoreStore F → Type 0
+KeepsParts was now = (table : List ℕ) (partition : Partition) → parts_at now table partition ≡ parts_at was table partition
 
 -- but for these partitions of tables, each has the parts that it had (docs/engines.md, "Which parts are merged")
 abbrev pub KeepsBeside : {F : Type 0} → (List ℕ → Partition → Type 0) → CoreStore F → CoreStore F → Type 0
@@ -96,15 +100,6 @@ pub record AreFinal {F : Type 0} (was now : CoreStore F) (table : List ℕ) (par
 abbrev pub IsNamed : OptimizeText → List ℕ → Partition → Type 0
 IsNamed text table partition = (table ≡ text.table) × IfSome text.partition (λ id. IsPartition partition × (partition_text partition ≡ id))
 
--- The merges of partitions of a table stopped at one of them: FINAL is done with those before it, and no other partition has changed (docs/engines.md,
--- "Which parts are merged").
-pub record StopsAt {F : Type 0} (was now : CoreStore F) (table : List ℕ) (partitions : List Partition) : Type 0 where
-  pub done : List Partition
-  pub here : Partition
-  pub rest : List Partition
-  pub split : partitions ≡ done ++ here ∷ rest
-  pub final : AreFinal was now table done
-
 -- the partitions that the FINAL of an OPTIMIZE goes through: the one of its id, or those of the table's parts (ClickHouse, OPTIMIZE)
 abbrev pub AreNamed : {F : Type 0} → OptimizeText → CoreStore F → List Partition → Type 0
 AreNamed text store partitions = MatchOption text.partition (ArePartitionsOf (parts_of store.set text.table) partitions) (λ id. (p : Partition) × (partitions ≡ p ∷ []) × IsNamed text text.table p)
@@ -113,18 +108,9 @@ AreNamed text store partitions = MatchOption text.partition (ArePartitionsOf (pa
 abbrev pub AllAreFinal : {F : Type 0} → OptimizeText → CoreStore F → CoreStore F → Type 0
 AllAreFinal text was now = (p : Partition) → IsNamed text text.table p → IsFinalAt was now text.table p
 
--- a merge of one of the partitions that an OPTIMIZE names was refused, and none was begun after it (ClickHouse, OPTIMIZE)
-abbrev pub StopsAtOne : {F : Type 0} → OptimizeText → CoreStore F → CoreStore F → Type 0
-StopsAtOne text was now = (partitions : List Partition) × AreNamed text was partitions × StopsAt was now text.table partitions
-
 -- the reply says why a statement was refused (docs/replies.md, "Refusals")
 abbrev pub IsRefusal : List ℕ → Type 0
 IsRefusal reply = (why : Refusal) × (reply ≡ refusal_line why)
-
--- What an OPTIMIZE with FINAL does: it is done with each partition that it names; or a merge was refused, and the reply says why; or there is no such table
--- (docs/engines.md, "Which parts are merged").
-abbrev pub Finishes : {F : Type 0} → OptimizeText → CoreStore F → CoreStore F → List ℕ → Type 0
-Finishes text was now reply = AllAreFinal text was now ⊎ (IsRefusal reply × (StopsAtOne text was now ⊎ (table_at was text.table ≡ None)))
 
 -- ---- damage
 
@@ -236,7 +222,7 @@ pub record RefusesMerge {F : Type 0} (files_of : F → Option Files) (known : Ty
   pub takes : known → (h : History) → CoreStands files_of h m.was.store
       → (n : Outside) → Foresees m.was.store.opened m.now.storage.failed m.arm (has_greatest m.now.store) n → WorkFailed n full reply
 
--- how merges ended: all were done; one was refused, and none came after it; or memory ran out
+-- how merges ended: all were done; one was refused; or memory ran out
 abbrev pub MergesEnd : {F : Type 0} → (F → Option Files) → Type 0 → Lapse F → Bool → Result (Option (List ℕ)) NoMemory → Type 0
 MergesEnd files_of known m full (Ok None) = NoneFailedIn (counts m)
 MergesEnd files_of known m full (Ok (Some reply)) = RefusesMerge files_of known m full reply
@@ -251,7 +237,44 @@ pub record Merges {F : Type 0} (files_of : F → Option Files) (known : Type 0) 
   pub later : m.arm_was ≤ m.arm
   pub ends : MergesEnd files_of known m full result
 
--- ---- which parts are merged
+-- ---- where merges stop
+
+-- All parts of a partition of a table were taken up as a work, and this became of it (docs/engines.md, "Which parts are merged").
+pub record EndsTaken {F : Type 0} (S : Type 0) (files_of : F → Option Files) (known : Type 0) (table : List ℕ) (p : Partition) (m : Lapse F) (result : Result (Option (List ℕ)) NoMemory) : Type 0 where
+  pub taken : Opened F
+  pub work : Work F
+  pub takes : TakesWhole table p m.was taken (Ok (Some work))
+  pub ends : EndsWork S files_of known table work (lapse taken m.now m.arm_was m.arm) result
+
+-- how the merge of all parts of a partition stopped: it was refused with a reply, or memory ran out, also where none was taken up
+abbrev pub StopsWhole : {F : Type 0} → Type 0 → (F → Option Files) → Type 0 → List ℕ → Partition → Lapse F → Result (Option (List ℕ)) NoMemory → Type 0
+StopsWhole S files_of known table p m (Ok found) = EndsTaken S files_of known table p m (Ok found)
+StopsWhole S files_of known table p m (Err e) = EndsTaken S files_of known table p m (Err e) ⊎ ((m.now ≡ m.was) × (m.arm ≡ m.arm_was))
+
+-- The merges of partitions of a table stopped at one of them: FINAL was done with those before it, and what stands is what the one merge then left that
+-- stopped. That one changed no parts (docs/engines.md, "Which parts are merged").
+pub record StopsAt {F : Type 0} (S : Type 0) (files_of : F → Option Files) (known : Type 0) (table : List ℕ) (partitions : List Partition) (m : Lapse F) (result : Result (Option (List ℕ)) NoMemory) : Type 0 where
+  pub done : List Partition
+  pub here : Partition
+  pub rest : List Partition
+  pub split : partitions ≡ done ++ here ∷ rest
+  pub mid : Opened F
+  pub final : AreFinal m.was.store mid.store table done
+  pub stops : StopsWhole S files_of known table here (lapse mid m.now m.arm_was m.arm) result
+  pub same : KeepsParts mid.store m.now.store
+
+-- the merges of the partitions that an OPTIMIZE names stopped at one of them (ClickHouse, OPTIMIZE)
+abbrev pub StopsAtOne : {F : Type 0} → Type 0 → (F → Option Files) → Type 0 → OptimizeText → Lapse F → Result (Option (List ℕ)) NoMemory → Type 0
+StopsAtOne S files_of known text m result = (partitions : List Partition) × AreNamed text m.was.store partitions × StopsAt S files_of known text.table partitions m result
+
+-- What an OPTIMIZE with FINAL does: it is done with each partition that it names; or its merges stopped where one was refused, and the reply says why, or
+-- where memory ran out; or nothing was done, since there is no such table, or memory ran out before (docs/engines.md, "Which parts are merged").
+abbrev pub Finishes : {F : Type 0} → Type 0 → (F → Option Files) → Type 0 → OptimizeText → Lapse F → Result (List ℕ) NoMemory → Type 0
+Finishes S files_of known text m (Ok reply) =
+    AllAreFinal text m.was.store m.now.store ⊎ (IsRefusal reply × (StopsAtOne S files_of known text m (Ok (Some reply)) ⊎ ((table_at m.was.store text.table ≡ None) × (m.now ≡ m.was))))
+Finishes S files_of known text m (Err e) = AllAreFinal text m.was.store m.now.store ⊎ (StopsAtOne S files_of known text m (Err e) ⊎ (m.now ≡ m.was))
+
+-- ---- which parts merges change
 
 -- nothing is said
 abbrev pub Any : Type 0
@@ -263,16 +286,19 @@ EndsAt Done Stops Damage (Ok None) = Done
 EndsAt Done Stops Damage (Ok (Some reply)) = Stops × (is_damage reply ≡ true → Damage reply)
 EndsAt Done Stops Damage (Err e) = Stops
 
--- the merge of all parts of a partition changes no other; FINAL is done with it, or its parts stay
-abbrev pub MergesWhole : {F : Type 0} → (F → Option Files) → CoreStore F → CoreStore F → List ℕ → Partition → Result (Option (List ℕ)) NoMemory → Type 0
-MergesWhole files_of was now table p result =
-    KeepsBeside (λ t q. (t ≡ table) × (q ≡ p)) was now × EndsAt (IsFinalAt was now table p) (parts_at now table p ≡ parts_at was table p) (TellsOfMerge files_of was table (parts_at was table p)) result
+-- the merge of all parts of a partition changes no other; FINAL is done with it, or it stopped, and its parts stay
+abbrev pub MergesWhole : {F : Type 0} → Type 0 → (F → Option Files) → Type 0 → List ℕ → Partition → Lapse F → Result (Option (List ℕ)) NoMemory → Type 0
+MergesWhole S files_of known table p m result =
+    KeepsBeside (λ t q. (t ≡ table) × (q ≡ p)) m.was.store m.now.store
+    × EndsAt (IsFinalAt m.was.store m.now.store table p) ((parts_at m.now.store table p ≡ parts_at m.was.store table p) × StopsWhole S files_of known table p m result)
+    (TellsOfMerge files_of m.was.store table (parts_at m.was.store table p)) result
 
 -- the merges of partitions of a table, one after another: FINAL is done with all of them, or they stopped at one
-abbrev pub MergesEach : {F : Type 0} → (F → Option Files) → CoreStore F → CoreStore F → List ℕ → List Partition → Result (Option (List ℕ)) NoMemory → Type 0
-MergesEach files_of was now table partitions result = EndsAt (AreFinal was now table partitions) (StopsAt was now table partitions) (TellsOfTable files_of was table) result
+abbrev pub MergesEach : {F : Type 0} → Type 0 → (F → Option Files) → Type 0 → List ℕ → List Partition → Lapse F → Result (Option (List ℕ)) NoMemory → Type 0
+MergesEach S files_of known table partitions m result =
+    EndsAt (AreFinal m.was.store m.now.store table partitions) (StopsAt S files_of known table partitions m result) (TellsOfTable files_of m.was.store table) result
 
 -- the merges of an OPTIMIZE change no partition but those that it names; with FINAL it is done with these, or they stopped at one
-pub record MergesNamed {F : Type 0} (files_of : F → Option Files) (text : OptimizeText) (was now : CoreStore F) (result : Result (Option (List ℕ)) NoMemory) : Type 0 where
-  pub beside : KeepsBeside (IsNamed text) was now
-  pub ends : EndsAt (text.whole ≡ true → AllAreFinal text was now) (text.whole ≡ true → StopsAtOne text was now) (TellsOfTable files_of was text.table) result
+pub record MergesNamed {F : Type 0} (S : Type 0) (files_of : F → Option Files) (known : Type 0) (text : OptimizeText) (m : Lapse F) (result : Result (Option (List ℕ)) NoMemory) : Type 0 where
+  pub beside : KeepsBeside (IsNamed text) m.was.store m.now.store
+  pub ends : EndsAt (text.whole ≡ true → AllAreFinal text m.was.store m.now.store) (text.whole ≡ true → StopsAtOne S files_of known text m result) (TellsOfTable files_of m.was.store text.table) result

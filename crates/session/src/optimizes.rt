@@ -114,8 +114,8 @@ fn merge_partition<F: Dir, R: Arm<Dir = F>, D: Disk<Arm = R>, A: Annals>(
     requires free { HasNoMark engine.old.store }
     ensures merges { Merges F.files (R.tells arm.old ≡ true)
         (lapse engine.old engine.new (R.failed arm.old) (R.failed arm.new)) true result }
-    ensures whole { MergesWhole F.files engine.old.store engine.new.store table.now partition
-        result }
+    ensures whole { MergesWhole R.Stage F.files (R.tells arm.old ≡ true) table.now partition
+        (lapse engine.old engine.new (R.failed arm.old) (R.failed arm.new)) result }
     ensures tells { R.tells arm.new ≡ R.tells arm.old }
 {
     let Ok(replies) = merge_replies(alloc) else {
@@ -146,8 +146,8 @@ fn merge_partitions<F: Dir, R: Arm<Dir = F>, D: Disk<Arm = R>, A: Annals>(
     requires ascend { AllPairs (λ a b. partition_rank a < partition_rank b) partitions.now }
     ensures merges { Merges F.files (R.tells arm.old ≡ true)
         (lapse engine.old engine.new (R.failed arm.old) (R.failed arm.new)) true result }
-    ensures each { MergesEach F.files engine.old.store engine.new.store table.now partitions.now
-        result }
+    ensures each { MergesEach R.Stage F.files (R.tells arm.old ≡ true) table.now partitions.now
+        (lapse engine.old engine.new (R.failed arm.old) (R.failed arm.new)) result }
     ensures tells { R.tells arm.new ≡ R.tells arm.old }
 {
     for partition in partitions {
@@ -177,7 +177,8 @@ fn merge_as_asked<F: Dir, R: Arm<Dir = F>, D: Disk<Arm = R>, A: Annals>(
     requires free { HasNoMark engine.old.store }
     ensures merges { Merges F.files (R.tells arm.old ≡ true)
         (lapse engine.old engine.new (R.failed arm.old) (R.failed arm.new)) text.now.whole result }
-    ensures named { MergesNamed F.files text.now engine.old.store engine.new.store result }
+    ensures named { MergesNamed R.Stage F.files (R.tells arm.old ≡ true) text.now
+        (lapse engine.old engine.new (R.failed arm.old) (R.failed arm.new)) result }
     ensures tells { R.tells arm.new ≡ R.tells arm.old }
 {
     let table = &text.table;
@@ -198,7 +199,7 @@ fn merge_as_asked<F: Dir, R: Arm<Dir = F>, D: Disk<Arm = R>, A: Annals>(
 }
 
 /// Merges parts of a table, unless the OPTIMIZE is refused: two neighbours that the policy takes, or with FINAL all parts of each
-/// partition into one. What was put before a merge that is refused stands.
+/// partition into one. What was put before a merge that is refused stands, and none comes after it.
 ///
 /// `NoMemory` where an allocation failed; what was put before stands, the annals are as they were, and no count of faults rose.
 pub fn optimize<F: Dir, R: Arm<Dir = F>, D: Disk<Arm = R>, A: Annals>(
@@ -222,7 +223,8 @@ pub fn optimize<F: Dir, R: Arm<Dir = F>, D: Disk<Arm = R>, A: Annals>(
     // Which parts are merged.
     ensures beside { KeepsBeside (IsNamed text.now) engine.old.store engine.new.store }
     ensures whole { text.now.whole ≡ true
-        → IfOk result (Finishes text.now engine.old.store engine.new.store) }
+        → Finishes R.Stage F.files (R.tells arm.old ≡ true) text.now
+        (lapse engine.old engine.new (R.failed arm.old) (R.failed arm.new)) result }
 
     // What the root and the arm are then.
     ensures leaves { Leaves F.files (R.tells arm.old ≡ true) engine.old engine.new }

@@ -4,7 +4,7 @@ use Rattle.mt_base.specs.declared.partition.Partition.{Partition}
 use Rattle.session.specs.Lapses.{lapse}
 use Rattle.session.specs.Merges.{AreFinal, Merges}
 use Rattle.session.proofs.Lapses.{merges_none, merges_then, there_still}
-use Rattle.session.proofs.Whole.{done_at, done_none, ended_at, stopped_at, whole_found}
+use Rattle.session.proofs.Whole.{done_at, done_none, ended_at, stopped_at, whole_found, whole_since}
 use Rattle.session.proofs.optimizes.merge_partitions.Goals as goal
 
 pub loop-partition-init : goal.loop-partition-init
@@ -28,8 +28,8 @@ loop-partition-preserved g c =
     record {
       merges = merges_then g.F.Dir.files _ c.args.engine.now here now (g.R.Arm.failed c.args.arm.now) x y true before.merges (Ok None) step;
       tells = c.merge_partition.ensures.tells ∙ before.tells;
-      final = done_at g.F.Dir.files c.args.engine.now.store here.store now.store c.args.table.now c.args.partitions.now c.loop-partition.partition-index _ c.loop-partition-test.true c.requires.ascend before.final before.merges.adds.mutations_are before.merges.adds.tables
-          (whole_found g.F.Dir.files here.store now.store c.args.table.now _ c.in-Ok-None.field-0 None c.in-Ok-None.field-0-is c.in-Ok-None.ensures.whole);
+      final = done_at _ g.F.Dir.files _ c.args.engine.now here now x y c.args.table.now c.args.partitions.now c.loop-partition.partition-index _ c.loop-partition-test.true c.requires.ascend before.final before.merges.adds.mutations_are before.merges.adds.tables
+          (whole_found _ g.F.Dir.files _ (lapse here now x y) c.args.table.now _ c.in-Ok-None.field-0 None c.in-Ok-None.field-0-is c.in-Ok-None.ensures.whole);
     }
 
 -- one was refused
@@ -46,11 +46,15 @@ returns-in-Ok-Some-clause-merges g c =
 
 pub returns-in-Ok-Some-clause-each : goal.returns-in-Ok-Some-clause-each
 returns-in-Ok-Some-clause-each g c =
+    let files = g.F.Dir.files in
     let before = c.loop-partition.invariant in
     let here = c.loop-partition.engine in
     let now = c.merge_partition.new.engine in
-    stopped_at g.F.Dir.files c.args.engine.now.store here.store now.store c.args.table.now c.args.partitions.now c.loop-partition.partition-index _ c.loop-partition-test.true c.requires.ascend before.final before.merges.adds.mutations_are before.merges.adds.tables c.in-Ok-Some.refused
-    (whole_found g.F.Dir.files here.store now.store c.args.table.now _ c.in-Ok-Some.field-0 (Some c.in-Ok-Some.refused) c.in-Ok-Some.field-0-is c.in-Ok-Some.ensures.whole)
+    let x = g.R.Arm.failed c.loop-partition.arm in
+    let y = g.R.Arm.failed c.merge_partition.new.arm in
+    let found = whole_found g.R.Arm.Stage files (g.R.Arm.tells c.loop-partition.arm ≡ true) (lapse here now x y) c.args.table.now _ c.in-Ok-Some.field-0 (Some c.in-Ok-Some.refused) c.in-Ok-Some.field-0-is c.in-Ok-Some.ensures.whole in
+    stopped_at g.R.Arm.Stage files (g.R.Arm.tells c.args.arm.now ≡ true) c.args.engine.now here now (g.R.Arm.failed c.args.arm.now) y c.args.table.now c.args.partitions.now c.loop-partition.partition-index _ c.loop-partition-test.true c.requires.ascend before.final before.merges.adds.mutations_are before.merges.adds.tables c.in-Ok-Some.refused
+    (whole_since g.R.Arm.Stage files c.loop-partition.arm c.args.arm.now g.R.Arm.tells here now x (g.R.Arm.failed c.args.arm.now) y c.args.table.now _ before.tells before.merges.ends.1 (Ok (Some c.in-Ok-Some.refused)) found)
 
 -- memory ran out
 pub returns-in-Err-clause-merges : goal.returns-in-Err-clause-merges
@@ -65,9 +69,14 @@ returns-in-Err-clause-merges g c =
 
 pub returns-in-Err-clause-each : goal.returns-in-Err-clause-each
 returns-in-Err-clause-each g c =
+    let files = g.F.Dir.files in
     let before = c.loop-partition.invariant in
-    ended_at g.F.Dir.files c.args.engine.now.store c.loop-partition.engine.store c.merge_partition.new.engine.store c.args.table.now c.args.partitions.now c.loop-partition.partition-index _ c.loop-partition-test.true c.requires.ascend before.final before.merges.adds.mutations_are before.merges.adds.tables
-    c.in-Err.field-0 c.in-Err.ensures.whole
+    let here = c.loop-partition.engine in
+    let now = c.merge_partition.new.engine in
+    let x = g.R.Arm.failed c.loop-partition.arm in
+    let y = g.R.Arm.failed c.merge_partition.new.arm in
+    ended_at g.R.Arm.Stage files (g.R.Arm.tells c.args.arm.now ≡ true) c.args.engine.now here now (g.R.Arm.failed c.args.arm.now) y c.args.table.now c.args.partitions.now c.loop-partition.partition-index _ c.loop-partition-test.true c.requires.ascend before.final before.merges.adds.mutations_are before.merges.adds.tables
+    c.in-Err.field-0 (whole_since g.R.Arm.Stage files c.loop-partition.arm c.args.arm.now g.R.Arm.tells here now x (g.R.Arm.failed c.args.arm.now) y c.args.table.now _ before.tells before.merges.ends.1 (Err c.in-Err.field-0) c.in-Err.ensures.whole)
 
 -- all were done
 pub returns-clause-each : goal.returns-clause-each
