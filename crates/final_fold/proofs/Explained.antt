@@ -70,7 +70,7 @@ one_at Explains types ys n t (Damaged f place wanted found) has typed e = record
 
 module _ {F : Type 0} (files_of : F → Option Files) (part : Part F) (chosen : List Bool) (wanted : Wanted) where
   pub out_of_memory : ExplainsAsked files_of part chosen wanted NoMemory
-  out_of_memory = record { read = chosen; among = λ granule is. is; explained = tt }
+  out_of_memory = record { read = chosen; even = refl; among = λ granule is. is; explained = tt }
 
   types_within : (places : List ℕ) → ArePlacesOf wanted.schema.now places → All (λ place. place < length (column_types wanted.schema.now)) places
   types_within places within = subst (λ n. All (λ place. place < n) places) (sym (length-map wanted.schema.now.columns (λ (c : Column). c.col_type))) within
@@ -80,6 +80,7 @@ module _ {F : Type 0} (files_of : F → Option Files) (part : Part F) (chosen : 
       → ExplainsEach (λ number t. ExplainsChosen (column_in files_of part number) chosen t) places columns why → ExplainsAsked files_of part chosen wanted why
   read_explained places columns why has within typed e = record {
     read = chosen;
+    even = refl;
     among = λ granule is. is;
     explained =
         moved_at (λ number t. ExplainsChosen (column_in files_of part number) chosen t) (column_types wanted.schema.now) places (named wanted) why has
@@ -104,12 +105,13 @@ module _ {F : Type 0} (files_of : F → Option Files) (part : Part F) (chosen : 
       read_explained wanted.places.now columns why (λ k n here. has_right (tested wanted.condition.now) wanted.places.now k n here) is.places typed e
 
   -- one of them was read in some of the chosen granules
-  pub one_explained : (granules : List Bool) (place : ℕ) (t : ColType) (why : PartFault) → AreAmong granules chosen → HasItem wanted.places.now place → slice_get (column_types wanted.schema.now) place ≡ Some t
+  pub one_explained : (granules : List Bool) (place : ℕ) (t : ColType) (why : PartFault) → length granules ≡ length chosen → AreAmong granules chosen → HasItem wanted.places.now place → slice_get (column_types wanted.schema.now) place ≡ Some t
       → ExplainsChosen (column_in files_of part place) granules t why → ExplainsAsked files_of part chosen wanted why
-  one_explained granules place t why among item typed e =
+  one_explained granules place t why even among item typed e =
       let there = has_item wanted.places.now place item in
       record {
         read = granules;
+        even = even;
         among = among;
         explained = one_at (λ number u. ExplainsChosen (column_in files_of part number) granules u) (column_types wanted.schema.now) (named wanted) place t why (has_right (tested wanted.condition.now) wanted.places.now there.0 place there.1) typed e;
       }

@@ -20,6 +20,7 @@ pub mod Renamed
 pub mod RowValues
 pub mod Scanning
 pub mod SomeRun
+pub mod Sound
 pub mod Sure
 pub mod WholeColumns
 pub use Rattle.table_core.proofs.PartHistoryCounted

@@ -76,9 +76,10 @@ pub record AreMatches {F : Type 0} (files_of : F → Option Files) (task : Task 
 abbrev pub AreAmong : List Bool → List Bool → Type 0
 AreAmong read chosen = (granule : ℕ) → slice_get read granule ≡ Some true → slice_get chosen granule ≡ Some true
 
--- what a fault says of a part: it is of a column that may be read, read as one of its type in granules that are chosen
+-- what a fault says of a part: it is of a column that may be read, read as one of its type in granules that are chosen; of each it is said whether it was read
 pub record ExplainsAsked {F : Type 0} (files_of : F → Option Files) (part : Part F) (chosen : List Bool) (wanted : Wanted) (fault : PartFault) : Type 0 where
   pub read : List Bool
+  pub even : length read ≡ length chosen
   pub among : AreAmong read chosen
   pub explained : ExplainsAt (λ number t. ExplainsChosen (column_in files_of part number) read t) (column_types wanted.schema.now) (named wanted) fault
 

@@ -53,10 +53,6 @@ pub(crate) fn add_part<R: Arm>(
     ensures few { IfOk result (λ count. count ≤ task.now.part.now.loaded.manifest.rows) }
 
     // What a fault says.
-    ensures sound { (rows : List Row)
-        → PartHolds R.Dir.files task.now.wanted.schema.now task.now.part.now rows
-        → length task.now.chosen.now ≡ granules task.now.wanted.schema.now.granularity (length rows)
-        → IfErr result IsNoDamage }
     ensures damaged { IfErr result
         (ExplainsAsked R.Dir.files task.now.part.now task.now.chosen.now task.now.wanted) }
 
@@ -96,10 +92,6 @@ fn add_chosen<R: Arm>(
     ensures few { IfOk result (λ count. count ≤ task.now.part.now.loaded.manifest.rows) }
 
     // What a fault says.
-    ensures sound { (rows : List Row)
-        → PartHolds R.Dir.files task.now.wanted.schema.now task.now.part.now rows
-        → length task.now.chosen.now ≡ granules task.now.wanted.schema.now.granularity (length rows)
-        → IfErr result IsNoDamage }
     ensures damaged { IfErr result
         (ExplainsAsked R.Dir.files task.now.part.now task.now.chosen.now task.now.wanted) }
 
@@ -150,10 +142,6 @@ fn add_matching<R: Arm>(
     ensures few { IfOk result (λ count. count ≤ task.now.part.now.loaded.manifest.rows) }
 
     // What a fault says.
-    ensures sound { (rows : List Row)
-        → PartHolds R.Dir.files task.now.wanted.schema.now task.now.part.now rows
-        → length task.now.chosen.now ≡ granules task.now.wanted.schema.now.granularity (length rows)
-        → IfErr result IsNoDamage }
     ensures damaged { IfErr result
         (ExplainsAsked R.Dir.files task.now.part.now task.now.chosen.now task.now.wanted) }
 
@@ -196,10 +184,6 @@ fn add_column<R: Arm>(
     ensures type_stays { OnOk result (column.new.col_type ≡ column.old.col_type) }
 
     // What a fault says.
-    ensures sound { (rows : List Row)
-        → PartHolds R.Dir.files task.now.wanted.schema.now task.now.part.now rows
-        → length task.now.chosen.now ≡ granules task.now.wanted.schema.now.granularity (length rows)
-        → IfErr result IsNoDamage }
     ensures damaged { IfErr result
         (ExplainsAsked R.Dir.files task.now.part.now task.now.chosen.now task.now.wanted) }
 

@@ -49,9 +49,6 @@ pub(crate) fn read_inputs<R: Arm>(
         (λ v. All (AreRowsOf (column_types wanted.now.schema.now)) (inputs_of v.items)) }
 
     // What a fault says.
-    ensures sound { (rows : List (List Row))
-        → PartsHold R.Dir.files wanted.now.schema.now parts.now rows
-        → SayOfEach wanted.now chosen.now rows → IfErr result (λ e. IsNoDamage e.1) }
     ensures damaged { IfErr result (ExplainsFold R.Dir.files parts.now chosen.now wanted.now) }
 
     // What the arm is then, and its count of faults.
@@ -95,9 +92,6 @@ fn read_chosen<R: Arm>(
     ensures typed { IfOk result (λ v. AreRowsOf (column_types schema.now) v.items) }
 
     // What a fault says.
-    ensures sound { (rows : List Row) → PartHolds R.Dir.files schema.now part.now rows
-        → length chosen.now ≡ granules schema.now.granularity (length rows)
-        → IfErr result IsNoDamage }
     ensures damaged { IfErr result
         (ExplainsWhole R.Dir.files schema.now part.now chosen.now) }
 

@@ -68,9 +68,6 @@ pub fn final_rows<R: Arm>(
     ensures few { IfOk result (λ count. count < 2 ^ 32) }
 
     // What a fault says.
-    ensures sound { (rows : List (List Row))
-        → PartsHold R.Dir.files wanted.now.schema.now parts.now rows
-        → SayOfEach wanted.now chosen.now rows → IfErr result (λ e. IsNoDamage e.1) }
     ensures damaged { IfErr result (ExplainsFold R.Dir.files parts.now chosen.now wanted.now) }
 
     // What the arm is then, and its count of faults.
@@ -137,9 +134,6 @@ fn fold_partition<R: Arm>(
         (λ (c : Cells). c.col_type) columns.old) }
 
     // What a fault says.
-    ensures sound { (rows : List (List Row))
-        → PartsHold R.Dir.files wanted.now.schema.now parts.now rows
-        → SayOfEach wanted.now chosen.now rows → IfErr result (λ e. IsNoDamage e.1) }
     ensures damaged { IfErr result (ExplainsFold R.Dir.files parts.now chosen.now wanted.now) }
 
     // What the arm is then, and its count of faults.

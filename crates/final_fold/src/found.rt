@@ -50,10 +50,6 @@ pub(crate) fn find_matches<R: Arm>(
     ensures found { IfOk result (AreMatches R.Dir.files task.now) }
 
     // What a fault says.
-    ensures sound { (rows : List Row)
-        → PartHolds R.Dir.files task.now.wanted.schema.now task.now.part.now rows
-        → length task.now.chosen.now ≡ granules task.now.wanted.schema.now.granularity (length rows)
-        → IfErr result IsNoDamage }
     ensures damaged { IfErr result
         (ExplainsAsked R.Dir.files task.now.part.now task.now.chosen.now task.now.wanted) }
 

@@ -1,5 +1,5 @@
-// What FINAL may see, and what merges of all rows leave. The functions have empty bodies and the laws as their contracts.
-ghost use Rattle.std.specs.Prelude.{◌≡◌, ◌≤◌, ◌++◌, ℕ, Bool, List, All, Some, filter, length, map, not, true};
+// What FINAL may see, what merges of all rows leave, and of which parts no damage is told. The functions have empty bodies and the laws as their contracts.
+ghost use Rattle.std.specs.Prelude.{◌≡◌, ◌≤◌, ◌++◌, ℕ, Bool, List, All, Option, Some, filter, length, map, not, true};
 ghost use Rattle.std.specs.List.{Contains as HasItem, list_any};
 ghost use Rattle.mt_base.specs.declared.partition.Partition.{Partition};
 ghost use Rattle.mt_values.specs.Tables.{partition_of};
@@ -20,7 +20,17 @@ ghost use Rattle.table_core.specs.declared.event.Event.{Event};
 ghost use Rattle.table_core.specs.Core.{Core};
 ghost use Rattle.final_fold.specs.Choices.{signs_of, sums_of};
 ghost use Rattle.final_fold.specs.Cores.{LeadTo, MergesVisible};
+ghost use Rattle.final_fold.specs.Folded.{ExplainsFold};
 ghost use Rattle.final_fold.specs.Keys.{SaysOfKeys, is_of_key};
+ghost use Rattle.final_fold.specs.Matches.{ExplainsMatches, SayOfEach};
+ghost use Rattle.final_fold.specs.declared.asking.Wanted.{Wanted};
+ghost use Rattle.mt_outside.specs.Files.{Files};
+ghost use Rattle.row_merge.specs.MergedParts.{ExplainsMerge, PartsHold};
+ghost use Rattle.row_merge.specs.part_reader.Faults.{IsNoDamage};
+ghost use Rattle.row_merge.specs.part_reader.declared.reading.Part.{Part};
+ghost use Rattle.row_merge.specs.part_reader.declared.reading.PartFault.{PartFault};
+ghost use Rattle.row_merge.specs.part_set.declared.kept.Kept.{Kept};
+ghost use Rattle.table_core.specs.part_name.declared.part.PartName.{PartName};
 
 /// Whatever was merged before, and at whatever times, one merge of all that is left is what FINAL may leave of the live rows.
 pub fn partly_folded_rows_fold_as_all()
@@ -107,4 +117,21 @@ pub fn final_rows_do_not_depend_on_events()
         → KeysFoldOnce schema (live table schema one.history)
         → MergesVisible schema table one a → MergesVisible schema table two b
         → IsPermutation a b }
+{}
+
+/// What is told of parts that hold rows of their table is no damage: where columns of chosen granules were read, with FINAL or without it,
+/// and it is said of each granule whether it is chosen; and where all columns were read whole.
+pub fn parts_with_rows_are_not_damaged<F>()
+    ensures matches { (files_of : F → Option Files) (w : Wanted) (parts : List (Kept (Part F)))
+        (chosen : List (List Bool)) (rows : List (List Row)) (e : PartName × PartFault)
+        → PartsHold files_of w.schema.now parts rows → SayOfEach w chosen rows
+        → ExplainsMatches files_of parts chosen w e → IsNoDamage e.1 }
+    ensures fold { (files_of : F → Option Files) (w : Wanted) (parts : List (Kept (Part F)))
+        (chosen : List (List Bool)) (rows : List (List Row)) (e : PartName × PartFault)
+        → PartsHold files_of w.schema.now parts rows → SayOfEach w chosen rows
+        → ExplainsFold files_of parts chosen w e → IsNoDamage e.1 }
+    ensures merge { (files_of : F → Option Files) (schema : Schema) (parts : List (Kept (Part F)))
+        (rows : List (List Row)) (e : PartName × PartFault)
+        → PartsHold files_of schema parts rows → ExplainsMerge files_of schema parts e
+        → IsNoDamage e.1 }
 {}

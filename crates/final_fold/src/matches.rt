@@ -62,9 +62,6 @@ pub fn add_matches<R: Arm>(
     ensures few { IfOk result (λ count. count ≤ rows_kept parts.now) }
 
     // What a fault says.
-    ensures sound { (rows : List (List Row))
-        → PartsHold R.Dir.files wanted.now.schema.now parts.now rows
-        → SayOfEach wanted.now chosen.now rows → IfErr result (λ e. IsNoDamage e.1) }
     ensures damaged { IfErr result (ExplainsMatches R.Dir.files parts.now chosen.now wanted.now) }
 
     // What the arm is then, and its count of faults.

@@ -18,12 +18,6 @@ add_granules-requires-after_bounds g c κs within =
     let w = c.args.task.now.wanted in
     have_many w.schema.now w.places.now c.args.columns.now c.requires.task.wanted.places c.requires.columns
 
-pub returns-in_err-add_granules-clause-sound : goal.returns-in_err-add_granules-clause-sound
-returns-in_err-add_granules-clause-sound g c = λ rows holds counted.
-    let w = c.args.task.now.wanted in
-    handed_on IsNoDamage c.from_residual.result c.in_err-add_granules.field-0.0 c.from_residual.ensures.1
-    (c.in_err-add_granules.ensures.sound w.schema.now rows (holds_at g.R.Dir.Dir.files w.schema.now c.args.task.now.part.now rows w.places.now holds c.requires.task.wanted.places) c.requires.columns counted)
-
 pub returns-in_err-add_granules-clause-damaged : goal.returns-in_err-add_granules-clause-damaged
 returns-in_err-add_granules-clause-damaged g c =
     let task = c.args.task.now in

@@ -40,19 +40,14 @@ returns-in_default-clause-even g c =
     ∙ ap (λ n. length c.args.column.now.values + n)
     (ap count_true c.deref-in_default.ensures.value ∙ kept_count g.R.Dir.Dir.files c.args.task.now c.requires.task c.args.matches.now c.requires.matches)) c.add_granules_where.ensures.count
 
-pub returns-in_default-clause-sound : goal.returns-in_default-clause-sound
-returns-in_default-clause-sound g c = λ rows holds counted.
-    let task = c.args.task.now in
-    c.add_granules_where.ensures.sound task.wanted.schema.now rows (one_held g.R.Dir.Dir.files task c.requires.task rows holds c.args.place c.args.column.now.col_type c.requires.column) c.requires.column
-    (ap length c.deref.ensures.value ∙ met_granules g.R.Dir.Dir.files task c.requires.task c.args.matches.now c.requires.matches ∙ counted)
-
 pub returns-in_default-clause-damaged : goal.returns-in_default-clause-damaged
 returns-in_default-clause-damaged g c =
     let task = c.args.task.now in
     let m = c.args.matches.now in
     let among : AreAmong c.deref.result.now task.chosen.now = subst (λ cs. AreAmong cs task.chosen.now) (sym (c.deref.ensures.value ∙ c.requires.matches.granules)) (met_chosen task.part.now.loaded.schema.granularity task.chosen.now m.mask.items) in
+    let even = ap length c.deref.ensures.value ∙ met_granules g.R.Dir.Dir.files task c.requires.task m c.requires.matches in
     on_err (ExplainsChosen (column_in g.R.Dir.Dir.files task.part.now c.args.place) c.deref.result.now c.args.column.now.col_type) (ExplainsAsked g.R.Dir.Dir.files task.part.now task.chosen.now task.wanted) c.add_granules_where.result
-    (λ e why. one_explained g.R.Dir.Dir.files task.part.now task.chosen.now task.wanted c.deref.result.now c.args.place c.args.column.now.col_type e among c.requires.listed c.requires.column why) c.add_granules_where.ensures.damaged
+    (λ e why. one_explained g.R.Dir.Dir.files task.part.now task.chosen.now task.wanted c.deref.result.now c.args.place c.args.column.now.col_type e even among c.requires.listed c.requires.column why) c.add_granules_where.ensures.damaged
 
 -- one that was asked
 pub index-requires : goal.index-requires

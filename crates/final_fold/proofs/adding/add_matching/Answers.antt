@@ -19,10 +19,6 @@ use Rattle.final_fold.proofs.Granules.{chosen_few, count_filter, true_few}
 use Rattle.final_fold.proofs.Scanning.{have_many}
 use Rattle.final_fold.proofs.adding.add_matching.Goals as goal
 
-pub returns-in_err-matches-clause-sound : goal.returns-in_err-matches-clause-sound
-returns-in_err-matches-clause-sound g c = λ rows holds counted.
-    handed_on IsNoDamage c.from_residual.result c.in_err-matches.field-0.0 c.from_residual.ensures.1 (c.in_err-matches.ensures.sound rows holds counted)
-
 pub bounds-columns-number : goal.bounds-columns-number
 bounds-columns-number g c =
     let w = c.args.task.now.wanted in
@@ -40,10 +36,6 @@ add_column-requires-clause-column g c κs within =
     let inside = subst (λ n. All (λ p. p < n) places) (sym (length-map w.schema.now.columns (λ (x : Column). x.col_type))) c.requires.task.wanted.places in
     type_there types places olds i (get_or places i 0) (get_or olds i any) (each_typed types places olds inside c.requires.columns) (slice_get-get_or places i 0 c.loop-number-test.true) (slice_get-get_or olds i any (omega (arith, long, c.loop-number-test.true)))
     ∙ ap (λ (x : Cells). Some x.col_type) (sym (c.loop-number.invariant.rest i any (omega arith)))
-
-pub returns-in_err-add_column-clause-sound : goal.returns-in_err-add_column-clause-sound
-returns-in_err-add_column-clause-sound g c = λ rows holds counted.
-    handed_on IsNoDamage c.from_residual-in_err-add_column.result c.in_err-add_column.field-0.0 c.from_residual-in_err-add_column.ensures.1 (c.in_err-add_column.ensures.sound rows holds counted)
 
 pub loop-number-preserved : goal.loop-number-preserved
 loop-number-preserved g c =

@@ -14,13 +14,6 @@ use Rattle.final_fold.proofs.chosen.read_chosen.Goals as goal
 pub empty_columns-requires : goal.empty_columns-requires
 empty_columns-requires g c = places_within c.args.schema.now c.args.all.now c.requires
 
-pub returns-in_err-add_granules-clause-sound : goal.returns-in_err-add_granules-clause-sound
-returns-in_err-add_granules-clause-sound g c = λ rows holds counted.
-    let schema = c.args.schema.now in
-    let typed = ap (map (λ (x : Cells). x.col_type)) c.deref_mut.ensures.value ∙ c.in-Ok.ensures.types in
-    handed_on IsNoDamage c.from_residual.result c.in_err-add_granules.field-0.0 c.from_residual.ensures.1
-    (c.in_err-add_granules.ensures.sound schema rows (holds_all g.R.Dir.Dir.files schema c.args.part.now rows holds c.args.all.now c.requires) typed counted)
-
 pub returns-in_err-add_granules-clause-damaged : goal.returns-in_err-add_granules-clause-damaged
 returns-in_err-add_granules-clause-damaged g c =
     let schema = c.args.schema.now in

@@ -29,16 +29,6 @@ counted g c =
     c.count_in.ensures
     ∙ ap₂ (count_in {F = g.row.R-Dir.Denot}) (ap (λ (k : Kept (Part g.row.R-Dir.Denot)). k.name.partition) (sym c.index-parts-at.is)) (take_all (length parts - at) (drop at parts) (omega (arith, length-drop at parts)))
 
-pub returns-in_err-added-clause-sound : goal.returns-in_err-added-clause-sound
-returns-in_err-added-clause-sound g c = λ rows holds said.
-    let w = c.args.wanted.now in
-    let at = c.loop-at.at in
-    let n = at + c.count_in.result - at in
-    handed_on (λ (e : PartName × PartFault). IsNoDamage e.1) c.from_residual.result c.in_err-added.field-0.0 c.from_residual.ensures.1
-    (c.in_err-added.ensures.sound (take n (drop at rows))
-    (zip_take (λ k r. PartHolds g.R.Dir.Dir.files w.schema.now k.part r) n (drop at c.args.parts.now) (drop at rows) (zip_drop (λ k r. PartHolds g.R.Dir.Dir.files w.schema.now k.part r) at c.args.parts.now rows holds))
-    (zip_take (λ cs rs. length cs ≡ granules w.schema.now.granularity (length rs)) n (drop at c.args.chosen.now) (drop at rows) (zip_drop (λ cs rs. length cs ≡ granules w.schema.now.granularity (length rs)) at c.args.chosen.now rows said)))
-
 pub returns-in_err-added-clause-damaged : goal.returns-in_err-added-clause-damaged
 returns-in_err-added-clause-damaged g c =
     let at = c.loop-at.at in

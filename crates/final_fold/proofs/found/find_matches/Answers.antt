@@ -30,12 +30,6 @@ asked_held g c rows holds =
     subst (λ ps. HoldsAt g.R.Dir.Dir.files task.wanted.schema.now task.part.now (map file.Column ps) rows) (sym c.as_slice-asked.ensures.value)
     (holds_at g.R.Dir.Dir.files task.wanted.schema.now task.part.now rows task.plan.now.asked.items holds c.requires.plan.within)
 
-pub returns-in_err-add_granules-clause-sound : goal.returns-in_err-add_granules-clause-sound
-returns-in_err-add_granules-clause-sound g c = λ rows holds counted.
-    let d = (goal.at.returns-in_err-add_granules-clause-sound g c).After-add_granules in
-    handed_on IsNoDamage c.from_residual.result c.in_err-add_granules.field-0.0 c.from_residual.ensures.1
-    (c.in_err-add_granules.ensures.sound c.args.task.now.wanted.schema.now rows (asked_held g d rows holds) (asked_typed g d) counted)
-
 pub returns-in_err-add_granules-clause-damaged : goal.returns-in_err-add_granules-clause-damaged
 returns-in_err-add_granules-clause-damaged g c =
     let task = c.args.task.now in

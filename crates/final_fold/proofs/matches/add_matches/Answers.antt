@@ -59,16 +59,6 @@ returns-in_default-clause-damaged g c =
     part_explained g.R.Dir.Dir.files parts chosen c.args.wanted.now i c.index-parts-number.result own NoMemory c.loop-number-test.true c.index-parts-number.is (slice_get-get_or chosen i [] (omega (arith, many, c.loop-number-test.true)))
     (out_of_memory g.R.Dir.Dir.files c.index-parts-number.result.part own c.args.wanted.now)
 
-pub returns-in-Err-clause-sound : goal.returns-in-Err-clause-sound
-returns-in-Err-clause-sound g c = λ rows holds said.
-    let d = (goal.at.returns-in-Err-clause-sound g c).After-as_slice in
-    let w = c.args.wanted.now in
-    let i = c.loop-number.number in
-    let own = c.as_slice.result.now in
-    let h = part_at g.R.Dir.Dir.files w.schema.now c.args.parts.now rows i c.index-parts-number.result holds c.loop-number-test.true c.index-parts-number.is in
-    c.in-Err.ensures.sound h.rows h.holds
-    (zip_at (λ (cs : List Bool) (rs : List Row). length cs ≡ granules w.schema.now.granularity (length rs)) c.args.chosen.now rows i own h.rows said (own_is g d) h.there)
-
 pub returns-in-Err-clause-damaged : goal.returns-in-Err-clause-damaged
 returns-in-Err-clause-damaged g c =
     let d = (goal.at.returns-in-Err-clause-damaged g c).After-as_slice in
