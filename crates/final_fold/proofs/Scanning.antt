@@ -16,7 +16,8 @@ use Rattle.row_merge.specs.part_reader.declared.reading.Part.{Part}
 use Rattle.row_merge.specs.part_writer.declared.loaded.Loaded.{Loaded}
 use Rattle.row_merge.specs.part_reader.Parts.{PartHolds, with_columns}
 use Rattle.row_merge.specs.part_set.declared.kept.Kept.{Kept}
-use Rattle.final_fold.specs.Scans.{ArePlacesOf, HaveTypes, PartsHold, joined_rows, rows_kept, values_at}
+use Rattle.row_merge.specs.MergedParts.{PartsHold}
+use Rattle.final_fold.specs.Scans.{ArePlacesOf, HaveTypes, joined_rows, rows_kept, values_at}
 use Rattle.final_fold.proofs.Picking.{there}
 
 pub values_more : (rows more : List Row) (places : List ℕ) (columns : List Cells) → map (λ (c : Cells). c.values) columns ≡ values_at rows places

@@ -21,14 +21,13 @@ use Rattle.row_merge.specs.part_reader.Faults.{ExplainsAt, IsNoDamage}
 use Rattle.row_merge.specs.part_reader.Granules.{ExplainsChosen, column_in}
 use Rattle.row_merge.specs.part_reader.Parts.{HoldsAt, PartHolds}
 use Rattle.row_merge.specs.part_set.declared.kept.Kept.{Kept}
-use Rattle.row_merge.specs.MergedParts.{ExplainsMerge, ExplainsPart, column_places}
+use Rattle.row_merge.specs.MergedParts.{ExplainsMerge, ExplainsPart, PartsHold, column_places}
 use Rattle.row_merge.proofs.PartReaderHolding.{holds_at, sound_part}
 use Rattle.row_merge.proofs.PartReaderPickedValues.{picked_sound}
 use Rattle.final_fold.specs.declared.asking.Wanted.{Wanted}
 use Rattle.final_fold.specs.Asked.{named}
 use Rattle.final_fold.specs.Folded.{ExplainsFold}
 use Rattle.final_fold.specs.Matches.{ExplainsMatches, SayOfEach}
-use Rattle.final_fold.specs.Scans.{PartsHold}
 use Rattle.final_fold.proofs.Scanning.{PartAt, part_at, zip_at}
 
 -- ---- a part

@@ -1,14 +1,12 @@
 -- What is read of a table's parts (docs/architecture.md, "The way of a SELECT").
-use Rattle.std.specs.Prelude.{◌≡◌, ◌<◌, ℕ, List, length, map, slice_get, filter_map, flat_map, All, Option}
-use Rattle.std.specs.List.{AllZip, sum_by}
+use Rattle.std.specs.Prelude.{◌≡◌, ◌<◌, ℕ, List, length, map, slice_get, filter_map, flat_map, All}
+use Rattle.std.specs.List.{sum_by}
 use Rattle.mt_values.specs.declared.schema.Schema.{Schema}
 use Rattle.mt_values.specs.declared.value.Value.{Value}
 use Rattle.mt_values.specs.Grid.{Cells, column_of}
 use Rattle.mt_values.specs.Schemas.{column_types}
 use Rattle.mt_values.specs.Values.{Row}
-use Rattle.mt_outside.specs.Files.{Files}
 use Rattle.row_merge.specs.part_reader.declared.reading.Part.{Part}
-use Rattle.row_merge.specs.part_reader.Parts.{PartHolds}
 use Rattle.row_merge.specs.part_set.declared.kept.Kept.{Kept}
 
 -- each place is a column's
@@ -30,7 +28,3 @@ joined_rows parts = flat_map (λ (part : List Row). part) parts
 -- how many rows parts have, by what is kept of them
 abbrev pub rows_kept : {F : Type 0} → List (Kept (Part F)) → ℕ
 rows_kept {F} parts = sum_by (λ (k : Kept (Part F)). k.part.loaded.manifest.rows) parts
-
--- each part of a list holds the rows at its place
-abbrev pub PartsHold : {F : Type 0} → (F → Option Files) → Schema → List (Kept (Part F)) → List (List Row) → Type 0
-PartsHold {F} files_of schema parts rows = AllZip (λ (k : Kept (Part F)) (r : List Row). PartHolds files_of schema k.part r) parts rows

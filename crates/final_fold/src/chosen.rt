@@ -11,10 +11,9 @@ ghost use Rattle.row_merge.specs.part_reader.Faults.{IsNoDamage};
 ghost use Rattle.row_merge.specs.part_reader.Granules.{chosen_of};
 ghost use Rattle.row_merge.specs.part_reader.Parts.{PartHolds};
 ghost use Rattle.row_merge.specs.Merged.{inputs_of};
-ghost use Rattle.row_merge.specs.MergedParts.{column_places};
+ghost use Rattle.row_merge.specs.MergedParts.{PartsHold, column_places};
 ghost use Rattle.final_fold.specs.Folded.{ExplainsFold, ExplainsWhole, chosen_inputs};
 ghost use Rattle.final_fold.specs.Matches.{SayOfEach};
-ghost use Rattle.final_fold.specs.Scans.{PartsHold};
 
 use crate::asking::Wanted;
 use mt_base::{NoMemory, Seq};

@@ -17,7 +17,8 @@ ghost use Rattle.row_merge.specs.Merged.{ArePartRows, inputs_of};
 ghost use Rattle.final_fold.specs.Asked.{IsWanted};
 ghost use Rattle.final_fold.specs.Folded.{AddsFold, AddsMerge, AreOfPartitions, ExplainsFold, IsFolded, SkipNoFold, StandByPartition, count_in};
 ghost use Rattle.final_fold.specs.Matches.{SayOfEach};
-ghost use Rattle.final_fold.specs.Scans.{HaveTypes, PartsHold, joined_rows, values_at};
+ghost use Rattle.row_merge.specs.MergedParts.{PartsHold};
+ghost use Rattle.final_fold.specs.Scans.{HaveTypes, joined_rows, values_at};
 
 use crate::asking::Wanted;
 use crate::chosen::read_inputs;

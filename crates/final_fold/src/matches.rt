@@ -6,7 +6,8 @@ ghost use Rattle.mt_values.specs.Values.{Row};
 ghost use Rattle.row_merge.specs.part_reader.Faults.{IsNoDamage};
 ghost use Rattle.final_fold.specs.Asked.{IsWanted};
 ghost use Rattle.final_fold.specs.Matches.{ExplainsMatches, HoldEachMatch, MeetWhereUnasked, SayOfEach, matching};
-ghost use Rattle.final_fold.specs.Scans.{HaveTypes, PartsHold, joined_rows, rows_kept, values_at};
+ghost use Rattle.row_merge.specs.MergedParts.{PartsHold};
+ghost use Rattle.final_fold.specs.Scans.{HaveTypes, joined_rows, rows_kept, values_at};
 
 use crate::adding::add_part;
 use crate::asking::{Task, Wanted, make_plan};

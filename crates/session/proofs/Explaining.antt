@@ -20,7 +20,7 @@ use Rattle.shared_store.specs.part_set.declared.kept.Kept.{Kept}
 use Rattle.shared_store.specs.part_writer.PartFiles.{loaded_of}
 use Rattle.shared_store.specs.root_store.Stores.{core_part, core_parts}
 use Rattle.select_plan.specs.Plans.{counts_over, read_of}
-use Rattle.final_fold.specs.Scans.{PartsHold}
+use Rattle.final_fold.specs.row_merge.MergedParts.{PartsHold}
 use Rattle.session.proofs.Planned.{marked_is, planned_is}
 
 -- a sum over what becomes of each item is a sum over the items

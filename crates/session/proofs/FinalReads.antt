@@ -38,7 +38,8 @@ use Rattle.select_plan.specs.Plans.{read_of}
 use Rattle.select_plan.proofs.FoldedMatches.{folded_chosen}
 use Rattle.final_fold.specs.declared.asking.Wanted.{Wanted}
 use Rattle.final_fold.specs.Folded.{AreOfPartitions, SkipNoFold, SkipsNoFold, StandByPartition}
-use Rattle.final_fold.specs.Scans.{PartsHold, joined_rows}
+use Rattle.final_fold.specs.row_merge.MergedParts.{PartsHold}
+use Rattle.final_fold.specs.Scans.{joined_rows}
 use Rattle.final_fold.proofs.FoldedAll.{partly_folds}
 use Rattle.final_fold.proofs.HidingGranules.{chosen_hide}
 use Rattle.final_fold.specs.rule_law.TableRows.{IsTableRow}

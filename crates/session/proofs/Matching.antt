@@ -32,7 +32,7 @@ use Rattle.select_plan.specs.Plans.{asked_of, asked_part, planned_part, read_of}
 use Rattle.final_fold.proofs.RowMergeHistoryRows.{same_schema}
 use Rattle.final_fold.specs.Asked.{MeetUnasked, unasked_of}
 use Rattle.final_fold.proofs.Joining.{all_parts}
-use Rattle.final_fold.specs.Scans.{PartsHold}
+use Rattle.final_fold.specs.row_merge.MergedParts.{PartsHold}
 use Rattle.session.proofs.Planned.{marked_is, planned_is, rows_count, rows_hold}
 
 module _ {F : Type 0} (files_of : F → Option Files) (schema : Schema) (c : Condition Test) where

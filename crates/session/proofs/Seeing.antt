@@ -33,7 +33,8 @@ use Rattle.final_fold.specs.declared.asking.Wanted.{Wanted}
 use Rattle.final_fold.specs.Asked.{IsWanted, MeetUnasked, tested}
 use Rattle.final_fold.specs.Folded.{AreOfPartitions, IsFolded, SkipNoFold, StandByPartition}
 use Rattle.final_fold.specs.Matches.{HoldEachMatch, MeetWhereUnasked, SayOfEach, matching}
-use Rattle.final_fold.specs.Scans.{PartsHold, joined_rows, values_at}
+use Rattle.final_fold.specs.row_merge.MergedParts.{PartsHold}
+use Rattle.final_fold.specs.Scans.{joined_rows, values_at}
 use Rattle.final_fold.proofs.Scanning.{joined_typed}
 use Rattle.shared_store.specs.Engines.{IsSnapOf}
 use Rattle.session.specs.Selects.{AddsSeen, ExplainsRead, IsSeen, SaysRead}

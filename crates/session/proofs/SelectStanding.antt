@@ -16,7 +16,8 @@ use Rattle.shared_store.specs.root_store.declared.store.CoreStore.{CoreStore}
 use Rattle.shared_store.specs.root_store.declared.store.Table.{Table}
 use Rattle.shared_store.specs.root_store.Stores.{CoreStands, core_parts, table_at}
 use Rattle.shared_store.specs.part_set.declared.kept.Snap.{Snap}
-use Rattle.final_fold.specs.Scans.{PartsHold, joined_rows}
+use Rattle.final_fold.specs.row_merge.MergedParts.{PartsHold}
+use Rattle.final_fold.specs.Scans.{joined_rows}
 use Rattle.shared_store.specs.Engines.{IsSnapOf}
 
 rows_joined : {F : Type 0} (files_of : F → Option Files) (schema : Schema) (table : List ℕ) (kept : List (Kept (Part F))) (rows : List (List Row)) → PartsHold files_of schema kept rows

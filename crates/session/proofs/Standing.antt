@@ -17,7 +17,7 @@ use Rattle.final_fold.proofs.PartHistoryCounted.{parts_at_most}
 use Rattle.shared_store.specs.root_store.declared.store.CoreStore.{CoreStore}
 use Rattle.shared_store.specs.root_store.declared.store.Table.{Table}
 use Rattle.shared_store.specs.root_store.Stores.{CoreStands, core_part, core_parts, table_at}
-use Rattle.final_fold.specs.Scans.{PartsHold}
+use Rattle.final_fold.specs.row_merge.MergedParts.{PartsHold}
 
 -- as many parts of a partition are kept as stand
 as_many : {F : Type 0} (files_of : F → Option Files) (schema : Schema) (table : List ℕ) (partition : Partition) (kept : List (Kept (Part F))) (rows : List (List Row)) → PartsHold files_of schema kept rows

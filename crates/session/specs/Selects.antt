@@ -41,7 +41,8 @@ use Rattle.final_fold.specs.declared.asking.Wanted.{Wanted}
 use Rattle.final_fold.specs.Asked.{IsWanted}
 use Rattle.final_fold.specs.Folded.{ExplainsFold}
 use Rattle.final_fold.specs.Matches.{ExplainsMatches, matching}
-use Rattle.final_fold.specs.Scans.{PartsHold, joined_rows, values_at}
+use Rattle.final_fold.specs.row_merge.MergedParts.{PartsHold}
+use Rattle.final_fold.specs.Scans.{joined_rows, values_at}
 use Rattle.select_plan.specs.declared.counting.Plan.{Plan}
 use Rattle.select_plan.specs.Plans.{asked_over, planned}
 use Rattle.session.specs.Merges.{IsRefusal, TellsOfTable}

@@ -6,7 +6,7 @@ use Rattle.mt_values.specs.Schemas.{column_types}
 use Rattle.mt_values.specs.Values.{Row}
 use Rattle.row_merge.specs.Merged.{inputs_of}
 use Rattle.final_fold.specs.Folded.{chosen_inputs}
-use Rattle.final_fold.specs.Scans.{PartsHold}
+use Rattle.row_merge.specs.MergedParts.{PartsHold}
 use Rattle.final_fold.proofs.chosen.read_inputs.Given as goal
 
 abbrev pub invariant-loop-number : goal.invariant-loop-number

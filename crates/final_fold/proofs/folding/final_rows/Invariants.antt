@@ -4,7 +4,8 @@ use Rattle.mt_outside.specs.Leaves.{LeavesArm}
 use Rattle.mt_values.specs.Grid.{Cells}
 use Rattle.mt_values.specs.Values.{Row}
 use Rattle.final_fold.specs.Folded.{AreOfPartitions, IsFolded, SkipNoFold, StandByPartition}
-use Rattle.final_fold.specs.Scans.{PartsHold, joined_rows, values_at}
+use Rattle.row_merge.specs.MergedParts.{PartsHold}
+use Rattle.final_fold.specs.Scans.{joined_rows, values_at}
 use Rattle.final_fold.proofs.PartitionRuns.{IsNew}
 use Rattle.final_fold.proofs.folding.final_rows.Given as goal
 

@@ -4,7 +4,8 @@ use Rattle.mt_outside.specs.Leaves.{LeavesArm}
 use Rattle.mt_values.specs.Grid.{Cells}
 use Rattle.mt_values.specs.Values.{Row}
 use Rattle.final_fold.specs.Matches.{HoldEachMatch, MeetWhereUnasked, matching}
-use Rattle.final_fold.specs.Scans.{PartsHold, joined_rows, rows_kept, values_at}
+use Rattle.row_merge.specs.MergedParts.{PartsHold}
+use Rattle.final_fold.specs.Scans.{joined_rows, rows_kept, values_at}
 use Rattle.final_fold.proofs.matches.add_matches.Given as goal
 
 abbrev pub invariant-loop-number : goal.invariant-loop-number

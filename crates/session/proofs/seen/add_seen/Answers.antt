@@ -9,7 +9,8 @@ use Rattle.shared_store.proofs.RootStoreTableMarks.{has_marks}
 use Rattle.select_plan.specs.Plans.{asked_over, planned}
 use Rattle.final_fold.specs.Folded.{AreOfPartitions, ExplainsFold, StandByPartition}
 use Rattle.final_fold.specs.Matches.{ExplainsMatches, matching}
-use Rattle.final_fold.specs.Scans.{PartsHold, joined_rows, rows_kept, values_at}
+use Rattle.final_fold.specs.row_merge.MergedParts.{PartsHold}
+use Rattle.final_fold.specs.Scans.{joined_rows, rows_kept, values_at}
 use Rattle.session.specs.Selects.{ExplainsRead, IsSeen}
 use Rattle.session.proofs.Damaged.{all_hold}
 use Rattle.session.proofs.Seeing.{adds_seen, final_parts, ok_both, plain_parts, said, says_read}
