@@ -11,6 +11,7 @@ use Rattle.mt_values.specs.Values.{Row}
 use Rattle.mt_outside.specs.Files.{Files}
 use Rattle.replies.specs.mt_model.declared.query.Query.{Query}
 use Rattle.replies.specs.mt_model.declared.refusal.Refusal.TheVariants as refusal
+use Rattle.replies.specs.mt_model.History.{IsTableSchema}
 use Rattle.replies.specs.mt_model.Queries.{query_of}
 use Rattle.replies.specs.mt_model.Refusals.{refusal_line}
 use Rattle.shared_store.specs.part_name.declared.part.PartName.{PartName}
@@ -44,11 +45,12 @@ each_holds files_of schema (part ∷ parts) (r ∷ rows) hold = All-cons (HoldsR
 -- a part that is damaged where a plan has it read
 pub tells_of_damage : {F : Type 0} (files_of : F → Option Files) (snap : Snap (Part F)) (text : SelectText) (reply : List ℕ) (query : Query) (read : Wanted) (parts : List (Kept (Part F))) (chosen : List (List Bool))
     (name : PartName) (file : FileId) (place : ℕ) (wanted found : FileMark) (why : PartFault)
-    → query_of snap.schema.columns text ≡ Ok query → ExplainsRead files_of text.is_final parts chosen read (name, why) → why ≡ fault.Damaged file place wanted found
+    → IsTableSchema snap.schema → query_of snap.schema.columns text ≡ Ok query → ExplainsRead files_of text.is_final parts chosen read (name, why) → why ≡ fault.Damaged file place wanted found
     → parts ≡ snap.parts.items → chosen ≡ planned snap text.is_final query.condition → IsAskedOf snap query read → reply ≡ refusal_line (refusal.Damaged text.table (part_text name) (file_name file))
     → TellsOfDamage files_of snap text reply
-tells_of_damage files_of snap text reply query read parts chosen name file place wanted found why asked part why_is parts_are chosen_are read_is is =
+tells_of_damage files_of snap text reply query read parts chosen name file place wanted found why table asked part why_is parts_are chosen_are read_is is =
     record {
+      table = table;
       query = query;
       asked = asked;
       read = read;

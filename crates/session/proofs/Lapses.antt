@@ -53,7 +53,6 @@ module _ {F : Type 0} (files_of : F → Option Files) (known : Type 0) (m : Laps
   ends_as (Ok (Some reply)) r = record {
     said = r.said;
     causes = r.causes;
-    undamaged = r.undamaged;
     takes = λ is h stands n f. work_failed_as n reply full whole may (r.takes is h stands n f);
   }
   ends_as (Err e) ends = ends
@@ -80,7 +79,6 @@ module _ {F : Type 0} (files_of : F → Option Files) (known : Type 0) (a b c : 
         record {
           said = r.said;
           causes = causes_same a.store.opened b.store.opened a.storage.failed b.storage.failed c.storage.failed x y z z reply first.leaves.keeps.opened calm.0 calm.1 refl r.causes;
-          undamaged = λ is held. r.undamaged is (first.leaves.held is held);
           takes = λ is h stands n f.
               r.takes is h ((first.keeps is).stands h stands) n (subst (λ (o : ℕ). Foresees o c.storage.failed z (has_greatest c.store) n) (sym first.leaves.keeps.opened) f);
         }

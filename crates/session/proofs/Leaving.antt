@@ -165,15 +165,6 @@ module _ {F : Type 0} (Damage : List ℕ → Type 0) (a b c : Opened F) (x y z w
     later = let less = has.later in omega (arith, less, arm_was, arm);
   }
 
--- a reply that may not tell of damage does not
-pub undamaged_never : (c : Counts) (r : Result (List ℕ) NoMemory) → Accounts c Never r → IfOk r (λ reply. is_damage reply ≡ false)
-undamaged_never c (Ok reply) a = by (is_damage reply) refl
-  where
-    by : (b : Bool) → is_damage reply ≡ b → is_damage reply ≡ false
-    by true bad = absurd (a.damaged bad)
-    by false none = none
-undamaged_never c (Err e) a = tt
-
 -- ---- an arm
 
 -- no call of it failed

@@ -35,6 +35,7 @@ pub mod Stopping
 pub mod Taken
 pub mod Taking
 pub mod Turning
+pub mod Undamaged
 pub mod Unread
 pub mod Whole
 pub mod WorkEnds

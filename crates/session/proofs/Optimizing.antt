@@ -19,7 +19,6 @@ use Rattle.replies.proofs.Causing.{says_answer}
 use Rattle.replies.proofs.Ends.{length_history}
 use Rattle.replies.proofs.Refusing.{optimize_done, optimize_failed}
 use Rattle.shared_store.specs.root_store.declared.store.Table.{Table}
-use Rattle.shared_store.specs.root_store.Soundness.{HasSoundParts}
 use Rattle.shared_store.specs.root_store.Stores.{table_at}
 use Rattle.shared_store.specs.Engines.{Opened}
 use Rattle.shared_store.specs.Levels.{has_greatest}
@@ -112,9 +111,6 @@ module _ {F : Type 0} (files_of : F → Option Files) (text : OptimizeText) (kno
   abbrev pub Replies : Result (List ℕ) NoMemory → Type 0
   Replies result = (kept : Told) → known → Knows files_of kept was → Answers files_of kept (Ok (statement.Optimize text)) (met was now arm) result
 
-  abbrev pub Sound : Result (List ℕ) NoMemory → Type 0
-  Sound result = known → HasSoundParts files_of was.store → IfOk result (λ reply. is_damage reply ≡ false)
-
   no_commands : (kept : Told) → Knows files_of kept was → commands_of (history kept) (statement.Optimize text) ≡ Ok []
   no_commands kept knows = by (table_at was.store text.table) refl there
     where
@@ -132,10 +128,6 @@ module _ {F : Type 0} (files_of : F → Option Files) (text : OptimizeText) (kno
     all_accounts Damage (Ok reply) line = record { causes = says_answer was.store.opened was.storage.failed now.storage.failed arm_was arm reply _ line refl; damaged = λ bad. absurd (never_by reply (ap is_damage line) bad); memory = tt; later = ms.later }
     all_accounts Damage (Err e) line = record { causes = tt; damaged = tt; memory = ms.ends; later = ms.later }
 
-    pub all_sound : (result : Result (List ℕ) NoMemory) → IfOk result (λ line. line ≡ ok_line now.store.length) → Sound result
-    all_sound (Ok reply) line = λ is held. ap is_damage line
-    all_sound (Err e) line = λ is held. tt
-
   -- one was refused
   module _ (reply : List ℕ) (ms : Merges files_of known m text.whole (Ok (Some reply))) where
     pub refused_answers : Replies (Ok reply)
@@ -143,9 +135,6 @@ module _ {F : Type 0} (files_of : F → Option Files) (text : OptimizeText) (kno
 
     pub refused_accounts : (Damage : List ℕ → Type 0) → (is_damage reply ≡ true → Damage reply) → Accounts (counts m) Damage (Ok reply)
     refused_accounts Damage damage = record { causes = ms.ends.causes; damaged = damage; memory = tt; later = ms.later }
-
-    pub refused_sound : Sound (Ok reply)
-    refused_sound is held = ms.ends.undamaged is held
 
   -- memory ran out
   module _ (e : NoMemory) (ms : Merges files_of known m text.whole (Err e)) where

@@ -146,7 +146,6 @@ module _ {F : Type 0} (files_of : F → Option Files) (was mid new : Opened F) (
         record {
           said = (refusal.Unsettled 0, said);
           causes = says_unsettled was.store.opened was.storage.failed new.storage.failed arm_was arm reply 0 said (opened, rose same);
-          undamaged = λ _ held. ap is_damage said;
           takes = λ _ h s n f. inr (inr (commit_failed was.store.opened new.storage.failed arm was.storage.failed 0 reply n low (rose same) said f));
         }
     by_outside full (refused.Stopped o w) same outside calm = absurd outside
@@ -161,7 +160,6 @@ module _ {F : Type 0} (files_of : F → Option Files) (was mid new : Opened F) (
         record {
           said = (refusal.Past bound.Levels, said);
           causes = says_script was.store.opened was.storage.failed new.storage.failed arm_was arm reply (refusal.Past bound.Levels) said (inl (omega arith));
-          undamaged = λ _ held. ap is_damage said;
           takes = λ _ h s n f. inr (inl (refl, level_failed was.store.opened new.storage.failed arm reply n said (subst (λ (b : Bool). Foresees was.store.opened new.storage.failed arm b n) there f)));
         }
     by false none true more shown =
@@ -170,7 +168,6 @@ module _ {F : Type 0} (files_of : F → Option Files) (was mid new : Opened F) (
         record {
           said = (refusal.Stopped was.store.opened was.storage.failed 0, said);
           causes = says_stopped was.store.opened was.storage.failed new.storage.failed arm_was arm reply 0 said high;
-          undamaged = λ _ held. ap is_damage said;
           takes = λ _ h s n f. inr (inr (was_stopped was.store.opened new.storage.failed arm was.storage.failed 0 reply n high later said f));
         }
     by false none false more shown = by_outside false cause refl shown more

@@ -61,12 +61,6 @@ pub adds_seen : {F E : Type 0} (files_of : F → Option Files) (snap : Snap (Par
 adds_seen files_of snap is_final w old new (Ok count) values even types few = record { values = values; even = even; types = types; few = few }
 adds_seen files_of snap is_final w old new (Err e) values even types few = tt
 
--- and what is said of a part that was not read
-pub says_read : {F : Type 0} (files_of : F → Option Files) (snap : Snap (Part F)) (is_final : Bool) (w : Wanted) (r : Result ℕ (PartName × PartFault)) → (All (HoldsRows files_of w.schema.now) snap.parts.items → IfErr r (λ e. IsNoDamage e.1))
-    → IfErr r (ExplainsRead files_of is_final snap.parts.items (planned snap is_final w.condition.now) w) → IfErr r (SaysRead files_of snap is_final w)
-says_read files_of snap is_final w (Ok count) sound damaged = tt
-says_read files_of snap is_final w (Err e) sound damaged = record { sound = sound; damaged = damaged }
-
 module _ {F : Type 0} (files_of : F → Option Files) (snap : Snap (Part F)) (w : Wanted) (same : snap.schema ≡ w.schema.now) (fits : IsTableSchema w.schema.now) (wanted : IsWanted w) where
   -- the columns of the condition's tests are the table's
   below : All (λ (t : Test). t.column < length w.schema.now.columns) (tests_of w.condition.now)
@@ -74,12 +68,6 @@ module _ {F : Type 0} (files_of : F → Option Files) (snap : Snap (Part F)) (w 
 
   plan_is : (is_final : Bool) (chosen : List (List Bool)) → chosen ≡ planned snap is_final w.condition.now → chosen ≡ map (read_of w.schema.now is_final w.condition.now) snap.parts.items
   plan_is is_final chosen is = is ∙ ap (λ (s : Schema). map (λ (k : Kept (Part F)). read_of s is_final w.condition.now k) snap.parts.items) same
-
-  -- it is said of each granule whether it is chosen
-  pub said : (is_final : Bool) (chosen : List (List Bool)) → chosen ≡ planned snap is_final w.condition.now → (rows : List (List Row)) → PartsHold files_of w.schema.now snap.parts.items rows → SayOfEach w chosen rows
-  said is_final chosen is rows hold =
-      subst (λ (ch : List (List Bool)). SayOfEach w ch rows) (sym (plan_is is_final chosen is))
-      (reads_count files_of w.schema.now w.condition.now is_final snap.parts.items rows (has_marks w.schema.now fits).granularity hold)
 
   module _ (h : History) (store : CoreStore F) (table : List ℕ) (stands : CoreStands files_of h store) (pinned : IsSnapOf store table snap) where
     held : Held files_of h table w.schema.now snap.parts.items

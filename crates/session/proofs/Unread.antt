@@ -29,6 +29,7 @@ use Rattle.shared_store.proofs.PartSetItems.{item_first}
 use Rattle.replies.proofs.Causing.{says_damage, says_failed}
 use Rattle.replies.proofs.Counting.{stage_failed}
 use Rattle.final_fold.specs.row_merge.MergedParts.{ExplainsMerge, ExplainsPart, PartsHold}
+use Rattle.final_fold.proofs.Sound.{merge_sound}
 use Rattle.shared_store.specs.declared.work.Work.{Work}
 use Rattle.shared_store.specs.Engines.{Opened}
 use Rattle.session.specs.Lapses.{lapse}
@@ -36,15 +37,6 @@ use Rattle.session.specs.Merges.{IsUnreadLine, RefusesMerge, TellsOfMerge}
 use Rattle.session.proofs.Leaving.{never_by}
 use Rattle.session.proofs.PartRows.{sources_hold}
 use Rattle.session.proofs.Putting.{IsTaken, sources_before}
-
--- rows of all parts, where each part has some
-rows_held : {F : Type 0} (files_of : F → Option Files) (schema : Schema) (ks : List (Kept (Part F))) → ((k : Kept (Part F)) → HasItem ks k → (rows : List Row) × PartHolds files_of schema k.part rows)
-    → (inputs : List (List Row)) × PartsHold files_of schema ks inputs
-rows_held files_of schema [] each = ([], tt)
-rows_held files_of schema (k ∷ ks) each =
-    let here = each k (item_first k ks) in
-    let rest = rows_held files_of schema ks (λ l has. each l (item_more k l ks has)) in
-    (here.0 ∷ rest.0, (here.1, rest.1))
 
 -- what a list has at a place it has
 item_at : {X : Type 0} (xs : List X) (k : ℕ) (x : X) → slice_get xs k ≡ Some x → HasItem xs x
@@ -57,7 +49,7 @@ source_of files_of was mid work run t k has =
     subst (λ (ks : List (Kept (Part _))). HasItem ks k) (sym (sources_before files_of was mid work run t)) (Contains-append_right x.front (work.sources.items ++ x.back) k (Contains-append_left work.sources.items x.back k has))
 
 module _ {F : Type 0} (files_of : F → Option Files) (was mid new : Opened F) (work : Work F) (run : Run) (t : IsTaken files_of was mid work run) (known : Type 0) (table : List ℕ) (arm_was arm : ℕ) (e : PartName × PartFault) (rose : e.1 ≡ fault.Fault → Rose arm_was arm)
-    (sound : (rows : List (List Row)) → PartsHold files_of work.schema work.sources.items rows → IsNoDamage e.1) (reply : List ℕ) (line : IsUnreadLine table e.0 e.1 reply) where
+    (explained : ExplainsMerge files_of work.schema work.sources.items e) (reply : List ℕ) (line : IsUnreadLine table e.0 e.1 reply) where
   abbrev front : List (Kept (Part F))
   front = t.takes.marks.marked.front
 
@@ -67,18 +59,11 @@ module _ {F : Type 0} (files_of : F → Option Files) (was mid new : Opened F) (
   parts_are : parts_of was.store.set work.table ≡ front ++ (work.sources.items ++ back)
   parts_are = sources_before files_of was mid work run t
 
-  -- parts that hold rows are not damaged
-  held_rows : HasSoundParts files_of was.store → IsNoDamage e.1
-  held_rows held =
-      let each = held work.table t.takes.made t.takes.there in
-      let one = λ (k : Kept (Part F)) (has : HasItem work.sources.items k). All-contains (λ (k : Kept (Part F)). HoldsRows files_of t.takes.made.schema k) (parts_of was.store.set work.table) k each (source_of files_of was mid work run t k has) in
-      let rows = rows_held files_of t.takes.made.schema work.sources.items one in
-      sound rows.0 (subst (λ (s : Schema). PartsHold files_of s work.sources.items rows.0) (sym t.takes.schema_is) rows.1)
-
+  -- parts that stand for a history are not damaged
   stood_rows : (h : History) → CoreStands files_of h was.store → IsNoDamage e.1
   stood_rows h stands =
       let rows = sources_hold files_of h was.store stands work.table t.takes.made t.takes.there front work.sources.items back parts_are in
-      sound rows.0 (subst (λ (s : Schema). PartsHold files_of s work.sources.items rows.0) (sym t.takes.schema_is) rows.1)
+      merge_sound files_of work.schema work.sources.items rows.0 (subst (λ (s : Schema). PartsHold files_of s work.sources.items rows.0) (sym t.takes.schema_is) rows.1) e explained
 
   abbrev Refuses : Bool → Type 0
   Refuses full = RefusesMerge files_of known (lapse was new arm_was arm) full reply
@@ -93,7 +78,6 @@ module _ {F : Type 0} (files_of : F → Option Files) (was mid new : Opened F) (
           record {
             said = (refusal.Failed, said);
             causes = says_failed was.store.opened was.storage.failed new.storage.failed arm_was arm reply failure.Fault said (λ _. rose is);
-            undamaged = λ _ held. ap is_damage said;
             takes = λ _ h stands n f. inl (stage_failed was.store.opened new.storage.failed arm arm_was reply n (rose is) said f);
           }
       by (fault.Damaged file place wanted found) is =
@@ -101,13 +85,12 @@ module _ {F : Type 0} (files_of : F → Option Files) (was mid new : Opened F) (
           record {
             said = (refusal.Damaged table (part_text e.0) (file_name file), said);
             causes = says_damage was.store.opened was.storage.failed new.storage.failed arm_was arm reply table (part_text e.0) (file_name file) said;
-            undamaged = λ _ held. absurd (subst IsNoDamage is (held_rows held));
             takes = λ _ h stands n f. absurd (subst IsNoDamage is (stood_rows h stands));
           }
 
   -- where it tells of damage, it tells of that of a source
-  pub unread_damage : table ≡ work.table → ExplainsMerge files_of work.schema work.sources.items e → is_damage reply ≡ true → TellsOfMerge files_of was.store table work.sources.items reply
-  unread_damage same why bad = by e.1 refl
+  pub unread_damage : table ≡ work.table → is_damage reply ≡ true → TellsOfMerge files_of was.store table work.sources.items reply
+  unread_damage same bad = by e.1 refl
     where
       by : (w : PartFault) → e.1 ≡ w → TellsOfMerge files_of was.store table work.sources.items reply
       by fault.NoMemory is = absurd (subst (λ (x : PartFault). IsUnreadLine table e.0 x reply) is line)
@@ -116,18 +99,18 @@ module _ {F : Type 0} (files_of : F → Option Files) (was mid new : Opened F) (
           absurd (never_by reply (ap is_damage said) bad)
       by (fault.Damaged file place wanted found) is =
           let said : reply ≡ refusal_line (refusal.Damaged table (part_text e.0) (file_name file)) = subst (λ (x : PartFault). IsUnreadLine table e.0 x reply) is line in
-          let explained = subst (λ (s : Schema). ExplainsPart files_of s why.kept.part (fault.Damaged file place wanted found)) t.takes.schema_is (subst (ExplainsPart files_of work.schema why.kept.part) is why.explained) in
+          let read = subst (λ (s : Schema). ExplainsPart files_of s explained.kept.part (fault.Damaged file place wanted found)) t.takes.schema_is (subst (ExplainsPart files_of work.schema explained.kept.part) is explained.explained) in
           record {
             made = t.takes.made;
             there = subst (λ (u : List ℕ). table_at was.store u ≡ Some t.takes.made) (sym same) t.takes.there;
             tells = record {
-              kept = why.kept;
-              here = item_at work.sources.items why.at why.kept why.kept_is;
+              kept = explained.kept;
+              here = item_at work.sources.items explained.at explained.kept explained.kept_is;
               file = file;
               place = place;
               wanted = wanted;
               found = found;
-              explained = explained;
-              reply_is = said ∙ ap (λ (n : PartName). refusal_line (refusal.Damaged table (part_text n) (file_name file))) why.name_is;
+              explained = read;
+              reply_is = said ∙ ap (λ (n : PartName). refusal_line (refusal.Damaged table (part_text n) (file_name file))) explained.name_is;
             };
           }

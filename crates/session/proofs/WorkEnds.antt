@@ -102,8 +102,8 @@ module _ {F : Type 0} (files_of : F → Option Files) (known : Type 0) (was mid 
       by : (r : Result (Option (List ℕ)) NoMemory) → SaysUnread table l.why r → Ends r × Parts r
       by (Ok None) says = absurd says
       by (Ok (Some reply)) says = (
-        given_up (Ok (Some reply)) (unread_ends files_of was mid new work run t known table arm_was arm l.why l.rose l.sound reply says full),
-        (same_beside Own was.store new.store before.same, λ named. (same, unread_damage files_of was mid new work run t known table arm_was arm l.why l.rose l.sound reply says named l.explained)),
+        given_up (Ok (Some reply)) (unread_ends files_of was mid new work run t known table arm_was arm l.why l.rose l.explained reply says full),
+        (same_beside Own was.store new.store before.same, λ named. (same, unread_damage files_of was mid new work run t known table arm_was arm l.why l.rose l.explained reply says named)),
       )
       by (Err e) says =
           (given_up (Err e) (ap (λ (s : Storage). s.failed) before.storage_is, l.calm says), (same_beside Own was.store new.store before.same, λ _. same))

@@ -22,7 +22,6 @@ use Rattle.shared_store.specs.part_name.PartNames.{IsPartition, part_text, parti
 use Rattle.shared_store.specs.part_reader.declared.reading.Part.{Part}
 use Rattle.shared_store.specs.part_reader.declared.reading.PartFault.{PartFault}
 use Rattle.shared_store.specs.part_reader.declared.reading.PartFault.TheVariants as fault
-use Rattle.shared_store.specs.part_reader.Faults.{IsNoDamage}
 use Rattle.shared_store.specs.part_writer.declared.loaded.Loaded.{Loaded}
 use Rattle.shared_store.specs.part_writer.declared.writing.SealedPart.{SealedPart}
 use Rattle.shared_store.specs.part_set.declared.kept.Kept.{Kept}
@@ -36,7 +35,7 @@ use Rattle.shared_store.specs.root_commits.declared.commits.Returned.{Returned}
 use Rattle.shared_store.specs.root_commits.Merges.{name_of_merge}
 use Rattle.shared_store.specs.root_store.declared.store.CoreStore.{CoreStore}
 use Rattle.shared_store.specs.root_store.declared.store.Table.{Table}
-use Rattle.shared_store.specs.root_store.Soundness.{HasSoundParts, RootStands}
+use Rattle.shared_store.specs.root_store.Soundness.{RootStands}
 use Rattle.shared_store.specs.root_store.Stores.{CoreStands, table_at}
 use Rattle.replies.specs.Causes.{HasCauses}
 use Rattle.replies.specs.Foreseen.{Foresees}
@@ -196,7 +195,6 @@ pub record LetsGo {F : Type 0} (files_of : F → Option Files) (table : List ℕ
   pub why : PartName × PartFault
   pub drops : DropsWork work m.was m.now
   pub says : SaysUnread table why result
-  pub sound : (rows : List (List Row)) → PartsHold files_of work.schema work.sources.items rows → IsNoDamage why.1
   pub explained : ExplainsMerge files_of work.schema work.sources.items why
   pub later : m.arm_was ≤ m.arm
   pub rose : why.1 ≡ fault.Fault → Rose m.arm_was m.arm
@@ -213,12 +211,10 @@ EndsWork S files_of known table work m result = PutsSealed S files_of known tabl
 abbrev pub WorkFailed : Outside → Bool → List ℕ → Type 0
 WorkFailed n full reply = ReadOrStageFailed n reply ⊎ ((full ≡ true) × LevelFailed n reply) ⊎ TurnFailed n 0 reply
 
--- A merge was refused with a reply. Where this is known, it is one that it may have, whatever the outside comes to, and it tells of no damage where
--- each part held rows (docs/replies.md, "Faults").
+-- A merge was refused with a reply. Where this is known, it is one that it may have, whatever the outside comes to (docs/replies.md, "Faults").
 pub record RefusesMerge {F : Type 0} (files_of : F → Option Files) (known : Type 0) (m : Lapse F) (full : Bool) (reply : List ℕ) : Type 0 where
   pub said : IsRefusal reply
   pub causes : HasCauses m.was.store.opened m.was.storage.failed m.now.storage.failed m.arm_was m.arm reply
-  pub undamaged : known → HasSoundParts files_of m.was.store → is_damage reply ≡ false
   pub takes : known → (h : History) → CoreStands files_of h m.was.store
       → (n : Outside) → Foresees m.was.store.opened m.now.storage.failed m.arm (has_greatest m.now.store) n → WorkFailed n full reply
 

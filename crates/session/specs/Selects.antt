@@ -1,4 +1,4 @@
--- What a SELECT tells of damage.
+-- What a SELECT reads and what it tells of damage.
 use Rattle.std.specs.Prelude.{◌≡◌, ◌⊎◌, ◌<◌, ◌^◌, ℕ, [], ◌++◌, Bool, true, false, List, All, Result, Ok, Err, IfOk, Option, length, map}
 use Rattle.std.specs.List.{Contains as HasItem, concat}
 use Rattle.mt_base.specs.declared.memory.NoMemory.{NoMemory}
@@ -30,11 +30,9 @@ use Rattle.shared_store.specs.part_name.PartNames.{part_text}
 use Rattle.shared_store.specs.part_reader.declared.reading.Part.{Part}
 use Rattle.shared_store.specs.part_reader.declared.reading.PartFault.{PartFault}
 use Rattle.shared_store.specs.part_reader.declared.reading.PartFault.TheVariants as fault
-use Rattle.shared_store.specs.part_reader.Faults.{IsNoDamage}
 use Rattle.shared_store.specs.part_set.declared.kept.Kept.{Kept}
 use Rattle.shared_store.specs.part_set.declared.kept.Snap.{Snap}
 use Rattle.shared_store.specs.root_store.declared.store.CoreStore.{CoreStore}
-use Rattle.shared_store.specs.root_store.Soundness.{HoldsRows}
 use Rattle.shared_store.specs.root_store.Stores.{CoreStands}
 use Rattle.shared_store.specs.Engines.{IsSnapOf}
 use Rattle.final_fold.specs.declared.asking.Wanted.{Wanted}
@@ -94,14 +92,14 @@ abbrev pub ExplainsRead : {F : Type 0} → (F → Option Files) → Bool → Lis
 ExplainsRead files_of true parts chosen w e = ExplainsFold files_of parts chosen w e
 ExplainsRead files_of false parts chosen w e = ExplainsMatches files_of parts chosen w e
 
--- What is said of a part that was not read: no damage where each part holds rows, and else what damage there is (docs/architecture.md, "The way of a SELECT").
-pub record SaysRead {F : Type 0} (files_of : F → Option Files) (snap : Snap (Part F)) (is_final : Bool) (w : Wanted) (e : PartName × PartFault) : Type 0 where
-  pub sound : All (HoldsRows files_of w.schema.now) snap.parts.items → IsNoDamage e.1
-  pub damaged : ExplainsRead files_of is_final snap.parts.items (planned snap is_final w.condition.now) w e
+-- the same of a pinned table's parts, of which the granules of a plan are read (docs/architecture.md, "The way of a SELECT")
+abbrev pub SaysRead : {F : Type 0} → (F → Option Files) → Snap (Part F) → Bool → Wanted → PartName × PartFault → Type 0
+SaysRead files_of snap is_final w e = ExplainsRead files_of is_final snap.parts.items (planned snap is_final w.condition.now) w e
 
 -- The reply tells of damage: of a part of the table, and of a file of it. What was read there of a column, with FINAL of any and without it of one that the SELECT
 -- names, in granules that its plan chooses, is no spelling of a value of the column's type for each of their rows, or no such granules are kept (docs/replies.md, "Faults").
 pub record TellsOfDamage {F : Type 0} (files_of : F → Option Files) (snap : Snap (Part F)) (text : SelectText) (reply : List ℕ) : Type 0 where
+  pub table : IsTableSchema snap.schema
   pub query : Query
   pub asked : query_of snap.schema.columns text ≡ Ok query
   pub read : Wanted

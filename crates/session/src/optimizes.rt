@@ -217,8 +217,6 @@ pub fn optimize<F: Dir, R: Arm<Dir = F>, D: Disk<Arm = R>, A: Annals>(
     ensures accounts { Accounts
         (counts (lapse engine.old engine.new (R.failed arm.old) (R.failed arm.new)))
         (TellsOfTable F.files engine.old.store text.now.table) result }
-    ensures undamaged { R.tells arm.old ≡ true → HasSoundParts F.files engine.old.store
-        → IfOk result (λ reply. is_damage reply ≡ false) }
 
     // Which parts are merged.
     ensures beside { KeepsBeside (IsNamed text.now) engine.old.store engine.new.store }

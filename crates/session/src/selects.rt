@@ -49,8 +49,6 @@ fn read_matches<R: Arm>(
     ensures accounts { (opened disk : ℕ)
         → Accounts (still opened disk (R.failed arm.old) (R.failed arm.new))
         (TellsOfDamage R.Dir.files snap.now text.now) result }
-    ensures undamaged { All (HoldsRows R.Dir.files snap.now.schema) snap.now.parts.items
-        → IfOk result (λ reply. is_damage reply ≡ false) }
     ensures tells { R.tells arm.new ≡ R.tells arm.old }
 {
     let planned = plan(alloc, snap, query, text.is_final)?;
@@ -91,8 +89,6 @@ pub fn scan<R: Arm>(
     ensures accounts { (opened disk : ℕ)
         → Accounts (still opened disk (R.failed arm.old) (R.failed arm.new))
         (TellsOfDamage R.Dir.files snap.now text.now) result }
-    ensures undamaged { All (HoldsRows R.Dir.files snap.now.schema) snap.now.parts.items
-        → IfOk result (λ reply. is_damage reply ≡ false) }
     ensures tells { R.tells arm.new ≡ R.tells arm.old }
 {
     let query = match query_of(alloc, snap.schema.columns.as_slice(), text) {
@@ -122,8 +118,6 @@ pub fn select<F: Dir, R: Arm<Dir = F>, D: Disk<Arm = R>, A: Annals, G: Gate>(
     ensures accounts { Accounts (still engine.old.store.opened engine.old.storage.failed
         (R.failed arm.old) (R.failed arm.new))
         (TellsOfSelect F.files engine.old.store text.now) result }
-    ensures undamaged { HasSoundParts F.files engine.old.store
-        → IfOk result (λ reply. is_damage reply ≡ false) }
     ensures stays { engine.new ≡ engine.old }
     ensures tells { R.tells arm.new ≡ R.tells arm.old }
 {

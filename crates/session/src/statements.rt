@@ -43,8 +43,6 @@ pub fn run_statement<F: Dir, R: Arm<Dir = F>, D: Disk<Arm = R>, A: Annals, G: Ga
     ensures accounts { Accounts
         (counts (lapse engine.old engine.new (R.failed arm.old) (R.failed arm.new)))
         (TellsOfStatement F.files engine.old.store statement) result }
-    ensures undamaged { R.tells arm.old ≡ true → HasSoundParts F.files engine.old.store
-        → IfOk result (λ reply. is_damage reply ≡ false) }
 
     // What the root and the arm are then.
     ensures leaves { Leaves F.files (R.tells arm.old ≡ true) engine.old engine.new }

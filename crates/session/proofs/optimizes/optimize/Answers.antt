@@ -15,7 +15,7 @@ use Rattle.session.specs.Lapses.{Accounts, counts, lapse}
 use Rattle.session.specs.Merges.{ArePartitionsOf, Finishes, IsRefusal, Merges, MergesNamed, TellsOfTable}
 use Rattle.session.proofs.Accepting.{answers_err, answers_kept}
 use Rattle.session.proofs.Leaving.{accounts_nothing, leaves_same}
-use Rattle.session.proofs.Optimizing.{all_accounts, all_answers, all_finished, all_sound, ended_accounts, ended_answers, merges_found, named_found, never_finished, no_table_to_merge, none_finished, none_there, refused_accounts, refused_answers, refused_sound, some_there}
+use Rattle.session.proofs.Optimizing.{all_accounts, all_answers, all_finished, ended_accounts, ended_answers, merges_found, named_found, never_finished, no_table_to_merge, none_finished, none_there, refused_accounts, refused_answers, some_there}
 use Rattle.session.proofs.Standing.{no_table}
 use Rattle.session.proofs.Whole.{beside_same}
 use Rattle.session.proofs.optimizes.optimize.Goals as goal
@@ -41,9 +41,6 @@ returns-in_default-clause-accounts g c =
     subst (λ (now : Opened _). Accounts (counts (lapse here now arm arm)) Damage c.no_table_line.result) (sym c.partitions_there.ensures.stays)
     (accounts_nothing Damage here arm c.no_table_line.result (λ reply. reply ≡ refusal_line why) c.no_table_line.ensures
     (λ reply is. says_script here.store.opened here.storage.failed here.storage.failed arm arm reply why is (inl (omega arith))) (λ reply is. ap is_damage is))
-
-pub returns-in_default-clause-undamaged : goal.returns-in_default-clause-undamaged
-returns-in_default-clause-undamaged g c = λ tells held. IfOk-weaker c.no_table_line.result _ _ (λ line is. ap is_damage is) c.no_table_line.ensures
 
 pub returns-in_default-clause-beside : goal.returns-in_default-clause-beside
 returns-in_default-clause-beside g c = beside_same _ c.args.engine.now c.partitions_there.new.engine c.partitions_there.ensures.stays
@@ -96,12 +93,6 @@ returns-in-Ok-None-clause-accounts g c =
     (merges_found g.F.Dir.files (g.R.Arm.tells c.args.arm.now ≡ true) c.args.engine.now c.partitions_there.new.engine c.merge_as_asked.new.engine (g.R.Arm.failed c.args.arm.now) (g.R.Arm.failed c.merge_as_asked.new.arm) c.args.text.now.whole c.in-Ok-None.field-0 None c.in-Ok-None.field-0-is c.partitions_there.ensures.stays c.in-Ok-None.ensures.merges)
     (TellsOfTable g.F.Dir.files c.args.engine.now.store c.args.text.now.table) c.accepted.result (subst (λ (n : ℕ). IfOk c.accepted.result (λ line. line ≡ ok_line n)) c.look.ensures c.accepted.ensures)
 
-pub returns-in-Ok-None-clause-undamaged : goal.returns-in-Ok-None-clause-undamaged
-returns-in-Ok-None-clause-undamaged g c =
-    all_sound g.F.Dir.files c.args.text.now (g.R.Arm.tells c.args.arm.now ≡ true) c.args.engine.now c.merge_as_asked.new.engine (g.R.Arm.failed c.args.arm.now) (g.R.Arm.failed c.merge_as_asked.new.arm) (some_there _ c.in-Some.partitions (table_at c.args.engine.now.store c.args.text.now.table) c.in-Some.is c.in_ok-partitions.ensures.none)
-    (merges_found g.F.Dir.files (g.R.Arm.tells c.args.arm.now ≡ true) c.args.engine.now c.partitions_there.new.engine c.merge_as_asked.new.engine (g.R.Arm.failed c.args.arm.now) (g.R.Arm.failed c.merge_as_asked.new.arm) c.args.text.now.whole c.in-Ok-None.field-0 None c.in-Ok-None.field-0-is c.partitions_there.ensures.stays c.in-Ok-None.ensures.merges)
-    c.accepted.result (subst (λ (n : ℕ). IfOk c.accepted.result (λ line. line ≡ ok_line n)) c.look.ensures c.accepted.ensures)
-
 pub returns-in-Ok-None-clause-beside : goal.returns-in-Ok-None-clause-beside
 returns-in-Ok-None-clause-beside g c =
     (named_found g.R.Arm.Stage g.F.Dir.files (g.R.Arm.tells c.args.arm.now ≡ true) c.args.text.now c.args.engine.now c.partitions_there.new.engine c.merge_as_asked.new.engine (g.R.Arm.failed c.args.arm.now) (g.R.Arm.failed c.merge_as_asked.new.arm) c.in-Ok-None.field-0 None c.in-Ok-None.field-0-is c.partitions_there.ensures.stays c.in-Ok-None.ensures.named).beside
@@ -126,11 +117,6 @@ returns-in-Ok-Some-clause-accounts g c =
     refused_accounts g.F.Dir.files c.args.text.now (g.R.Arm.tells c.args.arm.now ≡ true) c.args.engine.now c.merge_as_asked.new.engine (g.R.Arm.failed c.args.arm.now) (g.R.Arm.failed c.merge_as_asked.new.arm) (some_there _ c.in-Some.partitions (table_at c.args.engine.now.store c.args.text.now.table) c.in-Some.is c.in_ok-partitions.ensures.none) c.in-Ok-Some.reply
     (merges_found g.F.Dir.files (g.R.Arm.tells c.args.arm.now ≡ true) c.args.engine.now c.partitions_there.new.engine c.merge_as_asked.new.engine (g.R.Arm.failed c.args.arm.now) (g.R.Arm.failed c.merge_as_asked.new.arm) c.args.text.now.whole c.in-Ok-Some.field-0 (Some c.in-Ok-Some.reply) c.in-Ok-Some.field-0-is c.partitions_there.ensures.stays c.in-Ok-Some.ensures.merges)
     (TellsOfTable g.F.Dir.files c.args.engine.now.store c.args.text.now.table) (named_found g.R.Arm.Stage g.F.Dir.files (g.R.Arm.tells c.args.arm.now ≡ true) c.args.text.now c.args.engine.now c.partitions_there.new.engine c.merge_as_asked.new.engine (g.R.Arm.failed c.args.arm.now) (g.R.Arm.failed c.merge_as_asked.new.arm) c.in-Ok-Some.field-0 (Some c.in-Ok-Some.reply) c.in-Ok-Some.field-0-is c.partitions_there.ensures.stays c.in-Ok-Some.ensures.named).ends.1
-
-pub returns-in-Ok-Some-clause-undamaged : goal.returns-in-Ok-Some-clause-undamaged
-returns-in-Ok-Some-clause-undamaged g c =
-    refused_sound g.F.Dir.files c.args.text.now (g.R.Arm.tells c.args.arm.now ≡ true) c.args.engine.now c.merge_as_asked.new.engine (g.R.Arm.failed c.args.arm.now) (g.R.Arm.failed c.merge_as_asked.new.arm) (some_there _ c.in-Some.partitions (table_at c.args.engine.now.store c.args.text.now.table) c.in-Some.is c.in_ok-partitions.ensures.none) c.in-Ok-Some.reply
-    (merges_found g.F.Dir.files (g.R.Arm.tells c.args.arm.now ≡ true) c.args.engine.now c.partitions_there.new.engine c.merge_as_asked.new.engine (g.R.Arm.failed c.args.arm.now) (g.R.Arm.failed c.merge_as_asked.new.arm) c.args.text.now.whole c.in-Ok-Some.field-0 (Some c.in-Ok-Some.reply) c.in-Ok-Some.field-0-is c.partitions_there.ensures.stays c.in-Ok-Some.ensures.merges)
 
 pub returns-in-Ok-Some-clause-beside : goal.returns-in-Ok-Some-clause-beside
 returns-in-Ok-Some-clause-beside g c =

@@ -46,11 +46,6 @@ returns-then-is_final-clause-fault g c =
     let w = c.args.wanted.now in
     let parts_are = c.as_slice-parts.ensures.value in
     let is = c.as_slice-chosen.ensures.value ∙ c.requires.plan.parts in
-    says_read files snap c.args.is_final w c.final_rows.result
-    (λ sound.
-    let held = all_hold files w.schema.now snap.parts.items sound in
-    c.final_rows.ensures.sound held.0 (subst (λ (ps : List (Kept (Part _))). PartsHold files w.schema.now ps held.0) (sym parts_are) held.1)
-    (said files snap w c.requires.wanted.schema c.requires.wanted.table c.requires.wanted.wanted c.args.is_final c.as_slice-chosen.result.now is held.0 held.1))
     (subst (λ (f : Bool). IfErr c.final_rows.result (ExplainsRead files f snap.parts.items (planned snap c.args.is_final w.condition.now) w)) (sym c.if-is_final.true)
     (subst (λ (ps : List (Kept (Part _))). IfErr c.final_rows.result (ExplainsFold files ps (planned snap c.args.is_final w.condition.now) w)) parts_are
     (subst (λ (ch : List (List Bool)). IfErr c.final_rows.result (ExplainsFold files c.as_slice-parts.result.now ch w)) is c.final_rows.ensures.damaged)))
@@ -84,11 +79,6 @@ returns-clause-fault g c =
     let w = c.args.wanted.now in
     let parts_are = c.as_slice-parts.ensures.value in
     let is = c.as_slice-chosen.ensures.value ∙ c.requires.plan.parts in
-    says_read files snap c.args.is_final w c.add_matches.result
-    (λ sound.
-    let held = all_hold files w.schema.now snap.parts.items sound in
-    c.add_matches.ensures.sound held.0 (subst (λ (ps : List (Kept (Part _))). PartsHold files w.schema.now ps held.0) (sym parts_are) held.1)
-    (said files snap w c.requires.wanted.schema c.requires.wanted.table c.requires.wanted.wanted c.args.is_final c.as_slice-chosen.result.now is held.0 held.1))
     (subst (λ (f : Bool). IfErr c.add_matches.result (ExplainsRead files f snap.parts.items (planned snap c.args.is_final w.condition.now) w)) (sym c.if-is_final.false)
     (subst (λ (ps : List (Kept (Part _))). IfErr c.add_matches.result (ExplainsMatches files ps (planned snap c.args.is_final w.condition.now) w)) parts_are
     (subst (λ (ch : List (List Bool)). IfErr c.add_matches.result (ExplainsMatches files c.as_slice-parts.result.now ch w)) is c.add_matches.ensures.damaged)))

@@ -36,6 +36,7 @@ use Rattle.session.specs.Selects.{TellsOfDamage}
 use Rattle.session.proofs.Leaving.{accounts_line, in_any_case, never_by}
 use Rattle.session.proofs.Selecting.{PrintsOf, prints_of, read_below, selected_below, selects}
 use Rattle.session.proofs.SelectStanding.{snap_held, snap_schema}
+use Rattle.session.proofs.Undamaged.{read_sound}
 use Rattle.session.proofs.selects.read_matches.Goals as goal
 
 -- a fault that is another than the arm's
@@ -195,11 +196,8 @@ returns-clause-answers g c = λ kept store stands pinned.
     let files = g.R.Dir.Dir.files in
     let snap = c.args.snap.now in
     let held = snap_held files (history kept) store stands c.args.text.now.table snap pinned in
-    absurd (subst IsNoDamage c.in-Err-default-Damaged.field-0-1-is (c.in-Err-default-Damaged.ensures.fault.sound (each_holds files snap.schema snap.parts.items held.rows held.hold)))
-
-pub returns-clause-undamaged : goal.returns-clause-undamaged
-returns-clause-undamaged g c = λ sound.
-    absurd (subst IsNoDamage c.in-Err-default-Damaged.field-0-1-is (c.in-Err-default-Damaged.ensures.fault.sound sound))
+    absurd (subst IsNoDamage c.in-Err-default-Damaged.field-0-1-is
+    (read_sound files snap c.args.text.now.is_final c.args.query.now.condition _ _ refl c.requires.table (each_holds files snap.schema snap.parts.items held.rows held.hold) c.in-Err-default-Damaged.ensures.fault))
 
 -- what is told of damage
 pub returns-clause-accounts : goal.returns-clause-accounts
@@ -217,5 +215,5 @@ returns-clause-accounts g c = λ opened disk.
     (λ line is. says_damage opened disk disk before after line _ _ _ is)
     (λ line is bad.
     tells_of_damage g.R.Dir.Dir.files snap text line q _ snap.parts.items (planned snap text.is_final q.condition) c.in-Err-default-Damaged.part c.in-Err-default-Damaged.file _ _ _ c.in-Err-default-Damaged.field-0-1
-    c.requires.query c.in-Err-default-Damaged.ensures.fault.damaged c.in-Err-default-Damaged.field-0-1-is refl refl
+    c.requires.table c.requires.query c.in-Err-default-Damaged.ensures.fault c.in-Err-default-Damaged.field-0-1-is refl refl
     (record { schema = refl; condition = refl; places = selected }) is) (in_any_case c.damaged.result (refl, calm)) arm.later

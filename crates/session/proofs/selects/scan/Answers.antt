@@ -38,13 +38,6 @@ pub read_matches-requires-clause-query : goal.read_matches-requires-clause-query
 read_matches-requires-clause-query g c κs within =
     ap (λ (cs : List Column). query_of cs c.args.text.now) (sym c.as_slice.ensures) ∙ c.in-Ok.ensures
 
--- the reply does not tell of damage
-pub returns-in-Err-Refused-clause-undamaged : goal.returns-in-Err-Refused-clause-undamaged
-returns-in-Err-Refused-clause-undamaged g c = λ held.
-    let chosen = ap (λ (cs : List Column). query_of cs c.args.text.now) (sym c.as_slice.ensures)
-    ∙ subst (Refuses (query_of c.as_slice.result.now c.args.text.now)) c.in-Err-Refused.field-0-is c.in-Err-Refused.ensures in
-    IfOk-weaker c.refused.result _ _ (λ line is. line_of line c.in-Err-Refused.refusal is (undamaged_line c.in-Err-Refused.refusal (query_is_cause c.args.snap.now.schema.columns c.args.text.now c.in-Err-Refused.refusal chosen))) (refused_as _ c.in-Err-Refused.refusal c.refused.result c.in-Err-Refused.refusal-is c.refused.ensures)
-
 -- what accounts for it
 pub returns-in-Err-Refused-clause-accounts : goal.returns-in-Err-Refused-clause-accounts
 returns-in-Err-Refused-clause-accounts g c = λ opened disk.

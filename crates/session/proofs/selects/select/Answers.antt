@@ -45,16 +45,6 @@ scan-reply-requires-after_bounds g c κs within =
     let pinned = subst (Snaps c.args.engine.now.store text.table) c.in-Some.is c.in_ok-snap.ensures.snap in
     subst IsTableSchema (sym pinned.schema) (c.snapshot.ensures.open.sound.tables text.table pinned.made pinned.there).schema
 
--- the reply does not tell of damage
-pub returns-clause-undamaged : goal.returns-clause-undamaged
-returns-clause-undamaged g c = λ held.
-    let text = c.args.text.now in
-    let store = c.args.engine.now.store in
-    let pinned = subst (Snaps store text.table) c.in-Some.is c.in_ok-snap.ensures.snap in
-    c.scan-reply.ensures.undamaged
-    (subst (λ (ps : List (Kept (Part _))). All (HoldsRows g.F.Dir.files c.in-Some.snap.schema) ps) (sym pinned.parts)
-    (subst (λ (s : Schema). All (HoldsRows g.F.Dir.files s) (parts_of store.set text.table)) (sym pinned.schema) (held text.table pinned.made pinned.there)))
-
 -- what accounts for it
 pub returns-clause-accounts : goal.returns-clause-accounts
 returns-clause-accounts g c =

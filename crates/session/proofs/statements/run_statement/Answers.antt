@@ -64,9 +64,6 @@ returns-in-Ok-Explain-clause-accounts g c =
     (subst (λ (st : Item). Accounts (still here.store.opened here.storage.failed arm arm) (TellsOfStatement g.F.Dir.files here.store st) c.explain.result) (sym (c.in-Ok-Explain.is ∙ ap Ok c.in-Ok-Explain.field-0-is))
     (c.explain.ensures.accounts here.store.opened here.storage.failed arm))
 
-pub returns-in-Ok-Explain-clause-undamaged : goal.returns-in-Ok-Explain-clause-undamaged
-returns-in-Ok-Explain-clause-undamaged g c = λ tells held. undamaged_never _ c.explain.result (c.explain.ensures.accounts c.args.engine.now.store.opened c.args.engine.now.storage.failed (g.R.Arm.failed c.args.arm.now))
-
 pub returns-in-Ok-Explain-clause-leaves : goal.returns-in-Ok-Explain-clause-leaves
 returns-in-Ok-Explain-clause-leaves g c = leaves_same g.F.Dir.files _ c.args.engine.now c.explain.new.engine c.explain.ensures.stays
 
@@ -100,7 +97,3 @@ returns-in-Err-clause-accounts g c =
 
 pub returns-in-Err-clause-leaves : goal.returns-in-Err-clause-leaves
 returns-in-Err-clause-leaves g c = leaves_itself g.F.Dir.files _ c.args.engine.now
-
--- the reply does not tell of damage
-pub returns-in-Err-clause-undamaged : goal.returns-in-Err-clause-undamaged
-returns-in-Err-clause-undamaged g c = λ tells held. IfOk-weaker c.refused.result _ _ (λ line is. ap is_damage (is ∙ ap refusal_line c.of_cause.ensures) ∙ cause_line c.in-Err.cause) c.refused.ensures
