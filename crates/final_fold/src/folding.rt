@@ -33,8 +33,8 @@ use std::alloc::Global;
 use table_core::part_name::PartName;
 
 /// Adds what FINAL sees of a table's parts to columns: of the rows that a merge leaves of all parts of each partition, those that meet a
-/// condition, of each the values at the wanted places. All columns of the chosen granules are read, and nothing of the others: no row of
-/// a key that has a row there meets the condition. The rows of a partition are in memory until they are merged. Returns how many rows
+/// condition, of each the values at the wanted places. All columns of the chosen granules are read: no row of a key that has a row in
+/// another one meets the condition. The rows of a partition are in memory until they are merged. Returns how many rows
 /// were added.
 ///
 /// The name of the part of which a column could not be read, and why: `Damaged` where its bytes in some chosen granules are damaged,

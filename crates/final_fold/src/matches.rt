@@ -19,10 +19,10 @@ use row_merge::part_set::Kept;
 use std::alloc::Global;
 use table_core::part_name::PartName;
 
-/// Adds the rows of a table's parts that meet a condition to columns, part by part: of each the values at the wanted places. Of a
-/// part the granules alone are read that are chosen: first the columns of the conjuncts that are asked somewhere in it, each once, and
-/// then the others in the granules that have a row which meets the condition. In the chosen granules in which a conjunct is not asked
-/// each row is taken to meet it. Returns how many rows were added.
+/// Adds the rows of a table's parts that meet a condition to columns, part by part: of each the values at the wanted places. The chosen
+/// granules of a part have each of its rows that meets the condition. First the columns of the conjuncts that are asked somewhere in
+/// these are read, and then the others in the granules that have a row which meets the condition. In the chosen granules in which a
+/// conjunct is not asked each row is taken to meet it. Returns how many rows were added.
 ///
 /// The name of the part of which a column could not be read, and why: `Damaged` where its bytes in some chosen granules are damaged,
 /// never where the parts hold rows of the table, and it is said of each of their granules whether it is chosen; `Fault` only where the

@@ -8,8 +8,8 @@ use itoa::Buffer;
 use mt_base::NoMemory;
 use std::alloc::Global;
 
-/// The line after an accepted command, without its number yet. Filling it in takes no memory, so a command that was accepted always has
-/// its reply.
+/// The line after an accepted command, without its number yet. Filling it in takes no memory, so a turn that accepts a command has its
+/// line. An INSERT whose next turn is out of memory has no reply all the same.
 #[derive(Drop)]
 pub struct OkLine {
     bytes: Vec<u8>,

@@ -14,7 +14,7 @@ use shared_store::part_set::Snap;
 use std::alloc::Global;
 
 /// Adds what a SELECT sees of a pinned table's parts, and meets its condition, to columns: of each row the values at the wanted places.
-/// The granules of its plan alone are read. Returns how many rows were added.
+/// The granules that its plan chooses have each of these rows. Returns how many rows were added.
 ///
 /// The name of the part of which a column could not be read, and why: `Damaged` where its bytes in some chosen granules are damaged,
 /// never where the parts hold rows of the table; `Fault` only where the arm's count rose in this call; `NoMemory` where an allocation

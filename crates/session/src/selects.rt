@@ -27,8 +27,8 @@ use shared_store::part_reader::{Part, PartFault, empty_columns};
 use shared_store::part_set::Snap;
 use std::alloc::Global;
 
-/// What a SELECT sees of a pinned table and meets its condition, of its columns. Of a part the granules alone are read that the plan
-/// chooses; a column is read once, however often it is named.
+/// What a SELECT sees of a pinned table and meets its condition, of its columns. Of each part its plan chooses granules, which have each
+/// row of the part that is seen.
 ///
 /// `NoMemory` where an allocation failed; the arm's count stays.
 fn read_matches<R: Arm>(
