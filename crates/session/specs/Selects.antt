@@ -18,6 +18,7 @@ use Rattle.mt_outside.specs.Files.{Files}
 use Rattle.replies.specs.mt_model.declared.query.Query.{Query}
 use Rattle.replies.specs.mt_model.declared.refusal.Refusal.TheVariants as refusal
 use Rattle.replies.specs.mt_model.Answer.{Prints}
+use Rattle.replies.specs.mt_model.Explain.{explain_line}
 use Rattle.replies.specs.mt_model.Final.{Sees}
 use Rattle.replies.specs.mt_model.History.{History, IsTableSchema}
 use Rattle.replies.specs.mt_model.Live.{live}
@@ -42,7 +43,7 @@ use Rattle.final_fold.specs.Matches.{ExplainsMatches, matching}
 use Rattle.final_fold.specs.row_merge.MergedParts.{PartsHold}
 use Rattle.final_fold.specs.Scans.{joined_rows, values_at}
 use Rattle.select_plan.specs.declared.counting.Plan.{Plan}
-use Rattle.select_plan.specs.Plans.{asked_over, planned}
+use Rattle.select_plan.specs.Plans.{asked_over, counts_over, planned}
 use Rattle.session.specs.Merges.{IsRefusal, TellsOfTable}
 
 -- what is read is what a query asks of a pinned table: its condition, and columns that it selects (docs/architecture.md, "The way of a SELECT")
@@ -136,11 +137,15 @@ pub record ReadsParts {F : Type 0} (files_of : F → Option Files) (snap : Snap 
   pub prints : Prints (map (key_of query.places) (matching query.condition rows)) lines
   pub reply_is : reply ≡ rows_line (length lines) snap.length ++ concat lines
 
--- A SELECT of a table that a store keeps is answered so: with a reply that it may have at the end of the history, whatever the outside comes to.
--- Without FINAL it reads the parts as they are, unless it is refused (docs/definitions.md, "SELECT").
+-- without FINAL a SELECT of a table that a store keeps has the rows of the parts as they are, unless it is refused (docs/replies.md, "SELECT")
+abbrev pub ReadsPlain : {F : Type 0} → (F → Option Files) → CoreStore F → SelectText → List ℕ → Type 0
+ReadsPlain {F} files_of store text reply = text.is_final ≡ false → IsRefusal reply ⊎ ((snap : Snap (Part F)) × IsSnapOf store text.table snap × ReadsParts files_of snap text reply)
+
+-- A SELECT of a table that a store keeps is answered so: with a reply that it may have at the end of the history, whatever the outside comes to, and
+-- without FINAL by the rows of the parts as they are (docs/definitions.md, "SELECT").
 pub record SelectsFrom {F : Type 0} (files_of : F → Option Files) (store : CoreStore F) (kept : Told) (text : SelectText) (arm : ℕ) (reply : List ℕ) : Type 0 where
   pub takes : Selected kept text arm store.opened reply
-  pub plain : text.is_final ≡ false → IsRefusal reply ⊎ ((snap : Snap (Part F)) × IsSnapOf store text.table snap × ReadsParts files_of snap text reply)
+  pub plain : ReadsPlain files_of store text reply
 
 -- the same where the statement is one (docs/definitions.md, "SELECT")
 abbrev pub SelectsAsAsked : {F : Type 0} → (F → Option Files) → CoreStore F → Told → Item → ℕ → Result (List ℕ) NoMemory → Type 0
@@ -150,3 +155,14 @@ SelectsAsAsked files_of store kept (Ok (statement.Insert i)) arm result = Unit {
 SelectsAsAsked files_of store kept (Ok (statement.Explain s)) arm result = Unit {0}
 SelectsAsAsked files_of store kept (Ok (statement.Optimize o)) arm result = Unit {0}
 SelectsAsAsked files_of store kept (Err why) arm result = Unit {0}
+
+-- The reply to an EXPLAIN has the numbers of the plan of its SELECT over a pinned table, and the length of its history (docs/definitions-of-runs.md,
+-- "Explained reads").
+pub record CountsPlan {F : Type 0} (snap : Snap (Part F)) (text : SelectText) (reply : List ℕ) : Type 0 where
+  pub query : Query
+  pub asked : query_of snap.schema.columns text ≡ Ok query
+  pub reply_is : reply ≡ explain_line (counts_over (planned snap text.is_final query.condition)) snap.length
+
+-- an EXPLAIN of a table that a store keeps counts the parts and granules that there are, unless it is refused (docs/replies.md, "Replies")
+abbrev pub CountsFrom : {F : Type 0} → CoreStore F → SelectText → List ℕ → Type 0
+CountsFrom {F} store text reply = IsRefusal reply ⊎ ((snap : Snap (Part F)) × IsSnapOf store text.table snap × CountsPlan snap text reply)

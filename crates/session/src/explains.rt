@@ -1,5 +1,5 @@
 // Running an EXPLAIN: a table is pinned in one turn, and what a SELECT would read of its parts is counted outside of it. No file is read.
-ghost use Rattle.std.specs.Prelude.{◌≡◌, ℕ, IfOk};
+ghost use Rattle.std.specs.Prelude.{◌≡◌, ◌⊎◌, ℕ, IfOk};
 ghost use Rattle.mt_values.specs.Annals.{Told};
 ghost use Rattle.replies.specs.mt_model.History.{IsTableSchema};
 ghost use Rattle.replies.specs.Foreseen.{Explained, history};
@@ -8,6 +8,8 @@ ghost use Rattle.shared_store.specs.root_store.Stores.{CoreStands};
 ghost use Rattle.shared_store.specs.Engines.{IsSnapOf};
 ghost use Rattle.session.specs.Answers.{Knows};
 ghost use Rattle.session.specs.Lapses.{Accounts, Never, still};
+ghost use Rattle.session.specs.Merges.{IsRefusal};
+ghost use Rattle.session.specs.Selects.{CountsFrom, CountsPlan};
 
 use mt_base::{NoMemory, Stop};
 use mt_outside::{Arm, Dir, Disk};
@@ -20,7 +22,7 @@ use shared_store::part_reader::Part;
 use shared_store::part_set::Snap;
 use std::alloc::Global;
 
-/// How many parts and granules of a pinned table a SELECT would read, unless it is refused. It takes no turn.
+/// How many parts and granules of a pinned table the plan of a SELECT chooses, unless it is refused. It takes no turn.
 ///
 /// `NoMemory` where an allocation failed, or 64 bits can't count the granules.
 pub fn count_reads<F: Dir>(
@@ -31,6 +33,8 @@ pub fn count_reads<F: Dir>(
     requires { IsTableSchema snap.now.schema }
     ensures answers { (kept : Told) (store : CoreStore F) → CoreStands F.files (history kept) store
         → IsSnapOf store text.now.table snap.now → IfOk result (Explained kept text.now) }
+    ensures counts { IfOk result
+        (λ reply. IsRefusal reply ⊎ CountsPlan snap.now text.now reply) }
     ensures accounts { (opened disk arm : ℕ) → Accounts (still opened disk arm arm) Never result }
 {
     let query = match query_of(alloc, snap.schema.columns.as_slice(), text) {
@@ -45,7 +49,7 @@ pub fn count_reads<F: Dir>(
     explained(alloc, &counts, snap.length)
 }
 
-/// How many parts and granules of a table, as it is at one turn, a SELECT would read, unless it is refused.
+/// How many parts and granules of a table, as it is at one turn, the plan of a SELECT chooses, unless it is refused.
 ///
 /// `NoMemory` where an allocation failed; nothing changed.
 pub fn explain<F: Dir, R: Arm<Dir = F>, D: Disk<Arm = R>, A: Annals>(
@@ -55,6 +59,7 @@ pub fn explain<F: Dir, R: Arm<Dir = F>, D: Disk<Arm = R>, A: Annals>(
 ) -> Result<Reply, NoMemory>
     ensures answers { (kept : Told) → Knows F.files kept engine.old
         → IfOk result (Explained kept text.now) }
+    ensures counts { IfOk result (CountsFrom engine.old.store text.now) }
     ensures accounts { (opened disk arm : ℕ) → Accounts (still opened disk arm arm) Never result }
     ensures stays { engine.new ≡ engine.old }
 {

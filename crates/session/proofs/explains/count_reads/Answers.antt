@@ -1,5 +1,5 @@
 use Rattle.std.proofs.lemmas.Result.{IfOk-weaker}
-use Rattle.std.proofs.Common.{◌≡◌, ◌∙◌, List, Ok, length, map, refl, sym, ap, subst, arith}
+use Rattle.std.proofs.Common.{◌≡◌, ◌∙◌, List, Ok, inl, inr, length, map, refl, sym, ap, subst, arith}
 use Rattle.mt_base.specs.Stops.{Refuses}
 use Rattle.mt_values.specs.declared.schema.Column.{Column}
 use Rattle.replies.specs.mt_model.Explain.{Portion, counts_of, explain_line}
@@ -48,6 +48,19 @@ returns-in-Err-Refused-clause-accounts g c = λ opened disk arm.
     let caused = query_is_cause c.args.snap.now.schema.columns text why asked in
     accounts_still Never opened disk arm c.refused.result (λ reply. reply ≡ refusal_line why) (refused_as _ why c.refused.result c.in-Err-Refused.refusal-is c.refused.ensures)
     (λ reply is. says_script opened disk disk arm arm reply why is caused) (λ reply is. line_of reply why is (undamaged_line why caused))
+
+pub returns-in-Err-Refused-clause-counts : goal.returns-in-Err-Refused-clause-counts
+returns-in-Err-Refused-clause-counts g c =
+    IfOk-weaker c.refused.result _ _ (λ line is. inl (c.in-Err-Refused.refusal, is)) (refused_as _ c.in-Err-Refused.refusal c.refused.result c.in-Err-Refused.refusal-is c.refused.ensures)
+
+pub returns-clause-counts : goal.returns-clause-counts
+returns-clause-counts g c =
+    let text = c.args.text.now in
+    let snap = c.args.snap.now in
+    let q = c.in-Ok.query in
+    let asked : query_of snap.schema.columns text ≡ Ok q = ap (λ (cs : List Column). query_of cs text) (sym c.as_slice.ensures) ∙ c.in-Ok.ensures in
+    let counted = c.in-Some.ensures ∙ ap counts_over c.in_ok-planned.ensures.parts in
+    IfOk-weaker c.explained.result _ _ (λ reply is. inr (record { query = q; asked = asked; reply_is = is ∙ ap (λ n. explain_line n snap.length) counted })) c.explained.ensures
 
 -- the numbers of the plan
 pub returns-clause-answers : goal.returns-clause-answers

@@ -8,6 +8,7 @@ use Rattle.replies.proofs.Causing.{says_script}
 use Rattle.replies.proofs.Refusing.{explain_refused}
 use Rattle.session.specs.Lapses.{Never}
 use Rattle.session.proofs.Asking.{no_query}
+use Rattle.session.proofs.Explaining.{counts_from}
 use Rattle.session.proofs.Leaving.{accounts_still}
 use Rattle.session.proofs.SelectStanding.{no_table}
 use Rattle.shared_store.specs.Engines.{Snaps}
@@ -20,6 +21,9 @@ returns-in_default-clause-answers g c = λ kept knows.
     let here = c.args.engine.now in
     let none = no_table g.F.Dir.files (history kept) here.store knows.stands text.table (subst (Snaps here.store text.table) c.in_default.is c.in_ok-snap.ensures.snap) in
     IfOk-weaker c.no_table_line.result _ _ (λ line is n. explain_refused n kept line text (refusal.NoTable text.table) (no_query text (history kept) none) is) c.no_table_line.ensures
+
+pub returns-in_default-clause-counts : goal.returns-in_default-clause-counts
+returns-in_default-clause-counts g c = IfOk-weaker c.no_table_line.result _ _ (λ line is. inl (refusal.NoTable c.args.text.now.table, is)) c.no_table_line.ensures
 
 pub returns-in_default-clause-accounts : goal.returns-in_default-clause-accounts
 returns-in_default-clause-accounts g c = λ opened disk arm.
@@ -35,6 +39,11 @@ count_reads-reply-requires-after_bounds g c κs within =
     subst IsTableSchema (sym pinned.schema) (c.snapshot.ensures.open.sound.tables text.table pinned.made pinned.there).schema
 
 -- the numbers of the pinned table
+pub returns-clause-counts : goal.returns-clause-counts
+returns-clause-counts g c =
+    let pinned = subst (Snaps c.args.engine.now.store c.args.text.now.table) c.in-Some.is c.in_ok-snap.ensures.snap in
+    IfOk-weaker c.count_reads-reply.result _ _ (λ reply said. counts_from c.args.engine.now.store c.args.text.now c.in-Some.snap reply pinned said) c.count_reads-reply.ensures.counts
+
 pub returns-clause-answers : goal.returns-clause-answers
 returns-clause-answers g c = λ kept knows.
     let text = c.args.text.now in
